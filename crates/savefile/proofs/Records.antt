@@ -1,0 +1,79 @@
+-- Records stand one behind the other, and in one way only.
+use Rattle.std.proofs.Common.{◌≡◌, ℕ, zero, suc, ◌+◌, ◌-◌, ◌*◌, ◌<◌, ◌≤◌, true, false, List, [], ◌∷◌, ◌++◌, length, take, drop, Some, None, refl, sym, ap, subst, ◌∙◌, arith, length-drop}
+use Rattle.std.specs.Prelude.{nat_lt, nat_le, ◌==◌}
+use Rattle.std.proofs.lemmas.Bool.{le-ltb, lt-leb, ne_eqb}
+use Rattle.std.proofs.lemmas.List.{take_all}
+use Rattle.savefile.specs.declared.fault.Fault.{Fault}
+use Rattle.savefile.specs.declared.header.Unit.{Unit as TimeUnit}
+use Rattle.savefile.specs.declared.header.Unit.TheVariants.{Micro, Nano}
+use Rattle.savefile.specs.declared.packet.Packet.{Packet}
+use Rattle.savefile.specs.Savefile.{captured, field, first_fault, fraction, nanos_in, packet, per_second, AreRecords, IsRecord, NoRecord}
+
+-- a slice from a place on is the rest
+pub rest_of : (n : ℕ) (text : List ℕ) → take (length text - n) (drop n text) ≡ drop n text
+rest_of n text = take_all (length text - n) (drop n text) (omega (arith, length-drop n text))
+
+-- a field that was read from the rest of a text
+pub field_read : (number : ℕ → List ℕ → ℕ) (text : List ℕ) (offset n x : ℕ) → x ≡ number n (take (length text - offset) (drop offset text)) → field number text offset n ≡ x
+field_read number text offset n x e = sym (e ∙ ap (number n) (rest_of offset text))
+
+-- a fraction below a second is below a second in nanoseconds too
+pub nanos_below : (unit : TimeUnit) (x : ℕ) → x < per_second unit → x * nanos_in unit < 1000000000
+nanos_below Micro x h = omega arith
+nanos_below Nano x h = omega arith
+
+-- one record more
+pub AreRecords-push : (number : ℕ → List ℕ → ℕ) (unit : TimeUnit) (text : List ℕ) (ps : List Packet) (p : Packet) (mid after : List ℕ)
+    → AreRecords number unit text ps mid → IsRecord number unit mid p after → AreRecords number unit text (ps ++ p ∷ []) after
+AreRecords-push number unit text [] p mid after e r = (after, subst (λ (t : List ℕ). IsRecord number unit t p after) (sym e) r, refl)
+AreRecords-push number unit text (q ∷ ps) p mid after e r = (e.0, e.1, AreRecords-push number unit e.0 ps p mid after e.2 r)
+
+-- where a record stands there is no fault
+pub first_fault_none : (number : ℕ → List ℕ → ℕ) (unit : TimeUnit) (place : ℕ) (text : List ℕ) (p : Packet) (after : List ℕ) → IsRecord number unit text p after → first_fault number unit place text ≡ None
+first_fault_none number unit place text p after r =
+    let some : (length text == 0) ≡ false = let size : 16 ≤ length text = r.size in ne_eqb (length text) 0 (λ z. omega arith) in
+    let header : nat_lt (length text) 16 ≡ false = le-ltb (length text) 16 r.size in
+    let below : nat_le (per_second unit) (fraction number text) ≡ false = lt-leb (per_second unit) (fraction number text) r.below_a_second in
+    let short : nat_lt 262144 (captured number text) ≡ false = le-ltb 262144 (captured number text) r.short in
+    let whole : nat_lt (length text) (16 + captured number text) ≡ false = le-ltb (length text) (16 + captured number text) r.whole in
+    rw (some, header, below, short, whole) refl
+
+-- where there is a fault no record stands
+pub NoRecord-fault : (number : ℕ → List ℕ → ℕ) (unit : TimeUnit) (place : ℕ) (text : List ℕ) (fault : Fault) → first_fault number unit place text ≡ Some fault → NoRecord number unit text
+NoRecord-fault number unit place text fault e = λ p after r. let none = first_fault_none number unit place text p after r in absurd cc
+
+pub NoRecord-nil : (number : ℕ → List ℕ → ℕ) (unit : TimeUnit) (text : List ℕ) → length text ≡ 0 → NoRecord number unit text
+NoRecord-nil number unit text e = λ p after r. let size : 16 ≤ length text = r.size in omega arith
+
+-- ---- One reading
+
+same_packet : (a b c d e f : ℕ) (s t : List ℕ) → a ≡ b → c ≡ d → e ≡ f → s ≡ t → packet a c e s ≡ packet b d f t
+same_packet a b c d e f s t p q r u = cc
+
+-- a text that begins with a record begins with one alone
+pub one_record : (number : ℕ → List ℕ → ℕ) (unit : TimeUnit) (text : List ℕ) (p q : Packet) (after after' : List ℕ) → IsRecord number unit text p after → IsRecord number unit text q after' → (p ≡ q) × (after ≡ after')
+one_record number unit text p q after after' r s = (
+  same_packet p.sec q.sec p.nanos q.nanos p.len q.len p.bytes q.bytes (sym r.seconds ∙ s.seconds) (sym r.nanos ∙ s.nanos) (sym r.on_the_wire ∙ s.on_the_wire) (sym r.bytes ∙ s.bytes),
+  sym r.follows ∙ s.follows,
+)
+
+-- a list of records that is followed by none is the longest
+pub longest_records : (number : ℕ → List ℕ → ℕ) (unit : TimeUnit) (text : List ℕ) (ps qs : List Packet) (rest after : List ℕ)
+    → AreRecords number unit text ps rest → NoRecord number unit rest → AreRecords number unit text qs after → length qs ≤ length ps
+longest_records number unit text ps [] rest after e none f = omega arith
+longest_records number unit text [] (q ∷ qs) rest after e none f = absurd (none q f.0 (subst (λ (t : List ℕ). IsRecord number unit t q f.0) e f.1))
+longest_records number unit text (p ∷ ps) (q ∷ qs) rest after e none f =
+    let same = one_record number unit text p q e.0 f.0 e.1 f.1 in
+    let more = longest_records number unit e.0 ps qs rest after e.2 none (subst (λ (t : List ℕ). AreRecords number unit t qs after) (sym same.1) f.2) in
+    omega (arith, more)
+
+-- two lists of records of one length are one
+pub one_list : (number : ℕ → List ℕ → ℕ) (unit : TimeUnit) (text : List ℕ) (ps qs : List Packet) (rest after : List ℕ)
+    → AreRecords number unit text ps rest → AreRecords number unit text qs after → length ps ≡ length qs → (ps ≡ qs) × (rest ≡ after)
+one_list number unit text [] [] rest after e f len = (refl, sym e ∙ f)
+one_list number unit text [] (q ∷ qs) rest after e f len = absurd (omega (arith, len))
+one_list number unit text (p ∷ ps) [] rest after e f len = absurd (omega (arith, len))
+one_list number unit text (p ∷ ps) (q ∷ qs) rest after e f len =
+    let same = one_record number unit text p q e.0 f.0 e.1 f.1 in
+    let more = one_list number unit e.0 ps qs rest after e.2 (subst (λ (t : List ℕ). AreRecords number unit t qs after) (sym same.1) f.2) (omega (arith, len)) in
+    (ap (λ (x : Packet). x ∷ ps) same.0 ∙ ap (λ (xs : List Packet). q ∷ xs) more.0, more.1)

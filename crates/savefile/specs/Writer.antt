@@ -1,0 +1,56 @@
+-- What a writer has sent to its sink.
+use Rattle.std.specs.Prelude.{◌≡◌, ℕ, Bool, true, false, ◌+◌, List, ◌++◌, length, drop, Option}
+use Rattle.std.specs.Io.KnownBytes.{Appends}
+use Rattle.savefile.specs.declared.header.Order.{Order}
+use Rattle.savefile.specs.declared.header.Unit.{Unit as TimeUnit}
+use Rattle.savefile.specs.declared.packet.Packet.{Packet}
+use Rattle.savefile.specs.declared.writing.Writer.{Writer}
+use Rattle.savefile.specs.Savefile.{encoded}
+
+-- a text is the beginning of another
+abbrev pub IsBeginning : List ℕ → List ℕ → Type 0
+IsBeginning text whole = (more : List ℕ) × (whole ≡ text ++ more)
+
+-- the sink that a writer has
+abbrev pub sink_of : {W : Type 0} → Writer W → W
+sink_of w = w.sink
+
+-- how many bytes a writer has sent
+abbrev pub sent_by : {W : Type 0} → Writer W → ℕ
+sent_by w = w.sent
+
+-- whether the device failed a writer
+abbrev pub has_failed : {W : Type 0} → Writer W → Bool
+has_failed w = w.failed
+
+-- A writer sent this text: its sink, which had taken `start` before, took the text and no more.
+pub record Sent {W : Type 0} (taken : W → Option (List ℕ)) (start : Option (List ℕ)) (text : List ℕ) (w : Writer W) : Type 0 where
+  pub bytes : Appends start (taken w.sink) text
+  pub count : w.sent ≡ length text
+
+-- A writer that no device failed: it has sent the written text of these packets.
+pub record HasWritten {W : Type 0} (taken : W → Option (List ℕ)) (start : Option (List ℕ)) (order : Order) (unit : TimeUnit) (snap : ℕ) (packets : List Packet) (w : Writer W) : Type 0 where
+  pub sent : Sent taken start (encoded order unit snap packets) w
+  pub works : w.failed ≡ false
+  pub in_order : w.order ≡ order
+  pub in_unit : w.unit ≡ unit
+
+-- A writer that a device failed: it has sent a beginning of the written text of these packets.
+pub record BrokeOff {W : Type 0} (taken : W → Option (List ℕ)) (start : Option (List ℕ)) (order : Order) (unit : TimeUnit) (snap : ℕ) (packets : List Packet) (w : Writer W) : Type 0 where
+  pub text : List ℕ
+  pub begins : IsBeginning text (encoded order unit snap packets)
+  pub sent : Sent taken start text w
+  pub failed : w.failed ≡ true
+
+-- ---- Steps inside a call
+
+-- Between two states of a writer these bytes were sent, and no others.
+pub record Sends {W : Type 0} (taken : W → Option (List ℕ)) (old new : Writer W) (text : List ℕ) : Type 0 where
+  pub bytes : Appends (taken old.sink) (taken new.sink) text
+  pub count : new.sent ≡ old.sent + length text
+  pub in_order : new.order ≡ old.order
+  pub in_unit : new.unit ≡ old.unit
+
+-- a number's bytes stand behind the first bytes of a text, as many as `at`, and the rest is as it was
+abbrev pub Fills : ℕ → List ℕ → List ℕ → List ℕ → Type 0
+Fills at old bytes new = (front rest : List ℕ) → old ≡ front ++ rest → length front ≡ at → new ≡ (front ++ bytes) ++ drop (length bytes) rest

@@ -1,0 +1,137 @@
+//! What a savefile is read from and written to.
+
+ghost use Rattle.std.specs.Prelude.{◌≡◌, ◌≢◌, ℕ, List, Option, None, ◌+◌, ◌%◌, ◌^◌, ◌<◌, ◌≤◌, ◌↔◌, ◌⊎◌, length, vec_len, IfOk, IfErr, OnOk};
+ghost use Rattle.std.specs.Io.KnownBytes.{ReadConsumes, WriteAppends, IsAtEnd, Consumes};
+ghost use Rattle.savefile.specs.Device.{CountsFailure};
+
+use crate::fault::Fault;
+use std::alloc::{AllocError, Global};
+use std::io::{Read, Write};
+
+/// A device failed. The call moved no byte.
+#[derive(Clone, Copy, Debug, PartialEq, Eq)]
+pub struct Broken;
+
+/// What bytes are read from.
+pub trait Source {
+    /// The bytes left, where the type tells them.
+    ghost left: { Self → Option (List ℕ) } = { λ _. None };
+
+    /// How often it failed so far, modulo 2^64.
+    ghost failures: { Self → ℕ };
+
+    /// Reads the next bytes into the front of a slice, and answers how many. Into a slice that is not
+    /// empty, 0 is the end of input.
+    fn read(&mut self, to: &mut [u8]) -> Result<usize, Broken>
+        ensures count { IfOk result (λ n. n ≤ length to.new) }
+        ensures bytes { ReadConsumes (left self.old) (left self.new) result to.new }
+        ensures failures { CountsFailure (failures self.old) (failures self.new) result };
+}
+
+/// What bytes are written to.
+pub trait Sink {
+    /// The bytes taken so far, where the type tells them.
+    ghost taken: { Self → Option (List ℕ) } = { λ _. None };
+
+    /// How often it failed so far, modulo 2^64.
+    ghost failures: { Self → ℕ };
+
+    /// Takes bytes from the front of a slice, at least one if there is one, and answers how many.
+    fn write(&mut self, from: &[u8]) -> Result<usize, Broken>
+        ensures count { IfOk result (λ n. n ≤ length from.now) }
+        ensures progress { IfOk result (λ n. 0 < length from.now → 0 < n) }
+        ensures bytes { WriteAppends (taken self.old) (taken self.new) result from.now }
+        ensures failures { CountsFailure (failures self.old) (failures self.new) result };
+}
+
+/// Makes a [`Source`] of any [`Read`] and a [`Sink`] of any [`Write`], and counts the failures.
+///
+/// Its bytes are told where those of `T` are: over memory, and not over a file. An error, and a
+/// write of no byte of a slice that is not empty, are [`Broken`]. No call is tried again.
+#[derive(Debug, Drop)]
+pub struct Counted<T> {
+    pub inner: T,
+    /// How often a call answered [`Broken`], modulo 2^64.
+    pub failures: u64,
+}
+
+impl<T> Counted<T> {
+    /// Counts from 0.
+    pub fn new(inner: T) -> Counted<T>
+        ensures inner { result.inner ≡ inner }
+        ensures failures { result.failures ≡ 0 }
+    {
+        Counted { inner, failures: 0 }
+    }
+
+    /// Gives back what is inside.
+    pub fn into_inner(self) -> T
+        ensures { result ≡ self.inner }
+    {
+        let Counted { inner, failures: _ } = self;
+        inner
+    }
+}
+
+impl<T: Read> Source for Counted<T> {
+    ghost left = { λ s. T.remaining s.inner };
+
+    ghost failures = { λ s. s.failures };
+
+    fn read(&mut self, to: &mut [u8]) -> Result<usize, Broken> {
+        match self.inner.read(to) {
+            Ok(n) => Ok(n),
+            Err(_) => {
+                self.failures = self.failures.wrapping_add(1);
+                Err(Broken)
+            }
+        }
+    }
+}
+
+impl<T: Write> Sink for Counted<T> {
+    ghost taken = { λ s. T.contents s.inner };
+
+    ghost failures = { λ s. s.failures };
+
+    fn write(&mut self, from: &[u8]) -> Result<usize, Broken> {
+        match self.inner.write(from) {
+            Ok(n) if n > 0 || from.is_empty() => Ok(n),
+            _ => {
+                self.failures = self.failures.wrapping_add(1);
+                Err(Broken)
+            }
+        }
+    }
+}
+
+/// How many bytes a source is asked for at a time.
+const PIECE: usize = 1 << 18;
+
+/// A vector of this length.
+fn room(alloc: Global, len: usize) -> Result<Vec<u8>, AllocError>
+    ensures { IfOk result (λ v. vec_len v ≡ len) }
+{
+    vec![in alloc; 0; len]
+}
+
+/// Reads a source to its end, in pieces of up to 256 KiB.
+///
+/// [`Fault::Device`] comes exactly where the source failed, and then the bytes read are lost.
+/// [`Fault::NoMemory`] comes where memory was refused.
+pub fn read_to_end<R: Source>(alloc: Global, source: &mut R) -> Result<Vec<u8>, Fault>
+    ensures bytes { IfOk result (λ v. Consumes (R.left source.old) (R.left source.new) v.items) }
+    ensures end { OnOk result (IsAtEnd (R.left source.new)) }
+    ensures device { (result ≡ Err Fault.Device) ↔ (R.failures source.new ≢ R.failures source.old) }
+    ensures only { IfErr result (λ fault. (fault ≡ Fault.Device) ⊎ (fault ≡ Fault.NoMemory)) }
+{
+    let mut bytes = Vec::new(alloc);
+    let mut piece = room(alloc, PIECE)?;
+    loop {
+        match source.read(&mut piece) {
+            Ok(0) => return Ok(bytes),
+            Ok(n) => bytes.extend_from_slice(&piece[..n])?,
+            Err(Broken) => return Err(Fault::Device),
+        }
+    }
+}

@@ -1,0 +1,62 @@
+//! Why a savefile could not be read or written.
+
+ghost use Rattle.std.specs.Prelude.{◌≡◌};
+ghost use Rattle.savefile.specs.declared.fault.Fault.TheVariants.{NoMemory};
+
+use std::alloc::{AllocError, AllocFailed};
+use thiserror::Error;
+
+/// What kept a savefile from being read or written. Its text is its name, and then its place where
+/// it has one: a place counts the records of the savefile from 0.
+#[derive(Clone, Copy, Debug, PartialEq, Eq, Error)]
+pub enum Fault {
+    /// The text has fewer than the 24 bytes of a file header.
+    #[error("ShortHeader")]
+    ShortHeader,
+    /// The first four bytes are no magic number of this profile.
+    #[error("NotSavefile")]
+    NotSavefile,
+    /// The version is not 2.4.
+    #[error("Version")]
+    Version,
+    /// The link type is not 1, Ethernet.
+    #[error("LinkType")]
+    LinkType,
+    /// The text ends inside the record at this place.
+    #[error("TornRecord {0}")]
+    TornRecord(u64),
+    /// The fraction of the record at this place is a second or more.
+    #[error("BadFraction {0}")]
+    BadFraction(u64),
+    /// The captured length of the record at this place is above 262,144.
+    #[error("TooLong {0}")]
+    TooLong(u64),
+    /// A request for memory was refused.
+    #[error("NoMemory")]
+    NoMemory,
+    /// The device failed in this very call.
+    #[error("Device")]
+    Device,
+    /// The device failed in an earlier call; nothing was done.
+    #[error("Failed")]
+    Failed,
+    /// The number of bytes sent would pass 2^64 - 1; nothing was done.
+    #[error("CountFull")]
+    CountFull,
+}
+
+impl From<AllocError> for Fault {
+    ghost from_gives = { λ _ e. e ≡ NoMemory };
+
+    fn from(_e: AllocError) -> Fault {
+        Fault::NoMemory
+    }
+}
+
+impl<T: Drop> From<AllocFailed<T>> for Fault {
+    ghost from_gives = { λ _ e. e ≡ NoMemory };
+
+    fn from(_e: AllocFailed<T>) -> Fault {
+        Fault::NoMemory
+    }
+}

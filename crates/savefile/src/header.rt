@@ -1,0 +1,130 @@
+//! The header of a savefile.
+
+ghost use Rattle.std.specs.Prelude.{◌≡◌, ◌≢◌, ◌≤◌, ◌⊎◌, length, IfOk, IfErr, IfSome, IfNone};
+ghost use Rattle.savefile.specs.Savefile.{field, magic_of, nanos_in, number_in, per_second, HasVersion, IsHeader, RefusesHeader};
+
+use crate::fault::Fault;
+use byteorder::{BigEndian, ByteOrder, LittleEndian};
+
+/// The order of the bytes in a number.
+#[derive(Clone, Copy, Debug, PartialEq, Eq)]
+pub enum Order {
+    Little,
+    Big,
+}
+
+/// The unit of the fraction of a second in a time stamp.
+#[derive(Clone, Copy, Debug, PartialEq, Eq)]
+pub enum Unit {
+    /// Microseconds, the magic number 0xa1b2c3d4.
+    Micro,
+    /// Nanoseconds, the magic number 0xa1b23c4d.
+    Nano,
+}
+
+/// What the header of a savefile says.
+#[derive(Clone, Copy, Debug, PartialEq, Eq)]
+pub struct Header {
+    pub order: Order,
+    pub unit: Unit,
+    /// The snapshot length: how many bytes of a packet the capture was to keep at most.
+    pub snap: u32,
+}
+
+/// The bytes of a file header.
+pub(crate) const HEADER_LEN: usize = 24;
+
+const MAGIC_MICRO: u32 = 0xa1b2_c3d4;
+
+const MAGIC_NANO: u32 = 0xa1b2_3c4d;
+
+/// The version, 2.4.
+pub(crate) const MAJOR: u16 = 2;
+
+pub(crate) const MINOR: u16 = 4;
+
+/// The link type of Ethernet.
+pub(crate) const ETHERNET: u32 = 1;
+
+impl Unit {
+    /// The magic number.
+    pub(crate) fn magic(self) -> u32
+        ensures { result ≡ magic_of self }
+    {
+        match self {
+            Unit::Micro => MAGIC_MICRO,
+            Unit::Nano => MAGIC_NANO,
+        }
+    }
+
+    /// How many of it make a second.
+    pub(crate) fn per_second(self) -> u32
+        ensures { result ≡ per_second self }
+    {
+        match self {
+            Unit::Micro => 1_000_000,
+            Unit::Nano => 1_000_000_000,
+        }
+    }
+
+    /// How many nanoseconds it has.
+    pub(crate) fn nanos(self) -> u32
+        ensures { result ≡ nanos_in self }
+    {
+        match self {
+            Unit::Micro => 1_000,
+            Unit::Nano => 1,
+        }
+    }
+}
+
+/// The unit whose magic number a text begins with in this byte order.
+fn unit_of<B: ByteOrder>(text: &[u8]) -> Option<Unit>
+    requires { 4 ≤ length text.now }
+    ensures some { IfSome result (λ unit. field B.number_of text.now 0 4 ≡ magic_of unit) }
+    ensures none { IfNone result ((unit : Unit) → field B.number_of text.now 0 4 ≢ magic_of unit) }
+{
+    match B::read_u32(text) {
+        MAGIC_MICRO => Some(Unit::Micro),
+        MAGIC_NANO => Some(Unit::Nano),
+        _ => None,
+    }
+}
+
+/// The snapshot length, where the version and the link type are right.
+fn snap_of<B: ByteOrder>(text: &[u8]) -> Result<u32, Fault>
+    requires { 24 ≤ length text.now }
+    ensures ok { IfOk result (λ snap. HasVersion B.number_of text.now × (field B.number_of text.now 20 4 ≡ 1)
+        × (field B.number_of text.now 16 4 ≡ snap)) }
+    ensures err { IfErr result (λ fault. ((fault ≡ Fault.Version) × (HasVersion B.number_of text.now → ⊥))
+        ⊎ ((fault ≡ Fault.LinkType) × HasVersion B.number_of text.now × (field B.number_of text.now 20 4 ≢ 1))) }
+{
+    if B::read_u16(&text[4..]) != MAJOR || B::read_u16(&text[6..]) != MINOR {
+        return Err(Fault::Version);
+    }
+    if B::read_u32(&text[20..]) != ETHERNET {
+        return Err(Fault::LinkType);
+    }
+    Ok(B::read_u32(&text[16..]))
+}
+
+/// The header that a text begins with, or the first check that fails.
+pub(crate) fn header_of(text: &[u8]) -> Result<Header, Fault>
+    ensures ok { IfOk result (λ header. IsHeader (number_in header.order) text.now header.unit header.snap) }
+    ensures err { IfErr result (RefusesHeader text.now) }
+{
+    if text.len() < HEADER_LEN {
+        return Err(Fault::ShortHeader);
+    }
+    if let Some(unit) = unit_of::<LittleEndian>(text) {
+        let snap = snap_of::<LittleEndian>(text)?;
+        let order = Order::Little;
+        return Ok(Header { order, unit, snap });
+    }
+    if let Some(unit) = unit_of::<BigEndian>(text) {
+        let snap = snap_of::<BigEndian>(text)?;
+        let order = Order::Big;
+        return Ok(Header { order, unit, snap });
+    }
+    Err(Fault::NotSavefile)
+}

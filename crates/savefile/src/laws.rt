@@ -1,0 +1,36 @@
+//! What follows from the definitions alone. Each function does nothing: its contract is the law.
+
+ghost use Rattle.std.specs.Prelude.{◌≡◌, ℕ, ◌<◌, ◌^◌, List, length, map, All, Option, None};
+ghost use Rattle.savefile.specs.declared.fault.Fault.{Fault};
+ghost use Rattle.savefile.specs.declared.header.Order.{Order};
+ghost use Rattle.savefile.specs.declared.header.Unit.{Unit as TimeUnit};
+ghost use Rattle.savefile.specs.declared.packet.Packet.{Packet};
+ghost use Rattle.savefile.specs.Savefile.{encoded, in_units, Holds, IsSavefile, IsText, IsWritable, RefusesHeader};
+
+/// A text is a savefile in one way: its header is one, and as many packets as it is read as, they are the same.
+pub fn one_reading()
+    ensures { (text : List ℕ) (order order' : Order) (unit unit' : TimeUnit) (snap snap' : ℕ) (packets packets' : List Packet) (rest rest' : List ℕ) →
+        IsText text → IsSavefile text order unit snap packets rest → IsSavefile text order' unit' snap' packets' rest' → length packets ≡ length packets' →
+        (order ≡ order') × (unit ≡ unit') × (snap ≡ snap') × (packets ≡ packets') × (rest ≡ rest') }
+{}
+
+/// A savefile holds one list of packets, and one fault or none.
+pub fn one_content()
+    ensures { (text : List ℕ) (order order' : Order) (unit unit' : TimeUnit) (snap snap' : ℕ) (packets packets' : List Packet) (fault fault' : Option Fault) →
+        IsText text → Holds text order unit snap packets fault → Holds text order' unit' snap' packets' fault' →
+        (order ≡ order') × (unit ≡ unit') × (snap ≡ snap') × (packets ≡ packets') × (fault ≡ fault') }
+{}
+
+/// A header is refused for one fault alone, and a text with such a header holds nothing.
+pub fn one_refusal()
+    ensures fault { (text : List ℕ) (fault other : Fault) → IsText text → RefusesHeader text fault → RefusesHeader text other → fault ≡ other }
+    ensures nothing { (text : List ℕ) (fault : Fault) (order : Order) (unit : TimeUnit) (snap : ℕ) (packets : List Packet) (end : Option Fault) →
+        IsText text → RefusesHeader text fault → Holds text order unit snap packets end → ⊥ }
+{}
+
+/// What the written text of a list holds is that list, without fault. With microseconds the
+/// nanoseconds are rounded down to a multiple of 1,000.
+pub fn round_trip()
+    ensures { (order : Order) (unit : TimeUnit) (snap : ℕ) (packets : List Packet) → snap < 2 ^ 32 → All IsWritable packets →
+        Holds (encoded order unit snap packets) order unit snap (map (in_units unit) packets) None }
+{}

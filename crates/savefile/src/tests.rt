@@ -1,0 +1,389 @@
+//! Worked examples, and devices that fail in mid-stream.
+
+use super::*;
+use std::alloc::{AllocError, Global};
+use std::io;
+use std::io::{Read, Write};
+use std::process::Abort;
+use std::test::Fail;
+
+/// Little-endian, microseconds, snapshot length 262,144.
+const HEADER_LITTLE_MICRO: [u8; 24] = [
+    0xd4, 0xc3, 0xb2, 0xa1, 2, 0, 4, 0, 0, 0, 0, 0, 0, 0, 0, 0, 0, 0, 4, 0, 1, 0, 0, 0,
+];
+
+/// An IPv4 packet of TCP, without options or data, between two hosts of 10.0.0.0.
+const TCP_FRAME: [u8; 38] = [
+    0xff, 0xff, 0xff, 0xff, 0xff, 0xff, 0, 1, 2, 3, 4, 5, 8, 0, 0x45, 0, 0, 0x18, 0, 0, 0, 0, 0x40,
+    6, 0, 0, 10, 0, 0, 1, 10, 0, 0, 2, 0, 0x35, 0, 0x35,
+];
+
+/// The parts, one behind the other.
+fn joined(alloc: Global, parts: &[&[u8]]) -> Result<Vec<u8>, AllocError> {
+    let mut text = Vec::new(alloc);
+    for part in parts {
+        text.extend_from_slice(part)?;
+    }
+    Ok(text)
+}
+
+/// What a text is read as: a fault, or the header, the packets and the fault that ended them.
+fn told(alloc: Global, text: &[u8]) -> Result<String, AllocError> {
+    let (header, packets, fault) = match read_all(alloc, text) {
+        Ok(read) => read,
+        Err(fault) => return format!(in alloc; "{fault}"),
+    };
+    let mut out = format!(in alloc; "{:?} {:?} {}", header.order, header.unit, header.snap)?;
+    for packet in &packets {
+        let bytes = packet.bytes.as_slice();
+        let line = format!(in alloc;
+            "; {}.{:09} {} {:?}",
+            packet.sec, packet.nanos, packet.len, bytes
+        )?;
+        out.push_str(line.as_str())?;
+    }
+    if let Some(fault) = fault {
+        let line = format!(in alloc; "; {fault}")?;
+        out.push_str(line.as_str())?;
+    }
+    Ok(out)
+}
+
+fn reads(rt: &(impl Abort + AllocGlobal), parts: &[&[u8]], want: &str) -> Result<(), Fail> {
+    let text = joined(rt.alloc(), parts)?;
+    let got = told(rt.alloc(), &text)?;
+    assert_eq!(rt; got.as_str(), want);
+    Ok(())
+}
+
+#[test]
+fn header_checks_come_in_order(rt: HostRuntime) -> Result<(), Fail> {
+    let h = &HEADER_LITTLE_MICRO;
+    reads(&rt, &[], "ShortHeader")?;
+    reads(&rt, &[&h[..23]], "ShortHeader")?;
+    reads(&rt, &[b"no savefile"], "ShortHeader")?;
+    reads(&rt, &[h], "Little Micro 262144")?;
+    // another magic number, which libpcap knows, with a version that is wrong too
+    reads(
+        &rt,
+        &[&[0x34, 0xcd, 0xb2, 0xa1, 9, 0], &h[6..]],
+        "NotSavefile",
+    )?;
+    // each half of the version, and the halves exchanged
+    reads(&rt, &[&h[..4], &[3, 0, 4, 0], &h[8..]], "Version")?;
+    reads(&rt, &[&h[..4], &[2, 0, 3, 0], &h[8..]], "Version")?;
+    reads(
+        &rt,
+        &[&h[..4], &[4, 0, 2, 0], &h[8..20], &[9, 0, 0, 0]],
+        "Version",
+    )?;
+    // another link type, and Ethernet with a check sequence of four bytes
+    reads(&rt, &[&h[..20], &[113, 0, 0, 0]], "LinkType")?;
+    reads(&rt, &[&h[..20], &[1, 0, 0, 0x24]], "LinkType")?;
+    // reserved fields of any content, and the least and the greatest snapshot length
+    reads(
+        &rt,
+        &[&h[..8], &[1, 2, 3, 4, 5, 6, 7, 8], &[0; 4], &h[20..]],
+        "Little Micro 0",
+    )?;
+    reads(
+        &rt,
+        &[&h[..16], &[0xff; 4], &h[20..]],
+        "Little Micro 4294967295",
+    )
+}
+
+#[test]
+fn a_torn_record_header_is_named(rt: HostRuntime) -> Result<(), Fail> {
+    let h = &HEADER_LITTLE_MICRO;
+    let whole = &[1, 0, 0, 0, 5, 0, 0, 0, 2, 0, 0, 0, 60, 0, 0, 0, 7, 8];
+    let one = "Little Micro 262144; 1.000005000 60 [7, 8]";
+    reads(&rt, &[h, whole], one)?;
+    reads(
+        &rt,
+        &[h, whole, &whole[..7]],
+        "Little Micro 262144; 1.000005000 60 [7, 8]; TornRecord 1",
+    )?;
+    reads(
+        &rt,
+        &[h, whole, &whole[..17]],
+        "Little Micro 262144; 1.000005000 60 [7, 8]; TornRecord 1",
+    )?;
+    reads(&rt, &[h, &whole[..17]], "Little Micro 262144; TornRecord 0")?;
+    // in the other order
+    let big = &[
+        0xa1, 0xb2, 0xc3, 0xd4, 0, 2, 0, 4, 0, 0, 0, 0, 0, 0, 0, 0, 0, 0, 0, 9, 0, 0, 0, 1,
+    ];
+    let record = &[0, 0, 0, 1, 0, 0, 0, 5, 0, 0, 0, 2, 0, 0, 0, 60, 7, 8];
+    reads(
+        &rt,
+        &[big, record, record],
+        "Big Micro 9; 1.000005000 60 [7, 8]; 1.000005000 60 [7, 8]",
+    )?;
+    reads(
+        &rt,
+        &[big, record, &record[..17]],
+        "Big Micro 9; 1.000005000 60 [7, 8]; TornRecord 1",
+    )?;
+    // more captured than there was on the wire, and than the header's snapshot length
+    let odd = &[0, 0, 0, 0, 0, 0, 0, 0, 2, 0, 0, 0, 1, 0, 0, 0, 7, 8];
+    reads(
+        &rt,
+        &[&h[..16], &[1, 0, 0, 0], &h[20..], odd],
+        "Little Micro 1; 0.000000000 1 [7, 8]",
+    )
+}
+
+#[test]
+fn fraction_of_a_million_is_refused(rt: HostRuntime) -> Result<(), Fail> {
+    let h = &HEADER_LITTLE_MICRO;
+    let rest = &[0, 0, 0, 0, 0, 0, 0, 0];
+    // 999,999 and 1,000,000 microseconds
+    reads(
+        &rt,
+        &[h, &[9, 0, 0, 0, 0x3f, 0x42, 0x0f, 0], rest],
+        "Little Micro 262144; 9.999999000 0 []",
+    )?;
+    reads(
+        &rt,
+        &[h, &[9, 0, 0, 0, 0x40, 0x42, 0x0f, 0], rest],
+        "Little Micro 262144; BadFraction 0",
+    )?;
+    // with a captured length of 262,145 too
+    let both = &[9, 0, 0, 0, 0x40, 0x42, 0x0f, 0, 1, 0, 4, 0, 0, 0, 0, 0];
+    reads(&rt, &[h, both], "Little Micro 262144; BadFraction 0")?;
+    // 999,999,999 and 1,000,000,000 nanoseconds
+    let nano = &[0x4d, 0x3c, 0xb2, 0xa1];
+    reads(
+        &rt,
+        &[nano, &h[4..], &[9, 0, 0, 0, 0xff, 0xc9, 0x9a, 0x3b], rest],
+        "Little Nano 262144; 9.999999999 0 []",
+    )?;
+    reads(
+        &rt,
+        &[nano, &h[4..], &[9, 0, 0, 0, 0, 0xca, 0x9a, 0x3b], rest],
+        "Little Nano 262144; BadFraction 0",
+    )
+}
+
+fn sevens(alloc: Global, len: usize) -> Result<Vec<u8>, AllocError> {
+    vec![in alloc; 7; len]
+}
+
+#[test]
+fn captured_length_is_refused_above_262144(rt: HostRuntime) -> Result<(), Fail> {
+    let h = &HEADER_LITTLE_MICRO;
+    let mut bytes = sevens(rt.alloc(), 262_144)?;
+    let mut text = joined(rt.alloc(), &[h, &[0; 8], &[0, 0, 4, 0], &[0; 4]])?;
+    text.extend_from_slice(&bytes)?;
+    let (_, packets, fault) = read_all(rt.alloc(), &text)?;
+    assert_eq!(rt; fault, None);
+    assert_eq!(rt; packets.len(), 1);
+    for packet in packets {
+        let data = packet.bytes.into_vec();
+        assert!(rt; data.as_slice() == bytes.as_slice());
+    }
+    bytes.push(7)?;
+    let mut text = joined(rt.alloc(), &[h, &[0; 8], &[1, 0, 4, 0], &[0; 4]])?;
+    text.extend_from_slice(&bytes)?;
+    let got = told(rt.alloc(), &text)?;
+    assert_eq!(rt; got.as_str(), "Little Micro 262144; TooLong 0");
+    Ok(())
+}
+
+/// Writes a savefile of packets without data into memory.
+fn written(
+    alloc: Global,
+    order: Order,
+    unit: Unit,
+    snap: u32,
+    packets: &[(u32, u32, u32)],
+) -> Result<Vec<u8>, Fail> {
+    let (mut writer, opened) = Writer::open(Counted::new(Vec::new(alloc)), order, unit, snap);
+    opened?;
+    for (sec, nanos, len) in packets {
+        if *nanos < 1_000_000_000 {
+            writer.put(*sec, *nanos, *len, &[])?;
+        }
+    }
+    let (sink, _) = writer.close();
+    Ok(sink.into_inner())
+}
+
+#[test]
+fn each_form_is_written_as_it_stands(rt: HostRuntime) -> Result<(), Fail> {
+    // a big-endian file with nanoseconds, snapshot length 96 and one packet without data
+    let big = [
+        0xa1, 0xb2, 0x3c, 0x4d, 0, 2, 0, 4, 0, 0, 0, 0, 0, 0, 0, 0, 0, 0, 0, 0x60, 0, 0, 0, 1, 0,
+        0, 0, 1, 0x3b, 0x9a, 0xc9, 0xff, 0, 0, 0, 0, 0, 0, 0, 0x3c,
+    ];
+    reads(&rt, &[&big], "Big Nano 96; 1.999999999 60 []")?;
+    let packets = [(1, 999_999_999, 60)];
+    let text = written(rt.alloc(), Order::Big, Unit::Nano, 96, &packets)?;
+    assert_eq!(rt; text.as_slice(), big.as_slice());
+    // the same, little-endian with microseconds
+    let little = [
+        0xd4, 0xc3, 0xb2, 0xa1, 2, 0, 4, 0, 0, 0, 0, 0, 0, 0, 0, 0, 0x60, 0, 0, 0, 1, 0, 0, 0, 1,
+        0, 0, 0, 0x3f, 0x42, 0x0f, 0, 0, 0, 0, 0, 0x3c, 0, 0, 0,
+    ];
+    let text = written(rt.alloc(), Order::Little, Unit::Micro, 96, &packets)?;
+    assert_eq!(rt; text.as_slice(), little.as_slice());
+    // five microseconds, as nanoseconds
+    let nano = [
+        0xa1, 0xb2, 0x3c, 0x4d, 0, 2, 0, 4, 0, 0, 0, 0, 0, 0, 0, 0, 0, 4, 0, 0, 0, 0, 0, 1, 0, 0,
+        0, 1, 0, 0, 0x13, 0x88, 0, 0, 0, 0, 0, 0, 0, 0,
+    ];
+    let text = written(
+        rt.alloc(),
+        Order::Big,
+        Unit::Nano,
+        262_144,
+        &[(1, 5_000, 0)],
+    )?;
+    assert_eq!(rt; text.as_slice(), nano.as_slice());
+    // each field at its limits, in the two other forms
+    let limits = [(0, 0, 0), (u32::MAX, 999_999_999, u32::MAX)];
+    let text = written(rt.alloc(), Order::Big, Unit::Micro, u32::MAX, &limits)?;
+    let got = told(rt.alloc(), &text)?;
+    assert_eq!(rt;
+        got.as_str(),
+        "Big Micro 4294967295; 0.000000000 0 []; 4294967295.999999000 4294967295 []"
+    );
+    let text = written(rt.alloc(), Order::Little, Unit::Nano, 0, &limits)?;
+    let got = told(rt.alloc(), &text)?;
+    assert_eq!(rt;
+        got.as_str(),
+        "Little Nano 0; 0.000000000 0 []; 4294967295.999999999 4294967295 []"
+    );
+    Ok(())
+}
+
+/// A device that moves few bytes a call, and fails at one of its calls.
+#[derive(Drop)]
+struct Drip {
+    bytes: Vec<u8>,
+    place: usize,
+    at_once: usize,
+    calls: usize,
+    fails_at: usize,
+}
+
+impl Drip {
+    fn fails_now(&mut self) -> bool {
+        self.calls = self.calls.wrapping_add(1);
+        self.calls == self.fails_at
+    }
+}
+
+impl Read for Drip {
+    fn read(&mut self, to: &mut [u8]) -> io::Result<usize> {
+        if self.fails_now() {
+            return Err(io::Error::from(io::ErrorKind::BrokenPipe));
+        }
+        let left = self.bytes.get(self.place..).unwrap_or(&[]);
+        let n = left.len().min(self.at_once).min(to.len());
+        to[..n].copy_from_slice(&left[..n]);
+        self.place = self.place.wrapping_add(n);
+        Ok(n)
+    }
+}
+
+impl Write for Drip {
+    fn write(&mut self, from: &[u8]) -> io::Result<usize> {
+        if self.fails_now() {
+            return Err(io::Error::from(io::ErrorKind::BrokenPipe));
+        }
+        let n = from.len().min(self.at_once);
+        self.bytes.extend_from_slice(&from[..n])?;
+        Ok(n)
+    }
+
+    fn flush(&mut self) -> io::Result<()> {
+        Ok(())
+    }
+}
+
+fn dripping(bytes: Vec<u8>, at_once: usize, fails_at: usize) -> Counted<Drip> {
+    Counted::new(Drip {
+        bytes,
+        place: 0,
+        at_once,
+        calls: 0,
+        fails_at,
+    })
+}
+
+#[test]
+fn a_failed_sink_has_what_was_sent(rt: HostRuntime) -> Result<(), Fail> {
+    let sink = dripping(Vec::new(rt.alloc()), 1, 31);
+    let (mut writer, opened) = Writer::open(sink, Order::Little, Unit::Micro, 262_144);
+    assert_eq!(rt; opened, Ok(()));
+    assert_eq!(rt; writer.put(1, 0, 38, &TCP_FRAME), Err(Fault::Device));
+    assert_eq!(rt; writer.sent(), 30);
+    assert_eq!(rt; writer.put(1, 0, 38, &TCP_FRAME), Err(Fault::Failed));
+    assert_eq!(rt; writer.sent(), 30);
+    let (sink, sent) = writer.close();
+    assert_eq!(rt; sent, 30);
+    assert_eq!(rt; sink.failures, 1);
+    let text = joined(rt.alloc(), &[&HEADER_LITTLE_MICRO, &[1, 0, 0, 0, 0, 0]])?;
+    assert_eq!(rt; sink.inner.bytes.as_slice(), text.as_slice());
+    // in the header, and a sink that takes nothing
+    let sink = dripping(Vec::new(rt.alloc()), 5, 3);
+    let (mut writer, opened) = Writer::open(sink, Order::Little, Unit::Micro, 0);
+    assert_eq!(rt; opened, Err(Fault::Device));
+    assert_eq!(rt; writer.put(1, 0, 38, &TCP_FRAME), Err(Fault::Failed));
+    assert_eq!(rt; writer.sent(), 10);
+    let (writer, opened) = Writer::open(
+        dripping(Vec::new(rt.alloc()), 0, 9),
+        Order::Big,
+        Unit::Nano,
+        0,
+    );
+    assert_eq!(rt; opened, Err(Fault::Device));
+    assert_eq!(rt; writer.sent(), 0);
+    Ok(())
+}
+
+#[test]
+fn a_source_is_read_to_its_end(rt: HostRuntime) -> Result<(), Fail> {
+    let text = sevens(rt.alloc(), 600_000)?;
+    for (at_once, fails_at, want) in [
+        (usize::MAX, 0, Ok(())),
+        (99_999, 0, Ok(())),
+        (99_999, 3, Err(Fault::Device)),
+        (99_999, 8, Err(Fault::Device)),
+    ] {
+        let mut source = dripping(Vec::from_slice(rt.alloc(), &text)?, at_once, fails_at);
+        let got = read_to_end(rt.alloc(), &mut source);
+        assert_eq!(rt; source.failures, if want.is_ok() { 0 } else { 1 });
+        match got {
+            Ok(bytes) => {
+                assert_eq!(rt; want, Ok(()));
+                assert!(rt; bytes.as_slice() == text.as_slice());
+            }
+            Err(fault) => assert_eq!(rt; Err(fault), want),
+        }
+    }
+    Ok(())
+}
+
+#[test]
+fn faults_are_told_by_name_and_place(rt: HostRuntime) -> Result<(), Fail> {
+    for (fault, want) in [
+        (Fault::ShortHeader, "ShortHeader"),
+        (Fault::NotSavefile, "NotSavefile"),
+        (Fault::Version, "Version"),
+        (Fault::LinkType, "LinkType"),
+        (Fault::TornRecord(4), "TornRecord 4"),
+        (Fault::BadFraction(0), "BadFraction 0"),
+        (Fault::TooLong(u64::MAX), "TooLong 18446744073709551615"),
+        (Fault::NoMemory, "NoMemory"),
+        (Fault::Device, "Device"),
+        (Fault::Failed, "Failed"),
+        (Fault::CountFull, "CountFull"),
+    ] {
+        let text = format!(in rt.alloc(); "{fault}")?;
+        assert_eq!(rt; text.as_str(), want);
+    }
+    Ok(())
+}

@@ -1,0 +1,208 @@
+//! Writing a savefile, packet by packet.
+
+ghost use Rattle.std.specs.Prelude.{◌≡◌, ◌≢◌, ℕ, List, [], ◌∷◌, ◌++◌, Option, true, false, ◌+◌, ◌^◌, ◌<◌, ◌≤◌, ◌↔◌, ◌⊎◌, length, IfErr, OnOk, OnErr};
+ghost use Rattle.savefile.specs.declared.packet.Packet.{Packet};
+ghost use Rattle.savefile.specs.Device.{CountsFailure};
+ghost use Rattle.savefile.specs.Savefile.{bytes_in, header_text, packet, record_header_text};
+ghost use Rattle.savefile.specs.Writer.{Fills, IsBeginning, Sends, sink_of, sent_by, has_failed, HasWritten, BrokeOff};
+
+use crate::device::{Broken, Sink};
+use crate::fault::Fault;
+use crate::header::{ETHERNET, MAJOR, MINOR, Order, Unit};
+use byteorder::{BigEndian, ByteOrder, LittleEndian};
+
+/// Writes a number of two bytes behind the front of a text.
+fn fill_u16<B: ByteOrder>(text: &mut [u8], at: usize, n: u16)
+    requires { at + 2 ≤ length text.old }
+    ensures { Fills at text.old (B.bytes_of 2 n) text.new }
+{
+    B::write_u16(&mut text[at..], n);
+}
+
+/// Writes a number of four bytes behind the front of a text.
+fn fill_u32<B: ByteOrder>(text: &mut [u8], at: usize, n: u32)
+    requires { at + 4 ≤ length text.old }
+    ensures { Fills at text.old (B.bytes_of 4 n) text.new }
+{
+    B::write_u32(&mut text[at..], n);
+}
+
+/// The header of a savefile, with zeros in both reserved fields.
+fn file_header_in<B: ByteOrder>(unit: Unit, snap: u32) -> [u8; 24]
+    ensures { result ≡ header_text B.bytes_of unit snap }
+{
+    let mut text = [0; 24];
+    fill_u32::<B>(&mut text, 0, unit.magic());
+    fill_u16::<B>(&mut text, 4, MAJOR);
+    fill_u16::<B>(&mut text, 6, MINOR);
+    fill_u32::<B>(&mut text, 8, 0);
+    fill_u32::<B>(&mut text, 12, 0);
+    fill_u32::<B>(&mut text, 16, snap);
+    fill_u32::<B>(&mut text, 20, ETHERNET);
+    text
+}
+
+fn file_header(order: Order, unit: Unit, snap: u32) -> [u8; 24]
+    ensures { result ≡ header_text (bytes_in order) unit snap }
+{
+    match order {
+        Order::Little => file_header_in::<LittleEndian>(unit, snap),
+        Order::Big => file_header_in::<BigEndian>(unit, snap),
+    }
+}
+
+/// The header of a record.
+fn record_header_in<B: ByteOrder>(sec: u32, fraction: u32, captured: u32, len: u32) -> [u8; 16]
+    ensures { result ≡ record_header_text B.bytes_of sec fraction captured len }
+{
+    let mut text = [0; 16];
+    fill_u32::<B>(&mut text, 0, sec);
+    fill_u32::<B>(&mut text, 4, fraction);
+    fill_u32::<B>(&mut text, 8, captured);
+    fill_u32::<B>(&mut text, 12, len);
+    text
+}
+
+fn record_header(order: Order, sec: u32, fraction: u32, captured: u32, len: u32) -> [u8; 16]
+    ensures { result ≡ record_header_text (bytes_in order) sec fraction captured len }
+{
+    match order {
+        Order::Little => record_header_in::<LittleEndian>(sec, fraction, captured, len),
+        Order::Big => record_header_in::<BigEndian>(sec, fraction, captured, len),
+    }
+}
+
+/// Writes a savefile into a sink.
+///
+/// Until a device fault the sink took exactly the written text of the packets whose `put` answered Ok,
+/// and [`Writer::sent`] is its length. After one it took exactly `sent` bytes, a beginning of the written
+/// text of those packets and the one whose `put` answered [`Fault::Device`].
+#[derive(Debug, Drop)]
+pub struct Writer<W> {
+    sink: W,
+    order: Order,
+    unit: Unit,
+    sent: u64,
+    failed: bool,
+}
+
+impl<W: Sink> Writer<W> {
+    /// Begins a savefile: writes its header. After [`Fault::Device`] the writer has failed.
+    pub fn open(sink: W, order: Order, unit: Unit, snap: u32) -> (Writer<W>, Result<(), Fault>)
+        ensures ok { OnOk result.1 (HasWritten W.taken (W.taken sink) order unit snap [] result.0) }
+        ensures err { OnErr result.1 (BrokeOff W.taken (W.taken sink) order unit snap [] result.0) }
+        ensures device { (result.1 ≡ Err Fault.Device) ↔ (W.failures (sink_of result.0) ≢ W.failures sink) }
+        ensures only { IfErr result.1 (λ fault. fault ≡ Fault.Device) }
+    {
+        let mut writer = Writer {
+            sink,
+            order,
+            unit,
+            sent: 0,
+            failed: false,
+        };
+        let answer = writer.send(&file_header(order, unit, snap));
+        (writer, answer)
+    }
+
+    /// Sends bytes, as many at a time as the sink takes.
+    fn send(&mut self, bytes: &[u8]) -> Result<(), Fault>
+        requires { self.old.sent + length bytes.now < 2 ^ 64 }
+        ensures ok { OnOk result (Sends W.taken self.old self.new bytes.now × (self.new.failed ≡ self.old.failed)) }
+        ensures err { OnErr result ((part : List ℕ) × IsBeginning part bytes.now × Sends W.taken self.old self.new part × (self.new.failed ≡ true)) }
+        ensures only { IfErr result (λ fault. fault ≡ Fault.Device) }
+        ensures failures { CountsFailure (W.failures self.old.sink) (W.failures self.new.sink) result }
+    {
+        let mut rest = bytes;
+        while !rest.is_empty() {
+            match self.sink.write(rest) {
+                Ok(n) => {
+                    self.sent += n as u64;
+                    rest = &rest[n..];
+                }
+                Err(Broken) => {
+                    self.failed = true;
+                    return Err(Fault::Device);
+                }
+            }
+        }
+        Ok(())
+    }
+
+    /// Sends a header, and then bytes.
+    fn send_both(&mut self, header: &[u8], bytes: &[u8]) -> Result<(), Fault>
+        requires { self.old.sent + length header.now + length bytes.now < 2 ^ 64 }
+        ensures ok { OnOk result (Sends W.taken self.old self.new (header.now ++ bytes.now) × (self.new.failed ≡ self.old.failed)) }
+        ensures err { OnErr result ((part : List ℕ) × IsBeginning part (header.now ++ bytes.now) × Sends W.taken self.old self.new part × (self.new.failed ≡ true)) }
+        ensures only { IfErr result (λ fault. fault ≡ Fault.Device) }
+        ensures failures { CountsFailure (W.failures self.old.sink) (W.failures self.new.sink) result }
+    {
+        self.send(header)?;
+        self.send(bytes)
+    }
+
+    /// Writes one packet: its time, its length on the wire, and the bytes that were captured of it.
+    ///
+    /// With microseconds the nanoseconds are divided by 1,000 and the rest is dropped.
+    /// [`Fault::Device`] comes exactly where the sink failed in this call; from then on the writer has
+    /// failed, and every `put` answers [`Fault::Failed`] and does nothing. [`Fault::CountFull`] comes
+    /// exactly where the record would take [`Writer::sent`] past 2^64 - 1; it does nothing, and the writer
+    /// can be used on. No memory is taken.
+    pub fn put(&mut self, sec: u32, nanos: u32, len: u32, bytes: &[u8]) -> Result<(), Fault>
+        requires nanos { nanos < 1000000000 }
+        requires size { length bytes.now ≤ 262144 }
+
+        // After Ok, what was written before and now this packet; after Device, a beginning of that.
+        ensures ok { (start : Option (List ℕ)) (order : Order) (unit : Unit) (snap : ℕ) (packets : List Packet) →
+            HasWritten W.taken start order unit snap packets self.old →
+            OnOk result (HasWritten W.taken start order unit snap (packets ++ packet sec nanos len bytes.now ∷ []) self.new) }
+        ensures broke_off { (start : Option (List ℕ)) (order : Order) (unit : Unit) (snap : ℕ) (packets : List Packet) →
+            HasWritten W.taken start order unit snap packets self.old → result ≡ Err Fault.Device →
+            BrokeOff W.taken start order unit snap (packets ++ packet sec nanos len bytes.now ∷ []) self.new }
+
+        // When each error comes, and no other.
+        ensures device { (result ≡ Err Fault.Device) ↔ (W.failures (sink_of self.new) ≢ W.failures (sink_of self.old)) }
+        ensures failed { (result ≡ Err Fault.Failed) ↔ (has_failed self.old ≡ true) }
+        ensures count_full { (result ≡ Err Fault.CountFull) ↔
+            ((has_failed self.old ≡ false) × (2 ^ 64 ≤ sent_by self.old + 16 + length bytes.now)) }
+        ensures only { IfErr result (λ fault. (fault ≡ Fault.Device) ⊎ (fault ≡ Fault.Failed) ⊎ (fault ≡ Fault.CountFull)) }
+
+        // Without a device fault, an error changed nothing.
+        ensures unchanged { result ≡ Err Fault.Failed ⊎ result ≡ Err Fault.CountFull → self.new ≡ self.old }
+    {
+        if self.failed {
+            return Err(Fault::Failed);
+        }
+        if u64::MAX - self.sent < 16 + bytes.len() as u64 {
+            return Err(Fault::CountFull);
+        }
+        let fraction = nanos / self.unit.nanos();
+        let header = record_header(self.order, sec, fraction, bytes.len() as u32, len);
+        self.send_both(&header, bytes)
+    }
+
+    /// How many bytes the sink took since the writer was opened.
+    pub fn sent(&self) -> u64
+        ensures { result ≡ sent_by self.now }
+    {
+        self.sent
+    }
+
+    /// Gives the sink back, with the number of bytes that it took since the writer was opened.
+    pub fn close(self) -> (W, u64)
+        ensures sink { result.0 ≡ sink_of self }
+        ensures sent { result.1 ≡ sent_by self }
+    {
+        let Writer {
+            sink,
+            order: _,
+            unit: _,
+            sent,
+            failed: _,
+        } = self;
+        (sink, sent)
+    }
+}
+
+#[cfg(test)]
+mod tests;
