@@ -1,0 +1,10 @@
+pub mod Numbers
+pub mod Soundness
+pub mod Runs
+pub mod Refusals
+pub mod Lines
+pub mod Fields
+pub mod Reading
+pub mod Listings
+pub mod Written
+pub mod Outcomes

@@ -1,0 +1,6 @@
+pub mod Codes
+pub mod Machine
+pub mod Validity
+pub mod Next
+pub mod Listing
+pub mod Laws

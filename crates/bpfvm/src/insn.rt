@@ -1,0 +1,12 @@
+/// One instruction of a filter program, `struct bpf_insn` of bpf(4).
+#[derive(Clone, Copy, Debug, Default, PartialEq, Eq)]
+pub struct Insn {
+    /// What it does: one of the codes of [`crate::code`].
+    pub code: u16,
+    /// How many instructions a conditional jump passes where its test holds.
+    pub jt: u8,
+    /// How many instructions it passes where the test does not hold.
+    pub jf: u8,
+    /// The operand: a number, an offset, a cell of the scratch memory, or a jump's length.
+    pub k: u32,
+}

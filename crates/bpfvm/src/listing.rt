@@ -1,0 +1,156 @@
+//! Listings: programs as text, as `tcpdump -ddd` prints them.
+
+ghost use Rattle.std.specs.Prelude.{◌≡◌, ◌≢◌, ◌↔◌, ℕ, ◌+◌, ◌<◌, ◌≤◌, List, [], ◌∷◌, ◌++◌, length, take, All, IfOk, IfErr, IfSome, IfNone, Ok, Err};
+ghost use Rattle.bpfvm.specs.declared.insn.Insn.{Insn};
+ghost use Rattle.bpfvm.specs.Validity.{IsValidProgram};
+ghost use Rattle.bpfvm.specs.Listing.{IsNumber, IsLine, AreLines, IsListing, IsRefusedListing, StopsAfter, further_lines, lines_of, listing_of};
+
+use crate::fault::{Invalid, ListingFault, NoMemory};
+use crate::insn::Insn;
+use crate::program::{MAX_INSNS, Program};
+use arrayvec::ArrayVec;
+use std::alloc::Global;
+
+/// What stands before the first such byte, and what behind it.
+fn cut(text: &[u8], at: u8) -> Option<(&[u8], &[u8])>
+    ensures parts { IfSome result (λ parts. text.now ≡ parts.0.now ++ at ∷ parts.1.now) }
+    ensures first { IfSome result (λ parts. All (λ byte. byte ≢ at) parts.0.now) }
+    ensures none { IfNone result (All (λ byte. byte ≢ at) text.now) }
+{
+    let place = text.iter().position(|byte| *byte == at)?;
+    Some((&text[..place], &text[place + 1..]))
+}
+
+/// The first line of a text, without its end, and what stands behind it.
+fn first_line(text: &[u8]) -> (&[u8], &[u8])
+    ensures first { lines_of text.now ≡ result.0.now ∷ further_lines result.1.now }
+    ensures shorter { text.now ≢ [] → length result.1.now < length text.now }
+{
+    match cut(text, b'\n') {
+        Some(parts) => parts,
+        None => (text, &[]),
+    }
+}
+
+/// A decimal number, up to the greatest one.
+fn number(text: &[u8], most: u32) -> Option<u32>
+    ensures some { IfSome result (λ n. IsNumber most text.now n) }
+    ensures none { IfNone result ((n : ℕ) → IsNumber most text.now n → ⊥) }
+{
+    if text.is_empty() {
+        return None;
+    }
+    let mut n = 0;
+    for byte in text {
+        if !byte.is_ascii_digit() {
+            return None;
+        }
+        n = 10 * n + u64::from(*byte - b'0');
+        if n > u64::from(most) {
+            return None;
+        }
+    }
+    Some(n as u32)
+}
+
+/// The instruction of a line, `code jt jf k`.
+fn insn_of(line: &[u8]) -> Option<Insn>
+    ensures some { IfSome result (λ insn. IsLine line.now insn) }
+    ensures none { IfNone result ((insn : Insn) → IsLine line.now insn → ⊥) }
+{
+    let (code, rest) = cut(line, b' ')?;
+    let (jt, rest) = cut(rest, b' ')?;
+    let (jf, k) = cut(rest, b' ')?;
+    let code = number(code, u32::from(u16::MAX))?;
+    let jt = number(jt, u32::from(u8::MAX))?;
+    let jf = number(jf, u32::from(u8::MAX))?;
+    let k = number(k, u32::MAX)?;
+    Some(Insn {
+        code: code as u16,
+        jt: jt as u8,
+        jf: jf as u8,
+        k,
+    })
+}
+
+/// The instructions of lines: the first of them, as many as a program has, and how many there are.
+#[derive(Drop)]
+struct Listed {
+    insns: ArrayVec<Insn, MAX_INSNS>,
+    count: usize,
+}
+
+/// Appends an instruction where there is room for it.
+fn keep(kept: &mut ArrayVec<Insn, MAX_INSNS>, insn: Insn)
+    ensures { (insns : List Insn) → kept.old.items ≡ take 512 insns → kept.new.items ≡ take 512 (insns ++ insn ∷ []) }
+{
+    if !kept.is_full() {
+        kept.push(insn);
+    }
+}
+
+/// Reads further lines. Where one is no instruction, the error is how many stand before it.
+fn read_lines(text: &[u8]) -> Result<Listed, usize>
+    ensures ok { IfOk result (λ listed. (insns : List Insn) × AreLines (further_lines text.now) insns
+        × (listed.count ≡ length insns) × (listed.insns.items ≡ take 512 insns)) }
+    ensures bad { IfErr result (StopsAfter (further_lines text.now)) }
+    ensures small { IfErr result (λ good. good ≤ length text.now) }
+{
+    let mut listed = Listed {
+        insns: ArrayVec::new(),
+        count: 0,
+    };
+    let mut rest = text;
+    while !rest.is_empty() {
+        let (line, after) = first_line(rest);
+        let Some(insn) = insn_of(line) else {
+            return Err(listed.count);
+        };
+        keep(&mut listed.insns, insn);
+        listed.count += 1;
+        rest = after;
+    }
+    Ok(listed)
+}
+
+/// Reads a listing: the number of the instructions on the first line, and `code jt jf k` on each other one, in decimal.
+///
+/// Lines end with byte 10, which the last one may lack. Leading zeros are read; no other space, sign or carriage return
+/// is. It takes no memory.
+pub fn read_listing(text: &[u8]) -> Result<Program, ListingFault>
+    ensures ok { IfOk result (λ program. IsListing text.now program × IsValidProgram program) }
+    ensures only { (program : List Insn) → IsListing text.now program → IsValidProgram program → result ≡ Ok program }
+    ensures fault { (fault : ListingFault) → (result ≡ Err fault) ↔ IsRefusedListing text.now fault }
+{
+    let (first, others) = first_line(text);
+    let Some(count) = number(first, u32::MAX) else {
+        return Err(ListingFault::BadLine(1));
+    };
+    let listed = match read_lines(others) {
+        Ok(listed) => listed,
+        Err(good) => return Err(ListingFault::BadLine(good + 2)),
+    };
+    if listed.count != count as usize {
+        return Err(ListingFault::Count);
+    }
+    if listed.count > MAX_INSNS {
+        return Err(ListingFault::Program(Invalid::TooMany));
+    }
+    match Program::new(&listed.insns) {
+        Ok(program) => Ok(program),
+        Err(fault) => Err(ListingFault::Program(fault)),
+    }
+}
+
+/// The listing of a program, with a line feed after every line and no leading zeros.
+pub fn write_listing(alloc: Global, program: &Program) -> Result<Vec<u8>, NoMemory>
+    ensures { IfOk result (λ text. text.items ≡ listing_of program.now) }
+{
+    let insns = program.insns();
+    let mut text = String::new(alloc);
+    write!(text, "{}\n", insns.len())?;
+    for insn in insns {
+        write!(text, "{} {} {} {}\n", insn.code, insn.jt, insn.jf, insn.k)?;
+    }
+    Ok(text.into_bytes())
+}
