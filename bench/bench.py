@@ -1,0 +1,134 @@
+#!/usr/bin/env python3
+"""Measures `bpftap cut` beside cp, and beside tcpdump where it is there.
+
+  bench/bench.py                   wall time and peak memory on a capture of some 100 MB, interleaved runs
+  bench/bench.py --instructions    user instructions for each packet, by valgrind's callgrind, on a small capture
+
+Machines are noisy, so the ratios of one run are what to compare. Instructions are repeatable.
+"""
+import argparse
+import os
+import pathlib
+import random
+import re
+import shutil
+import statistics
+import struct
+import subprocess
+import sys
+import tempfile
+import time
+
+ROOT = pathlib.Path(__file__).resolve().parent.parent
+PROGRAM = ROOT / "crates" / "bpftap" / "out" / "bpftap"
+LISTINGS = [
+    ("all packets", "1\n6 0 0 262144\n", None),
+    ("IPv4 (4 instructions)", "4\n40 0 0 12\n21 0 1 2048\n6 0 0 262144\n6 0 0 0\n", "ip"),
+    ("nothing", "1\n6 0 0 0\n", "less 1"),
+]
+
+
+def frame(rng, number):
+    """An Ethernet frame of 60 to 1,260 bytes: two of three are IPv4, the others ARP."""
+    size = rng.randrange(60, 1261)
+    kind = 0x0806 if number % 3 == 2 else 0x0800
+    head = bytes.fromhex("ffffffffffff000102030405") + struct.pack(">H", kind)
+    return head + bytes([number & 255]) * (size - len(head))
+
+
+def generate(path, packets):
+    """A little-endian capture with microseconds, the same for each call."""
+    rng = random.Random(1993)
+    with open(path, "wb", buffering=1 << 20) as out:
+        out.write(struct.pack("<IHHIIII", 0xA1B2C3D4, 2, 4, 0, 0, 262144, 1))
+        for number in range(packets):
+            data = frame(rng, number)
+            out.write(struct.pack("<IIII", number // 1000, number % 1000 * 1000, len(data), len(data)) + data)
+
+
+def run(words):
+    """Seconds, peak memory in MiB and exit status of one run."""
+    start = time.perf_counter()
+    child = subprocess.Popen(words, stdout=subprocess.DEVNULL, stderr=subprocess.DEVNULL)
+    _, status, usage = os.wait4(child.pid, 0)
+    return time.perf_counter() - start, usage.ru_maxrss / 1024, os.waitstatus_to_exitcode(status)
+
+
+def commands(folder, capture):
+    """Name and words of each thing that is measured; cp first, as the one that the others are compared with."""
+    out = str(folder / "out.pcap")
+    yield "cp", ["cp", str(capture), out]
+    for at, (name, listing, expression) in enumerate(LISTINGS):
+        path = folder / f"{at}.bpf"
+        path.write_text(listing)
+        yield f"bpftap cut, {name}", [str(PROGRAM), "cut", "-s", "0", "-f", str(path), str(capture), out]
+        if shutil.which("tcpdump"):
+            # As root tcpdump would become another user, which may not write here.
+            stay = ["-Z", "root"] if os.geteuid() == 0 else []
+            words = ["tcpdump", *stay, "-r", str(capture), "-w", out]
+            yield f"tcpdump, {name}", words + ([expression] if expression else [])
+
+
+def wall(folder, packets, rounds):
+    capture = folder / "in.pcap"
+    generate(capture, packets)
+    size = capture.stat().st_size
+    print(f"{packets} packets, {size / 1e6:.0f} MB, median of {rounds} interleaved rounds")
+    all_commands = list(commands(folder, capture))
+    seen = {name: [] for name, _ in all_commands}
+    for _ in range(rounds):
+        for name, words in all_commands:
+            seconds, memory, status = run(words)
+            if status != 0:
+                sys.exit(f"{name}: status {status}")
+            seen[name].append((seconds, memory))
+    base = statistics.median(seconds for seconds, _ in seen["cp"])
+    for name, runs in seen.items():
+        seconds = statistics.median(s for s, _ in runs)
+        memory = max(m for _, m in runs)
+        print(f"{name:40} {seconds:8.3f} s  {seconds / base:6.2f} x cp  {memory:7.0f} MiB at most")
+
+
+def instructions_of(words, folder):
+    """User instructions of one run, as callgrind counts them."""
+    log = folder / "callgrind.out"
+    done = subprocess.run(
+        ["valgrind", "--tool=callgrind", f"--callgrind-out-file={log}", *words],
+        stdout=subprocess.DEVNULL, stderr=subprocess.PIPE, text=True)
+    found = re.search(r"Collected : (\d+)", done.stderr)
+    if not found:
+        sys.exit(f"callgrind said nothing of {words[0]}:\n{done.stderr[-2000:]}")
+    return int(found.group(1))
+
+
+def instructions(folder):
+    """The difference of two captures' counts, so that starting up counts for nothing."""
+    small, large = folder / "small.pcap", folder / "large.pcap"
+    generate(small, 1000)
+    generate(large, 11000)
+    print("user instructions for each packet (660 bytes on average), by callgrind")
+    for (name, first), (_, second) in zip(commands(folder, small), commands(folder, large)):
+        if name == "cp":
+            continue
+        count = (instructions_of(second, folder) - instructions_of(first, folder)) / 10000
+        print(f"{name:40} {count:8.0f}")
+
+
+def main():
+    parser = argparse.ArgumentParser(description=__doc__, formatter_class=argparse.RawDescriptionHelpFormatter)
+    parser.add_argument("--instructions", action="store_true")
+    parser.add_argument("--packets", type=int, default=150000)
+    parser.add_argument("--rounds", type=int, default=5)
+    words = parser.parse_args()
+    if not PROGRAM.exists():
+        subprocess.run([str(ROOT / "bpftap"), "--help"], check=True, stdout=subprocess.DEVNULL)
+    with tempfile.TemporaryDirectory() as name:
+        folder = pathlib.Path(name)
+        if words.instructions:
+            instructions(folder)
+        else:
+            wall(folder, words.packets, words.rounds)
+
+
+if __name__ == "__main__":
+    main()

@@ -1,0 +1,4 @@
+pub mod AcceptAll
+pub mod Accepted
+pub mod Writing
+pub mod Outcomes

@@ -1,0 +1,123 @@
+-- How a writer goes on with one packet more.
+use Rattle.std.proofs.Common.{◌≡◌, ◌≢◌, ℕ, ◌+◌, ◌<◌, ◌≤◌, ◌^◌, ◌⊎◌, inl, inr, List, [], ◌∷◌, ◌++◌, length, min, take, refl, ap, sym, ◌∙◌, arith, subst, Option, Result, Ok, Err, OnOk, OnErr, IfErr, is_ok, length-append, Bool, true, false}
+use Rattle.std.proofs.lemmas.List.{append-nil}
+use Rattle.std.specs.Io.KnownBytes.{Appends}
+use Rattle.savefile.specs.declared.fault.Fault.{Fault}
+use Rattle.savefile.specs.declared.fault.Fault.TheVariants.{Device, CountFull, Failed}
+use Rattle.savefile.specs.declared.header.Order.{Order}
+use Rattle.savefile.specs.declared.header.Unit.{Unit as TimeUnit}
+use Rattle.savefile.specs.declared.packet.Packet.{Packet}
+use Rattle.savefile.specs.declared.writing.Writer.{Writer}
+use Rattle.savefile.specs.Savefile.{encoded, packet}
+use Rattle.savefile.specs.Writer.{IsBeginning, HasWritten, BrokeOff, Sent, has_failed, sent_by, sink_of}
+use Rattle.savefile.proofs.Encoding.{encoded-append, encoded-push, encoded-begins, IsBeginning-trans}
+use Rattle.savefile.proofs.Lengths.{length-encoded-push}
+use Rattle.bpfvm.specs.declared.insn.Insn.{Insn}
+use Rattle.bpftap.specs.Cut.{answer, accepted}
+use Rattle.bpftap.specs.Outcome.{GoesOn, Took, Writes}
+use Rattle.bpftap.proofs.Accepted.{accepted-rejected, accepted-kept}
+
+-- the end of a put that failed, by the fault
+fault-goes-on : {W : Type 0} (taken : W → Option (List ℕ)) (start : Option (List ℕ)) (order : Order) (unit : TimeUnit) (snap : ℕ) (ps : List Packet) (p : Packet) (old new : Writer W) (fault : Fault) →
+    HasWritten taken start order unit snap ps old →
+    (fault ≡ Device → BrokeOff taken start order unit snap (ps ++ p ∷ []) new) →
+    (fault ≡ Failed → has_failed old ≡ true) →
+    (fault ≡ CountFull → 2 ^ 64 ≤ sent_by old + 16 + length p.bytes) →
+    (fault ≡ CountFull → new ≡ old) →
+    (fault ≡ Device) ⊎ (fault ≡ Failed) ⊎ (fault ≡ CountFull) →
+    GoesOn taken start order unit snap (ps ++ p ∷ []) (Err fault) new
+fault-goes-on taken start order unit snap ps p old new fault written broke failed full same (inl device) =
+    let b = broke device in (b.text, b.sent, (b.begins, inl device))
+-- a writer that works has not failed before
+fault-goes-on taken start order unit snap ps p old new fault written broke failed full same (inr (inl again)) =
+    let works : false ≡ true = sym written.works ∙ failed again in cc
+-- the count is full: nothing was written of this packet
+fault-goes-on taken start order unit snap ps p old new fault written broke failed full same (inr (inr many)) = (
+  encoded order unit snap ps,
+  subst (Sent taken start (encoded order unit snap ps)) (sym (same many)) written.sent,
+  (encoded-begins order unit snap ps (p ∷ []), inr (many, omega (arith, full many, written.sent.count, length-encoded-push order unit snap ps p))),
+)
+
+-- the clauses of `put`, as one step
+pub put-goes-on : {W : Type 0} (taken : W → Option (List ℕ)) (start : Option (List ℕ)) (order : Order) (unit : TimeUnit) (snap : ℕ) (ps : List Packet) (p : Packet) (old new : Writer W) (result : Result (Unit {0}) Fault) →
+    HasWritten taken start order unit snap ps old →
+    OnOk result (HasWritten taken start order unit snap (ps ++ p ∷ []) new) →
+    (result ≡ Err Device → BrokeOff taken start order unit snap (ps ++ p ∷ []) new) →
+    (result ≡ Err Failed → has_failed old ≡ true) →
+    (result ≡ Err CountFull → 2 ^ 64 ≤ sent_by old + 16 + length p.bytes) →
+    ((result ≡ Err Failed) ⊎ (result ≡ Err CountFull) → new ≡ old) →
+    IfErr result (λ fault. (fault ≡ Device) ⊎ (fault ≡ Failed) ⊎ (fault ≡ CountFull)) →
+    GoesOn taken start order unit snap (ps ++ p ∷ []) result new
+put-goes-on taken start order unit snap ps p old new (Ok x) written ok broke failed full same only = ok
+put-goes-on taken start order unit snap ps p old new (Err fault) written ok broke failed full same only =
+    fault-goes-on taken start order unit snap ps p old new fault written
+    (λ e. broke (ap Err e)) (λ e. failed (ap Err e)) (λ e. full (ap Err e)) (λ e. same (inr (ap Err e))) only
+
+-- a beginning is no longer than the whole
+length-begins : (text whole : List ℕ) → IsBeginning text whole → length text ≤ length whole
+length-begins text whole (more, e) = omega (arith, ap length e, length-append text more)
+
+-- what a text's beginning was, is a beginning of the text with more packets
+pub goes-further : {W : Type 0} (taken : W → Option (List ℕ)) (start : Option (List ℕ)) (order : Order) (unit : TimeUnit) (snap : ℕ) (ps qs : List Packet) (fault : Fault) (w : Writer W) →
+    GoesOn taken start order unit snap ps (Err fault) w → GoesOn taken start order unit snap (ps ++ qs) (Err fault) w
+goes-further taken start order unit snap ps qs fault w (sent, is, (begins, why)) =
+    let further = encoded-begins order unit snap ps qs in
+    let longer : length (encoded order unit snap ps) ≤ length (encoded order unit snap (ps ++ qs)) = length-begins _ _ further in (
+      sent,
+      is,
+      (
+        IsBeginning-trans sent (encoded order unit snap ps) (encoded order unit snap (ps ++ qs)) begins further,
+        elim why [ inl device ↦ inl device | inr (many, long) ↦ inr (many, omega (arith, long, longer)) ],
+      ),
+    )
+
+-- a rejected packet: the text stays
+pub rejected-goes-on : {W : Type 0} (taken : W → Option (List ℕ)) (start : Option (List ℕ)) (order : Order) (unit : TimeUnit) (head : ℕ) (program : List Insn) (snap : ℕ) (before : List Packet) (p : Packet) (w : Writer W) →
+    answer program p ≡ 0 → HasWritten taken start order unit head before w →
+    HasWritten taken start order unit head (before ++ accepted program snap (p ∷ [])) w
+rejected-goes-on taken start order unit head program snap before p w rejects written =
+    let same : before ++ accepted program snap (p ∷ []) ≡ before =
+    ap (λ (ps : List Packet). before ++ ps) (accepted-rejected program snap p rejects) ∙ append-nil before in
+    subst (λ (ps : List Packet). HasWritten taken start order unit head ps w) (sym same) written
+
+-- an accepted packet: its own put
+pub accepted-goes-on : {W : Type 0} (taken : W → Option (List ℕ)) (start : Option (List ℕ)) (order : Order) (unit : TimeUnit) (head : ℕ) (program : List Insn) (snap : ℕ) (before : List Packet) (p : Packet) (kept : List ℕ) (result : Result (Unit {0}) Fault) (w : Writer W) →
+    0 < answer program p → kept ≡ take (min (min (answer program p) snap) (length p.bytes)) p.bytes →
+    GoesOn taken start order unit head (before ++ packet p.sec p.nanos p.len kept ∷ []) result w →
+    GoesOn taken start order unit head (before ++ accepted program snap (p ∷ [])) result w
+accepted-goes-on taken start order unit head program snap before p kept result w accepts-it is gone =
+    subst (λ (ps : List Packet). GoesOn taken start order unit head (before ++ ps) result w)
+    (sym (accepted-kept program snap p kept accepts-it is)) gone
+
+-- a writer that was opened
+pub opened : (result : Result (Unit {0}) Fault) (P : Type 0) → OnOk result P → is_ok result ≡ true → P
+opened (Ok x) P p ok = p
+opened (Err fault) P p ok = absurd (cc)
+
+-- a writer that could not be opened
+pub not-opened-goes-on : {W : Type 0} (taken : W → Option (List ℕ)) (start : Option (List ℕ)) (order : Order) (unit : TimeUnit) (snap : ℕ) (result : Result (Unit {0}) Fault) (w : Writer W) →
+    OnErr result (BrokeOff taken start order unit snap [] w) → IfErr result (λ fault. fault ≡ Device) → is_ok result ≡ false → (ps : List Packet) →
+    GoesOn taken start order unit snap ps result w
+not-opened-goes-on taken start order unit snap (Ok x) w broke only failed ps = absurd (cc)
+not-opened-goes-on taken start order unit snap (Err fault) w broke only failed ps =
+    goes-further taken start order unit snap [] ps fault w (broke.text, broke.sent, (broke.begins, inl only))
+
+-- what a closed writer's sink took
+pub goes-took : {W : Type 0} (taken : W → Option (List ℕ)) (to sink : W) (count : ℕ) (order : Order) (unit : TimeUnit) (snap : ℕ) (ps : List Packet) (result : Result (Unit {0}) Fault) (w : Writer W) →
+    sink ≡ sink_of w → count ≡ sent_by w → GoesOn taken (taken to) order unit snap ps result w →
+    (sent : List ℕ) × Took taken to sink count sent × Writes (encoded order unit snap ps) result sent
+goes-took taken to sink count order unit snap ps (Ok x) w is told written =
+    let text = encoded order unit snap ps in (
+      text,
+      record { appends = subst (λ s. Appends (taken to) (taken s) text) (sym is) written.sent.bytes; counts = told ∙ written.sent.count },
+      refl,
+    )
+goes-took taken to sink count order unit snap ps (Err fault) w is told (sent, sends, writes) = (
+  sent,
+  record { appends = subst (λ s. Appends (taken to) (taken s) sent) (sym is) sends.bytes; counts = told ∙ sends.count },
+  writes,
+)
+
+-- numbers that do not differ are the same
+pub same-unless-different : (a b : ℕ) → (a ≢ b → ⊥) → a ≡ b
+same-unless-different a b h = grind (arith, h)

@@ -1,0 +1,4 @@
+pub mod Cut
+pub mod Outcome
+pub mod Telling
+pub mod Filter

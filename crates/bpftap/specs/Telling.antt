@@ -1,0 +1,20 @@
+-- The exit statuses.
+use Rattle.std.specs.Prelude.{ℕ}
+use Rattle.savefile.specs.declared.fault.Fault.{Fault}
+use Rattle.savefile.specs.declared.fault.Fault.TheVariants.{TornRecord, BadFraction, TooLong, Device}
+use Rattle.bpftap.specs.declared.cut.End.{End}
+use Rattle.bpftap.specs.declared.cut.End.TheVariants.{Clean, Input, Output}
+
+-- 3 where a device failed, 2 for a torn or bad record, and 1 for every other fault
+abbrev pub fault_status : Fault → ℕ
+fault_status Device = 3
+fault_status (TornRecord place) = 2
+fault_status (BadFraction place) = 2
+fault_status (TooLong place) = 2
+fault_status other = 1
+
+-- 0 where all went well
+abbrev pub status_of : End → ℕ
+status_of Clean = 0
+status_of (Input fault) = fault_status fault
+status_of (Output fault) = fault_status fault

@@ -1,0 +1,155 @@
+//! The words of the command line, by `clap`.
+use crate::cut::MAX_SNAP;
+use clap::error::ErrorKind;
+use clap::{Arg, ArgMatches, Command, Error};
+use savefile::{Order, Unit};
+use std::alloc::{AllocError, Global};
+use std::convert::AsStr;
+
+/// What one call of `bpftap cut` asks for.
+#[derive(Clone, Copy, Debug)]
+pub struct CutWords<'a> {
+    /// The snapshot length as it was given, 0 to [`MAX_SNAP`].
+    pub snap: u32,
+    /// The path of the listing.
+    pub listing: &'a str,
+    pub order: Order,
+    pub unit: Unit,
+    /// The path of the capture that is read.
+    pub input: &'a str,
+    /// The path of the capture that is written.
+    pub output: &'a str,
+}
+
+/// What the words ask for.
+#[derive(Clone, Copy, Debug)]
+pub enum Request<'a> {
+    Cut(CutWords<'a>),
+}
+
+const ABOUT: &str = "Filters captures offline, as the BSD packet filter would have taken them";
+
+const EXAMPLES: &str = "Examples:
+  bpftap cut -s 0 -f examples/ip.bpf examples/veth.pcap ip.pcap
+  bpftap cut -s 64 -f examples/all.bpf examples/veth.pcap headers.pcap
+
+Exit status: 0 clean; 1 wrong words, a refused file or listing, or want of memory;
+2 a torn or bad record, after the packets before it; 3 a device failed.";
+
+fn snap_arg<'a>(alloc: Global) -> Arg<'a> {
+    Arg::new(alloc, "snap")
+        .short('s')
+        .value_name("N")
+        .required(true)
+        .help("Snapshot length: keep at most N bytes of a packet, 0 to 262144 (0 means 262144)")
+}
+
+fn listing_arg<'a>(alloc: Global) -> Arg<'a> {
+    Arg::new(alloc, "listing")
+        .short('f')
+        .value_name("LISTING")
+        .required(true)
+        .help("Filter program, as lines of numbers in the form of tcpdump -ddd")
+}
+
+fn order_arg<'a>(alloc: Global) -> Arg<'a> {
+    Arg::new(alloc, "order")
+        .short('o')
+        .value_name("ORDER")
+        .value_parser(["little", "big"].as_slice())
+        .default_value("little")
+        .help("Byte order of OUT")
+}
+
+fn unit_arg<'a>(alloc: Global) -> Arg<'a> {
+    Arg::new(alloc, "unit")
+        .short('u')
+        .value_name("UNIT")
+        .value_parser(["micro", "nano"].as_slice())
+        .default_value("micro")
+        .help("Unit of the time stamps of OUT")
+}
+
+fn path_arg<'a>(alloc: Global, name: &'a str, help: &'a str) -> Arg<'a> {
+    Arg::new(alloc, name).required(true).help(help)
+}
+
+fn cut_command<'a>(alloc: Global) -> Result<Command<'a>, AllocError> {
+    Command::new(alloc, "cut")
+        .about("Write each packet of IN that the filter accepts, cut, to OUT")
+        .arg(snap_arg(alloc))?
+        .arg(listing_arg(alloc))?
+        .arg(order_arg(alloc))?
+        .arg(unit_arg(alloc))?
+        .arg(path_arg(
+            alloc,
+            "IN",
+            "Capture to read: a classic savefile of Ethernet frames",
+        ))?
+        .arg(path_arg(
+            alloc,
+            "OUT",
+            "Capture to write; made once the listing and IN are accepted",
+        ))
+}
+
+fn program<'a>(alloc: Global) -> Result<Command<'a>, AllocError> {
+    Command::new(alloc, "bpftap")
+        .about(ABOUT)
+        .after_help(EXAMPLES)
+        .subcommand_required(true)
+        .arg_required_else_help(true)
+        .subcommand(cut_command(alloc)?)
+}
+
+// A number is decimal digits alone: a sign, a blank or nothing is none.
+fn snapshot_length(text: &str) -> Option<u32> {
+    if !text.bytes().all(|b| b.is_ascii_digit()) {
+        return None;
+    }
+    match text.parse::<u32>() {
+        Ok(snap) if snap <= MAX_SNAP => Some(snap),
+        _ => None,
+    }
+}
+
+fn order_of(matches: &ArgMatches<'_>) -> Order {
+    match matches.get_str("order") {
+        Some("big") => Order::Big,
+        _ => Order::Little,
+    }
+}
+
+fn unit_of(matches: &ArgMatches<'_>) -> Unit {
+    match matches.get_str("unit") {
+        Some("nano") => Unit::Nano,
+        _ => Unit::Micro,
+    }
+}
+
+/// What the words ask for, the program's name first; or `clap`'s error, which for a call for help has the help.
+pub fn read_words<'a, S: AsStr>(alloc: Global, words: &'a [S]) -> Result<Request<'a>, Error> {
+    let mut program = program(alloc)?;
+    let matches = program.try_get_matches_from_mut(words)?;
+    let Some(("cut", cut)) = matches.subcommand() else {
+        return Err(program.error(ErrorKind::MissingSubcommand, "a subcommand is wanted")?);
+    };
+    match cut_words(cut) {
+        Some(request) => Ok(Request::Cut(request)),
+        None => Err(program.error(
+            ErrorKind::ValueValidation,
+            "-s takes a number from 0 to 262144",
+        )?),
+    }
+}
+
+fn cut_words<'a>(matches: &ArgMatches<'a>) -> Option<CutWords<'a>> {
+    Some(CutWords {
+        snap: snapshot_length(matches.get_str("snap")?)?,
+        listing: matches.get_str("listing")?,
+        order: order_of(matches),
+        unit: unit_of(matches),
+        input: matches.get_str("IN")?,
+        output: matches.get_str("OUT")?,
+    })
+}

@@ -1,0 +1,29 @@
+//! The program `bpftap`: the BSD packet tap, replayed from capture files.
+#![tactic(auto)]
+
+mod command_line;
+pub mod cut;
+mod files;
+pub mod filter;
+mod program;
+pub mod tell;
+#[cfg(test)]
+mod tests;
+
+use std::alloc::AllocError;
+use std::process::ExitCode;
+use std::{env, io};
+
+// The words that the program was called with.
+fn words(rt: &HostRuntime) -> io::Result<Vec<String>> {
+    Ok(env::args(rt)?.collect(rt.alloc())?)
+}
+
+fn main(rt: HostRuntime) -> ExitCode {
+    let (mut out, mut err) = (rt.stdout(), rt.stderr());
+    let status = match words(&rt) {
+        Ok(words) => program::run(&rt, words.as_slice(), &mut out, &mut err),
+        Err(error) => tell::tell_fault(error, tell::REFUSED, &mut err),
+    };
+    ExitCode::from(status)
+}

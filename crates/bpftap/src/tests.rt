@@ -1,0 +1,731 @@
+//! Worked examples over the public functions, files that are not there, and devices that break.
+
+use crate::cut::{CutEnd, End, cut};
+use crate::filter::filter;
+use crate::program::run;
+use crate::tell::tell;
+use bpfvm::Program;
+use savefile::{Counted, Fault, Order, Unit};
+use std::alloc::{AllocError, Global};
+use std::fs::Files;
+use std::io::{ErrorKind, Read, Write};
+use std::process::Abort;
+use std::test::Fail;
+use std::{fs, io};
+
+/// Little-endian, microseconds, snapshot length 262,144, Ethernet.
+const HEADER: &str = "d4c3b2a1 02000400 00000000 00000000 00000400 01000000";
+
+/// A record of one ARP frame's first 14 bytes, at second 1.
+const ARP_RECORD: &str = "01000000 00000000 0e000000 0e000000 ffffffffffff 000102030405 0806";
+
+/// A record of one IPv4 frame's first 14 bytes, at second 2.
+const IP_RECORD: &str = "02000000 00000000 0e000000 0e000000 ffffffffffff 000102030405 0800";
+
+const ALL: &[u8] = b"1\n6 0 0 262144\n";
+
+const ETHERTYPE: &[u8] = b"4\n40 0 0 12\n21 0 1 2048\n6 0 0 262144\n6 0 0 0\n";
+
+// The bytes that a text of hexadecimal digits stands for; what is no digit is passed over.
+fn bytes_of(alloc: Global, hex: &str) -> Result<Vec<u8>, AllocError> {
+    let mut bytes = Vec::new(alloc);
+    let mut high = None;
+    for c in hex.bytes() {
+        let digit = match c {
+            b'0'..=b'9' => c - b'0',
+            b'a'..=b'f' => c - b'a' + 10,
+            _ => continue,
+        };
+        match high {
+            None => high = Some(digit),
+            Some(h) => {
+                let h: u8 = h;
+                bytes.push(h.wrapping_mul(16).wrapping_add(digit))?;
+                high = None;
+            }
+        }
+    }
+    Ok(bytes)
+}
+
+fn concat(alloc: Global, texts: &[&str]) -> Result<Vec<u8>, AllocError> {
+    let mut bytes = Vec::new(alloc);
+    for text in texts {
+        bytes.extend_from_slice(bytes_of(alloc, text)?.as_slice())?;
+    }
+    Ok(bytes)
+}
+
+fn program_of(rt: &(impl Abort + AllocGlobal), listing: &[u8]) -> Program {
+    let mut err: Vec<u8> = Vec::new(rt.alloc());
+    filter(Some(listing), 0, &mut err).expect(rt, "the listing is a program's")
+}
+
+/// What a cut of a text gives: what was written, the number of bytes told, the line on standard error, the status.
+#[derive(Debug, Drop)]
+struct Seen {
+    written: Vec<u8>,
+    sent: u64,
+    err: Vec<u8>,
+    status: u8,
+}
+
+fn seen_of<R>(alloc: Global, end: CutEnd<R, Counted<Vec<u8>>>) -> (R, Seen) {
+    let mut err = Vec::new(alloc);
+    let status = tell(&end, "in.pcap", "out.pcap", &mut err);
+    let CutEnd {
+        source,
+        sink,
+        sent,
+        end: _,
+    } = end;
+    let written = sink.into_inner();
+    (
+        source,
+        Seen {
+            written,
+            sent,
+            err,
+            status,
+        },
+    )
+}
+
+fn cut_text(rt: &(impl Abort + AllocGlobal), listing: &[u8], snap: u32, text: &[u8]) -> Seen {
+    cut_in(rt, listing, snap, Order::Little, Unit::Micro, text)
+}
+
+fn cut_in(
+    rt: &(impl Abort + AllocGlobal),
+    listing: &[u8],
+    snap: u32,
+    order: Order,
+    unit: Unit,
+    text: &[u8],
+) -> Seen {
+    let alloc = rt.alloc();
+    let program = program_of(rt, listing);
+    let (from, to) = (Counted::new(text), Counted::new(Vec::new(alloc)));
+    let (_, seen) = seen_of(alloc, cut(alloc, from, &program, snap, order, unit, to));
+    seen
+}
+
+// What was written, that its length was told, and the fault's line and status.
+fn check(rt: &impl Abort, what: &str, seen: &Seen, written: &[u8], err: &str, status: u8) {
+    assert_eq!(rt; seen.written.as_slice(), written, "written: {what}");
+    assert_eq!(rt; seen.sent, written.len() as u64, "sent: {what}");
+    assert_eq!(rt;
+        seen.err.as_slice(),
+        err.as_bytes(),
+        "standard error: {what}"
+    );
+    assert_eq!(rt; seen.status, status, "status: {what}");
+}
+
+#[test]
+fn ethertype_listing_keeps_the_ip_record(rt: HostRuntime) -> Result<(), Fail> {
+    let alloc = rt.alloc();
+    let text = concat(alloc, &[HEADER, ARP_RECORD, IP_RECORD])?;
+    let wanted = concat(alloc, &[HEADER, IP_RECORD])?;
+    let seen = cut_text(&rt, ETHERTYPE, 0, text.as_slice());
+    check(&rt, "ethertype", &seen, wanted.as_slice(), "", 0);
+
+    // The least of 10, the answer 5 and the 14 captured bytes.
+    let header = "d4c3b2a1 02000400 00000000 00000000 0a000000 01000000";
+    let first = "01000000 00000000 05000000 0e000000 ffffffffff";
+    let second = "02000000 00000000 05000000 0e000000 ffffffffff";
+    let wanted = concat(alloc, &[header, first, second])?;
+    let seen = cut_text(&rt, b"1\n6 0 0 5\n", 10, text.as_slice());
+    check(&rt, "answer 5", &seen, wanted.as_slice(), "", 0);
+    Ok(())
+}
+
+#[test]
+fn each_end_is_told(rt: HostRuntime) -> Result<(), Fail> {
+    let alloc = rt.alloc();
+    // What stands in the capture, what is written of it, the line, the status.
+    let big = "a1b2c3d4 00020004 00000000 00000000 00040000 00000001";
+    let version = "d4c3b2a1 03000400 00000000 00000000 00000400 01000000";
+    let link = "d4c3b2a1 02000400 00000000 00000000 00000400 71000000";
+    let bad = "01000000 40420f00 00000000 00000000";
+    let long = "01000000 00000000 01000400 01000400";
+    let both = "01000000 40420f00 01000400 01000400";
+    let last = "01000000 3f420f00 00000000 00000000";
+    let cases: [(&str, &[&str], &[&str], &str, u8); 11] = [
+        ("nothing", &[], &[], "bpftap: ShortHeader\n", 1),
+        (
+            "23 bytes",
+            &["d4c3b2a1 02000400 00000000 00000000 00000400 010000"],
+            &[],
+            "bpftap: ShortHeader\n",
+            1,
+        ),
+        (
+            "no savefile",
+            &["0a0d0d0a 02000400 00000000 00000000 00000400 01000000"],
+            &[],
+            "bpftap: NotSavefile\n",
+            1,
+        ),
+        ("version 3.4", &[version], &[], "bpftap: Version\n", 1),
+        ("Linux cooked", &[link], &[], "bpftap: LinkType\n", 1),
+        ("the header alone", &[HEADER], &[HEADER], "", 0),
+        ("the header alone, big-endian", &[big], &[HEADER], "", 0),
+        (
+            "a torn record header",
+            &[HEADER, IP_RECORD, "02000000 000000"],
+            &[HEADER, IP_RECORD],
+            "bpftap: TornRecord 1\n",
+            2,
+        ),
+        (
+            "a fraction of a million",
+            &[HEADER, IP_RECORD, bad],
+            &[HEADER, IP_RECORD],
+            "bpftap: BadFraction 1\n",
+            2,
+        ),
+        (
+            "a captured length too long",
+            &[HEADER, long],
+            &[HEADER],
+            "bpftap: TooLong 0\n",
+            2,
+        ),
+        (
+            "both",
+            &[HEADER, both],
+            &[HEADER],
+            "bpftap: BadFraction 0\n",
+            2,
+        ),
+    ];
+    for (what, text, written, err, status) in cases {
+        let text = concat(alloc, text)?;
+        let written = concat(alloc, written)?;
+        let seen = cut_text(&rt, ALL, 0, text.as_slice());
+        check(&rt, what, &seen, written.as_slice(), err, status);
+    }
+    let text = concat(alloc, &[HEADER, last])?;
+    let seen = cut_text(&rt, ALL, 0, text.as_slice());
+    check(
+        &rt,
+        "a fraction below a million",
+        &seen,
+        text.as_slice(),
+        "",
+        0,
+    );
+    Ok(())
+}
+
+#[test]
+fn a_capture_is_written_in_each_order_and_unit(rt: HostRuntime) -> Result<(), Fail> {
+    let alloc = rt.alloc();
+    // Big-endian nanoseconds, snapshot length 96, one packet without data, into little-endian microseconds.
+    let nano =
+        "a1b23c4d 00020004 00000000 00000000 00000060 00000001 00000001 3b9ac9ff 00000000 0000003c";
+    let micro =
+        "d4c3b2a1 02000400 00000000 00000000 60000000 01000000 01000000 3f420f00 00000000 3c000000";
+    let seen = cut_text(&rt, ALL, 96, bytes_of(alloc, nano)?.as_slice());
+    check(
+        &rt,
+        "nano",
+        &seen,
+        bytes_of(alloc, micro)?.as_slice(),
+        "",
+        0,
+    );
+
+    let text = concat(alloc, &[HEADER, "01000000 05000000 00000000 00000000"])?;
+    let cases = [
+        (
+            Order::Big,
+            Unit::Nano,
+            "a1b23c4d 00020004 00000000 00000000 00040000 00000001 00000001 00001388 00000000 00000000",
+        ),
+        (
+            Order::Big,
+            Unit::Micro,
+            "a1b2c3d4 00020004 00000000 00000000 00040000 00000001 00000001 00000005 00000000 00000000",
+        ),
+        (
+            Order::Little,
+            Unit::Nano,
+            "4d3cb2a1 02000400 00000000 00000000 00000400 01000000 01000000 88130000 00000000 00000000",
+        ),
+    ];
+    for (order, unit, wanted) in cases {
+        let seen = cut_in(&rt, ALL, 0, order, unit, text.as_slice());
+        let wanted = bytes_of(alloc, wanted)?;
+        check(
+            &rt,
+            wanted_name(order, unit),
+            &seen,
+            wanted.as_slice(),
+            "",
+            0,
+        );
+    }
+    Ok(())
+}
+
+fn wanted_name(order: Order, unit: Unit) -> &'static str {
+    match (order, unit) {
+        (Order::Little, Unit::Micro) => "little, micro",
+        (Order::Little, Unit::Nano) => "little, nano",
+        (Order::Big, Unit::Micro) => "big, micro",
+        (Order::Big, Unit::Nano) => "big, nano",
+    }
+}
+
+#[test]
+fn a_refused_listing_is_told(rt: HostRuntime) -> Result<(), Fail> {
+    let alloc = rt.alloc();
+    let cases: [(&[u8], &str); 8] = [
+        (b"", "bpftap: BadLine 1\n"),
+        (b"2\n6 0 0 1\n", "bpftap: Count\n"),
+        (b"1\n6 0 0 4294967296\n", "bpftap: BadLine 2\n"),
+        (b"0\n", "bpftap: Program Empty\n"),
+        (b"1\n8 0 0 1\n", "bpftap: Program UnknownCode 0\n"),
+        (b"1\n0 0 0 1\n", "bpftap: Program NoReturn\n"),
+        (
+            b"3\n40 0 0 12\n21 0 1 2048\n6 0 0 1\n",
+            "bpftap: Program JumpOut 1\n",
+        ),
+        (b"2\n96 0 0 16\n6 0 0 0\n", "bpftap: Program Cell 0\n"),
+    ];
+    for (listing, line) in cases {
+        let mut err: Vec<u8> = Vec::new(alloc);
+        assert_eq!(rt; filter(Some(listing), 0, &mut err).err(), Some(1), "{line}");
+        assert_eq!(rt; err.as_slice(), line.as_bytes());
+    }
+    // Without a listing every packet is accepted.
+    let mut err: Vec<u8> = Vec::new(alloc);
+    let all = filter(None, 96, &mut err).expect(&rt, "the empty filter");
+    assert_eq!(rt; bpfvm::run(&all, b"", 60), 96);
+    let all = filter(None, 0, &mut err).expect(&rt, "the empty filter");
+    assert_eq!(rt; bpfvm::run(&all, b"", 60), 262_144);
+    assert!(rt; err.is_empty());
+    Ok(())
+}
+
+/// A reader that gives a piece at a time, and breaks where it has none left.
+#[derive(Drop)]
+struct BreakingReader<'a> {
+    left: &'a [u8],
+    piece: usize,
+}
+
+impl Read for BreakingReader<'_> {
+    fn read(&mut self, buf: &mut [u8]) -> io::Result<usize> {
+        let n = self.piece.min(buf.len()).min(self.left.len());
+        if n == 0 {
+            return Err(io::Error::from(ErrorKind::Other));
+        }
+        let (front, rest) = self.left.split_at(n);
+        buf[..n].copy_from_slice(front);
+        self.left = rest;
+        Ok(n)
+    }
+}
+
+/// A writer that takes a byte a call, and breaks where it has no room left.
+#[derive(Drop)]
+struct BreakingWriter {
+    taken: Vec<u8>,
+    room: usize,
+}
+
+impl Write for BreakingWriter {
+    fn write(&mut self, buf: &[u8]) -> io::Result<usize> {
+        if self.room == 0 {
+            return Err(io::Error::from(ErrorKind::Other));
+        }
+        let n = buf.len().min(1);
+        self.taken.extend_from_slice(&buf[..n])?;
+        self.room -= 1;
+        Ok(n)
+    }
+
+    fn flush(&mut self) -> io::Result<()> {
+        Ok(())
+    }
+}
+
+#[test]
+fn a_broken_source_is_told_and_nothing_is_written(rt: HostRuntime) -> Result<(), Fail> {
+    let alloc = rt.alloc();
+    let text = concat(alloc, &[HEADER, ARP_RECORD, IP_RECORD])?;
+    let program = program_of(&rt, ALL);
+    for piece in [1, 7, 1000] {
+        let from = Counted::new(BreakingReader {
+            left: text.as_slice(),
+            piece,
+        });
+        let to = Counted::new(Vec::new(alloc));
+        let end = cut(alloc, from, &program, 0, Order::Little, Unit::Micro, to);
+        assert_eq!(rt; end.end, End::Input(Fault::Device));
+        let (source, seen) = seen_of(alloc, end);
+        assert_eq!(rt; source.failures, 1);
+        check(
+            &rt,
+            "a broken source",
+            &seen,
+            b"",
+            "bpftap: Device in.pcap\n",
+            3,
+        );
+    }
+    Ok(())
+}
+
+#[test]
+fn a_broken_sink_has_a_beginning(rt: HostRuntime) -> Result<(), Fail> {
+    let alloc = rt.alloc();
+    let text = concat(alloc, &[HEADER, ARP_RECORD, IP_RECORD])?;
+    let wanted = concat(alloc, &[HEADER, IP_RECORD])?;
+    let program = program_of(&rt, ETHERTYPE);
+    for room in 0..wanted.len() + 1 {
+        let from = Counted::new(text.as_slice());
+        let to = Counted::new(BreakingWriter {
+            taken: Vec::new(alloc),
+            room,
+        });
+        let end = cut(alloc, from, &program, 0, Order::Little, Unit::Micro, to);
+        let mut err: Vec<u8> = Vec::new(alloc);
+        let status = tell(&end, "in.pcap", "out.pcap", &mut err);
+        let broke = room < wanted.len();
+        assert_eq!(rt; end.sent, room as u64);
+        assert_eq!(rt; end.sink.failures, if broke { 1 } else { 0 });
+        assert!(rt;
+            wanted
+                .as_slice()
+                .starts_with(end.sink.inner.taken.as_slice()),
+            "at {room}"
+        );
+        assert_eq!(rt; end.sink.inner.taken.len(), room);
+        assert_eq!(rt;
+            end.end,
+            if broke {
+                End::Output(Fault::Device)
+            } else {
+                End::Clean
+            }
+        );
+        assert_eq!(rt; status, if broke { 3 } else { 0 });
+        let line = if broke {
+            "bpftap: Device out.pcap\n"
+        } else {
+            ""
+        };
+        assert_eq!(rt; err.as_slice(), line.as_bytes());
+    }
+    Ok(())
+}
+
+// Runs a command, and checks its status and all that it prints.
+fn command(rt: &(impl Abort + Files + AllocGlobal), words: &[&str], out: &str, err: &str, status: u8) {
+    let mut told_out: Vec<u8> = Vec::new(rt.alloc());
+    let mut told_err: Vec<u8> = Vec::new(rt.alloc());
+    let told = run(rt, words, &mut told_out, &mut told_err);
+    assert_eq!(rt; told_err.as_slice(), err.as_bytes(), "{words:?}");
+    assert_eq!(rt; told_out.as_slice(), out.as_bytes(), "{words:?}");
+    assert_eq!(rt; told, status, "{words:?}");
+}
+
+#[test]
+fn files_are_opened_in_order(rt: HostRuntime) -> Result<(), Fail> {
+    let alloc = rt.alloc();
+    let text = concat(alloc, &[HEADER, ARP_RECORD, IP_RECORD])?;
+    let torn = concat(alloc, &[HEADER, IP_RECORD, "02000000 000000"])?;
+    let wanted = concat(alloc, &[HEADER, IP_RECORD])?;
+    fs::create_dir(&rt, "folder")?;
+    fs::write(&rt, "all.bpf", ALL)?;
+    fs::write(&rt, "ip.bpf", ETHERTYPE)?;
+    fs::write(&rt, "bad.bpf", b"1\n8 0 0 1\n".as_slice())?;
+    fs::write(&rt, "in.pcap", text.as_slice())?;
+    fs::write(&rt, "torn.pcap", torn.as_slice())?;
+    fs::write(&rt, "no.pcap", b"no savefile, but a text".as_slice())?;
+    fs::write(&rt, "kept.pcap", b"kept".as_slice())?;
+    fs::write(&rt, "empty.pcap", b"".as_slice())?;
+
+    // The listing goes first, then IN.
+    command(
+        &rt,
+        &[
+            "bpftap",
+            "cut",
+            "-s",
+            "0",
+            "-f",
+            "no.bpf",
+            "none.pcap",
+            "out.pcap",
+        ],
+        "",
+        "bpftap: Device no.bpf\n",
+        3,
+    );
+    command(
+        &rt,
+        &[
+            "bpftap",
+            "cut",
+            "-s",
+            "0",
+            "-f",
+            "folder",
+            "none.pcap",
+            "out.pcap",
+        ],
+        "",
+        "bpftap: Device folder\n",
+        3,
+    );
+    command(
+        &rt,
+        &[
+            "bpftap",
+            "cut",
+            "-s",
+            "0",
+            "-f",
+            "bad.bpf",
+            "none.pcap",
+            "kept.pcap",
+        ],
+        "",
+        "bpftap: Program UnknownCode 0\n",
+        1,
+    );
+    command(
+        &rt,
+        &[
+            "bpftap",
+            "cut",
+            "-s",
+            "0",
+            "-f",
+            "all.bpf",
+            "none.pcap",
+            "kept.pcap",
+        ],
+        "",
+        "bpftap: Device none.pcap\n",
+        3,
+    );
+    command(
+        &rt,
+        &[
+            "bpftap",
+            "cut",
+            "-s",
+            "0",
+            "-f",
+            "all.bpf",
+            "folder",
+            "kept.pcap",
+        ],
+        "",
+        "bpftap: Device folder\n",
+        3,
+    );
+    command(
+        &rt,
+        &[
+            "bpftap",
+            "cut",
+            "-s",
+            "0",
+            "-f",
+            "all.bpf",
+            "no.pcap",
+            "kept.pcap",
+        ],
+        "",
+        "bpftap: ShortHeader\n",
+        1,
+    );
+    command(
+        &rt,
+        &[
+            "bpftap", "cut", "-s", "0", "-f", "all.bpf", "in.pcap", "in.pcap",
+        ],
+        "",
+        "bpftap: SameFile in.pcap\n",
+        1,
+    );
+    command(
+        &rt,
+        &[
+            "bpftap",
+            "cut",
+            "-s",
+            "0",
+            "-f",
+            "all.bpf",
+            "in.pcap",
+            "./in.pcap",
+        ],
+        "",
+        "bpftap: SameFile ./in.pcap\n",
+        1,
+    );
+    // A header's fault goes before an OUT that cannot be made, and that before a torn record.
+    command(
+        &rt,
+        &[
+            "bpftap",
+            "cut",
+            "-s",
+            "0",
+            "-f",
+            "all.bpf",
+            "no.pcap",
+            "gone/out.pcap",
+        ],
+        "",
+        "bpftap: ShortHeader\n",
+        1,
+    );
+    command(
+        &rt,
+        &[
+            "bpftap",
+            "cut",
+            "-s",
+            "0",
+            "-f",
+            "all.bpf",
+            "torn.pcap",
+            "gone/out.pcap",
+        ],
+        "",
+        "bpftap: Device gone/out.pcap\n",
+        3,
+    );
+    command(
+        &rt,
+        &[
+            "bpftap", "cut", "-s", "0", "-f", "all.bpf", "in.pcap", "folder",
+        ],
+        "",
+        "bpftap: Device folder\n",
+        3,
+    );
+    command(
+        &rt,
+        &[
+            "bpftap",
+            "cut",
+            "-s",
+            "0",
+            "-f",
+            "all.bpf",
+            "empty.pcap",
+            "kept.pcap",
+        ],
+        "",
+        "bpftap: ShortHeader\n",
+        1,
+    );
+    // Nothing was lost.
+    assert_eq!(rt; fs::read(&rt, "in.pcap")?.as_slice(), text.as_slice());
+    assert_eq!(rt; fs::read(&rt, "kept.pcap")?.as_slice(), b"kept".as_slice());
+    assert!(rt; !fs::exists(&rt, "out.pcap")?);
+
+    command(
+        &rt,
+        &[
+            "bpftap",
+            "cut",
+            "-s",
+            "0",
+            "-f",
+            "ip.bpf",
+            "in.pcap",
+            "kept.pcap",
+        ],
+        "",
+        "",
+        0,
+    );
+    assert_eq!(rt; fs::read(&rt, "kept.pcap")?.as_slice(), wanted.as_slice());
+    command(
+        &rt,
+        &[
+            "bpftap",
+            "cut",
+            "-f",
+            "all.bpf",
+            "-s0",
+            "torn.pcap",
+            "out.pcap",
+        ],
+        "",
+        "bpftap: TornRecord 1\n",
+        2,
+    );
+    assert_eq!(rt; fs::read(&rt, "out.pcap")?.as_slice(), wanted.as_slice());
+    Ok(())
+}
+
+#[test]
+fn wrong_words_end_with_one_and_help_with_none(rt: HostRuntime) -> Result<(), Fail> {
+    let alloc = rt.alloc();
+    let wrong: [&[&str]; 12] = [
+        &["bpftap"],
+        &["bpftap", "dump"],
+        &["bpftap", "cut"],
+        &["bpftap", "cut", "-s", "0", "in.pcap", "out.pcap"],
+        &["bpftap", "cut", "-s", "0", "-f", "x", "in.pcap"],
+        &[
+            "bpftap", "cut", "-s", "0", "-f", "x", "in.pcap", "out.pcap", "more",
+        ],
+        &[
+            "bpftap", "cut", "-s", "262145", "-f", "x", "in.pcap", "out.pcap",
+        ],
+        &[
+            "bpftap", "cut", "-s", "+5", "-f", "x", "in.pcap", "out.pcap",
+        ],
+        &["bpftap", "cut", "-s", "", "-f", "x", "in.pcap", "out.pcap"],
+        &[
+            "bpftap",
+            "cut",
+            "-s",
+            "99999999999",
+            "-f",
+            "x",
+            "in.pcap",
+            "out.pcap",
+        ],
+        &[
+            "bpftap", "cut", "-s", "0", "-f", "x", "-o", "middle", "in.pcap", "out.pcap",
+        ],
+        &[
+            "bpftap", "cut", "-s", "0", "-f", "x", "-u", "milli", "in.pcap", "out.pcap",
+        ],
+    ];
+    for words in wrong {
+        let mut out: Vec<u8> = Vec::new(alloc);
+        let mut err: Vec<u8> = Vec::new(alloc);
+        assert_eq!(rt; run(&rt, words, &mut out, &mut err), 1, "{words:?}");
+        assert!(rt; out.is_empty(), "{words:?}");
+        assert!(rt; !err.is_empty(), "{words:?}");
+    }
+    let help: [(&[&str], &str); 3] = [
+        (&["bpftap", "--help"], "Examples:\n"),
+        (&["bpftap", "help", "cut"], "[default: little]"),
+        (&["bpftap", "cut", "-h"], "[default: micro]"),
+    ];
+    for (words, part) in help {
+        let mut out: Vec<u8> = Vec::new(alloc);
+        let mut err: Vec<u8> = Vec::new(alloc);
+        assert_eq!(rt; run(&rt, words, &mut out, &mut err), 0, "{words:?}");
+        assert!(rt; err.is_empty(), "{words:?}");
+        let text = String::from_utf8(out).expect(&rt, "help is text");
+        assert!(rt; text.contains(part), "{words:?}");
+    }
+    Ok(())
+}
