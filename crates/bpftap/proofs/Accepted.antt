@@ -1,5 +1,5 @@
 -- What a program accepts of some packets and of more.
-use Rattle.std.proofs.Common.{◌≡◌, ℕ, ◌<◌, ◌+◌, Bool, true, false, List, [], ◌∷◌, ◌++◌, length, take, drop, min, refl, ap, ◌∙◌, sym, arith, map, filter, nat_lt, get_or, lt-ltb}
+use Rattle.std.proofs.Common.{◌≡◌, ℕ, ◌<◌, ◌+◌, List, [], ◌∷◌, ◌++◌, length, take, drop, min, refl, ap, ◌∙◌, sym, map, filter, get_or, lt-ltb}
 use Rattle.std.proofs.lemmas.List.{map-append, take_min, take_more, take-append-drop}
 use Rattle.std.proofs.lemmas.List.Elements.{filter-append}
 use Rattle.savefile.specs.declared.packet.Packet.{Packet}

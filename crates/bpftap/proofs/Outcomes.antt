@@ -1,5 +1,5 @@
 -- How the parts of a cut make its outcome.
-use Rattle.std.proofs.Common.{◌≡◌, ◌≢◌, ℕ, ◌⊎◌, inl, inr, List, [], ◌∷◌, ◌++◌, refl, ap, sym, ◌∙◌, arith, subst, Option, Some, None, IfSome, Result, Ok, Err, Bool, true, false, unwrap_or, cond, length, nat_lt, nat_le, ◌==◌, ◌+◌}
+use Rattle.std.proofs.Common.{◌≡◌, ℕ, inr, List, [], ◌++◌, refl, ap, sym, ◌∙◌, subst, Option, Some, None, IfSome, Result, Ok, Err, Bool, true, false, unwrap_or, cond, length, nat_lt, nat_le, ◌==◌, ◌+◌}
 use Rattle.std.proofs.lemmas.List.{append-nil}
 use Rattle.std.specs.Io.KnownBytes.{Appends, Consumes, IsAtEnd}
 use Rattle.savefile.specs.declared.fault.Fault.{Fault}
@@ -9,8 +9,7 @@ use Rattle.savefile.specs.declared.header.Unit.{Unit as TimeUnit}
 use Rattle.savefile.specs.declared.packet.Packet.{Packet}
 use Rattle.savefile.specs.Savefile.{first_fault, number_in, per_second, fraction, captured}
 use Rattle.bpfvm.specs.declared.insn.Insn.{Insn}
-use Rattle.bpftap.specs.declared.cut.End.{End}
-use Rattle.bpftap.specs.declared.cut.End.TheVariants.{Clean, Input, Output}
+use Rattle.bpftap.specs.declared.cut.End.TheVariants.{Input, Output}
 use Rattle.bpftap.specs.Cut.{cut_text}
 use Rattle.bpftap.specs.Outcome.{IsRead, Outcome, Writes, end_of}
 

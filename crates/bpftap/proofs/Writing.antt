@@ -1,5 +1,5 @@
 -- How a writer goes on with one packet more.
-use Rattle.std.proofs.Common.{◌≡◌, ◌≢◌, ℕ, ◌+◌, ◌<◌, ◌≤◌, ◌^◌, ◌⊎◌, inl, inr, List, [], ◌∷◌, ◌++◌, length, min, take, refl, ap, sym, ◌∙◌, arith, subst, Option, Result, Ok, Err, OnOk, OnErr, IfErr, is_ok, length-append, Bool, true, false}
+use Rattle.std.proofs.Common.{◌≡◌, ◌≢◌, ℕ, ◌+◌, ◌<◌, ◌≤◌, ◌^◌, ◌⊎◌, inl, inr, List, [], ◌∷◌, ◌++◌, length, min, take, refl, ap, sym, ◌∙◌, arith, subst, Option, Result, Ok, Err, OnOk, OnErr, IfErr, is_ok, length-append, true, false}
 use Rattle.std.proofs.lemmas.List.{append-nil}
 use Rattle.std.specs.Io.KnownBytes.{Appends}
 use Rattle.savefile.specs.declared.fault.Fault.{Fault}
@@ -10,7 +10,7 @@ use Rattle.savefile.specs.declared.packet.Packet.{Packet}
 use Rattle.savefile.specs.declared.writing.Writer.{Writer}
 use Rattle.savefile.specs.Savefile.{encoded, packet}
 use Rattle.savefile.specs.Writer.{IsBeginning, HasWritten, BrokeOff, Sent, has_failed, sent_by, sink_of}
-use Rattle.savefile.proofs.Encoding.{encoded-append, encoded-push, encoded-begins, IsBeginning-trans}
+use Rattle.savefile.proofs.Encoding.{encoded-begins, IsBeginning-trans}
 use Rattle.savefile.proofs.Lengths.{length-encoded-push}
 use Rattle.bpfvm.specs.declared.insn.Insn.{Insn}
 use Rattle.bpftap.specs.Cut.{answer, accepted}

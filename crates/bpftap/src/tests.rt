@@ -425,7 +425,13 @@ fn a_broken_sink_has_a_beginning(rt: HostRuntime) -> Result<(), Fail> {
 }
 
 // Runs a command, and checks its status and all that it prints.
-fn command(rt: &(impl Abort + Files + AllocGlobal), words: &[&str], out: &str, err: &str, status: u8) {
+fn command(
+    rt: &(impl Abort + Files + AllocGlobal),
+    words: &[&str],
+    out: &str,
+    err: &str,
+    status: u8,
+) {
     let mut told_out: Vec<u8> = Vec::new(rt.alloc());
     let mut told_err: Vec<u8> = Vec::new(rt.alloc());
     let told = run(rt, words, &mut told_out, &mut told_err);

@@ -1,5 +1,5 @@
 -- A text that is filled number by number from the front.
-use Rattle.std.proofs.Common.{◌≡◌, ℕ, ◌+◌, ◌-◌, List, [], ◌++◌, length, take, drop, refl, sym, ap, ◌∙◌, append_assoc, arith, length-append, length-drop}
+use Rattle.std.proofs.Common.{◌≡◌, ℕ, ◌-◌, List, [], ◌++◌, length, take, drop, refl, sym, ap, ◌∙◌, append_assoc, arith, length-append, length-drop}
 use Rattle.std.proofs.lemmas.List.{append-nil, drop_all, drop_at, nil_from_length, take_all, take_at}
 use borrow.Rule.Slice.PartMut.{put_mid}
 use Rattle.savefile.specs.Writer.{Fills}

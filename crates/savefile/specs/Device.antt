@@ -1,5 +1,5 @@
 -- What a device that is read or written tells of a call.
-use Rattle.std.specs.Prelude.{◌≡◌, ◌≢◌, ℕ, ◌+◌, ◌%◌, ◌^◌, Result, MatchResult}
+use Rattle.std.specs.Prelude.{◌≡◌, ℕ, ◌+◌, ◌%◌, ◌^◌, Result, MatchResult}
 
 -- a call adds one to the failures, modulo 2^64, where it answers an error, and only there
 abbrev pub CountsFailure : {T E : Type 0} → ℕ → ℕ → Result T E → Type 0

@@ -1,8 +1,8 @@
-use Rattle.std.proofs.Common.{◌≡◌, ◌≢◌, ℕ, inl, inr, List, [], ap, sym, ◌∙◌, subst, refl}
+use Rattle.std.proofs.Common.{inl, List, [], sym, ◌∙◌, subst, refl}
 use Rattle.savefile.specs.declared.packet.Packet.{Packet}
 use Rattle.bpftap.specs.declared.cut.End.{End}
 use Rattle.bpftap.specs.Cut.{cut_text}
-use Rattle.bpftap.specs.Outcome.{Outcome, Writes, end_of}
+use Rattle.bpftap.specs.Outcome.{Outcome, Writes}
 use Rattle.bpftap.proofs.Outcomes.{outcome-of, nothing-appended, sink-broke, source-did-not-break}
 use Rattle.bpftap.proofs.cut.cut.Goals as goal
 

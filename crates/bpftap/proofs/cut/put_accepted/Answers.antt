@@ -1,4 +1,4 @@
-use Rattle.std.proofs.Common.{◌≡◌, ◌≢◌, ℕ, ◌+◌, ◌<◌, List, [], ◌∷◌, ◌++◌, ap, sym, ◌∙◌, arith, subst, take, drop, refl, length, Err}
+use Rattle.std.proofs.Common.{◌+◌, List, [], ◌∷◌, ◌++◌, sym, ◌∙◌, subst, take, drop, refl, Err}
 use Rattle.std.proofs.lemmas.Result.{err_from_is_err_and}
 use Rattle.savefile.specs.declared.packet.Packet.{Packet}
 use Rattle.savefile.specs.Writer.{HasWritten}

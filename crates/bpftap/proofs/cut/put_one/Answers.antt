@@ -1,4 +1,4 @@
-use Rattle.std.proofs.Common.{◌≡◌, ℕ, ◌<◌, List, ap, sym, ◌∙◌, arith, rules, take, min, length}
+use Rattle.std.proofs.Common.{◌≡◌, ℕ, ◌<◌, List, ap, sym, ◌∙◌, arith, take}
 use Rattle.bpftap.specs.Cut.{answer}
 use Rattle.bpftap.proofs.Writing.{put-goes-on, rejected-goes-on, accepted-goes-on}
 use Rattle.bpfvm.specs.Machine.{verdict}

@@ -1,4 +1,4 @@
-use Rattle.std.proofs.Common.{◌≡◌, ℕ, inl, inr, List, [], ap, sym, ◌∙◌, subst, unwrap_or}
+use Rattle.std.proofs.Common.{inl, inr, [], subst, unwrap_or}
 use Rattle.std.proofs.lemmas.Result.{err_from_is_err_and}
 use Rattle.savefile.specs.Savefile.{RefusesHeader, Holds}
 use Rattle.bpftap.proofs.Outcomes.{told-text, consumed-all}

@@ -1,7 +1,6 @@
-use Rattle.std.proofs.Common.{◌≡◌, ℕ, List, [], ◌∷◌, ◌++◌, ap, sym, ◌∙◌, subst, refl}
-use Rattle.savefile.specs.declared.packet.Packet.{Packet}
+use Rattle.std.proofs.Common.{sym, ◌∙◌}
 use Rattle.bpftap.specs.Cut.{accepted, cut_text}
-use Rattle.bpftap.specs.Outcome.{GoesOn, Writes, Took}
+use Rattle.bpftap.specs.Outcome.{GoesOn}
 use Rattle.bpftap.proofs.Writing.{goes-took, opened, not-opened-goes-on}
 use Rattle.bpftap.proofs.cut.write_accepted.Goals as goal
 use Rattle.bpftap.proofs.cut.write_accepted.Goals.{then-is_ok, else-is_ok}

@@ -1,6 +1,6 @@
-use Rattle.std.proofs.Common.{◌≡◌, ◌+◌, ◌*◌, ◌<◌, ◌≤◌, ℕ, length, length-drop, length-take, take, drop, refl, sym, ap, ◌∙◌, arith, subst}
+use Rattle.std.proofs.Common.{◌≡◌, ◌<◌, ◌≤◌, length, length-drop, length-take, drop, refl, sym, ap, arith}
 use Rattle.std.proofs.lemmas.List.{drop-drop}
-use Rattle.savefile.specs.Savefile.{captured, field, fraction, nanos_in, per_second}
+use Rattle.savefile.specs.Savefile.{field, per_second}
 use Rattle.savefile.proofs.Records.{field_read, nanos_below}
 use Rattle.savefile.proofs.reading.record_of.Goals as goal
 

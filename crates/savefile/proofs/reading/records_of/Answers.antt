@@ -1,7 +1,7 @@
 use Rattle.std.proofs.Common.{◌≡◌, ◌∙◌}
 use Rattle.std.proofs.lemmas.List.Elements.{All-push}
 use Rattle.savefile.specs.Savefile.{packet, IsWritable}
-use Rattle.savefile.proofs.Records.{AreRecords-push, NoRecord-fault, NoRecord-nil}
+use Rattle.savefile.proofs.Records.{AreRecords-push}
 use Rattle.savefile.proofs.reading.records_of.Goals as goal
 
 pub loop-rest-preserved : goal.loop-rest-preserved

@@ -1,6 +1,5 @@
-use Rattle.std.proofs.Common.{◌≡◌, List, ℕ, refl, subst}
-use Rattle.savefile.specs.Writer.{IsBeginning, Sends}
-use Rattle.savefile.proofs.Sending.{on_err, on_ok, opened, opens_in_part, SendsPart}
+use Rattle.std.proofs.Common.{refl}
+use Rattle.savefile.proofs.Sending.{on_err, on_ok, opened, opens_in_part}
 use Rattle.savefile.proofs.writing.Writer.open.Goals as goal
 
 pub returns-clause-ok : goal.returns-clause-ok
