@@ -21,18 +21,46 @@ import time
 
 ROOT = pathlib.Path(__file__).resolve().parent.parent
 PROGRAM = ROOT / "crates" / "bpftap" / "out" / "bpftap"
+# As `tcpdump -ddd udp port 53` prints it.
+UDP_PORT_53 = """20
+40 0 0 12
+21 0 6 34525
+48 0 0 20
+21 0 15 17
+40 0 0 54
+21 12 0 53
+40 0 0 56
+21 10 11 53
+21 0 10 2048
+48 0 0 23
+21 0 8 17
+40 0 0 20
+69 6 0 8191
+177 0 0 14
+72 0 0 14
+21 2 0 53
+72 0 0 16
+21 0 1 53
+6 0 0 262144
+6 0 0 0
+"""
 LISTINGS = [
     ("all packets", "1\n6 0 0 262144\n", None),
     ("IPv4 (4 instructions)", "4\n40 0 0 12\n21 0 1 2048\n6 0 0 262144\n6 0 0 0\n", "ip"),
+    ("UDP port 53 (20 instructions)", UDP_PORT_53, "udp port 53"),
     ("nothing", "1\n6 0 0 0\n", "less 1"),
 ]
 
 
 def frame(rng, number):
-    """An Ethernet frame of 60 to 1,260 bytes: two of three are IPv4, the others ARP."""
+    """An Ethernet frame of 60 to 1,260 bytes: two of three are UDP over IPv4, the others ARP."""
     size = rng.randrange(60, 1261)
-    kind = 0x0806 if number % 3 == 2 else 0x0800
-    head = bytes.fromhex("ffffffffffff000102030405") + struct.pack(">H", kind)
+    head = bytes.fromhex("ffffffffffff000102030405")
+    if number % 3 == 2:
+        head += bytes.fromhex("0806")
+    else:
+        head += bytes.fromhex("08004500") + struct.pack(">H", size - 14) + bytes.fromhex("0000000040110000")
+        head += bytes.fromhex("0a0000010a000002") + struct.pack(">HH", 1000 + number % 5, 53 if number % 2 else 54)
     return head + bytes([number & 255]) * (size - len(head))
 
 
@@ -120,8 +148,7 @@ def main():
     parser.add_argument("--packets", type=int, default=150000)
     parser.add_argument("--rounds", type=int, default=5)
     words = parser.parse_args()
-    if not PROGRAM.exists():
-        subprocess.run([str(ROOT / "bpftap"), "--help"], check=True, stdout=subprocess.DEVNULL)
+    subprocess.run([str(ROOT / "bpftap"), "--help"], check=True, stdout=subprocess.DEVNULL)
     with tempfile.TemporaryDirectory() as name:
         folder = pathlib.Path(name)
         if words.instructions:

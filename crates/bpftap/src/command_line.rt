@@ -1,7 +1,7 @@
 //! The words of the command line, by `clap`.
 use crate::cut::MAX_SNAP;
 use clap::error::ErrorKind;
-use clap::{Arg, ArgMatches, Command, Error};
+use clap::{Arg, ArgMatches, Command, Error, value_parser};
 use savefile::{Order, Unit};
 use std::alloc::{AllocError, Global};
 use std::convert::AsStr;
@@ -34,12 +34,13 @@ const EXAMPLES: &str = "Examples:
   bpftap cut -s 64 -f examples/all.bpf examples/veth.pcap headers.pcap
 
 Exit status: 0 clean; 1 wrong words, a refused file or listing, or want of memory;
-2 a torn or bad record, after the packets before it; 3 a device failed.";
+2 a torn or bad record, after the packets before it; 3 a file or device failed.";
 
 fn snap_arg<'a>(alloc: Global) -> Arg<'a> {
     Arg::new(alloc, "snap")
         .short('s')
         .value_name("N")
+        .value_parser(value_parser!(u32).range(0..=262_144))
         .required(true)
         .help("Snapshot length: keep at most N bytes of a packet, 0 to 262144 (0 means 262144)")
 }
@@ -77,6 +78,7 @@ fn path_arg<'a>(alloc: Global, name: &'a str, help: &'a str) -> Arg<'a> {
 fn cut_command<'a>(alloc: Global) -> Result<Command<'a>, AllocError> {
     Command::new(alloc, "cut")
         .about("Write each packet of IN that the filter accepts, cut, to OUT")
+        .after_help(EXAMPLES)
         .arg(snap_arg(alloc))?
         .arg(listing_arg(alloc))?
         .arg(order_arg(alloc))?
@@ -89,7 +91,7 @@ fn cut_command<'a>(alloc: Global) -> Result<Command<'a>, AllocError> {
         .arg(path_arg(
             alloc,
             "OUT",
-            "Capture to write; made once the listing and IN are accepted",
+            "Capture to write; made once the listing and the header of IN are accepted",
         ))
 }
 

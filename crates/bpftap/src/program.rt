@@ -65,8 +65,11 @@ fn cut_files<R: Files + AllocGlobal, E: Write>(rt: &R, words: &CutWords<'_>, err
         Ok(input) => input,
         Err(error) => return tell_io(&error, words.input, err),
     };
-    if is_same_file(rt, &input, words.input, words.output) {
-        return tell_fault(format_args!("SameFile {}", words.output), REFUSED, err);
+    // Nothing may be lost: OUT is neither of the files that are read.
+    for read in [words.input, words.listing] {
+        if is_same_file(rt, read, words.output) {
+            return tell_fault(format_args!("SameFile {}", words.output), REFUSED, err);
+        }
     }
     let late = LateFile::new(rt, words.output);
     match BufWriter::with_capacity(rt.alloc(), OUTPUT_BUFFER, late) {

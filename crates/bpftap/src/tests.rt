@@ -10,8 +10,9 @@ use std::alloc::{AllocError, Global};
 use std::fs::Files;
 use std::io::{ErrorKind, Read, Write};
 use std::process::Abort;
+use std::rt::Env;
 use std::test::Fail;
-use std::{fs, io};
+use std::{env, fs, io, process};
 
 /// Little-endian, microseconds, snapshot length 262,144, Ethernet.
 const HEADER: &str = "d4c3b2a1 02000400 00000000 00000000 00000400 01000000";
@@ -151,7 +152,7 @@ fn each_end_is_told(rt: HostRuntime) -> Result<(), Fail> {
     let long = "01000000 00000000 01000400 01000400";
     let both = "01000000 40420f00 01000400 01000400";
     let last = "01000000 3f420f00 00000000 00000000";
-    let cases: [(&str, &[&str], &[&str], &str, u8); 11] = [
+    let cases: [(&str, &[&str], &[&str], &str, u8); 12] = [
         ("nothing", &[], &[], "bpftap: ShortHeader\n", 1),
         (
             "23 bytes",
@@ -168,6 +169,13 @@ fn each_end_is_told(rt: HostRuntime) -> Result<(), Fail> {
             1,
         ),
         ("version 3.4", &[version], &[], "bpftap: Version\n", 1),
+        (
+            "version 2.3",
+            &["d4c3b2a1 02000300 00000000 00000000 00000400 01000000"],
+            &[],
+            "bpftap: Version\n",
+            1,
+        ),
         ("Linux cooked", &[link], &[], "bpftap: LinkType\n", 1),
         ("the header alone", &[HEADER], &[HEADER], "", 0),
         ("the header alone, big-endian", &[big], &[HEADER], "", 0),
@@ -216,6 +224,37 @@ fn each_end_is_told(rt: HostRuntime) -> Result<(), Fail> {
         "",
         0,
     );
+    Ok(())
+}
+
+#[test]
+fn the_longest_packet_is_kept(rt: HostRuntime) -> Result<(), Fail> {
+    let alloc = rt.alloc();
+    let mut text = concat(alloc, &[HEADER, "01000000 00000000 00000400 00000400"])?;
+    text.resize(24 + 16 + 262_144, 7)?;
+    let seen = cut_text(&rt, ALL, 0, text.as_slice());
+    check(&rt, "262,144 bytes", &seen, text.as_slice(), "", 0);
+    Ok(())
+}
+
+#[test]
+fn faults_that_no_capture_shows_are_told(rt: HostRuntime) -> Result<(), Fail> {
+    let cases = [
+        (End::Input(Fault::NoMemory), "bpftap: NoMemory\n", 1),
+        (End::Output(Fault::CountFull), "bpftap: CountFull\n", 1),
+        (End::Output(Fault::Device), "bpftap: Device out.pcap\n", 3),
+    ];
+    for (end, line, status) in cases {
+        let end = CutEnd {
+            source: (),
+            sink: (),
+            sent: 0,
+            end,
+        };
+        let mut err: Vec<u8> = Vec::new(rt.alloc());
+        assert_eq!(rt; tell(&end, "in.pcap", "out.pcap", &mut err), status);
+        assert_eq!(rt; err.as_slice(), line.as_bytes());
+    }
     Ok(())
 }
 
@@ -358,9 +397,9 @@ fn a_broken_source_is_told_and_nothing_is_written(rt: HostRuntime) -> Result<(),
     let alloc = rt.alloc();
     let text = concat(alloc, &[HEADER, ARP_RECORD, IP_RECORD])?;
     let program = program_of(&rt, ALL);
-    for piece in [1, 7, 1000] {
+    for (piece, given) in [(1, 0), (7, 10), (1000, 24), (7, 41), (1000, text.len())] {
         let from = Counted::new(BreakingReader {
-            left: text.as_slice(),
+            left: text.as_slice().get(..given).unwrap_or(b""),
             piece,
         });
         let to = Counted::new(Vec::new(alloc));
@@ -440,12 +479,23 @@ fn command(
     assert_eq!(rt; told, status, "{words:?}");
 }
 
+// Makes a folder of this process's own and goes into it. Its path.
+fn enter_scratch<R: Files + Env + AllocGlobal>(rt: &R, id: u32) -> Result<String, Fail> {
+    let scratch = format!(in rt.alloc(); "/tmp/bpftap-tests-{id}")?;
+    // A folder of the same name is left where a process of the same number was stopped.
+    let _ = fs::remove_dir_all(rt, scratch.as_str());
+    fs::create_dir(rt, scratch.as_str())?;
+    env::set_current_dir(rt, scratch.as_str())?;
+    Ok(scratch)
+}
+
 #[test]
 fn files_are_opened_in_order(rt: HostRuntime) -> Result<(), Fail> {
     let alloc = rt.alloc();
     let text = concat(alloc, &[HEADER, ARP_RECORD, IP_RECORD])?;
     let torn = concat(alloc, &[HEADER, IP_RECORD, "02000000 000000"])?;
     let wanted = concat(alloc, &[HEADER, IP_RECORD])?;
+    let scratch = enter_scratch(&rt, process::id(rt.process()))?;
     fs::create_dir(&rt, "folder")?;
     fs::write(&rt, "all.bpf", ALL)?;
     fs::write(&rt, "ip.bpf", ETHERTYPE)?;
@@ -674,7 +724,98 @@ fn files_are_opened_in_order(rt: HostRuntime) -> Result<(), Fail> {
         2,
     );
     assert_eq!(rt; fs::read(&rt, "out.pcap")?.as_slice(), wanted.as_slice());
+    // The listing is not overwritten either.
+    command(
+        &rt,
+        &[
+            "bpftap", "cut", "-s", "0", "-f", "ip.bpf", "in.pcap", "./ip.bpf",
+        ],
+        "",
+        "bpftap: SameFile ./ip.bpf\n",
+        1,
+    );
+    assert_eq!(rt; fs::read(&rt, "ip.bpf")?.as_slice(), ETHERTYPE);
+    fs::remove_dir_all(&rt, scratch.as_str())?;
     Ok(())
+}
+
+// What OUT has now.
+fn wrote(rt: &(impl Abort + Files + AllocGlobal), written: &[&str]) -> Result<(), Fail> {
+    let wanted = concat(rt.alloc(), written)?;
+    assert_eq!(rt; fs::read(rt, "out.pcap")?.as_slice(), wanted.as_slice());
+    Ok(())
+}
+
+#[test]
+fn the_words_values_are_used(rt: HostRuntime) -> Result<(), Fail> {
+    let alloc = rt.alloc();
+    let scratch = enter_scratch(&rt, process::id(rt.process()))?;
+    let text = concat(alloc, &[HEADER, IP_RECORD])?;
+    fs::write(&rt, "all.bpf", ALL)?;
+    fs::write(&rt, "in.pcap", text.as_slice())?;
+    let five =
+        "a1b23c4d 00020004 00000000 00000000 00000005 00000001 00000002 00000000 00000005 0000000e ffffffffff";
+    let seven =
+        "d4c3b2a1 02000400 00000000 00000000 07000000 01000000 02000000 00000000 07000000 0e000000 ffffffffffff00";
+    command(
+        &rt,
+        &[
+            "bpftap", "cut", "-s", "5", "-o", "big", "-u", "nano", "-f", "all.bpf", "in.pcap",
+            "out.pcap",
+        ],
+        "",
+        "",
+        0,
+    );
+    wrote(&rt, &[five])?;
+    command(
+        &rt,
+        &[
+            "bpftap", "cut", "-s", "262144", "-o", "little", "-u", "micro", "-f", "all.bpf",
+            "in.pcap", "out.pcap",
+        ],
+        "",
+        "",
+        0,
+    );
+    wrote(&rt, &[HEADER, IP_RECORD])?;
+    command(
+        &rt,
+        &[
+            "bpftap", "cut", "-s", "0", "-f", "all.bpf", "in.pcap", "out.pcap",
+        ],
+        "",
+        "",
+        0,
+    );
+    wrote(&rt, &[HEADER, IP_RECORD])?;
+    command(
+        &rt,
+        &[
+            "bpftap", "cut", "-s", "007", "-f", "all.bpf", "in.pcap", "out.pcap",
+        ],
+        "",
+        "",
+        0,
+    );
+    wrote(&rt, &[seven])?;
+    fs::remove_dir_all(&rt, scratch.as_str())?;
+    Ok(())
+}
+
+#[test]
+fn help_that_cannot_be_printed_is_told(rt: HostRuntime) {
+    let mut out = BreakingWriter {
+        taken: Vec::new(rt.alloc()),
+        room: 3,
+    };
+    let mut err: Vec<u8> = Vec::new(rt.alloc());
+    let words = ["bpftap", "--help"];
+    assert_eq!(rt; run(&rt, &words, &mut out, &mut err), 3);
+    assert_eq!(rt;
+        err.as_slice(),
+        b"bpftap: Device standard output\n".as_slice()
+    );
 }
 
 #[test]

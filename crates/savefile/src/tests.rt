@@ -387,3 +387,32 @@ fn faults_are_told_by_name_and_place(rt: HostRuntime) -> Result<(), Fail> {
     }
     Ok(())
 }
+
+/// A header, two records of two bytes, and a third without its last byte.
+const TORN: [u8; 77] = [
+    0xd4, 0xc3, 0xb2, 0xa1, 2, 0, 4, 0, 0, 0, 0, 0, 0, 0, 0, 0, 0, 0, 4, 0, 1, 0, 0, 0, //
+    1, 0, 0, 0, 0, 0, 0, 0, 2, 0, 0, 0, 2, 0, 0, 0, 7, 8, //
+    2, 0, 0, 0, 0, 0, 0, 0, 2, 0, 0, 0, 2, 0, 0, 0, 7, 8, //
+    3, 0, 0, 0, 0, 0, 0, 0, 2, 0, 0, 0, 2, 0, 0, 0, 7,
+];
+
+/// This one passes too where any one request for memory is refused.
+#[test]
+fn want_of_memory_is_named(rt: HostRuntime) {
+    match read_all(rt.alloc(), &TORN) {
+        Ok((_, packets, fault)) => {
+            assert_eq!(rt; packets.len(), 2);
+            assert_eq!(rt; fault, Some(Fault::TornRecord(2)));
+            for packet in &packets {
+                assert_eq!(rt; packet.bytes.as_slice(), [7, 8].as_slice());
+            }
+        }
+        Err(fault) => assert_eq!(rt; fault, Fault::NoMemory),
+    }
+    let mut source = Counted::new(TORN.as_slice());
+    match read_to_end(rt.alloc(), &mut source) {
+        Ok(bytes) => assert!(rt; bytes.as_slice() == TORN.as_slice()),
+        Err(fault) => assert_eq!(rt; fault, Fault::NoMemory),
+    }
+    assert_eq!(rt; source.failures, 0);
+}

@@ -1,0 +1,7 @@
+pub mod Entries
+pub mod Numerals
+pub mod Octets
+pub mod Runs
+pub mod Within
+pub mod Lexing
+pub mod Signs

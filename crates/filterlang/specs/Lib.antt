@@ -1,0 +1,6 @@
+pub mod Words
+pub mod Numbers
+pub mod Tokens
+pub mod Qualifiers
+pub mod Phrases
+pub mod Primitives

@@ -1,0 +1,42 @@
+-- Primitives that have no identifier.
+use Rattle.std.specs.Prelude.{ℕ, Bool, true, false, List, [], ◌∷◌, Option, Some, None, option_map, option_and_then, min, max}
+use Rattle.filterlang.specs.declared.token.Kind.{Kind}
+use Rattle.filterlang.specs.declared.token.Kind.TheVariants as kind
+use Rattle.filterlang.specs.declared.token.Protocol.{Protocol}
+use Rattle.filterlang.specs.declared.token.Protocol.TheVariants as protocols
+use Rattle.filterlang.specs.declared.tree.Direction.{Direction}
+use Rattle.filterlang.specs.declared.tree.Transport.{Transport}
+use Rattle.filterlang.specs.declared.tree.Primitive.{Primitive}
+use Rattle.filterlang.specs.declared.tree.Primitive.TheVariants as primitives
+use Rattle.filterlang.specs.declared.tree.Plain.{Plain}
+use Rattle.filterlang.specs.declared.tree.Plain.TheVariants as plain
+use Rattle.filterlang.specs.Qualifiers.{between}
+
+-- a protocol word that is a primitive of its own
+abbrev pub plain_of : Protocol → Option Plain
+plain_of protocols.Ether = None
+plain_of protocols.Ip = Some plain.Ip
+plain_of protocols.Arp = Some plain.Arp
+plain_of protocols.Rarp = Some plain.Rarp
+plain_of protocols.Tcp = Some plain.Tcp
+plain_of protocols.Udp = Some plain.Udp
+plain_of protocols.Icmp = Some plain.Icmp
+plain_of protocols.Sctp = Some plain.Sctp
+
+-- neither an identifier nor `(` nor `[` nor portrange follows, nor, behind ip, multicast
+abbrev pub stands_alone : Protocol → List Kind → Bool
+stands_alone protocol [] = true
+stands_alone protocol (kind.Number n ∷ ts) = false
+stands_alone protocol (kind.Dotted address parts ∷ ts) = false
+stands_alone protocol (kind.Ethernet address ∷ ts) = false
+stands_alone protocol (kind.Name name ∷ ts) = false
+stands_alone protocol (kind.Open ∷ ts) = false
+stands_alone protocol (kind.OpenBracket ∷ ts) = false
+stands_alone protocol (kind.PortRange ∷ ts) = false
+stands_alone protocols.Ip (kind.Multicast ∷ ts) = false
+stands_alone protocol (t ∷ ts) = true
+
+-- the ports from the one to the other, whichever comes first
+abbrev pub ports_between : Option Transport → Direction → ℕ → ℕ → Option Primitive
+ports_between transport direction first second =
+    option_and_then (λ a. option_map (λ b. primitives.Ports transport direction (min a b) (max a b)) (between 0 65535 second)) (between 0 65535 first)

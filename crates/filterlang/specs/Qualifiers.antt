@@ -1,0 +1,90 @@
+-- Which qualifiers go together, and which identifiers they take.
+use Rattle.std.specs.Prelude.{ℕ, ◌-◌, ◌*◌, ◌^◌, ◌&&◌, ◌==◌, nat_le, if◌then◌else◌, Option, Some, None, option_map, unwrap_or, bit_and}
+use Rattle.filterlang.specs.declared.token.Protocol.{Protocol}
+use Rattle.filterlang.specs.declared.token.Protocol.TheVariants as protocols
+use Rattle.filterlang.specs.declared.token.TypeWord.{TypeWord}
+use Rattle.filterlang.specs.declared.token.TypeWord.TheVariants as types
+use Rattle.filterlang.specs.declared.token.Parts.{Parts}
+use Rattle.filterlang.specs.declared.token.Parts.TheVariants.{Two, Three, Four}
+use Rattle.filterlang.specs.declared.tree.Direction.{Direction}
+use Rattle.filterlang.specs.declared.tree.Direction.TheVariants.{SrcOrDst}
+use Rattle.filterlang.specs.declared.tree.Network.{Network}
+use Rattle.filterlang.specs.declared.tree.Network.TheVariants as networks
+use Rattle.filterlang.specs.declared.tree.Transport.{Transport}
+use Rattle.filterlang.specs.declared.tree.Transport.TheVariants as transports
+use Rattle.filterlang.specs.declared.tree.Primitive.{Primitive}
+use Rattle.filterlang.specs.declared.tree.Primitive.TheVariants as primitives
+use Rattle.filterlang.specs.declared.qualifiers.Phrase.{Phrase}
+use Rattle.filterlang.specs.declared.qualifiers.Qualifiers.{Qualifiers}
+use Rattle.filterlang.specs.declared.qualifiers.Qualifiers.TheVariants.{Host, Net, EtherHost, Port, IpProto, EtherProto}
+use Rattle.filterlang.specs.declared.qualifiers.Identifier.{Identifier}
+use Rattle.filterlang.specs.declared.qualifiers.Identifier.TheVariants as ids
+
+-- the protocols of hosts and nets
+abbrev pub network_of : Option Protocol → Option (Option Network)
+network_of None = Some None
+network_of (Some protocols.Ip) = Some (Some networks.Ip)
+network_of (Some protocols.Arp) = Some (Some networks.Arp)
+network_of (Some protocols.Rarp) = Some (Some networks.Rarp)
+network_of _ = None
+
+-- the protocols of ports
+abbrev pub transport_of : Option Protocol → Option (Option Transport)
+transport_of None = Some None
+transport_of (Some protocols.Tcp) = Some (Some transports.Tcp)
+transport_of (Some protocols.Udp) = Some (Some transports.Udp)
+transport_of (Some protocols.Sctp) = Some (Some transports.Sctp)
+transport_of _ = None
+
+-- The table: the type, its protocols, its direction. A proto has no direction.
+abbrev pub allowed : TypeWord → Option Protocol → Option Direction → Direction → Option Qualifiers
+allowed types.Host (Some protocols.Ether) written direction = Some (EtherHost direction)
+allowed types.Host protocol written direction = option_map (λ network. Host network direction) (network_of protocol)
+allowed types.Net protocol written direction = option_map (λ network. Net network direction) (network_of protocol)
+allowed types.Port protocol written direction = option_map (λ transport. Port transport direction) (transport_of protocol)
+allowed types.Proto None None direction = Some IpProto
+allowed types.Proto (Some protocols.Ip) None direction = Some IpProto
+allowed types.Proto (Some protocols.Ether) None direction = Some EtherProto
+allowed types.Proto protocol written direction = None
+
+-- without a type a host is meant, without a direction source or destination
+abbrev pub qualifiers_of : Phrase → Option Qualifiers
+qualifiers_of phrase = allowed (unwrap_or phrase.kind types.Host) phrase.protocol phrase.direction (unwrap_or phrase.direction SrcOrDst)
+
+-- the mask of so many bits
+abbrev pub mask_of : ℕ → ℕ
+mask_of bits = 2 ^ 32 - 2 ^ (32 - bits)
+
+-- as many bits as the parts of a dotted address have
+abbrev pub bits_of : Parts → ℕ
+bits_of Two = 16
+bits_of Three = 24
+bits_of Four = 32
+
+-- a net, whose address has no bits outside its mask
+abbrev pub net_of : Option Network → Direction → ℕ → ℕ → Option Primitive
+net_of network direction address mask =
+    if bit_and address mask == address then Some (primitives.Net network direction address mask) else None
+
+-- the value, where it is within these ends
+abbrev pub between : ℕ → ℕ → ℕ → Option ℕ
+between low high n = if nat_le low n && nat_le n high then Some n else None
+
+-- The identifiers that the qualifiers take, and the test that each gives.
+abbrev pub identified : Qualifiers → Identifier → Option Primitive
+identified (Host network direction) (ids.Dotted address Four) = Some (primitives.Net network direction address (mask_of 32))
+identified (Net network direction) (ids.Number n) = option_map (λ first. primitives.Net network direction (first * 2 ^ 24) (mask_of 8)) (between 0 255 n)
+identified (Net network direction) (ids.Dotted address parts) = Some (primitives.Net network direction address (mask_of (bits_of parts)))
+identified (Net network direction) (ids.Prefix address bits) = if nat_le bits 32 then net_of network direction address (mask_of bits) else None
+identified (Net network direction) (ids.Masked address mask Four) = net_of network direction address mask
+identified (EtherHost direction) (ids.Ethernet address) = Some (primitives.EtherHost direction address)
+identified (Port transport direction) (ids.Number n) = option_map (λ port. primitives.Ports transport direction port port) (between 0 65535 n)
+identified IpProto (ids.Number n) = option_map primitives.IpProto (between 0 255 n)
+identified IpProto (ids.Name protocols.Icmp) = Some (primitives.IpProto 1)
+identified IpProto (ids.Name protocols.Tcp) = Some (primitives.IpProto 6)
+identified IpProto (ids.Name protocols.Udp) = Some (primitives.IpProto 17)
+identified EtherProto (ids.Number n) = option_map primitives.EtherProto (between 1501 65535 n)
+identified EtherProto (ids.Name protocols.Ip) = Some (primitives.EtherProto 0x0800)
+identified EtherProto (ids.Name protocols.Arp) = Some (primitives.EtherProto 0x0806)
+identified EtherProto (ids.Name protocols.Rarp) = Some (primitives.EtherProto 0x8035)
+identified _ _ = None

@@ -1,0 +1,65 @@
+ghost use Rattle.std.specs.Prelude.{◌≡◌};
+ghost use Rattle.filterlang.specs.declared.fault.Fault.TheVariants.{NoMemory};
+
+use std::alloc::{AllocError, AllocFailed};
+use thiserror::Error;
+
+/// Why a text is no filter expression. A number is the byte of the text that the fault stands at, from 0.
+#[derive(Clone, Copy, Debug, PartialEq, Eq, Error)]
+pub enum Fault {
+    /// The text has more than 8,192 bytes.
+    #[error("TextTooLong")]
+    TextTooLong,
+    /// No token begins with this byte.
+    #[error("BadByte {0}")]
+    BadByte(usize),
+    /// A word that the language has not.
+    #[error("BadWord {0}")]
+    BadWord(usize),
+    /// A number or dotted address that is misspelled or too great.
+    #[error("BadNumber {0}")]
+    BadNumber(usize),
+    /// A token, or the end of the text, with which no expression can go on.
+    #[error("Syntax {0}")]
+    Syntax(usize),
+    /// An identifier without a phrase, and no primitive before it that has qualifiers to give.
+    #[error("NoQualifier {0}")]
+    NoQualifier(usize),
+    /// Qualifiers that do not go together.
+    #[error("BadQualifier {0}")]
+    BadQualifier(usize),
+    /// An identifier of a kind that the type does not take.
+    #[error("BadIdentifier {0}")]
+    BadIdentifier(usize),
+    /// A net address with bits outside its mask.
+    #[error("NetBits {0}")]
+    NetBits(usize),
+    /// A number out of its range.
+    #[error("OutOfRange {0}")]
+    OutOfRange(usize),
+    /// A divisor that is the literal 0 or a named value 0.
+    #[error("DivideByZero {0}")]
+    DivideByZero(usize),
+    /// More than 64 signs open within one another.
+    #[error("TooNested {0}")]
+    TooNested(usize),
+    /// Memory was refused.
+    #[error("NoMemory")]
+    NoMemory,
+}
+
+impl From<AllocError> for Fault {
+    ghost from_gives = { λ _ e. e ≡ NoMemory };
+
+    fn from(_refused: AllocError) -> Fault {
+        Fault::NoMemory
+    }
+}
+
+impl<T: Drop> From<AllocFailed<T>> for Fault {
+    ghost from_gives = { λ _ e. e ≡ NoMemory };
+
+    fn from(_refused: AllocFailed<T>) -> Fault {
+        Fault::NoMemory
+    }
+}

@@ -1,0 +1,219 @@
+ghost use Rattle.std.specs.Prelude.{◌≡◌, option_map};
+ghost use Rattle.std.specs.Result.{result_ok};
+ghost use Rattle.filterlang.specs.Phrases.{kinds, protocol_at, direction_at, type_at, joined, phrase_at, number_at, dotted_at, identifier_at};
+
+use crate::qualifiers::{Identifier, Phrase};
+use crate::token::{Joint, Kind, Operator, Parts, Protocol, Side, Token, TypeWord};
+use crate::tree::Direction;
+
+/// The protocol word at the front, if there is one, and what follows.
+fn protocol_at(tokens: &[Token]) -> (Option<Protocol>, &[Token])
+    ensures { (result.0, kinds result.1.now) ≡ protocol_at (kinds tokens.now) }
+{
+    match tokens {
+        [
+            Token {
+                kind: Kind::Protocol(protocol),
+                ..
+            },
+            rest @ ..,
+        ] => (Some(*protocol), rest),
+        _ => (None, tokens),
+    }
+}
+
+/// The type word at the front, if there is one, and what follows.
+fn type_at(tokens: &[Token]) -> (Option<TypeWord>, &[Token])
+    ensures { (result.0, kinds result.1.now) ≡ type_at (kinds tokens.now) }
+{
+    match tokens {
+        [
+            Token {
+                kind: Kind::Type(word),
+                ..
+            },
+            rest @ ..,
+        ] => (Some(*word), rest),
+        _ => (None, tokens),
+    }
+}
+
+/// The direction of two words and what joins them, where they are one.
+fn joined(first: Side, joint: Joint, second: Side) -> Option<Direction>
+    ensures { result ≡ joined first joint second }
+{
+    match (first, joint, second) {
+        (Side::Src, Joint::Or, Side::Dst) | (Side::Dst, Joint::Or, Side::Src) => Some(
+            Direction::SrcOrDst,
+        ),
+        (Side::Src, Joint::And, Side::Dst) | (Side::Dst, Joint::And, Side::Src) => Some(
+            Direction::SrcAndDst,
+        ),
+        _ => None,
+    }
+}
+
+/// The direction at the front, as long as possible, if there is one, and what follows.
+fn direction_at(tokens: &[Token]) -> (Option<Direction>, &[Token])
+    ensures { (result.0, kinds result.1.now) ≡ direction_at (kinds tokens.now) }
+{
+    if let [
+        Token {
+            kind: Kind::Side(first),
+            ..
+        },
+        Token {
+            kind: Kind::Joint(joint),
+            ..
+        },
+        Token {
+            kind: Kind::Side(second),
+            ..
+        },
+        rest @ ..,
+    ] = tokens
+    {
+        if let Some(direction) = joined(*first, *joint, *second) {
+            return (Some(direction), rest);
+        }
+    }
+    match tokens {
+        [
+            Token {
+                kind: Kind::Side(Side::Src),
+                ..
+            },
+            rest @ ..,
+        ] => (Some(Direction::Src), rest),
+        [
+            Token {
+                kind: Kind::Side(Side::Dst),
+                ..
+            },
+            rest @ ..,
+        ] => (Some(Direction::Dst), rest),
+        _ => (None, tokens),
+    }
+}
+
+/// The phrase at the front, as long as possible, and what follows.
+pub fn phrase_at(tokens: &[Token]) -> (Phrase, &[Token])
+    ensures { (result.0, kinds result.1.now) ≡ phrase_at (kinds tokens.now) }
+{
+    let (protocol, rest) = protocol_at(tokens);
+    let (direction, rest) = direction_at(rest);
+    let (kind, rest) = type_at(rest);
+    let phrase = Phrase {
+        protocol,
+        direction,
+        kind,
+    };
+    (phrase, rest)
+}
+
+/// The number at the front and what follows, or the place where there is none.
+pub fn number_at(tokens: &[Token]) -> Result<(u32, &[Token]), &[Token]>
+    ensures { number_at (kinds tokens.now) ≡ option_map (λ found. (found.0, kinds found.1.now)) (result_ok result) }
+{
+    match tokens {
+        [
+            Token {
+                kind: Kind::Number(number),
+                ..
+            },
+            rest @ ..,
+        ] => Ok((*number, rest)),
+        _ => Err(tokens),
+    }
+}
+
+/// What stands behind a dotted address in its identifier, and what follows; or the place where it breaks off.
+fn dotted_at(
+    address: u32,
+    parts: Parts,
+    tokens: &[Token],
+) -> Result<(Identifier, &[Token]), &[Token]>
+    ensures { dotted_at address parts (kinds tokens.now)
+        ≡ option_map (λ found. (found.0, kinds found.1.now)) (result_ok result) }
+{
+    match tokens {
+        [
+            Token {
+                kind: Kind::Operator(Operator::Divide),
+                ..
+            },
+            rest @ ..,
+        ] => {
+            let (bits, rest) = number_at(rest)?;
+            Ok((Identifier::Prefix { address, bits }, rest))
+        }
+        [
+            Token {
+                kind: Kind::Mask,
+                ..
+            },
+            rest @ ..,
+        ] => match rest {
+            [
+                Token {
+                    kind: Kind::Dotted {
+                        address: mask,
+                        parts,
+                    },
+                    ..
+                },
+                rest @ ..,
+            ] => {
+                let (mask, parts) = (*mask, *parts);
+                Ok((
+                    Identifier::Masked {
+                        address,
+                        mask,
+                        parts,
+                    },
+                    rest,
+                ))
+            }
+            _ => Err(rest),
+        },
+        _ => Ok((Identifier::Dotted { address, parts }, tokens)),
+    }
+}
+
+/// The identifier at the front and what follows, or the place where it breaks off.
+pub fn identifier_at(tokens: &[Token]) -> Result<(Identifier, &[Token]), &[Token]>
+    ensures { identifier_at (kinds tokens.now)
+        ≡ option_map (λ found. (found.0, kinds found.1.now)) (result_ok result) }
+{
+    match tokens {
+        [
+            Token {
+                kind: Kind::Number(number),
+                ..
+            },
+            rest @ ..,
+        ] => Ok((Identifier::Number(*number), rest)),
+        [
+            Token {
+                kind: Kind::Ethernet(address),
+                ..
+            },
+            rest @ ..,
+        ] => Ok((Identifier::Ethernet(*address), rest)),
+        [
+            Token {
+                kind: Kind::Name(name),
+                ..
+            },
+            rest @ ..,
+        ] => Ok((Identifier::Name(*name), rest)),
+        [
+            Token {
+                kind: Kind::Dotted { address, parts },
+                ..
+            },
+            rest @ ..,
+        ] => dotted_at(*address, *parts, rest),
+        _ => Err(tokens),
+    }
+}

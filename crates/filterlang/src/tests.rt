@@ -1,0 +1,559 @@
+use crate::fault::Fault;
+use crate::lexer::lex;
+use crate::phrases::{identifier_at, phrase_at};
+use crate::primitives::{plain_of, ports_between, stands_alone};
+use crate::qualifiers::{identified, qualifiers_of};
+use crate::token::{Comparison, Joint, Kind, Operator, Parts, Protocol, Side, Token, TypeWord};
+use crate::tree::{Direction, Network, Plain, Primitive, Transport};
+use std::test::Fail;
+
+const HOST: Kind = Kind::Type(TypeWord::Host);
+
+const EQUAL: Kind = Kind::Comparison(Comparison::Equal);
+
+const TEXTS: [(&str, &[(Kind, usize, usize)]); 16] = [
+    ("", &[]),
+    (" \t\r\n", &[]),
+    (
+        "len-60",
+        &[
+            (Kind::Len, 0, 3),
+            (Kind::Operator(Operator::Minus), 3, 4),
+            (Kind::Number(60), 4, 6),
+        ],
+    ),
+    (
+        "ip[0:2]",
+        &[
+            (Kind::Protocol(Protocol::Ip), 0, 2),
+            (Kind::OpenBracket, 2, 3),
+            (Kind::Number(0), 3, 4),
+            (Kind::Colon, 4, 5),
+            (Kind::Number(2), 5, 6),
+            (Kind::CloseBracket, 6, 7),
+        ],
+    ),
+    (
+        " tcp\tdst\r\nport 20",
+        &[
+            (Kind::Protocol(Protocol::Tcp), 1, 4),
+            (Kind::Side(Side::Dst), 5, 8),
+            (Kind::Type(TypeWord::Port), 10, 14),
+            (Kind::Number(20), 15, 17),
+        ],
+    ),
+    ("0:1:2:3:4:5", &[(Kind::Ethernet(0x0001_0203_0405), 0, 11)]),
+    ("a:b:c:d:e:f", &[(Kind::Ethernet(0x0a0b_0c0d_0e0f), 0, 11)]),
+    (
+        "00:1A:2b:3C:4d:fF",
+        &[(Kind::Ethernet(0x001a_2b3c_4dff), 0, 17)],
+    ),
+    (
+        "0:1:2:3:4:5:6",
+        &[
+            (Kind::Number(0), 0, 1),
+            (Kind::Colon, 1, 2),
+            (Kind::Ethernet(0x0102_0304_0506), 2, 13),
+        ],
+    ),
+    (
+        "1:2]",
+        &[
+            (Kind::Number(1), 0, 1),
+            (Kind::Colon, 1, 2),
+            (Kind::Number(2), 2, 3),
+            (Kind::CloseBracket, 3, 4),
+        ],
+    ),
+    (
+        "ether host 0:1:2:3:4:5)",
+        &[
+            (Kind::Protocol(Protocol::Ether), 0, 5),
+            (HOST, 6, 10),
+            (Kind::Ethernet(0x0001_0203_0405), 11, 22),
+            (Kind::Close, 22, 23),
+        ],
+    ),
+    (
+        "tcp-syn-1 icmp-echoreply icmp-echo-",
+        &[
+            (Kind::Named(2), 0, 7),
+            (Kind::Operator(Operator::Minus), 7, 8),
+            (Kind::Number(1), 8, 9),
+            (Kind::Named(0), 10, 24),
+            (Kind::Named(8), 25, 34),
+            (Kind::Operator(Operator::Minus), 34, 35),
+        ],
+    ),
+    (
+        "tcp-ip",
+        &[
+            (Kind::Protocol(Protocol::Tcp), 0, 3),
+            (Kind::Operator(Operator::Minus), 3, 4),
+            (Kind::Protocol(Protocol::Ip), 4, 6),
+        ],
+    ),
+    (
+        "<<=>>=!==",
+        &[
+            (Kind::Operator(Operator::ShiftLeft), 0, 2),
+            (EQUAL, 2, 3),
+            (Kind::Operator(Operator::ShiftRight), 3, 5),
+            (EQUAL, 5, 6),
+            (Kind::Comparison(Comparison::NotEqual), 6, 8),
+            (EQUAL, 8, 9),
+        ],
+    ),
+    (
+        "&&&|||!tcp",
+        &[
+            (Kind::Joint(Joint::And), 0, 2),
+            (Kind::Operator(Operator::BitAnd), 2, 3),
+            (Kind::Joint(Joint::Or), 3, 5),
+            (Kind::Operator(Operator::BitOr), 5, 6),
+            (Kind::Not, 6, 7),
+            (Kind::Protocol(Protocol::Tcp), 7, 10),
+        ],
+    ),
+    (
+        "net 10.0.0.0/8",
+        &[
+            (Kind::Type(TypeWord::Net), 0, 3),
+            (
+                Kind::Dotted {
+                    address: 0x0a00_0000,
+                    parts: Parts::Four,
+                },
+                4,
+                12,
+            ),
+            (Kind::Operator(Operator::Divide), 12, 13),
+            (Kind::Number(8), 13, 14),
+        ],
+    ),
+];
+
+#[test]
+fn texts_have_these_tokens(rt: HostRuntime) -> Result<(), Fail> {
+    for (text, wanted) in TEXTS {
+        let tokens = lex(rt.alloc(), text)?;
+        assert_eq!(rt; tokens.len(), wanted.len(), "tokens of {text:?}");
+        for (token, (kind, start, end)) in tokens.iter().zip(wanted) {
+            assert_eq!(rt; token.kind, *kind, "a kind of {text:?}");
+            assert_eq!(rt; token.span.start, *start, "a start of {text:?}");
+            assert_eq!(rt; token.span.end, *end, "an end of {text:?}");
+        }
+    }
+    Ok(())
+}
+
+const SINGLE: [(&str, Kind); 82] = [
+    ("ether", Kind::Protocol(Protocol::Ether)),
+    ("ip", Kind::Protocol(Protocol::Ip)),
+    ("arp", Kind::Protocol(Protocol::Arp)),
+    ("rarp", Kind::Protocol(Protocol::Rarp)),
+    ("tcp", Kind::Protocol(Protocol::Tcp)),
+    ("udp", Kind::Protocol(Protocol::Udp)),
+    ("icmp", Kind::Protocol(Protocol::Icmp)),
+    ("sctp", Kind::Protocol(Protocol::Sctp)),
+    ("host", HOST),
+    ("net", Kind::Type(TypeWord::Net)),
+    ("port", Kind::Type(TypeWord::Port)),
+    ("portrange", Kind::PortRange),
+    ("proto", Kind::Type(TypeWord::Proto)),
+    ("src", Kind::Side(Side::Src)),
+    ("dst", Kind::Side(Side::Dst)),
+    ("and", Kind::Joint(Joint::And)),
+    ("or", Kind::Joint(Joint::Or)),
+    ("not", Kind::Not),
+    ("mask", Kind::Mask),
+    ("less", Kind::Less),
+    ("greater", Kind::Greater),
+    ("len", Kind::Len),
+    ("broadcast", Kind::Broadcast),
+    ("multicast", Kind::Multicast),
+    ("tcpflags", Kind::Named(13)),
+    ("tcp-fin", Kind::Named(1)),
+    ("tcp-syn", Kind::Named(2)),
+    ("tcp-rst", Kind::Named(4)),
+    ("tcp-push", Kind::Named(8)),
+    ("tcp-ack", Kind::Named(16)),
+    ("tcp-urg", Kind::Named(32)),
+    ("icmptype", Kind::Named(0)),
+    ("icmpcode", Kind::Named(1)),
+    ("icmp-echoreply", Kind::Named(0)),
+    ("icmp-unreach", Kind::Named(3)),
+    ("icmp-redirect", Kind::Named(5)),
+    ("icmp-echo", Kind::Named(8)),
+    ("icmp-timxceed", Kind::Named(11)),
+    ("\\tcp", Kind::Name(Protocol::Tcp)),
+    ("\\udp", Kind::Name(Protocol::Udp)),
+    ("\\icmp", Kind::Name(Protocol::Icmp)),
+    ("\\ip", Kind::Name(Protocol::Ip)),
+    ("\\arp", Kind::Name(Protocol::Arp)),
+    ("\\rarp", Kind::Name(Protocol::Rarp)),
+    ("(", Kind::Open),
+    (")", Kind::Close),
+    ("[", Kind::OpenBracket),
+    ("]", Kind::CloseBracket),
+    (":", Kind::Colon),
+    ("+", Kind::Operator(Operator::Plus)),
+    ("-", Kind::Operator(Operator::Minus)),
+    ("*", Kind::Operator(Operator::Times)),
+    ("/", Kind::Operator(Operator::Divide)),
+    ("&", Kind::Operator(Operator::BitAnd)),
+    ("|", Kind::Operator(Operator::BitOr)),
+    ("<<", Kind::Operator(Operator::ShiftLeft)),
+    (">>", Kind::Operator(Operator::ShiftRight)),
+    ("!", Kind::Not),
+    ("&&", Kind::Joint(Joint::And)),
+    ("||", Kind::Joint(Joint::Or)),
+    ("=", EQUAL),
+    ("==", EQUAL),
+    ("!=", Kind::Comparison(Comparison::NotEqual)),
+    ("<", Kind::Comparison(Comparison::Less)),
+    (">", Kind::Comparison(Comparison::Greater)),
+    ("<=", Kind::Comparison(Comparison::LessOrEqual)),
+    (">=", Kind::Comparison(Comparison::GreaterOrEqual)),
+    ("0", Kind::Number(0)),
+    ("10", Kind::Number(10)),
+    ("4294967295", Kind::Number(4_294_967_295)),
+    ("017", Kind::Number(15)),
+    ("00", Kind::Number(0)),
+    ("037777777777", Kind::Number(4_294_967_295)),
+    ("0x800", Kind::Number(0x800)),
+    ("0XfF", Kind::Number(255)),
+    ("0xffffffff", Kind::Number(4_294_967_295)),
+    ("0x0000000000001", Kind::Number(1)),
+    (
+        "10.1",
+        Kind::Dotted {
+            address: 0x0a01_0000,
+            parts: Parts::Two,
+        },
+    ),
+    (
+        "10.1.2",
+        Kind::Dotted {
+            address: 0x0a01_0200,
+            parts: Parts::Three,
+        },
+    ),
+    (
+        "10.1.2.3",
+        Kind::Dotted {
+            address: 0x0a01_0203,
+            parts: Parts::Four,
+        },
+    ),
+    (
+        "255.255.255.255",
+        Kind::Dotted {
+            address: 0xffff_ffff,
+            parts: Parts::Four,
+        },
+    ),
+    (
+        "010.08.000.1",
+        Kind::Dotted {
+            address: 0x0a08_0001,
+            parts: Parts::Four,
+        },
+    ),
+];
+
+#[test]
+fn each_word_and_sign_is_one_token(rt: HostRuntime) -> Result<(), Fail> {
+    for (text, kind) in SINGLE {
+        let tokens = lex(rt.alloc(), text)?;
+        assert_eq!(rt; tokens.len(), 1, "tokens of {text:?}");
+        assert_eq!(rt; tokens[0].kind, kind, "the kind of {text:?}");
+        assert_eq!(rt; tokens[0].span.end, text.len(), "the end of {text:?}");
+    }
+    Ok(())
+}
+
+const FAILING: [(&str, Option<Fault>); 35] = [
+    ("tcp é", Some(Fault::BadByte(4))),
+    ("tcpé", Some(Fault::BadByte(3))),
+    ("tcé", Some(Fault::BadWord(0))),
+    ("tcp # udp", Some(Fault::BadByte(4))),
+    ("tcp \u{c} udp", Some(Fault::BadByte(4))),
+    ("len % 2", Some(Fault::BadByte(4))),
+    ("1:2:3:4:5:6.", Some(Fault::BadByte(11))),
+    (".5", Some(Fault::BadByte(0))),
+    ("TCP", Some(Fault::BadWord(0))),
+    ("tcp length", Some(Fault::BadWord(4))),
+    ("tcp2", Some(Fault::BadWord(0))),
+    ("tcp-synx", Some(Fault::BadWord(4))),
+    ("icmp-", None),
+    ("\\", Some(Fault::BadWord(0))),
+    ("tcp \\sctp", Some(Fault::BadWord(4))),
+    ("\\tcpx", Some(Fault::BadWord(0))),
+    ("\\ tcp", Some(Fault::BadWord(0))),
+    ("0:1:2:3:4:5g", Some(Fault::BadNumber(10))),
+    ("0:1:2:3:4:567", None),
+    ("a:b:c:d:e", Some(Fault::BadWord(0))),
+    ("08 = 8", Some(Fault::BadNumber(0))),
+    ("4294967296", Some(Fault::BadNumber(0))),
+    ("040000000000", Some(Fault::BadNumber(0))),
+    ("0x", Some(Fault::BadNumber(0))),
+    ("0x1g", Some(Fault::BadNumber(0))),
+    ("0x100000000", Some(Fault::BadNumber(0))),
+    ("12a", Some(Fault::BadNumber(0))),
+    ("tcp 1.2.3.256", Some(Fault::BadNumber(4))),
+    ("1.2.3.4.5", Some(Fault::BadNumber(0))),
+    ("1.2.", Some(Fault::BadNumber(0))),
+    ("1..2", Some(Fault::BadNumber(0))),
+    ("1.0002", Some(Fault::BadNumber(0))),
+    ("1.0xa", Some(Fault::BadNumber(0))),
+    ("# 08 xyz", Some(Fault::BadByte(0))),
+    ("08 #", Some(Fault::BadNumber(0))),
+];
+
+#[test]
+fn the_first_failing_place_is_named(rt: HostRuntime) {
+    for (text, fault) in FAILING {
+        let found = lex(rt.alloc(), text).err();
+        assert_eq!(rt; found, fault, "{text:?}");
+    }
+}
+
+#[test]
+fn a_text_has_8192_bytes_at_most(rt: HostRuntime) -> Result<(), Fail> {
+    let mut blanks = String::from_str(rt.alloc(), "tcp")?;
+    for _ in 0..8189 {
+        blanks.push(' ')?;
+    }
+    assert_eq!(rt; lex(rt.alloc(), blanks.as_str())?.len(), 1);
+    blanks.push(' ')?;
+    assert_eq!(rt;
+        lex(rt.alloc(), blanks.as_str()).err(),
+        Some(Fault::TextTooLong)
+    );
+    let mut signs = String::new(rt.alloc());
+    for _ in 0..8193 {
+        signs.push('#')?;
+    }
+    assert_eq!(rt;
+        lex(rt.alloc(), signs.as_str()).err(),
+        Some(Fault::TextTooLong)
+    );
+    Ok(())
+}
+
+#[test]
+fn faults_print_their_name_and_place(rt: HostRuntime) -> Result<(), Fail> {
+    let cases = [
+        (Fault::TextTooLong, "TextTooLong"),
+        (Fault::BadByte(4), "BadByte 4"),
+        (Fault::BadWord(0), "BadWord 0"),
+        (Fault::BadNumber(10), "BadNumber 10"),
+        (Fault::Syntax(6), "Syntax 6"),
+        (Fault::NoQualifier(8), "NoQualifier 8"),
+        (Fault::BadQualifier(1), "BadQualifier 1"),
+        (Fault::BadIdentifier(5), "BadIdentifier 5"),
+        (Fault::NetBits(4), "NetBits 4"),
+        (Fault::OutOfRange(12), "OutOfRange 12"),
+        (Fault::DivideByZero(3), "DivideByZero 3"),
+        (Fault::TooNested(64), "TooNested 64"),
+        (Fault::NoMemory, "NoMemory"),
+    ];
+    for (fault, text) in cases {
+        let printed = format!(in rt.alloc(); "{fault}")?;
+        assert_eq!(rt; printed.as_str(), text);
+    }
+    Ok(())
+}
+
+/// The test that a phrase and an identifier give, where they go together.
+fn primitive_of(tokens: &[Token]) -> Option<Primitive> {
+    let (phrase, rest) = phrase_at(tokens);
+    let qualifiers = qualifiers_of(phrase)?;
+    let (id, _rest) = identifier_at(rest).ok()?;
+    identified(qualifiers, id).ok()
+}
+
+const PRIMITIVES: [(&str, Option<Primitive>); 32] = [
+    (
+        "host 10.0.0.1",
+        Some(Primitive::Net {
+            network: None,
+            direction: Direction::SrcOrDst,
+            address: 0x0a00_0001,
+            mask: 0xffff_ffff,
+        }),
+    ),
+    (
+        "src 10.0.0.1",
+        Some(Primitive::Net {
+            network: None,
+            direction: Direction::Src,
+            address: 0x0a00_0001,
+            mask: 0xffff_ffff,
+        }),
+    ),
+    (
+        "arp dst host 10.0.0.1",
+        Some(Primitive::Net {
+            network: Some(Network::Arp),
+            direction: Direction::Dst,
+            address: 0x0a00_0001,
+            mask: 0xffff_ffff,
+        }),
+    ),
+    (
+        "dst or src net 10.1",
+        Some(Primitive::Net {
+            network: None,
+            direction: Direction::SrcOrDst,
+            address: 0x0a01_0000,
+            mask: 0xffff_0000,
+        }),
+    ),
+    (
+        "src and dst net 10.1.2",
+        Some(Primitive::Net {
+            network: None,
+            direction: Direction::SrcAndDst,
+            address: 0x0a01_0200,
+            mask: 0xffff_ff00,
+        }),
+    ),
+    (
+        "ip net 10",
+        Some(Primitive::Net {
+            network: Some(Network::Ip),
+            direction: Direction::SrcOrDst,
+            address: 0x0a00_0000,
+            mask: 0xff00_0000,
+        }),
+    ),
+    (
+        "net 255",
+        Some(Primitive::Net {
+            network: None,
+            direction: Direction::SrcOrDst,
+            address: 0xff00_0000,
+            mask: 0xff00_0000,
+        }),
+    ),
+    ("net 256", None),
+    (
+        "net 0.0.0.0/0",
+        Some(Primitive::Net {
+            network: None,
+            direction: Direction::SrcOrDst,
+            address: 0,
+            mask: 0,
+        }),
+    ),
+    (
+        "net 10.0.0.0/8",
+        Some(Primitive::Net {
+            network: None,
+            direction: Direction::SrcOrDst,
+            address: 0x0a00_0000,
+            mask: 0xff00_0000,
+        }),
+    ),
+    (
+        "net 10.0.0.1/32",
+        Some(Primitive::Net {
+            network: None,
+            direction: Direction::SrcOrDst,
+            address: 0x0a00_0001,
+            mask: 0xffff_ffff,
+        }),
+    ),
+    ("net 10.0.0.1/33", None),
+    ("net 10.0.0.1/8", None),
+    (
+        "dst net 10.0.0.0 mask 255.255.255.252",
+        Some(Primitive::Net {
+            network: None,
+            direction: Direction::Dst,
+            address: 0x0a00_0000,
+            mask: 0xffff_fffc,
+        }),
+    ),
+    ("net 10.0.0.0 mask 255.0", None),
+    ("host 10.0", None),
+    ("tcp host 10.0.0.1", None),
+    (
+        "ether host 0:1:2:3:4:5",
+        Some(Primitive::EtherHost {
+            direction: Direction::SrcOrDst,
+            address: 0x0001_0203_0405,
+        }),
+    ),
+    ("host 0:1:2:3:4:5", None),
+    (
+        "tcp dst port 65535",
+        Some(Primitive::Ports {
+            transport: Some(Transport::Tcp),
+            direction: Direction::Dst,
+            low: 65535,
+            high: 65535,
+        }),
+    ),
+    (
+        "sctp port 0",
+        Some(Primitive::Ports {
+            transport: Some(Transport::Sctp),
+            direction: Direction::SrcOrDst,
+            low: 0,
+            high: 0,
+        }),
+    ),
+    ("port 65536", None),
+    ("icmp port 7", None),
+    ("proto 255", Some(Primitive::IpProto(255))),
+    ("proto 256", None),
+    ("ip proto \\udp", Some(Primitive::IpProto(17))),
+    ("src proto 6", None),
+    ("ether proto 1501", Some(Primitive::EtherProto(1501))),
+    ("ether proto 1500", None),
+    ("ether proto 65535", Some(Primitive::EtherProto(65535))),
+    ("ether proto \\rarp", Some(Primitive::EtherProto(0x8035))),
+    ("proto \\ip", None),
+];
+
+#[test]
+fn phrases_take_these_identifiers(rt: HostRuntime) -> Result<(), Fail> {
+    for (text, primitive) in PRIMITIVES {
+        let tokens = lex(rt.alloc(), text)?;
+        assert_eq!(rt; primitive_of(&tokens), primitive, "{text:?}");
+    }
+    Ok(())
+}
+
+#[test]
+fn a_protocol_word_may_stand_alone(rt: HostRuntime) -> Result<(), Fail> {
+    let cases = [
+        ("", Protocol::Tcp, true),
+        ("and", Protocol::Tcp, true),
+        ("80", Protocol::Tcp, false),
+        ("(", Protocol::Udp, false),
+        ("[", Protocol::Ip, false),
+        ("portrange", Protocol::Tcp, false),
+        ("multicast", Protocol::Ip, false),
+        ("multicast", Protocol::Arp, true),
+    ];
+    for (text, protocol, alone) in cases {
+        let tokens = lex(rt.alloc(), text)?;
+        assert_eq!(rt; stands_alone(protocol, &tokens), alone, "{text:?}");
+    }
+    assert_eq!(rt; plain_of(Protocol::Ether), None);
+    assert_eq!(rt; plain_of(Protocol::Rarp), Some(Plain::Rarp));
+    let swapped = ports_between(Some(Transport::Tcp), Direction::Dst, 30, 20).ok();
+    let ports = Primitive::Ports {
+        transport: Some(Transport::Tcp),
+        direction: Direction::Dst,
+        low: 20,
+        high: 30,
+    };
+    assert_eq!(rt; swapped, Some(ports));
+    assert_eq!(rt; ports_between(None, Direction::Dst, 20, 65536).ok(), None);
+    Ok(())
+}
