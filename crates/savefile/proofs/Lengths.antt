@@ -22,9 +22,17 @@ length-record_text order unit p =
     let captured = length p.bytes in
     let two = number p.sec ++ number fraction in
     let three = two ++ number captured in
-    omega (arith, length-bytes_in order 4 p.sec, length-bytes_in order 4 fraction, length-bytes_in order 4 captured, length-bytes_in order 4 p.len,
-        length-append (number p.sec) (number fraction), length-append two (number captured), length-append three (number p.len),
-        length-append (three ++ number p.len) p.bytes)
+    omega (
+      arith,
+      length-bytes_in order 4 p.sec,
+      length-bytes_in order 4 fraction,
+      length-bytes_in order 4 captured,
+      length-bytes_in order 4 p.len,
+      length-append (number p.sec) (number fraction),
+      length-append two (number captured),
+      length-append three (number p.len),
+      length-append (three ++ number p.len) p.bytes,
+    )
 
 -- one packet more adds its record
 pub length-encoded-push : (order : Order) (unit : TimeUnit) (snap : ℕ) (ps : List Packet) (p : Packet) →
