@@ -489,6 +489,13 @@ fn enter_scratch<R: Files + Env + AllocGlobal>(rt: &R, id: u32) -> Result<String
     Ok(scratch)
 }
 
+// `bpftap cut -s 0 -f LISTING IN OUT`: the line on standard error, and the status.
+fn cuts(rt: &(impl Abort + Files + AllocGlobal), paths: [&str; 3], err: &str, status: u8) {
+    let [listing, input, output] = paths;
+    let words = ["bpftap", "cut", "-s", "0", "-f", listing, input, output];
+    command(rt, &words, "", err, status);
+}
+
 #[test]
 fn files_are_opened_in_order(rt: HostRuntime) -> Result<(), Fail> {
     let alloc = rt.alloc();
@@ -506,207 +513,79 @@ fn files_are_opened_in_order(rt: HostRuntime) -> Result<(), Fail> {
     fs::write(&rt, "kept.pcap", b"kept".as_slice())?;
     fs::write(&rt, "empty.pcap", b"".as_slice())?;
 
-    // The listing goes first, then IN.
-    command(
-        &rt,
-        &[
-            "bpftap",
-            "cut",
-            "-s",
-            "0",
-            "-f",
-            "no.bpf",
-            "none.pcap",
-            "out.pcap",
-        ],
-        "",
-        "bpftap: Device no.bpf\n",
-        3,
-    );
-    command(
-        &rt,
-        &[
-            "bpftap",
-            "cut",
-            "-s",
-            "0",
-            "-f",
-            "folder",
-            "none.pcap",
-            "out.pcap",
-        ],
-        "",
-        "bpftap: Device folder\n",
-        3,
-    );
-    command(
-        &rt,
-        &[
-            "bpftap",
-            "cut",
-            "-s",
-            "0",
-            "-f",
-            "bad.bpf",
-            "none.pcap",
-            "kept.pcap",
-        ],
-        "",
-        "bpftap: Program UnknownCode 0\n",
-        1,
-    );
-    command(
-        &rt,
-        &[
-            "bpftap",
-            "cut",
-            "-s",
-            "0",
-            "-f",
-            "all.bpf",
-            "none.pcap",
-            "kept.pcap",
-        ],
-        "",
-        "bpftap: Device none.pcap\n",
-        3,
-    );
-    command(
-        &rt,
-        &[
-            "bpftap",
-            "cut",
-            "-s",
-            "0",
-            "-f",
-            "all.bpf",
-            "folder",
-            "kept.pcap",
-        ],
-        "",
-        "bpftap: Device folder\n",
-        3,
-    );
-    command(
-        &rt,
-        &[
-            "bpftap",
-            "cut",
-            "-s",
-            "0",
-            "-f",
-            "all.bpf",
-            "no.pcap",
-            "kept.pcap",
-        ],
-        "",
-        "bpftap: ShortHeader\n",
-        1,
-    );
-    command(
-        &rt,
-        &[
-            "bpftap", "cut", "-s", "0", "-f", "all.bpf", "in.pcap", "in.pcap",
-        ],
-        "",
-        "bpftap: SameFile in.pcap\n",
-        1,
-    );
-    command(
-        &rt,
-        &[
-            "bpftap",
-            "cut",
-            "-s",
-            "0",
-            "-f",
-            "all.bpf",
-            "in.pcap",
-            "./in.pcap",
-        ],
-        "",
-        "bpftap: SameFile ./in.pcap\n",
-        1,
-    );
-    // A header's fault goes before an OUT that cannot be made, and that before a torn record.
-    command(
-        &rt,
-        &[
-            "bpftap",
-            "cut",
-            "-s",
-            "0",
-            "-f",
-            "all.bpf",
-            "no.pcap",
-            "gone/out.pcap",
-        ],
-        "",
-        "bpftap: ShortHeader\n",
-        1,
-    );
-    command(
-        &rt,
-        &[
-            "bpftap",
-            "cut",
-            "-s",
-            "0",
-            "-f",
-            "all.bpf",
-            "torn.pcap",
-            "gone/out.pcap",
-        ],
-        "",
-        "bpftap: Device gone/out.pcap\n",
-        3,
-    );
-    command(
-        &rt,
-        &[
-            "bpftap", "cut", "-s", "0", "-f", "all.bpf", "in.pcap", "folder",
-        ],
-        "",
-        "bpftap: Device folder\n",
-        3,
-    );
-    command(
-        &rt,
-        &[
-            "bpftap",
-            "cut",
-            "-s",
-            "0",
-            "-f",
-            "all.bpf",
-            "empty.pcap",
-            "kept.pcap",
-        ],
-        "",
-        "bpftap: ShortHeader\n",
-        1,
-    );
+    // The listing goes first, then IN. A header's fault goes before an OUT that cannot be made, and that before a torn
+    // record.
+    let refused: [([&str; 3], &str, u8); 12] = [
+        (
+            ["no.bpf", "none.pcap", "out.pcap"],
+            "bpftap: Device no.bpf\n",
+            3,
+        ),
+        (
+            ["folder", "none.pcap", "out.pcap"],
+            "bpftap: Device folder\n",
+            3,
+        ),
+        (
+            ["bad.bpf", "none.pcap", "kept.pcap"],
+            "bpftap: Program UnknownCode 0\n",
+            1,
+        ),
+        (
+            ["all.bpf", "none.pcap", "kept.pcap"],
+            "bpftap: Device none.pcap\n",
+            3,
+        ),
+        (
+            ["all.bpf", "folder", "kept.pcap"],
+            "bpftap: Device folder\n",
+            3,
+        ),
+        (
+            ["all.bpf", "no.pcap", "kept.pcap"],
+            "bpftap: ShortHeader\n",
+            1,
+        ),
+        (
+            ["all.bpf", "in.pcap", "in.pcap"],
+            "bpftap: SameFile in.pcap\n",
+            1,
+        ),
+        (
+            ["all.bpf", "in.pcap", "./in.pcap"],
+            "bpftap: SameFile ./in.pcap\n",
+            1,
+        ),
+        (
+            ["all.bpf", "no.pcap", "gone/out.pcap"],
+            "bpftap: ShortHeader\n",
+            1,
+        ),
+        (
+            ["all.bpf", "torn.pcap", "gone/out.pcap"],
+            "bpftap: Device gone/out.pcap\n",
+            3,
+        ),
+        (
+            ["all.bpf", "in.pcap", "folder"],
+            "bpftap: Device folder\n",
+            3,
+        ),
+        (
+            ["all.bpf", "empty.pcap", "kept.pcap"],
+            "bpftap: ShortHeader\n",
+            1,
+        ),
+    ];
+    for (paths, err, status) in refused {
+        cuts(&rt, paths, err, status);
+    }
     // Nothing was lost.
     assert_eq!(rt; fs::read(&rt, "in.pcap")?.as_slice(), text.as_slice());
     assert_eq!(rt; fs::read(&rt, "kept.pcap")?.as_slice(), b"kept".as_slice());
     assert!(rt; !fs::exists(&rt, "out.pcap")?);
 
-    command(
-        &rt,
-        &[
-            "bpftap",
-            "cut",
-            "-s",
-            "0",
-            "-f",
-            "ip.bpf",
-            "in.pcap",
-            "kept.pcap",
-        ],
-        "",
-        "",
-        0,
-    );
+    cuts(&rt, ["ip.bpf", "in.pcap", "kept.pcap"], "", 0);
     assert_eq!(rt; fs::read(&rt, "kept.pcap")?.as_slice(), wanted.as_slice());
     command(
         &rt,
@@ -725,12 +604,9 @@ fn files_are_opened_in_order(rt: HostRuntime) -> Result<(), Fail> {
     );
     assert_eq!(rt; fs::read(&rt, "out.pcap")?.as_slice(), wanted.as_slice());
     // The listing is not overwritten either.
-    command(
+    cuts(
         &rt,
-        &[
-            "bpftap", "cut", "-s", "0", "-f", "ip.bpf", "in.pcap", "./ip.bpf",
-        ],
-        "",
+        ["ip.bpf", "in.pcap", "./ip.bpf"],
         "bpftap: SameFile ./ip.bpf\n",
         1,
     );
