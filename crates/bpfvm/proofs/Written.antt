@@ -1,5 +1,5 @@
 -- What is written of a program is a listing of it.
-use Rattle.std.proofs.Common.{◌≡◌, ◌≢◌, ℕ, ◌<◌, ◌≤◌, ◌^◌, List, [], ◌∷◌, ◌++◌, length, map, All, refl, sym, ap, ◌∙◌, arith, append_assoc}
+use Rattle.std.proofs.Common.{◌≡◌, ◌≢◌, ℕ, suc, get_or, ◌<◌, ◌≤◌, ◌^◌, List, [], ◌∷◌, ◌++◌, length, map, All, refl, sym, ap, ◌∙◌, arith, append_assoc}
 use Rattle.std.specs.List.{AllByRecursion, flat_map}
 use Rattle.std.specs.Fmt.{decimal}
 use Rattle.std.proofs.lemmas.Fmt.{decimal_is_IsNumeral}
@@ -32,6 +32,11 @@ written-line i fields = record {
   jf_is = written-number 255 i.jf (omega (arith, fields.jf)) (omega arith);
   k_is = written-number 4294967295 i.k (omega (arith, fields.k)) (omega arith);
 }
+
+-- what holds at each place holds of each element
+pub fields-each : (insns : List Insn) (d : Insn) → ((k : ℕ) → k < length insns → HasFields (get_or insns k d)) → AllByRecursion HasFields insns
+fields-each [] d each = tt
+fields-each (i ∷ insns) d each = (each 0 (omega arith), fields-each insns d (λ k inside. each (suc k) (omega (arith, inside))))
 
 written-lines : (insns : List Insn) → AllByRecursion HasFields insns → AreLines (map line_of insns) insns
 written-lines [] fields = tt

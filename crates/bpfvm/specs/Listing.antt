@@ -81,7 +81,8 @@ IsRefusedListing text Count =
     × IsNumber 4294967295 first n × AreLines others insns × (n ≡ length insns → ⊥)
 IsRefusedListing text (Program fault) = (insns : List Insn) × IsListing text insns × IsRefusedAs insns fault
 
--- these lines begin with lines that are instructions, so many, and then comes one that is none
+-- These lines begin with lines that are instructions, so many, and then comes one that is none. Private clauses alone
+-- say this.
 pub record StopsAfter (lines : List (List ℕ)) (good : ℕ) : Type 0 where
   pub line : List ℕ
   pub here : slice_get lines good ≡ Some line

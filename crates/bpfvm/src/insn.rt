@@ -7,6 +7,6 @@ pub struct Insn {
     pub jt: u8,
     /// How many instructions it passes where the test does not hold.
     pub jf: u8,
-    /// The operand: a number, an offset, a cell of the scratch memory, or a jump's length.
+    /// The operand: a number, an offset, a cell of the scratch memory, a jump's length, or the answer of a return.
     pub k: u32,
 }

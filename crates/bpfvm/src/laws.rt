@@ -1,6 +1,6 @@
 //! Laws of the definitions that the contracts cite. Each function is empty, and its contract is the law.
 
-ghost use Rattle.bpfvm.specs.Laws.{EffectsAreUnique, StepsAreUnique, AnswersAreUnique, ValidProgramsGoOn, ValidProgramsAnswer, FrontsArePassed, WrittenIsRead, ListingsAreUnique};
+ghost use Rattle.bpfvm.specs.Laws.{EffectsAreUnique, StepsAreUnique, AnswersAreUnique, ValidProgramsGoOn, ValidProgramsAnswer, VerdictIsReached, FrontsArePassed, WrittenIsRead, ListingsAreUnique};
 
 /// A step of the machine has one outcome, and a run has one answer.
 pub fn runs_have_one_outcome()
@@ -10,9 +10,11 @@ pub fn runs_have_one_outcome()
 {}
 
 /// A valid program goes on from each of its places and any registers, and answers within the instructions that are left.
+/// Its verdict is the answer that its run reaches.
 pub fn valid_programs_answer()
     ensures step { ValidProgramsGoOn }
     ensures run { ValidProgramsAnswer }
+    ensures verdict { VerdictIsReached }
 {}
 
 /// A run over a program that goes on at a place is the run over the rest of it.

@@ -1,9 +1,11 @@
 //! Listings: programs as text, as `tcpdump -ddd` prints them.
 
 ghost use Rattle.std.specs.Prelude.{◌≡◌, ◌≢◌, ◌↔◌, ℕ, ◌+◌, ◌<◌, ◌≤◌, List, [], ◌∷◌, ◌++◌, length, take, All, IfOk, IfErr, IfSome, IfNone, Ok, Err};
+ghost use Rattle.std.specs.String.{string_bytes};
 ghost use Rattle.bpfvm.specs.declared.insn.Insn.{Insn};
 ghost use Rattle.bpfvm.specs.Validity.{IsValidProgram};
-ghost use Rattle.bpfvm.specs.Listing.{IsNumber, IsLine, AreLines, IsListing, IsRefusedListing, StopsAfter, further_lines, lines_of, listing_of};
+ghost use Rattle.bpfvm.specs.Listing.{IsNumber, IsLine, AreLines, IsListing, IsRefusedListing, StopsAfter, further_lines, lines_of, line_text, listing_of};
+ghost use Rattle.bpfvm.specs.Laws.{HasFields};
 
 use crate::fault::{Invalid, ListingFault, NoMemory};
 use crate::insn::Insn;
@@ -12,7 +14,7 @@ use arrayvec::ArrayVec;
 use std::alloc::Global;
 
 /// What stands before the first such byte, and what behind it.
-fn cut(text: &[u8], at: u8) -> Option<(&[u8], &[u8])>
+fn split_once(text: &[u8], at: u8) -> Option<(&[u8], &[u8])>
     ensures parts { IfSome result (λ parts. text.now ≡ parts.0.now ++ at ∷ parts.1.now) }
     ensures first { IfSome result (λ parts. All (λ byte. byte ≢ at) parts.0.now) }
     ensures none { IfNone result (All (λ byte. byte ≢ at) text.now) }
@@ -26,7 +28,7 @@ fn first_line(text: &[u8]) -> (&[u8], &[u8])
     ensures first { lines_of text.now ≡ result.0.now ∷ further_lines result.1.now }
     ensures shorter { text.now ≢ [] → length result.1.now < length text.now }
 {
-    match cut(text, b'\n') {
+    match split_once(text, b'\n') {
         Some(parts) => parts,
         None => (text, &[]),
     }
@@ -58,9 +60,9 @@ fn insn_of(line: &[u8]) -> Option<Insn>
     ensures some { IfSome result (λ insn. IsLine line.now insn) }
     ensures none { IfNone result ((insn : Insn) → IsLine line.now insn → ⊥) }
 {
-    let (code, rest) = cut(line, b' ')?;
-    let (jt, rest) = cut(rest, b' ')?;
-    let (jf, k) = cut(rest, b' ')?;
+    let (code, rest) = split_once(line, b' ')?;
+    let (jt, rest) = split_once(rest, b' ')?;
+    let (jf, k) = split_once(rest, b' ')?;
     let code = number(code, u32::from(u16::MAX))?;
     let jt = number(jt, u32::from(u8::MAX))?;
     let jf = number(jf, u32::from(u8::MAX))?;
@@ -117,6 +119,9 @@ fn read_lines(text: &[u8]) -> Result<Listed, usize>
 ///
 /// Lines end with byte 10, which the last one may lack. Leading zeros are read; no other space, sign or carriage return
 /// is. It takes no memory.
+///
+/// `BadLine` names the first line, from 1, that has not its form; then comes `Count`, where the first line is not the
+/// number of the further ones; then `Program`, as [`Program::new`] says.
 pub fn read_listing(text: &[u8]) -> Result<Program, ListingFault>
     ensures ok { IfOk result (λ program. IsListing text.now program × IsValidProgram program) }
     ensures only { (program : List Insn) → IsListing text.now program → IsValidProgram program → result ≡ Ok program }
@@ -142,15 +147,28 @@ pub fn read_listing(text: &[u8]) -> Result<Program, ListingFault>
     }
 }
 
-/// The listing of a program, with a line feed after every line and no leading zeros.
+/// Appends the line of an instruction.
+fn write_line(text: &mut String, insn: &Insn) -> Result<(), NoMemory>
+    ensures text { IfOk result (λ _. string_bytes text.new ≡ string_bytes text.old ++ line_text insn.now) }
+    ensures fields { HasFields insn.now }
+{
+    let Insn { code, jt, jf, k } = *insn;
+    write!(text, "{code} {jt} {jf} {k}\n")?;
+    Ok(())
+}
+
+/// The listing of a program, with a line feed after every line and no leading zeros. [`read_listing`] reads it back.
+///
+/// `NoMemory` where memory for the text was refused.
 pub fn write_listing(alloc: Global, program: &Program) -> Result<Vec<u8>, NoMemory>
-    ensures { IfOk result (λ text. text.items ≡ listing_of program.now) }
+    ensures text { IfOk result (λ text. text.items ≡ listing_of program.now) }
+    ensures read { IfOk result (λ text. IsListing text.items program.now) }
 {
     let insns = program.insns();
     let mut text = String::new(alloc);
     write!(text, "{}\n", insns.len())?;
     for insn in insns {
-        write!(text, "{} {} {} {}\n", insn.code, insn.jt, insn.jf, insn.k)?;
+        write_line(&mut text, insn)?;
     }
     Ok(text.into_bytes())
 }

@@ -207,6 +207,7 @@ fn a_program_tells_its_instructions(rt: HostRuntime) -> Result<(), Fail> {
         .ok()
         .ok_or("a program")?;
     assert_eq!(rt; program.insns().len(), 2);
+    assert!(rt; program.clone()? == program);
     assert_eq!(rt;
         program.insns()[0],
         Insn {
@@ -289,13 +290,24 @@ fn returns(alloc: Global, count: u32, lines: u32) -> Result<Vec<u8>, Fail> {
 #[test]
 fn long_listings_are_read_to_their_end(rt: HostRuntime) -> Result<(), Fail> {
     let longest = returns(rt.alloc(), 512, 512)?;
-    assert!(rt; read_listing(&longest).is_ok());
+    let program = read_listing(&longest).ok().ok_or("a program")?;
+    let written = write_listing(rt.alloc(), &program)?;
+    assert_eq!(rt; written.as_slice(), longest.as_slice());
     let over = returns(rt.alloc(), 513, 513)?;
     assert!(rt;
         matches!(
             read_listing(&over),
             Err(ListingFault::Program(Invalid::TooMany))
         )
+    );
+    let over = ListingFault::Program(Invalid::TooMany);
+    assert_eq!(rt;
+        format!(in rt.alloc(); "{over}")?.as_str(),
+        "Program TooMany"
+    );
+    assert_eq!(rt;
+        format!(in rt.alloc(); "{}", NoMemory)?.as_str(),
+        "NoMemory"
     );
     let mut bad = returns(rt.alloc(), 513, 512)?;
     bad.extend_from_slice(b"x")?;
@@ -316,6 +328,17 @@ fn a_listing_is_written_without_leading_zeros(rt: HostRuntime) -> Result<(), Fai
         let program = read_listing(listing.as_bytes()).ok().ok_or("a program")?;
         let text = write_listing(rt.alloc(), &program)?;
         assert_eq!(rt; text.as_slice(), want.as_bytes());
+    }
+    Ok(())
+}
+
+#[test]
+fn want_of_memory_is_named(rt: HostRuntime) -> Result<(), Fail> {
+    let listing = b"4\n40 0 0 12\n21 0 1 2048\n6 0 0 262144\n6 0 0 0\n";
+    let program = read_listing(listing).ok().ok_or("a program")?;
+    match write_listing(rt.alloc(), &program) {
+        Ok(text) => assert_eq!(rt; text.as_slice(), listing.as_slice()),
+        Err(fault) => assert_eq!(rt; format!(in rt.alloc(); "{fault}")?.as_str(), "NoMemory"),
     }
     Ok(())
 }

@@ -1,14 +1,14 @@
 -- What a savefile is read as, and what it holds, is one.
-use Rattle.std.proofs.Common.{◌≡◌, ℕ, List, length, Option, sym, ap, subst, ◌∙◌, arith, inl, inr}
+use Rattle.std.proofs.Common.{◌≡◌, ◌↔◌, ℕ, List, [], ◌∷◌, ◌++◌, length, drop, Option, Some, None, refl, sym, ap, subst, ◌∙◌, arith, inl, inr, length-append}
 use Rattle.std.proofs.lemmas.Bool.{cases_lt}
-use Rattle.std.proofs.lemmas.List.{get_or_past}
+use Rattle.std.proofs.lemmas.List.{get_or_past, nil_from_length}
 use Rattle.savefile.specs.declared.fault.Fault.{Fault}
 use Rattle.savefile.specs.declared.header.Order.{Order}
 use Rattle.savefile.specs.declared.header.Unit.{Unit as TimeUnit}
 use Rattle.savefile.specs.declared.packet.Packet.{Packet}
 use Rattle.savefile.specs.Savefile.{field, first_fault, number_in, Holds, IsSavefile, IsText}
 use Rattle.savefile.proofs.Headers.{one_order, one_unit, AreBytes}
-use Rattle.savefile.proofs.Records.{one_list}
+use Rattle.savefile.proofs.Records.{one_list, record_or_fault, AreRecords-push}
 
 -- a text has bytes at each place, and zeros past its end
 pub AreBytes-text : (text : List ℕ) → IsText text → AreBytes text
@@ -67,3 +67,27 @@ one_content text order order' unit unit' snap snap' ps qs f g fits h k =
     ∙ ap (λ (x : Order). first_fault (number_in x) unit (length qs) k.rest) e.order_is
     ∙ ap (λ (x : TimeUnit). first_fault (number_in order') x (length qs) k.rest) e.unit_is in
     (e.order_is, e.unit_is, e.snap_is, same.0, h.ends ∙ fault ∙ sym k.ends)
+
+-- Where a savefile has no fault, nothing is left of it, and the other way about.
+pub clean_end : (text : List ℕ) (order : Order) (unit : TimeUnit) (snap : ℕ) (ps : List Packet) (f : Option Fault)
+    → Holds text order unit snap ps f → (f ≡ None) ↔ IsSavefile text order unit snap ps []
+clean_end text order unit snap ps f h = (to_the_end, no_fault)
+  where
+    number : ℕ → List ℕ → ℕ
+    number = number_in order
+
+    to_the_end : f ≡ None → IsSavefile text order unit snap ps []
+    to_the_end e = elim (record_or_fault number unit (length ps) h.rest) [
+      | inl nothing ↦ subst (λ (t : List ℕ). IsSavefile text order unit snap ps t) (nil_from_length h.rest nothing) h.reads
+      | inr some ↦ elim some [
+        | inl g ↦ let none : None ≡ Some g.0 = sym e ∙ h.ends ∙ g.1 in absurd cc
+        | inr r ↦
+            let more : IsSavefile text order unit snap (ps ++ r.0 ∷ []) r.1 = record { header = h.reads.header; records = AreRecords-push number unit (drop 24 text) ps r.0 h.rest r.1 h.reads.records r.2 } in
+            absurd (omega (arith, h.longest (ps ++ r.0 ∷ []) r.1 more, length-append ps (r.0 ∷ [])))
+      ]
+    ]
+
+    no_fault : IsSavefile text order unit snap ps [] → f ≡ None
+    no_fault s =
+        let left = (one_list number unit (drop 24 text) ps ps h.rest [] h.reads.records s.records refl).1 in
+        h.ends ∙ ap (λ (t : List ℕ). first_fault number unit (length ps) t) left

@@ -1,6 +1,7 @@
 pub mod Again
 pub mod Contents
 pub mod Encoding
+pub mod EveryText
 pub mod Filling
 pub mod Headers
 pub mod Lengths

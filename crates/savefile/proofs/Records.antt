@@ -1,9 +1,10 @@
 -- Records stand one behind the other, and in one way only.
-use Rattle.std.proofs.Common.{◌≡◌, ℕ, ◌+◌, ◌-◌, ◌*◌, ◌<◌, ◌≤◌, false, List, [], ◌∷◌, ◌++◌, length, take, drop, Some, None, refl, sym, ap, subst, ◌∙◌, arith, length-drop}
+use Rattle.std.proofs.Common.{◌≡◌, ℕ, ◌+◌, ◌-◌, ◌*◌, ◌<◌, ◌≤◌, ◌⊎◌, inl, inr, false, List, [], ◌∷◌, ◌++◌, length, take, drop, Some, None, refl, sym, ap, subst, ◌∙◌, arith, length-drop}
 use Rattle.std.specs.Prelude.{nat_lt, nat_le, ◌==◌}
-use Rattle.std.proofs.lemmas.Bool.{le-ltb, lt-leb, ne_eqb}
+use Rattle.std.proofs.lemmas.Bool.{cases_eq, cases_lt, le-leb, le-ltb, lt-leb, lt-ltb, ne_eqb}
 use Rattle.std.proofs.lemmas.List.{take_all}
 use Rattle.savefile.specs.declared.fault.Fault.{Fault}
+use Rattle.savefile.specs.declared.fault.Fault.TheVariants.{TornRecord, BadFraction, TooLong}
 use Rattle.savefile.specs.declared.header.Unit.{Unit as TimeUnit}
 use Rattle.savefile.specs.declared.header.Unit.TheVariants.{Micro, Nano}
 use Rattle.savefile.specs.declared.packet.Packet.{Packet}
@@ -44,6 +45,33 @@ NoRecord-fault number unit place text fault e = λ p after r. let none = first_f
 
 pub NoRecord-nil : (number : ℕ → List ℕ → ℕ) (unit : TimeUnit) (text : List ℕ) → length text ≡ 0 → NoRecord number unit text
 NoRecord-nil number unit text e = λ p after r. let size : 16 ≤ length text = r.size in omega arith
+
+-- Nothing is left, or there is a fault, or a record stands.
+pub record_or_fault : (number : ℕ → List ℕ → ℕ) (unit : TimeUnit) (place : ℕ) (text : List ℕ)
+    → (length text ≡ 0) ⊎ ((fault : Fault) × (first_fault number unit place text ≡ Some fault)) ⊎ ((p : Packet) × (after : List ℕ) × IsRecord number unit text p after)
+record_or_fault number unit place text =
+    let cut = fraction number text in
+    let n = captured number text in
+    elim (cases_eq (length text) 0) [
+      | inl nothing ↦ inl nothing
+      | inr some ↦ elim (cases_lt (length text) 16) [
+        | inl torn ↦ inr (inl (TornRecord place, rw (ne_eqb (length text) 0 some, lt-ltb (length text) 16 torn) refl))
+        | inr size ↦ elim (cases_lt cut (per_second unit)) [
+          | inr bad ↦ inr (inl (BadFraction place, rw (ne_eqb (length text) 0 some, le-ltb (length text) 16 size, le-leb (per_second unit) cut bad) refl))
+          | inl below ↦ elim (cases_lt 262144 n) [
+            | inl long ↦ inr (inl (TooLong place, rw (ne_eqb (length text) 0 some, le-ltb (length text) 16 size, lt-leb (per_second unit) cut below, lt-ltb 262144 n long) refl))
+            | inr short ↦ elim (cases_lt (length text) (16 + n)) [
+              | inl torn ↦ inr (inl (TornRecord place, rw (ne_eqb (length text) 0 some, le-ltb (length text) 16 size, lt-leb (per_second unit) cut below, le-ltb 262144 n short, lt-ltb (length text) (16 + n) torn) refl))
+              | inr whole ↦ inr (inr (
+                packet (field number text 0 4) (cut * nanos_in unit) (field number text 12 4) (take n (drop 16 text)),
+                drop (16 + n) text,
+                record { size = size; seconds = refl; below_a_second = below; nanos = refl; short = short; on_the_wire = refl; whole = whole; bytes = refl; follows = refl },
+              ))
+            ]
+          ]
+        ]
+      ]
+    ]
 
 -- ---- One reading
 

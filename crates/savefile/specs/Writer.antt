@@ -25,13 +25,13 @@ has_failed w = w.failed
 
 -- A writer sent this text: its sink, which had taken `start` before, took the text and no more.
 pub record Sent {W : Type 0} (taken : W → Option (List ℕ)) (start : Option (List ℕ)) (text : List ℕ) (w : Writer W) : Type 0 where
-  pub bytes : Appends start (taken w.sink) text
-  pub count : w.sent ≡ length text
+  pub bytes : Appends start (taken (sink_of w)) text
+  pub count : sent_by w ≡ length text
 
 -- A writer that no device failed: it has sent the written text of these packets.
 pub record HasWritten {W : Type 0} (taken : W → Option (List ℕ)) (start : Option (List ℕ)) (order : Order) (unit : TimeUnit) (snap : ℕ) (packets : List Packet) (w : Writer W) : Type 0 where
   pub sent : Sent taken start (encoded order unit snap packets) w
-  pub works : w.failed ≡ false
+  pub works : has_failed w ≡ false
   pub in_order : w.order ≡ order
   pub in_unit : w.unit ≡ unit
 
@@ -40,7 +40,7 @@ pub record BrokeOff {W : Type 0} (taken : W → Option (List ℕ)) (start : Opti
   pub text : List ℕ
   pub begins : IsBeginning text (encoded order unit snap packets)
   pub sent : Sent taken start text w
-  pub failed : w.failed ≡ true
+  pub failed : has_failed w ≡ true
 
 -- ---- Steps inside a call
 

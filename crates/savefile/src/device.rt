@@ -21,7 +21,8 @@ pub trait Source {
     ghost failures: { Self → ℕ };
 
     /// Reads the next bytes into the front of a slice, and answers how many. Into a slice that is not
-    /// empty, 0 is the end of input.
+    /// empty, 0 is the end of input. [`Broken`] comes where the device failed: no byte was moved, and
+    /// the failures grew by one.
     fn read(&mut self, to: &mut [u8]) -> Result<usize, Broken>
         ensures count { IfOk result (λ n. n ≤ length to.new) }
         ensures bytes { ReadConsumes (left self.old) (left self.new) result to.new }
@@ -37,6 +38,7 @@ pub trait Sink {
     ghost failures: { Self → ℕ };
 
     /// Takes bytes from the front of a slice, at least one if there is one, and answers how many.
+    /// [`Broken`] comes where the device failed: no byte was moved, and the failures grew by one.
     fn write(&mut self, from: &[u8]) -> Result<usize, Broken>
         ensures count { IfOk result (λ n. n ≤ length from.now) }
         ensures progress { IfOk result (λ n. 0 < length from.now → 0 < n) }

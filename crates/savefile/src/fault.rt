@@ -25,10 +25,11 @@ pub enum Fault {
     /// The text ends inside the record at this place.
     #[error("TornRecord {0}")]
     TornRecord(u64),
-    /// The fraction of the record at this place is a second or more.
+    /// The fraction of the record at this place is a second or more; that this is refused is this
+    /// project's own.
     #[error("BadFraction {0}")]
     BadFraction(u64),
-    /// The captured length of the record at this place is above 262,144.
+    /// The captured length of the record at this place is above 262,144, a bar of this project.
     #[error("TooLong {0}")]
     TooLong(u64),
     /// A request for memory was refused.

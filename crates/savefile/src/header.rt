@@ -9,7 +9,9 @@ use byteorder::{BigEndian, ByteOrder, LittleEndian};
 /// The order of the bytes in a number.
 #[derive(Clone, Copy, Debug, PartialEq, Eq)]
 pub enum Order {
+    /// The lowest byte first, as in a savefile that begins with d4 c3 b2 a1 or 4d 3c b2 a1.
     Little,
+    /// The highest byte first, as in a savefile that begins with a1 b2 c3 d4 or a1 b2 3c 4d.
     Big,
 }
 

@@ -1,6 +1,6 @@
 //! What follows from the definitions alone. Each function does nothing: its contract is the law.
 
-ghost use Rattle.std.specs.Prelude.{◌≡◌, ℕ, ◌<◌, ◌^◌, List, length, map, All, Option, None};
+ghost use Rattle.std.specs.Prelude.{◌≡◌, ◌⊎◌, ◌↔◌, ℕ, ◌<◌, ◌^◌, List, [], length, map, All, Option, None};
 ghost use Rattle.savefile.specs.declared.fault.Fault.{Fault};
 ghost use Rattle.savefile.specs.declared.header.Order.{Order};
 ghost use Rattle.savefile.specs.declared.header.Unit.{Unit as TimeUnit};
@@ -26,6 +26,18 @@ pub fn one_refusal()
     ensures fault { (text : List ℕ) (fault other : Fault) → IsText text → RefusesHeader text fault → RefusesHeader text other → fault ≡ other }
     ensures nothing { (text : List ℕ) (fault : Fault) (order : Order) (unit : TimeUnit) (snap : ℕ) (packets : List Packet) (end : Option Fault) →
         IsText text → RefusesHeader text fault → Holds text order unit snap packets end → ⊥ }
+{}
+
+/// The header of a text is refused, or the text holds something: the definitions cover each text.
+pub fn every_text()
+    ensures { (text : List ℕ) → ((fault : Fault) × RefusesHeader text fault)
+        ⊎ ((order : Order) × (unit : TimeUnit) × (snap : ℕ) × (packets : List Packet) × (end : Option Fault) × Holds text order unit snap packets end) }
+{}
+
+/// A savefile has no fault exactly where its records end with the text.
+pub fn clean_end()
+    ensures { (text : List ℕ) (order : Order) (unit : TimeUnit) (snap : ℕ) (packets : List Packet) (fault : Option Fault) →
+        Holds text order unit snap packets fault → (fault ≡ None) ↔ IsSavefile text order unit snap packets [] }
 {}
 
 /// What the written text of a list holds is that list, without fault. With microseconds the

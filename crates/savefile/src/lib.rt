@@ -1,8 +1,15 @@
-//! Savefiles of captured packets, read and written exactly as pcap-savefile(5) describes them.
+//! Savefiles of captured packets, read and written as pcap-savefile(5) describes them.
 //!
 //! A savefile is a header of 24 bytes and then records, each a header of 16 bytes and the bytes
 //! that were captured. Both byte orders and both units of time are read and written. Inside this
 //! crate a time is seconds and nanoseconds.
+//!
+//! Some of what is read is this project's own profile and not in pcap-savefile(5). Only version 2.4 and
+//! link type 1, Ethernet, are read, and a link type with further bits set is refused. A fraction of a
+//! second or more ends the packets, as does a captured length above 262,144 bytes, whatever the snapshot
+//! length. The reserved fields and the snapshot length are never a reason to refuse, and a record may
+//! have more bytes than the snapshot length or than the packet had on the wire. What is written has
+//! zeros in the reserved fields.
 //!
 //! [`read_all`] reads a whole savefile, [`Writer`] writes one packet by packet into a [`Sink`], and
 //! [`laws`] has what follows from the definitions alone.

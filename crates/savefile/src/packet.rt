@@ -47,7 +47,7 @@ impl Data {
 pub struct Packet {
     /// When it was captured: whole seconds since 1970.
     pub sec: u32,
-    /// The rest of that time, in nanoseconds.
+    /// The rest of that time, in nanoseconds: below 1,000,000,000 in a packet that was read.
     pub nanos: u32,
     /// How many bytes it had on the wire.
     pub len: u32,

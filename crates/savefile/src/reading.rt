@@ -23,7 +23,7 @@ struct Record<'a> {
 /// The bytes of a record's header.
 const RECORD_HEADER_LEN: usize = 16;
 
-/// The most bytes of a packet that a record may have.
+/// The most bytes of a packet that a record may have, a bar of this project.
 const MOST_CAPTURED: u32 = 262_144;
 
 /// The record that a text begins with, or its first fault. The place is that of the record.

@@ -191,23 +191,80 @@ fn captured_length_is_refused_above_262144(rt: HostRuntime) -> Result<(), Fail> 
     Ok(())
 }
 
-/// Writes a savefile of packets without data into memory.
+/// Writes a savefile into memory.
 fn written(
-    alloc: Global,
+    rt: &(impl Abort + AllocGlobal),
     order: Order,
     unit: Unit,
     snap: u32,
-    packets: &[(u32, u32, u32)],
+    packets: &[(u32, u32, u32, &[u8])],
 ) -> Result<Vec<u8>, Fail> {
-    let (mut writer, opened) = Writer::open(Counted::new(Vec::new(alloc)), order, unit, snap);
+    let memory = Counted::new(Vec::new(rt.alloc()));
+    let (mut writer, opened) = Writer::open(memory, order, unit, snap);
     opened?;
-    for (sec, nanos, len) in packets {
-        if *nanos < 1_000_000_000 {
-            writer.put(*sec, *nanos, *len, &[])?;
-        }
+    for (sec, nanos, len, bytes) in packets {
+        assert!(rt; *nanos < 1_000_000_000);
+        assert!(rt; bytes.len() <= 262_144);
+        writer.put(*sec, *nanos, *len, *bytes)?;
     }
     let (sink, _) = writer.close();
     Ok(sink.into_inner())
+}
+
+/// Each form: the header with the greatest snapshot length, and one packet with each field at its
+/// greatest.
+const GREATEST: [(Order, Unit, [u8; 41], &str); 4] = [
+    (
+        Order::Little,
+        Unit::Micro,
+        [
+            0xd4, 0xc3, 0xb2, 0xa1, 2, 0, 4, 0, 0, 0, 0, 0, 0, 0, 0, 0, 0xff, 0xff, 0xff, 0xff, 1,
+            0, 0, 0, 0xff, 0xff, 0xff, 0xff, 0x3f, 0x42, 0x0f, 0, 1, 0, 0, 0, 0xff, 0xff, 0xff,
+            0xff, 7,
+        ],
+        "Little Micro 4294967295; 4294967295.999999000 4294967295 [7]",
+    ),
+    (
+        Order::Big,
+        Unit::Micro,
+        [
+            0xa1, 0xb2, 0xc3, 0xd4, 0, 2, 0, 4, 0, 0, 0, 0, 0, 0, 0, 0, 0xff, 0xff, 0xff, 0xff, 0,
+            0, 0, 1, 0xff, 0xff, 0xff, 0xff, 0, 0x0f, 0x42, 0x3f, 0, 0, 0, 1, 0xff, 0xff, 0xff,
+            0xff, 7,
+        ],
+        "Big Micro 4294967295; 4294967295.999999000 4294967295 [7]",
+    ),
+    (
+        Order::Little,
+        Unit::Nano,
+        [
+            0x4d, 0x3c, 0xb2, 0xa1, 2, 0, 4, 0, 0, 0, 0, 0, 0, 0, 0, 0, 0xff, 0xff, 0xff, 0xff, 1,
+            0, 0, 0, 0xff, 0xff, 0xff, 0xff, 0xff, 0xc9, 0x9a, 0x3b, 1, 0, 0, 0, 0xff, 0xff, 0xff,
+            0xff, 7,
+        ],
+        "Little Nano 4294967295; 4294967295.999999999 4294967295 [7]",
+    ),
+    (
+        Order::Big,
+        Unit::Nano,
+        [
+            0xa1, 0xb2, 0x3c, 0x4d, 0, 2, 0, 4, 0, 0, 0, 0, 0, 0, 0, 0, 0xff, 0xff, 0xff, 0xff, 0,
+            0, 0, 1, 0xff, 0xff, 0xff, 0xff, 0x3b, 0x9a, 0xc9, 0xff, 0, 0, 0, 1, 0xff, 0xff, 0xff,
+            0xff, 7,
+        ],
+        "Big Nano 4294967295; 4294967295.999999999 4294967295 [7]",
+    ),
+];
+
+#[test]
+fn each_form_is_read_and_written_at_its_limits(rt: HostRuntime) -> Result<(), Fail> {
+    let packets = [(u32::MAX, 999_999_999, u32::MAX, [7].as_slice())];
+    for (order, unit, text, want) in GREATEST {
+        reads(&rt, &[&text], want)?;
+        let got = written(&rt, order, unit, u32::MAX, &packets)?;
+        assert_eq!(rt; got.as_slice(), text.as_slice());
+    }
+    Ok(())
 }
 
 #[test]
@@ -218,43 +275,33 @@ fn each_form_is_written_as_it_stands(rt: HostRuntime) -> Result<(), Fail> {
         0, 0, 1, 0x3b, 0x9a, 0xc9, 0xff, 0, 0, 0, 0, 0, 0, 0, 0x3c,
     ];
     reads(&rt, &[&big], "Big Nano 96; 1.999999999 60 []")?;
-    let packets = [(1, 999_999_999, 60)];
-    let text = written(rt.alloc(), Order::Big, Unit::Nano, 96, &packets)?;
+    let packets = [(1, 999_999_999, 60, [].as_slice())];
+    let text = written(&rt, Order::Big, Unit::Nano, 96, &packets)?;
     assert_eq!(rt; text.as_slice(), big.as_slice());
     // the same, little-endian with microseconds
     let little = [
         0xd4, 0xc3, 0xb2, 0xa1, 2, 0, 4, 0, 0, 0, 0, 0, 0, 0, 0, 0, 0x60, 0, 0, 0, 1, 0, 0, 0, 1,
         0, 0, 0, 0x3f, 0x42, 0x0f, 0, 0, 0, 0, 0, 0x3c, 0, 0, 0,
     ];
-    let text = written(rt.alloc(), Order::Little, Unit::Micro, 96, &packets)?;
+    let text = written(&rt, Order::Little, Unit::Micro, 96, &packets)?;
     assert_eq!(rt; text.as_slice(), little.as_slice());
     // five microseconds, as nanoseconds
     let nano = [
         0xa1, 0xb2, 0x3c, 0x4d, 0, 2, 0, 4, 0, 0, 0, 0, 0, 0, 0, 0, 0, 4, 0, 0, 0, 0, 0, 1, 0, 0,
         0, 1, 0, 0, 0x13, 0x88, 0, 0, 0, 0, 0, 0, 0, 0,
     ];
-    let text = written(
-        rt.alloc(),
-        Order::Big,
-        Unit::Nano,
-        262_144,
-        &[(1, 5_000, 0)],
-    )?;
+    let packets = [(1, 5_000, 0, [].as_slice())];
+    let text = written(&rt, Order::Big, Unit::Nano, 262_144, &packets)?;
     assert_eq!(rt; text.as_slice(), nano.as_slice());
-    // each field at its limits, in the two other forms
-    let limits = [(0, 0, 0), (u32::MAX, 999_999_999, u32::MAX)];
-    let text = written(rt.alloc(), Order::Big, Unit::Micro, u32::MAX, &limits)?;
-    let got = told(rt.alloc(), &text)?;
-    assert_eq!(rt;
-        got.as_str(),
-        "Big Micro 4294967295; 0.000000000 0 []; 4294967295.999999000 4294967295 []"
-    );
-    let text = written(rt.alloc(), Order::Little, Unit::Nano, 0, &limits)?;
-    let got = told(rt.alloc(), &text)?;
-    assert_eq!(rt;
-        got.as_str(),
-        "Little Nano 0; 0.000000000 0 []; 4294967295.999999999 4294967295 []"
-    );
+    // each field at zero
+    let zeros = [
+        0x4d, 0x3c, 0xb2, 0xa1, 2, 0, 4, 0, 0, 0, 0, 0, 0, 0, 0, 0, 0, 0, 0, 0, 1, 0, 0, 0, 0, 0,
+        0, 0, 0, 0, 0, 0, 0, 0, 0, 0, 0, 0, 0, 0,
+    ];
+    reads(&rt, &[&zeros], "Little Nano 0; 0.000000000 0 []")?;
+    let packets = [(0, 0, 0, [].as_slice())];
+    let text = written(&rt, Order::Little, Unit::Nano, 0, &packets)?;
+    assert_eq!(rt; text.as_slice(), zeros.as_slice());
     Ok(())
 }
 
@@ -278,7 +325,7 @@ impl Drip {
 impl Read for Drip {
     fn read(&mut self, to: &mut [u8]) -> io::Result<usize> {
         if self.fails_now() {
-            return Err(io::Error::from(io::ErrorKind::BrokenPipe));
+            return Err(io::Error::from(io::ErrorKind::Interrupted));
         }
         let left = self.bytes.get(self.place..).unwrap_or(&[]);
         let n = left.len().min(self.at_once).min(to.len());
@@ -291,7 +338,7 @@ impl Read for Drip {
 impl Write for Drip {
     fn write(&mut self, from: &[u8]) -> io::Result<usize> {
         if self.fails_now() {
-            return Err(io::Error::from(io::ErrorKind::BrokenPipe));
+            return Err(io::Error::from(io::ErrorKind::Interrupted));
         }
         let n = from.len().min(self.at_once);
         self.bytes.extend_from_slice(&from[..n])?;
@@ -341,6 +388,10 @@ fn a_failed_sink_has_what_was_sent(rt: HostRuntime) -> Result<(), Fail> {
     );
     assert_eq!(rt; opened, Err(Fault::Device));
     assert_eq!(rt; writer.sent(), 0);
+    // no byte taken of none is no failure
+    let mut sink = dripping(Vec::new(rt.alloc()), 5, 9);
+    assert_eq!(rt; sink.write(&[]), Ok(0));
+    assert_eq!(rt; sink.failures, 0);
     Ok(())
 }
 

@@ -77,6 +77,9 @@ fn record_header(order: Order, sec: u32, fraction: u32, captured: u32, len: u32)
 /// Until a device fault the sink took exactly the written text of the packets whose `put` answered Ok,
 /// and [`Writer::sent`] is its length. After one it took exactly `sent` bytes, a beginning of the written
 /// text of those packets and the one whose `put` answered [`Fault::Device`].
+///
+/// A packet is sent in two writes, its record's header and then its bytes. Where each write is a system
+/// call, give the writer a sink that gathers them.
 #[derive(Debug, Drop)]
 pub struct Writer<W> {
     sink: W,
@@ -87,7 +90,9 @@ pub struct Writer<W> {
 }
 
 impl<W: Sink> Writer<W> {
-    /// Begins a savefile: writes its header. After [`Fault::Device`] the writer has failed.
+    /// Begins a savefile: writes its header. [`Fault::Device`] comes exactly where the sink failed in
+    /// this call. Then the sink took exactly [`Writer::sent`] bytes, a beginning of the header, and the
+    /// writer has failed.
     pub fn open(sink: W, order: Order, unit: Unit, snap: u32) -> (Writer<W>, Result<(), Fault>)
         ensures ok { OnOk result.1 (HasWritten W.taken (W.taken sink) order unit snap [] result.0) }
         ensures err { OnErr result.1 (BrokeOff W.taken (W.taken sink) order unit snap [] result.0) }
@@ -143,6 +148,7 @@ impl<W: Sink> Writer<W> {
 
     /// Writes one packet: its time, its length on the wire, and the bytes that were captured of it.
     ///
+    /// `nanos` is below 1,000,000,000, and `bytes` has at most 262,144 bytes.
     /// With microseconds the nanoseconds are divided by 1,000 and the rest is dropped.
     /// [`Fault::Device`] comes exactly where the sink failed in this call; from then on the writer has
     /// failed, and every `put` answers [`Fault::Failed`] and does nothing. [`Fault::CountFull`] comes
