@@ -13,10 +13,10 @@ pub enum Fault {
     /// No token begins with this byte.
     #[error("BadByte {0}")]
     BadByte(usize),
-    /// A word that the language has not.
+    /// A word that the language has not, or a name behind a backslash; the place of that is the backslash.
     #[error("BadWord {0}")]
     BadWord(usize),
-    /// A number or dotted address that is misspelled or too great.
+    /// A number or dotted address that is misspelled or too great, at its first digit.
     #[error("BadNumber {0}")]
     BadNumber(usize),
     /// A token, or the end of the text, with which no expression can go on.
@@ -37,7 +37,7 @@ pub enum Fault {
     /// A number out of its range.
     #[error("OutOfRange {0}")]
     OutOfRange(usize),
-    /// A divisor that is the literal 0 or a named value 0.
+    /// A divisor that is the literal 0 or a named value 0, in parentheses or not.
     #[error("DivideByZero {0}")]
     DivideByZero(usize),
     /// More than 64 signs open within one another.

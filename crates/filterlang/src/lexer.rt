@@ -122,7 +122,8 @@ fn tokens_of(alloc: Global, text: &[u8]) -> Result<Vec<Token>, Fault>
     }
 }
 
-/// The tokens of a filter expression.
+/// The tokens of a filter expression, as pcap-filter(7) spells words, numbers and addresses, in the profile of this
+/// project: what each token is, with its span in bytes. The spans are in order.
 ///
 /// `TextTooLong` comes exactly where the text has more than 8,192 bytes. Of every other text the first place
 /// where no token begins, if there is one, is named with its cause: `BadByte`, `BadWord` or `BadNumber`. Else
@@ -135,7 +136,7 @@ pub fn lex(alloc: Global, text: &str) -> Result<Vec<Token>, Fault>
 
     // A fault says what is wrong with the text, and what is wrong is said, unless memory was refused.
     ensures fault { IfErr result (IsFaultOf text.now) }
-    ensures too_long { IsErrOf result Fault.TextTooLong ↔ (MAX_TEXT < length text.now) }
+    ensures too_long { IsErrOf result Fault.TextTooLong ↔ (8192 < length text.now) }
     ensures lexed { (tokens : List Token) → length text.now ≤ MAX_TEXT → Lexes text.now 0 tokens →
         IsOkUnless result Fault.NoMemory }
     ensures named { (cause : Cause) (place : ℕ) → length text.now ≤ MAX_TEXT → Stuck text.now 0 cause place →
