@@ -5,3 +5,4 @@ pub mod Runs
 pub mod Within
 pub mod Lexing
 pub mod Signs
+pub mod GrammarExamples

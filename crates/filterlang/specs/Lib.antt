@@ -4,3 +4,4 @@ pub mod Tokens
 pub mod Qualifiers
 pub mod Phrases
 pub mod Primitives
+pub mod Grammar
