@@ -60,11 +60,11 @@ begins_relation (kind.Protocol p ∷ kind.OpenBracket ∷ ts) = true
 begins_relation _ = false
 
 abbrev pub only_protocol : Protocol → Phrase
-only_protocol protocol = record { protocol = Some protocol; direction = None; kind = None }
+only_protocol protocol = record { protocol = Some protocol; direction = None; type_word = None }
 
 -- a phrase that is not empty
 abbrev pub is_written : Phrase → Bool
-is_written phrase = is_some phrase.protocol || is_some phrase.direction || is_some phrase.kind
+is_written phrase = is_some phrase.protocol || is_some phrase.direction || is_some phrase.type_word
 
 -- a primitive that is no relation and has no group, and what it has to give
 pub data Prim : Option Qualifiers → List Kind → Primitive → Option Qualifiers → List Kind → Type 0 where
@@ -76,7 +76,7 @@ pub data Prim : Option Qualifiers → List Kind → Primitive → Option Qualifi
   prim_ip_multicast : {q : Option Qualifiers} {rest : List Kind} → Prim q (kind.Protocol protocols.Ip ∷ kind.Multicast ∷ rest) primitives.IpMulticast None rest
   prim_less : {q : Option Qualifiers} {rest : List Kind} {n : ℕ} → Prim q (kind.Less ∷ kind.Number n ∷ rest) (primitives.Less n) None rest
   prim_greater : {q : Option Qualifiers} {rest : List Kind} {n : ℕ} → Prim q (kind.Greater ∷ kind.Number n ∷ rest) (primitives.Greater n) None rest
-  prim_portrange : {q : Option Qualifiers} {ts rest : List Kind} {phrase : Phrase} {t : Option Transport} {a b : ℕ} {p : Primitive} → phrase_at ts ≡ (phrase, kind.PortRange ∷ kind.Number a ∷ kind.Operator Minus ∷ kind.Number b ∷ rest) → phrase.kind ≡ None → transport_of phrase.protocol ≡ Some t → ports_between t (unwrap_or phrase.direction SrcOrDst) a b ≡ Some p → Prim q ts p None rest
+  prim_portrange : {q : Option Qualifiers} {ts rest : List Kind} {phrase : Phrase} {t : Option Transport} {a b : ℕ} {p : Primitive} → phrase_at ts ≡ (phrase, kind.PortRange ∷ kind.Number a ∷ kind.Operator Minus ∷ kind.Number b ∷ rest) → phrase.type_word ≡ None → transport_of phrase.protocol ≡ Some t → ports_between t (unwrap_or phrase.direction SrcOrDst) a b ≡ Some p → Prim q ts p None rest
   prim_phrase : {q : Option Qualifiers} {ts mid rest : List Kind} {phrase : Phrase} {g : Qualifiers} {id : Identifier} {p : Primitive} → phrase_at ts ≡ (phrase, mid) → is_written phrase ≡ true → qualifiers_of phrase ≡ Some g → identifier_at mid ≡ Some (id, rest) → identified g id ≡ Some p → Prim q ts p (Some g) rest
   prim_inherited : {ts rest : List Kind} {g : Qualifiers} {id : Identifier} {p : Primitive} → begins_relation ts ≡ false → identifier_at ts ≡ Some (id, rest) → identified g id ≡ Some p → Prim (Some g) ts p (Some g) rest
 

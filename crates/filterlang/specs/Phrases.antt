@@ -57,7 +57,7 @@ phrase_at tokens =
     let protocol = protocol_at tokens in
     let direction = direction_at protocol.1 in
     let word = type_at direction.1 in
-    (record { protocol = protocol.0; direction = direction.0; kind = word.0 }, word.1)
+    (record { protocol = protocol.0; direction = direction.0; type_word = word.0 }, word.1)
 
 abbrev pub number_at : List Kind → Option (ℕ × List Kind)
 number_at (kind.Number n ∷ rest) = Some (n, rest)

@@ -49,7 +49,7 @@ allowed types.Proto protocol written direction = None
 
 -- without a type a host is meant, without a direction source or destination
 abbrev pub qualifiers_of : Phrase → Option Qualifiers
-qualifiers_of phrase = allowed (unwrap_or phrase.kind types.Host) phrase.protocol phrase.direction (unwrap_or phrase.direction SrcOrDst)
+qualifiers_of phrase = allowed (unwrap_or phrase.type_word types.Host) phrase.protocol phrase.direction (unwrap_or phrase.direction SrcOrDst)
 
 -- the mask of so many bits
 abbrev pub mask_of : ℕ → ℕ

@@ -102,11 +102,11 @@ pub fn phrase_at(tokens: &[Token]) -> (Phrase, &[Token])
 {
     let (protocol, rest) = protocol_at(tokens);
     let (direction, rest) = direction_at(rest);
-    let (kind, rest) = type_at(rest);
+    let (type_word, rest) = type_at(rest);
     let phrase = Phrase {
         protocol,
         direction,
-        kind,
+        type_word,
     };
     (phrase, rest)
 }

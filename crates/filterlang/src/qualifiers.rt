@@ -11,7 +11,7 @@ use crate::tree::{Direction, Network, Primitive, Transport};
 pub struct Phrase {
     pub protocol: Option<Protocol>,
     pub direction: Option<Direction>,
-    pub kind: Option<TypeWord>,
+    pub type_word: Option<TypeWord>,
 }
 
 /// Qualifiers that go together, with those that are not written filled in.
@@ -102,7 +102,7 @@ pub fn qualifiers_of(phrase: Phrase) -> Option<Qualifiers>
     ensures { result ≡ qualifiers_of phrase }
 {
     let direction = phrase.direction.unwrap_or(Direction::SrcOrDst);
-    match (phrase.kind.unwrap_or(TypeWord::Host), phrase.protocol) {
+    match (phrase.type_word.unwrap_or(TypeWord::Host), phrase.protocol) {
         (TypeWord::Host, Some(Protocol::Ether)) => Some(Qualifiers::EtherHost(direction)),
         (TypeWord::Host, protocol) => {
             let network = network_of(protocol)?;
