@@ -2,6 +2,7 @@
 use Rattle.std.proofs.Common.{◌≡◌, ◌==◌, ℕ, ◌+◌, ◌<◌, ◌≤◌, List, [], ◌∷◌, ◌++◌, Option, Some, None, length, take, drop, set, get_or, refl, sym, ap, ◌∙◌, arith, append_assoc, suc}
 use Rattle.std.specs.Prelude.{option_map, option_and_then}
 use Rattle.std.specs.List.{slice_split}
+use Rattle.std.proofs.lemmas.Bool.{ne_eqb}
 use Rattle.std.proofs.lemmas.List.{at_drop_more, at_drop_all, take_more_set, append-nil}
 use Rattle.std.proofs.Math.ListN.{length-set}
 use Rattle.filterlang.specs.Numbers.{octet, octets, ethernet, dotted}
@@ -74,32 +75,22 @@ module _ {base most mark : ℕ} {run numbers : List ℕ} {count turns : ℕ} (re
   pub read_all : turns ≡ length (parts_of mark run) → octets base most (parts_of mark run) ≡ Some (take count numbers)
   read_all over = read.so_far ∙ ap (onto (take count numbers)) (at_drop_all (octets base most) (parts_of mark run) count (omega (arith, read.each_turn))) ∙ ap Some (append-nil (take count numbers))
 
--- six numbers are wanted
-pub ethernet-short : (ns : List ℕ) → length ns < 6 → ethernet ns ≡ None
-ethernet-short [] h = refl
-ethernet-short (a ∷ []) h = refl
-ethernet-short (a ∷ b ∷ []) h = refl
-ethernet-short (a ∷ b ∷ c ∷ []) h = refl
-ethernet-short (a ∷ b ∷ c ∷ d ∷ []) h = refl
-ethernet-short (a ∷ b ∷ c ∷ d ∷ e ∷ []) h = refl
-ethernet-short (a ∷ b ∷ c ∷ d ∷ e ∷ f ∷ []) h = absurd (omega arith)
-ethernet-short (a ∷ b ∷ c ∷ d ∷ e ∷ f ∷ g ∷ ns) h = absurd (omega arith)
+-- more than six numbers are no address of either kind
+pub ethernet-long : (ns : List ℕ) → 6 < length ns → ethernet ns ≡ None
+ethernet-long ns h = rw (ne_eqb (length ns) 6 (λ e. omega arith)) refl
 
--- and more than six are no address of either kind
-pub too_many : (ns : List ℕ) → 6 < length ns → (ethernet ns ≡ None) × (dotted ns ≡ None)
-too_many [] h = absurd (omega arith)
-too_many (a ∷ []) h = absurd (omega arith)
-too_many (a ∷ b ∷ []) h = absurd (omega arith)
-too_many (a ∷ b ∷ c ∷ []) h = absurd (omega arith)
-too_many (a ∷ b ∷ c ∷ d ∷ []) h = absurd (omega arith)
-too_many (a ∷ b ∷ c ∷ d ∷ e ∷ []) h = absurd (omega arith)
-too_many (a ∷ b ∷ c ∷ d ∷ e ∷ f ∷ []) h = absurd (omega arith)
-too_many (a ∷ b ∷ c ∷ d ∷ e ∷ f ∷ g ∷ ns) h = (refl, refl)
+dotted-long : (ns : List ℕ) → 6 < length ns → dotted ns ≡ None
+dotted-long [] h = refl
+dotted-long (a ∷ []) h = refl
+dotted-long (a ∷ b ∷ []) h = absurd (omega arith)
+dotted-long (a ∷ b ∷ c ∷ []) h = absurd (omega arith)
+dotted-long (a ∷ b ∷ c ∷ d ∷ []) h = absurd (omega arith)
+dotted-long (a ∷ b ∷ c ∷ d ∷ e ∷ ns) h = refl
 
 pub no_ethernet : (o : Option (List ℕ)) → ((ns : List ℕ) → o ≡ Some ns → 6 < length ns) → option_and_then ethernet o ≡ None
 no_ethernet None long = refl
-no_ethernet (Some ns) long = (too_many ns (long ns refl)).0
+no_ethernet (Some ns) long = ethernet-long ns (long ns refl)
 
 pub no_dotted : (o : Option (List ℕ)) → ((ns : List ℕ) → o ≡ Some ns → 6 < length ns) → option_and_then dotted o ≡ None
 no_dotted None long = refl
-no_dotted (Some ns) long = (too_many ns (long ns refl)).1
+no_dotted (Some ns) long = dotted-long ns (long ns refl)

@@ -5,7 +5,7 @@ use Rattle.std.specs.List.{prefix_len, slice_split, onto_first}
 use Rattle.std.proofs.lemmas.List.Folds.{length-prefix_len}
 use Rattle.std.proofs.lemmas.List.Sums.{prefix_len-le-length}
 use Rattle.filterlang.specs.Numbers.{octet, octets, numeral, at_most, is_in_run, run_at, ethernet, ethernet_of, ethernet_at}
-use Rattle.filterlang.proofs.Octets.{length-octets, too_many}
+use Rattle.filterlang.proofs.Octets.{length-octets, ethernet-long}
 
 -- a front of a list has the front of its run
 pub prefix_len-take : {X : Type 0} (p : X → Bool) (n : ℕ) (xs : List X) → prefix_len p (take n xs) ≡ min n (prefix_len p xs)
@@ -60,7 +60,7 @@ ethernet_of-long run long = at_octets (octets 16 2 (slice_split (λ b. b == 58) 
     at_octets (Some ns) e =
         let parts = length-octets 16 2 (slice_split (λ b. b == 58) run) ns e in
         let marks = with_marks-octets (slice_split (λ b. b == 58) run) ns e in
-        (too_many ns (omega (arith, parts, marks, with_marks-split (λ b. b == 58) run))).0
+        ethernet-long ns (omega (arith, parts, marks, with_marks-split (λ b. b == 58) run))
 
 -- the run of a front of 18 bytes
 run_in_front : (text : List ℕ) (m n : ℕ) → m ≡ min (length text) 18 → n ≡ prefix_len (is_in_run 58) (take m text) → n ≡ min 18 (prefix_len (is_in_run 58) text)

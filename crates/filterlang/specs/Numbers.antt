@@ -1,7 +1,7 @@
 -- Numbers and addresses, as pcap-filter(7) spells them.
 use Rattle.std.specs.Prelude.{ℕ, ◌+◌, ◌*◌, Bool, ◌||◌, ◌==◌, nat_le, nat_eq, if◌then◌else◌, List, [], ◌∷◌, Option, Some, None, length, drop, option_map, option_and_then, codes}
 use Rattle.std.specs.Char.{is_ascii_alphanumeric, is_digit, digit_value}
-use Rattle.std.specs.Int.{w32, w64, from_be_bytes}
+use Rattle.std.specs.Int.{w32, from_be_bytes}
 use Rattle.std.specs.List.{take_while, slice_split, list_any, starts_with}
 use Rattle.filterlang.specs.declared.token.Kind.{Kind}
 use Rattle.filterlang.specs.declared.token.Kind.TheVariants.{Number, Dotted, Ethernet}
@@ -63,10 +63,9 @@ number_at text =
     let run = run_at 46 text in
     option_map (λ kind. (kind, length run)) (if list_any (λ b. b == 46) run then dotted_of run else option_map Number (number_of run))
 
--- six parts
+-- six numbers, which are the octets in network order
 abbrev pub ethernet : List ℕ → Option Kind
-ethernet (a ∷ b ∷ c ∷ d ∷ e ∷ f ∷ []) = Some (Ethernet (from_be_bytes w64 (0 ∷ 0 ∷ a ∷ b ∷ c ∷ d ∷ e ∷ f ∷ [])))
-ethernet _ = None
+ethernet numbers = if length numbers == 6 then Some (Ethernet (record { octets = numbers })) else None
 
 -- six groups of one or two hexadecimal digits with colons between them
 abbrev pub ethernet_of : List ℕ → Option Kind

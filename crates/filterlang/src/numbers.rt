@@ -3,7 +3,7 @@ ghost use Rattle.std.specs.List.{prefix_len, slice_split};
 ghost use Rattle.filterlang.specs.Numbers.{is_in_run, numeral, octet, octets, at_most, number_of, dotted_of, ethernet_of, number_at, ethernet_at};
 ghost use Rattle.filterlang.specs.Tokens.{HasBytes};
 
-use crate::token::{Kind, Parts};
+use crate::token::{EthernetAddress, Kind, Parts};
 
 /// How many bytes at the front of the text are letters, digits or this mark.
 fn run_length(text: &[u8], mark: u8) -> usize
@@ -100,14 +100,8 @@ fn dotted_of(run: &[u8]) -> Option<Kind>
 fn ethernet_of(run: &[u8]) -> Option<Kind>
     ensures { result ≡ ethernet_of run.now }
 {
-    let (numbers, count) = octets(run, b':', 16, 2)?;
-    match &numbers[..count] {
-        [a, b, c, d, e, f] => {
-            let address = u64::from_be_bytes([0, 0, *a, *b, *c, *d, *e, *f]);
-            Some(Kind::Ethernet(address))
-        }
-        _ => None,
-    }
+    let (octets, count) = octets(run, b':', 16, 2)?;
+    (count == 6).then_some(Kind::Ethernet(EthernetAddress { octets }))
 }
 
 /// The number or dotted address at the front of the text, and how many bytes it has.

@@ -3,7 +3,7 @@ ghost use Rattle.std.specs.Result.{result_ok};
 ghost use Rattle.filterlang.specs.Qualifiers.{network_of, transport_of, qualifiers_of, mask_of, bits_of, between, net_of, identified};
 ghost use Rattle.filterlang.specs.declared.qualifiers.Qualifiers.TheVariants.{Net, IpProto, EtherProto};
 
-use crate::token::{Parts, Protocol, TypeWord};
+use crate::token::{EthernetAddress, Parts, Protocol, TypeWord};
 use crate::tree::{Direction, Network, Primitive, Transport};
 
 /// The qualifiers before an identifier, as they are written.
@@ -53,7 +53,7 @@ pub enum Identifier {
         mask: u32,
         parts: Parts,
     },
-    Ethernet(u64),
+    Ethernet(EthernetAddress),
     Name(Protocol),
 }
 

@@ -3,13 +3,19 @@ use crate::lexer::lex;
 use crate::phrases::{identifier_at, phrase_at};
 use crate::primitives::{plain_of, ports_between, stands_alone};
 use crate::qualifiers::{identified, qualifiers_of};
-use crate::token::{Comparison, Joint, Kind, Operator, Parts, Protocol, Side, Token, TypeWord};
+use crate::token::{
+    Comparison, EthernetAddress, Joint, Kind, Operator, Parts, Protocol, Side, Token, TypeWord,
+};
 use crate::tree::{Direction, Network, Plain, Primitive, Transport};
 use std::test::Fail;
 
 const HOST: Kind = Kind::Type(TypeWord::Host);
 
 const EQUAL: Kind = Kind::Comparison(Comparison::Equal);
+
+const ZERO_TO_FIVE: EthernetAddress = EthernetAddress {
+    octets: [0, 1, 2, 3, 4, 5],
+};
 
 const TEXTS: [(&str, &[(Kind, usize, usize)]); 16] = [
     ("", &[]),
@@ -42,18 +48,39 @@ const TEXTS: [(&str, &[(Kind, usize, usize)]); 16] = [
             (Kind::Number(20), 15, 17),
         ],
     ),
-    ("0:1:2:3:4:5", &[(Kind::Ethernet(0x0001_0203_0405), 0, 11)]),
-    ("a:b:c:d:e:f", &[(Kind::Ethernet(0x0a0b_0c0d_0e0f), 0, 11)]),
+    ("0:1:2:3:4:5", &[(Kind::Ethernet(ZERO_TO_FIVE), 0, 11)]),
+    (
+        "a:b:c:d:e:f",
+        &[(
+            Kind::Ethernet(EthernetAddress {
+                octets: [0x0a, 0x0b, 0x0c, 0x0d, 0x0e, 0x0f],
+            }),
+            0,
+            11,
+        )],
+    ),
     (
         "00:1A:2b:3C:4d:fF",
-        &[(Kind::Ethernet(0x001a_2b3c_4dff), 0, 17)],
+        &[(
+            Kind::Ethernet(EthernetAddress {
+                octets: [0, 0x1a, 0x2b, 0x3c, 0x4d, 0xff],
+            }),
+            0,
+            17,
+        )],
     ),
     (
         "0:1:2:3:4:5:6",
         &[
             (Kind::Number(0), 0, 1),
             (Kind::Colon, 1, 2),
-            (Kind::Ethernet(0x0102_0304_0506), 2, 13),
+            (
+                Kind::Ethernet(EthernetAddress {
+                    octets: [1, 2, 3, 4, 5, 6],
+                }),
+                2,
+                13,
+            ),
         ],
     ),
     (
@@ -70,7 +97,7 @@ const TEXTS: [(&str, &[(Kind, usize, usize)]); 16] = [
         &[
             (Kind::Protocol(Protocol::Ether), 0, 5),
             (HOST, 6, 10),
-            (Kind::Ethernet(0x0001_0203_0405), 11, 22),
+            (Kind::Ethernet(ZERO_TO_FIVE), 11, 22),
             (Kind::Close, 22, 23),
         ],
     ),
@@ -484,7 +511,7 @@ const PRIMITIVES: [(&str, Option<Primitive>); 32] = [
         "ether host 0:1:2:3:4:5",
         Some(Primitive::EtherHost {
             direction: Direction::SrcOrDst,
-            address: 0x0001_0203_0405,
+            address: ZERO_TO_FIVE,
         }),
     ),
     ("host 0:1:2:3:4:5", None),

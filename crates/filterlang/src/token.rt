@@ -66,6 +66,12 @@ pub enum Parts {
     Four,
 }
 
+/// An Ethernet address: its six octets in network order.
+#[derive(Clone, Copy, Debug, PartialEq, Eq)]
+pub struct EthernetAddress {
+    pub octets: [u8; 6],
+}
+
 /// What a token is, with its value read.
 #[derive(Clone, Copy, Debug, PartialEq, Eq)]
 pub enum Kind {
@@ -86,8 +92,7 @@ pub enum Kind {
     Number(u32),
     /// A dotted IPv4 address in network order; missing parts on the right are zero.
     Dotted { address: u32, parts: Parts },
-    /// An Ethernet address in network order, of 48 bits.
-    Ethernet(u64),
+    Ethernet(EthernetAddress),
     /// A name behind a backslash.
     Name(Protocol),
     Operator(Operator),

@@ -1,5 +1,7 @@
 //! What an expression means is told by its tree: here are the leaves.
 
+use crate::token::EthernetAddress;
+
 /// Which side of a packet an identifier is for.
 #[derive(Clone, Copy, Debug, PartialEq, Eq)]
 pub enum Direction {
@@ -49,10 +51,10 @@ pub enum Primitive {
         address: u32,
         mask: u32,
     },
-    /// An Ethernet host, by its address of 48 bits.
+    /// An Ethernet host, by its address.
     EtherHost {
         direction: Direction,
-        address: u64,
+        address: EthernetAddress,
     },
     /// A port, or a range of ports with both its ends in it.
     Ports {
