@@ -4,5 +4,5 @@ pub mod Octets
 pub mod Runs
 pub mod Within
 pub mod Lexing
-pub mod Signs
+pub mod Longest
 pub mod GrammarExamples

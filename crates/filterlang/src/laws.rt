@@ -6,7 +6,7 @@ ghost use Rattle.std.specs.List.{AllByRecursion};
 ghost use Rattle.filterlang.specs.declared.token.Kind.{Kind};
 ghost use Rattle.filterlang.specs.declared.token.Token.{Token};
 ghost use Rattle.filterlang.specs.declared.lexer.Cause.{Cause};
-ghost use Rattle.filterlang.specs.Words.{signs, stands, standing};
+ghost use Rattle.filterlang.specs.Words.{words, signs, stands, stands_whole, standing, whole_word};
 ghost use Rattle.filterlang.specs.Tokens.{Lexes, Stuck};
 
 /// A text has one list of tokens at most.
@@ -35,4 +35,11 @@ pub fn one_or_the_other()
 pub fn longest_sign()
     ensures { (text : List ℕ) (kind : Kind) (n : ℕ) → standing signs text ≡ Some (kind, n) →
         AllByRecursion (λ sign. stands text sign ≡ true → length sign.0 ≤ n) signs }
+{}
+
+/// No word that stands at the front of a text, with no letter or digit behind it, is longer than the one that
+/// is read there.
+pub fn longest_word()
+    ensures { (text : List ℕ) (kind : Kind) (n : ℕ) → whole_word words text ≡ Some (kind, n) →
+        AllByRecursion (λ word. stands_whole text word ≡ true → length word.0 ≤ n) words }
 {}

@@ -1,4 +1,4 @@
-use Rattle.filterlang.proofs.Signs.{longest_sign}
+use Rattle.filterlang.proofs.Longest.{longest_sign}
 use Rattle.filterlang.proofs.laws.longest_sign.Goals as goal
 
 pub returns : goal.returns
