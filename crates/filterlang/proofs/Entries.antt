@@ -12,10 +12,10 @@ found_test true e x y same = refl
 found_test false e x y same = sym same
 
 -- an entry is found in the plain table exactly where it's found in the code's
-found : (p : Entry → Bool) (table : List (Bor (List ℕ) × Kind)) → first_of p table ≡ option_map token_of (find p (entries_of table))
+found : (p : List ℕ → Bool) (table : List (Bor (List ℕ) × Kind)) → first_of p table ≡ option_map token_of (find (λ e. p e.0) (entries_of table))
 found p [] = refl
-found p (e ∷ table) = found_test (p (e.0.now, e.1)) e _ _ (sym (found p table))
+found p (e ∷ table) = found_test (p e.0.now) e _ _ (sym (found p table))
 
 -- the same, where the code's table spells a plain one
-pub found_in : (p : Entry → Bool) (table : List (Bor (List ℕ) × Kind)) (plain : List Entry) (r : Option (Kind × ℕ)) → r ≡ first_of p table → entries_of table ≡ plain → r ≡ option_map token_of (find p plain)
-found_in p table plain r is same = is ∙ found p table ∙ ap (λ t. option_map token_of (find p t)) same
+pub found_in : (p : List ℕ → Bool) (table : List (Bor (List ℕ) × Kind)) (plain : List Entry) (r : Option (Kind × ℕ)) → r ≡ first_of p table → entries_of table ≡ plain → r ≡ option_map token_of (find (λ e. p e.0) plain)
+found_in p table plain r is same = is ∙ found p table ∙ ap (λ t. option_map token_of (find (λ e. p e.0) t)) same

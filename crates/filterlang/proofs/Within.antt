@@ -40,14 +40,14 @@ found_passes p q (y ∷ table) x all e = at_test (p y) refl (both_true (q y) (li
 abbrev spells_something : Entry → Bool
 spells_something entry = nat_lt 0 (length entry.0)
 
-entry_within : (p : Entry → Bool) (table : List Entry) (text : List ℕ) → list_all spells_something table ≡ true → ((x : Entry) → p x ≡ true → stands text x ≡ true) → IfSome (option_map token_of (find p table)) (λ t. HasBytes t.1 (length text))
-entry_within p table text all stands_there = at_found (find p table) refl
+entry_within : (p : List ℕ → Bool) (table : List Entry) (text : List ℕ) → list_all spells_something table ≡ true → ((spelling : List ℕ) → p spelling ≡ true → stands text spelling ≡ true) → IfSome (option_map token_of (find (λ e. p e.0) table)) (λ t. HasBytes t.1 (length text))
+entry_within p table text all stands_there = at_found (find (λ e. p e.0) table) refl
   where
-    at_found : (o : Option Entry) → find p table ≡ o → IfSome (option_map token_of o) (λ t. HasBytes t.1 (length text))
+    at_found : (o : Option Entry) → find (λ e. p e.0) table ≡ o → IfSome (option_map token_of o) (λ t. HasBytes t.1 (length text))
     at_found None e = tt
     at_found (Some x) e =
-        let passes = found_passes p spells_something table x all e in
-        (ltb-true 0 (length x.0) passes.1, length-starts_with text x.0 (stands_there x passes.0))
+        let passes = found_passes (λ y. p y.0) spells_something table x all e in
+        (ltb-true 0 (length x.0) passes.1, length-starts_with text x.0 (stands_there x.0 passes.0))
 
 pub word_within : (text : List ℕ) → IfSome (whole_word words text) (λ t. HasBytes t.1 (length text))
 unfolding words

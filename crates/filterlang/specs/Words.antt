@@ -29,26 +29,26 @@ abbrev pub begins : (ℕ → Bool) → List ℕ → Bool
 begins class [] = false
 begins class (b ∷ bs) = class b
 
--- the entry stands at the front of the text
-abbrev pub stands : List ℕ → Entry → Bool
-stands text entry = starts_with nat_eq text entry.0
+-- the spelling stands at the front of the text
+abbrev pub stands : List ℕ → List ℕ → Bool
+stands text spelling = starts_with nat_eq text spelling
 
 -- the same, and no letter or digit follows it
-abbrev pub stands_whole : List ℕ → Entry → Bool
-stands_whole text entry = stands text entry && not (begins is_ascii_alphanumeric (drop (length entry.0) text))
+abbrev pub stands_whole : List ℕ → List ℕ → Bool
+stands_whole text spelling = stands text spelling && not (begins is_ascii_alphanumeric (drop (length spelling) text))
 
 -- what an entry stands for, and how many bytes it has
 abbrev pub token_of : Entry → Kind × ℕ
 token_of entry = (entry.1, length entry.0)
 
--- the first entry of a table that passes a test
-abbrev pub first_of : (Entry → Bool) → List (Bor (List ℕ) × Kind) → Option (Kind × ℕ)
-first_of test table = option_map (λ e. (e.1, length e.0.now)) (find (λ e. test (e.0.now, e.1)) table)
+-- the first entry of a table whose spelling passes a test
+abbrev pub first_of : (List ℕ → Bool) → List (Bor (List ℕ) × Kind) → Option (Kind × ℕ)
+first_of test table = option_map (λ e. (e.1, length e.0.now)) (find (λ e. test e.0.now) table)
 
 -- the first word of a table that stands whole at the front of the text
 abbrev pub whole_word : List Entry → List ℕ → Option (Kind × ℕ)
-whole_word table text = option_map token_of (find (stands_whole text) table)
+whole_word table text = option_map token_of (find (λ entry. stands_whole text entry.0) table)
 
 -- the first entry of a table that stands at the front of the text
 abbrev pub standing : List Entry → List ℕ → Option (Kind × ℕ)
-standing table text = option_map token_of (find (stands text) table)
+standing table text = option_map token_of (find (λ entry. stands text entry.0) table)

@@ -34,12 +34,12 @@ pub fn one_or_the_other()
 /// No sign that stands at the front of a text is longer than the one that is read there.
 pub fn longest_sign()
     ensures { (text : List ℕ) (kind : Kind) (n : ℕ) → standing signs text ≡ Some (kind, n) →
-        AllByRecursion (λ sign. stands text sign ≡ true → length sign.0 ≤ n) signs }
+        AllByRecursion (λ sign. stands text sign.0 ≡ true → length sign.0 ≤ n) signs }
 {}
 
 /// No word that stands at the front of a text, with no letter or digit behind it, is longer than the one that
 /// is read there.
 pub fn longest_word()
     ensures { (text : List ℕ) (kind : Kind) (n : ℕ) → whole_word words text ≡ Some (kind, n) →
-        AllByRecursion (λ word. stands_whole text word ≡ true → length word.0 ≤ n) words }
+        AllByRecursion (λ word. stands_whole text word.0 ≡ true → length word.0 ≤ n) words }
 {}

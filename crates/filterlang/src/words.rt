@@ -84,8 +84,8 @@ pub const SIGNS: [(&[u8], Kind); 23] = [
 ];
 
 /// Whether a word stands at the front of the text with no letter or digit behind it.
-fn stands_whole(text: &[u8], word: &[u8], kind: Kind) -> bool
-    ensures { result ≡ stands_whole text.now (word.now, kind) }
+fn stands_whole(text: &[u8], word: &[u8]) -> bool
+    ensures { result ≡ stands_whole text.now word.now }
 {
     text.starts_with(word)
         && !text[word.len()..]
@@ -97,9 +97,7 @@ fn stands_whole(text: &[u8], word: &[u8], kind: Kind) -> bool
 fn whole_word(table: &[(&[u8], Kind)], text: &[u8]) -> Option<(Kind, usize)>
     ensures { result ≡ first_of (stands_whole text.now) table.now }
 {
-    let (word, kind) = table
-        .iter()
-        .find(|entry| stands_whole(text, entry.0, entry.1))?;
+    let (word, kind) = table.iter().find(|entry| stands_whole(text, entry.0))?;
     Some((*kind, word.len()))
 }
 
