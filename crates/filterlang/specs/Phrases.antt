@@ -63,6 +63,10 @@ abbrev pub number_at : List Kind → Option (ℕ × List Kind)
 number_at (kind.Number n ∷ rest) = Some (n, rest)
 number_at rest = None
 
+abbrev pub address_at : List Kind → Option (ℕ × Parts × List Kind)
+address_at (kind.Dotted address parts ∷ rest) = Some (address, parts, rest)
+address_at rest = None
+
 -- a dotted address goes on with `/` and a number, with `mask` and another one, or not at all
 abbrev pub dotted_at : ℕ → Parts → List Kind → Option (Identifier × List Kind)
 dotted_at address parts (kind.Operator Divide ∷ kind.Number bits ∷ rest) = Some (ids.Prefix address bits, rest)

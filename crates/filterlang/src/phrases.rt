@@ -1,6 +1,6 @@
 ghost use Rattle.std.specs.Prelude.{◌≡◌, option_map};
 ghost use Rattle.std.specs.Result.{result_ok};
-ghost use Rattle.filterlang.specs.Phrases.{kinds, protocol_at, direction_at, type_at, joined, phrase_at, number_at, dotted_at, identifier_at};
+ghost use Rattle.filterlang.specs.Phrases.{kinds, protocol_at, direction_at, type_at, joined, phrase_at, number_at, address_at, dotted_at, identifier_at};
 
 use crate::qualifiers::{Identifier, Phrase};
 use crate::token::{Joint, Kind, Operator, Parts, Protocol, Side, Token, TypeWord};
@@ -127,6 +127,23 @@ pub fn number_at(tokens: &[Token]) -> Result<(u32, &[Token]), &[Token]>
     }
 }
 
+/// The dotted address at the front with its parts and what follows, or the place where there is none.
+fn address_at(tokens: &[Token]) -> Result<(u32, Parts, &[Token]), &[Token]>
+    ensures { address_at (kinds tokens.now)
+        ≡ option_map (λ found. (found.0, found.1, kinds found.2.now)) (result_ok result) }
+{
+    match tokens {
+        [
+            Token {
+                kind: Kind::Dotted { address, parts },
+                ..
+            },
+            rest @ ..,
+        ] => Ok((*address, *parts, rest)),
+        _ => Err(tokens),
+    }
+}
+
 /// What stands behind a dotted address in its identifier, and what follows; or the place where it breaks off.
 fn dotted_at(
     address: u32,
@@ -153,29 +170,17 @@ fn dotted_at(
                 ..
             },
             rest @ ..,
-        ] => match rest {
-            [
-                Token {
-                    kind: Kind::Dotted {
-                        address: mask,
-                        parts,
-                    },
-                    ..
+        ] => {
+            let (mask, parts, rest) = address_at(rest)?;
+            Ok((
+                Identifier::Masked {
+                    address,
+                    mask,
+                    parts,
                 },
-                rest @ ..,
-            ] => {
-                let (mask, parts) = (*mask, *parts);
-                Ok((
-                    Identifier::Masked {
-                        address,
-                        mask,
-                        parts,
-                    },
-                    rest,
-                ))
-            }
-            _ => Err(rest),
-        },
+                rest,
+            ))
+        }
         _ => Ok((Identifier::Dotted { address, parts }, tokens)),
     }
 }
