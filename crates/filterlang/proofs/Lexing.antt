@@ -74,9 +74,6 @@ pub record LexedTo (text : List ℕ) (xs : List Token) (at : ℕ) : Type 0 where
   pub lexes_on : (more : List Token) → Lexes text at more → Lexes text 0 (xs ++ more)
   pub stuck_on : (cause : Cause) (place : ℕ) → Stuck text at cause place → Stuck text 0 cause place
 
-pub lexed_none : (text : List ℕ) → LexedTo text [] 0
-lexed_none text = record { within = omega arith; lexes_on = λ more r. r; stuck_on = λ cause place r. r }
-
 module _ {text : List ℕ} {xs : List Token} {at : ℕ} (so_far : LexedTo text xs at) where
   pub lexed_blank : front (drop at text) ≡ fronts.Blank → LexedTo text xs (at + 1)
   lexed_blank e = record {

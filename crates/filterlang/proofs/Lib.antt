@@ -6,3 +6,11 @@ pub mod Within
 pub mod Lexing
 pub mod Longest
 pub mod GrammarExamples
+pub mod Steps
+pub mod Starts
+pub mod Sound
+pub mod Shorter
+pub mod Chains
+pub mod Complete
+pub mod Turns
+pub mod Answered

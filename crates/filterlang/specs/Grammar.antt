@@ -19,17 +19,10 @@ use Rattle.filterlang.specs.declared.tree.Direction.TheVariants.{SrcOrDst}
 use Rattle.filterlang.specs.declared.qualifiers.Phrase.{Phrase}
 use Rattle.filterlang.specs.declared.qualifiers.Qualifiers.{Qualifiers}
 use Rattle.filterlang.specs.declared.qualifiers.Identifier.{Identifier}
+use Rattle.filterlang.specs.Trees.{Tree, everything, test, negation, both, either}
 use Rattle.filterlang.specs.Phrases.{phrase_at, identifier_at}
 use Rattle.filterlang.specs.Primitives.{plain_of, stands_alone, ports_between}
 use Rattle.filterlang.specs.Qualifiers.{qualifiers_of, identified, transport_of}
-
--- what an expression means, without where it lies in memory
-pub data Tree : Type 0 where
-  everything : Tree
-  test : Primitive → Tree
-  negation : Tree → Tree
-  both : Tree → Tree → Tree
-  either : Tree → Tree → Tree
 
 -- an operator of arithmetic, or a comparison
 abbrev pub is_operator : Kind → Bool
@@ -40,6 +33,10 @@ is_operator _ = false
 abbrev pub operator_follows : List Kind → Bool
 operator_follows [] = false
 operator_follows (t ∷ ts) = is_operator t
+
+abbrev pub bracket_follows : List Kind → Bool
+bracket_follows (kind.OpenBracket ∷ ts) = true
+bracket_follows _ = false
 
 -- what stands behind the `)` that matches, so many `(` being open besides; nothing where none does
 abbrev pub after_matching : ℕ → List Kind → List Kind
@@ -56,7 +53,7 @@ begins_relation (kind.Number n ∷ ts) = operator_follows ts
 begins_relation (kind.Operator Minus ∷ ts) = true
 begins_relation (kind.Len ∷ ts) = true
 begins_relation (kind.Named n ∷ ts) = true
-begins_relation (kind.Protocol p ∷ kind.OpenBracket ∷ ts) = true
+begins_relation (kind.Protocol p ∷ ts) = bracket_follows ts
 begins_relation _ = false
 
 abbrev pub only_protocol : Protocol → Phrase
@@ -76,9 +73,9 @@ pub data Prim : Option Qualifiers → List Kind → Primitive → Option Qualifi
   prim_ip_multicast : {q : Option Qualifiers} {rest : List Kind} → Prim q (kind.Protocol protocols.Ip ∷ kind.Multicast ∷ rest) primitives.IpMulticast None rest
   prim_less : {q : Option Qualifiers} {rest : List Kind} {n : ℕ} → Prim q (kind.Less ∷ kind.Number n ∷ rest) (primitives.Less n) None rest
   prim_greater : {q : Option Qualifiers} {rest : List Kind} {n : ℕ} → Prim q (kind.Greater ∷ kind.Number n ∷ rest) (primitives.Greater n) None rest
-  prim_portrange : {q : Option Qualifiers} {ts rest : List Kind} {phrase : Phrase} {t : Option Transport} {a b : ℕ} {p : Primitive} → phrase_at ts ≡ (phrase, kind.PortRange ∷ kind.Number a ∷ kind.Operator Minus ∷ kind.Number b ∷ rest) → phrase.type_word ≡ None → transport_of phrase.protocol ≡ Some t → ports_between t (unwrap_or phrase.direction SrcOrDst) a b ≡ Some p → Prim q ts p None rest
   prim_phrase : {q : Option Qualifiers} {ts mid rest : List Kind} {phrase : Phrase} {g : Qualifiers} {id : Identifier} {p : Primitive} → phrase_at ts ≡ (phrase, mid) → is_written phrase ≡ true → qualifiers_of phrase ≡ Some g → identifier_at mid ≡ Some (id, rest) → identified g id ≡ Some p → Prim q ts p (Some g) rest
-  prim_inherited : {ts rest : List Kind} {g : Qualifiers} {id : Identifier} {p : Primitive} → begins_relation ts ≡ false → identifier_at ts ≡ Some (id, rest) → identified g id ≡ Some p → Prim (Some g) ts p (Some g) rest
+  prim_inherited : {ts rest : List Kind} {g : Qualifiers} {id : Identifier} {p : Primitive} → identifier_at ts ≡ Some (id, rest) → identified g id ≡ Some p → Prim (Some g) ts p (Some g) rest
+  prim_portrange : {q : Option Qualifiers} {ts rest : List Kind} {phrase : Phrase} {t : Option Transport} {a b : ℕ} {p : Primitive} → phrase_at ts ≡ (phrase, kind.PortRange ∷ kind.Number a ∷ kind.Operator Minus ∷ kind.Number b ∷ rest) → phrase.type_word ≡ None → transport_of phrase.protocol ≡ Some t → ports_between t (unwrap_or phrase.direction SrcOrDst) a b ≡ Some p → Prim q ts p None rest
 
 mutual
   -- identifiers under one phrase, which each of them takes
@@ -102,8 +99,8 @@ mutual
   pub data Term : ℕ → Option Qualifiers → List Kind → Tree → Option Qualifiers → List Kind → Type 0 where
     term_not : {n : ℕ} {q r : Option Qualifiers} {ts rest : List Kind} {t : Tree} → Term n q ts t r rest → Term (suc n) q (kind.Not ∷ ts) (negation t) r rest
     term_open : {n : ℕ} {q r : Option Qualifiers} {ts rest : List Kind} {t : Tree} → begins_relation (kind.Open ∷ ts) ≡ false → Expr n q ts t r (kind.Close ∷ rest) → Term (suc n) q (kind.Open ∷ ts) t r rest
-    term_prim : {n : ℕ} {q r : Option Qualifiers} {ts rest : List Kind} {p : Primitive} → Prim q ts p r rest → Term n q ts (test p) r rest
-    term_group : {n : ℕ} {q : Option Qualifiers} {ts mid rest : List Kind} {phrase : Phrase} {g : Qualifiers} {t : Tree} → phrase_at ts ≡ (phrase, kind.Open ∷ mid) → is_written phrase ≡ true → qualifiers_of phrase ≡ Some g → Group n g mid t (kind.Close ∷ rest) → Term (suc n) q ts t (Some g) rest
+    term_prim : {n : ℕ} {q r : Option Qualifiers} {ts rest : List Kind} {p : Primitive} → begins_relation ts ≡ false → Prim q ts p r rest → Term n q ts (test p) r rest
+    term_group : {n : ℕ} {q : Option Qualifiers} {ts mid rest : List Kind} {phrase : Phrase} {g : Qualifiers} {t : Tree} → begins_relation ts ≡ false → phrase_at ts ≡ (phrase, kind.Open ∷ mid) → is_written phrase ≡ true → qualifiers_of phrase ≡ Some g → Group n g mid t (kind.Close ∷ rest) → Term (suc n) q ts t (Some g) rest
 
 -- The tokens of a text read as this tree: nothing accepts all, else they are one expression.
 pub data Reads : List Kind → Tree → Type 0 where

@@ -4,4 +4,7 @@ pub mod Tokens
 pub mod Qualifiers
 pub mod Phrases
 pub mod Primitives
+pub mod Trees
 pub mod Grammar
+pub mod Reading
+pub mod Texts

@@ -8,6 +8,8 @@ ghost use Rattle.filterlang.specs.declared.token.Token.{Token};
 ghost use Rattle.filterlang.specs.declared.lexer.Cause.{Cause};
 ghost use Rattle.filterlang.specs.Words.{words, signs, stands, stands_whole, standing, whole_word};
 ghost use Rattle.filterlang.specs.Tokens.{Lexes, Stuck};
+ghost use Rattle.filterlang.specs.Trees.{Tree};
+ghost use Rattle.filterlang.specs.Grammar.{Reads};
 
 /// A text has one list of tokens at most.
 pub fn one_list_of_tokens()
@@ -42,4 +44,9 @@ pub fn longest_sign()
 pub fn longest_word()
     ensures { (text : List ℕ) (kind : Kind) (n : ℕ) → whole_word words text ≡ Some (kind, n) →
         AllByRecursion (λ word. stands_whole text word.0 ≡ true → length word.0 ≤ n) words }
+{}
+
+/// Tokens read as one tree at most.
+pub fn one_tree()
+    ensures { (tokens : List Kind) (t u : Tree) → Reads tokens t → Reads tokens u → t ≡ u }
 {}

@@ -1,21 +1,31 @@
 //! The filter language of pcap-filter(7), in this project's profile: a text's tokens with their places, and
-//! what a parser reads from their front.
+//! the tree of its one reading.
 #![tactic(auto)]
 
+mod cursor;
 pub mod fault;
+mod group;
 pub mod laws;
 pub mod lexer;
+mod lookahead;
 mod numbers;
+pub mod parser;
 mod phrases;
-pub mod primitives;
-pub mod qualifiers;
+mod primitives;
+mod qualifiers;
 pub mod token;
 pub mod tree;
 mod words;
 
 pub use fault::Fault;
 pub use lexer::{Cause, MAX_TEXT, lex};
-pub use token::{Kind, Span, Token};
+pub use parser::parse;
+pub use token::{EthernetAddress, Kind, Span, Token};
+pub use tree::{Direction, Expr, Network, Plain, Primitive, Transport};
 
+#[cfg(test)]
+mod parser_fault_tests;
+#[cfg(test)]
+mod parser_tests;
 #[cfg(test)]
 mod tests;

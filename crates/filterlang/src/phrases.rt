@@ -1,6 +1,7 @@
 ghost use Rattle.std.specs.Prelude.{◌≡◌, option_map};
 ghost use Rattle.std.specs.Result.{result_ok};
-ghost use Rattle.filterlang.specs.Phrases.{kinds, protocol_at, direction_at, type_at, joined, phrase_at, number_at, address_at, dotted_at, identifier_at};
+ghost use Rattle.filterlang.specs.Phrases.{kinds, protocol_at, direction_at, type_at, joined, phrase_at, bare_number_at, address_at, dotted_at, identifier_at, joint_at, minus_at, close_at, range_at};
+ghost use Rattle.filterlang.specs.Grammar.{is_written};
 
 use crate::qualifiers::{Identifier, Phrase};
 use crate::token::{Joint, Kind, Operator, Parts, Protocol, Side, Token, TypeWord};
@@ -97,7 +98,7 @@ fn direction_at(tokens: &[Token]) -> (Option<Direction>, &[Token])
 }
 
 /// The phrase at the front, as long as possible, and what follows.
-pub fn phrase_at(tokens: &[Token]) -> (Phrase, &[Token])
+pub(crate) fn phrase_at(tokens: &[Token]) -> (Phrase, &[Token])
     ensures { (result.0, kinds result.1.now) ≡ phrase_at (kinds tokens.now) }
 {
     let (protocol, rest) = protocol_at(tokens);
@@ -111,9 +112,16 @@ pub fn phrase_at(tokens: &[Token]) -> (Phrase, &[Token])
     (phrase, rest)
 }
 
+/// Whether a phrase has any word.
+pub(crate) fn is_written(phrase: Phrase) -> bool
+    ensures { result ≡ is_written phrase }
+{
+    phrase.protocol.is_some() || phrase.direction.is_some() || phrase.type_word.is_some()
+}
+
 /// The number at the front and what follows, or the place where there is none.
-pub fn number_at(tokens: &[Token]) -> Result<(u32, &[Token]), &[Token]>
-    ensures { number_at (kinds tokens.now) ≡ option_map (λ found. (found.0, kinds found.1.now)) (result_ok result) }
+pub(crate) fn bare_number_at(tokens: &[Token]) -> Result<(u32, &[Token]), &[Token]>
+    ensures { bare_number_at (kinds tokens.now) ≡ option_map (λ found. (found.0, kinds found.1.now)) (result_ok result) }
 {
     match tokens {
         [
@@ -161,7 +169,7 @@ fn dotted_at(
             },
             rest @ ..,
         ] => {
-            let (bits, rest) = number_at(rest)?;
+            let (bits, rest) = bare_number_at(rest)?;
             Ok((Identifier::Prefix { address, bits }, rest))
         }
         [
@@ -186,7 +194,7 @@ fn dotted_at(
 }
 
 /// The identifier at the front and what follows, or the place where it breaks off.
-pub fn identifier_at(tokens: &[Token]) -> Result<(Identifier, &[Token]), &[Token]>
+pub(crate) fn identifier_at(tokens: &[Token]) -> Result<(Identifier, &[Token]), &[Token]>
     ensures { identifier_at (kinds tokens.now)
         ≡ option_map (λ found. (found.0, kinds found.1.now)) (result_ok result) }
 {
@@ -220,5 +228,69 @@ pub fn identifier_at(tokens: &[Token]) -> Result<(Identifier, &[Token]), &[Token
             rest @ ..,
         ] => dotted_at(*address, *parts, rest),
         _ => Err(tokens),
+    }
+}
+
+/// The `and` or `or` at the front, if there is one, and what follows.
+pub(crate) fn joint_at(tokens: &[Token]) -> Option<(Joint, &[Token])>
+    ensures { option_map (λ found. (found.0, kinds found.1.now)) result ≡ joint_at (kinds tokens.now) }
+{
+    match tokens {
+        [
+            Token {
+                kind: Kind::Joint(joint),
+                ..
+            },
+            rest @ ..,
+        ] => Some((*joint, rest)),
+        _ => None,
+    }
+}
+
+/// What follows the `-` at the front, or the place where there is none.
+pub(crate) fn minus_at(tokens: &[Token]) -> Result<((), &[Token]), &[Token]>
+    ensures { minus_at (kinds tokens.now) ≡ option_map (λ found. (found.0, kinds found.1.now)) (result_ok result) }
+{
+    match tokens {
+        [
+            Token {
+                kind: Kind::Operator(Operator::Minus),
+                ..
+            },
+            rest @ ..,
+        ] => Ok(((), rest)),
+        _ => Err(tokens),
+    }
+}
+
+/// What follows the `)` at the front, or the place where there is none.
+pub(crate) fn close_at(tokens: &[Token]) -> Result<((), &[Token]), &[Token]>
+    ensures { close_at (kinds tokens.now) ≡ option_map (λ found. (found.0, kinds found.1.now)) (result_ok result) }
+{
+    match tokens {
+        [
+            Token {
+                kind: Kind::Close,
+                ..
+            },
+            rest @ ..,
+        ] => Ok(((), rest)),
+        _ => Err(tokens),
+    }
+}
+
+/// What follows `portrange` at the front, if that stands there behind a phrase without a type.
+pub(crate) fn range_at(phrase: Phrase, tokens: &[Token]) -> Option<&[Token]>
+    ensures { option_map (λ rest. kinds rest.now) result ≡ range_at phrase (kinds tokens.now) }
+{
+    match tokens {
+        [
+            Token {
+                kind: Kind::PortRange,
+                ..
+            },
+            rest @ ..,
+        ] if phrase.type_word.is_none() => Some(rest),
+        _ => None,
     }
 }

@@ -84,7 +84,7 @@ fn network_of(protocol: Option<Protocol>) -> Option<Option<Network>>
 }
 
 /// The protocol of a port, which may be missing.
-pub fn transport_of(protocol: Option<Protocol>) -> Option<Option<Transport>>
+pub(crate) fn transport_of(protocol: Option<Protocol>) -> Option<Option<Transport>>
     ensures { result ≡ transport_of protocol }
 {
     match protocol {
@@ -98,7 +98,7 @@ pub fn transport_of(protocol: Option<Protocol>) -> Option<Option<Transport>>
 
 /// The qualifiers of a phrase, where they go together. Without a direction source or destination is meant,
 /// without a type a host.
-pub fn qualifiers_of(phrase: Phrase) -> Option<Qualifiers>
+pub(crate) fn qualifiers_of(phrase: Phrase) -> Option<Qualifiers>
     ensures { result ≡ qualifiers_of phrase }
 {
     let direction = phrase.direction.unwrap_or(Direction::SrcOrDst);
@@ -148,7 +148,7 @@ fn bits_of(parts: Parts) -> u32
 }
 
 /// The number, where it is within these ends.
-pub fn between(low: u32, high: u32, n: u32) -> Result<u32, Misfit>
+pub(crate) fn between(low: u32, high: u32, n: u32) -> Result<u32, Misfit>
     ensures value { result_ok result ≡ between low high n }
     ensures within { IfOk result (λ m. (low ≤ m) × (m ≤ high)) }
 {
@@ -245,7 +245,7 @@ fn ether_proto_identified(id: Identifier) -> Result<Primitive, Misfit>
 }
 
 /// The test that an identifier gives under its qualifiers.
-pub fn identified(qualifiers: Qualifiers, id: Identifier) -> Result<Primitive, Misfit>
+pub(crate) fn identified(qualifiers: Qualifiers, id: Identifier) -> Result<Primitive, Misfit>
     ensures { result_ok result ≡ identified qualifiers id }
 {
     match (qualifiers, id) {

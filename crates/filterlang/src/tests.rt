@@ -1,7 +1,7 @@
 use crate::fault::Fault;
 use crate::lexer::lex;
 use crate::phrases::{identifier_at, phrase_at};
-use crate::primitives::{plain_of, ports_between, stands_alone};
+use crate::primitives::{plain_of, stands_alone};
 use crate::qualifiers::{identified, qualifiers_of};
 use crate::token::{
     Comparison, EthernetAddress, Joint, Kind, Operator, Parts, Protocol, Side, Token, TypeWord,
@@ -595,14 +595,5 @@ fn a_protocol_word_may_stand_alone(rt: HostRuntime) -> Result<(), Fail> {
     }
     assert_eq!(rt; plain_of(Protocol::Ether), None);
     assert_eq!(rt; plain_of(Protocol::Rarp), Some(Plain::Rarp));
-    let swapped = ports_between(Some(Transport::Tcp), Direction::Dst, 30, 20).ok();
-    let ports = Primitive::Ports {
-        transport: Some(Transport::Tcp),
-        direction: Direction::Dst,
-        low: 20,
-        high: 30,
-    };
-    assert_eq!(rt; swapped, Some(ports));
-    assert_eq!(rt; ports_between(None, Direction::Dst, 20, 65536).ok(), None);
     Ok(())
 }

@@ -1,6 +1,12 @@
-//! What an expression means is told by its tree: here are the leaves.
+//! What an expression means is told by its tree.
 
-use crate::token::EthernetAddress;
+ghost use Rattle.std.specs.Prelude.{Some};
+ghost use Rattle.filterlang.specs.Trees.{tree_of, negation};
+ghost use Rattle.filterlang.specs.Reading.{Gives, joined_by};
+
+use crate::fault::Fault;
+use crate::token::{EthernetAddress, Joint};
+use std::alloc::Global;
 
 /// Which side of a packet an identifier is for.
 #[derive(Clone, Copy, Debug, PartialEq, Eq)]
@@ -74,4 +80,34 @@ pub enum Primitive {
     Less(u32),
     /// A wire length of at least so many bytes.
     Greater(u32),
+}
+
+/// A filter expression as a tree. Parentheses leave no node.
+#[derive(Debug, PartialEq, Eq, Drop)]
+pub enum Expr {
+    /// The empty text, which accepts every packet.
+    Everything,
+    Test(Primitive),
+    Not(Box<Expr>),
+    And(Box<Expr>, Box<Expr>),
+    Or(Box<Expr>, Box<Expr>),
+}
+
+/// The expression that negates another.
+pub(crate) fn negated(alloc: Global, expr: Expr) -> Result<Expr, Fault>
+    ensures { Gives (λ e. tree_of e) result (Some (negation (tree_of expr))) }
+{
+    Ok(Expr::Not(Box::new(alloc, expr)?))
+}
+
+/// Two expressions and the word between them.
+pub(crate) fn joined(alloc: Global, joint: Joint, left: Expr, right: Expr) -> Result<Expr, Fault>
+    ensures { Gives (λ e. tree_of e) result (Some (joined_by joint (tree_of left) (tree_of right))) }
+{
+    let left = Box::new(alloc, left)?;
+    let right = Box::new(alloc, right)?;
+    match joint {
+        Joint::And => Ok(Expr::And(left, right)),
+        Joint::Or => Ok(Expr::Or(left, right)),
+    }
 }

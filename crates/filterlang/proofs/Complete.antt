@@ -1,0 +1,94 @@
+-- What the grammar has is what the reading function finds.
+use Rattle.std.proofs.Common.{◌≡◌, ℕ, zero, suc, false, List, [], ◌∷◌, length, Option, Some, None, refl, sym, ap, ◌∙◌}
+use Rattle.std.specs.Prelude.{if◌then◌else◌}
+use Rattle.std.proofs.lemmas.Option.{none-some}
+use Rattle.filterlang.specs.declared.token.Kind.{Kind}
+use Rattle.filterlang.specs.declared.token.Kind.TheVariants as kind
+use Rattle.filterlang.specs.declared.token.Joint.TheVariants.{And, Or}
+use Rattle.filterlang.specs.declared.tree.Primitive.{Primitive}
+use Rattle.filterlang.specs.declared.qualifiers.Qualifiers.{Qualifiers}
+use Rattle.filterlang.specs.declared.qualifiers.Identifier.{Identifier}
+use Rattle.filterlang.specs.declared.parser.Start.{Start}
+use Rattle.filterlang.specs.declared.parser.Start.TheVariants as starts
+use Rattle.filterlang.specs.Phrases.{identifier_at}
+use Rattle.filterlang.specs.Qualifiers.{identified}
+use Rattle.filterlang.specs.Trees.{Tree, test}
+use Rattle.filterlang.specs.Grammar.{begins_relation, Group, group_one, group_and, group_or, GroupTerm, group_not, group_open, group_id, Expr, expr_one, expr_and, expr_or, Term, term_not, term_open, term_prim, term_group, Reads, reads_nothing, reads_expr}
+use Rattle.filterlang.specs.Reading.{◌>>=◌, Reader, nothing, chain, negated, closed, identified_at, start_at, started, group_term_by, group_term_at, group_at, logical_by, term_by, term_at, expr_at, whole, text_at}
+use Rattle.filterlang.proofs.Chains.{term_turn, group_turn}
+use Rattle.filterlang.proofs.Starts.{IsIdentifier, is_number, is_ethernet, is_name, is_dotted, is_identifier, identified_complete, start_complete, group_start_complete, not_started, open_started, nothing_started}
+
+identifier_term : (inner : Reader Qualifiers) (g : Qualifiers) (ts : List Kind) → IsIdentifier ts → group_term_by inner g ts ≡ (identified_at g ts >>= λ p. Some (test p.0, g, p.1))
+identifier_term inner g ts is_number = refl
+identifier_term inner g ts is_ethernet = refl
+identifier_term inner g ts is_name = refl
+identifier_term inner g ts is_dotted = refl
+
+identifier_read : (n : ℕ) (g : Qualifiers) (ts rest : List Kind) (id : Identifier) (p : Primitive) → identifier_at ts ≡ Some (id, rest) → identified g id ≡ Some p → group_term_at n g ts ≡ Some (test p, g, rest)
+unfolding group_term_at
+identifier_read n g ts rest id p a b = at_level n
+  where
+    found : ◌≡◌ {A = Option (Tree × Qualifiers × List Kind)} (identified_at g ts >>= λ p. Some (test p.0, g, p.1)) (Some (test p, g, rest))
+    found = ap (λ o. o >>= λ x. Some (test x.0, g, x.1)) (identified_complete g ts rest id p a b)
+
+    at_level : (n : ℕ) → group_term_at n g ts ≡ Some (test p, g, rest)
+    at_level zero = identifier_term nothing g ts (is_identifier ts (id, rest) a) ∙ found
+    at_level (suc n) = identifier_term (group_term_at n) g ts (is_identifier ts (id, rest) a) ∙ found
+
+mutual
+  unfolding group_term_at
+
+  pub group_complete : {n : ℕ} {g : Qualifiers} {ts rest : List Kind} {t : Tree} → Group n g ts t rest → group_at n g ts ≡ chain (group_term_at n) (length rest) t g rest
+  group_complete (group_one {n = n} h) = ap (λ o. o >>= λ u. chain (group_term_at n) (length u.2) u.0 u.1 u.2) (group_term_complete h)
+  group_complete (group_and {n = n} {g = g} {mid = mid} {rest = rest} {t = t} {u = u} h k) = group_complete h ∙ group_turn n And t u g g mid rest (group_term_complete k)
+  group_complete (group_or {n = n} {g = g} {mid = mid} {rest = rest} {t = t} {u = u} h k) = group_complete h ∙ group_turn n Or t u g g mid rest (group_term_complete k)
+
+  pub group_term_complete : {n : ℕ} {g : Qualifiers} {ts rest : List Kind} {t : Tree} → GroupTerm n g ts t rest → group_term_at n g ts ≡ Some (t, g, rest)
+  group_term_complete (group_not h) = ap (λ o. negated o) (group_term_complete h)
+  group_term_complete (group_open h) = ap (λ o. closed o) (group_complete h)
+  group_term_complete (group_id {n = n} {g = g} {ts = ts} {rest = rest} {id = id} {p = p} a b) = identifier_read n g ts rest id p a b
+
+-- a term that begins no relation, behind what it begins with
+term_started : (inner : Reader (Option Qualifiers)) (group : Reader Qualifiers) (q : Option Qualifiers) (ts : List Kind) (s : Start × Option Qualifiers × List Kind) → begins_relation ts ≡ false → start_at q ts ≡ Some s → term_by inner group q ts ≡ started group s.0 s.1 s.2
+term_started inner group q ts s e f = ap (λ b. if b then None else logical_by inner group q ts) e ∙ at_tokens ts f
+  where
+    at_tokens : (ts : List Kind) → start_at q ts ≡ Some s → logical_by inner group q ts ≡ started group s.0 s.1 s.2
+    at_tokens (kind.Not ∷ ts) f = absurd (none-some s (sym (not_started q ts) ∙ f))
+    at_tokens (kind.Open ∷ ts) f = absurd (none-some s (sym (open_started q ts) ∙ f))
+    at_tokens ts f = ap (λ o. o >>= λ x. started group x.0 x.1 x.2) f
+
+primitive_read : (n : ℕ) (q r : Option Qualifiers) (ts rest : List Kind) (p : Primitive) → begins_relation ts ≡ false → start_at q ts ≡ Some (starts.Primitive p, r, rest) → term_at n q ts ≡ Some (test p, r, rest)
+unfolding term_at
+primitive_read zero q r ts rest p e f = term_started nothing nothing q ts (starts.Primitive p, r, rest) e f
+primitive_read (suc n) q r ts rest p e f = term_started (term_at n) (group_term_at n) q ts (starts.Primitive p, r, rest) e f
+
+mutual
+  unfolding term_at
+
+  pub expr_complete : {n : ℕ} {q r : Option Qualifiers} {ts rest : List Kind} {t : Tree} → Expr n q ts t r rest → expr_at n q ts ≡ chain (term_at n) (length rest) t r rest
+  expr_complete (expr_one {n = n} h) = ap (λ o. o >>= λ u. chain (term_at n) (length u.2) u.0 u.1 u.2) (term_complete h)
+  expr_complete (expr_and {n = n} {r = r} {s = s} {mid = mid} {rest = rest} {t = t} {u = u} h k) = expr_complete h ∙ term_turn n And t u r s mid rest (term_complete k)
+  expr_complete (expr_or {n = n} {r = r} {s = s} {mid = mid} {rest = rest} {t = t} {u = u} h k) = expr_complete h ∙ term_turn n Or t u r s mid rest (term_complete k)
+
+  pub term_complete : {n : ℕ} {q r : Option Qualifiers} {ts rest : List Kind} {t : Tree} → Term n q ts t r rest → term_at n q ts ≡ Some (t, r, rest)
+  term_complete (term_not h) = ap (λ o. negated o) (term_complete h)
+  term_complete (term_open {n = n} {q = q} {ts = ts} e h) = ap (λ b. if b then None else closed (expr_at n q ts)) e ∙ ap (λ o. closed o) (expr_complete h)
+  term_complete (term_prim {n = n} {q = q} {r = r} {ts = ts} {rest = rest} {p = p} e h) = primitive_read n q r ts rest p e (start_complete q ts p r rest h)
+  term_complete (term_group {n = n} {q = q} {ts = ts} {mid = mid} {phrase = phrase} {g = g} e a w f h) =
+      term_started (term_at n) (group_term_at n) q ts (starts.Group g, Some g, kind.Open ∷ mid) e (group_start_complete q ts mid phrase g a w f)
+      ∙ ap (λ o. closed o >>= λ u. Some (u.0, Some g, u.2)) (group_complete h)
+
+no_term : (n : ℕ) (q : Option Qualifiers) → term_at n q [] ≡ None
+unfolding term_at
+no_term zero q = ap (λ o. o >>= λ s. started nothing s.0 s.1 s.2) (nothing_started q)
+no_term (suc n) q = ap (λ o. o >>= λ s. started (group_term_at n) s.0 s.1 s.2) (nothing_started q)
+
+-- the grammar's tree is the one that is found
+pub text_complete : (ts : List Kind) (t : Tree) → Reads ts t → text_at ts ≡ Some t
+unfolding text_at
+text_complete ts t reads_nothing = refl
+text_complete ts t (reads_expr {r = r} h) = at_tokens ts (expr_complete h)
+  where
+    at_tokens : (ts : List Kind) → expr_at 64 None ts ≡ Some (t, r, []) → text_at ts ≡ Some t
+    at_tokens [] e = absurd (none-some (t, r, []) (sym (ap (λ o. o >>= λ u. chain (term_at 64) (length u.2) u.0 u.1 u.2) (no_term 64 None)) ∙ e))
+    at_tokens (k ∷ ts) e = ap (λ o. whole o) e

@@ -1,0 +1,196 @@
+-- Reading a filter expression from the front of a list of tokens, by a function: it finds the grammar's tree.
+--
+-- A reading is what was read, what can be inherited behind it, and the tokens that follow. There is none where
+-- nothing can be read.
+use Rattle.std.specs.Prelude.{◌≡◌, ◌⊎◌, ℕ, zero, suc, Bool, true, false, if◌then◌else◌, List, [], ◌∷◌, length, Option, Some, None, Result, Ok, Err, unwrap_or, min, max}
+use Rattle.filterlang.specs.declared.fault.Fault.{Fault}
+use Rattle.filterlang.specs.declared.fault.Fault.TheVariants as faults
+use Rattle.filterlang.specs.declared.token.Kind.{Kind}
+use Rattle.filterlang.specs.declared.token.Kind.TheVariants as kind
+use Rattle.filterlang.specs.declared.token.Joint.{Joint}
+use Rattle.filterlang.specs.declared.token.Joint.TheVariants.{And, Or}
+use Rattle.filterlang.specs.declared.tree.Primitive.{Primitive}
+use Rattle.filterlang.specs.declared.tree.Primitive.TheVariants as primitives
+use Rattle.filterlang.specs.declared.tree.Direction.TheVariants.{SrcOrDst}
+use Rattle.filterlang.specs.declared.lookahead.Beginning.{Beginning}
+use Rattle.filterlang.specs.declared.lookahead.Beginning.TheVariants as beginnings
+use Rattle.filterlang.specs.declared.qualifiers.Phrase.{Phrase}
+use Rattle.filterlang.specs.declared.qualifiers.Qualifiers.{Qualifiers}
+use Rattle.filterlang.specs.declared.parser.Start.{Start}
+use Rattle.filterlang.specs.declared.parser.Start.TheVariants as starts
+use Rattle.filterlang.specs.Phrases.{phrase_at, identifier_at, bare_number_at, minus_at, close_at, range_at}
+use Rattle.filterlang.specs.Primitives.{plain_at, unqualified_at}
+use Rattle.filterlang.specs.Qualifiers.{qualifiers_of, identified, transport_of, between}
+use Rattle.filterlang.specs.Trees.{Tree, everything, test, negation, both, either}
+use Rattle.filterlang.specs.Grammar.{begins_relation, is_written}
+
+infixl 10 ◌>>=◌
+abbrev pub ◌>>=◌ : {A B : Type 0} → Option A → (A → Option B) → Option B
+(Some x) >>= f = f x
+None >>= f = None
+
+-- the faults of texts that have tokens, but no tree
+abbrev pub is_misreading : Fault → Bool
+is_misreading (faults.Syntax place) = true
+is_misreading (faults.NoQualifier place) = true
+is_misreading (faults.BadQualifier place) = true
+is_misreading (faults.BadIdentifier place) = true
+is_misreading (faults.NetBits place) = true
+is_misreading (faults.OutOfRange place) = true
+is_misreading (faults.TooNested place) = true
+is_misreading _ = false
+
+-- What a call answered is what a reading gives: a value, seen by view, or none, unless memory was refused.
+abbrev pub Gives : {X Y : Type 0} → (X → Y) → Result X Fault → Option Y → Type 0
+Gives view (Ok x) read = read ≡ Some (view x)
+Gives view (Err e) read = (e ≡ faults.NoMemory) ⊎ ((is_misreading e ≡ true) × (read ≡ None))
+
+-- reads a tree, from what can be inherited before it
+abbrev pub Reader : Type 0 → Type 0
+Reader Q = Q → List Kind → Option (Tree × Q × List Kind)
+
+abbrev pub nothing : {Q : Type 0} → Reader Q
+nothing q tokens = None
+
+-- two trees and the word between them
+abbrev pub joined_by : Joint → Tree → Tree → Tree
+joined_by And t u = both t u
+joined_by Or t u = either t u
+
+-- Behind a first tree: as long as `and` or `or` follows, what is read there is joined to it from the left, at
+-- most so many times.
+abbrev pub chain : {Q : Type 0} → Reader Q → ℕ → Tree → Q → List Kind → Option (Tree × Q × List Kind)
+chain next (suc n) t q (kind.Joint joint ∷ tokens) = next q tokens >>= λ u. chain next n (joined_by joint t u.0) u.1 u.2
+chain next n t q tokens = Some (t, q, tokens)
+
+-- a first one, and all that are joined to it
+abbrev pub chained : {Q : Type 0} → Reader Q → Reader Q
+chained next q tokens = next q tokens >>= λ t. chain next (length t.2) t.0 t.1 t.2
+
+abbrev pub negated : {Q : Type 0} → Option (Tree × Q × List Kind) → Option (Tree × Q × List Kind)
+negated read = read >>= λ t. Some (negation t.0, t.1, t.2)
+
+-- what a `)` follows, and what is behind that
+abbrev pub closed : {Q : Type 0} → Option (Tree × Q × List Kind) → Option (Tree × Q × List Kind)
+closed read = read >>= λ t. close_at t.2 >>= λ behind. Some (t.0, t.1, behind.1)
+
+-- behind the sign at the front, one level less is left
+abbrev pub deeper : ℕ → List Kind → Option (ℕ × List Kind)
+deeper (suc n) (sign ∷ tokens) = Some (n, tokens)
+deeper n tokens = None
+
+abbrev pub beginning : List Kind → Beginning
+beginning (kind.Not ∷ tokens) = beginnings.Not
+beginning (kind.Open ∷ tokens) = beginnings.Parenthesis
+beginning tokens = beginnings.Primitive
+
+-- an identifier under these qualifiers
+unfoldable pub identified_at : Qualifiers → List Kind → Option (Primitive × List Kind)
+identified_at g tokens = identifier_at tokens >>= λ id. identified g id.0 >>= λ p. Some (p, id.1)
+
+abbrev pub port_at : List Kind → Option (ℕ × List Kind)
+port_at tokens = bare_number_at tokens >>= λ n. between 0 65535 n.0 >>= λ port. Some (port, n.1)
+
+-- two ports with a `-` between them, behind a phrase and portrange
+unfoldable pub portrange_at : Phrase → List Kind → Option (Primitive × List Kind)
+portrange_at phrase tokens =
+    transport_of phrase.protocol >>= λ transport.
+    port_at tokens >>= λ first.
+    minus_at first.1 >>= λ minus.
+    port_at minus.1 >>= λ second.
+    Some (primitives.Ports transport (unwrap_or phrase.direction SrcOrDst) (min first.0 second.0) (max first.0 second.0), second.1)
+
+-- what stands behind a phrase: the `(` of a group, which is not gone past, or an identifier
+abbrev pub under : Qualifiers → List Kind → Option (Start × List Kind)
+under g tokens =
+    elim (beginning tokens) [
+      | beginnings.Parenthesis ↦ Some (starts.Group g, tokens)
+      | beginnings.Not ↦ identified_at g tokens >>= λ p. Some (starts.Primitive p.0, p.1)
+      | beginnings.Primitive ↦ identified_at g tokens >>= λ p. Some (starts.Primitive p.0, p.1)
+    ]
+
+-- a primitive, or the phrase of a group, with what can be inherited behind it
+abbrev pub Starting : Type 0
+Starting = Option (Start × Option Qualifiers × List Kind)
+
+-- a primitive that has no qualifiers to give
+abbrev pub giving_none : Option (Primitive × List Kind) → Starting
+giving_none read = read >>= λ p. Some (starts.Primitive p.0, None, p.1)
+
+abbrev pub qualified_at : Phrase → List Kind → Starting
+qualified_at phrase tokens = qualifiers_of phrase >>= λ g. under g tokens >>= λ s. Some (s.0, Some g, s.1)
+
+-- an identifier without a phrase
+abbrev pub inherited_at : Option Qualifiers → List Kind → Starting
+inherited_at q tokens = q >>= λ g. identified_at g tokens >>= λ p. Some (starts.Primitive p.0, q, p.1)
+
+-- what begins with a phrase, which the rest follows, or with an identifier without one
+abbrev pub phrased_by : Option Qualifiers → List Kind → Phrase → List Kind → Starting
+phrased_by q tokens phrase rest =
+    elim (plain_at phrase rest) [
+      | Some plain ↦ Some (starts.Primitive (primitives.Protocol plain), None, rest)
+      | None ↦ elim (range_at phrase rest) [
+        | Some behind ↦ giving_none (portrange_at phrase behind)
+        | None ↦ if is_written phrase then qualified_at phrase rest else inherited_at q tokens
+      ]
+    ]
+
+unfoldable pub phrased_at : Option Qualifiers → List Kind → Starting
+phrased_at q tokens = phrased_by q tokens (phrase_at tokens).0 (phrase_at tokens).1
+
+-- what a term begins with that is neither negated nor in parentheses
+unfoldable pub start_at : Option Qualifiers → List Kind → Starting
+start_at q tokens = unqualified_at tokens >>= λ found. elim found [ Some p ↦ giving_none (Some p) | None ↦ phrased_at q tokens ]
+
+-- a term of a group, by a reader of what lies a level deeper
+abbrev pub group_term_by : Reader Qualifiers → Reader Qualifiers
+group_term_by inner g (kind.Not ∷ tokens) = negated (inner g tokens)
+group_term_by inner g (kind.Open ∷ tokens) = closed (chained inner g tokens)
+group_term_by inner g tokens = identified_at g tokens >>= λ p. Some (test p.0, g, p.1)
+
+unfoldable pub group_term_at : ℕ → Reader Qualifiers
+group_term_at zero = group_term_by nothing
+group_term_at (suc n) = group_term_by (group_term_at n)
+
+-- identifiers under one phrase
+abbrev pub group_at : ℕ → Reader Qualifiers
+group_at n = chained (group_term_at n)
+
+-- a primitive, or the group behind its phrase
+abbrev pub started : Reader Qualifiers → Start → Reader (Option Qualifiers)
+started group (starts.Primitive p) q tokens = Some (test p, q, tokens)
+started group (starts.Group g) q (sign ∷ tokens) = closed (chained group g tokens) >>= λ t. Some (t.0, q, t.2)
+started group (starts.Group g) q [] = None
+
+-- a term that is no relation, by readers of what lies a level deeper
+abbrev pub logical_by : Reader (Option Qualifiers) → Reader Qualifiers → Reader (Option Qualifiers)
+logical_by inner group q (kind.Not ∷ tokens) = negated (inner q tokens)
+logical_by inner group q (kind.Open ∷ tokens) = closed (chained inner q tokens)
+logical_by inner group q tokens = start_at q tokens >>= λ s. started group s.0 s.1 s.2
+
+abbrev pub term_by : Reader (Option Qualifiers) → Reader Qualifiers → Reader (Option Qualifiers)
+term_by inner group q tokens = if begins_relation tokens then None else logical_by inner group q tokens
+
+unfoldable pub term_at : ℕ → Reader (Option Qualifiers)
+term_at zero = term_by nothing nothing
+term_at (suc n) = term_by (term_at n) (group_term_at n)
+
+unfoldable pub logical_at : ℕ → Reader (Option Qualifiers)
+logical_at zero = logical_by nothing nothing
+logical_at (suc n) = logical_by (term_at n) (group_term_at n)
+
+-- terms joined by `and` and `or`
+abbrev pub expr_at : ℕ → Reader (Option Qualifiers)
+expr_at n = chained (term_at n)
+
+-- all of the tokens
+abbrev pub whole : Option (Tree × Option Qualifiers × List Kind) → Option Tree
+whole read = read >>= λ t. ended t.0 t.2
+  where
+    ended : Tree → List Kind → Option Tree
+    ended t [] = Some t
+    ended t (_ ∷ _) = None
+
+unfoldable pub text_at : List Kind → Option Tree
+text_at [] = Some everything
+text_at tokens = whole (expr_at 64 None tokens)

@@ -1,0 +1,162 @@
+//! The tokens of a text, read from the left.
+
+ghost use Rattle.std.specs.Prelude.{◌≡◌, List, true, option_map};
+ghost use Rattle.std.specs.Result.{result_ok};
+ghost use Rattle.filterlang.specs.declared.token.Kind.{Kind};
+ghost use Rattle.filterlang.specs.Phrases.{kinds, close_at};
+ghost use Rattle.filterlang.specs.Reading.{Gives, is_misreading, port_at, portrange_at, deeper, identified_at};
+
+use crate::fault::Fault;
+use crate::phrases::{bare_number_at, close_at, identifier_at, minus_at};
+use crate::qualifiers::{
+    Identifier, Misfit, Phrase, Qualifiers, between, identified, transport_of,
+};
+use crate::token::{Kind, Token};
+use crate::tree::{Direction, Primitive};
+
+/// The tokens of a text that are still to be read.
+#[derive(Drop)]
+pub(crate) struct Cursor<'a> {
+    pub rest: &'a [Token],
+    /// The text's length in bytes: the place of a fault at its end.
+    pub end: usize,
+}
+
+impl<'a> Cursor<'a> {
+    /// Where these tokens begin, which are the last ones of the text.
+    pub fn place_of(&self, tokens: &[Token]) -> usize {
+        match tokens {
+            [token, ..] => token.span.start,
+            [] => self.end,
+        }
+    }
+
+    /// The place of the next token, or the end of the text.
+    pub fn place(&self) -> usize {
+        self.place_of(self.rest)
+    }
+
+    /// No expression goes on with the next token.
+    pub fn syntax(&self) -> Fault
+        ensures { is_misreading result ≡ true }
+    {
+        Fault::Syntax(self.place())
+    }
+
+    /// An identifier has nothing to inherit; any other token would not fit either.
+    pub fn no_qualifier(&self) -> Fault
+        ensures { is_misreading result ≡ true }
+    {
+        match self.rest {
+            [
+                Token {
+                    kind: Kind::Number(_) | Kind::Dotted { .. } | Kind::Ethernet(_) | Kind::Name(_),
+                    span,
+                },
+                ..
+            ] => Fault::NoQualifier(span.start),
+            _ => self.syntax(),
+        }
+    }
+
+    /// Goes on behind what was read, or refuses where that breaks off.
+    pub fn past<X: Copy>(&mut self, read: Result<(X, &'a [Token]), &'a [Token]>) -> Result<X, Fault>
+        ensures { Gives {Y = X × List Kind} (λ x. (x, kinds self.new.rest.now)) result
+            (option_map (λ found. (found.0, kinds found.1.now)) (result_ok read.entry)) }
+    {
+        match read {
+            Ok((value, rest)) => {
+                self.rest = rest;
+                Ok(value)
+            }
+            Err(at) => Err(Fault::Syntax(self.place_of(at))),
+        }
+    }
+
+    /// Goes past a `)`.
+    pub fn close(&mut self) -> Result<(), Fault>
+        ensures { Gives (λ done. (done, kinds self.new.rest.now)) result (close_at (kinds self.old.rest.now)) }
+    {
+        self.past(close_at(self.rest))
+    }
+
+    /// A port number.
+    fn port(&mut self) -> Result<u16, Fault>
+        ensures { Gives (λ port. (port, kinds self.new.rest.now)) result (port_at (kinds self.old.rest.now)) }
+    {
+        let place = self.place_of(self.rest);
+        let number = self.past(bare_number_at(self.rest))?;
+        match between(0, 65535, number) {
+            Ok(port) => Ok(port as u16),
+            Err(_) => Err(Fault::OutOfRange(place)),
+        }
+    }
+
+    /// Two port numbers with a `-` between them, whichever comes first, in these tokens, which stand behind the
+    /// phrase and `portrange`.
+    #[tactic(auto, unfolding(crate::specs::Reading::portrange_at))]
+    pub fn portrange(&mut self, phrase: Phrase, behind: &'a [Token]) -> Result<Primitive, Fault>
+        ensures { Gives (λ p. (p, kinds self.new.rest.now)) result (portrange_at phrase (kinds behind.now)) }
+    {
+        let Some(transport) = transport_of(phrase.protocol) else {
+            return Err(Fault::BadQualifier(self.place_of(self.rest)));
+        };
+        self.rest = behind;
+        let first = self.port()?;
+        self.past(minus_at(self.rest))?;
+        let second = self.port()?;
+        Ok(Primitive::Ports {
+            transport,
+            direction: phrase.direction.unwrap_or(Direction::SrcOrDst),
+            low: first.min(second),
+            high: first.max(second),
+        })
+    }
+
+    /// Goes past a sign that holds a level of nesting open, with so many levels left for what it holds.
+    pub fn deeper(&mut self, levels: usize) -> Result<usize, Fault>
+        ensures { Gives (λ left. (left, kinds self.new.rest.now)) result
+            (deeper levels (kinds self.old.rest.now)) }
+    {
+        let [sign, rest @ ..] = self.rest else {
+            return Err(self.syntax());
+        };
+        let Some(left) = levels.checked_sub(1) else {
+            return Err(Fault::TooNested(sign.span.start));
+        };
+        self.rest = rest;
+        Ok(left)
+    }
+
+    /// The test that the identifier at the front gives under its qualifiers.
+    #[tactic(auto, unfolding(crate::specs::Reading::identified_at))]
+    pub fn identified(&mut self, qualifiers: Qualifiers) -> Result<Primitive, Fault>
+        ensures { Gives (λ primitive. (primitive, kinds self.new.rest.now)) result
+            (identified_at qualifiers (kinds self.old.rest.now)) }
+    {
+        let tokens = self.rest;
+        let id = self.past(identifier_at(tokens))?;
+        match identified(qualifiers, id) {
+            Ok(primitive) => Ok(primitive),
+            Err(misfit) => Err(self.misfit(misfit, id, tokens)),
+        }
+    }
+
+    /// The fault of an identifier, which these tokens begin with: a mask and a number of bits have their own place.
+    fn misfit(&self, misfit: Misfit, id: Identifier, tokens: &[Token]) -> Fault
+        ensures { is_misreading result ≡ true }
+    {
+        let first = self.place_of(tokens);
+        let third = match tokens {
+            [_, _, rest @ ..] => self.place_of(rest),
+            _ => first,
+        };
+        match (misfit, id) {
+            (Misfit::Identifier, _) => Fault::BadIdentifier(first),
+            (Misfit::Mask, _) => Fault::BadIdentifier(third),
+            (Misfit::NetBits, _) => Fault::NetBits(first),
+            (Misfit::Range, Identifier::Prefix { .. }) => Fault::OutOfRange(third),
+            (Misfit::Range, _) => Fault::OutOfRange(first),
+        }
+    }
+}

@@ -1,0 +1,109 @@
+//! What the tokens at a place decide before any of them is read.
+
+ghost use Rattle.std.specs.Prelude.{◌≡◌};
+ghost use Rattle.filterlang.specs.Phrases.{kinds};
+ghost use Rattle.filterlang.specs.Grammar.{operator_follows, bracket_follows, after_matching, begins_relation};
+ghost use Rattle.filterlang.specs.Reading.{beginning};
+
+use crate::token::{Kind, Operator, Token};
+
+/// What a term begins with that is no relation.
+#[derive(Clone, Copy)]
+pub(crate) enum Beginning {
+    Not,
+    Parenthesis,
+    Primitive,
+}
+
+/// What a term that is no relation begins with.
+pub(crate) fn look_ahead(tokens: &[Token]) -> Beginning
+    ensures { result ≡ beginning (kinds tokens.now) }
+{
+    match tokens {
+        [
+            Token {
+                kind: Kind::Not,
+                ..
+            },
+            ..
+        ] => Beginning::Not,
+        [
+            Token {
+                kind: Kind::Open,
+                ..
+            },
+            ..
+        ] => Beginning::Parenthesis,
+        _ => Beginning::Primitive,
+    }
+}
+
+/// Whether an operator of arithmetic or a comparison is the next token.
+fn operator_follows(tokens: &[Token]) -> bool
+    ensures { result ≡ operator_follows (kinds tokens.now) }
+{
+    match tokens {
+        [
+            Token {
+                kind: Kind::Operator(_) | Kind::Comparison(_),
+                ..
+            },
+            ..
+        ] => true,
+        _ => false,
+    }
+}
+
+/// What stands behind the `)` that matches a `(` before these tokens; nothing where none does.
+fn after_matching(tokens: &[Token]) -> &[Token]
+    ensures { kinds result.now ≡ after_matching 0 (kinds tokens.now) }
+{
+    let mut rest = tokens;
+    let mut depth: usize = 0;
+    while let [token, behind @ ..] = rest {
+        rest = behind;
+        match token.kind {
+            Kind::Open => depth += 1,
+            Kind::Close => {
+                let Some(outer) = depth.checked_sub(1) else {
+                    return rest;
+                };
+                depth = outer;
+            }
+            _ => {}
+        }
+    }
+    rest
+}
+
+/// Whether the term at the front is a relation, as its first tokens show.
+pub(crate) fn begins_relation(tokens: &[Token]) -> bool
+    ensures { result ≡ begins_relation (kinds tokens.now) }
+{
+    let [token, rest @ ..] = tokens else {
+        return false;
+    };
+    match token.kind {
+        Kind::Open => operator_follows(after_matching(rest)),
+        Kind::Number(_) => operator_follows(rest),
+        Kind::Operator(Operator::Minus) | Kind::Len | Kind::Named(_) => true,
+        Kind::Protocol(_) => bracket_follows(rest),
+        _ => false,
+    }
+}
+
+/// Whether a `[` is the next token.
+fn bracket_follows(tokens: &[Token]) -> bool
+    ensures { result ≡ bracket_follows (kinds tokens.now) }
+{
+    match tokens {
+        [
+            Token {
+                kind: Kind::OpenBracket,
+                ..
+            },
+            ..
+        ] => true,
+        _ => false,
+    }
+}
