@@ -24,17 +24,37 @@ pub struct CutWords<'a> {
 /// What the words ask for.
 #[derive(Clone, Copy, Debug)]
 pub enum Request<'a> {
+    /// `bpftap check`, of this expression.
+    Check(&'a str),
     Cut(CutWords<'a>),
 }
 
 const ABOUT: &str = "Filters captures offline, as the BSD packet filter would have taken them";
 
 const EXAMPLES: &str = "Examples:
+  bpftap check 'tcp dst port 80 or 443'
+  bpftap cut -s 0 -f examples/ip.bpf examples/veth.pcap ip.pcap
+  bpftap cut -s 64 -f examples/all.bpf examples/veth.pcap headers.pcap
+
+Exit status: 0 clean; 1 wrong words, a refused expression, file or listing, or want of memory;
+2 a torn or bad record, after the packets before it; 3 a file or device failed.";
+
+const CUT_EXAMPLES: &str = "Examples:
   bpftap cut -s 0 -f examples/ip.bpf examples/veth.pcap ip.pcap
   bpftap cut -s 64 -f examples/all.bpf examples/veth.pcap headers.pcap
 
 Exit status: 0 clean; 1 wrong words, a refused file or listing, or want of memory;
 2 a torn or bad record, after the packets before it; 3 a file or device failed.";
+
+const CHECK_EXAMPLES: &str = "Examples:
+  bpftap check 'tcp dst port 80 or 443'
+  bpftap check 'tcp and 80'       prints bpftap: NoQualifier 8
+  bpftap check ''                 the empty expression accepts every packet
+
+An expression that begins with - is written in parentheses. The number behind a fault's name
+is the byte of the expression that it stands at, from 0; docs/LANGUAGE.md has the language.
+
+Exit status: 0 the expression is accepted; 1 it is refused, wrong words, or want of memory.";
 
 fn snap_arg<'a>(alloc: Global) -> Arg<'a> {
     Arg::new(alloc, "snap")
@@ -75,10 +95,21 @@ fn path_arg<'a>(alloc: Global, name: &'a str, help: &'a str) -> Arg<'a> {
     Arg::new(alloc, name).required(true).help(help)
 }
 
+fn check_command<'a>(alloc: Global) -> Result<Command<'a>, AllocError> {
+    Command::new(alloc, "check")
+        .about("Tell whether a filter expression is accepted, and what is wrong with it")
+        .after_help(CHECK_EXAMPLES)
+        .arg(
+            Arg::new(alloc, "EXPR").required(true).help(
+                "Filter expression of pcap-filter(7), as one word; it may be empty",
+            ),
+        )
+}
+
 fn cut_command<'a>(alloc: Global) -> Result<Command<'a>, AllocError> {
     Command::new(alloc, "cut")
         .about("Write each packet of IN that the filter accepts, cut, to OUT")
-        .after_help(EXAMPLES)
+        .after_help(CUT_EXAMPLES)
         .arg(snap_arg(alloc))?
         .arg(listing_arg(alloc))?
         .arg(order_arg(alloc))?
@@ -101,6 +132,7 @@ fn program<'a>(alloc: Global) -> Result<Command<'a>, AllocError> {
         .after_help(EXAMPLES)
         .subcommand_required(true)
         .arg_required_else_help(true)
+        .subcommand(check_command(alloc)?)?
         .subcommand(cut_command(alloc)?)
 }
 
@@ -133,16 +165,25 @@ fn unit_of(matches: &ArgMatches<'_>) -> Unit {
 pub fn read_words<'a, S: AsStr>(alloc: Global, words: &'a [S]) -> Result<Request<'a>, Error> {
     let mut program = program(alloc)?;
     let matches = program.try_get_matches_from_mut(words)?;
-    let Some(("cut", cut)) = matches.subcommand() else {
-        return Err(program.error(ErrorKind::MissingSubcommand, "a subcommand is wanted")?);
-    };
-    match cut_words(cut) {
-        Some(request) => Ok(Request::Cut(request)),
-        None => Err(program.error(
-            ErrorKind::ValueValidation,
-            "-s takes a number from 0 to 262144",
-        )?),
+    match matches.subcommand() {
+        Some(("check", check)) => match check.get_str("EXPR") {
+            Some(expr) => Ok(Request::Check(expr)),
+            None => Err(program.error(ErrorKind::MissingRequiredArgument, "EXPR is wanted")?),
+        },
+        Some(("cut", cut)) => match cut_words(cut) {
+            Some(words) => Ok(Request::Cut(words)),
+            None => Err(bad_snap(alloc)?),
+        },
+        _ => Err(program.error(ErrorKind::MissingSubcommand, "a subcommand is wanted")?),
     }
+}
+
+// The error of a snapshot length that is not digits alone, with the usage of `cut`.
+fn bad_snap(alloc: Global) -> Result<Error, AllocError> {
+    cut_command(alloc)?.bin_name("bpftap cut")?.error(
+        ErrorKind::ValueValidation,
+        "-s takes a number from 0 to 262144",
+    )
 }
 
 fn cut_words<'a>(matches: &ArgMatches<'a>) -> Option<CutWords<'a>> {

@@ -1,6 +1,9 @@
 //! The program `bpftap`: the BSD packet tap, replayed from capture files.
 #![tactic(auto)]
 
+pub mod check;
+#[cfg(test)]
+mod check_tests;
 mod command_line;
 pub mod cut;
 mod files;
@@ -10,7 +13,6 @@ pub mod tell;
 #[cfg(test)]
 mod tests;
 
-use std::alloc::AllocError;
 use std::process::ExitCode;
 use std::{env, io};
 
@@ -23,7 +25,7 @@ fn main(rt: HostRuntime) -> ExitCode {
     let (mut out, mut err) = (rt.stdout(), rt.stderr());
     let status = match words(&rt) {
         Ok(words) => program::run(&rt, words.as_slice(), &mut out, &mut err),
-        Err(error) => tell::tell_fault(error, tell::REFUSED, &mut err),
+        Err(error) => tell::tell_words(error, &mut err),
     };
     ExitCode::from(status)
 }

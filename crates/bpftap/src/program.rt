@@ -1,5 +1,6 @@
 //! The commands, over files.
 
+use crate::check::check;
 use crate::command_line::{CutWords, Request, read_words};
 use crate::cut::{CutEnd, End, cut};
 use crate::files::{LateFile, is_same_file};
@@ -24,14 +25,17 @@ pub fn run<R: Files + AllocGlobal, S: AsStr, O: Write, E: Write>(
     err: &mut E,
 ) -> u8 {
     match read_words(rt.alloc(), words) {
+        Ok(Request::Check(expr)) => check(rt.alloc(), expr, out, err),
         Ok(Request::Cut(words)) => cut_files(rt, &words, err),
-        Err(error) => tell_words(&error, out, err),
+        Err(error) => tell_clap(&error, out, err),
     }
 }
 
 // Help goes to `out` with status 0, what is wrong with the words to `err` with status 1.
-fn tell_words<O: Write, E: Write>(error: &Error, out: &mut O, err: &mut E) -> u8 {
-    if error.use_stderr() {
+fn tell_clap<O: Write, E: Write>(error: &Error, out: &mut O, err: &mut E) -> u8 {
+    if error.kind() == clap::error::ErrorKind::OutOfMemory {
+        tell_fault(Fault::NoMemory, REFUSED, err)
+    } else if error.use_stderr() {
         let _ = write!(err, "{error}");
         REFUSED
     } else {

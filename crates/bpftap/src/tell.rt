@@ -6,7 +6,8 @@ ghost use Rattle.bpftap.specs.Telling.{fault_status, status_of};
 use crate::cut::{CutEnd, End};
 use savefile::Fault;
 use std::fmt::Display;
-use std::io::Write;
+use std::io;
+use std::io::{Cursor, ErrorKind, Write};
 
 /// The exit status of wrong words, a refusal and want of memory.
 pub const REFUSED: u8 = 1;
@@ -17,13 +18,38 @@ pub const BAD_RECORD: u8 = 2;
 /// The exit status of a failed device.
 pub const DEVICE: u8 = 3;
 
+/// The most bytes of a fault's line that are put together first, so that it goes out in one write.
+const LINE: usize = 512;
+
 /// Tells a fault in a line of its own, and gives the status back. Where standard error itself fails, the status
 /// is all that is left to tell.
 pub fn tell_fault<E: Write, D: Display + Drop>(fault: D, status: u8, err: &mut E) -> u8
     ensures { result ≡ status }
 {
-    let _ = writeln!(err, "bpftap: {fault}");
+    let _ = write_line(fault, err);
     status
+}
+
+// The line, in one write where it is not too long. It takes no memory, which may be the fault that is told.
+fn write_line<E: Write, D: Display + Drop>(fault: D, err: &mut E) -> io::Result<()> {
+    let mut line = Cursor::new([0; LINE]);
+    let put = writeln!(line, "bpftap: {fault}");
+    let length = line.position() as usize;
+    match (put, line.into_inner().get(..length)) {
+        (Ok(()), Some(line)) => err.write_all(line),
+        _ => writeln!(err, "bpftap: {fault}"),
+    }
+}
+
+/// Tells why the words of the command line could not be taken.
+pub fn tell_words<E: Write>(error: io::Error, err: &mut E) -> u8
+    ensures { result ≡ REFUSED }
+{
+    if error.kind() == ErrorKind::OutOfMemory {
+        tell_fault(Fault::NoMemory, REFUSED, err)
+    } else {
+        tell_fault(error, REFUSED, err)
+    }
 }
 
 /// Tells that the file or device of a path failed.

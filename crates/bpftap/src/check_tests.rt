@@ -1,0 +1,208 @@
+//! `bpftap check`: the line and the status of each fault, and how lines go out.
+
+use crate::check::check;
+use crate::program::run;
+use crate::tell::{REFUSED, tell_device, tell_fault, tell_words};
+use std::fs::Files;
+use std::io;
+use std::io::{Cursor, ErrorKind, Write};
+use std::process::Abort;
+use std::test::Fail;
+
+/// What `check` says of an expression: standard error and the status. Standard output has nothing.
+fn checked(rt: &(impl Abort + AllocGlobal), expr: &str, line: &str, status: u8) {
+    let mut out: Vec<u8> = Vec::new(rt.alloc());
+    let mut err: Vec<u8> = Vec::new(rt.alloc());
+    assert_eq!(rt;
+        check(rt.alloc(), expr, &mut out, &mut err),
+        status,
+        "{expr:?}"
+    );
+    assert_eq!(rt; err.as_slice(), line.as_bytes(), "{expr:?}");
+    assert!(rt; out.is_empty(), "{expr:?}");
+}
+
+#[test]
+fn an_accepted_expression_says_nothing(rt: HostRuntime) {
+    for expr in [
+        "",
+        " \n",
+        "tcp",
+        "tcp dst port 20 or 21",
+        "not (net 10.0.0.0/8)",
+    ] {
+        checked(&rt, expr, "", 0);
+    }
+}
+
+const REFUSALS: [(&str, &str); 14] = [
+    ("tcp # udp", "bpftap: BadByte 4\n"),
+    ("tcp é", "bpftap: BadByte 4\n"),
+    ("port http", "bpftap: BadWord 5\n"),
+    ("08 = 8", "bpftap: BadNumber 0\n"),
+    ("port 80 and", "bpftap: Syntax 11\n"),
+    ("proto tcp", "bpftap: Syntax 6\n"),
+    ("len = 1", "bpftap: Syntax 0\n"),
+    ("tcp and 80", "bpftap: NoQualifier 8\n"),
+    ("tcp host 10.0.0.1", "bpftap: BadQualifier 0\n"),
+    ("host 10.0", "bpftap: BadIdentifier 5\n"),
+    ("net 10.0.0.1/8", "bpftap: NetBits 4\n"),
+    ("port 65536", "bpftap: OutOfRange 5\n"),
+    ("ether proto 1500", "bpftap: OutOfRange 12\n"),
+    ("portrange 20-30 and 40", "bpftap: NoQualifier 20\n"),
+];
+
+#[test]
+fn each_fault_is_a_line_and_status_1(rt: HostRuntime) -> Result<(), Fail> {
+    for (expr, line) in REFUSALS {
+        checked(&rt, expr, line, 1);
+    }
+    let nested = "(".repeat(rt.alloc(), 65)?;
+    checked(&rt, nested.as_str(), "bpftap: TooNested 64\n", 1);
+    let long = "#".repeat(rt.alloc(), 8193)?;
+    checked(&rt, long.as_str(), "bpftap: TextTooLong\n", 1);
+    Ok(())
+}
+
+/// A writer that has room for so many bytes, then breaks, and counts its calls.
+#[derive(Drop)]
+struct Counting {
+    room: usize,
+    calls: usize,
+}
+
+impl Write for Counting {
+    fn write(&mut self, buf: &[u8]) -> io::Result<usize> {
+        self.calls = self.calls.saturating_add(1);
+        let n = self.room.min(buf.len());
+        if n == 0 {
+            return Err(io::Error::from(ErrorKind::Other));
+        }
+        self.room -= n;
+        Ok(n)
+    }
+
+    fn flush(&mut self) -> io::Result<()> {
+        Ok(())
+    }
+}
+
+#[test]
+fn a_line_that_is_not_taken_leaves_the_status(rt: HostRuntime) {
+    for room in [0, 3, 21] {
+        let mut out: Vec<u8> = Vec::new(rt.alloc());
+        let mut err = Counting { room, calls: 0 };
+        assert_eq!(rt;
+            check(rt.alloc(), "tcp and 80", &mut out, &mut err),
+            1,
+            "{room}"
+        );
+        assert!(rt; out.is_empty());
+    }
+}
+
+#[test]
+fn a_line_goes_out_in_one_write(rt: HostRuntime) -> Result<(), Fail> {
+    let mut err = Counting {
+        room: 100,
+        calls: 0,
+    };
+    assert_eq!(rt; tell_fault("TornRecord 1", 2, &mut err), 2);
+    assert_eq!(rt; tell_device("in.pcap", &mut err), 3);
+    assert_eq!(rt; err.calls, 2);
+    // A longer line goes out whole as well.
+    let path = "x".repeat(rt.alloc(), 1000)?;
+    let mut err: Vec<u8> = Vec::new(rt.alloc());
+    assert_eq!(rt; tell_device(path.as_str(), &mut err), 3);
+    let line = format!(in rt.alloc(); "bpftap: Device {path}\n")?;
+    assert_eq!(rt; err.as_slice(), line.as_bytes());
+    Ok(())
+}
+
+/// This one passes too where any one request for memory is refused.
+#[test]
+fn want_of_memory_is_told(rt: HostRuntime) {
+    let mut out = Counting { room: 0, calls: 0 };
+    let mut line = Cursor::new([0; 100]);
+    let status = check(rt.alloc(), "not port 80 and tcp", &mut out, &mut line);
+    let length = line.position() as usize;
+    let line = line.into_inner();
+    let told = line.get(..length).unwrap_or(b"");
+    if status == 0 {
+        assert!(rt; told.is_empty());
+    } else {
+        assert_eq!(rt; status, 1);
+        assert_eq!(rt; told, b"bpftap: NoMemory\n".as_slice());
+    }
+}
+
+#[test]
+fn words_that_cannot_be_taken_are_told(rt: HostRuntime) {
+    let mut err: Vec<u8> = Vec::new(rt.alloc());
+    let refused = io::Error::from(ErrorKind::OutOfMemory);
+    assert_eq!(rt; tell_words(refused, &mut err), REFUSED);
+    assert_eq!(rt; err.as_slice(), b"bpftap: NoMemory\n".as_slice());
+}
+
+/// What a command prints and its status.
+#[derive(Drop)]
+struct Printed {
+    out: String,
+    err: String,
+    status: u8,
+}
+
+fn printed_by(rt: &(impl Abort + Files + AllocGlobal), words: &[&str]) -> Printed {
+    let mut out: Vec<u8> = Vec::new(rt.alloc());
+    let mut err: Vec<u8> = Vec::new(rt.alloc());
+    let status = run(rt, words, &mut out, &mut err);
+    Printed {
+        out: String::from_utf8(out).expect(rt, "standard output is text"),
+        err: String::from_utf8(err).expect(rt, "standard error is text"),
+        status,
+    }
+}
+
+#[test]
+fn the_command_takes_one_word(rt: HostRuntime) {
+    let told: [(&str, &str, u8); 4] = [
+        ("", "", 0),
+        ("tcp or udp", "", 0),
+        ("tcp and 80", "bpftap: NoQualifier 8\n", 1),
+        ("(-1 = 1)", "bpftap: Syntax 1\n", 1),
+    ];
+    for (expr, line, status) in told {
+        let seen = printed_by(&rt, &["bpftap", "check", expr]);
+        assert_eq!(rt; seen.err.as_str(), line, "{expr:?}");
+        assert_eq!(rt; seen.status, status, "{expr:?}");
+        assert!(rt; seen.out.is_empty(), "{expr:?}");
+    }
+    let seen = printed_by(&rt, &["bpftap", "check", "--", "-1 = 1"]);
+    assert_eq!(rt; seen.err.as_str(), "bpftap: Syntax 0\n");
+    // No word, two words, and one that looks like an option.
+    let wrong: [&[&str]; 3] = [
+        &["bpftap", "check"],
+        &["bpftap", "check", "tcp", "udp"],
+        &["bpftap", "check", "-1"],
+    ];
+    for words in wrong {
+        let seen = printed_by(&rt, words);
+        assert_eq!(rt; seen.status, 1, "{words:?}");
+        assert!(rt; seen.out.is_empty(), "{words:?}");
+        assert!(rt; seen.err.contains("Usage: bpftap check"), "{words:?}");
+    }
+    let seen = printed_by(&rt, &["bpftap", "check", "--help"]);
+    assert_eq!(rt; seen.status, 0);
+    assert!(rt; seen.out.contains("bpftap check 'tcp dst port 80 or 443'"));
+}
+
+#[test]
+fn a_signed_snapshot_length_has_the_usage_of_cut(rt: HostRuntime) {
+    let words = [
+        "bpftap", "cut", "-s", "+5", "-f", "x", "in.pcap", "out.pcap",
+    ];
+    let seen = printed_by(&rt, &words);
+    assert_eq!(rt; seen.status, 1);
+    assert!(rt; seen.out.is_empty());
+    assert!(rt; seen.err.contains("Usage: bpftap cut [OPTIONS]"));
+}
