@@ -9,8 +9,8 @@ use Rattle.filterlang.specs.declared.tree.Expr.{Expr}
 use Rattle.filterlang.specs.Tokens.{Lexes}
 use Rattle.filterlang.specs.Phrases.{kinds}
 use Rattle.filterlang.specs.Trees.{Tree, tree_of}
-use Rattle.filterlang.specs.Reading.{Gives, is_misreading, text_at}
-use Rattle.filterlang.specs.Texts.{ReadsAs, IsRefusalOf, HasNoTree}
+use Rattle.filterlang.specs.Reading.{Gives, text_at}
+use Rattle.filterlang.specs.Texts.{is_misreading, ReadsAs, IsRefusalOf, HasNoTree}
 use Rattle.filterlang.proofs.Sound.{text_sound}
 use Rattle.filterlang.proofs.Complete.{text_complete}
 

@@ -9,11 +9,11 @@ use Rattle.filterlang.specs.declared.qualifiers.Qualifiers.{Qualifiers}
 use Rattle.filterlang.specs.declared.qualifiers.Identifier.{Identifier}
 use Rattle.filterlang.specs.declared.parser.Start.{Start}
 use Rattle.filterlang.specs.declared.parser.Start.TheVariants as starts
-use Rattle.filterlang.specs.Phrases.{identifier_at, close_at}
+use Rattle.filterlang.specs.Phrases.{identifier_at}
 use Rattle.filterlang.specs.Qualifiers.{identified}
 use Rattle.filterlang.specs.Trees.{Tree, test, negation}
 use Rattle.filterlang.specs.Grammar.{begins_relation, Group, group_one, group_and, group_or, GroupTerm, group_not, group_open, group_id, Expr, expr_one, expr_and, expr_or, Term, term_not, term_open, term_prim, term_group, Reads, reads_nothing, reads_expr}
-use Rattle.filterlang.specs.Reading.{◌>>=◌, nothing, joined_by, negated, closed, identified_at, start_at, started, group_term_by, group_term_at, group_at, logical_by, term_at, expr_at, whole, text_at}
+use Rattle.filterlang.specs.Reading.{◌>>=◌, nothing, joined_by, negated, closed, identified_at, start_at, started, group_term_by, group_term_at, group_at, logical_by, term_at, expr_at, whole, text_at, close_at}
 use Rattle.filterlang.proofs.Steps.{step, at_some, chained_keeps}
 use Rattle.filterlang.proofs.Starts.{Begun, start_begun, identified_sound}
 

@@ -21,11 +21,11 @@ use Rattle.filterlang.specs.declared.qualifiers.Qualifiers.{Qualifiers}
 use Rattle.filterlang.specs.declared.qualifiers.Identifier.{Identifier}
 use Rattle.filterlang.specs.declared.parser.Start.{Start}
 use Rattle.filterlang.specs.declared.parser.Start.TheVariants as starts
-use Rattle.filterlang.specs.Phrases.{phrase_at, identifier_at, bare_number_at, minus_at, range_at}
-use Rattle.filterlang.specs.Primitives.{plain_of, stands_alone, ports_between, plain_at, broadcast_at, unqualified_at}
+use Rattle.filterlang.specs.Phrases.{phrase_at, identifier_at}
+use Rattle.filterlang.specs.Primitives.{plain_of, stands_alone, ports_between}
 use Rattle.filterlang.specs.Qualifiers.{qualifiers_of, identified, transport_of, between}
 use Rattle.filterlang.specs.Grammar.{only_protocol, is_written, Prim, prim_plain, prim_broadcast, prim_ether_broadcast, prim_multicast, prim_ether_multicast, prim_ip_multicast, prim_less, prim_greater, prim_portrange, prim_phrase, prim_inherited}
-use Rattle.filterlang.specs.Reading.{◌>>=◌, identified_at, port_at, portrange_at, under, giving_none, qualified_at, inherited_at, phrased_by, phrased_at, start_at}
+use Rattle.filterlang.specs.Reading.{◌>>=◌, identified_at, port_at, portrange_at, under, without_qualifiers, qualified_at, inherited_at, phrased_by, phrased_at, start_at, bare_number_at, minus_at, range_at, plain_at, broadcast_at, unqualified_at}
 use Rattle.filterlang.proofs.Steps.{step, each_step, weaken, at_some}
 
 itself : {A : Type 0} (o : Option A) → IfSome o (λ x. o ≡ Some x)
@@ -143,7 +143,7 @@ inherited_sound None ts = tt
 inherited_sound (Some g) ts =
     step (λ p. Identified g ts p.0 p.1) (λ s. Begun (Some g) ts s.0 s.1 s.2) (identified_at g ts) (λ p. Some (starts.Primitive p.0, Some g, p.1)) (identified_sound g ts) (λ p h. prim_inherited h.1 h.2)
 
-ranged_sound : (q : Option Qualifiers) (ts behind : List Kind) (phrase : Phrase) → phrase_at ts ≡ (phrase, kind.PortRange ∷ behind) → phrase.type_word ≡ None → IfSome (giving_none (portrange_at phrase behind)) (λ s. Begun q ts s.0 s.1 s.2)
+ranged_sound : (q : Option Qualifiers) (ts behind : List Kind) (phrase : Phrase) → phrase_at ts ≡ (phrase, kind.PortRange ∷ behind) → phrase.type_word ≡ None → IfSome (without_qualifiers (portrange_at phrase behind)) (λ s. Begun q ts s.0 s.1 s.2)
 ranged_sound q ts behind phrase e w =
     step (λ p. Ranges phrase behind p.0 p.1) (λ s. Begun q ts s.0 s.1 s.2) (portrange_at phrase behind) (λ p. Some (starts.Primitive p.0, None, p.1)) (portrange_sound phrase behind)
     (λ p h. prim_portrange (e ∙ ap (λ x. (phrase, kind.PortRange ∷ x)) h.3) w h.4 h.5)
@@ -182,7 +182,7 @@ pub start_begun : (q : Option Qualifiers) (ts : List Kind) → IfSome (start_at 
 unfolding start_at phrased_at
 start_begun q ts = step (λ found. IfSome found (λ p. Prim q ts p.0 None p.1)) (λ s. Begun q ts s.0 s.1 s.2) (unqualified_at ts) _ (unqualified_sound q ts) at_found
   where
-    at_found : (found : Option (Primitive × List Kind)) → IfSome found (λ p. Prim q ts p.0 None p.1) → IfSome (elim found [ Some p ↦ giving_none (Some p) | None ↦ phrased_at q ts ]) (λ s. Begun q ts s.0 s.1 s.2)
+    at_found : (found : Option (Primitive × List Kind)) → IfSome found (λ p. Prim q ts p.0 None p.1) → IfSome (elim found [ Some p ↦ without_qualifiers (Some p) | None ↦ phrased_at q ts ]) (λ s. Begun q ts s.0 s.1 s.2)
     at_found (Some p) h = h
     at_found None h = phrased_by_sound q ts (phrase_at ts).0 (phrase_at ts).1 refl
 

@@ -8,10 +8,9 @@ use Rattle.filterlang.specs.declared.qualifiers.Qualifiers.{Qualifiers}
 use Rattle.filterlang.specs.declared.parser.Start.{Start}
 use Rattle.filterlang.specs.declared.parser.Start.TheVariants as starts
 use Rattle.filterlang.specs.declared.token.Joint.{Joint}
-use Rattle.filterlang.specs.Phrases.{joint_at}
 use Rattle.filterlang.specs.Trees.{Tree, test}
 use Rattle.filterlang.specs.Grammar.{begins_relation}
-use Rattle.filterlang.specs.Reading.{◌>>=◌, Reader, nothing, beginning, deeper, negated, closed, chain, joined_by, group_at, group_term_at, identified_at, start_at, started, term_at, logical_at, expr_at}
+use Rattle.filterlang.specs.Reading.{◌>>=◌, Reader, nothing, beginning, deeper, negated, closed, chain, joined_by, group_at, group_term_at, identified_at, start_at, started, term_at, logical_at, expr_at, joint_at}
 use Rattle.filterlang.proofs.Shorter.{group_term_shorter, term_shorter}
 use Rattle.filterlang.proofs.Chains.{group_turn, term_turn}
 

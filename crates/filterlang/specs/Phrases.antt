@@ -1,5 +1,5 @@
 -- Phrases and identifiers, from the front of a list of tokens.
-use Rattle.std.specs.Prelude.{ℕ, List, ◌∷◌, Option, Some, None, map, is_none, if◌then◌else◌}
+use Rattle.std.specs.Prelude.{ℕ, List, ◌∷◌, Option, Some, None, map}
 use Rattle.filterlang.specs.declared.token.Kind.{Kind}
 use Rattle.filterlang.specs.declared.token.Kind.TheVariants as kind
 use Rattle.filterlang.specs.declared.token.Token.{Token}
@@ -10,7 +10,7 @@ use Rattle.filterlang.specs.declared.token.Side.TheVariants as side
 use Rattle.filterlang.specs.declared.token.Parts.{Parts}
 use Rattle.filterlang.specs.declared.token.Joint.{Joint}
 use Rattle.filterlang.specs.declared.token.Joint.TheVariants.{And, Or}
-use Rattle.filterlang.specs.declared.token.Operator.TheVariants.{Divide, Minus}
+use Rattle.filterlang.specs.declared.token.Operator.TheVariants.{Divide}
 use Rattle.filterlang.specs.declared.tree.Direction.{Direction}
 use Rattle.filterlang.specs.declared.tree.Direction.TheVariants.{Src, Dst, SrcOrDst, SrcAndDst}
 use Rattle.filterlang.specs.declared.qualifiers.Phrase.{Phrase}
@@ -59,14 +59,6 @@ phrase_at tokens =
     let word = type_at direction.1 in
     (record { protocol = protocol.0; direction = direction.0; type_word = word.0 }, word.1)
 
-abbrev pub bare_number_at : List Kind → Option (ℕ × List Kind)
-bare_number_at (kind.Number n ∷ rest) = Some (n, rest)
-bare_number_at rest = None
-
-abbrev pub address_at : List Kind → Option (ℕ × Parts × List Kind)
-address_at (kind.Dotted address parts ∷ rest) = Some (address, parts, rest)
-address_at rest = None
-
 -- a dotted address goes on with `/` and a number, with `mask` and another one, or not at all
 abbrev pub dotted_at : ℕ → Parts → List Kind → Option (Identifier × List Kind)
 dotted_at address parts (kind.Operator Divide ∷ kind.Number bits ∷ rest) = Some (ids.Prefix address bits, rest)
@@ -81,20 +73,3 @@ identifier_at (kind.Ethernet address ∷ rest) = Some (ids.Ethernet address, res
 identifier_at (kind.Name name ∷ rest) = Some (ids.Name name, rest)
 identifier_at (kind.Dotted address parts ∷ rest) = dotted_at address parts rest
 identifier_at rest = None
-
-abbrev pub joint_at : List Kind → Option (Joint × List Kind)
-joint_at (kind.Joint joint ∷ rest) = Some (joint, rest)
-joint_at rest = None
-
-abbrev pub minus_at : List Kind → Option (Unit {0} × List Kind)
-minus_at (kind.Operator Minus ∷ rest) = Some (tt, rest)
-minus_at rest = None
-
-abbrev pub close_at : List Kind → Option (Unit {0} × List Kind)
-close_at (kind.Close ∷ rest) = Some (tt, rest)
-close_at rest = None
-
--- what follows portrange, where that stands behind a phrase without a type
-abbrev pub range_at : Phrase → List Kind → Option (List Kind)
-range_at phrase (kind.PortRange ∷ rest) = if is_none phrase.type_word then Some rest else None
-range_at phrase rest = None

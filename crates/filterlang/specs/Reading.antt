@@ -2,13 +2,18 @@
 --
 -- A reading is what was read, what can be inherited behind it, and the tokens that follow. There is none where
 -- nothing can be read.
-use Rattle.std.specs.Prelude.{◌≡◌, ◌⊎◌, ℕ, zero, suc, Bool, true, false, if◌then◌else◌, List, [], ◌∷◌, length, Option, Some, None, Result, Ok, Err, unwrap_or, min, max}
+use Rattle.std.specs.Prelude.{◌≡◌, ◌⊎◌, ℕ, zero, suc, true, false, if◌then◌else◌, List, [], ◌∷◌, length, Option, Some, None, Result, Ok, Err, unwrap_or, min, max, is_none, is_some, ◌||◌, option_map, option_and_then}
 use Rattle.filterlang.specs.declared.fault.Fault.{Fault}
 use Rattle.filterlang.specs.declared.fault.Fault.TheVariants as faults
 use Rattle.filterlang.specs.declared.token.Kind.{Kind}
 use Rattle.filterlang.specs.declared.token.Kind.TheVariants as kind
+use Rattle.filterlang.specs.declared.token.Protocol.{Protocol}
+use Rattle.filterlang.specs.declared.token.Protocol.TheVariants as protocols
+use Rattle.filterlang.specs.declared.token.Parts.{Parts}
 use Rattle.filterlang.specs.declared.token.Joint.{Joint}
 use Rattle.filterlang.specs.declared.token.Joint.TheVariants.{And, Or}
+use Rattle.filterlang.specs.declared.token.Operator.TheVariants.{Minus}
+use Rattle.filterlang.specs.declared.tree.Plain.{Plain}
 use Rattle.filterlang.specs.declared.tree.Primitive.{Primitive}
 use Rattle.filterlang.specs.declared.tree.Primitive.TheVariants as primitives
 use Rattle.filterlang.specs.declared.tree.Direction.TheVariants.{SrcOrDst}
@@ -18,27 +23,65 @@ use Rattle.filterlang.specs.declared.qualifiers.Phrase.{Phrase}
 use Rattle.filterlang.specs.declared.qualifiers.Qualifiers.{Qualifiers}
 use Rattle.filterlang.specs.declared.parser.Start.{Start}
 use Rattle.filterlang.specs.declared.parser.Start.TheVariants as starts
-use Rattle.filterlang.specs.Phrases.{phrase_at, identifier_at, bare_number_at, minus_at, close_at, range_at}
-use Rattle.filterlang.specs.Primitives.{plain_at, unqualified_at}
+use Rattle.filterlang.specs.Phrases.{phrase_at, identifier_at}
+use Rattle.filterlang.specs.Primitives.{plain_of, stands_alone}
 use Rattle.filterlang.specs.Qualifiers.{qualifiers_of, identified, transport_of, between}
 use Rattle.filterlang.specs.Trees.{Tree, everything, test, negation, both, either}
 use Rattle.filterlang.specs.Grammar.{begins_relation, is_written}
+use Rattle.filterlang.specs.Texts.{is_misreading}
 
 infixl 10 ◌>>=◌
 abbrev pub ◌>>=◌ : {A B : Type 0} → Option A → (A → Option B) → Option B
 (Some x) >>= f = f x
 None >>= f = None
 
--- the faults of texts that have tokens, but no tree
-abbrev pub is_misreading : Fault → Bool
-is_misreading (faults.Syntax place) = true
-is_misreading (faults.NoQualifier place) = true
-is_misreading (faults.BadQualifier place) = true
-is_misreading (faults.BadIdentifier place) = true
-is_misreading (faults.NetBits place) = true
-is_misreading (faults.OutOfRange place) = true
-is_misreading (faults.TooNested place) = true
-is_misreading _ = false
+abbrev pub bare_number_at : List Kind → Option (ℕ × List Kind)
+bare_number_at (kind.Number n ∷ rest) = Some (n, rest)
+bare_number_at rest = None
+
+abbrev pub address_at : List Kind → Option (ℕ × Parts × List Kind)
+address_at (kind.Dotted address parts ∷ rest) = Some (address, parts, rest)
+address_at rest = None
+
+abbrev pub joint_at : List Kind → Option (Joint × List Kind)
+joint_at (kind.Joint joint ∷ rest) = Some (joint, rest)
+joint_at rest = None
+
+abbrev pub minus_at : List Kind → Option (Unit {0} × List Kind)
+minus_at (kind.Operator Minus ∷ rest) = Some (tt, rest)
+minus_at rest = None
+
+abbrev pub close_at : List Kind → Option (Unit {0} × List Kind)
+close_at (kind.Close ∷ rest) = Some (tt, rest)
+close_at rest = None
+
+-- what follows portrange, where that stands behind a phrase without a type
+abbrev pub range_at : Phrase → List Kind → Option (List Kind)
+range_at phrase (kind.PortRange ∷ rest) = if is_none phrase.type_word then Some rest else None
+range_at phrase rest = None
+
+-- the protocol that a phrase is alone, where what follows leaves it alone
+abbrev pub plain_at : Phrase → List Kind → Option Plain
+plain_at phrase rest =
+    if is_some phrase.direction || is_some phrase.type_word then None
+    else option_and_then (λ protocol. if stands_alone protocol rest then plain_of protocol else None) phrase.protocol
+
+-- broadcast or multicast behind a protocol word
+abbrev pub broadcast_at : Protocol → List Kind → Option (Primitive × List Kind)
+broadcast_at protocols.Ether (kind.Broadcast ∷ rest) = Some (primitives.EtherBroadcast, rest)
+broadcast_at protocols.Ether (kind.Multicast ∷ rest) = Some (primitives.EtherMulticast, rest)
+broadcast_at protocols.Ip (kind.Multicast ∷ rest) = Some (primitives.IpMulticast, rest)
+broadcast_at protocol rest = None
+
+-- A primitive that takes no qualifiers, where one stands at the front: Some None where none does. There is no
+-- reading where less or greater has no number.
+abbrev pub unqualified_at : List Kind → Option (Option (Primitive × List Kind))
+unqualified_at (kind.Broadcast ∷ rest) = Some (Some (primitives.EtherBroadcast, rest))
+unqualified_at (kind.Multicast ∷ rest) = Some (Some (primitives.EtherMulticast, rest))
+unqualified_at (kind.Less ∷ rest) = option_map (λ n. Some (primitives.Less n.0, n.1)) (bare_number_at rest)
+unqualified_at (kind.Greater ∷ rest) = option_map (λ n. Some (primitives.Greater n.0, n.1)) (bare_number_at rest)
+unqualified_at (kind.Protocol protocol ∷ rest) = Some (broadcast_at protocol rest)
+unqualified_at rest = Some None
 
 -- What a call answered is what a reading gives: a value, seen by view, or none, unless memory was refused.
 abbrev pub Gives : {X Y : Type 0} → (X → Y) → Result X Fault → Option Y → Type 0
@@ -114,8 +157,8 @@ abbrev pub Starting : Type 0
 Starting = Option (Start × Option Qualifiers × List Kind)
 
 -- a primitive that has no qualifiers to give
-abbrev pub giving_none : Option (Primitive × List Kind) → Starting
-giving_none read = read >>= λ p. Some (starts.Primitive p.0, None, p.1)
+abbrev pub without_qualifiers : Option (Primitive × List Kind) → Starting
+without_qualifiers read = read >>= λ p. Some (starts.Primitive p.0, None, p.1)
 
 abbrev pub qualified_at : Phrase → List Kind → Starting
 qualified_at phrase tokens = qualifiers_of phrase >>= λ g. under g tokens >>= λ s. Some (s.0, Some g, s.1)
@@ -130,7 +173,7 @@ phrased_by q tokens phrase rest =
     elim (plain_at phrase rest) [
       | Some plain ↦ Some (starts.Primitive (primitives.Protocol plain), None, rest)
       | None ↦ elim (range_at phrase rest) [
-        | Some behind ↦ giving_none (portrange_at phrase behind)
+        | Some behind ↦ without_qualifiers (portrange_at phrase behind)
         | None ↦ if is_written phrase then qualified_at phrase rest else inherited_at q tokens
       ]
     ]
@@ -140,7 +183,7 @@ phrased_at q tokens = phrased_by q tokens (phrase_at tokens).0 (phrase_at tokens
 
 -- what a term begins with that is neither negated nor in parentheses
 unfoldable pub start_at : Option Qualifiers → List Kind → Starting
-start_at q tokens = unqualified_at tokens >>= λ found. elim found [ Some p ↦ giving_none (Some p) | None ↦ phrased_at q tokens ]
+start_at q tokens = unqualified_at tokens >>= λ found. elim found [ Some p ↦ without_qualifiers (Some p) | None ↦ phrased_at q tokens ]
 
 -- a term of a group, by a reader of what lies a level deeper
 abbrev pub group_term_by : Reader Qualifiers → Reader Qualifiers

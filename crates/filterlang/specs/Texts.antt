@@ -1,11 +1,10 @@
 -- Filter expressions as texts: which tree one reads as, and why one is refused.
-use Rattle.std.specs.Prelude.{◌<◌, ◌≤◌, ℕ, List, length}
+use Rattle.std.specs.Prelude.{◌≤◌, ℕ, Bool, true, false, List, length}
 use Rattle.filterlang.specs.declared.fault.Fault.{Fault}
 use Rattle.filterlang.specs.declared.fault.Fault.TheVariants as faults
 use Rattle.filterlang.specs.declared.token.Token.{Token}
-use Rattle.filterlang.specs.declared.lexer.Cause.TheVariants.{BadByte, BadWord, BadNumber}
 use Rattle.filterlang.specs.declared.lexer.TheConstants.{MAX_TEXT}
-use Rattle.filterlang.specs.Tokens.{Lexes, Stuck}
+use Rattle.filterlang.specs.Tokens.{Lexes, IsFaultOf}
 use Rattle.filterlang.specs.Phrases.{kinds}
 use Rattle.filterlang.specs.Trees.{Tree}
 use Rattle.filterlang.specs.Grammar.{Reads}
@@ -18,13 +17,17 @@ ReadsAs text tree = (tokens : List Token) × Lexes text 0 tokens × Reads (kinds
 abbrev pub HasNoTree : List ℕ → Type 0
 HasNoTree text = (length text ≤ MAX_TEXT) × ((tokens : List Token) × Lexes text 0 tokens) × ((tree : Tree) → ReadsAs text tree → ⊥)
 
--- Why a text is refused: it is too long, no token begins at its first failing place, or no tree reads it; want
--- of memory says nothing.
+-- the faults of texts that have tokens, but no tree
+abbrev pub is_misreading : Fault → Bool
+is_misreading (faults.Syntax place) = true
+is_misreading (faults.NoQualifier place) = true
+is_misreading (faults.BadQualifier place) = true
+is_misreading (faults.BadIdentifier place) = true
+is_misreading (faults.NetBits place) = true
+is_misreading (faults.OutOfRange place) = true
+is_misreading (faults.TooNested place) = true
+is_misreading _ = false
+
+-- Why a text is refused: no tree reads its tokens; or it has none, as the lexer's fault says.
 abbrev pub IsRefusalOf : List ℕ → Fault → Type 0
-IsRefusalOf text faults.TextTooLong = MAX_TEXT < length text
-IsRefusalOf text (faults.BadByte place) = (length text ≤ MAX_TEXT) × Stuck text 0 BadByte place
-IsRefusalOf text (faults.BadWord place) = (length text ≤ MAX_TEXT) × Stuck text 0 BadWord place
-IsRefusalOf text (faults.BadNumber place) = (length text ≤ MAX_TEXT) × Stuck text 0 BadNumber place
-IsRefusalOf text faults.NoMemory = length text ≤ MAX_TEXT
-IsRefusalOf text (faults.DivideByZero place) = ⊥
-IsRefusalOf text misreading = HasNoTree text
+IsRefusalOf text fault = elim (is_misreading fault) [ true ↦ HasNoTree text | false ↦ IsFaultOf text fault ]

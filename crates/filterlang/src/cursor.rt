@@ -3,8 +3,9 @@
 ghost use Rattle.std.specs.Prelude.{◌≡◌, List, true, option_map};
 ghost use Rattle.std.specs.Result.{result_ok};
 ghost use Rattle.filterlang.specs.declared.token.Kind.{Kind};
-ghost use Rattle.filterlang.specs.Phrases.{kinds, close_at};
-ghost use Rattle.filterlang.specs.Reading.{Gives, is_misreading, port_at, portrange_at, deeper, identified_at};
+ghost use Rattle.filterlang.specs.Phrases.{kinds};
+ghost use Rattle.filterlang.specs.Texts.{is_misreading};
+ghost use Rattle.filterlang.specs.Reading.{Gives, port_at, portrange_at, deeper, identified_at, close_at};
 
 use crate::fault::Fault;
 use crate::phrases::{bare_number_at, close_at, identifier_at, minus_at};
@@ -43,7 +44,7 @@ impl<'a> Cursor<'a> {
         Fault::Syntax(self.place())
     }
 
-    /// An identifier has nothing to inherit; any other token would not fit either.
+    /// `NoQualifier` where an identifier is next, which has nothing to inherit; else `Syntax`.
     pub fn no_qualifier(&self) -> Fault
         ensures { is_misreading result ≡ true }
     {
@@ -84,7 +85,7 @@ impl<'a> Cursor<'a> {
     fn port(&mut self) -> Result<u16, Fault>
         ensures { Gives (λ port. (port, kinds self.new.rest.now)) result (port_at (kinds self.old.rest.now)) }
     {
-        let place = self.place_of(self.rest);
+        let place = self.place();
         let number = self.past(bare_number_at(self.rest))?;
         match between(0, 65535, number) {
             Ok(port) => Ok(port as u16),
@@ -99,7 +100,7 @@ impl<'a> Cursor<'a> {
         ensures { Gives (λ p. (p, kinds self.new.rest.now)) result (portrange_at phrase (kinds behind.now)) }
     {
         let Some(transport) = transport_of(phrase.protocol) else {
-            return Err(Fault::BadQualifier(self.place_of(self.rest)));
+            return Err(Fault::BadQualifier(self.place()));
         };
         self.rest = behind;
         let first = self.port()?;
@@ -113,7 +114,7 @@ impl<'a> Cursor<'a> {
         })
     }
 
-    /// Goes past a sign that holds a level of nesting open, with so many levels left for what it holds.
+    /// Goes past the `not` or `(` at the front: so many levels are left for what it holds open.
     pub fn deeper(&mut self, levels: usize) -> Result<usize, Fault>
         ensures { Gives (λ left. (left, kinds self.new.rest.now)) result
             (deeper levels (kinds self.old.rest.now)) }
@@ -142,20 +143,21 @@ impl<'a> Cursor<'a> {
         }
     }
 
-    /// The fault of an identifier, which these tokens begin with: a mask and a number of bits have their own place.
+    /// The fault of an identifier, which these tokens begin with. What stands behind its `mask` or `/` has a place of
+    /// its own.
     fn misfit(&self, misfit: Misfit, id: Identifier, tokens: &[Token]) -> Fault
         ensures { is_misreading result ≡ true }
     {
         let first = self.place_of(tokens);
-        let third = match tokens {
-            [_, _, rest @ ..] => self.place_of(rest),
+        let behind = match tokens {
+            [_address, _sign, rest @ ..] => self.place_of(rest),
             _ => first,
         };
         match (misfit, id) {
             (Misfit::Identifier, _) => Fault::BadIdentifier(first),
-            (Misfit::Mask, _) => Fault::BadIdentifier(third),
+            (Misfit::Mask, _) => Fault::BadIdentifier(behind),
             (Misfit::NetBits, _) => Fault::NetBits(first),
-            (Misfit::Range, Identifier::Prefix { .. }) => Fault::OutOfRange(third),
+            (Misfit::Range, Identifier::Prefix { .. }) => Fault::OutOfRange(behind),
             (Misfit::Range, _) => Fault::OutOfRange(first),
         }
     }

@@ -1,3 +1,5 @@
+//! Why a text is refused.
+
 ghost use Rattle.std.specs.Prelude.{◌≡◌};
 ghost use Rattle.filterlang.specs.declared.fault.Fault.TheVariants.{NoMemory};
 
@@ -22,25 +24,27 @@ pub enum Fault {
     /// A token, or the end of the text, with which no expression can go on.
     #[error("Syntax {0}")]
     Syntax(usize),
-    /// An identifier without a phrase, and no primitive before it that has qualifiers to give.
+    /// An identifier without a phrase, where the nearest primitive to its left has no qualifiers to give, or none
+    /// stands there.
     #[error("NoQualifier {0}")]
     NoQualifier(usize),
-    /// Qualifiers that do not go together.
+    /// A phrase whose qualifiers do not go together, at its first word.
     #[error("BadQualifier {0}")]
     BadQualifier(usize),
-    /// An identifier of a kind that the type does not take.
+    /// An identifier of a kind that the type does not take; or a net's mask of fewer than four parts, at the mask.
     #[error("BadIdentifier {0}")]
     BadIdentifier(usize),
-    /// A net address with bits outside its mask.
+    /// A net with bits outside its mask, at its address.
     #[error("NetBits {0}")]
     NetBits(usize),
-    /// A number out of its range.
+    /// A number out of its range, at the number.
     #[error("OutOfRange {0}")]
     OutOfRange(usize),
-    /// A divisor that is the literal 0 or a named value 0, in parentheses or not.
+    /// A divisor that is the literal 0 or a named value 0, in parentheses or not. Does not come yet, since relations
+    /// are not in the language.
     #[error("DivideByZero {0}")]
     DivideByZero(usize),
-    /// More than 64 signs open within one another.
+    /// The `(` or `not` that would be the 65th open one.
     #[error("TooNested {0}")]
     TooNested(usize),
     /// Memory was refused.

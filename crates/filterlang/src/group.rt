@@ -9,7 +9,7 @@ use crate::fault::Fault;
 use crate::lookahead::{Beginning, look_ahead};
 use crate::phrases::joint_at;
 use crate::qualifiers::Qualifiers;
-use crate::tree::{Expr, joined, negated};
+use crate::tree::{Expr, joined_by, negated};
 use std::alloc::Global;
 
 impl<'a> Cursor<'a> {
@@ -28,7 +28,7 @@ impl<'a> Cursor<'a> {
         while let Some((joint, rest)) = joint_at(self.rest) {
             self.rest = rest;
             let next = self.group_term(alloc, levels, qualifiers)?;
-            expr = joined(alloc, joint, expr, next)?;
+            expr = joined_by(alloc, joint, expr, next)?;
         }
         Ok(expr)
     }

@@ -1,3 +1,5 @@
+//! The tokens of a text.
+
 ghost use Rattle.std.specs.Prelude.{◌≡◌, ◌≤◌, ◌<◌, ◌+◌, ◌-◌, ◌^◌, ◌↔◌, ◌⊎◌, option_map, ℕ, List, length, IfOk, IfErr, IsOkUnless, IsErrOf};
 ghost use Rattle.filterlang.specs.declared.token.Token.{Token};
 ghost use Rattle.filterlang.specs.declared.fault.Fault.TheVariants as Fault;
@@ -25,7 +27,7 @@ pub enum Cause {
 
 /// What stands at the front of a text: nothing more, a blank, a token of so many bytes, or what is none.
 #[derive(Clone, Copy)]
-pub enum Front {
+pub(crate) enum Front {
     End,
     Blank,
     Token(Kind, usize),

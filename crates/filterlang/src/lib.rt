@@ -20,7 +20,10 @@ mod words;
 pub use fault::Fault;
 pub use lexer::{Cause, MAX_TEXT, lex};
 pub use parser::parse;
-pub use token::{EthernetAddress, Kind, Span, Token};
+pub use token::{
+    Comparison, EthernetAddress, Joint, Kind, Operator, Parts, Protocol, Side, Span, Token,
+    TypeWord,
+};
 pub use tree::{Direction, Expr, Network, Plain, Primitive, Transport};
 
 #[cfg(test)]

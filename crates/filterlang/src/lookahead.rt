@@ -7,7 +7,7 @@ ghost use Rattle.filterlang.specs.Reading.{beginning};
 
 use crate::token::{Kind, Operator, Token};
 
-/// What a term begins with that is no relation.
+/// What the first token of a term says of it, where it is no relation.
 #[derive(Clone, Copy)]
 pub(crate) enum Beginning {
     Not,
@@ -15,7 +15,7 @@ pub(crate) enum Beginning {
     Primitive,
 }
 
-/// What a term that is no relation begins with.
+/// The same, of the term at the front.
 pub(crate) fn look_ahead(tokens: &[Token]) -> Beginning
     ensures { result ≡ beginning (kinds tokens.now) }
 {

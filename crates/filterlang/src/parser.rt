@@ -19,11 +19,11 @@ use crate::phrases::{is_written, joint_at, phrase_at, range_at};
 use crate::primitives::{plain_at, unqualified_at};
 use crate::qualifiers::{Phrase, Qualifiers, qualifiers_of};
 use crate::token::Token;
-use crate::tree::{Expr, Primitive, joined, negated};
+use crate::tree::{Expr, Primitive, joined_by, negated};
 use std::alloc::Global;
 
 /// The most signs of a text that may be open within one another: `(`, and `not` until its operand is complete.
-pub const MAX_NESTING: usize = 64;
+const MAX_NESTING: usize = 64;
 
 /// What stands at the front of a term that is neither negated nor in parentheses: a whole primitive, or the
 /// phrase before a group.
@@ -52,7 +52,7 @@ impl<'a> Parser<'a> {
         while let Some((joint, rest)) = joint_at(self.cursor.rest) {
             self.cursor.rest = rest;
             let next = self.term(alloc, levels)?;
-            expr = joined(alloc, joint, expr, next)?;
+            expr = joined_by(alloc, joint, expr, next)?;
         }
         Ok(expr)
     }
@@ -111,14 +111,14 @@ impl<'a> Parser<'a> {
             (start_at self.old.nearest (kinds self.old.cursor.rest.now)) }
     {
         match unqualified_at(self.cursor.rest) {
-            Ok(Some((primitive, rest))) => Ok(self.giving_none(primitive, rest)),
+            Ok(Some((primitive, rest))) => Ok(self.without_qualifiers(primitive, rest)),
             Ok(None) => self.phrased(),
             Err(at) => Err(Fault::Syntax(self.cursor.place_of(at))),
         }
     }
 
-    /// A primitive that has no qualifiers to give, before these tokens.
-    fn giving_none(&mut self, primitive: Primitive, rest: &'a [Token]) -> Start
+    /// Goes on at these tokens, behind a primitive that has no qualifiers to give.
+    fn without_qualifiers(&mut self, primitive: Primitive, rest: &'a [Token]) -> Start
         ensures start { result ≡ starts.Primitive primitive }
         ensures nearest { self.new.nearest ≡ None }
         ensures rest { kinds self.new.cursor.rest.now ≡ kinds rest.now }
@@ -136,10 +136,10 @@ impl<'a> Parser<'a> {
     {
         let (phrase, rest) = phrase_at(self.cursor.rest);
         if let Some(plain) = plain_at(phrase, rest) {
-            Ok(self.giving_none(Primitive::Protocol(plain), rest))
+            Ok(self.without_qualifiers(Primitive::Protocol(plain), rest))
         } else if let Some(behind) = range_at(phrase, rest) {
             let primitive = self.cursor.portrange(phrase, behind)?;
-            Ok(self.giving_none(primitive, self.cursor.rest))
+            Ok(self.without_qualifiers(primitive, self.cursor.rest))
         } else if is_written(phrase) {
             self.qualified(phrase, rest)
         } else {

@@ -109,7 +109,7 @@ const BROKEN_OFF: [(&str, Fault); 92] = [
 ];
 
 #[test]
-fn a_text_that_breaks_off_is_named_at_its_end(rt: HostRuntime) {
+fn a_token_that_does_not_fit_is_named(rt: HostRuntime) {
     refused(&rt, BROKEN_OFF.as_slice());
 }
 
@@ -205,7 +205,7 @@ fn a_phrase_outside_the_table_is_named_at_its_first_word(rt: HostRuntime) {
 }
 
 /// Identifiers of a kind that their type does not take.
-const BAD_IDENTIFIERS: [(&str, Fault); 38] = [
+const BAD_IDENTIFIERS: [(&str, Fault); 42] = [
     ("host 10.0", Fault::BadIdentifier(5)),
     ("host 10.0.0", Fault::BadIdentifier(5)),
     ("host 80", Fault::BadIdentifier(5)),
@@ -213,6 +213,7 @@ const BAD_IDENTIFIERS: [(&str, Fault); 38] = [
     ("host 1:2:3:4:5:6", Fault::BadIdentifier(5)),
     ("host 10.0.0.1/32", Fault::BadIdentifier(5)),
     ("host 10.0.0.1/33", Fault::BadIdentifier(5)),
+    ("host 10.0.0.1/8", Fault::BadIdentifier(5)),
     ("host 10.0.0.1 mask 255.0", Fault::BadIdentifier(5)),
     ("arp 1:2:3:4:5:6", Fault::BadIdentifier(4)),
     ("ip 80", Fault::BadIdentifier(3)),
@@ -228,6 +229,9 @@ const BAD_IDENTIFIERS: [(&str, Fault); 38] = [
     ("port 1:2:3:4:5:6", Fault::BadIdentifier(5)),
     ("port \\tcp", Fault::BadIdentifier(5)),
     ("port 10.0.0.0/8", Fault::BadIdentifier(5)),
+    ("port 10.0.0.1/8", Fault::BadIdentifier(5)),
+    ("port 10.0.0.0 mask 255.0", Fault::BadIdentifier(5)),
+    ("proto 10.0 mask 255.0", Fault::BadIdentifier(6)),
     ("tcp port 10.0 mask 255.0.0.0", Fault::BadIdentifier(9)),
     ("proto \\ip", Fault::BadIdentifier(6)),
     ("proto 10.0.0.1", Fault::BadIdentifier(6)),
@@ -367,7 +371,7 @@ const TOO_NESTED: [(usize, &str, &str, &str, Fault); 20] = [
     (32, "(!", "host (", ")", Fault::TooNested(69)),
     (63, "!", "port (!80)", "", Fault::TooNested(69)),
     (63, "!", "port ((80))", "", Fault::TooNested(69)),
-    // At one place the fault that stands first in the list is named.
+    // A fault that stands before the 65th sign, or that is told at it and stands first in the list, is named.
     (64, "(", "port 80(", ")", Fault::Syntax(71)),
     (64, "!", "tcp!", "", Fault::Syntax(67)),
     (64, "(", "tcp (", ")", Fault::BadQualifier(64)),
@@ -400,6 +404,9 @@ fn more_than_64_levels_are_too_many(rt: HostRuntime) -> Result<(), Fail> {
 
 #[test]
 fn a_text_of_8193_bytes_is_too_long(rt: HostRuntime) -> Result<(), Fail> {
+    let blanks = format!(in rt.alloc(); "tcp{}", " ".repeat(rt.alloc(), 8190)?)?;
+    let found = parse(rt.alloc(), blanks.as_str()).err();
+    assert_eq!(rt; found, Some(Fault::TextTooLong));
     for byte in [" ", "#", "(", "x"] {
         let text = byte.repeat(rt.alloc(), 8193)?;
         let found = parse(rt.alloc(), text.as_str()).err();

@@ -1,7 +1,10 @@
+//! What stands at the front of the tokens: phrases, identifiers, single words and signs.
+
 ghost use Rattle.std.specs.Prelude.{◌≡◌, option_map};
 ghost use Rattle.std.specs.Result.{result_ok};
-ghost use Rattle.filterlang.specs.Phrases.{kinds, protocol_at, direction_at, type_at, joined, phrase_at, bare_number_at, address_at, dotted_at, identifier_at, joint_at, minus_at, close_at, range_at};
+ghost use Rattle.filterlang.specs.Phrases.{kinds, protocol_at, direction_at, type_at, joined, phrase_at, dotted_at, identifier_at};
 ghost use Rattle.filterlang.specs.Grammar.{is_written};
+ghost use Rattle.filterlang.specs.Reading.{bare_number_at, address_at, joint_at, minus_at, close_at, range_at};
 
 use crate::qualifiers::{Identifier, Phrase};
 use crate::token::{Joint, Kind, Operator, Parts, Protocol, Side, Token, TypeWord};

@@ -1,7 +1,10 @@
+//! Primitives that have no identifier.
+
 ghost use Rattle.std.specs.Prelude.{◌≡◌, option_map};
 ghost use Rattle.std.specs.Result.{result_ok};
 ghost use Rattle.filterlang.specs.Phrases.{kinds};
-ghost use Rattle.filterlang.specs.Primitives.{plain_of, stands_alone, plain_at, unqualified_at, broadcast_at};
+ghost use Rattle.filterlang.specs.Primitives.{plain_of, stands_alone};
+ghost use Rattle.filterlang.specs.Reading.{plain_at, unqualified_at, broadcast_at};
 
 use crate::phrases::bare_number_at;
 use crate::qualifiers::Phrase;

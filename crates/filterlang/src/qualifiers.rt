@@ -1,3 +1,5 @@
+//! Which qualifiers go together, and which identifiers they take.
+
 ghost use Rattle.std.specs.Prelude.{◌≡◌, ◌≤◌, IfOk};
 ghost use Rattle.std.specs.Result.{result_ok};
 ghost use Rattle.filterlang.specs.Qualifiers.{network_of, transport_of, qualifiers_of, mask_of, bits_of, between, net_of, identified};
@@ -8,7 +10,7 @@ use crate::tree::{Direction, Network, Primitive, Transport};
 
 /// The qualifiers before an identifier, as they are written.
 #[derive(Clone, Copy)]
-pub struct Phrase {
+pub(crate) struct Phrase {
     pub protocol: Option<Protocol>,
     pub direction: Option<Direction>,
     pub type_word: Option<TypeWord>,
@@ -16,7 +18,7 @@ pub struct Phrase {
 
 /// Qualifiers that go together, with those that are not written filled in.
 #[derive(Clone, Copy)]
-pub enum Qualifiers {
+pub(crate) enum Qualifiers {
     Host {
         network: Option<Network>,
         direction: Direction,
@@ -36,7 +38,7 @@ pub enum Qualifiers {
 
 /// What an identifier is spelled as.
 #[derive(Clone, Copy)]
-pub enum Identifier {
+pub(crate) enum Identifier {
     Number(u32),
     Dotted {
         address: u32,
@@ -59,7 +61,7 @@ pub enum Identifier {
 
 /// Why an identifier does not fit its qualifiers.
 #[derive(Clone, Copy)]
-pub enum Misfit {
+pub(crate) enum Misfit {
     /// It is of a kind that the type does not take.
     Identifier,
     /// Its mask has not four parts.
@@ -188,32 +190,31 @@ fn net_identified(
 ) -> Result<Primitive, Misfit>
     ensures { result_ok result ≡ identified (Net network direction) id }
 {
-    let (address, mask) = match id {
+    match id {
         Identifier::Number(n) => {
             let first = between(0, 255, n)?;
-            (first * 0x100_0000, mask_of(8))
+            Ok(Primitive::Net {
+                network,
+                direction,
+                address: first * 0x100_0000,
+                mask: mask_of(8),
+            })
         }
-        Identifier::Dotted { address, parts } => (address, mask_of(bits_of(parts))),
+        Identifier::Dotted { address, parts } => {
+            net_of(network, direction, address, mask_of(bits_of(parts)))
+        }
         Identifier::Prefix { address, bits } => {
             let bits = between(0, 32, bits)?;
-            return net_of(network, direction, address, mask_of(bits));
+            net_of(network, direction, address, mask_of(bits))
         }
         Identifier::Masked {
             address,
             mask,
             parts: Parts::Four,
-        } => {
-            return net_of(network, direction, address, mask);
-        }
-        Identifier::Masked { .. } => return Err(Misfit::Mask),
-        _ => return Err(Misfit::Identifier),
-    };
-    Ok(Primitive::Net {
-        network,
-        direction,
-        address,
-        mask,
-    })
+        } => net_of(network, direction, address, mask),
+        Identifier::Masked { .. } => Err(Misfit::Mask),
+        _ => Err(Misfit::Identifier),
+    }
 }
 
 /// The protocol number of IPv4 that an identifier names.

@@ -1,3 +1,5 @@
+//! The tokens of the language.
+
 /// A protocol word.
 #[derive(Clone, Copy, Debug, PartialEq, Eq)]
 pub enum Protocol {

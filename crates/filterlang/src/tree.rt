@@ -101,7 +101,7 @@ pub(crate) fn negated(alloc: Global, expr: Expr) -> Result<Expr, Fault>
 }
 
 /// Two expressions and the word between them.
-pub(crate) fn joined(alloc: Global, joint: Joint, left: Expr, right: Expr) -> Result<Expr, Fault>
+pub(crate) fn joined_by(alloc: Global, joint: Joint, left: Expr, right: Expr) -> Result<Expr, Fault>
     ensures { Gives (λ e. tree_of e) result (Some (joined_by joint (tree_of left) (tree_of right))) }
 {
     let left = Box::new(alloc, left)?;
