@@ -14,3 +14,4 @@ pub mod Chains
 pub mod Complete
 pub mod Turns
 pub mod Answered
+pub mod Directions

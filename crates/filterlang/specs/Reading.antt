@@ -2,7 +2,7 @@
 --
 -- A reading is what was read, what can be inherited behind it, and the tokens that follow. There is none where
 -- nothing can be read.
-use Rattle.std.specs.Prelude.{◌≡◌, ◌⊎◌, ℕ, zero, suc, true, false, if◌then◌else◌, List, [], ◌∷◌, length, Option, Some, None, Result, Ok, Err, unwrap_or, min, max, is_none, is_some, ◌||◌, option_map, option_and_then}
+use Rattle.std.specs.Prelude.{◌≡◌, ◌⊎◌, ℕ, zero, suc, true, if◌then◌else◌, List, [], ◌∷◌, length, Option, Some, None, Result, Ok, Err, unwrap_or, min, max, is_none, is_some, ◌||◌, option_map, option_and_then}
 use Rattle.filterlang.specs.declared.fault.Fault.{Fault}
 use Rattle.filterlang.specs.declared.fault.Fault.TheVariants as faults
 use Rattle.filterlang.specs.declared.token.Kind.{Kind}
@@ -10,6 +10,8 @@ use Rattle.filterlang.specs.declared.token.Kind.TheVariants as kind
 use Rattle.filterlang.specs.declared.token.Protocol.{Protocol}
 use Rattle.filterlang.specs.declared.token.Protocol.TheVariants as protocols
 use Rattle.filterlang.specs.declared.token.Parts.{Parts}
+use Rattle.filterlang.specs.declared.token.Side.{Side}
+use Rattle.filterlang.specs.declared.tree.Direction.{Direction}
 use Rattle.filterlang.specs.declared.token.Joint.{Joint}
 use Rattle.filterlang.specs.declared.token.Joint.TheVariants.{And, Or}
 use Rattle.filterlang.specs.declared.token.Operator.TheVariants.{Minus}
@@ -23,7 +25,7 @@ use Rattle.filterlang.specs.declared.qualifiers.Phrase.{Phrase}
 use Rattle.filterlang.specs.declared.qualifiers.Qualifiers.{Qualifiers}
 use Rattle.filterlang.specs.declared.parser.Start.{Start}
 use Rattle.filterlang.specs.declared.parser.Start.TheVariants as starts
-use Rattle.filterlang.specs.Phrases.{phrase_at, identifier_at}
+use Rattle.filterlang.specs.Phrases.{joined, phrase_at, identifier_at}
 use Rattle.filterlang.specs.Primitives.{plain_of, stands_alone}
 use Rattle.filterlang.specs.Qualifiers.{qualifiers_of, identified, transport_of, between}
 use Rattle.filterlang.specs.Trees.{Tree, everything, test, negation, both, either}
@@ -34,6 +36,11 @@ infixl 10 ◌>>=◌
 abbrev pub ◌>>=◌ : {A B : Type 0} → Option A → (A → Option B) → Option B
 (Some x) >>= f = f x
 None >>= f = None
+
+-- what the first token is, and those behind it
+abbrev pub next_of : List Kind → Option (Kind × List Kind)
+next_of [] = None
+next_of (token ∷ rest) = Some (token, rest)
 
 abbrev pub bare_number_at : List Kind → Option (ℕ × List Kind)
 bare_number_at (kind.Number n ∷ rest) = Some (n, rest)
@@ -46,6 +53,11 @@ address_at rest = None
 abbrev pub joint_at : List Kind → Option (Joint × List Kind)
 joint_at (kind.Joint joint ∷ rest) = Some (joint, rest)
 joint_at rest = None
+
+-- what makes a direction of its first word and what follows
+abbrev pub joined_at : Side → List Kind → Option (Direction × List Kind)
+joined_at first (kind.Joint joint ∷ kind.Side second ∷ rest) = joined first joint second >>= λ direction. Some (direction, rest)
+joined_at first rest = None
 
 abbrev pub minus_at : List Kind → Option (Unit {0} × List Kind)
 minus_at (kind.Operator Minus ∷ rest) = Some (tt, rest)

@@ -8,7 +8,7 @@ ghost use Rattle.filterlang.specs.Texts.{is_misreading};
 ghost use Rattle.filterlang.specs.Reading.{Gives, port_at, portrange_at, deeper, identified_at, close_at};
 
 use crate::fault::Fault;
-use crate::phrases::{bare_number_at, close_at, identifier_at, minus_at};
+use crate::phrases::{bare_number_at, close_at, identifier_at, minus_at, next};
 use crate::qualifiers::{
     Identifier, Misfit, Phrase, Qualifiers, between, identified, transport_of,
 };
@@ -48,14 +48,9 @@ impl<'a> Cursor<'a> {
     pub fn no_qualifier(&self) -> Fault
         ensures { is_misreading result ≡ true }
     {
-        match self.rest {
-            [
-                Token {
-                    kind: Kind::Number(_) | Kind::Dotted { .. } | Kind::Ethernet(_) | Kind::Name(_),
-                    span,
-                },
-                ..
-            ] => Fault::NoQualifier(span.start),
+        match next(self.rest) {
+            Some((Kind::Number(_) | Kind::Dotted { .. } | Kind::Ethernet(_) | Kind::Name(_), _)) =>
+                { Fault::NoQualifier(self.place()) }
             _ => self.syntax(),
         }
     }

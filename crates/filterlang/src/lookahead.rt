@@ -5,6 +5,7 @@ ghost use Rattle.filterlang.specs.Phrases.{kinds};
 ghost use Rattle.filterlang.specs.Grammar.{operator_follows, bracket_follows, after_matching, begins_relation};
 ghost use Rattle.filterlang.specs.Reading.{beginning};
 
+use crate::phrases::next;
 use crate::token::{Kind, Operator, Token};
 
 /// What the first token of a term says of it, where it is no relation.
@@ -19,21 +20,9 @@ pub(crate) enum Beginning {
 pub(crate) fn look_ahead(tokens: &[Token]) -> Beginning
     ensures { result ≡ beginning (kinds tokens.now) }
 {
-    match tokens {
-        [
-            Token {
-                kind: Kind::Not,
-                ..
-            },
-            ..
-        ] => Beginning::Not,
-        [
-            Token {
-                kind: Kind::Open,
-                ..
-            },
-            ..
-        ] => Beginning::Parenthesis,
+    match next(tokens) {
+        Some((Kind::Not, _)) => Beginning::Not,
+        Some((Kind::Open, _)) => Beginning::Parenthesis,
         _ => Beginning::Primitive,
     }
 }
@@ -42,16 +31,10 @@ pub(crate) fn look_ahead(tokens: &[Token]) -> Beginning
 fn operator_follows(tokens: &[Token]) -> bool
     ensures { result ≡ operator_follows (kinds tokens.now) }
 {
-    match tokens {
-        [
-            Token {
-                kind: Kind::Operator(_) | Kind::Comparison(_),
-                ..
-            },
-            ..
-        ] => true,
-        _ => false,
-    }
+    matches!(
+        next(tokens),
+        Some((Kind::Operator(_) | Kind::Comparison(_), _))
+    )
 }
 
 /// What stands behind the `)` that matches a `(` before these tokens; nothing where none does.
@@ -96,14 +79,5 @@ pub(crate) fn begins_relation(tokens: &[Token]) -> bool
 fn bracket_follows(tokens: &[Token]) -> bool
     ensures { result ≡ bracket_follows (kinds tokens.now) }
 {
-    match tokens {
-        [
-            Token {
-                kind: Kind::OpenBracket,
-                ..
-            },
-            ..
-        ] => true,
-        _ => false,
-    }
+    matches!(next(tokens), Some((Kind::OpenBracket, _)))
 }

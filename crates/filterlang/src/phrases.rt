@@ -2,26 +2,30 @@
 
 ghost use Rattle.std.specs.Prelude.{◌≡◌, option_map};
 ghost use Rattle.std.specs.Result.{result_ok};
-ghost use Rattle.filterlang.specs.Phrases.{kinds, protocol_at, direction_at, type_at, joined, phrase_at, dotted_at, identifier_at};
+ghost use Rattle.filterlang.specs.Phrases.{kinds, protocol_at, direction_at, one_side, type_at, joined, phrase_at, dotted_at, identifier_at};
 ghost use Rattle.filterlang.specs.Grammar.{is_written};
-ghost use Rattle.filterlang.specs.Reading.{bare_number_at, address_at, joint_at, minus_at, close_at, range_at};
+ghost use Rattle.filterlang.specs.Reading.{next_of, joined_at, bare_number_at, address_at, joint_at, minus_at, close_at, range_at};
 
 use crate::qualifiers::{Identifier, Phrase};
 use crate::token::{Joint, Kind, Operator, Parts, Protocol, Side, Token, TypeWord};
 use crate::tree::Direction;
 
+/// What the next token is, and what follows it.
+pub(crate) fn next(tokens: &[Token]) -> Option<(Kind, &[Token])>
+    ensures { option_map (λ found. (found.0, kinds found.1.now)) result ≡ next_of (kinds tokens.now) }
+{
+    let [token, rest @ ..] = tokens else {
+        return None;
+    };
+    Some((token.kind, rest))
+}
+
 /// The protocol word at the front, if there is one, and what follows.
 fn protocol_at(tokens: &[Token]) -> (Option<Protocol>, &[Token])
     ensures { (result.0, kinds result.1.now) ≡ protocol_at (kinds tokens.now) }
 {
-    match tokens {
-        [
-            Token {
-                kind: Kind::Protocol(protocol),
-                ..
-            },
-            rest @ ..,
-        ] => (Some(*protocol), rest),
+    match next(tokens) {
+        Some((Kind::Protocol(protocol), rest)) => (Some(protocol), rest),
         _ => (None, tokens),
     }
 }
@@ -30,14 +34,8 @@ fn protocol_at(tokens: &[Token]) -> (Option<Protocol>, &[Token])
 fn type_at(tokens: &[Token]) -> (Option<TypeWord>, &[Token])
     ensures { (result.0, kinds result.1.now) ≡ type_at (kinds tokens.now) }
 {
-    match tokens {
-        [
-            Token {
-                kind: Kind::Type(word),
-                ..
-            },
-            rest @ ..,
-        ] => (Some(*word), rest),
+    match next(tokens) {
+        Some((Kind::Type(word), rest)) => (Some(word), rest),
         _ => (None, tokens),
     }
 }
@@ -57,46 +55,39 @@ fn joined(first: Side, joint: Joint, second: Side) -> Option<Direction>
     }
 }
 
+/// What goes on with a direction behind its first word: `and` or `or`, and then the other word.
+fn joined_at(first: Side, tokens: &[Token]) -> Option<(Direction, &[Token])>
+    ensures { option_map (λ found. (found.0, kinds found.1.now)) result ≡ joined_at first (kinds tokens.now) }
+{
+    let (joint, rest) = joint_at(tokens)?;
+    let Some((Kind::Side(second), rest)) = next(rest) else {
+        return None;
+    };
+    let direction = joined(first, joint, second)?;
+    Some((direction, rest))
+}
+
+/// The direction of one word.
+fn one_side(side: Side) -> Direction
+    ensures { result ≡ one_side side }
+{
+    match side {
+        Side::Src => Direction::Src,
+        Side::Dst => Direction::Dst,
+    }
+}
+
 /// The direction at the front, as long as possible, if there is one, and what follows.
+#[tactic(auto, using(crate::proofs::Directions::direction_joined))]
 fn direction_at(tokens: &[Token]) -> (Option<Direction>, &[Token])
     ensures { (result.0, kinds result.1.now) ≡ direction_at (kinds tokens.now) }
 {
-    if let [
-        Token {
-            kind: Kind::Side(first),
-            ..
-        },
-        Token {
-            kind: Kind::Joint(joint),
-            ..
-        },
-        Token {
-            kind: Kind::Side(second),
-            ..
-        },
-        rest @ ..,
-    ] = tokens
-    {
-        if let Some(direction) = joined(*first, *joint, *second) {
-            return (Some(direction), rest);
-        }
-    }
-    match tokens {
-        [
-            Token {
-                kind: Kind::Side(Side::Src),
-                ..
-            },
-            rest @ ..,
-        ] => (Some(Direction::Src), rest),
-        [
-            Token {
-                kind: Kind::Side(Side::Dst),
-                ..
-            },
-            rest @ ..,
-        ] => (Some(Direction::Dst), rest),
-        _ => (None, tokens),
+    let Some((Kind::Side(first), rest)) = next(tokens) else {
+        return (None, tokens);
+    };
+    match joined_at(first, rest) {
+        Some((direction, rest)) => (Some(direction), rest),
+        None => (Some(one_side(first)), rest),
     }
 }
 
@@ -126,14 +117,8 @@ pub(crate) fn is_written(phrase: Phrase) -> bool
 pub(crate) fn bare_number_at(tokens: &[Token]) -> Result<(u32, &[Token]), &[Token]>
     ensures { bare_number_at (kinds tokens.now) ≡ option_map (λ found. (found.0, kinds found.1.now)) (result_ok result) }
 {
-    match tokens {
-        [
-            Token {
-                kind: Kind::Number(number),
-                ..
-            },
-            rest @ ..,
-        ] => Ok((*number, rest)),
+    match next(tokens) {
+        Some((Kind::Number(number), rest)) => Ok((number, rest)),
         _ => Err(tokens),
     }
 }
@@ -143,14 +128,8 @@ fn address_at(tokens: &[Token]) -> Result<(u32, Parts, &[Token]), &[Token]>
     ensures { address_at (kinds tokens.now)
         ≡ option_map (λ found. (found.0, found.1, kinds found.2.now)) (result_ok result) }
 {
-    match tokens {
-        [
-            Token {
-                kind: Kind::Dotted { address, parts },
-                ..
-            },
-            rest @ ..,
-        ] => Ok((*address, *parts, rest)),
+    match next(tokens) {
+        Some((Kind::Dotted { address, parts }, rest)) => Ok((address, parts, rest)),
         _ => Err(tokens),
     }
 }
@@ -164,24 +143,12 @@ fn dotted_at(
     ensures { dotted_at address parts (kinds tokens.now)
         ≡ option_map (λ found. (found.0, kinds found.1.now)) (result_ok result) }
 {
-    match tokens {
-        [
-            Token {
-                kind: Kind::Operator(Operator::Divide),
-                ..
-            },
-            rest @ ..,
-        ] => {
+    match next(tokens) {
+        Some((Kind::Operator(Operator::Divide), rest)) => {
             let (bits, rest) = bare_number_at(rest)?;
             Ok((Identifier::Prefix { address, bits }, rest))
         }
-        [
-            Token {
-                kind: Kind::Mask,
-                ..
-            },
-            rest @ ..,
-        ] => {
+        Some((Kind::Mask, rest)) => {
             let (mask, parts, rest) = address_at(rest)?;
             Ok((
                 Identifier::Masked {
@@ -201,35 +168,11 @@ pub(crate) fn identifier_at(tokens: &[Token]) -> Result<(Identifier, &[Token]), 
     ensures { identifier_at (kinds tokens.now)
         ≡ option_map (λ found. (found.0, kinds found.1.now)) (result_ok result) }
 {
-    match tokens {
-        [
-            Token {
-                kind: Kind::Number(number),
-                ..
-            },
-            rest @ ..,
-        ] => Ok((Identifier::Number(*number), rest)),
-        [
-            Token {
-                kind: Kind::Ethernet(address),
-                ..
-            },
-            rest @ ..,
-        ] => Ok((Identifier::Ethernet(*address), rest)),
-        [
-            Token {
-                kind: Kind::Name(name),
-                ..
-            },
-            rest @ ..,
-        ] => Ok((Identifier::Name(*name), rest)),
-        [
-            Token {
-                kind: Kind::Dotted { address, parts },
-                ..
-            },
-            rest @ ..,
-        ] => dotted_at(*address, *parts, rest),
+    match next(tokens) {
+        Some((Kind::Number(number), rest)) => Ok((Identifier::Number(number), rest)),
+        Some((Kind::Ethernet(address), rest)) => Ok((Identifier::Ethernet(address), rest)),
+        Some((Kind::Name(name), rest)) => Ok((Identifier::Name(name), rest)),
+        Some((Kind::Dotted { address, parts }, rest)) => dotted_at(address, parts, rest),
         _ => Err(tokens),
     }
 }
@@ -238,14 +181,8 @@ pub(crate) fn identifier_at(tokens: &[Token]) -> Result<(Identifier, &[Token]), 
 pub(crate) fn joint_at(tokens: &[Token]) -> Option<(Joint, &[Token])>
     ensures { option_map (λ found. (found.0, kinds found.1.now)) result ≡ joint_at (kinds tokens.now) }
 {
-    match tokens {
-        [
-            Token {
-                kind: Kind::Joint(joint),
-                ..
-            },
-            rest @ ..,
-        ] => Some((*joint, rest)),
+    match next(tokens) {
+        Some((Kind::Joint(joint), rest)) => Some((joint, rest)),
         _ => None,
     }
 }
@@ -254,14 +191,8 @@ pub(crate) fn joint_at(tokens: &[Token]) -> Option<(Joint, &[Token])>
 pub(crate) fn minus_at(tokens: &[Token]) -> Result<((), &[Token]), &[Token]>
     ensures { minus_at (kinds tokens.now) ≡ option_map (λ found. (found.0, kinds found.1.now)) (result_ok result) }
 {
-    match tokens {
-        [
-            Token {
-                kind: Kind::Operator(Operator::Minus),
-                ..
-            },
-            rest @ ..,
-        ] => Ok(((), rest)),
+    match next(tokens) {
+        Some((Kind::Operator(Operator::Minus), rest)) => Ok(((), rest)),
         _ => Err(tokens),
     }
 }
@@ -270,14 +201,8 @@ pub(crate) fn minus_at(tokens: &[Token]) -> Result<((), &[Token]), &[Token]>
 pub(crate) fn close_at(tokens: &[Token]) -> Result<((), &[Token]), &[Token]>
     ensures { close_at (kinds tokens.now) ≡ option_map (λ found. (found.0, kinds found.1.now)) (result_ok result) }
 {
-    match tokens {
-        [
-            Token {
-                kind: Kind::Close,
-                ..
-            },
-            rest @ ..,
-        ] => Ok(((), rest)),
+    match next(tokens) {
+        Some((Kind::Close, rest)) => Ok(((), rest)),
         _ => Err(tokens),
     }
 }
@@ -286,14 +211,8 @@ pub(crate) fn close_at(tokens: &[Token]) -> Result<((), &[Token]), &[Token]>
 pub(crate) fn range_at(phrase: Phrase, tokens: &[Token]) -> Option<&[Token]>
     ensures { option_map (λ rest. kinds rest.now) result ≡ range_at phrase (kinds tokens.now) }
 {
-    match tokens {
-        [
-            Token {
-                kind: Kind::PortRange,
-                ..
-            },
-            rest @ ..,
-        ] if phrase.type_word.is_none() => Some(rest),
+    match next(tokens) {
+        Some((Kind::PortRange, rest)) if phrase.type_word.is_none() => Some(rest),
         _ => None,
     }
 }
