@@ -200,9 +200,9 @@ fn tree(alloc: Global, tokens: &[Token], end: usize) -> Result<Expr, Fault>
 ///
 /// The tree reads the text and no other one does. `TextTooLong`, `BadByte`, `BadWord` and `BadNumber` come as
 /// from [`lex`](crate::lexer::lex). Any other fault comes only where no tree reads the text, but for want of
-/// memory (`NoMemory`); it has the byte of its place. Of several the one with the least place is named, at one
+/// memory (`NoMemory`). It has the byte of its place. Of several the one with the least place is named, at one
 /// place the first of `Syntax`, `NoQualifier`, `BadQualifier`, `BadIdentifier`, `NetBits`, `OutOfRange` and
-/// `TooNested`.
+/// `TooNested`; that is tested and not proved.
 pub fn parse(alloc: Global, text: &str) -> Result<Expr, Fault>
     // The tree reads the text, and no other tree does.
     ensures reads { IfOk result (λ expr. ReadsAs text.now (tree_of expr)) }
