@@ -10,37 +10,47 @@ use Rattle.savefile.specs.declared.packet.Packet.{Packet}
 use Rattle.savefile.specs.declared.writing.Writer.{Writer}
 use Rattle.savefile.specs.Savefile.{encoded, packet}
 use Rattle.savefile.specs.Writer.{IsBeginning, HasWritten, BrokeOff, Sent, has_failed, sent_by, sink_of}
-use Rattle.savefile.proofs.Encoding.{encoded-begins, IsBeginning-trans}
-use Rattle.savefile.proofs.Lengths.{length-encoded-push}
 use Rattle.bpfvm.specs.declared.insn.Insn.{Insn}
 use Rattle.bpftap.specs.Cut.{answer, accepted}
 use Rattle.bpftap.specs.Outcome.{GoesOn, Took, Writes}
 use Rattle.bpftap.proofs.Accepted.{accepted-rejected, accepted-kept}
 
+-- a text begins itself
+begins-itself : (text : List ℕ) → IsBeginning text text
+begins-itself text = ([], sym (append-nil text))
+
+-- what the law of the growing text says of some packets and more
+abbrev pub Begins : Order → TimeUnit → ℕ → List Packet → List Packet → Type 0
+Begins order unit snap ps qs = (text : List ℕ) → IsBeginning text (encoded order unit snap ps) → IsBeginning text (encoded order unit snap (ps ++ qs))
+
+-- and of one packet more
+abbrev pub Adds : Order → TimeUnit → ℕ → List Packet → Packet → Type 0
+Adds order unit snap ps p = length (encoded order unit snap (ps ++ p ∷ [])) ≡ length (encoded order unit snap ps) + 16 + length p.bytes
+
 -- the end of a put that failed, by the fault
 fault-goes-on : {W : Type 0} (taken : W → Option (List ℕ)) (start : Option (List ℕ)) (order : Order) (unit : TimeUnit) (snap : ℕ) (ps : List Packet) (p : Packet) (old new : Writer W) (fault : Fault) →
-    HasWritten taken start order unit snap ps old →
+    Begins order unit snap ps (p ∷ []) → Adds order unit snap ps p → HasWritten taken start order unit snap ps old →
     (fault ≡ Device → BrokeOff taken start order unit snap (ps ++ p ∷ []) new) →
     (fault ≡ Failed → has_failed old ≡ true) →
     (fault ≡ CountFull → 2 ^ 64 ≤ sent_by old + 16 + length p.bytes) →
     (fault ≡ CountFull → new ≡ old) →
     (fault ≡ Device) ⊎ (fault ≡ Failed) ⊎ (fault ≡ CountFull) →
     GoesOn taken start order unit snap (ps ++ p ∷ []) (Err fault) new
-fault-goes-on taken start order unit snap ps p old new fault written broke failed full same (inl device) =
+fault-goes-on taken start order unit snap ps p old new fault begins adds written broke failed full same (inl device) =
     let b = broke device in (b.text, b.sent, (b.begins, inl device))
 -- a writer that works has not failed before
-fault-goes-on taken start order unit snap ps p old new fault written broke failed full same (inr (inl again)) =
+fault-goes-on taken start order unit snap ps p old new fault begins adds written broke failed full same (inr (inl again)) =
     let works : false ≡ true = sym written.works ∙ failed again in cc
 -- the count is full: nothing was written of this packet
-fault-goes-on taken start order unit snap ps p old new fault written broke failed full same (inr (inr many)) = (
+fault-goes-on taken start order unit snap ps p old new fault begins adds written broke failed full same (inr (inr many)) = (
   encoded order unit snap ps,
   subst (Sent taken start (encoded order unit snap ps)) (sym (same many)) written.sent,
-  (encoded-begins order unit snap ps (p ∷ []), inr (many, omega (arith, full many, written.sent.count, length-encoded-push order unit snap ps p))),
+  (begins _ (begins-itself _), inr (many, omega (arith, full many, written.sent.count, adds))),
 )
 
 -- the clauses of `put`, as one step
 pub put-goes-on : {W : Type 0} (taken : W → Option (List ℕ)) (start : Option (List ℕ)) (order : Order) (unit : TimeUnit) (snap : ℕ) (ps : List Packet) (p : Packet) (old new : Writer W) (result : Result (Unit {0}) Fault) →
-    HasWritten taken start order unit snap ps old →
+    Begins order unit snap ps (p ∷ []) → Adds order unit snap ps p → HasWritten taken start order unit snap ps old →
     OnOk result (HasWritten taken start order unit snap (ps ++ p ∷ []) new) →
     (result ≡ Err Device → BrokeOff taken start order unit snap (ps ++ p ∷ []) new) →
     (result ≡ Err Failed → has_failed old ≡ true) →
@@ -48,9 +58,9 @@ pub put-goes-on : {W : Type 0} (taken : W → Option (List ℕ)) (start : Option
     ((result ≡ Err Failed) ⊎ (result ≡ Err CountFull) → new ≡ old) →
     IfErr result (λ fault. (fault ≡ Device) ⊎ (fault ≡ Failed) ⊎ (fault ≡ CountFull)) →
     GoesOn taken start order unit snap (ps ++ p ∷ []) result new
-put-goes-on taken start order unit snap ps p old new (Ok x) written ok broke failed full same only = ok
-put-goes-on taken start order unit snap ps p old new (Err fault) written ok broke failed full same only =
-    fault-goes-on taken start order unit snap ps p old new fault written
+put-goes-on taken start order unit snap ps p old new (Ok x) begins adds written ok broke failed full same only = ok
+put-goes-on taken start order unit snap ps p old new (Err fault) begins adds written ok broke failed full same only =
+    fault-goes-on taken start order unit snap ps p old new fault begins adds written
     (λ e. broke (ap Err e)) (λ e. failed (ap Err e)) (λ e. full (ap Err e)) (λ e. same (inr (ap Err e))) only
 
 -- a beginning is no longer than the whole
@@ -59,14 +69,13 @@ length-begins text whole (more, e) = omega (arith, ap length e, length-append te
 
 -- what a text's beginning was, is a beginning of the text with more packets
 pub goes-further : {W : Type 0} (taken : W → Option (List ℕ)) (start : Option (List ℕ)) (order : Order) (unit : TimeUnit) (snap : ℕ) (ps qs : List Packet) (fault : Fault) (w : Writer W) →
-    GoesOn taken start order unit snap ps (Err fault) w → GoesOn taken start order unit snap (ps ++ qs) (Err fault) w
-goes-further taken start order unit snap ps qs fault w (sent, is, (begins, why)) =
-    let further = encoded-begins order unit snap ps qs in
-    let longer : length (encoded order unit snap ps) ≤ length (encoded order unit snap (ps ++ qs)) = length-begins _ _ further in (
+    Begins order unit snap ps qs → GoesOn taken start order unit snap ps (Err fault) w → GoesOn taken start order unit snap (ps ++ qs) (Err fault) w
+goes-further taken start order unit snap ps qs fault w further (sent, is, (begins, why)) =
+    let longer : length (encoded order unit snap ps) ≤ length (encoded order unit snap (ps ++ qs)) = length-begins _ _ (further _ (begins-itself _)) in (
       sent,
       is,
       (
-        IsBeginning-trans sent (encoded order unit snap ps) (encoded order unit snap (ps ++ qs)) begins further,
+        further sent begins,
         elim why [ inl device ↦ inl device | inr (many, long) ↦ inr (many, omega (arith, long, longer)) ],
       ),
     )
@@ -96,11 +105,11 @@ opened (Err fault) P p ok = absurd (cc)
 
 -- a writer that could not be opened
 pub not-opened-goes-on : {W : Type 0} (taken : W → Option (List ℕ)) (start : Option (List ℕ)) (order : Order) (unit : TimeUnit) (snap : ℕ) (result : Result (Unit {0}) Fault) (w : Writer W) →
-    OnErr result (BrokeOff taken start order unit snap [] w) → IfErr result (λ fault. fault ≡ Device) → is_ok result ≡ false → (ps : List Packet) →
+    OnErr result (BrokeOff taken start order unit snap [] w) → IfErr result (λ fault. fault ≡ Device) → is_ok result ≡ false → (ps : List Packet) → Begins order unit snap [] ps →
     GoesOn taken start order unit snap ps result w
-not-opened-goes-on taken start order unit snap (Ok x) w broke only failed ps = absurd (cc)
-not-opened-goes-on taken start order unit snap (Err fault) w broke only failed ps =
-    goes-further taken start order unit snap [] ps fault w (broke.text, broke.sent, (broke.begins, inl only))
+not-opened-goes-on taken start order unit snap (Ok x) w broke only failed ps begins = absurd (cc)
+not-opened-goes-on taken start order unit snap (Err fault) w broke only failed ps begins =
+    goes-further taken start order unit snap [] ps fault w begins (broke.text, broke.sent, (broke.begins, inl only))
 
 -- what a closed writer's sink took
 pub goes-took : {W : Type 0} (taken : W → Option (List ℕ)) (to sink : W) (count : ℕ) (order : Order) (unit : TimeUnit) (snap : ℕ) (ps : List Packet) (result : Result (Unit {0}) Fault) (w : Writer W) →

@@ -7,6 +7,7 @@ ghost use Rattle.bpftap.specs.Cut.{accepted, cut_text, meant};
 ghost use Rattle.bpftap.specs.Outcome.{Cuts, GoesOn, IsRead, IsUnread, Took, Writes, end_of};
 
 use bpfvm::Program;
+use savefile::laws::growing_text;
 use savefile::{Fault, Order, Packet, Sink, Source, Unit, Writer, read_all, read_to_end};
 use std::alloc::Global;
 
@@ -133,6 +134,8 @@ fn write_accepted<W: Sink>(
         × Writes (cut_text program.now snap order unit packets.now) result.2 sent }
     ensures sink_broke { (result.2 ≡ Err Fault.Device) ↔ (W.failures result.0 ≢ W.failures to) }
 {
+    // What was sent before a fault begins the text of all packets.
+    growing_text();
     let snap = meant(snap);
     let (mut writer, mut written) = Writer::open(to, order, unit, snap);
     if written.is_ok() {
@@ -155,6 +158,7 @@ fn put_accepted<W: Sink>(
         GoesOn W.taken start order unit head (accepted program.now snap packets.now) result writer.new }
     ensures sink_broke { (result ≡ Err Fault.Device) ↔ (W.failures (sink_of writer.new) ≢ W.failures (sink_of writer.old)) }
 {
+    growing_text();
     for packet in packets {
         put_one(writer, packet, program, snap)?;
     }
@@ -174,6 +178,7 @@ fn put_one<W: Sink>(
         GoesOn W.taken start order unit head (before ++ accepted program.now snap (packet.now ∷ [])) result writer.new }
     ensures sink_broke { (result ≡ Err Fault.Device) ↔ (W.failures (sink_of writer.new) ≢ W.failures (sink_of writer.old)) }
 {
+    growing_text();
     let bytes = packet.bytes.as_slice();
     let verdict = bpfvm::run(program, bytes, packet.len);
     if verdict == 0 {

@@ -1,11 +1,12 @@
 //! What follows from the definitions alone. Each function does nothing: its contract is the law.
 
-ghost use Rattle.std.specs.Prelude.{◌≡◌, ◌⊎◌, ◌↔◌, ℕ, ◌<◌, ◌^◌, List, [], length, map, All, Option, None};
+ghost use Rattle.std.specs.Prelude.{◌≡◌, ◌⊎◌, ◌↔◌, ℕ, ◌+◌, ◌<◌, ◌^◌, List, [], ◌∷◌, ◌++◌, length, map, All, Option, None};
 ghost use Rattle.savefile.specs.declared.fault.Fault.{Fault};
 ghost use Rattle.savefile.specs.declared.header.Order.{Order};
 ghost use Rattle.savefile.specs.declared.header.Unit.{Unit as TimeUnit};
 ghost use Rattle.savefile.specs.declared.packet.Packet.{Packet};
 ghost use Rattle.savefile.specs.Savefile.{encoded, in_units, Holds, IsSavefile, IsText, IsWritable, RefusesHeader};
+ghost use Rattle.savefile.specs.Writer.{IsBeginning};
 
 /// A text is a savefile in one way: its header is one, and as many packets as it is read as, they are the same.
 pub fn one_reading()
@@ -45,4 +46,13 @@ pub fn clean_end()
 pub fn round_trip()
     ensures { (order : Order) (unit : TimeUnit) (snap : ℕ) (packets : List Packet) → snap < 2 ^ 32 → All IsWritable packets →
         Holds (encoded order unit snap packets) order unit snap (map (in_units unit) packets) None }
+{}
+
+/// The written text grows with its list. What begins the text of some packets begins the text of more; and one packet
+/// more adds 16 bytes and its own.
+pub fn growing_text()
+    ensures begins { (order : Order) (unit : TimeUnit) (snap : ℕ) (packets more : List Packet) (text : List ℕ) →
+        IsBeginning text (encoded order unit snap packets) → IsBeginning text (encoded order unit snap (packets ++ more)) }
+    ensures adds { (order : Order) (unit : TimeUnit) (snap : ℕ) (packets : List Packet) (packet : Packet) →
+        length (encoded order unit snap (packets ++ packet ∷ [])) ≡ length (encoded order unit snap packets) + 16 + length packet.bytes }
 {}

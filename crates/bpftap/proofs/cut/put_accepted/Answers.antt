@@ -39,6 +39,7 @@ returns-in_err-put_one-clause-writes g c = λ start order unit head written.
     let others = accepted program c.args.snap (drop (i + 1) ps) in
     let told = err_from_is_err_and c.from_residual.result c.from_residual.ensures.1 in
     let gone = goes-further g.W.Sink.taken start order unit head (before ++ accepted program c.args.snap (p ∷ [])) others _ c.put_one.new.writer
+    (c.growing_text.ensures.begins order unit head (before ++ accepted program c.args.snap (p ∷ [])) others)
     (c.in_err-put_one.ensures.writes start order unit head before (c.loop-packet.invariant.written start order unit head written)) in
     rw (told.1, told.2) (subst (λ (qs : List Packet). GoesOn g.W.Sink.taken start order unit head qs (Err c.in_err-put_one.field-0.0) c.put_one.new.writer)
     (sym (accepted-split program c.args.snap ps i p c.loop-packet-test.true c.packet-item.is)) gone)

@@ -1,4 +1,4 @@
-use Rattle.std.proofs.Common.{sym, ◌∙◌}
+use Rattle.std.proofs.Common.{[], sym, ◌∙◌}
 use Rattle.bpftap.specs.Cut.{accepted, cut_text}
 use Rattle.bpftap.specs.Outcome.{GoesOn}
 use Rattle.bpftap.proofs.Writing.{goes-took, opened, not-opened-goes-on}
@@ -17,7 +17,8 @@ returns-clause-writes g c =
           rw (w.written-is, w.writer-is) (w.put_accepted-written.ensures.writes (g.W.Sink.taken c.args.to) c.args.order c.args.unit snap works)
       | else-is_ok w ↦
           rw (w.written-is, w.writer-is) (not-opened-goes-on g.W.Sink.taken (g.W.Sink.taken c.args.to) c.args.order c.args.unit snap c.open-writer.result.1 c.open-writer.result.0
-          c.open-writer.ensures.err c.open-writer.ensures.only (sym c.is_ok.ensures.value ∙ w.if-is_ok.false) wanted)
+          c.open-writer.ensures.err c.open-writer.ensures.only (sym c.is_ok.ensures.value ∙ w.if-is_ok.false) wanted
+          (c.growing_text.ensures.begins c.args.order c.args.unit snap [] wanted))
     ] in
     rw (sym c.meant-snap.ensures) (goes-took g.W.Sink.taken c.args.to c.close-sink.result.0 c.close-sink.result.1 c.args.order c.args.unit snap wanted c.if-is_ok.written c.if-is_ok.writer
     c.close-sink.ensures.sink c.close-sink.ensures.sent gone)
