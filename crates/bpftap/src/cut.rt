@@ -134,7 +134,7 @@ fn write_accepted<W: Sink>(
         × Writes (cut_text program.now snap order unit packets.now) result.2 sent }
     ensures sink_broke { (result.2 ≡ Err Fault.Device) ↔ (W.failures result.0 ≢ W.failures to) }
 {
-    // What was sent before a fault begins the text of all packets.
+    // A header that was not sent whole begins the text of all packets.
     growing_text();
     let snap = meant(snap);
     let (mut writer, mut written) = Writer::open(to, order, unit, snap);
@@ -158,6 +158,7 @@ fn put_accepted<W: Sink>(
         GoesOn W.taken start order unit head (accepted program.now snap packets.now) result writer.new }
     ensures sink_broke { (result ≡ Err Fault.Device) ↔ (W.failures (sink_of writer.new) ≢ W.failures (sink_of writer.old)) }
 {
+    // What was sent before a fault begins the text with the packets behind it, too.
     growing_text();
     for packet in packets {
         put_one(writer, packet, program, snap)?;
@@ -178,6 +179,7 @@ fn put_one<W: Sink>(
         GoesOn W.taken start order unit head (before ++ accepted program.now snap (packet.now ∷ [])) result writer.new }
     ensures sink_broke { (result ≡ Err Fault.Device) ↔ (W.failures (sink_of writer.new) ≢ W.failures (sink_of writer.old)) }
 {
+    // The text grows by this packet's record.
     growing_text();
     let bytes = packet.bytes.as_slice();
     let verdict = bpfvm::run(program, bytes, packet.len);
