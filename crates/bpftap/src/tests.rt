@@ -9,6 +9,7 @@ use savefile::{Counted, Fault, Order, Unit};
 use std::alloc::{AllocError, Global};
 use std::fs::Files;
 use std::io::{ErrorKind, Read, Write};
+use std::os::unix::fs::symlink;
 use std::process::Abort;
 use std::rt::Env;
 use std::test::Fail;
@@ -515,7 +516,7 @@ fn files_are_opened_in_order(rt: HostRuntime) -> Result<(), Fail> {
 
     // The listing goes first, then IN. A header's fault goes before an OUT that cannot be made, and that before a torn
     // record.
-    let refused: [([&str; 3], &str, u8); 12] = [
+    let refused: [([&str; 3], &str, u8); 10] = [
         (
             ["no.bpf", "none.pcap", "out.pcap"],
             "bpftap: Device no.bpf\n",
@@ -544,16 +545,6 @@ fn files_are_opened_in_order(rt: HostRuntime) -> Result<(), Fail> {
         (
             ["all.bpf", "no.pcap", "kept.pcap"],
             "bpftap: ShortHeader\n",
-            1,
-        ),
-        (
-            ["all.bpf", "in.pcap", "in.pcap"],
-            "bpftap: SameFile in.pcap\n",
-            1,
-        ),
-        (
-            ["all.bpf", "in.pcap", "./in.pcap"],
-            "bpftap: SameFile ./in.pcap\n",
             1,
         ),
         (
@@ -603,14 +594,42 @@ fn files_are_opened_in_order(rt: HostRuntime) -> Result<(), Fail> {
         2,
     );
     assert_eq!(rt; fs::read(&rt, "out.pcap")?.as_slice(), wanted.as_slice());
-    // The listing is not overwritten either.
-    cuts(
-        &rt,
-        ["ip.bpf", "in.pcap", "./ip.bpf"],
-        "bpftap: SameFile ./ip.bpf\n",
-        1,
-    );
-    assert_eq!(rt; fs::read(&rt, "ip.bpf")?.as_slice(), ETHERTYPE);
+    fs::remove_dir_all(&rt, scratch.as_str())?;
+    Ok(())
+}
+
+#[test]
+fn out_is_no_file_that_is_read(rt: HostRuntime) -> Result<(), Fail> {
+    let alloc = rt.alloc();
+    let scratch = enter_scratch(&rt, process::id(rt.process()))?;
+    let text = concat(alloc, &[HEADER, IP_RECORD])?;
+    fs::write(&rt, "all.bpf", ALL)?;
+    fs::write(&rt, "in.pcap", text.as_slice())?;
+    fs::hard_link(&rt, "in.pcap", "linked.pcap")?;
+    fs::hard_link(&rt, "all.bpf", "linked.bpf")?;
+    symlink(&rt, "in.pcap", "symbolic.pcap")?;
+    for output in [
+        "in.pcap",
+        "./in.pcap",
+        "linked.pcap",
+        "symbolic.pcap",
+        "all.bpf",
+        "./all.bpf",
+        "linked.bpf",
+    ] {
+        let line = format!(in alloc; "bpftap: SameFile {output}\n")?;
+        cuts(&rt, ["all.bpf", "in.pcap", output], line.as_str(), 1);
+    }
+    // Nothing was lost.
+    assert_eq!(rt; fs::read(&rt, "in.pcap")?.as_slice(), text.as_slice());
+    assert_eq!(rt; fs::read(&rt, "all.bpf")?.as_slice(), ALL);
+    // What is no regular file loses nothing, so that the capture's own fault is told; but the same text is one file.
+    for (output, line) in [
+        ("/dev/./null", "bpftap: ShortHeader\n"),
+        ("/dev/null", "bpftap: SameFile /dev/null\n"),
+    ] {
+        cuts(&rt, ["all.bpf", "/dev/null", output], line, 1);
+    }
     fs::remove_dir_all(&rt, scratch.as_str())?;
     Ok(())
 }
