@@ -634,12 +634,25 @@ fn out_is_no_file_that_is_read(rt: HostRuntime) -> Result<(), Fail> {
     Ok(())
 }
 
-// What OUT has now.
-fn wrote(rt: &(impl Abort + Files + AllocGlobal), written: &[&str]) -> Result<(), Fail> {
-    let wanted = concat(rt.alloc(), written)?;
-    assert_eq!(rt; fs::read(rt, "out.pcap")?.as_slice(), wanted.as_slice());
-    Ok(())
-}
+/// Options of a cut of one IPv4 record, and what OUT has then.
+const OPTIONS: [(&str, &[&str]); 4] = [
+    (
+        "-s 5 -o big -u nano",
+        &[
+            "a1b23c4d 00020004 00000000 00000000 00000005 00000001",
+            "00000002 00000000 00000005 0000000e ffffffffff",
+        ],
+    ),
+    ("-s 262144 -o little -u micro", &[HEADER, IP_RECORD]),
+    ("-s 0", &[HEADER, IP_RECORD]),
+    (
+        "-s 007",
+        &[
+            "d4c3b2a1 02000400 00000000 00000000 07000000 01000000",
+            "02000000 00000000 07000000 0e000000 ffffffffffff00",
+        ],
+    ),
+];
 
 #[test]
 fn the_words_values_are_used(rt: HostRuntime) -> Result<(), Fail> {
@@ -648,52 +661,20 @@ fn the_words_values_are_used(rt: HostRuntime) -> Result<(), Fail> {
     let text = concat(alloc, &[HEADER, IP_RECORD])?;
     fs::write(&rt, "all.bpf", ALL)?;
     fs::write(&rt, "in.pcap", text.as_slice())?;
-    let five =
-        "a1b23c4d 00020004 00000000 00000000 00000005 00000001 00000002 00000000 00000005 0000000e ffffffffff";
-    let seven =
-        "d4c3b2a1 02000400 00000000 00000000 07000000 01000000 02000000 00000000 07000000 0e000000 ffffffffffff00";
-    command(
-        &rt,
-        &[
-            "bpftap", "cut", "-s", "5", "-o", "big", "-u", "nano", "-f", "all.bpf", "in.pcap",
-            "out.pcap",
-        ],
-        "",
-        "",
-        0,
-    );
-    wrote(&rt, &[five])?;
-    command(
-        &rt,
-        &[
-            "bpftap", "cut", "-s", "262144", "-o", "little", "-u", "micro", "-f", "all.bpf",
-            "in.pcap", "out.pcap",
-        ],
-        "",
-        "",
-        0,
-    );
-    wrote(&rt, &[HEADER, IP_RECORD])?;
-    command(
-        &rt,
-        &[
-            "bpftap", "cut", "-s", "0", "-f", "all.bpf", "in.pcap", "out.pcap",
-        ],
-        "",
-        "",
-        0,
-    );
-    wrote(&rt, &[HEADER, IP_RECORD])?;
-    command(
-        &rt,
-        &[
-            "bpftap", "cut", "-s", "007", "-f", "all.bpf", "in.pcap", "out.pcap",
-        ],
-        "",
-        "",
-        0,
-    );
-    wrote(&rt, &[seven])?;
+    for (options, written) in OPTIONS {
+        let line = format!(in alloc; "bpftap cut {options} -f all.bpf in.pcap out.pcap")?;
+        let mut words = Vec::new(alloc);
+        for word in line.as_str().split(' ') {
+            words.push(word)?;
+        }
+        command(&rt, words.as_slice(), "", "", 0);
+        let wanted = concat(alloc, written)?;
+        assert_eq!(rt;
+            fs::read(&rt, "out.pcap")?.as_slice(),
+            wanted.as_slice(),
+            "{options:?}"
+        );
+    }
     fs::remove_dir_all(&rt, scratch.as_str())?;
     Ok(())
 }
