@@ -9,6 +9,7 @@ use savefile::{Counted, Fault, Order, Unit};
 use std::alloc::{AllocError, Global};
 use std::fs::Files;
 use std::io::{ErrorKind, Read, Write};
+use std::os::unix::fs::symlink;
 use std::process::Abort;
 use std::rt::Env;
 use std::test::Fail;
@@ -515,7 +516,7 @@ fn files_are_opened_in_order(rt: HostRuntime) -> Result<(), Fail> {
 
     // The listing goes first, then IN. A header's fault goes before an OUT that cannot be made, and that before a torn
     // record.
-    let refused: [([&str; 3], &str, u8); 12] = [
+    let refused: [([&str; 3], &str, u8); 10] = [
         (
             ["no.bpf", "none.pcap", "out.pcap"],
             "bpftap: Device no.bpf\n",
@@ -544,16 +545,6 @@ fn files_are_opened_in_order(rt: HostRuntime) -> Result<(), Fail> {
         (
             ["all.bpf", "no.pcap", "kept.pcap"],
             "bpftap: ShortHeader\n",
-            1,
-        ),
-        (
-            ["all.bpf", "in.pcap", "in.pcap"],
-            "bpftap: SameFile in.pcap\n",
-            1,
-        ),
-        (
-            ["all.bpf", "in.pcap", "./in.pcap"],
-            "bpftap: SameFile ./in.pcap\n",
             1,
         ),
         (
@@ -603,24 +594,65 @@ fn files_are_opened_in_order(rt: HostRuntime) -> Result<(), Fail> {
         2,
     );
     assert_eq!(rt; fs::read(&rt, "out.pcap")?.as_slice(), wanted.as_slice());
-    // The listing is not overwritten either.
-    cuts(
-        &rt,
-        ["ip.bpf", "in.pcap", "./ip.bpf"],
-        "bpftap: SameFile ./ip.bpf\n",
-        1,
-    );
-    assert_eq!(rt; fs::read(&rt, "ip.bpf")?.as_slice(), ETHERTYPE);
     fs::remove_dir_all(&rt, scratch.as_str())?;
     Ok(())
 }
 
-// What OUT has now.
-fn wrote(rt: &(impl Abort + Files + AllocGlobal), written: &[&str]) -> Result<(), Fail> {
-    let wanted = concat(rt.alloc(), written)?;
-    assert_eq!(rt; fs::read(rt, "out.pcap")?.as_slice(), wanted.as_slice());
+#[test]
+fn out_is_no_file_that_is_read(rt: HostRuntime) -> Result<(), Fail> {
+    let alloc = rt.alloc();
+    let scratch = enter_scratch(&rt, process::id(rt.process()))?;
+    let text = concat(alloc, &[HEADER, IP_RECORD])?;
+    fs::write(&rt, "all.bpf", ALL)?;
+    fs::write(&rt, "in.pcap", text.as_slice())?;
+    fs::hard_link(&rt, "in.pcap", "linked.pcap")?;
+    fs::hard_link(&rt, "all.bpf", "linked.bpf")?;
+    symlink(&rt, "in.pcap", "symbolic.pcap")?;
+    for output in [
+        "in.pcap",
+        "./in.pcap",
+        "linked.pcap",
+        "symbolic.pcap",
+        "all.bpf",
+        "./all.bpf",
+        "linked.bpf",
+    ] {
+        let line = format!(in alloc; "bpftap: SameFile {output}\n")?;
+        cuts(&rt, ["all.bpf", "in.pcap", output], line.as_str(), 1);
+    }
+    // Nothing was lost.
+    assert_eq!(rt; fs::read(&rt, "in.pcap")?.as_slice(), text.as_slice());
+    assert_eq!(rt; fs::read(&rt, "all.bpf")?.as_slice(), ALL);
+    // What is no regular file loses nothing, so that the capture's own fault is told; but the same text is one file.
+    for (output, line) in [
+        ("/dev/./null", "bpftap: ShortHeader\n"),
+        ("/dev/null", "bpftap: SameFile /dev/null\n"),
+    ] {
+        cuts(&rt, ["all.bpf", "/dev/null", output], line, 1);
+    }
+    fs::remove_dir_all(&rt, scratch.as_str())?;
     Ok(())
 }
+
+/// Options of a cut of one IPv4 record, and what OUT has then.
+const OPTIONS: [(&str, &[&str]); 4] = [
+    (
+        "-s 5 -o big -u nano",
+        &[
+            "a1b23c4d 00020004 00000000 00000000 00000005 00000001",
+            "00000002 00000000 00000005 0000000e ffffffffff",
+        ],
+    ),
+    ("-s 262144 -o little -u micro", &[HEADER, IP_RECORD]),
+    ("-s 0", &[HEADER, IP_RECORD]),
+    (
+        "-s 007",
+        &[
+            "d4c3b2a1 02000400 00000000 00000000 07000000 01000000",
+            "02000000 00000000 07000000 0e000000 ffffffffffff00",
+        ],
+    ),
+];
 
 #[test]
 fn the_words_values_are_used(rt: HostRuntime) -> Result<(), Fail> {
@@ -629,52 +661,20 @@ fn the_words_values_are_used(rt: HostRuntime) -> Result<(), Fail> {
     let text = concat(alloc, &[HEADER, IP_RECORD])?;
     fs::write(&rt, "all.bpf", ALL)?;
     fs::write(&rt, "in.pcap", text.as_slice())?;
-    let five =
-        "a1b23c4d 00020004 00000000 00000000 00000005 00000001 00000002 00000000 00000005 0000000e ffffffffff";
-    let seven =
-        "d4c3b2a1 02000400 00000000 00000000 07000000 01000000 02000000 00000000 07000000 0e000000 ffffffffffff00";
-    command(
-        &rt,
-        &[
-            "bpftap", "cut", "-s", "5", "-o", "big", "-u", "nano", "-f", "all.bpf", "in.pcap",
-            "out.pcap",
-        ],
-        "",
-        "",
-        0,
-    );
-    wrote(&rt, &[five])?;
-    command(
-        &rt,
-        &[
-            "bpftap", "cut", "-s", "262144", "-o", "little", "-u", "micro", "-f", "all.bpf",
-            "in.pcap", "out.pcap",
-        ],
-        "",
-        "",
-        0,
-    );
-    wrote(&rt, &[HEADER, IP_RECORD])?;
-    command(
-        &rt,
-        &[
-            "bpftap", "cut", "-s", "0", "-f", "all.bpf", "in.pcap", "out.pcap",
-        ],
-        "",
-        "",
-        0,
-    );
-    wrote(&rt, &[HEADER, IP_RECORD])?;
-    command(
-        &rt,
-        &[
-            "bpftap", "cut", "-s", "007", "-f", "all.bpf", "in.pcap", "out.pcap",
-        ],
-        "",
-        "",
-        0,
-    );
-    wrote(&rt, &[seven])?;
+    for (options, written) in OPTIONS {
+        let line = format!(in alloc; "bpftap cut {options} -f all.bpf in.pcap out.pcap")?;
+        let mut words = Vec::new(alloc);
+        for word in line.as_str().split(' ') {
+            words.push(word)?;
+        }
+        command(&rt, words.as_slice(), "", "", 0);
+        let wanted = concat(alloc, written)?;
+        assert_eq!(rt;
+            fs::read(&rt, "out.pcap")?.as_slice(),
+            wanted.as_slice(),
+            "{options:?}"
+        );
+    }
     fs::remove_dir_all(&rt, scratch.as_str())?;
     Ok(())
 }

@@ -4,7 +4,9 @@ use crate::fault::Fault;
 use crate::parser::parse;
 use crate::token::EthernetAddress;
 use crate::tree::Direction::{Dst, Src, SrcAndDst, SrcOrDst};
+use crate::tree::Network::{Arp, Ip, Rarp};
 use crate::tree::Primitive::{EtherBroadcast, EtherMulticast, Greater, IpMulticast, Less};
+use crate::tree::Transport::{Sctp, Tcp, Udp};
 use crate::tree::{Direction, Expr, Network, Plain, Primitive, Transport};
 use std::alloc::Global;
 use std::process::Abort;
@@ -59,15 +61,21 @@ fn or(alloc: Global, left: Expr, right: Expr) -> Result<Expr, Fault> {
     Ok(Expr::Or(left, Box::new(alloc, right)?))
 }
 
+/// Each of these texts reads as its test alone.
+fn each_reads_as(rt: &(impl Abort + AllocGlobal), rows: &[(&str, Primitive)]) -> Result<(), Fail> {
+    for (text, primitive) in rows {
+        assert_eq!(rt;
+            parse(rt.alloc(), text)?,
+            Expr::Test(*primitive),
+            "{text:?}"
+        );
+    }
+    Ok(())
+}
+
 #[test]
-fn a_primitive_reads_as_its_test(rt: HostRuntime) -> Result<(), Fail> {
-    let (ip, arp, rarp) = (Some(Network::Ip), Some(Network::Arp), Some(Network::Rarp));
-    let (tcp, udp, sctp) = (
-        Some(Transport::Tcp),
-        Some(Transport::Udp),
-        Some(Transport::Sctp),
-    );
-    let cases = [
+fn a_word_or_a_length_reads_as_its_test(rt: HostRuntime) -> Result<(), Fail> {
+    let rows = [
         ("ip", Primitive::Protocol(Plain::Ip)),
         ("arp", Primitive::Protocol(Plain::Arp)),
         ("rarp", Primitive::Protocol(Plain::Rarp)),
@@ -83,13 +91,20 @@ fn a_primitive_reads_as_its_test(rt: HostRuntime) -> Result<(), Fail> {
         ("less 60", Less(60)),
         ("less 0", Less(0)),
         ("greater 4294967295", Greater(4_294_967_295)),
+    ];
+    each_reads_as(&rt, rows.as_slice())
+}
+
+#[test]
+fn a_host_reads_as_its_test(rt: HostRuntime) -> Result<(), Fail> {
+    let rows = [
         ("host 10.0.0.1", host(None, SrcOrDst, 0x0a00_0001)),
-        ("ip 10.0.0.1", host(ip, SrcOrDst, 0x0a00_0001)),
+        ("ip 10.0.0.1", host(Some(Ip), SrcOrDst, 0x0a00_0001)),
         ("src 10.0.0.1", host(None, Src, 0x0a00_0001)),
-        ("arp dst host 10.0.0.1", host(arp, Dst, 0x0a00_0001)),
+        ("arp dst host 10.0.0.1", host(Some(Arp), Dst, 0x0a00_0001)),
         (
             "rarp src and dst 10.0.0.1",
-            host(rarp, SrcAndDst, 0x0a00_0001),
+            host(Some(Rarp), SrcAndDst, 0x0a00_0001),
         ),
         (
             "ether 0:1:2:3:4:5",
@@ -99,16 +114,26 @@ fn a_primitive_reads_as_its_test(rt: HostRuntime) -> Result<(), Fail> {
             "ether dst host 0:1:2:3:4:5",
             ether_host(Dst, [0, 1, 2, 3, 4, 5]),
         ),
+    ];
+    each_reads_as(&rt, rows.as_slice())
+}
+
+#[test]
+fn a_net_reads_as_its_test(rt: HostRuntime) -> Result<(), Fail> {
+    let rows = [
         ("net 10", net(None, SrcOrDst, 0x0a00_0000, 0xff00_0000)),
         ("src net 255", net(None, Src, 0xff00_0000, 0xff00_0000)),
-        ("ip net 10.1", net(ip, SrcOrDst, 0x0a01_0000, 0xffff_0000)),
+        (
+            "ip net 10.1",
+            net(Some(Ip), SrcOrDst, 0x0a01_0000, 0xffff_0000),
+        ),
         (
             "arp net 10.1.2",
-            net(arp, SrcOrDst, 0x0a01_0200, 0xffff_ff00),
+            net(Some(Arp), SrcOrDst, 0x0a01_0200, 0xffff_ff00),
         ),
         (
             "rarp net 10.1.2.3",
-            net(rarp, SrcOrDst, 0x0a01_0203, 0xffff_ffff),
+            net(Some(Rarp), SrcOrDst, 0x0a01_0203, 0xffff_ffff),
         ),
         ("net 0.0.0.0/0", net(None, SrcOrDst, 0, 0)),
         ("dst net 10.0/8", net(None, Dst, 0x0a00_0000, 0xff00_0000)),
@@ -124,19 +149,36 @@ fn a_primitive_reads_as_its_test(rt: HostRuntime) -> Result<(), Fail> {
             "net 10.0.0.1 mask 255.0.0.255",
             net(None, SrcOrDst, 0x0a00_0001, 0xff00_00ff),
         ),
+    ];
+    each_reads_as(&rt, rows.as_slice())
+}
+
+#[test]
+fn a_port_reads_as_its_test(rt: HostRuntime) -> Result<(), Fail> {
+    let rows = [
         ("port 0", ports(None, SrcOrDst, 0, 0)),
         ("port 65535", ports(None, SrcOrDst, 65535, 65535)),
-        ("tcp dst port 20", ports(tcp, Dst, 20, 20)),
-        ("udp src or dst port 53", ports(udp, SrcOrDst, 53, 53)),
-        ("sctp src and dst port 9", ports(sctp, SrcAndDst, 9, 9)),
+        ("tcp dst port 20", ports(Some(Tcp), Dst, 20, 20)),
+        ("udp src or dst port 53", ports(Some(Udp), SrcOrDst, 53, 53)),
+        (
+            "sctp src and dst port 9",
+            ports(Some(Sctp), SrcAndDst, 9, 9),
+        ),
         ("portrange 30-20", ports(None, SrcOrDst, 20, 30)),
         ("portrange 0-65535", ports(None, SrcOrDst, 0, 65535)),
-        ("tcp portrange 7-7", ports(tcp, SrcOrDst, 7, 7)),
-        ("udp src portrange 20-30", ports(udp, Src, 20, 30)),
+        ("tcp portrange 7-7", ports(Some(Tcp), SrcOrDst, 7, 7)),
+        ("udp src portrange 20-30", ports(Some(Udp), Src, 20, 30)),
         (
             "dst and src portrange 20-30",
             ports(None, SrcAndDst, 20, 30),
         ),
+    ];
+    each_reads_as(&rt, rows.as_slice())
+}
+
+#[test]
+fn a_protocol_number_reads_as_its_test(rt: HostRuntime) -> Result<(), Fail> {
+    let rows = [
         ("proto 0", Primitive::IpProto(0)),
         ("ip proto 255", Primitive::IpProto(255)),
         ("proto \\icmp", Primitive::IpProto(1)),
@@ -148,10 +190,7 @@ fn a_primitive_reads_as_its_test(rt: HostRuntime) -> Result<(), Fail> {
         ("ether proto \\arp", Primitive::EtherProto(0x0806)),
         ("ether proto \\rarp", Primitive::EtherProto(0x8035)),
     ];
-    for (text, primitive) in cases {
-        assert_eq!(rt; parse(rt.alloc(), text)?, Expr::Test(primitive), "{text:?}");
-    }
-    Ok(())
+    each_reads_as(&rt, rows.as_slice())
 }
 
 #[test]
