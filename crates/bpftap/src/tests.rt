@@ -142,89 +142,94 @@ fn ethertype_listing_keeps_the_ip_record(rt: HostRuntime) -> Result<(), Fail> {
     Ok(())
 }
 
+/// Texts whose header is refused, and the fault.
+const REFUSED_HEADERS: [(&str, &str); 6] = [
+    ("", "bpftap: ShortHeader\n"),
+    // 23 bytes
+    (
+        "d4c3b2a1 02000400 00000000 00000000 00000400 010000",
+        "bpftap: ShortHeader\n",
+    ),
+    (
+        "0a0d0d0a 02000400 00000000 00000000 00000400 01000000",
+        "bpftap: NotSavefile\n",
+    ),
+    // 3.4 and 2.3
+    (
+        "d4c3b2a1 03000400 00000000 00000000 00000400 01000000",
+        "bpftap: Version\n",
+    ),
+    (
+        "d4c3b2a1 02000300 00000000 00000000 00000400 01000000",
+        "bpftap: Version\n",
+    ),
+    // Linux cooked
+    (
+        "d4c3b2a1 02000400 00000000 00000000 00000400 71000000",
+        "bpftap: LinkType\n",
+    ),
+];
+
+#[test]
+fn a_refused_header_is_told_and_nothing_is_written(rt: HostRuntime) -> Result<(), Fail> {
+    for (text, err) in REFUSED_HEADERS {
+        let bytes = bytes_of(rt.alloc(), text)?;
+        let seen = cut_text(&rt, ALL, 0, bytes.as_slice());
+        check(&rt, text, &seen, b"", err, 1);
+    }
+    Ok(())
+}
+
+/// What of a text is written again, what stands behind it, the fault and its status.
+const ENDS: [(&[&str], &str, &str, u8); 6] = [
+    (&[HEADER], "", "", 0),
+    (
+        &[HEADER, IP_RECORD],
+        "02000000 000000",
+        "bpftap: TornRecord 1\n",
+        2,
+    ),
+    // a fraction of a million, and the greatest one
+    (
+        &[HEADER, IP_RECORD],
+        "01000000 40420f00 00000000 00000000",
+        "bpftap: BadFraction 1\n",
+        2,
+    ),
+    (&[HEADER, "01000000 3f420f00 00000000 00000000"], "", "", 0),
+    // a captured length of 262,145, and both
+    (
+        &[HEADER],
+        "01000000 00000000 01000400 01000400",
+        "bpftap: TooLong 0\n",
+        2,
+    ),
+    (
+        &[HEADER],
+        "01000000 40420f00 01000400 01000400",
+        "bpftap: BadFraction 0\n",
+        2,
+    ),
+];
+
 #[test]
 fn each_end_is_told(rt: HostRuntime) -> Result<(), Fail> {
     let alloc = rt.alloc();
-    // What stands in the capture, what is written of it, the line, the status.
-    let big = "a1b2c3d4 00020004 00000000 00000000 00040000 00000001";
-    let version = "d4c3b2a1 03000400 00000000 00000000 00000400 01000000";
-    let link = "d4c3b2a1 02000400 00000000 00000000 00000400 71000000";
-    let bad = "01000000 40420f00 00000000 00000000";
-    let long = "01000000 00000000 01000400 01000400";
-    let both = "01000000 40420f00 01000400 01000400";
-    let last = "01000000 3f420f00 00000000 00000000";
-    let cases: [(&str, &[&str], &[&str], &str, u8); 12] = [
-        ("nothing", &[], &[], "bpftap: ShortHeader\n", 1),
-        (
-            "23 bytes",
-            &["d4c3b2a1 02000400 00000000 00000000 00000400 010000"],
-            &[],
-            "bpftap: ShortHeader\n",
-            1,
-        ),
-        (
-            "no savefile",
-            &["0a0d0d0a 02000400 00000000 00000000 00000400 01000000"],
-            &[],
-            "bpftap: NotSavefile\n",
-            1,
-        ),
-        ("version 3.4", &[version], &[], "bpftap: Version\n", 1),
-        (
-            "version 2.3",
-            &["d4c3b2a1 02000300 00000000 00000000 00000400 01000000"],
-            &[],
-            "bpftap: Version\n",
-            1,
-        ),
-        ("Linux cooked", &[link], &[], "bpftap: LinkType\n", 1),
-        ("the header alone", &[HEADER], &[HEADER], "", 0),
-        ("the header alone, big-endian", &[big], &[HEADER], "", 0),
-        (
-            "a torn record header",
-            &[HEADER, IP_RECORD, "02000000 000000"],
-            &[HEADER, IP_RECORD],
-            "bpftap: TornRecord 1\n",
-            2,
-        ),
-        (
-            "a fraction of a million",
-            &[HEADER, IP_RECORD, bad],
-            &[HEADER, IP_RECORD],
-            "bpftap: BadFraction 1\n",
-            2,
-        ),
-        (
-            "a captured length too long",
-            &[HEADER, long],
-            &[HEADER],
-            "bpftap: TooLong 0\n",
-            2,
-        ),
-        (
-            "both",
-            &[HEADER, both],
-            &[HEADER],
-            "bpftap: BadFraction 0\n",
-            2,
-        ),
-    ];
-    for (what, text, written, err, status) in cases {
-        let text = concat(alloc, text)?;
-        let written = concat(alloc, written)?;
+    for (whole, rest, err, status) in ENDS {
+        let wanted = concat(alloc, whole)?;
+        let mut text = concat(alloc, whole)?;
+        text.extend_from_slice(bytes_of(alloc, rest)?.as_slice())?;
         let seen = cut_text(&rt, ALL, 0, text.as_slice());
-        check(&rt, what, &seen, written.as_slice(), err, status);
+        check(&rt, rest, &seen, wanted.as_slice(), err, status);
     }
-    let text = concat(alloc, &[HEADER, last])?;
+    // A capture without packets in the other byte order.
+    let text = bytes_of(
+        alloc,
+        "a1b2c3d4 00020004 00000000 00000000 00040000 00000001",
+    )?;
+    let wanted = bytes_of(alloc, HEADER)?;
     let seen = cut_text(&rt, ALL, 0, text.as_slice());
-    check(
-        &rt,
-        "a fraction below a million",
-        &seen,
-        text.as_slice(),
-        "",
-        0,
-    );
+    check(&rt, "big-endian", &seen, wanted.as_slice(), "", 0);
     Ok(())
 }
 
@@ -497,6 +502,61 @@ fn cuts(rt: &(impl Abort + Files + AllocGlobal), paths: [&str; 3], err: &str, st
     command(rt, &words, "", err, status);
 }
 
+/// LISTING, IN and OUT of a cut that fails, the line and the status. The listing goes first, then IN. A header's fault
+/// goes before an OUT that cannot be made, and that before a torn record.
+const FAILURES: [([&str; 3], &str, u8); 10] = [
+    (
+        ["no.bpf", "none.pcap", "out.pcap"],
+        "bpftap: Device no.bpf\n",
+        3,
+    ),
+    (
+        ["folder", "none.pcap", "out.pcap"],
+        "bpftap: Device folder\n",
+        3,
+    ),
+    (
+        ["bad.bpf", "none.pcap", "kept.pcap"],
+        "bpftap: Program UnknownCode 0\n",
+        1,
+    ),
+    (
+        ["all.bpf", "none.pcap", "kept.pcap"],
+        "bpftap: Device none.pcap\n",
+        3,
+    ),
+    (
+        ["all.bpf", "folder", "kept.pcap"],
+        "bpftap: Device folder\n",
+        3,
+    ),
+    (
+        ["all.bpf", "no.pcap", "kept.pcap"],
+        "bpftap: ShortHeader\n",
+        1,
+    ),
+    (
+        ["all.bpf", "no.pcap", "gone/out.pcap"],
+        "bpftap: ShortHeader\n",
+        1,
+    ),
+    (
+        ["all.bpf", "torn.pcap", "gone/out.pcap"],
+        "bpftap: Device gone/out.pcap\n",
+        3,
+    ),
+    (
+        ["all.bpf", "in.pcap", "folder"],
+        "bpftap: Device folder\n",
+        3,
+    ),
+    (
+        ["all.bpf", "empty.pcap", "kept.pcap"],
+        "bpftap: ShortHeader\n",
+        1,
+    ),
+];
+
 #[test]
 fn files_are_opened_in_order(rt: HostRuntime) -> Result<(), Fail> {
     let alloc = rt.alloc();
@@ -514,61 +574,7 @@ fn files_are_opened_in_order(rt: HostRuntime) -> Result<(), Fail> {
     fs::write(&rt, "kept.pcap", b"kept".as_slice())?;
     fs::write(&rt, "empty.pcap", b"".as_slice())?;
 
-    // The listing goes first, then IN. A header's fault goes before an OUT that cannot be made, and that before a torn
-    // record.
-    let refused: [([&str; 3], &str, u8); 10] = [
-        (
-            ["no.bpf", "none.pcap", "out.pcap"],
-            "bpftap: Device no.bpf\n",
-            3,
-        ),
-        (
-            ["folder", "none.pcap", "out.pcap"],
-            "bpftap: Device folder\n",
-            3,
-        ),
-        (
-            ["bad.bpf", "none.pcap", "kept.pcap"],
-            "bpftap: Program UnknownCode 0\n",
-            1,
-        ),
-        (
-            ["all.bpf", "none.pcap", "kept.pcap"],
-            "bpftap: Device none.pcap\n",
-            3,
-        ),
-        (
-            ["all.bpf", "folder", "kept.pcap"],
-            "bpftap: Device folder\n",
-            3,
-        ),
-        (
-            ["all.bpf", "no.pcap", "kept.pcap"],
-            "bpftap: ShortHeader\n",
-            1,
-        ),
-        (
-            ["all.bpf", "no.pcap", "gone/out.pcap"],
-            "bpftap: ShortHeader\n",
-            1,
-        ),
-        (
-            ["all.bpf", "torn.pcap", "gone/out.pcap"],
-            "bpftap: Device gone/out.pcap\n",
-            3,
-        ),
-        (
-            ["all.bpf", "in.pcap", "folder"],
-            "bpftap: Device folder\n",
-            3,
-        ),
-        (
-            ["all.bpf", "empty.pcap", "kept.pcap"],
-            "bpftap: ShortHeader\n",
-            1,
-        ),
-    ];
-    for (paths, err, status) in refused {
+    for (paths, err, status) in FAILURES {
         cuts(&rt, paths, err, status);
     }
     // Nothing was lost.
@@ -578,21 +584,8 @@ fn files_are_opened_in_order(rt: HostRuntime) -> Result<(), Fail> {
 
     cuts(&rt, ["ip.bpf", "in.pcap", "kept.pcap"], "", 0);
     assert_eq!(rt; fs::read(&rt, "kept.pcap")?.as_slice(), wanted.as_slice());
-    command(
-        &rt,
-        &[
-            "bpftap",
-            "cut",
-            "-f",
-            "all.bpf",
-            "-s0",
-            "torn.pcap",
-            "out.pcap",
-        ],
-        "",
-        "bpftap: TornRecord 1\n",
-        2,
-    );
+    let paths = ["all.bpf", "torn.pcap", "out.pcap"];
+    cuts(&rt, paths, "bpftap: TornRecord 1\n", 2);
     assert_eq!(rt; fs::read(&rt, "out.pcap")?.as_slice(), wanted.as_slice());
     fs::remove_dir_all(&rt, scratch.as_str())?;
     Ok(())
@@ -635,7 +628,7 @@ fn out_is_no_file_that_is_read(rt: HostRuntime) -> Result<(), Fail> {
 }
 
 /// Options of a cut of one IPv4 record, and what OUT has then.
-const OPTIONS: [(&str, &[&str]); 4] = [
+const OPTIONS: [(&str, &[&str]); 5] = [
     (
         "-s 5 -o big -u nano",
         &[
@@ -645,6 +638,7 @@ const OPTIONS: [(&str, &[&str]); 4] = [
     ),
     ("-s 262144 -o little -u micro", &[HEADER, IP_RECORD]),
     ("-s 0", &[HEADER, IP_RECORD]),
+    ("-s0", &[HEADER, IP_RECORD]),
     (
         "-s 007",
         &[
@@ -694,55 +688,59 @@ fn help_that_cannot_be_printed_is_told(rt: HostRuntime) {
     );
 }
 
+/// Words that are no command.
+const WRONG_WORDS: [&[&str]; 12] = [
+    &["bpftap"],
+    &["bpftap", "dump"],
+    &["bpftap", "cut"],
+    &["bpftap", "cut", "-s", "0", "in.pcap", "out.pcap"],
+    &["bpftap", "cut", "-s", "0", "-f", "x", "in.pcap"],
+    &[
+        "bpftap", "cut", "-s", "0", "-f", "x", "in.pcap", "out.pcap", "more",
+    ],
+    &[
+        "bpftap", "cut", "-s", "262145", "-f", "x", "in.pcap", "out.pcap",
+    ],
+    &[
+        "bpftap", "cut", "-s", "+5", "-f", "x", "in.pcap", "out.pcap",
+    ],
+    &["bpftap", "cut", "-s", "", "-f", "x", "in.pcap", "out.pcap"],
+    &[
+        "bpftap",
+        "cut",
+        "-s",
+        "99999999999",
+        "-f",
+        "x",
+        "in.pcap",
+        "out.pcap",
+    ],
+    &[
+        "bpftap", "cut", "-s", "0", "-f", "x", "-o", "middle", "in.pcap", "out.pcap",
+    ],
+    &[
+        "bpftap", "cut", "-s", "0", "-f", "x", "-u", "milli", "in.pcap", "out.pcap",
+    ],
+];
+
+/// Words that ask for help, and a part of it.
+const HELP: [(&[&str], &str); 3] = [
+    (&["bpftap", "--help"], "Examples:\n"),
+    (&["bpftap", "help", "cut"], "[default: little]"),
+    (&["bpftap", "cut", "-h"], "[default: micro]"),
+];
+
 #[test]
 fn wrong_words_end_with_one_and_help_with_none(rt: HostRuntime) -> Result<(), Fail> {
     let alloc = rt.alloc();
-    let wrong: [&[&str]; 12] = [
-        &["bpftap"],
-        &["bpftap", "dump"],
-        &["bpftap", "cut"],
-        &["bpftap", "cut", "-s", "0", "in.pcap", "out.pcap"],
-        &["bpftap", "cut", "-s", "0", "-f", "x", "in.pcap"],
-        &[
-            "bpftap", "cut", "-s", "0", "-f", "x", "in.pcap", "out.pcap", "more",
-        ],
-        &[
-            "bpftap", "cut", "-s", "262145", "-f", "x", "in.pcap", "out.pcap",
-        ],
-        &[
-            "bpftap", "cut", "-s", "+5", "-f", "x", "in.pcap", "out.pcap",
-        ],
-        &["bpftap", "cut", "-s", "", "-f", "x", "in.pcap", "out.pcap"],
-        &[
-            "bpftap",
-            "cut",
-            "-s",
-            "99999999999",
-            "-f",
-            "x",
-            "in.pcap",
-            "out.pcap",
-        ],
-        &[
-            "bpftap", "cut", "-s", "0", "-f", "x", "-o", "middle", "in.pcap", "out.pcap",
-        ],
-        &[
-            "bpftap", "cut", "-s", "0", "-f", "x", "-u", "milli", "in.pcap", "out.pcap",
-        ],
-    ];
-    for words in wrong {
+    for words in WRONG_WORDS {
         let mut out: Vec<u8> = Vec::new(alloc);
         let mut err: Vec<u8> = Vec::new(alloc);
         assert_eq!(rt; run(&rt, words, &mut out, &mut err), 1, "{words:?}");
         assert!(rt; out.is_empty(), "{words:?}");
         assert!(rt; !err.is_empty(), "{words:?}");
     }
-    let help: [(&[&str], &str); 3] = [
-        (&["bpftap", "--help"], "Examples:\n"),
-        (&["bpftap", "help", "cut"], "[default: little]"),
-        (&["bpftap", "cut", "-h"], "[default: micro]"),
-    ];
-    for (words, part) in help {
+    for (words, part) in HELP {
         let mut out: Vec<u8> = Vec::new(alloc);
         let mut err: Vec<u8> = Vec::new(alloc);
         assert_eq!(rt; run(&rt, words, &mut out, &mut err), 0, "{words:?}");
