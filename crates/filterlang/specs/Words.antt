@@ -1,10 +1,16 @@
--- Words and signs, as the tables of src/words.rt have them.
-use Rattle.std.specs.Prelude.{ℕ, Bool, false, not, ◌&&◌, List, [], ◌∷◌, Option, length, drop, map, option_map, nat_eq}
+-- The words and signs of the language, and how they are found in a text.
+use Rattle.std.specs.Prelude.{ℕ, Bool, false, not, ◌&&◌, List, [], ◌∷◌, Option, length, codes, drop, map, option_map, nat_eq}
 use Rattle.std.specs.Borrow.{Bor}
 use Rattle.std.specs.Char.{is_ascii_alphanumeric}
 use Rattle.std.specs.List.{find, starts_with}
 use Rattle.filterlang.specs.declared.token.Kind.{Kind}
-use Rattle.filterlang.specs.declared.words.TheConstants.{WORDS, NAMES, SIGNS}
+use Rattle.filterlang.specs.declared.token.Kind.TheVariants as kind
+use Rattle.filterlang.specs.declared.token.Protocol.TheVariants as protocol
+use Rattle.filterlang.specs.declared.token.TypeWord.TheVariants as type_word
+use Rattle.filterlang.specs.declared.token.Side.TheVariants as side
+use Rattle.filterlang.specs.declared.token.Joint.TheVariants as joint
+use Rattle.filterlang.specs.declared.token.Operator.TheVariants as operator
+use Rattle.filterlang.specs.declared.token.Comparison.TheVariants as comparison
 
 -- an entry of a table: a spelling, and what it stands for
 abbrev pub Entry : Type 0
@@ -14,15 +20,87 @@ Entry = List ℕ × Kind
 abbrev pub entries_of : List (Bor (List ℕ) × Kind) → List Entry
 entries_of table = map (λ entry. (entry.0.now, entry.1)) table
 
--- the tables of src/words.rt
+-- The words. Of two that stand at a place the first is meant, so the hyphenated ones come first.
 unfoldable pub words : List Entry
-words = map (λ entry. (entry.0.now, entry.1)) WORDS
+words =
+    (codes "tcp-fin", kind.Named 1)
+    ∷ (codes "tcp-syn", kind.Named 2)
+    ∷ (codes "tcp-rst", kind.Named 4)
+    ∷ (codes "tcp-push", kind.Named 8)
+    ∷ (codes "tcp-ack", kind.Named 16)
+    ∷ (codes "tcp-urg", kind.Named 32)
+    ∷ (codes "icmp-echoreply", kind.Named 0)
+    ∷ (codes "icmp-unreach", kind.Named 3)
+    ∷ (codes "icmp-redirect", kind.Named 5)
+    ∷ (codes "icmp-echo", kind.Named 8)
+    ∷ (codes "icmp-timxceed", kind.Named 11)
+    ∷ (codes "tcpflags", kind.Named 13)
+    ∷ (codes "icmptype", kind.Named 0)
+    ∷ (codes "icmpcode", kind.Named 1)
+    ∷ (codes "ether", kind.Protocol protocol.Ether)
+    ∷ (codes "ip", kind.Protocol protocol.Ip)
+    ∷ (codes "arp", kind.Protocol protocol.Arp)
+    ∷ (codes "rarp", kind.Protocol protocol.Rarp)
+    ∷ (codes "tcp", kind.Protocol protocol.Tcp)
+    ∷ (codes "udp", kind.Protocol protocol.Udp)
+    ∷ (codes "icmp", kind.Protocol protocol.Icmp)
+    ∷ (codes "sctp", kind.Protocol protocol.Sctp)
+    ∷ (codes "host", kind.Type type_word.Host)
+    ∷ (codes "net", kind.Type type_word.Net)
+    ∷ (codes "port", kind.Type type_word.Port)
+    ∷ (codes "portrange", kind.PortRange)
+    ∷ (codes "proto", kind.Type type_word.Proto)
+    ∷ (codes "src", kind.Side side.Src)
+    ∷ (codes "dst", kind.Side side.Dst)
+    ∷ (codes "and", kind.Joint joint.And)
+    ∷ (codes "or", kind.Joint joint.Or)
+    ∷ (codes "not", kind.Not)
+    ∷ (codes "mask", kind.Mask)
+    ∷ (codes "less", kind.Less)
+    ∷ (codes "greater", kind.Greater)
+    ∷ (codes "len", kind.Len)
+    ∷ (codes "broadcast", kind.Broadcast)
+    ∷ (codes "multicast", kind.Multicast)
+    ∷ []
 
+-- the names behind a backslash
 unfoldable pub names : List Entry
-names = map (λ entry. (entry.0.now, entry.1)) NAMES
+names =
+    (codes "tcp", kind.Name protocol.Tcp)
+    ∷ (codes "udp", kind.Name protocol.Udp)
+    ∷ (codes "icmp", kind.Name protocol.Icmp)
+    ∷ (codes "ip", kind.Name protocol.Ip)
+    ∷ (codes "arp", kind.Name protocol.Arp)
+    ∷ (codes "rarp", kind.Name protocol.Rarp)
+    ∷ []
 
+-- the signs, the longer ones first
 unfoldable pub signs : List Entry
-signs = map (λ entry. (entry.0.now, entry.1)) SIGNS
+signs =
+    (codes "<<", kind.Operator operator.ShiftLeft)
+    ∷ (codes ">>", kind.Operator operator.ShiftRight)
+    ∷ (codes "&&", kind.Joint joint.And)
+    ∷ (codes "||", kind.Joint joint.Or)
+    ∷ (codes "==", kind.Comparison comparison.Equal)
+    ∷ (codes "!=", kind.Comparison comparison.NotEqual)
+    ∷ (codes "<=", kind.Comparison comparison.LessOrEqual)
+    ∷ (codes ">=", kind.Comparison comparison.GreaterOrEqual)
+    ∷ (codes "(", kind.Open)
+    ∷ (codes ")", kind.Close)
+    ∷ (codes "[", kind.OpenBracket)
+    ∷ (codes "]", kind.CloseBracket)
+    ∷ (codes ":", kind.Colon)
+    ∷ (codes "+", kind.Operator operator.Plus)
+    ∷ (codes "-", kind.Operator operator.Minus)
+    ∷ (codes "*", kind.Operator operator.Times)
+    ∷ (codes "/", kind.Operator operator.Divide)
+    ∷ (codes "&", kind.Operator operator.BitAnd)
+    ∷ (codes "|", kind.Operator operator.BitOr)
+    ∷ (codes "!", kind.Not)
+    ∷ (codes "=", kind.Comparison comparison.Equal)
+    ∷ (codes "<", kind.Comparison comparison.Less)
+    ∷ (codes ">", kind.Comparison comparison.Greater)
+    ∷ []
 
 -- the text begins with a byte of this class
 abbrev pub begins : (ℕ → Bool) → List ℕ → Bool
