@@ -1,8 +1,9 @@
 #!/usr/bin/env python3
-"""Measures `bpftap cut` beside cp, and beside tcpdump where it is there.
+"""Measures `bpftap cut` beside cp, and beside tcpdump where it is there; and `bpftap check` on hostile expressions.
 
   bench/bench.py                   wall time and peak memory on a capture of some 100 MB, interleaved runs
   bench/bench.py --instructions    user instructions for each packet, by valgrind's callgrind, on a small capture
+  bench/bench.py --expressions     wall time of `check` on expressions of some 8,192 bytes, interleaved runs
 
 Machines are noisy, so the ratios of one run are what to compare. Instructions are repeatable.
 """
@@ -142,9 +143,43 @@ def instructions(folder):
         print(f"{name:40} {count:8.0f}")
 
 
+def hostile():
+    """Name and text of expressions near the limit of 8,192 bytes, each meant to be slow to read."""
+    deep = "(" * 64
+    ors = " or ".join(["1"] * 1600)
+    yield "ip", "ip"
+    yield "a chain of words", "ip" + "||ip" * 2047
+    yield "a chain of hosts that inherit", "host 10.0.0.1" + " or 10.0.0.1" * 681
+    yield "negations", "||".join(["!" * 62 + "ip"] * 124)
+    yield "short parentheses", "||".join(["(ip)"] * 1365)
+    yield "64 levels round a chain", deep + "ip" + "||ip" * 2015 + ")" * 64
+    yield "a chain of 64 levels", "||".join([deep + "ip" + ")" * 64] * 62)
+    yield "64 levels that are not closed", deep + "ip" + "||ip" * 2031
+    yield "parentheses that are not closed", "(" * 8192
+    yield "64 levels that an operator follows", deep + "ip" + "||ip" * 2013 + ")" * 64 + "&1=1"
+    yield "a group", "port (" + ors + ")"
+    yield "64 levels of a group", "port " + deep + ors + ")" * 64
+    yield "blanks", "ip" + " " * 8190
+
+
+def expressions(rounds):
+    """Of all expressions the slowest shows whether one pass is enough; its fault, if any, does not matter."""
+    print(f"bpftap check, median of {rounds} interleaved rounds")
+    seen = {name: [] for name, _ in hostile()}
+    for _ in range(rounds):
+        for name, text in hostile():
+            seconds, _, status = run([str(PROGRAM), "check", text])
+            if status not in (0, 1):
+                sys.exit(f"{name}: status {status}")
+            seen[name].append(seconds)
+    for name, text in hostile():
+        print(f"{name:40} {len(text):5} bytes {1000 * statistics.median(seen[name]):8.2f} ms")
+
+
 def main():
     parser = argparse.ArgumentParser(description=__doc__, formatter_class=argparse.RawDescriptionHelpFormatter)
     parser.add_argument("--instructions", action="store_true")
+    parser.add_argument("--expressions", action="store_true")
     parser.add_argument("--packets", type=int, default=150000)
     parser.add_argument("--rounds", type=int, default=5)
     words = parser.parse_args()
@@ -153,6 +188,8 @@ def main():
         folder = pathlib.Path(name)
         if words.instructions:
             instructions(folder)
+        elif words.expressions:
+            expressions(20 * words.rounds)
         else:
             wall(folder, words.packets, words.rounds)
 

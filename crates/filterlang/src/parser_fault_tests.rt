@@ -13,7 +13,7 @@ fn refused(rt: &(impl Abort + AllocGlobal), rows: &[(&str, Fault)]) {
 }
 
 /// Where a text breaks off, or goes on as no expression does.
-const BROKEN_OFF: [(&str, Fault); 92] = [
+const BROKEN_OFF: [(&str, Fault); 94] = [
     ("and", Fault::Syntax(0)),
     ("or tcp", Fault::Syntax(0)),
     ("not", Fault::Syntax(3)),
@@ -46,6 +46,8 @@ const BROKEN_OFF: [(&str, Fault); 92] = [
     ("port (80 443)", Fault::Syntax(9)),
     ("port (port 80)", Fault::Syntax(6)),
     ("port ((80) or (443)", Fault::Syntax(19)),
+    ("port ((80)", Fault::Syntax(10)),
+    ("port ((80 443))", Fault::Syntax(10)),
     ("port (80))", Fault::Syntax(9)),
     ("port (80) 443", Fault::Syntax(10)),
     ("ether", Fault::Syntax(5)),
