@@ -19,6 +19,7 @@ use Rattle.filterlang.proofs.Within.{front_within}
 same_kind : {f : Front} {k l : Kind} {m n : ℕ} → f ≡ fronts.Token k m → f ≡ fronts.Token l n → (k ≡ l) × (m ≡ n)
 same_kind e h = (cc, cc)
 
+-- from a place on a text has one list of tokens
 pub one_list : {text : List ℕ} {at : ℕ} {xs ys : List Token} → Lexes text at xs → Lexes text at ys → xs ≡ ys
 one_list (lexes_end e) (lexes_end h) = refl
 one_list (lexes_end e) (lexes_blank h s) = absurd cc
@@ -33,6 +34,7 @@ one_list {text} {at} (lexes_token {kind = k} {n = m} {tokens = xs} e r) (lexes_t
     let rest = one_list r (subst (λ i. Lexes text (at + i) ys) (sym same.1) s) in
     λ i. placed at (same.0 i) (same.1 i) ∷ rest i
 
+-- it is stuck at one place for one cause
 pub one_place : {text : List ℕ} {at : ℕ} {c d : Cause} {p q : ℕ} → Stuck text at c p → Stuck text at d q → (c ≡ d) × (p ≡ q)
 one_place (stuck_here e) (stuck_here h) = (cc, refl)
 one_place (stuck_here e) (stuck_blank h s) = absurd cc
@@ -44,6 +46,7 @@ one_place (stuck_token e r) (stuck_here h) = absurd cc
 one_place (stuck_token e r) (stuck_blank h s) = absurd cc
 one_place {text} {at} {c} {d} {p} {q} (stuck_token e r) (stuck_token h s) = one_place r (subst (λ i. Stuck text (at + i) d q) (sym (same_kind e h).1) s)
 
+-- it has no tokens where it is stuck
 pub never_both : {text : List ℕ} {at : ℕ} {xs : List Token} {c : Cause} {p : ℕ} → Lexes text at xs → Stuck text at c p → ⊥
 never_both (lexes_end e) (stuck_here h) = absurd cc
 never_both (lexes_end e) (stuck_blank h s) = absurd cc
@@ -63,6 +66,7 @@ from_earlier : (before at bytes : ℕ) (xs : List Token) → before ≤ at → A
 from_earlier before at bytes [] le h = omega arith
 from_earlier before at bytes (x ∷ xs) le h = (omega arith, h.1, h.2)
 
+-- its tokens follow one another within it
 pub in_order : {text : List ℕ} {at : ℕ} {xs : List Token} → at ≤ length text → Lexes text at xs → AreInOrder at (length text) xs
 in_order le (lexes_end e) = le
 in_order {text} {at} le (lexes_blank e r) = let bytes = within_at text at fronts.Blank e in from_earlier at (at + 1) (length text) _ (omega arith) (in_order (omega (arith, length-drop at text)) r)
@@ -165,5 +169,6 @@ has_answer (suc fuel) text at le few = by_front (front (drop at text)) refl (has
         ⊎_elim (λ found. inl (placed at kind n ∷ found.0, lexes_token e found.1)) (λ found. inr (found.0, found.1, stuck_token e found.2)) (on (at + n) (omega (arith, length-drop at text)) (omega (arith, few)))
     by_front (fronts.Stuck cause) e on = inr (cause, at, stuck_here e)
 
+-- each text has tokens or is stuck
 pub answered : (text : List ℕ) → HasAnswer text 0
 answered text = has_answer (length text + 1) text 0 (omega arith) (omega arith)

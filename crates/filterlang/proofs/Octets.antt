@@ -87,10 +87,12 @@ dotted-long (a ∷ b ∷ c ∷ []) h = absurd (omega arith)
 dotted-long (a ∷ b ∷ c ∷ d ∷ []) h = absurd (omega arith)
 dotted-long (a ∷ b ∷ c ∷ d ∷ e ∷ ns) h = refl
 
+-- more than six parts are no Ethernet address
 pub no_ethernet : (o : Option (List ℕ)) → ((ns : List ℕ) → o ≡ Some ns → 6 < length ns) → option_and_then ethernet o ≡ None
 no_ethernet None long = refl
 no_ethernet (Some ns) long = ethernet-long ns (long ns refl)
 
+-- nor a dotted one
 pub no_dotted : (o : Option (List ℕ)) → ((ns : List ℕ) → o ≡ Some ns → 6 < length ns) → option_and_then dotted o ≡ None
 no_dotted None long = refl
 no_dotted (Some ns) long = dotted-long ns (long ns refl)

@@ -66,12 +66,14 @@ ethernet_of-long run long = at_octets (octets 16 2 (slice_split (λ b. b == 58) 
 run_in_front : (text : List ℕ) (m n : ℕ) → m ≡ min (length text) 18 → n ≡ prefix_len (is_in_run 58) (take m text) → n ≡ min 18 (prefix_len (is_in_run 58) text)
 run_in_front text m n front is = omega (arith, prefix_len-take (is_in_run 58) m text, prefix_len-le-length (is_in_run 58) text)
 
+-- a run of more than 17 bytes is no Ethernet address
 pub ethernet_at-long : (text : List ℕ) (m n : ℕ) → m ≡ min (length text) 18 → n ≡ prefix_len (is_in_run 58) (take m text) → 17 < n → None ≡ ethernet_at text
 unfolding ethernet_at
 ethernet_at-long text m n front is long =
     let counted = run_in_front text m n front is in
     sym (ap (option_map (λ kind. (kind, length (run_at 58 text)))) (ethernet_of-long (run_at 58 text) (omega (arith, length-prefix_len (is_in_run 58) text))))
 
+-- a shorter one is read whole from the front of 18 bytes
 pub ethernet_at-short : (text : List ℕ) (m n : ℕ) → m ≡ min (length text) 18 → n ≡ prefix_len (is_in_run 58) (take m text) → n ≤ 17 → option_map (λ kind. (kind, n)) (ethernet_of (take n text)) ≡ ethernet_at text
 unfolding ethernet_at
 ethernet_at-short text m n front is short =

@@ -35,6 +35,7 @@ direction_shorter (kind.Side a ∷ kind.Joint j ∷ kind.Side b ∷ ts) = longes
 direction_shorter (kind.Side a ∷ ts) = omega arith
 direction_shorter ts = le_refl (length ts)
 
+-- a phrase leaves no more tokens than there were
 pub phrase_shorter : (ts : List Kind) → length (phrase_at ts).1 ≤ length ts
 phrase_shorter ts =
     omega (arith, protocol_shorter ts, direction_shorter (protocol_at ts).1, type_shorter (direction_at (protocol_at ts).1).1)
@@ -100,6 +101,7 @@ mutual
 pub group_term_shorter : (n : ℕ) (g : Qualifiers) (ts : List Kind) (t : Tree) (r : Qualifiers) (rest : List Kind) → group_term_at n g ts ≡ Some (t, r, rest) → length rest ≤ length ts
 group_term_shorter n g ts t r rest e = GroupTerm-shorter (group_term_sound n g ts t r rest e).1
 
+-- the same of a term
 pub term_shorter : (n : ℕ) (q : Option Qualifiers) (ts : List Kind) (t : Tree) (r : Option Qualifiers) (rest : List Kind) → term_at n q ts ≡ Some (t, r, rest) → length rest ≤ length ts
 term_shorter n q ts t r rest e = Term-shorter (term_sound n q ts t r rest e)
 
@@ -107,6 +109,7 @@ term_shorter n q ts t r rest e = Term-shorter (term_sound n q ts t r rest e)
 abbrev pub Shortens : {Q : Type 0} → Reader Q → Type 0
 Shortens {Q} next = (q : Q) (ts : List Kind) → IfSome (next q ts) (λ t. length t.2 ≤ length ts)
 
+-- the readers of terms are such
 pub group_term_shortens : (n : ℕ) → Shortens (group_term_at n)
 group_term_shortens n g ts = weaken (λ u. IsGroupTerm n g ts u.0 u.1 u.2) (λ u. length u.2 ≤ length ts) (group_term_at n g ts) (group_term_reads n g ts) (λ u h. GroupTerm-shorter h.1)
 

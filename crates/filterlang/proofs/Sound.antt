@@ -55,6 +55,7 @@ group_term_from n terms g (kind.Not ∷ ts) = negated_sound (IsGroupTerm n g ts)
 group_term_from n terms g (kind.Open ∷ ts) = closed_sound (IsGroup n g ts) (IsGroupTerm (suc n) g (kind.Open ∷ ts)) (group_at n g ts) (group_from_terms n terms g ts) (λ t h rest k. (k.0, group_open k.1))
 group_term_from n terms g ts = identifier_sound (suc n) g ts
 
+-- what is found of a group's term is the grammar's, at each nesting
 pub group_term_reads : (n : ℕ) (g : Qualifiers) (ts : List Kind) → IfSome (group_term_at n g ts) (λ u. IsGroupTerm n g ts u.0 u.1 u.2)
 unfolding group_term_at
 group_term_reads zero g (kind.Not ∷ ts) = tt
@@ -116,14 +117,17 @@ no_relation : {Q : Type 0} (R : Tree × Q × List Kind → Type 0) (b : Bool) (r
 no_relation R true read h = tt
 no_relation R false read h = h refl
 
+-- what is found of a term is the grammar's, at each nesting
 pub terms_read : (n : ℕ) → TermsRead n
 unfolding term_at
 terms_read zero q ts = no_relation (λ u. Term zero q ts u.0 u.1 u.2) (begins_relation ts) (logical_by nothing nothing q ts) (logical_zero q ts)
 terms_read (suc n) q ts = no_relation (λ u. Term (suc n) q ts u.0 u.1 u.2) (begins_relation ts) (logical_by (term_at n) (group_term_at n) q ts) (logical_within n (terms_read n) q ts)
 
+-- the same, of what was found
 pub group_term_sound : (n : ℕ) (g : Qualifiers) (ts : List Kind) (t : Tree) (h : Qualifiers) (rest : List Kind) → group_term_at n g ts ≡ Some (t, h, rest) → (h ≡ g) × GroupTerm n g ts t rest
 group_term_sound n g ts t h rest e = at_some (λ u. IsGroupTerm n g ts u.0 u.1 u.2) (group_term_at n g ts) (t, h, rest) e (group_term_reads n g ts)
 
+-- the same, of a term that was found
 pub term_sound : (n : ℕ) (q : Option Qualifiers) (ts : List Kind) (t : Tree) (r : Option Qualifiers) (rest : List Kind) → term_at n q ts ≡ Some (t, r, rest) → Term n q ts t r rest
 term_sound n q ts t r rest e = at_some (λ u. Term n q ts u.0 u.1 u.2) (term_at n q ts) (t, r, rest) e (terms_read n q ts)
 

@@ -36,12 +36,14 @@ itself (Some x) = refl
 abbrev pub Identified : Qualifiers → List Kind → Primitive → List Kind → Type 0
 Identified g ts p rest = (id : Identifier) × (identifier_at ts ≡ Some (id, rest)) × (identified g id ≡ Some p)
 
+-- what is found is an identifier that the qualifiers take
 pub identified_sound : (g : Qualifiers) (ts : List Kind) → IfSome (identified_at g ts) (λ p. (id : Identifier) × (identifier_at ts ≡ Some (id, p.1)) × (identified g id ≡ Some p.0))
 unfolding identified_at
 identified_sound g ts =
     each_step (λ p. Identified g ts p.0 p.1) (identifier_at ts) (λ id. identified g id.0 >>= λ p. Some (p, id.1))
     (λ id e. each_step (λ p. Identified g ts p.0 p.1) (identified g id.0) (λ p. Some (p, id.1)) (λ p f. (id.0, e, f)))
 
+-- such an identifier is found
 pub identified_complete : (g : Qualifiers) (ts rest : List Kind) (id : Identifier) (p : Primitive) → identifier_at ts ≡ Some (id, rest) → identified g id ≡ Some p → identified_at g ts ≡ Some (p, rest)
 unfolding identified_at
 identified_complete g ts rest id p e f = ap (λ o. o >>= λ x. identified g x.0 >>= λ y. Some (y, x.1)) e ∙ ap (λ o. o >>= λ y. Some (y, rest)) f
@@ -79,6 +81,7 @@ port_sound ts =
 ports_found : (phrase : Phrase) (t : Option Transport) (ts : List Kind) (first second : ℕ × List Kind) (minus : List Kind) → transport_of phrase.protocol ≡ Some t → IsPort ts first.0 first.1 → first.1 ≡ kind.Operator Minus ∷ minus → IsPort minus second.0 second.1 → Ranges phrase ts (primitives.Ports t (unwrap_or phrase.direction SrcOrDst) (min first.0 second.0) (max first.0 second.0)) second.1
 ports_found phrase t ts first second minus e (a, f, g) h (b, k, l) = (t, a, b, cc, e, rw (g, l) refl)
 
+-- a range of ports that is found is the grammar's
 pub portrange_sound : (phrase : Phrase) (ts : List Kind) → IfSome (portrange_at phrase ts) (λ p. Ranges phrase ts p.0 p.1)
 unfolding portrange_at
 portrange_sound phrase ts =
@@ -246,6 +249,7 @@ pub data IsIdentifier : List Kind → Type 0 where
   is_name : {name : Protocol} {ts : List Kind} → IsIdentifier (kind.Name name ∷ ts)
   is_dotted : {a : ℕ} {parts : Parts} {ts : List Kind} → IsIdentifier (kind.Dotted a parts ∷ ts)
 
+-- what is read as an identifier begins as one
 pub is_identifier : (ts : List Kind) (id : Identifier × List Kind) → identifier_at ts ≡ Some id → IsIdentifier ts
 is_identifier (kind.Number n ∷ ts) id e = is_number
 is_identifier (kind.Ethernet a ∷ ts) id e = is_ethernet
@@ -338,11 +342,13 @@ unfolding start_at phrased_at identified_at
 not_started None ts = refl
 not_started (Some g) ts = refl
 
+-- the same of `(`
 pub open_started : (q : Option Qualifiers) (ts : List Kind) → start_at q (kind.Open ∷ ts) ≡ None
 unfolding start_at phrased_at identified_at
 open_started None ts = refl
 open_started (Some g) ts = refl
 
+-- and of no token
 pub nothing_started : (q : Option Qualifiers) → start_at q [] ≡ None
 unfolding start_at phrased_at identified_at
 nothing_started None = refl

@@ -17,10 +17,12 @@ pub each_step : {A B : Type 0} (R : B → Type 0) (o : Option A) (f : A → Opti
 each_step R None f next = tt
 each_step R (Some x) f next = next x refl
 
+-- what has the one property has the other
 pub weaken : {A : Type 0} (P R : A → Type 0) (o : Option A) → IfSome o P → ((x : A) → P x → R x) → IfSome o R
 weaken P R None h next = tt
 weaken P R (Some x) h next = next x h
 
+-- what was found has the property of all that may be
 pub at_some : {A : Type 0} (P : A → Type 0) (o : Option A) (x : A) → o ≡ Some x → IfSome o P → P x
 at_some P o x e h = subst (λ o. IfSome o P) e h
 

@@ -49,14 +49,17 @@ entry_within p table text all stands_there = at_found (find (λ e. p e.0) table)
         let passes = found_passes (λ y. p y.0) spells_something table x all e in
         (ltb-true 0 (length x.0) passes.1, length-starts_with text x.0 (stands_there x.0 passes.0))
 
+-- a word lies within the text
 pub word_within : (text : List ℕ) → IfSome (whole_word words text) (λ t. HasBytes t.1 (length text))
 unfolding words
 word_within text = entry_within (stands_whole text) words text refl (λ x h. (both_true (stands text x) _ h).0)
 
+-- a name lies within it
 pub name_within : (text : List ℕ) → IfSome (whole_word names text) (λ t. HasBytes t.1 (length text))
 unfolding names
 name_within text = entry_within (stands_whole text) names text refl (λ x h. (both_true (stands text x) _ h).0)
 
+-- a sign lies within it
 pub sign_within : (text : List ℕ) → IfSome (standing signs text) (λ t. HasBytes t.1 (length text))
 unfolding signs
 sign_within text = entry_within (stands text) signs text refl (λ x h. h)
@@ -73,10 +76,12 @@ run_within mark text kind_of none = at_run (run_at mark text) (length-prefix_len
     at_run [] len (Some kind) e = absurd cc
     at_run (b ∷ run) len (Some kind) e = (omega arith, omega (arith, prefix_len-le-length (is_in_run mark) text))
 
+-- an Ethernet address lies within the text
 pub ethernet_within : (text : List ℕ) → IfSome (ethernet_at text) (λ t. HasBytes t.1 (length text))
 unfolding ethernet_at
 ethernet_within text = run_within 58 text ethernet_of refl
 
+-- a number or dotted address lies within it
 pub number_within : (text : List ℕ) → IfSome (number_at text) (λ t. HasBytes t.1 (length text))
 unfolding number_at
 number_within text = run_within 46 text (λ run. if list_any (λ b. b == 46) run then dotted_of run else option_map Number (number_of run)) refl
@@ -101,6 +106,7 @@ backslash_within : (text : List ℕ) (o : Option (Kind × ℕ)) → IfSome o (Is
 backslash_within text None first = tt
 backslash_within text (Some x) first = (omega arith, omega (arith, length-drop 1 text))
 
+-- a token lies within the text
 pub token_within : (text : List ℕ) → IfOk (token_at text) (IsTokenOf text)
 unfolding token_at
 token_within text =

@@ -4,22 +4,19 @@ use Rattle.std.proofs.lemmas.List.{append-nil, drop_at, take_at}
 use Rattle.std.proofs.lemmas.List.Concat.{flat_map-cons}
 use Rattle.std.proofs.lemmas.List.Elements.{recursion_from_All}
 use Rattle.std.specs.List.{flat_map, AllByRecursion}
-use Rattle.byteorder.specs.Numbers.{big_number-reads_back, length-bytes_high_first, length-bytes_low_first, little_number-reads_back}
+use Rattle.byteorder.specs.Numbers.{big_number-reads_back, little_number-reads_back}
 use Rattle.savefile.specs.declared.header.Order.{Order}
 use Rattle.savefile.specs.declared.header.Order.TheVariants.{Little, Big}
 use Rattle.savefile.specs.declared.header.Unit.{Unit as TimeUnit}
 use Rattle.savefile.specs.declared.header.Unit.TheVariants.{Micro, Nano}
 use Rattle.savefile.specs.declared.packet.Packet.{Packet}
 use Rattle.savefile.specs.Savefile.{bytes_in, encoded, field, header_text, in_units, magic_of, nanos_in, number_in, packet, per_second, record_text, AreRecords, Holds, IsHeader, IsRecord, IsWritable}
+use Rattle.savefile.proofs.Lengths.{length-bytes_in}
 use Rattle.savefile.proofs.Records.{longest_records, NoRecord-nil}
 
 reads_back : (order : Order) (n x : ℕ) (rest : List ℕ) → x < 256 ^ n → number_in order n (bytes_in order n x ++ rest) ≡ x
 reads_back Little n x rest h = little_number-reads_back n x rest h
 reads_back Big n x rest h = big_number-reads_back n x rest h
-
-length-bytes_in : (order : Order) (n x : ℕ) → length (bytes_in order n x) ≡ n
-length-bytes_in Little n x = length-bytes_low_first 0 n x
-length-bytes_in Big n x = length-bytes_high_first n x
 
 -- a number that stands behind a front
 field_again : (order : Order) (n x k : ℕ) (front tail text : List ℕ) → text ≡ front ++ (bytes_in order n x ++ tail) → length front ≡ k → x < 256 ^ n → field (number_in order) text k n ≡ x

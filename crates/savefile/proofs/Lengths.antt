@@ -9,7 +9,7 @@ use Rattle.savefile.specs.Savefile.{encoded, record_text, bytes_in, nanos_in}
 use Rattle.savefile.proofs.Encoding.{encoded-push}
 
 -- a number of n bytes has n bytes
-length-bytes_in : (order : Order) (n x : ℕ) → length (bytes_in order n x) ≡ n
+pub length-bytes_in : (order : Order) (n x : ℕ) → length (bytes_in order n x) ≡ n
 length-bytes_in Little n x = length-bytes_low_first 0 n x
 length-bytes_in Big n x = length-bytes_high_first n x
 
