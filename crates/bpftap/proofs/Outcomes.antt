@@ -39,11 +39,13 @@ no-device false false false true cut place e = cc
 no-device false false false false true place e = cc
 no-device false false false false false place e = cc
 
+-- nor is the first fault of a rest
 first-fault-no-device : (number : ℕ → List ℕ → ℕ) (unit : TimeUnit) (place : ℕ) (rest : List ℕ) → first_fault number unit place rest ≡ Some Device → ⊥
 first-fault-no-device number unit place rest =
     no-device (length rest == 0) (nat_lt (length rest) 16) (nat_le (per_second unit) (fraction number rest)) (nat_lt 262144 (captured number rest))
     (nat_lt (length rest) (16 + captured number rest)) place
 
+-- nor the fault that a reading ends with
 pub read-fault-no-device : (text : List ℕ) (packets : List Packet) → IsRead text packets (Some Device) → ⊥
 read-fault-no-device text packets read =
     first-fault-no-device (number_in read.order) read.unit (length packets) read.holds.rest (sym read.holds.ends)

@@ -40,6 +40,7 @@ number-no_space most text n is = All-from_get_or (λ b. b ≢ space) text 0 (λ 
 abbrev pub Behind : (line : List ℕ) (i : Insn) → IsLine line i → List ℕ
 Behind line i is = is.jt ++ (space ∷ (is.jf ++ (space ∷ is.k)))
 
+-- the line, cut at its first space
 pub line-first : (line : List ℕ) (i : Insn) (is : IsLine line i) → line ≡ is.code ++ (space ∷ Behind line i is)
 line-first line i is = is.text ∙ simp append_assoc
 
@@ -49,6 +50,7 @@ NoLine-first line lacks i is =
     not-lacking space is.code (Behind line i is) (All-same (λ b. b ≢ space) (is.code ++ (space ∷ Behind line i is)) line (sym (line-first line i is)) lacks)
 
 module _ (line code rest : List ℕ) (cut : line ≡ code ++ space ∷ rest) (none : All (λ b. b ≢ space) code) where
+  -- the cut that was found is the first of the line
   first-cut : (i : Insn) (is : IsLine line i) → (code ≡ is.code) × (rest ≡ Behind line i is)
   first-cut i is = cut-one space code rest is.code (Behind line i is) none (number-no_space 65535 is.code i.code is.code_is) (sym cut ∙ line-first line i is)
 
@@ -58,6 +60,7 @@ module _ (line code rest : List ℕ) (cut : line ≡ code ++ space ∷ rest) (no
       not-lacking space is.jt (is.jf ++ (space ∷ is.k)) (All-same (λ b. b ≢ space) (Behind line i is) rest (sym (first-cut i is).1) lacks)
 
   module _ (jt rest' : List ℕ) (cut' : rest ≡ jt ++ space ∷ rest') (none' : All (λ b. b ≢ space) jt) where
+    -- and the one behind it the second
     second-cut : (i : Insn) (is : IsLine line i) → (jt ≡ is.jt) × (rest' ≡ is.jf ++ (space ∷ is.k))
     second-cut i is = cut-one space jt rest' is.jt (is.jf ++ (space ∷ is.k)) none' (number-no_space 255 is.jt i.jt is.jt_is) (sym cut' ∙ (first-cut i is).1)
 

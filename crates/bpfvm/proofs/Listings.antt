@@ -11,9 +11,11 @@ use Rattle.bpfvm.specs.Listing.{space, IsNumber, IsLine, AreLines, IsListing, Ha
 use Rattle.bpfvm.proofs.Fields.{number-no_space, line-first, Behind, four-fields}
 use Rattle.bpfvm.proofs.Refusals.{IsRefusedAs-one, IsRefusedAs-invalid}
 
+-- digits are one number
 number-one : (most : ℕ) (text : List ℕ) (n m : ℕ) → IsNumber most text n → IsNumber most text m → n ≡ m
 number-one most text n m one other = one.is ∙ sym other.is
 
+-- instructions with the same fields are one
 same-insn : (i j : Insn) → i.code ≡ j.code → i.jt ≡ j.jt → i.jf ≡ j.jf → i.k ≡ j.k → i ≡ j
 same-insn i j code jt jf k =
     let one = ap (λ (n : ℕ). let i' : Insn = record { code = n; jt = i.jt; jf = i.jf; k = i.k } in i') code in
@@ -34,6 +36,7 @@ line-one line i j one other =
     (number-one 255 one.jf i.jf j.jf one.jf_is fields.2)
     (number-one 4294967295 one.k i.k j.k one.k_is fields.3)
 
+-- lines are one list of instructions
 lines-one : (lines : List (List ℕ)) (is js : List Insn) → AreLines lines is → AreLines lines js → is ≡ js
 lines-one [] [] [] one other = refl
 lines-one [] [] (j ∷ js) one other = absurd other
@@ -47,6 +50,7 @@ lines-one (l ∷ lines) (i ∷ is) (j ∷ js) one other =
 
 -- what the same lines say
 module _ (text first : List ℕ) (others : List (List ℕ)) (lines : lines_of text ≡ first ∷ others) where
+  -- the first line and those behind it are these
   same-others : (first' : List ℕ) (others' : List (List ℕ)) → lines_of text ≡ first' ∷ others' → (first ≡ first') × (others ≡ others')
   same-others first' others' lines' = let same = sym lines ∙ lines' in (cc, cc)
 
@@ -56,6 +60,7 @@ module _ (text first : List ℕ) (others : List (List ℕ)) (lines : lines_of te
       let same = same-others listing.first listing.others listing.lines in
       lines-one others insns p each (subst (λ (l : List (List ℕ)). AreLines l p) (sym same.1) listing.each)
 
+  -- its count is the number of the first line
   listing-count : (n : ℕ) (p : List Insn) → IsNumber 4294967295 first n → IsListing text p → n ≡ length p
   listing-count n p count listing =
       let same = same-others listing.first listing.others listing.lines in
@@ -110,6 +115,7 @@ module _ (text first : List ℕ) (others : List (List ℕ)) (lines : lines_of te
   listed n insns count each same =
       record { first = first; others = others; lines = lines; count = subst (IsNumber 4294967295 first) same count; each = each }
 
+  -- the same, where the first 512 were kept and there are no more
   pub listed-kept : (n : ℕ) (insns kept : List Insn) → IsNumber 4294967295 first n → AreLines others insns → n ≡ length insns → length insns ≤ 512 → kept ≡ take 512 insns → IsListing text kept
   listed-kept n insns kept count each same few first-ones =
       subst (IsListing text) (sym (first-ones ∙ take_all 512 insns few)) (listed n insns count each same)
@@ -122,6 +128,7 @@ IsListing-one text p q one other = listing-insns text one.first one.others one.l
 bad-not_before : (text : List ℕ) (n m : ℕ) (one : IsRefusedListing text (BadLine n)) (other : IsRefusedListing text (BadLine m)) → one.0 < other.0 → ⊥
 bad-not_before text n m one other below = one.4 (other.5 one.0 one.1 below one.3)
 
+-- which is the line that the fault names
 bad-one : (text : List ℕ) (n m : ℕ) → IsRefusedListing text (BadLine n) → IsRefusedListing text (BadLine m) → n ≡ m
 bad-one text n m one other = ⊎_elim
     (λ (below : one.0 < other.0). absurd (bad-not_before text n m one other below))
@@ -137,10 +144,12 @@ bad-not_listing : (text : List ℕ) (n : ℕ) (p : List Insn) → IsRefusedListi
 bad-not_listing text n p bad listing =
     bad.4 (have-forms text listing.first listing.others listing.lines (length p) p listing.count listing.each bad.0 bad.1 bad.3)
 
+-- where a line is bad the count is not looked at
 bad-not_count : (text : List ℕ) (n : ℕ) → IsRefusedListing text (BadLine n) → IsRefusedListing text Count → ⊥
 bad-not_count text n bad count =
     bad.4 (have-forms text count.0 count.1 count.4 count.2 count.3 count.5 count.6 bad.0 bad.1 bad.3)
 
+-- the count of a listing is right
 count-not_listing : (text : List ℕ) (p : List Insn) → IsRefusedListing text Count → IsListing text p → ⊥
 count-not_listing text p count listing =
     let insns = listing-insns text count.0 count.1 count.4 count.3 p count.6 listing in

@@ -16,15 +16,18 @@ pub record IsRead (all left : List (List ℕ)) (kept : List Insn) (count : ℕ) 
   pub counted : count ≡ length insns
   pub first : kept ≡ take 512 insns
 
+-- none is read yet
 pub IsRead-none : (all : List (List ℕ)) (kept : List Insn) → kept ≡ [] → IsRead all all kept 0
 IsRead-none all kept none = record { front = []; insns = []; lines = refl; each = tt; counted = refl; first = none }
 
+-- one instruction more, and its line
 AreLines-push : (lines : List (List ℕ)) (insns : List Insn) (line : List ℕ) (insn : Insn) → AreLines lines insns → IsLine line insn → AreLines (lines ++ line ∷ []) (insns ++ insn ∷ [])
 AreLines-push [] [] line insn each is = (is, tt)
 AreLines-push (l ∷ lines) (i ∷ insns) line insn each is = (each.0, AreLines-push lines insns line insn each.1 is)
 AreLines-push [] (i ∷ insns) line insn each is = absurd each
 AreLines-push (l ∷ lines) [] line insn each is = absurd each
 
+-- as many lines as instructions
 pub length-AreLines : (lines : List (List ℕ)) (insns : List Insn) → AreLines lines insns → length lines ≡ length insns
 length-AreLines [] [] each = refl
 length-AreLines (l ∷ lines) (i ∷ insns) each = ap suc (length-AreLines lines insns each.1)
@@ -57,6 +60,7 @@ AreLines-at (l ∷ front) left (i ∷ insns) zero line each below here =
     (i, subst (λ (l' : List ℕ). IsLine l' i) same each.0)
 AreLines-at (l ∷ front) left (i ∷ insns) (suc k) line each below here = AreLines-at front left insns k line each.1 (omega arith) here
 
+-- the next line stops the reading where it is no instruction
 pub StopsAfter-read : (all left : List (List ℕ)) (kept : List Insn) (count : ℕ) (line : List ℕ) → IsRead all (line ∷ left) kept count → NoLine line → StopsAfter all count
 StopsAfter-read all left kept count line read bad =
     let place : length read.front ≡ count = length-AreLines read.front read.insns read.each ∙ sym read.counted in
@@ -75,6 +79,7 @@ take-room n kept kept' insns i room grown first =
     let all' : take n (insns ++ i ∷ []) ≡ insns ++ i ∷ [] = take_all n (insns ++ i ∷ []) (omega (arith, length-append insns (i ∷ []))) in
     grown ∙ ap (λ (l : List Insn). l ++ i ∷ []) (first ∙ all) ∙ sym all'
 
+-- and when there is no room left
 pub take-full : (n : ℕ) (kept insns : List Insn) (i : Insn) → n ≤ length kept → kept ≡ take n insns → kept ≡ take n (insns ++ i ∷ [])
 take-full n kept insns i full first =
     let long : length kept ≡ min n (length insns) = ap length first ∙ length-take n insns in

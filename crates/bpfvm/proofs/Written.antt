@@ -15,11 +15,13 @@ use Rattle.bpfvm.proofs.Lines.{further_lines-cut, lines_of-cut}
 abbrev line_of : Insn → List ℕ
 line_of i = decimal i.code ++ space ∷ decimal i.jt ++ space ∷ decimal i.jf ++ space ∷ decimal i.k
 
+-- a number in decimal is read as itself
 written-number : (most n : ℕ) → n ≤ most → most < 2 ^ 64 → IsNumber most (decimal n) n
 written-number most n fits small =
     let numeral = decimal_is_IsNumeral n (omega arith) in
     record { numeral = numeral.0; is = sym numeral.1; fits = fits }
 
+-- a line is read as its instruction
 written-line : (i : Insn) → HasFields i → IsLine (line_of i) i
 written-line i fields = record {
   code = decimal i.code;
@@ -38,6 +40,7 @@ pub fields-each : (insns : List Insn) (d : Insn) → ((k : ℕ) → k < length i
 fields-each [] d each = tt
 fields-each (i ∷ insns) d each = (each 0 (omega arith), fields-each insns d (λ k inside. each (suc k) (omega (arith, inside))))
 
+-- the lines are read as their instructions
 written-lines : (insns : List Insn) → AllByRecursion HasFields insns → AreLines (map line_of insns) insns
 written-lines [] fields = tt
 written-lines (i ∷ insns) fields = (written-line i fields.0, written-lines insns fields.1)
@@ -52,6 +55,7 @@ decimal-one_line n small =
 space-one_line : (xs : List ℕ) → All (λ b. b ≢ line_feed) xs → All (λ b. b ≢ line_feed) (space ∷ xs)
 space-one_line xs none = All-cons (λ b. b ≢ line_feed) space xs (omega arith) none
 
+-- a line has none either
 line-one_line : (i : Insn) → HasFields i → All (λ b. b ≢ line_feed) (line_of i)
 line-one_line i fields =
     let P : ℕ → Type 0 = λ b. b ≢ line_feed in
@@ -61,6 +65,7 @@ line-one_line i fields =
     (space-one_line _ (decimal-one_line i.jf (omega (arith, fields.jf)))))
     (space-one_line _ (decimal-one_line i.k (omega (arith, fields.k))))
 
+-- the text of the instructions is cut into their lines
 cut-lines : (insns : List Insn) → AllByRecursion HasFields insns → further_lines (flat_map line_text insns) ≡ map line_of insns
 cut-lines [] fields = refl
 cut-lines (i ∷ insns) fields =
@@ -68,6 +73,7 @@ cut-lines (i ∷ insns) fields =
     ∙ further_lines-cut (line_of i) (flat_map line_text insns) (line-one_line i fields.0)
     ∙ ap (λ (lines : List (List ℕ)). line_of i ∷ lines) (cut-lines insns fields.1)
 
+-- the listing of a program is read as the program
 pub written-listing : (program : List Insn) → IsValidProgram program → AllByRecursion HasFields program → IsListing (listing_of program) program
 unfolding listing_of
 written-listing program valid fields = record {

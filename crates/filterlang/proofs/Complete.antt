@@ -18,12 +18,14 @@ use Rattle.filterlang.specs.Reading.{◌>>=◌, Reader, nothing, chain, negated,
 use Rattle.filterlang.proofs.Chains.{term_turn, group_turn}
 use Rattle.filterlang.proofs.Starts.{IsIdentifier, is_number, is_ethernet, is_name, is_dotted, is_identifier, identified_complete, start_complete, group_start_complete, not_started, open_started, nothing_started}
 
+-- an identifier of a group, whatever stands within
 identifier_term : (inner : Reader Qualifiers) (g : Qualifiers) (ts : List Kind) → IsIdentifier ts → group_term_by inner g ts ≡ (identified_at g ts >>= λ p. Some (test p.0, g, p.1))
 identifier_term inner g ts is_number = refl
 identifier_term inner g ts is_ethernet = refl
 identifier_term inner g ts is_name = refl
 identifier_term inner g ts is_dotted = refl
 
+-- an identifier that the qualifiers take is read in a group, at each nesting
 identifier_read : (n : ℕ) (g : Qualifiers) (ts rest : List Kind) (id : Identifier) (p : Primitive) → identifier_at ts ≡ Some (id, rest) → identified g id ≡ Some p → group_term_at n g ts ≡ Some (test p, g, rest)
 unfolding group_term_at
 identifier_read n g ts rest id p a b = at_level n
@@ -38,11 +40,13 @@ identifier_read n g ts rest id p a b = at_level n
 mutual
   unfolding group_term_at
 
+  -- a group of the grammar is read, up to what follows it
   pub group_complete : {n : ℕ} {g : Qualifiers} {ts rest : List Kind} {t : Tree} → Group n g ts t rest → group_at n g ts ≡ chain (group_term_at n) (length rest) t g rest
   group_complete (group_one {n = n} h) = ap (λ o. o >>= λ u. chain (group_term_at n) (length u.2) u.0 u.1 u.2) (group_term_complete h)
   group_complete (group_and {n = n} {g = g} {mid = mid} {rest = rest} {t = t} {u = u} h k) = group_complete h ∙ group_turn n And t u g g mid rest (group_term_complete k)
   group_complete (group_or {n = n} {g = g} {mid = mid} {rest = rest} {t = t} {u = u} h k) = group_complete h ∙ group_turn n Or t u g g mid rest (group_term_complete k)
 
+  -- and so is each term of it
   pub group_term_complete : {n : ℕ} {g : Qualifiers} {ts rest : List Kind} {t : Tree} → GroupTerm n g ts t rest → group_term_at n g ts ≡ Some (t, g, rest)
   group_term_complete (group_not h) = ap (λ o. negated o) (group_term_complete h)
   group_term_complete (group_open h) = ap (λ o. closed o) (group_complete h)
@@ -57,6 +61,7 @@ term_started inner group q ts s e f = ap (λ b. if b then None else logical_by i
     at_tokens (kind.Open ∷ ts) f = absurd (none-some s (sym (open_started q ts) ∙ f))
     at_tokens ts f = ap (λ o. o >>= λ x. started group x.0 x.1 x.2) f
 
+-- a primitive is read, at each nesting
 primitive_read : (n : ℕ) (q r : Option Qualifiers) (ts rest : List Kind) (p : Primitive) → begins_relation ts ≡ false → start_at q ts ≡ Some (starts.Primitive p, r, rest) → term_at n q ts ≡ Some (test p, r, rest)
 unfolding term_at
 primitive_read zero q r ts rest p e f = term_started nothing nothing q ts (starts.Primitive p, r, rest) e f
@@ -65,11 +70,13 @@ primitive_read (suc n) q r ts rest p e f = term_started (term_at n) (group_term_
 mutual
   unfolding term_at
 
+  -- an expression of the grammar is read, up to what follows it
   pub expr_complete : {n : ℕ} {q r : Option Qualifiers} {ts rest : List Kind} {t : Tree} → Expr n q ts t r rest → expr_at n q ts ≡ chain (term_at n) (length rest) t r rest
   expr_complete (expr_one {n = n} h) = ap (λ o. o >>= λ u. chain (term_at n) (length u.2) u.0 u.1 u.2) (term_complete h)
   expr_complete (expr_and {n = n} {r = r} {s = s} {mid = mid} {rest = rest} {t = t} {u = u} h k) = expr_complete h ∙ term_turn n And t u r s mid rest (term_complete k)
   expr_complete (expr_or {n = n} {r = r} {s = s} {mid = mid} {rest = rest} {t = t} {u = u} h k) = expr_complete h ∙ term_turn n Or t u r s mid rest (term_complete k)
 
+  -- and so is each term of it
   pub term_complete : {n : ℕ} {q r : Option Qualifiers} {ts rest : List Kind} {t : Tree} → Term n q ts t r rest → term_at n q ts ≡ Some (t, r, rest)
   term_complete (term_not h) = ap (λ o. negated o) (term_complete h)
   term_complete (term_open {n = n} {q = q} {ts = ts} e h) = ap (λ b. if b then None else closed (expr_at n q ts)) e ∙ ap (λ o. closed o) (expr_complete h)
@@ -78,6 +85,7 @@ mutual
       term_started (term_at n) (group_term_at n) q ts (starts.Group g, Some g, kind.Open ∷ mid) e (group_start_complete q ts mid phrase g a w f)
       ∙ ap (λ o. closed o >>= λ u. Some (u.0, Some g, u.2)) (group_complete h)
 
+-- no term begins with nothing
 no_term : (n : ℕ) (q : Option Qualifiers) → term_at n q [] ≡ None
 unfolding term_at
 no_term zero q = ap (λ o. o >>= λ s. started nothing s.0 s.1 s.2) (nothing_started q)

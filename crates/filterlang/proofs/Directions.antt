@@ -8,10 +8,12 @@ use Rattle.filterlang.specs.declared.tree.Direction.{Direction}
 use Rattle.filterlang.specs.Phrases.{joined, longest, one_side, direction_at}
 use Rattle.filterlang.specs.Reading.{◌>>=◌, joined_at}
 
+-- the three words that were found, or the first alone
 abbrev longer : Side → List Kind → Option (Direction × List Kind) → Option Direction × List Kind
 longer first rest (Some d) = (Some d.0, d.1)
 longer first rest None = (Some (one_side first), rest)
 
+-- the choice is the same
 chosen : (o : Option Direction) (first : Side) (joint : Joint) (second : Side) (rest : List Kind) →
     longest o first (kind.Joint joint ∷ kind.Side second ∷ rest) rest ≡ longer first (kind.Joint joint ∷ kind.Side second ∷ rest) (o >>= λ d. Some (d, rest))
 chosen None first joint second rest = refl

@@ -6,6 +6,7 @@ use Rattle.std.specs.List.{find}
 use Rattle.filterlang.specs.declared.token.Kind.{Kind}
 use Rattle.filterlang.specs.Words.{Entry, entries_of, token_of, first_of}
 
+-- one entry's turn
 found_test : (b : Bool) (e : Bor (List ℕ) × Kind) (x : Option Entry) (y : Option (Bor (List ℕ) × Kind)) → option_map token_of x ≡ option_map (λ e. (e.1, length e.0.now)) y
     → option_map (λ e. (e.1, length e.0.now)) (cond b (Some e) y) ≡ option_map token_of (cond b (Some (e.0.now, e.1)) x)
 found_test true e x y same = refl

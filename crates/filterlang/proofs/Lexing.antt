@@ -1,4 +1,4 @@
--- One list of tokens, or one place where the text is stuck_
+-- One list of tokens, or one place where the text is stuck.
 use Rattle.std.proofs.Common.{◌≡◌, ℕ, zero, suc, ◌+◌, ◌-◌, ◌<◌, ◌≤◌, List, [], ◌∷◌, ◌++◌, length, drop, refl, sym, ap, ◌∙◌, subst, arith, append_assoc, ◌⊎◌, inl, inr, ⊎_elim, length-drop, take, Result, Ok, Err}
 use Rattle.std.specs.Prelude.{IfOk, IfErr, IsOkUnless, IsErrOf}
 use Rattle.std.proofs.Math.Seq.{take-length}
@@ -62,6 +62,7 @@ never_both {text} {at} {xs} {c} {p} (lexes_token e r) (stuck_token h s) = never_
 within_at : (text : List ℕ) (at : ℕ) (f : Front) → front (drop at text) ≡ f → IsWithin f (length (drop at text))
 within_at text at f e = subst (λ g. IsWithin g (length (drop at text))) e (front_within (drop at text))
 
+-- tokens that follow a place follow what is before it
 from_earlier : (before at bytes : ℕ) (xs : List Token) → before ≤ at → AreInOrder at bytes xs → AreInOrder before bytes xs
 from_earlier before at bytes [] le h = omega arith
 from_earlier before at bytes (x ∷ xs) le h = (omega arith, h.1, h.2)
@@ -79,6 +80,7 @@ pub record LexedTo (text : List ℕ) (xs : List Token) (at : ℕ) : Type 0 where
   pub stuck_on : (cause : Cause) (place : ℕ) → Stuck text at cause place → Stuck text 0 cause place
 
 module _ {text : List ℕ} {xs : List Token} {at : ℕ} (so_far : LexedTo text xs at) where
+  -- past a blank
   pub lexed_blank : front (drop at text) ≡ fronts.Blank → LexedTo text xs (at + 1)
   lexed_blank e = record {
     within = let bytes = within_at text at fronts.Blank e in omega (arith, so_far.within, length-drop at text);
@@ -86,6 +88,7 @@ module _ {text : List ℕ} {xs : List Token} {at : ℕ} (so_far : LexedTo text x
     stuck_on = λ cause place r. so_far.stuck_on cause place (stuck_blank e r);
   }
 
+  -- past a token, which is one more
   pub lexed_token : (kind : Kind) (n : ℕ) → front (drop at text) ≡ fronts.Token kind n → LexedTo text (xs ++ placed at kind n ∷ []) (at + n)
   lexed_token kind n e = record {
     within = let bytes = within_at text at (fronts.Token kind n) e in omega (arith, so_far.within, length-drop at text);
@@ -93,9 +96,11 @@ module _ {text : List ℕ} {xs : List Token} {at : ℕ} (so_far : LexedTo text x
     stuck_on = λ cause place r. so_far.stuck_on cause place (stuck_token e r);
   }
 
+  -- at the end these are the tokens of the text
   pub lexed_all : front (drop at text) ≡ fronts.End → Lexes text 0 xs
   lexed_all e = rw (sym (append-nil xs)) (so_far.lexes_on [] (lexes_end e))
 
+  -- where it goes on no more, the text is stuck
   pub lexed_stuck : (cause : Cause) → front (drop at text) ≡ fronts.Stuck cause → Stuck text 0 cause at
   lexed_stuck cause e = so_far.stuck_on cause at (stuck_here e)
 
@@ -151,6 +156,7 @@ pub stuck_unless : {A : Type 0} (r : Result A Fault) (view : A → List Token) (
 stuck_unless (Ok x) view text cause place le stuck found fault = absurd (never_both found stuck)
 stuck_unless (Err f) view text cause place le stuck found fault = ⊎_elim (λ e. inl (ap Err e)) (λ e. inr (ap Err e)) (stuck_fault text cause place f le stuck fault)
 
+-- it has tokens from there on, or is stuck
 abbrev pub HasAnswer : List ℕ → ℕ → Type 0
 HasAnswer text at = ((xs : List Token) × Lexes text at xs) ⊎ ((c : Cause) × (p : ℕ) × Stuck text at c p)
 

@@ -18,6 +18,7 @@ is_ordered before [] = true
 is_ordered before (e ∷ es) = list_all (λ x. before e.0 x.0) es && is_ordered before es
 
 module _ (p : List ℕ → Bool) (before : List ℕ → List ℕ → Bool) (never_longer : (u v : List ℕ) → before u v ≡ true → p u ≡ true → p v ≡ true → length v ≤ length u) where
+  -- no entry behind one that passes is longer
   none_behind : (u : List ℕ) (es : List Entry) → p u ≡ true → list_all (λ x. before u x.0) es ≡ true → NoneLonger p (length u) es
   none_behind u [] passes all = tt
   none_behind u (x ∷ es) passes all =
@@ -48,6 +49,7 @@ module _ (p : List ℕ → Bool) (before : List ℕ → List ℕ → Bool) (neve
 abbrev is_as_long : List ℕ → List ℕ → Bool
 is_as_long u v = nat_le (length v) (length u)
 
+-- no sign stands before a longer one
 signs_in_order : is_ordered is_as_long signs ≡ true
 unfolding signs
 signs_in_order = refl
@@ -70,10 +72,12 @@ whole_front (b ∷ text) (a ∷ u) (c ∷ v) here there more =
     let other = both_true (nat_eq c b) (stands text v) there in
     rw (eq-eqb a c (eqb-true a b first ∙ sym (eqb-true c b other.0))) (whole_front text u v (rw first at here) other.1 (omega arith))
 
+-- no word stands before one that it begins whole
 words_in_order : is_ordered is_no_front words ≡ true
 unfolding words
 words_in_order = refl
 
+-- so the longer of two words that stand whole in a text comes first
 never_longer_word : (text u v : List ℕ) → is_no_front u v ≡ true → stands_whole text u ≡ true → stands_whole text v ≡ true → length v ≤ length u
 never_longer_word text u v order here there = ⊎_elim (λ tells. tells.1) (λ tells. clash tells.1) (leb_tells (length v) (length u))
   where

@@ -25,6 +25,7 @@ pub numeral_is : (base : ℕ) (bs : List ℕ) → 0 < length bs → numeral base
 numeral_is base [] nonempty = absurd (omega arith)
 numeral_is base (b ∷ bs) nonempty = refl
 
+-- one digit more
 number_behind-digit : (base n b : ℕ) (bs : List ℕ) → digit_value b < base → number_behind base n (b ∷ bs) ≡ number_behind base (n * base + digit_value b) bs
 number_behind-digit base n b bs is = rw (lt-ltb (digit_value b) base is) refl
 

@@ -22,13 +22,16 @@ pub record Read (base most mark : ℕ) (run numbers : List ℕ) (count turns : �
   pub six : length numbers ≡ 6
   pub so_far : octets base most (parts_of mark run) ≡ onto (take count numbers) (octets base most (drop count (parts_of mark run)))
 
+-- numbers before one before the others
 onto-onto : (front : List ℕ) (n : ℕ) (rest : Option (List ℕ)) → onto front (onto (n ∷ []) rest) ≡ onto (front ++ n ∷ []) rest
 onto-onto front n None = refl
 onto-onto front n (Some ns) = ap Some (sym (append_assoc front (n ∷ []) ns))
 
+-- an octet goes before those of the other parts
 octets-cons : (base most : ℕ) (part : List ℕ) (parts : List (List ℕ)) (n : ℕ) → octet base most part ≡ Some n → octets base most (part ∷ parts) ≡ onto (n ∷ []) (octets base most parts)
 octets-cons base most part parts n is = rw is refl
 
+-- a part that is none spoils all
 octets-none : (base most : ℕ) (part : List ℕ) (parts : List (List ℕ)) → octet base most part ≡ None → octets base most (part ∷ parts) ≡ None
 octets-none base most part parts is = rw is refl
 
@@ -79,6 +82,7 @@ module _ {base most mark : ℕ} {run numbers : List ℕ} {count turns : ℕ} (re
 pub ethernet-long : (ns : List ℕ) → 6 < length ns → ethernet ns ≡ None
 ethernet-long ns h = rw (ne_eqb (length ns) 6 (λ e. omega arith)) refl
 
+-- the same of dotted ones
 dotted-long : (ns : List ℕ) → 6 < length ns → dotted ns ≡ None
 dotted-long [] h = refl
 dotted-long (a ∷ []) h = refl

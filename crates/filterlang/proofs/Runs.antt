@@ -22,10 +22,12 @@ abbrev with_marks : List (List ℕ) → ℕ
 with_marks [] = 0
 with_marks (part ∷ parts) = (length part + 1) + with_marks parts
 
+-- one byte more in the first part
 with_marks-onto : (x : ℕ) (parts : List (List ℕ)) → 0 < with_marks parts → with_marks (onto_first x parts) ≡ with_marks parts + 1
 with_marks-onto x [] some = absurd (omega arith)
 with_marks-onto x (part ∷ parts) some = omega arith
 
+-- the parts of a run have its bytes, and each but the last a mark behind it
 with_marks-split : (p : ℕ → Bool) (run : List ℕ) → with_marks (slice_split p run) ≡ length run + 1
 with_marks-split p [] = refl
 with_marks-split p (b ∷ run) = at_test (p b) (with_marks-split p run)
@@ -34,6 +36,7 @@ with_marks-split p (b ∷ run) = at_test (p b) (with_marks-split p run)
     at_test true e = omega arith
     at_test false e = let first = with_marks-onto b (slice_split p run) (omega arith) in omega arith
 
+-- an octet has no more digits than it may
 octet-short : (base most : ℕ) (part : List ℕ) (n : ℕ) → octet base most part ≡ Some n → length part ≤ most
 octet-short base most part n e = at_test (nat_le (length part) most) refl e
   where

@@ -18,18 +18,22 @@ use Rattle.filterlang.specs.declared.qualifiers.Identifier.{Identifier}
 use Rattle.filterlang.proofs.Steps.{weaken, at_some}
 use Rattle.filterlang.proofs.Sound.{IsGroupTerm, group_term_reads, group_term_sound, terms_read, term_sound}
 
+-- a protocol word leaves no more tokens than there were
 protocol_shorter : (ts : List Kind) → length (protocol_at ts).1 ≤ length ts
 protocol_shorter (kind.Protocol p ∷ ts) = omega arith
 protocol_shorter ts = le_refl (length ts)
 
+-- nor does a type word
 type_shorter : (ts : List Kind) → length (type_at ts).1 ≤ length ts
 type_shorter (kind.Type w ∷ ts) = omega arith
 type_shorter ts = le_refl (length ts)
 
+-- nor do three words of a direction, or the first alone
 longest_shorter : (o : Option Direction) (first : Side) (rest later : List Kind) (n : ℕ) → length rest ≤ n → length later ≤ n → length (longest o first rest later).1 ≤ n
 longest_shorter None first rest later n h k = h
 longest_shorter (Some d) first rest later n h k = k
 
+-- nor does a direction
 direction_shorter : (ts : List Kind) → length (direction_at ts).1 ≤ length ts
 direction_shorter (kind.Side a ∷ kind.Joint j ∷ kind.Side b ∷ ts) = longest_shorter (joined a j b) a (kind.Joint j ∷ kind.Side b ∷ ts) ts (suc (suc (suc (length ts)))) (omega arith) (omega arith)
 direction_shorter (kind.Side a ∷ ts) = omega arith
@@ -40,6 +44,7 @@ pub phrase_shorter : (ts : List Kind) → length (phrase_at ts).1 ≤ length ts
 phrase_shorter ts =
     omega (arith, protocol_shorter ts, direction_shorter (protocol_at ts).1, type_shorter (direction_at (protocol_at ts).1).1)
 
+-- nor does a dotted address
 dotted_shorter : (a : ℕ) (p : Parts) (ts : List Kind) → IfSome (dotted_at a p ts) (λ id. length id.1 ≤ length ts)
 dotted_shorter a p (kind.Operator Divide ∷ kind.Number b ∷ ts) = omega arith
 dotted_shorter a p (kind.Operator Divide ∷ ts) = tt
@@ -47,6 +52,7 @@ dotted_shorter a p (kind.Mask ∷ kind.Dotted m q ∷ ts) = omega arith
 dotted_shorter a p (kind.Mask ∷ ts) = tt
 dotted_shorter a p ts = le_refl (length ts)
 
+-- nor does any identifier
 identifier_shorter : (ts : List Kind) → IfSome (identifier_at ts) (λ id. length id.1 ≤ length ts)
 identifier_shorter (kind.Number n ∷ ts) = omega arith
 identifier_shorter (kind.Ethernet a ∷ ts) = omega arith
@@ -54,9 +60,11 @@ identifier_shorter (kind.Name n ∷ ts) = omega arith
 identifier_shorter (kind.Dotted a p ∷ ts) = weaken (λ id. length id.1 ≤ length ts) (λ id. length id.1 ≤ suc (length ts)) (dotted_at a p ts) (dotted_shorter a p ts) (λ id h. omega arith)
 identifier_shorter ts = tt
 
+-- the same, of what is known to follow a phrase
 behind_phrase : (ts rest : List Kind) (phrase : Phrase) → phrase_at ts ≡ (phrase, rest) → length rest ≤ length ts
 behind_phrase ts rest phrase e = subst (λ u. length u.1 ≤ length ts) e (phrase_shorter ts)
 
+-- and an identifier
 behind_identifier : (ts rest : List Kind) (id : Identifier) → identifier_at ts ≡ Some (id, rest) → length rest ≤ length ts
 behind_identifier ts rest id e = at_some (λ u. length u.1 ≤ length ts) (identifier_at ts) (id, rest) e (identifier_shorter ts)
 
@@ -75,6 +83,7 @@ Prim-shorter (prim_phrase {ts = ts} {mid = mid} {rest = rest} {phrase = phrase} 
 Prim-shorter (prim_inherited {ts = ts} {rest = rest} {id = id} a b) = behind_identifier ts rest id a
 
 mutual
+  -- groups and their terms
   Group-shorter : {n : ℕ} {g : Qualifiers} {ts rest : List Kind} {t : Tree} → Group n g ts t rest → length rest ≤ length ts
   Group-shorter (group_one h) = GroupTerm-shorter h
   Group-shorter (group_and h k) = omega (arith, Group-shorter h, GroupTerm-shorter k)
@@ -86,6 +95,7 @@ mutual
   GroupTerm-shorter (group_id {ts = ts} {rest = rest} {id = id} a b) = behind_identifier ts rest id a
 
 mutual
+  -- expressions and their terms
   Expr-shorter : {n : ℕ} {q r : Option Qualifiers} {ts rest : List Kind} {t : Tree} → Expr n q ts t r rest → length rest ≤ length ts
   Expr-shorter (expr_one h) = Term-shorter h
   Expr-shorter (expr_and h k) = omega (arith, Expr-shorter h, Term-shorter k)
@@ -113,5 +123,6 @@ Shortens {Q} next = (q : Q) (ts : List Kind) → IfSome (next q ts) (λ t. lengt
 pub group_term_shortens : (n : ℕ) → Shortens (group_term_at n)
 group_term_shortens n g ts = weaken (λ u. IsGroupTerm n g ts u.0 u.1 u.2) (λ u. length u.2 ≤ length ts) (group_term_at n g ts) (group_term_reads n g ts) (λ u h. GroupTerm-shorter h.1)
 
+-- the same of the terms of the whole
 pub term_shortens : (n : ℕ) → Shortens (term_at n)
 term_shortens n q ts = weaken (λ u. Term n q ts u.0 u.1 u.2) (λ u. length u.2 ≤ length ts) (term_at n q ts) (terms_read n q ts) (λ u h. Term-shorter h)

@@ -25,6 +25,7 @@ closed_sound {Q} P R read h next = step (λ u. P u.0 u.1 u.2) (λ u. R u.0 u.1 u
     at_close t q (kind.Close ∷ rest) k = next t q rest k
     at_close t q ts k = tt
 
+-- the negation of what was read
 negated_sound : {Q : Type 0} (P R : Tree → Q → List Kind → Type 0) (read : Option (Tree × Q × List Kind)) → IfSome read (λ u. P u.0 u.1 u.2) → ((t : Tree) (q : Q) (rest : List Kind) → P t q rest → R (negation t) q rest) → IfSome (negated read) (λ u. R u.0 u.1 u.2)
 negated_sound P R read h next = step (λ u. P u.0 u.1 u.2) (λ u. R u.0 u.1 u.2) read (λ t. Some (negation t.0, t.1, t.2)) h (λ u k. next u.0 u.1 u.2 k)
 
@@ -32,24 +33,29 @@ negated_sound P R read h next = step (λ u. P u.0 u.1 u.2) (λ u. R u.0 u.1 u.2)
 abbrev pub IsGroupTerm : ℕ → Qualifiers → List Kind → Tree → Qualifiers → List Kind → Type 0
 IsGroupTerm n g ts t h rest = (h ≡ g) × GroupTerm n g ts t rest
 
+-- and a group
 abbrev IsGroup : ℕ → Qualifiers → List Kind → Tree → Qualifiers → List Kind → Type 0
 IsGroup n g ts t h rest = (h ≡ g) × Group n g ts t rest
 
+-- one term more, by its word
 group_joined : (n : ℕ) (j : Joint) (g h : Qualifiers) (ts mid rest : List Kind) (t u : Tree) → Group n g ts t (kind.Joint j ∷ mid) → IsGroupTerm n g mid u h rest → IsGroup n g ts (joined_by j t u) h rest
 group_joined n And g h ts mid rest t u a b = (b.0, group_and a b.1)
 group_joined n Or g h ts mid rest t u a b = (b.0, group_or a b.1)
 
+-- what is found of a group is the grammar's, where its terms are
 group_from_terms : (n : ℕ) → ((g : Qualifiers) (ts : List Kind) → IfSome (group_term_at n g ts) (λ u. IsGroupTerm n g ts u.0 u.1 u.2)) → (g : Qualifiers) (ts : List Kind) → IfSome (group_at n g ts) (λ u. IsGroup n g ts u.0 u.1 u.2)
 group_from_terms n terms g ts =
     chained_keeps (group_term_at n) (IsGroup n g ts) g ts
     (λ u e. let first = at_some (λ u. IsGroupTerm n g ts u.0 u.1 u.2) (group_term_at n g ts) u e (terms g ts) in (first.0, group_one first.1))
     (λ j t h mid u k e. group_joined n j g u.1 ts mid u.2 t u.0 k.1 (at_some (λ v. IsGroupTerm n g mid v.0 v.1 v.2) (group_term_at n g mid) u (ap (λ x. group_term_at n x mid) (sym k.0) ∙ e) (terms g mid)))
 
+-- an identifier of a group
 identifier_sound : (n : ℕ) (g : Qualifiers) (ts : List Kind) → IfSome {T = Tree × Qualifiers × List Kind} (identified_at g ts >>= λ p. Some (test p.0, g, p.1)) (λ u. IsGroupTerm n g ts u.0 u.1 u.2)
 identifier_sound n g ts =
     step (λ p. (id : Identifier) × (identifier_at ts ≡ Some (id, p.1)) × (identified g id ≡ Some p.0)) (λ u. IsGroupTerm n g ts u.0 u.1 u.2) (identified_at g ts) (λ p. Some (test p.0, g, p.1)) (identified_sound g ts)
     (λ p h. (refl, group_id h.1 h.2))
 
+-- a term one level farther out
 group_term_from : (n : ℕ) → ((g : Qualifiers) (ts : List Kind) → IfSome (group_term_at n g ts) (λ u. IsGroupTerm n g ts u.0 u.1 u.2)) → (g : Qualifiers) (ts : List Kind) → IfSome (group_term_by (group_term_at n) g ts) (λ u. IsGroupTerm (suc n) g ts u.0 u.1 u.2)
 group_term_from n terms g (kind.Not ∷ ts) = negated_sound (IsGroupTerm n g ts) (IsGroupTerm (suc n) g (kind.Not ∷ ts)) (group_term_at n g ts) (terms g ts) (λ t h rest k. (k.0, group_not k.1))
 group_term_from n terms g (kind.Open ∷ ts) = closed_sound (IsGroup n g ts) (IsGroupTerm (suc n) g (kind.Open ∷ ts)) (group_at n g ts) (group_from_terms n terms g ts) (λ t h rest k. (k.0, group_open k.1))
@@ -67,17 +73,19 @@ group_term_reads (suc n) g ts = group_term_from n (group_term_reads n) g ts
 abbrev pub TermsRead : ℕ → Type 0
 TermsRead n = (q : Option Qualifiers) (ts : List Kind) → IfSome (term_at n q ts) (λ u. Term n q ts u.0 u.1 u.2)
 
+-- one term more of an expression, by its word
 expr_joined : (n : ℕ) (j : Joint) (q r s : Option Qualifiers) (ts mid rest : List Kind) (t u : Tree) → Expr n q ts t r (kind.Joint j ∷ mid) → Term n r mid u s rest → Expr n q ts (joined_by j t u) s rest
 expr_joined n And q r s ts mid rest t u a b = expr_and a b
 expr_joined n Or q r s ts mid rest t u a b = expr_or a b
 
+-- what is found of an expression is the grammar's, where its terms are
 expr_from_terms : (n : ℕ) → TermsRead n → (q : Option Qualifiers) (ts : List Kind) → IfSome (expr_at n q ts) (λ u. Expr n q ts u.0 u.1 u.2)
 expr_from_terms n terms q ts =
     chained_keeps (term_at n) (Expr n q ts) q ts
     (λ u e. expr_one (at_some (λ v. Term n q ts v.0 v.1 v.2) (term_at n q ts) u e (terms q ts)))
     (λ j t r mid u k e. expr_joined n j q r u.1 ts mid u.2 t u.0 k (at_some (λ v. Term n r mid v.0 v.1 v.2) (term_at n r mid) u e (terms r mid)))
 
--- a term that begins with no sign, at the outermost level and at those within
+-- a term that begins with no sign, at the innermost level, where no group may stand
 start_zero : (q : Option Qualifiers) (ts : List Kind) → begins_relation ts ≡ false → IfSome (start_at q ts >>= λ s. started nothing s.0 s.1 s.2) (λ u. Term zero q ts u.0 u.1 u.2)
 start_zero q ts e = step (λ s. Begun q ts s.0 s.1 s.2) (λ u. Term zero q ts u.0 u.1 u.2) (start_at q ts) (λ s. started nothing s.0 s.1 s.2) (start_begun q ts) (λ s h. at_start s.0 s.1 s.2 h)
   where
@@ -86,6 +94,7 @@ start_zero q ts e = step (λ s. Begun q ts s.0 s.1 s.2) (λ u. Term zero q ts u.
     at_start (starts.Group g) r [] h = tt
     at_start (starts.Group g) r (sign ∷ rest) h = tt
 
+-- a group behind its phrase
 group_begun : (n : ℕ) (q r : Option Qualifiers) (ts rest : List Kind) (g : Qualifiers) → begins_relation ts ≡ false → Begun q ts (starts.Group g) r rest → IfSome (started (group_term_at n) (starts.Group g) r rest) (λ u. Term (suc n) q ts u.0 u.1 u.2)
 group_begun n q r ts [] g e (phrase, mid, a, w, f, b, c) = absurd cc
 group_begun n q r ts (sign ∷ rest) g e (phrase, mid, a, w, f, b, c) =
@@ -96,6 +105,7 @@ group_begun n q r ts (sign ∷ rest) g e (phrase, mid, a, w, f, b, c) =
     same : mid ≡ rest
     same = cc
 
+-- the same at the levels around it, where one may
 start_within : (n : ℕ) (q : Option Qualifiers) (ts : List Kind) → begins_relation ts ≡ false → IfSome (start_at q ts >>= λ s. started (group_term_at n) s.0 s.1 s.2) (λ u. Term (suc n) q ts u.0 u.1 u.2)
 start_within n q ts e = step (λ s. Begun q ts s.0 s.1 s.2) (λ u. Term (suc n) q ts u.0 u.1 u.2) (start_at q ts) (λ s. started (group_term_at n) s.0 s.1 s.2) (start_begun q ts) (λ s h. at_start s.0 s.1 s.2 h)
   where
@@ -103,16 +113,19 @@ start_within n q ts e = step (λ s. Begun q ts s.0 s.1 s.2) (λ u. Term (suc n) 
     at_start (starts.Primitive p) r rest h = term_prim e h
     at_start (starts.Group g) r rest h = group_begun n q r ts rest g e h
 
+-- a term at the innermost level, which has no signs
 logical_zero : (q : Option Qualifiers) (ts : List Kind) → begins_relation ts ≡ false → IfSome (logical_by nothing nothing q ts) (λ u. Term zero q ts u.0 u.1 u.2)
 logical_zero q (kind.Not ∷ ts) e = tt
 logical_zero q (kind.Open ∷ ts) e = tt
 logical_zero q ts e = start_zero q ts e
 
+-- a term that may have signs
 logical_within : (n : ℕ) → TermsRead n → (q : Option Qualifiers) (ts : List Kind) → begins_relation ts ≡ false → IfSome (logical_by (term_at n) (group_term_at n) q ts) (λ u. Term (suc n) q ts u.0 u.1 u.2)
 logical_within n terms q (kind.Not ∷ ts) e = negated_sound (Term n q ts) (Term (suc n) q (kind.Not ∷ ts)) (term_at n q ts) (terms q ts) (λ t r rest k. term_not k)
 logical_within n terms q (kind.Open ∷ ts) e = closed_sound (Expr n q ts) (Term (suc n) q (kind.Open ∷ ts)) (expr_at n q ts) (expr_from_terms n terms q ts) (λ t r rest k. term_open e k)
 logical_within n terms q ts e = start_within n q ts e
 
+-- what begins a relation is not read, so that nothing is to be shown
 no_relation : {Q : Type 0} (R : Tree × Q × List Kind → Type 0) (b : Bool) (read : Option (Tree × Q × List Kind)) → (b ≡ false → IfSome read R) → IfSome (if b then None else read) R
 no_relation R true read h = tt
 no_relation R false read h = h refl
@@ -131,6 +144,7 @@ group_term_sound n g ts t h rest e = at_some (λ u. IsGroupTerm n g ts u.0 u.1 u
 pub term_sound : (n : ℕ) (q : Option Qualifiers) (ts : List Kind) (t : Tree) (r : Option Qualifiers) (rest : List Kind) → term_at n q ts ≡ Some (t, r, rest) → Term n q ts t r rest
 term_sound n q ts t r rest e = at_some (λ u. Term n q ts u.0 u.1 u.2) (term_at n q ts) (t, r, rest) e (terms_read n q ts)
 
+-- an expression up to the end is the text's
 whole_sound : (ts : List Kind) (read : Option (Tree × Option Qualifiers × List Kind)) → IfSome read (λ u. Expr 64 None ts u.0 u.1 u.2) → IfSome (whole read) (λ t. Reads ts t)
 whole_sound ts None h = tt
 whole_sound ts (Some u) h = at_end u.0 u.1 u.2 h
@@ -139,6 +153,7 @@ whole_sound ts (Some u) h = at_end u.0 u.1 u.2 h
     at_end t r [] h = reads_expr h
     at_end t r (k ∷ rest) h = tt
 
+-- what is found of a text is the grammar's
 text_reads : (ts : List Kind) → IfSome (text_at ts) (λ t. Reads ts t)
 unfolding text_at
 text_reads [] = reads_nothing

@@ -64,16 +64,19 @@ abbrev pub started_at : ℕ → Start → Reader (Option Qualifiers)
 started_at n (starts.Primitive p) q ts = Some (test p, q, ts)
 started_at n (starts.Group g) q ts = deeper n ts >>= λ d. closed (group_at d.0 g d.1) >>= λ t. Some (t.0, q, t.2)
 
+-- with no level left no group is read
 started_zero : (s : Start) (q : Option Qualifiers) (ts : List Kind) → started nothing s q ts ≡ started_at zero s q ts
 started_zero (starts.Primitive p) q ts = refl
 started_zero (starts.Group g) q [] = refl
 started_zero (starts.Group g) q (t ∷ ts) = refl
 
+-- with one more, by the reader of those that are left
 started_suc : (n : ℕ) (s : Start) (q : Option Qualifiers) (ts : List Kind) → started (group_term_at n) s q ts ≡ started_at (suc n) s q ts
 started_suc n (starts.Primitive p) q ts = refl
 started_suc n (starts.Group g) q [] = refl
 started_suc n (starts.Group g) q (t ∷ ts) = refl
 
+-- what goes on alike ends alike
 bind_same : {A B : Type 0} (o : Option A) (f g : A → Option B) → ((x : A) → f x ≡ g x) → (o >>= f) ≡ (o >>= g)
 bind_same None f g h = refl
 bind_same (Some x) f g h = h x
@@ -88,6 +91,7 @@ logical_start (suc n) q (kind.Open ∷ ts) h = cc
 logical_start zero q ts h = bind_same (start_at q ts) _ _ (λ s. started_zero s.0 s.1 s.2)
 logical_start (suc n) q ts h = bind_same (start_at q ts) _ _ (λ s. started_suc n s.0 s.1 s.2)
 
+-- a joint that is found is the first token
 joint_is : (j : Joint) (mid ts : List Kind) → Some (j, mid) ≡ joint_at ts → kind.Joint j ∷ mid ≡ ts
 joint_is j mid (kind.Joint i ∷ rest) e = ap (λ (p : Joint × List Kind). kind.Joint p.0 ∷ p.1) (same_Some _ _ e)
 joint_is j mid ts e = absurd cc

@@ -40,6 +40,7 @@ found_passes p q (y ∷ table) x all e = at_test (p y) refl (both_true (q y) (li
 abbrev spells_something : Entry → Bool
 spells_something entry = nat_lt 0 (length entry.0)
 
+-- so an entry that is found lies within the text
 entry_within : (p : List ℕ → Bool) (table : List Entry) (text : List ℕ) → list_all spells_something table ≡ true → ((spelling : List ℕ) → p spelling ≡ true → stands text spelling ≡ true) → IfSome (option_map token_of (find (λ e. p e.0) table)) (λ t. HasBytes t.1 (length text))
 entry_within p table text all stands_there = at_found (find (λ e. p e.0) table) refl
   where
@@ -64,6 +65,7 @@ pub sign_within : (text : List ℕ) → IfSome (standing signs text) (λ t. HasB
 unfolding signs
 sign_within text = entry_within (stands text) signs text refl (λ x h. h)
 
+-- what a run is, with its length
 abbrev with_length : List ℕ → Kind → Kind × ℕ
 with_length run kind = (kind, length run)
 
@@ -90,18 +92,22 @@ number_within text = run_within 46 text (λ run. if list_any (λ b. b == 46) run
 abbrev IsTokenOf : List ℕ → Kind × ℕ → Type 0
 IsTokenOf text token = HasBytes token.1 (length text)
 
+-- the first way, or else the second
 or_else_within : (text : List ℕ) (o : Option (Kind × ℕ)) (r : Result (Kind × ℕ) Cause) → IfSome o (IsTokenOf text) → IfOk r (IsTokenOf text) → IfOk (or_else o r) (IsTokenOf text)
 or_else_within text None r first second = second
 or_else_within text (Some x) r first second = first
 
+-- a way that has a cause where it fails
 ok_or_within : (text : List ℕ) (o : Option (Kind × ℕ)) (cause : Cause) → IfSome o (IsTokenOf text) → IfOk (ok_or o cause) (IsTokenOf text)
 ok_or_within text None cause first = tt
 ok_or_within text (Some x) cause first = first
 
+-- one way or the other, by a test
 if_within : (text : List ℕ) (b : Bool) (r s : Result (Kind × ℕ) Cause) → IfOk r (IsTokenOf text) → IfOk s (IsTokenOf text) → IfOk (if b then r else s) (IsTokenOf text)
 if_within text true r s first second = first
 if_within text false r s first second = second
 
+-- a name behind its backslash
 backslash_within : (text : List ℕ) (o : Option (Kind × ℕ)) → IfSome o (IsTokenOf (drop 1 text)) → IfSome (option_map (λ name. (name.0, name.1 + 1)) o) (IsTokenOf text)
 backslash_within text None first = tt
 backslash_within text (Some x) first = (omega arith, omega (arith, length-drop 1 text))
@@ -116,6 +122,7 @@ token_within text =
     (if_within text (begins (λ b. b == 92) text) _ _ (ok_or_within text _ BadWord (backslash_within text (whole_word names (drop 1 text)) (name_within (drop 1 text))))
     (ok_or_within text (standing signs text) BadByte (sign_within text)))))
 
+-- the empty list has none
 token_at_nil : token_at [] ≡ Err BadByte
 unfolding token_at ethernet_at signs
 token_at_nil = refl
@@ -124,6 +131,7 @@ token_at_nil = refl
 pub token_at-nil : (text : List ℕ) → length text ≡ 0 → token_at text ≡ Err BadByte
 token_at-nil text empty = ap token_at (nil_from_length text empty) ∙ token_at_nil
 
+-- what stands at the front keeps within where its token does
 front_of_within : (r : Result (Kind × ℕ) Cause) (b : ℕ) (text : List ℕ) → IfOk r (IsTokenOf (b ∷ text)) → IsWithin (front_of r) (length (b ∷ text))
 front_of_within (Ok token) b text within = within
 front_of_within (Err cause) b text within = omega arith

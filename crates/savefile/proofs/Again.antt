@@ -14,6 +14,7 @@ use Rattle.savefile.specs.Savefile.{bytes_in, encoded, field, header_text, in_un
 use Rattle.savefile.proofs.Lengths.{length-bytes_in}
 use Rattle.savefile.proofs.Records.{longest_records, NoRecord-nil}
 
+-- a number reads back, whatever follows it
 reads_back : (order : Order) (n x : ℕ) (rest : List ℕ) → x < 256 ^ n → number_in order n (bytes_in order n x ++ rest) ≡ x
 reads_back Little n x rest h = little_number-reads_back n x rest h
 reads_back Big n x rest h = big_number-reads_back n x rest h
@@ -29,10 +30,12 @@ fraction_below : (unit : TimeUnit) (n : ℕ) → n < 1000000000 → n / nanos_in
 fraction_below Micro n h = omega arith
 fraction_below Nano n h = omega arith
 
+-- four bytes hold each fraction
 per_second_fits : (unit : TimeUnit) → per_second unit ≤ 256 ^ 4
 per_second_fits Micro = omega arith
 per_second_fits Nano = omega arith
 
+-- and each magic number
 magic_fits : (unit : TimeUnit) → magic_of unit < 256 ^ 4
 magic_fits Micro = omega arith
 magic_fits Nano = omega arith

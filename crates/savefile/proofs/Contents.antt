@@ -23,6 +23,7 @@ pub record SameHeader (order order' : Order) (unit unit' : TimeUnit) (snap snap'
   pub unit_is : unit ≡ unit'
   pub snap_is : snap ≡ snap'
 
+-- a text has one header
 pub one_header : (text : List ℕ) (order order' : Order) (unit unit' : TimeUnit) (snap snap' : ℕ) (ps qs : List Packet) (rest rest' : List ℕ)
     → IsText text → IsSavefile text order unit snap ps rest → IsSavefile text order' unit' snap' qs rest' → SameHeader order order' unit unit' snap snap'
 one_header text order order' unit unit' snap snap' ps qs rest rest' fits r s =
@@ -42,6 +43,7 @@ renamed text order order' unit unit' snap snap' qs rest e s =
     (subst (λ (x : TimeUnit). IsSavefile text order' x snap qs rest) (sym e.unit_is)
     (subst (λ (x : ℕ). IsSavefile text order' unit' x qs rest) (sym e.snap_is) s))
 
+-- a text is read in one way as so many packets
 pub one_reading : (text : List ℕ) (order order' : Order) (unit unit' : TimeUnit) (snap snap' : ℕ) (ps qs : List Packet) (rest rest' : List ℕ)
     → IsText text → IsSavefile text order unit snap ps rest → IsSavefile text order' unit' snap' qs rest' → length ps ≡ length qs
     → (order ≡ order') × (unit ≡ unit') × (snap ≡ snap') × (ps ≡ qs) × (rest ≡ rest')
@@ -51,6 +53,7 @@ one_reading text order order' unit unit' snap snap' ps qs rest rest' fits r s le
     let same = one_list _ _ _ ps qs rest rest' r.records t.records len in
     (e.order_is, e.unit_is, e.snap_is, same.0, same.1)
 
+-- a text holds one list of packets, and ends with one fault or none
 pub one_content : (text : List ℕ) (order order' : Order) (unit unit' : TimeUnit) (snap snap' : ℕ) (ps qs : List Packet) (f g : Option Fault)
     → IsText text → Holds text order unit snap ps f → Holds text order' unit' snap' qs g
     → (order ≡ order') × (unit ≡ unit') × (snap ≡ snap') × (ps ≡ qs) × (f ≡ g)

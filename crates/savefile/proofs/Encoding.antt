@@ -37,6 +37,7 @@ encoded-begins order unit snap ps qs = (flat_map (record_text (bytes_in order) u
 pub IsBeginning-trans : (a b c : List ℕ) → IsBeginning a b → IsBeginning b c → IsBeginning a c
 IsBeginning-trans a b c p q = (p.0 ++ q.0, q.1 ∙ ap (λ (t : List ℕ). t ++ q.0) p.1 ∙ append_assoc a p.0 q.0)
 
+-- each text begins itself
 pub IsBeginning-refl : (a : List ℕ) → IsBeginning a a
 IsBeginning-refl a = ([], sym (append-nil a))
 

@@ -21,6 +21,7 @@ none_of_four text a b c d Little Nano = b
 none_of_four text a b c d Big Micro = c
 none_of_four text a b c d Big Nano = d
 
+-- a text has a magic number or none
 magic_or_none : (text : List ℕ) → ((order : Order) × (unit : TimeUnit) × HasMagic text order unit) ⊎ ((order : Order) (unit : TimeUnit) → HasMagic text order unit → ⊥)
 magic_or_none text =
     let little = field (number_in Little) text 0 4 in
@@ -43,9 +44,11 @@ magic_or_none text =
 abbrev HasHeader : List ℕ → Type 0
 HasHeader text = (order : Order) × (unit : TimeUnit) × IsHeader (number_in order) text unit (field (number_in order) text 16 4)
 
+-- the fault for which its header is refused
 abbrev IsRefused : List ℕ → Type 0
 IsRefused text = (fault : Fault) × RefusesHeader text fault
 
+-- behind a magic number there is a header, or a fault
 behind_magic : (text : List ℕ) (order : Order) (unit : TimeUnit) → 24 ≤ length text → HasMagic text order unit → IsRefused text ⊎ HasHeader text
 behind_magic text order unit size magic = elim (cases_eq (field (number_in order) text 4 2) 2) [
   | inr wrong ↦ inl (Version, (size, order, unit, magic, λ version. wrong version.0))
@@ -58,6 +61,7 @@ behind_magic text order unit size magic = elim (cases_eq (field (number_in order
   ]
 ]
 
+-- each text begins with a header, or is refused
 header_or_refusal : (text : List ℕ) → IsRefused text ⊎ HasHeader text
 header_or_refusal text = elim (cases_lt (length text) 24) [
   | inl short ↦ inl (ShortHeader, short)
@@ -101,6 +105,7 @@ held text order unit snap header =
       },
     )
 
+-- each text is refused, or holds something
 pub refused_or_held : (text : List ℕ) → ((fault : Fault) × RefusesHeader text fault)
     ⊎ ((order : Order) × (unit : TimeUnit) × (snap : ℕ) × (packets : List Packet) × (end : Option Fault) × Holds text order unit snap packets end)
 refused_or_held text = elim (header_or_refusal text) [

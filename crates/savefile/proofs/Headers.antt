@@ -18,6 +18,7 @@ little_first : (unit : TimeUnit) (text : List ℕ) → AreBytes text → little_
 little_first Micro text fits e = λ h. omega (arith, fits 0, fits 1, fits 2, fits 3, e, h)
 little_first Nano text fits e = λ h. omega (arith, fits 0, fits 1, fits 2, fits 3, e, h)
 
+-- and the highest first
 big_first : (unit : TimeUnit) (text : List ℕ) → AreBytes text → big_number 4 text ≡ magic_of unit → get_or text 0 0 ≡ 161
 big_first Micro text fits e = omega (arith, fits 0, fits 1, fits 2, fits 3, e)
 big_first Nano text fits e = omega (arith, fits 0, fits 1, fits 2, fits 3, e)
@@ -29,6 +30,7 @@ one_order text Big Big u v fits e f = refl
 one_order text Little Big u v fits e f = absurd (little_first u text fits e (big_first v text fits f))
 one_order text Big Little u v fits e f = absurd (little_first v text fits f (big_first u text fits e))
 
+-- a magic number has one unit
 one_magic : (u v : TimeUnit) → magic_of u ≡ magic_of v → u ≡ v
 one_magic Micro Micro e = refl
 one_magic Nano Nano e = refl
@@ -57,6 +59,7 @@ refused_is_none text _ o u snap fits r h = r
 
 -- ---- One fault
 
+-- a text that is too short is refused for that alone
 only_short : (text : List ℕ) (fault : Fault) → length text < 24 → RefusesHeader text fault → fault ≡ ShortHeader
 only_short text ShortHeader lt r = refl
 only_short text NotSavefile lt r = absurd (omega (arith, lt, r.0))
@@ -64,6 +67,7 @@ only_short text Version lt r = absurd (omega (arith, lt, r.0))
 only_short text LinkType lt r = absurd (omega (arith, lt, r.0))
 only_short text _ lt r = absurd r
 
+-- one without a magic number for that alone
 only_not_savefile : (text : List ℕ) (fault : Fault) → 24 ≤ length text → ((o : Order) (u : TimeUnit) → HasMagic text o u → ⊥) → RefusesHeader text fault → fault ≡ NotSavefile
 only_not_savefile text ShortHeader le never r = absurd (omega (arith, le, r))
 only_not_savefile text NotSavefile le never r = refl
@@ -71,6 +75,7 @@ only_not_savefile text Version le never r = absurd (never r.1 r.2 r.3)
 only_not_savefile text LinkType le never r = absurd (never r.1 r.2 r.3)
 only_not_savefile text _ le never r = absurd r
 
+-- one of another version for that alone
 only_version : (text : List ℕ) (fault : Fault) (o : Order) (u : TimeUnit) → AreBytes text → 24 ≤ length text → HasMagic text o u → (HasVersion (number_in o) text → ⊥) → RefusesHeader text fault → fault ≡ Version
 only_version text ShortHeader o u fits le m never r = absurd (omega (arith, le, r))
 only_version text NotSavefile o u fits le m never r = absurd (r.1 o u m)
@@ -78,6 +83,7 @@ only_version text Version o u fits le m never r = refl
 only_version text LinkType o u fits le m never r = absurd (not_refused_by_version text r.1 r.2 fits r.3 r.4 o u m never)
 only_version text _ o u fits le m never r = absurd r
 
+-- and one of another link type for that alone
 only_link_type : (text : List ℕ) (fault : Fault) (o : Order) (u : TimeUnit) → AreBytes text → 24 ≤ length text → HasMagic text o u → HasVersion (number_in o) text → RefusesHeader text fault → fault ≡ LinkType
 only_link_type text ShortHeader o u fits le m ver r = absurd (omega (arith, le, r))
 only_link_type text NotSavefile o u fits le m ver r = absurd (r.1 o u m)

@@ -43,6 +43,7 @@ first_fault_none number unit place text p after r =
 pub NoRecord-fault : (number : ℕ → List ℕ → ℕ) (unit : TimeUnit) (place : ℕ) (text : List ℕ) (fault : Fault) → first_fault number unit place text ≡ Some fault → NoRecord number unit text
 NoRecord-fault number unit place text fault e = λ p after r. let none = first_fault_none number unit place text p after r in absurd cc
 
+-- no record stands where nothing is left
 pub NoRecord-nil : (number : ℕ → List ℕ → ℕ) (unit : TimeUnit) (text : List ℕ) → length text ≡ 0 → NoRecord number unit text
 NoRecord-nil number unit text e = λ p after r. let size : 16 ≤ length text = r.size in omega arith
 
@@ -75,6 +76,7 @@ record_or_fault number unit place text =
 
 -- ---- One reading
 
+-- packets with the same parts are one
 same_packet : (a b c d e f : ℕ) (s t : List ℕ) → a ≡ b → c ≡ d → e ≡ f → s ≡ t → packet a c e s ≡ packet b d f t
 same_packet a b c d e f s t p q r u = cc
 

@@ -77,6 +77,7 @@ opened taken order unit snap old new z f o u s g = record {
   in_unit = s.in_unit ∙ u;
 }
 
+-- the same, where a beginning of it went out
 pub opens_in_part : {W : Type 0} (taken : W → Option (List ℕ)) (order : Order) (unit : TimeUnit) (snap : ℕ) (part : List ℕ) (old new : Writer W)
     → old.sent ≡ 0 → IsBeginning part (header_text (bytes_in order) unit snap) → Sends taken old new part → new.failed ≡ true
     → BrokeOff taken (taken old.sink) order unit snap [] new
@@ -92,10 +93,12 @@ pub on_ok : {T E : Type 0} (r : Result T E) (P Q : Type 0) → (P → Q) → OnO
 on_ok (Ok x) P Q f p = f p
 on_ok (Err e) P Q f p = p
 
+-- the same under an Err
 pub on_err : {T E : Type 0} (r : Result T E) (P Q : Type 0) → (P → Q) → OnErr r P → OnErr r Q
 on_err (Ok x) P Q f p = p
 on_err (Err e) P Q f p = f p
 
+-- a fact under an Err holds where it is one
 pub at_err : {T E : Type 0} (r : Result T E) (e : E) (P : Type 0) → r ≡ Err e → OnErr r P → P
 at_err (Ok x) e P is p = absurd cc
 at_err (Err d) e P is p = p
@@ -104,10 +107,12 @@ at_err (Err d) e P is p = p
 abbrev pub SendsPart : {W : Type 0} → (W → Option (List ℕ)) → Writer W → Writer W → List ℕ → Type 0
 SendsPart taken old new text = (part : List ℕ) × IsBeginning part text × Sends taken old new part × (new.failed ≡ true)
 
+-- a beginning of the first text begins both
 pub SendsPart-first : {W : Type 0} (taken : W → Option (List ℕ)) (old new : Writer W) (s t : List ℕ) → SendsPart taken old new s → SendsPart taken old new (s ++ t)
 SendsPart-first taken old new s t p =
     (p.0, (p.1.0 ++ t, ap (λ (x : List ℕ). x ++ t) p.1.1 ∙ append_assoc p.0 p.1.0 t), p.2, p.3)
 
+-- the first text and a beginning of the second begin both
 pub SendsPart-second : {W : Type 0} (taken : W → Option (List ℕ)) (old mid new : Writer W) (s t : List ℕ) → Sends taken old mid s → SendsPart taken mid new t → SendsPart taken old new (s ++ t)
 SendsPart-second taken old mid new s t q p =
     (s ++ p.0, IsBeginning-front s p.0 t p.1, Sends-trans taken old mid new s p.0 q p.2, p.3)
