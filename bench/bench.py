@@ -3,7 +3,7 @@
 
   bench/bench.py                   wall time and peak memory on a capture of some 100 MB, interleaved runs
   bench/bench.py --instructions    user instructions for each packet, by valgrind's callgrind, on a small capture
-  bench/bench.py --expressions     wall time of `check` on expressions of some 8,192 bytes, interleaved runs
+  bench/bench.py --expressions     wall time of `check` on expressions of some 8,192 bytes, interleaved runs, on a small stack
 
 Machines are noisy, so the ratios of one run are what to compare. Instructions are repeatable.
 """
@@ -12,6 +12,7 @@ import os
 import pathlib
 import random
 import re
+import resource
 import shutil
 import statistics
 import struct
@@ -22,6 +23,8 @@ import time
 
 ROOT = pathlib.Path(__file__).resolve().parent.parent
 PROGRAM = ROOT / "crates" / "bpftap" / "out" / "bpftap"
+# Bytes; the program's own limit is that of the machine, mostly 8 MiB.
+STACK = 512 << 10
 # As `tcpdump -ddd udp port 53` prints it.
 UDP_PORT_53 = """20
 40 0 0 12
@@ -144,35 +147,38 @@ def instructions(folder):
 
 
 def hostile():
-    """Name and text of expressions near the limit of 8,192 bytes, each meant to be slow to read."""
+    """Name, text and exit status of expressions near the limit of 8,192 bytes, each meant to be slow or deep."""
     deep = "(" * 64
     ors = " or ".join(["1"] * 1600)
-    yield "ip", "ip"
-    yield "a chain of words", "ip" + "||ip" * 2047
-    yield "a chain of hosts that inherit", "host 10.0.0.1" + " or 10.0.0.1" * 681
-    yield "negations", "||".join(["!" * 62 + "ip"] * 124)
-    yield "short parentheses", "||".join(["(ip)"] * 1365)
-    yield "64 levels round a chain", deep + "ip" + "||ip" * 2015 + ")" * 64
-    yield "a chain of 64 levels", "||".join([deep + "ip" + ")" * 64] * 62)
-    yield "64 levels that are not closed", deep + "ip" + "||ip" * 2031
-    yield "parentheses that are not closed", "(" * 8192
-    yield "64 levels that an operator follows", deep + "ip" + "||ip" * 2013 + ")" * 64 + "&1=1"
-    yield "a group", "port (" + ors + ")"
-    yield "64 levels of a group", "port " + deep + ors + ")" * 64
-    yield "blanks", "ip" + " " * 8190
+    yield "ip", "ip", 0
+    yield "a chain of words", "ip" + "||ip" * 2047, 0
+    yield "a chain of hosts that inherit", "host 10.0.0.1" + " or 10.0.0.1" * 681, 0
+    yield "negations", "||".join(["!" * 62 + "ip"] * 124), 0
+    yield "the deepest tree", "!" * 64 + "net 1" + "||1" * 2707, 0
+    yield "short parentheses", "||".join(["(ip)"] * 1365), 0
+    yield "64 levels round a chain", deep + "ip" + "||ip" * 2015 + ")" * 64, 0
+    yield "a chain of 64 levels", "||".join([deep + "ip" + ")" * 64] * 62), 0
+    yield "64 levels that are not closed", deep + "ip" + "||ip" * 2031, 1
+    yield "parentheses that are not closed", "(" * 8192, 1
+    yield "64 levels that an operator follows", deep + "ip" + "||ip" * 2013 + ")" * 64 + "&1=1", 1
+    yield "a group", "port (" + ors + ")", 0
+    yield "64 levels of a group", "port " + deep + ors + ")" * 64, 0
+    yield "blanks", "ip" + " " * 8190, 0
 
 
 def expressions(rounds):
-    """Of all expressions the slowest shows whether one pass is enough; its fault, if any, does not matter."""
-    print(f"bpftap check, median of {rounds} interleaved rounds")
-    seen = {name: [] for name, _ in hostile()}
+    """The slowest shows whether one pass is enough. Recursion by the length of a text would not fit the stack."""
+    _, most = resource.getrlimit(resource.RLIMIT_STACK)
+    resource.setrlimit(resource.RLIMIT_STACK, (STACK, most))
+    print(f"bpftap check on a stack of {STACK >> 10} KiB, median of {rounds} interleaved rounds")
+    seen = {name: [] for name, _, _ in hostile()}
     for _ in range(rounds):
-        for name, text in hostile():
+        for name, text, wanted in hostile():
             seconds, _, status = run([str(PROGRAM), "check", text])
-            if status not in (0, 1):
-                sys.exit(f"{name}: status {status}")
+            if status != wanted:
+                sys.exit(f"{name}: status {status} and not {wanted}")
             seen[name].append(seconds)
-    for name, text in hostile():
+    for name, text, _ in hostile():
         print(f"{name:40} {len(text):5} bytes {1000 * statistics.median(seen[name]):8.2f} ms")
 
 

@@ -66,7 +66,8 @@ Outcome text program snap order unit (Output fault) sent =
 
 -- A cut from a source to a sink: the text that the source had left and what the sink took, where these tell their
 -- bytes, and the outcome.
-pub record Cuts {R W : Type 0} (left : R → Option (List ℕ)) (taken : W → Option (List ℕ)) (from : R) (to : W) (program : List Insn) (snap : ℕ) (order : Order) (unit : TimeUnit) (end : CutEnd R W) : Type 0 where
+pub record Cuts {R W : Type 0} (left : R → Option (List ℕ)) (taken : W → Option (List ℕ)) (from : R) (to : W)
+    (program : List Insn) (snap : ℕ) (order : Order) (unit : TimeUnit) (end : CutEnd R W) : Type 0 where
   pub text : List ℕ
   pub told : IfSome (left from) (λ bytes. bytes ≡ text)
   pub sent : List ℕ

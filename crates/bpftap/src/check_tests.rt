@@ -121,19 +121,28 @@ fn a_line_that_is_not_taken_leaves_the_status(rt: HostRuntime) {
 
 #[test]
 fn a_line_goes_out_in_one_write(rt: HostRuntime) -> Result<(), Fail> {
+    // The longest line of which this holds has 512 bytes.
+    let path = "x".repeat(rt.alloc(), 496)?;
     let mut err = Counting {
-        room: 100,
+        room: 1024,
         calls: 0,
     };
     assert_eq!(rt; tell_fault("TornRecord 1", 2, &mut err), 2);
     assert_eq!(rt; tell_device("in.pcap", &mut err), 3);
-    assert_eq!(rt; err.calls, 2);
-    // A longer line goes out whole as well.
-    let path = "x".repeat(rt.alloc(), 1000)?;
-    let mut err: Vec<u8> = Vec::new(rt.alloc());
     assert_eq!(rt; tell_device(path.as_str(), &mut err), 3);
-    let line = format!(in rt.alloc(); "bpftap: Device {path}\n")?;
-    assert_eq!(rt; err.as_slice(), line.as_bytes());
+    assert_eq!(rt; err.calls, 3);
+    Ok(())
+}
+
+#[test]
+fn a_line_of_any_length_goes_out_whole(rt: HostRuntime) -> Result<(), Fail> {
+    for length in [496, 497, 1000] {
+        let path = "x".repeat(rt.alloc(), length)?;
+        let mut err: Vec<u8> = Vec::new(rt.alloc());
+        assert_eq!(rt; tell_device(path.as_str(), &mut err), 3);
+        let line = format!(in rt.alloc(); "bpftap: Device {path}\n")?;
+        assert_eq!(rt; err.as_slice(), line.as_bytes(), "{length}");
+    }
     Ok(())
 }
 
@@ -183,11 +192,14 @@ fn printed_by(rt: &(impl Abort + Files + AllocGlobal), words: &[&str]) -> Printe
 
 #[test]
 fn the_command_takes_one_word(rt: HostRuntime) {
-    let told: [(&str, &str, u8); 4] = [
+    let told: [(&str, &str, u8); 6] = [
         ("", "", 0),
         ("tcp or udp", "", 0),
         ("tcp and 80", "bpftap: NoQualifier 8\n", 1),
         ("(-1 = 1)", "bpftap: Syntax 1\n", 1),
+        // Blanks at both ends of the word are counted.
+        (" tcp and 80", "bpftap: NoQualifier 9\n", 1),
+        ("port 80 and ", "bpftap: Syntax 12\n", 1),
     ];
     for (expr, line, status) in told {
         let seen = printed_by(&rt, &["bpftap", "check", expr]);
@@ -212,15 +224,4 @@ fn the_command_takes_one_word(rt: HostRuntime) {
     let seen = printed_by(&rt, &["bpftap", "check", "--help"]);
     assert_eq!(rt; seen.status, 0);
     assert!(rt; seen.out.contains("bpftap check 'tcp dst port 80 or 443'"));
-}
-
-#[test]
-fn a_signed_snapshot_length_has_the_usage_of_cut(rt: HostRuntime) {
-    let words = [
-        "bpftap", "cut", "-s", "+5", "-f", "x", "in.pcap", "out.pcap",
-    ];
-    let seen = printed_by(&rt, &words);
-    assert_eq!(rt; seen.status, 1);
-    assert!(rt; seen.out.is_empty());
-    assert!(rt; seen.err.contains("Usage: bpftap cut [OPTIONS]"));
 }

@@ -750,3 +750,16 @@ fn wrong_words_end_with_one_and_help_with_none(rt: HostRuntime) -> Result<(), Fa
     }
     Ok(())
 }
+
+#[test]
+fn a_signed_snapshot_length_has_the_usage_of_cut(rt: HostRuntime) {
+    let words = [
+        "bpftap", "cut", "-s", "+5", "-f", "x", "in.pcap", "out.pcap",
+    ];
+    let mut out: Vec<u8> = Vec::new(rt.alloc());
+    let mut err: Vec<u8> = Vec::new(rt.alloc());
+    assert_eq!(rt; run(&rt, &words, &mut out, &mut err), 1);
+    assert!(rt; out.is_empty());
+    let text = String::from_utf8(err).expect(&rt, "a usage is text");
+    assert!(rt; text.contains("Usage: bpftap cut [OPTIONS]"));
+}

@@ -1,3 +1,5 @@
+//! Instructions.
+
 /// One instruction of a filter program, `struct bpf_insn` of bpf(4).
 #[derive(Clone, Copy, Debug, Default, PartialEq, Eq)]
 pub struct Insn {

@@ -1,3 +1,5 @@
+//! Worked examples over the public functions.
+
 use super::*;
 use std::alloc::Global;
 use std::test::Fail;

@@ -65,42 +65,82 @@ is_written phrase = is_some phrase.protocol || is_some phrase.direction || is_so
 
 -- a primitive that is no relation and has no group, and what it has to give
 pub data Prim : Option Qualifiers → List Kind → Primitive → Option Qualifiers → List Kind → Type 0 where
-  prim_plain : {q : Option Qualifiers} {ts rest : List Kind} {protocol : Protocol} {p : Plain} → phrase_at ts ≡ (only_protocol protocol, rest) → stands_alone protocol rest ≡ true → plain_of protocol ≡ Some p → Prim q ts (primitives.Protocol p) None rest
-  prim_broadcast : {q : Option Qualifiers} {rest : List Kind} → Prim q (kind.Broadcast ∷ rest) primitives.EtherBroadcast None rest
-  prim_ether_broadcast : {q : Option Qualifiers} {rest : List Kind} → Prim q (kind.Protocol protocols.Ether ∷ kind.Broadcast ∷ rest) primitives.EtherBroadcast None rest
-  prim_multicast : {q : Option Qualifiers} {rest : List Kind} → Prim q (kind.Multicast ∷ rest) primitives.EtherMulticast None rest
-  prim_ether_multicast : {q : Option Qualifiers} {rest : List Kind} → Prim q (kind.Protocol protocols.Ether ∷ kind.Multicast ∷ rest) primitives.EtherMulticast None rest
-  prim_ip_multicast : {q : Option Qualifiers} {rest : List Kind} → Prim q (kind.Protocol protocols.Ip ∷ kind.Multicast ∷ rest) primitives.IpMulticast None rest
-  prim_less : {q : Option Qualifiers} {rest : List Kind} {n : ℕ} → Prim q (kind.Less ∷ kind.Number n ∷ rest) (primitives.Less n) None rest
-  prim_greater : {q : Option Qualifiers} {rest : List Kind} {n : ℕ} → Prim q (kind.Greater ∷ kind.Number n ∷ rest) (primitives.Greater n) None rest
-  prim_phrase : {q : Option Qualifiers} {ts mid rest : List Kind} {phrase : Phrase} {g : Qualifiers} {id : Identifier} {p : Primitive} → phrase_at ts ≡ (phrase, mid) → is_written phrase ≡ true → qualifiers_of phrase ≡ Some g → identifier_at mid ≡ Some (id, rest) → identified g id ≡ Some p → Prim q ts p (Some g) rest
-  prim_inherited : {ts rest : List Kind} {g : Qualifiers} {id : Identifier} {p : Primitive} → identifier_at ts ≡ Some (id, rest) → identified g id ≡ Some p → Prim (Some g) ts p (Some g) rest
-  prim_portrange : {q : Option Qualifiers} {ts rest : List Kind} {phrase : Phrase} {t : Option Transport} {a b : ℕ} {p : Primitive} → phrase_at ts ≡ (phrase, kind.PortRange ∷ kind.Number a ∷ kind.Operator Minus ∷ kind.Number b ∷ rest) → phrase.type_word ≡ None → transport_of phrase.protocol ≡ Some t → ports_between t (unwrap_or phrase.direction SrcOrDst) a b ≡ Some p → Prim q ts p None rest
+  prim_plain : {q : Option Qualifiers} {ts rest : List Kind} {protocol : Protocol} {p : Plain}
+      → phrase_at ts ≡ (only_protocol protocol, rest) → stands_alone protocol rest ≡ true → plain_of protocol ≡ Some p
+      → Prim q ts (primitives.Protocol p) None rest
+  prim_broadcast : {q : Option Qualifiers} {rest : List Kind}
+      → Prim q (kind.Broadcast ∷ rest) primitives.EtherBroadcast None rest
+  prim_ether_broadcast : {q : Option Qualifiers} {rest : List Kind}
+      → Prim q (kind.Protocol protocols.Ether ∷ kind.Broadcast ∷ rest) primitives.EtherBroadcast None rest
+  prim_multicast : {q : Option Qualifiers} {rest : List Kind}
+      → Prim q (kind.Multicast ∷ rest) primitives.EtherMulticast None rest
+  prim_ether_multicast : {q : Option Qualifiers} {rest : List Kind}
+      → Prim q (kind.Protocol protocols.Ether ∷ kind.Multicast ∷ rest) primitives.EtherMulticast None rest
+  prim_ip_multicast : {q : Option Qualifiers} {rest : List Kind}
+      → Prim q (kind.Protocol protocols.Ip ∷ kind.Multicast ∷ rest) primitives.IpMulticast None rest
+  prim_less : {q : Option Qualifiers} {rest : List Kind} {n : ℕ}
+      → Prim q (kind.Less ∷ kind.Number n ∷ rest) (primitives.Less n) None rest
+  prim_greater : {q : Option Qualifiers} {rest : List Kind} {n : ℕ}
+      → Prim q (kind.Greater ∷ kind.Number n ∷ rest) (primitives.Greater n) None rest
+  prim_phrase : {q : Option Qualifiers} {ts mid rest : List Kind} {phrase : Phrase} {g : Qualifiers} {id : Identifier} {p : Primitive}
+      → phrase_at ts ≡ (phrase, mid) → is_written phrase ≡ true → qualifiers_of phrase ≡ Some g
+      → identifier_at mid ≡ Some (id, rest) → identified g id ≡ Some p
+      → Prim q ts p (Some g) rest
+  prim_inherited : {ts rest : List Kind} {g : Qualifiers} {id : Identifier} {p : Primitive}
+      → identifier_at ts ≡ Some (id, rest) → identified g id ≡ Some p
+      → Prim (Some g) ts p (Some g) rest
+  prim_portrange : {q : Option Qualifiers} {ts rest : List Kind} {phrase : Phrase} {t : Option Transport} {a b : ℕ} {p : Primitive}
+      → phrase_at ts ≡ (phrase, kind.PortRange ∷ kind.Number a ∷ kind.Operator Minus ∷ kind.Number b ∷ rest)
+      → phrase.type_word ≡ None → transport_of phrase.protocol ≡ Some t
+      → ports_between t (unwrap_or phrase.direction SrcOrDst) a b ≡ Some p
+      → Prim q ts p None rest
 
 mutual
   -- identifiers under one phrase, which each of them takes
   pub data Group : ℕ → Qualifiers → List Kind → Tree → List Kind → Type 0 where
-    group_one : {n : ℕ} {g : Qualifiers} {ts rest : List Kind} {t : Tree} → GroupTerm n g ts t rest → Group n g ts t rest
-    group_and : {n : ℕ} {g : Qualifiers} {ts mid rest : List Kind} {t u : Tree} → Group n g ts t (kind.Joint And ∷ mid) → GroupTerm n g mid u rest → Group n g ts (both t u) rest
-    group_or : {n : ℕ} {g : Qualifiers} {ts mid rest : List Kind} {t u : Tree} → Group n g ts t (kind.Joint Or ∷ mid) → GroupTerm n g mid u rest → Group n g ts (either t u) rest
+    group_one : {n : ℕ} {g : Qualifiers} {ts rest : List Kind} {t : Tree}
+        → GroupTerm n g ts t rest → Group n g ts t rest
+    group_and : {n : ℕ} {g : Qualifiers} {ts mid rest : List Kind} {t u : Tree}
+        → Group n g ts t (kind.Joint And ∷ mid) → GroupTerm n g mid u rest
+        → Group n g ts (both t u) rest
+    group_or : {n : ℕ} {g : Qualifiers} {ts mid rest : List Kind} {t u : Tree}
+        → Group n g ts t (kind.Joint Or ∷ mid) → GroupTerm n g mid u rest
+        → Group n g ts (either t u) rest
 
   pub data GroupTerm : ℕ → Qualifiers → List Kind → Tree → List Kind → Type 0 where
-    group_not : {n : ℕ} {g : Qualifiers} {ts rest : List Kind} {t : Tree} → GroupTerm n g ts t rest → GroupTerm (suc n) g (kind.Not ∷ ts) (negation t) rest
-    group_open : {n : ℕ} {g : Qualifiers} {ts rest : List Kind} {t : Tree} → Group n g ts t (kind.Close ∷ rest) → GroupTerm (suc n) g (kind.Open ∷ ts) t rest
-    group_id : {n : ℕ} {g : Qualifiers} {ts rest : List Kind} {id : Identifier} {p : Primitive} → identifier_at ts ≡ Some (id, rest) → identified g id ≡ Some p → GroupTerm n g ts (test p) rest
+    group_not : {n : ℕ} {g : Qualifiers} {ts rest : List Kind} {t : Tree}
+        → GroupTerm n g ts t rest → GroupTerm (suc n) g (kind.Not ∷ ts) (negation t) rest
+    group_open : {n : ℕ} {g : Qualifiers} {ts rest : List Kind} {t : Tree}
+        → Group n g ts t (kind.Close ∷ rest) → GroupTerm (suc n) g (kind.Open ∷ ts) t rest
+    group_id : {n : ℕ} {g : Qualifiers} {ts rest : List Kind} {id : Identifier} {p : Primitive}
+        → identifier_at ts ≡ Some (id, rest) → identified g id ≡ Some p
+        → GroupTerm n g ts (test p) rest
 
 mutual
   -- terms joined from the left by `and` and `or`, which bind alike
   pub data Expr : ℕ → Option Qualifiers → List Kind → Tree → Option Qualifiers → List Kind → Type 0 where
-    expr_one : {n : ℕ} {q r : Option Qualifiers} {ts rest : List Kind} {t : Tree} → Term n q ts t r rest → Expr n q ts t r rest
-    expr_and : {n : ℕ} {q r s : Option Qualifiers} {ts mid rest : List Kind} {t u : Tree} → Expr n q ts t r (kind.Joint And ∷ mid) → Term n r mid u s rest → Expr n q ts (both t u) s rest
-    expr_or : {n : ℕ} {q r s : Option Qualifiers} {ts mid rest : List Kind} {t u : Tree} → Expr n q ts t r (kind.Joint Or ∷ mid) → Term n r mid u s rest → Expr n q ts (either t u) s rest
+    expr_one : {n : ℕ} {q r : Option Qualifiers} {ts rest : List Kind} {t : Tree}
+        → Term n q ts t r rest → Expr n q ts t r rest
+    expr_and : {n : ℕ} {q r s : Option Qualifiers} {ts mid rest : List Kind} {t u : Tree}
+        → Expr n q ts t r (kind.Joint And ∷ mid) → Term n r mid u s rest
+        → Expr n q ts (both t u) s rest
+    expr_or : {n : ℕ} {q r s : Option Qualifiers} {ts mid rest : List Kind} {t u : Tree}
+        → Expr n q ts t r (kind.Joint Or ∷ mid) → Term n r mid u s rest
+        → Expr n q ts (either t u) s rest
 
   pub data Term : ℕ → Option Qualifiers → List Kind → Tree → Option Qualifiers → List Kind → Type 0 where
-    term_not : {n : ℕ} {q r : Option Qualifiers} {ts rest : List Kind} {t : Tree} → Term n q ts t r rest → Term (suc n) q (kind.Not ∷ ts) (negation t) r rest
-    term_open : {n : ℕ} {q r : Option Qualifiers} {ts rest : List Kind} {t : Tree} → begins_relation (kind.Open ∷ ts) ≡ false → Expr n q ts t r (kind.Close ∷ rest) → Term (suc n) q (kind.Open ∷ ts) t r rest
-    term_prim : {n : ℕ} {q r : Option Qualifiers} {ts rest : List Kind} {p : Primitive} → begins_relation ts ≡ false → Prim q ts p r rest → Term n q ts (test p) r rest
-    term_group : {n : ℕ} {q : Option Qualifiers} {ts mid rest : List Kind} {phrase : Phrase} {g : Qualifiers} {t : Tree} → begins_relation ts ≡ false → phrase_at ts ≡ (phrase, kind.Open ∷ mid) → is_written phrase ≡ true → qualifiers_of phrase ≡ Some g → Group n g mid t (kind.Close ∷ rest) → Term (suc n) q ts t (Some g) rest
+    term_not : {n : ℕ} {q r : Option Qualifiers} {ts rest : List Kind} {t : Tree}
+        → Term n q ts t r rest → Term (suc n) q (kind.Not ∷ ts) (negation t) r rest
+    term_open : {n : ℕ} {q r : Option Qualifiers} {ts rest : List Kind} {t : Tree}
+        → begins_relation (kind.Open ∷ ts) ≡ false → Expr n q ts t r (kind.Close ∷ rest)
+        → Term (suc n) q (kind.Open ∷ ts) t r rest
+    term_prim : {n : ℕ} {q r : Option Qualifiers} {ts rest : List Kind} {p : Primitive}
+        → begins_relation ts ≡ false → Prim q ts p r rest
+        → Term n q ts (test p) r rest
+    term_group : {n : ℕ} {q : Option Qualifiers} {ts mid rest : List Kind} {phrase : Phrase} {g : Qualifiers} {t : Tree}
+        → begins_relation ts ≡ false → phrase_at ts ≡ (phrase, kind.Open ∷ mid) → is_written phrase ≡ true
+        → qualifiers_of phrase ≡ Some g → Group n g mid t (kind.Close ∷ rest)
+        → Term (suc n) q ts t (Some g) rest
 
 -- The tokens of a text read as this tree: nothing accepts all, else they are one expression.
 pub data Reads : List Kind → Tree → Type 0 where

@@ -47,7 +47,8 @@ longest (Some direction) first rest later = (Some direction, later)
 longest None first rest later = (Some (one_side first), rest)
 
 abbrev pub direction_at : List Kind → Option Direction × List Kind
-direction_at (kind.Side first ∷ kind.Joint joint ∷ kind.Side second ∷ rest) = longest (joined first joint second) first (kind.Joint joint ∷ kind.Side second ∷ rest) rest
+direction_at (kind.Side first ∷ kind.Joint joint ∷ kind.Side second ∷ rest) =
+    longest (joined first joint second) first (kind.Joint joint ∷ kind.Side second ∷ rest) rest
 direction_at (kind.Side first ∷ rest) = (Some (one_side first), rest)
 direction_at rest = (None, rest)
 

@@ -1,5 +1,5 @@
 -- Primitives that have no identifier.
-use Rattle.std.specs.Prelude.{ℕ, Bool, true, false, List, [], ◌∷◌, Option, Some, None, option_map, option_and_then, min, max}
+use Rattle.std.specs.Prelude.{ℕ, Bool, true, false, not, List, [], ◌∷◌, Option, Some, None, option_map, option_and_then, min, max}
 use Rattle.filterlang.specs.declared.token.Kind.{Kind}
 use Rattle.filterlang.specs.declared.token.Kind.TheVariants as kind
 use Rattle.filterlang.specs.declared.token.Protocol.{Protocol}
@@ -23,18 +23,22 @@ plain_of protocols.Udp = Some plain.Udp
 plain_of protocols.Icmp = Some plain.Icmp
 plain_of protocols.Sctp = Some plain.Sctp
 
+-- what an identifier begins with
+abbrev pub begins_identifier : Kind → Bool
+begins_identifier (kind.Number n) = true
+begins_identifier (kind.Dotted address parts) = true
+begins_identifier (kind.Ethernet address) = true
+begins_identifier (kind.Name name) = true
+begins_identifier _ = false
+
 -- neither an identifier nor `(` nor `[` nor portrange follows, nor, behind ip, multicast
 abbrev pub stands_alone : Protocol → List Kind → Bool
 stands_alone protocol [] = true
-stands_alone protocol (kind.Number n ∷ ts) = false
-stands_alone protocol (kind.Dotted address parts ∷ ts) = false
-stands_alone protocol (kind.Ethernet address ∷ ts) = false
-stands_alone protocol (kind.Name name ∷ ts) = false
 stands_alone protocol (kind.Open ∷ ts) = false
 stands_alone protocol (kind.OpenBracket ∷ ts) = false
 stands_alone protocol (kind.PortRange ∷ ts) = false
 stands_alone protocols.Ip (kind.Multicast ∷ ts) = false
-stands_alone protocol (t ∷ ts) = true
+stands_alone protocol (t ∷ ts) = not (begins_identifier t)
 
 -- the ports from the one to the other, whichever comes first
 abbrev pub ports_between : Option Transport → Direction → ℕ → ℕ → Option Primitive

@@ -73,7 +73,8 @@ between low high n = if nat_le low n && nat_le n high then Some n else None
 -- The identifiers that the qualifiers take, and the test that each gives.
 abbrev pub identified : Qualifiers → Identifier → Option Primitive
 identified (Host network direction) (ids.Dotted address Four) = Some (primitives.Net network direction address (mask_of 32))
-identified (Net network direction) (ids.Number n) = option_map (λ first. primitives.Net network direction (first * 2 ^ 24) (mask_of 8)) (between 0 255 n)
+identified (Net network direction) (ids.Number n) =
+    option_map (λ first. primitives.Net network direction (first * 2 ^ 24) (mask_of 8)) (between 0 255 n)
 identified (Net network direction) (ids.Dotted address parts) = net_of network direction address (mask_of (bits_of parts))
 identified (Net network direction) (ids.Prefix address bits) = if nat_le bits 32 then net_of network direction address (mask_of bits) else None
 identified (Net network direction) (ids.Masked address mask Four) = net_of network direction address mask

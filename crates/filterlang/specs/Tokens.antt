@@ -62,14 +62,19 @@ placed at kind n = record { kind = kind; span = record { start = at; end = at + 
 -- From a byte on the text is these tokens, with blanks between them.
 pub data Lexes : List ℕ → ℕ → List Token → Type 0 where
   lexes_end : {text : List ℕ} {at : ℕ} → front (drop at text) ≡ fronts.End → Lexes text at []
-  lexes_blank : {text : List ℕ} {at : ℕ} {tokens : List Token} → front (drop at text) ≡ fronts.Blank → Lexes text (at + 1) tokens → Lexes text at tokens
-  lexes_token : {text : List ℕ} {at : ℕ} {kind : Kind} {n : ℕ} {tokens : List Token} → front (drop at text) ≡ fronts.Token kind n → Lexes text (at + n) tokens → Lexes text at (placed at kind n ∷ tokens)
+  lexes_blank : {text : List ℕ} {at : ℕ} {tokens : List Token}
+      → front (drop at text) ≡ fronts.Blank → Lexes text (at + 1) tokens → Lexes text at tokens
+  lexes_token : {text : List ℕ} {at : ℕ} {kind : Kind} {n : ℕ} {tokens : List Token}
+      → front (drop at text) ≡ fronts.Token kind n → Lexes text (at + n) tokens
+      → Lexes text at (placed at kind n ∷ tokens)
 
 -- From a byte on the first place of the text where no token begins is this one, and this is why.
 pub data Stuck : List ℕ → ℕ → Cause → ℕ → Type 0 where
   stuck_here : {text : List ℕ} {at : ℕ} {cause : Cause} → front (drop at text) ≡ fronts.Stuck cause → Stuck text at cause at
-  stuck_blank : {text : List ℕ} {at : ℕ} {cause : Cause} {place : ℕ} → front (drop at text) ≡ fronts.Blank → Stuck text (at + 1) cause place → Stuck text at cause place
-  stuck_token : {text : List ℕ} {at : ℕ} {kind : Kind} {n : ℕ} {cause : Cause} {place : ℕ} → front (drop at text) ≡ fronts.Token kind n → Stuck text (at + n) cause place → Stuck text at cause place
+  stuck_blank : {text : List ℕ} {at : ℕ} {cause : Cause} {place : ℕ}
+      → front (drop at text) ≡ fronts.Blank → Stuck text (at + 1) cause place → Stuck text at cause place
+  stuck_token : {text : List ℕ} {at : ℕ} {kind : Kind} {n : ℕ} {cause : Cause} {place : ℕ}
+      → front (drop at text) ≡ fronts.Token kind n → Stuck text (at + n) cause place → Stuck text at cause place
 
 -- the fault with this cause at this byte
 abbrev pub fault_at : Cause → ℕ → Fault

@@ -8,7 +8,7 @@ ghost use Rattle.filterlang.specs.Texts.{is_misreading};
 ghost use Rattle.filterlang.specs.Reading.{Gives, port_at, portrange_at, deeper, identified_at, close_at};
 
 use crate::fault::Fault;
-use crate::phrases::{bare_number_at, close_at, identifier_at, minus_at, next};
+use crate::phrases::{bare_number_at, begins_identifier, close_at, identifier_at, minus_at, next};
 use crate::qualifiers::{
     Identifier, Misfit, Phrase, Qualifiers, between, identified, transport_of,
 };
@@ -49,8 +49,7 @@ impl<'a> Cursor<'a> {
         ensures { is_misreading result ≡ true }
     {
         match next(self.rest) {
-            Some((Kind::Number(_) | Kind::Dotted { .. } | Kind::Ethernet(_) | Kind::Name(_), _)) =>
-                { Fault::NoQualifier(self.place()) }
+            Some((kind, _)) if begins_identifier(kind) => Fault::NoQualifier(self.place()),
             _ => self.syntax(),
         }
     }

@@ -1,3 +1,5 @@
+//! Numbers and addresses, as they are spelled.
+
 ghost use Rattle.std.specs.Prelude.{◌≡◌, ◌≤◌, ◌<◌, ◌==◌, List, ℕ, Some, length, take, IfSome, IfNone};
 ghost use Rattle.std.specs.List.{prefix_len, slice_split};
 ghost use Rattle.filterlang.specs.Numbers.{is_in_run, numeral, octet, octets, at_most, number_of, dotted_of, ethernet_of, number_at, ethernet_at};

@@ -13,7 +13,7 @@ fn refused(rt: &(impl Abort + AllocGlobal), rows: &[(&str, Fault)]) {
 }
 
 /// Where a text breaks off, or goes on as no expression does.
-const BROKEN_OFF: [(&str, Fault); 94] = [
+const BROKEN_OFF: [(&str, Fault); 98] = [
     ("and", Fault::Syntax(0)),
     ("or tcp", Fault::Syntax(0)),
     ("not", Fault::Syntax(3)),
@@ -102,6 +102,10 @@ const BROKEN_OFF: [(&str, Fault); 94] = [
     ("mask", Fault::Syntax(0)),
     (":", Fault::Syntax(0)),
     ("]", Fault::Syntax(0)),
+    ("[0]", Fault::Syntax(0)),
+    ("= 1", Fault::Syntax(0)),
+    ("tcp and = 1", Fault::Syntax(8)),
+    ("port 80 or [0]", Fault::Syntax(11)),
     ("host 10.0.0.1 [0]", Fault::Syntax(14)),
     ("port 80 and  ", Fault::Syntax(13)),
     ("not \t", Fault::Syntax(5)),
@@ -207,7 +211,7 @@ fn a_phrase_outside_the_table_is_named_at_its_first_word(rt: HostRuntime) {
 }
 
 /// Identifiers of a kind that their type does not take.
-const BAD_IDENTIFIERS: [(&str, Fault); 42] = [
+const BAD_IDENTIFIERS: [(&str, Fault); 54] = [
     ("host 10.0", Fault::BadIdentifier(5)),
     ("host 10.0.0", Fault::BadIdentifier(5)),
     ("host 80", Fault::BadIdentifier(5)),
@@ -244,6 +248,25 @@ const BAD_IDENTIFIERS: [(&str, Fault); 42] = [
     ("ether proto \\icmp", Fault::BadIdentifier(12)),
     ("ether proto 1:2:3:4:5:6", Fault::BadIdentifier(12)),
     ("ether proto 10.0", Fault::BadIdentifier(12)),
+    // What is behind the address does not matter where no address fits.
+    ("port 10.0.0.0/33", Fault::BadIdentifier(5)),
+    ("proto 10.0.0.0/33", Fault::BadIdentifier(6)),
+    ("ether proto 10.0/33", Fault::BadIdentifier(12)),
+    ("ether host 10.0.0.1/33", Fault::BadIdentifier(11)),
+    ("proto 10.0.0.1/8", Fault::BadIdentifier(6)),
+    ("ether proto 10.0.0.1/8", Fault::BadIdentifier(12)),
+    ("ether host 10.0.0.1/8", Fault::BadIdentifier(11)),
+    ("host 10.0.0.1 mask 255.0.0.0", Fault::BadIdentifier(5)),
+    ("port 10.0.0.1 mask 255.0.0.0", Fault::BadIdentifier(5)),
+    ("proto 10.0.0.1 mask 255.0.0.0", Fault::BadIdentifier(6)),
+    (
+        "ether proto 10.0.0.1 mask 255.0.0.0",
+        Fault::BadIdentifier(12),
+    ),
+    (
+        "ether host 10.0.0.1 mask 255.0.0.0",
+        Fault::BadIdentifier(11),
+    ),
     ("port 80 and 10.0.0.1", Fault::BadIdentifier(12)),
     ("host 10.0.0.1 or 80", Fault::BadIdentifier(17)),
     ("port (80 or 10.0.0.1)", Fault::BadIdentifier(12)),
@@ -357,9 +380,10 @@ fn the_tokens_go_before_the_grammar(rt: HostRuntime) {
 }
 
 /// How often a sign stands, the sign, what stands behind it, what closes each, and the fault.
-const TOO_NESTED: [(usize, &str, &str, &str, Fault); 20] = [
+const TOO_NESTED: [(usize, &str, &str, &str, Fault); 21] = [
     (65, "(", "tcp", ")", Fault::TooNested(64)),
     (65, "(", "", "", Fault::TooNested(64)),
+    (8192, "(", "", "", Fault::TooNested(64)),
     (65, "!", "tcp", "", Fault::TooNested(64)),
     (65, "not ", "tcp", "", Fault::TooNested(256)),
     (65, "(", "len = 1", ")", Fault::TooNested(64)),

@@ -468,10 +468,24 @@ fn long_chains_are_read_and_dropped(rt: HostRuntime) -> Result<(), Fail> {
     let tree = parse(alloc, text.as_str())?;
     assert_eq!(rt; joined_from_the_left(&tree, &plain(Plain::Ip)), Some(2047));
     // The longest chain that a text has room for.
-    let text = format!(in alloc; "port 1{}", "||1".repeat(alloc, 2728)?)?;
-    assert_eq!(rt; text.len(), 8190);
+    let text = format!(in alloc; "net 1{}", "||1".repeat(alloc, 2729)?)?;
+    assert_eq!(rt; text.len(), 8192);
     let tree = parse(alloc, text.as_str())?;
-    assert_eq!(rt; joined_from_the_left(&tree, &port(1)), Some(2728));
+    let first = Expr::Test(net(None, SrcOrDst, 0x0100_0000, 0xff00_0000));
+    assert_eq!(rt; joined_from_the_left(&tree, &first), Some(2729));
+    Ok(())
+}
+
+#[test]
+fn nearly_each_byte_may_be_a_token(rt: HostRuntime) -> Result<(), Fail> {
+    let alloc = rt.alloc();
+    let signs = "!".repeat(alloc, 64)?;
+    let first = format!(in alloc; "{signs}net 1")?;
+    let next = format!(in alloc; "||{signs}1")?;
+    let text = format!(in alloc; "{first}{}", next.repeat(alloc, 120)?)?;
+    assert_eq!(rt; text.len(), 8109);
+    let (tree, each) = (parse(alloc, text.as_str())?, parse(alloc, first.as_str())?);
+    assert_eq!(rt; joined_from_the_left(&tree, &each), Some(120));
     Ok(())
 }
 

@@ -3,6 +3,7 @@
 ghost use Rattle.std.specs.Prelude.{◌≡◌, option_map};
 ghost use Rattle.std.specs.Result.{result_ok};
 ghost use Rattle.filterlang.specs.Phrases.{kinds, protocol_at, direction_at, one_side, type_at, joined, phrase_at, dotted_at, identifier_at};
+ghost use Rattle.filterlang.specs.Primitives.{begins_identifier};
 ghost use Rattle.filterlang.specs.Grammar.{is_written};
 ghost use Rattle.filterlang.specs.Reading.{next_of, joined_at, bare_number_at, address_at, joint_at, minus_at, close_at, range_at};
 
@@ -161,6 +162,16 @@ fn dotted_at(
         }
         _ => Ok((Identifier::Dotted { address, parts }, tokens)),
     }
+}
+
+/// Whether an identifier begins with this.
+pub(crate) fn begins_identifier(kind: Kind) -> bool
+    ensures { result ≡ begins_identifier kind }
+{
+    matches!(
+        kind,
+        Kind::Number(_) | Kind::Dotted { .. } | Kind::Ethernet(_) | Kind::Name(_)
+    )
 }
 
 /// The identifier at the front and what follows, or the place where it breaks off.

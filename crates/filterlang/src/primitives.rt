@@ -6,7 +6,7 @@ ghost use Rattle.filterlang.specs.Phrases.{kinds};
 ghost use Rattle.filterlang.specs.Primitives.{plain_of, stands_alone};
 ghost use Rattle.filterlang.specs.Reading.{plain_at, unqualified_at, broadcast_at};
 
-use crate::phrases::bare_number_at;
+use crate::phrases::{bare_number_at, begins_identifier};
 use crate::qualifiers::Phrase;
 use crate::token::{Kind, Protocol, Token};
 use crate::tree::{Plain, Primitive};
@@ -36,10 +36,9 @@ pub(crate) fn stands_alone(protocol: Protocol, rest: &[Token]) -> bool
         return true;
     };
     match (protocol, *kind) {
-        (_, Kind::Number(_) | Kind::Dotted { .. } | Kind::Ethernet(_) | Kind::Name(_)) => false,
         (_, Kind::Open | Kind::OpenBracket | Kind::PortRange) => false,
         (Protocol::Ip, Kind::Multicast) => false,
-        _ => true,
+        (_, kind) => !begins_identifier(kind),
     }
 }
 

@@ -1,3 +1,5 @@
+//! Which tokens a text has, and how faults are printed.
+
 use crate::fault::Fault;
 use crate::lexer::lex;
 use crate::token::{
@@ -366,24 +368,21 @@ fn the_first_failing_place_is_named(rt: HostRuntime) {
 
 #[test]
 fn a_text_has_8192_bytes_at_most(rt: HostRuntime) -> Result<(), Fail> {
-    let mut blanks = String::from_str(rt.alloc(), "tcp")?;
-    for _ in 0..8189 {
-        blanks.push(' ')?;
+    let alloc = rt.alloc();
+    for sign in ["(", "1 "] {
+        let text = sign.repeat(alloc, 8192 / sign.len())?;
+        assert_eq!(rt; text.len(), 8192);
+        assert_eq!(rt;
+            lex(alloc, text.as_str())?.len(),
+            8192 / sign.len(),
+            "{sign:?}"
+        );
     }
-    assert_eq!(rt; lex(rt.alloc(), blanks.as_str())?.len(), 1);
-    blanks.push(' ')?;
-    assert_eq!(rt;
-        lex(rt.alloc(), blanks.as_str()).err(),
-        Some(Fault::TextTooLong)
-    );
-    let mut signs = String::new(rt.alloc());
-    for _ in 0..8193 {
-        signs.push('#')?;
+    for sign in ["(", " ", "#"] {
+        let text = sign.repeat(alloc, 8193)?;
+        let found = lex(alloc, text.as_str()).err();
+        assert_eq!(rt; found, Some(Fault::TextTooLong), "{sign:?}");
     }
-    assert_eq!(rt;
-        lex(rt.alloc(), signs.as_str()).err(),
-        Some(Fault::TextTooLong)
-    );
     Ok(())
 }
 

@@ -1,3 +1,5 @@
+//! The words, names and signs of the language.
+
 ghost use Rattle.std.specs.Prelude.{◌≡◌, length, IfSome};
 ghost use Rattle.filterlang.specs.Words.{words, names, signs, stands, stands_whole, whole_word, standing, first_of};
 ghost use Rattle.filterlang.specs.Tokens.{HasBytes};
@@ -101,7 +103,7 @@ fn whole_word(table: &[(&[u8], Kind)], text: &[u8]) -> Option<(Kind, usize)>
     Some((*kind, word.len()))
 }
 
-/// The longest sign at the front of the text, and how many bytes it has.
+/// The first sign of a table that stands at the front of the text, and how many bytes it has.
 fn standing(table: &[(&[u8], Kind)], text: &[u8]) -> Option<(Kind, usize)>
     ensures { result ≡ first_of (stands text.now) table.now }
 {
@@ -109,6 +111,7 @@ fn standing(table: &[(&[u8], Kind)], text: &[u8]) -> Option<(Kind, usize)>
     Some((*kind, sign.len()))
 }
 
+/// The word at the front of the text, the longest that stands whole there, and how many bytes it has.
 pub fn word_at(text: &[u8]) -> Option<(Kind, usize)>
     ensures value { result ≡ whole_word words text.now }
     ensures within { IfSome result (λ word. HasBytes word.1 (length text.now)) }
@@ -116,6 +119,7 @@ pub fn word_at(text: &[u8]) -> Option<(Kind, usize)>
     whole_word(WORDS.as_slice(), text)
 }
 
+/// The name at the front of the text, and how many bytes it has. A backslash stands before it.
 pub fn name_at(text: &[u8]) -> Option<(Kind, usize)>
     ensures value { result ≡ whole_word names text.now }
     ensures within { IfSome result (λ name. HasBytes name.1 (length text.now)) }
@@ -123,6 +127,7 @@ pub fn name_at(text: &[u8]) -> Option<(Kind, usize)>
     whole_word(NAMES.as_slice(), text)
 }
 
+/// The longest sign at the front of the text, and how many bytes it has.
 pub fn sign_at(text: &[u8]) -> Option<(Kind, usize)>
     ensures value { result ≡ standing signs text.now }
     ensures within { IfSome result (λ sign. HasBytes sign.1 (length text.now)) }

@@ -137,8 +137,12 @@ HasVersion number text = (field number text 4 2 ≡ 2) × (field number text 6 2
 abbrev pub RefusesHeader : List ℕ → Fault → Type 0
 RefusesHeader text ShortHeader = length text < 24
 RefusesHeader text NotSavefile = (24 ≤ length text) × ((order : Order) (unit : TimeUnit) → HasMagic text order unit → ⊥)
-RefusesHeader text Version = (24 ≤ length text) × (order : Order) × (unit : TimeUnit) × HasMagic text order unit × (HasVersion (number_in order) text → ⊥)
-RefusesHeader text LinkType = (24 ≤ length text) × (order : Order) × (unit : TimeUnit) × HasMagic text order unit × HasVersion (number_in order) text × (field (number_in order) text 20 4 ≢ 1)
+RefusesHeader text Version =
+    (24 ≤ length text) × (order : Order) × (unit : TimeUnit) × HasMagic text order unit
+    × (HasVersion (number_in order) text → ⊥)
+RefusesHeader text LinkType =
+    (24 ≤ length text) × (order : Order) × (unit : TimeUnit) × HasMagic text order unit
+    × HasVersion (number_in order) text × (field (number_in order) text 20 4 ≢ 1)
 RefusesHeader text _ = ⊥
 
 -- ---- What is written

@@ -29,14 +29,16 @@ pub record Sent {W : Type 0} (taken : W → Option (List ℕ)) (start : Option (
   pub count : sent_by w ≡ length text
 
 -- A writer that no device failed: it has sent the written text of these packets.
-pub record HasWritten {W : Type 0} (taken : W → Option (List ℕ)) (start : Option (List ℕ)) (order : Order) (unit : TimeUnit) (snap : ℕ) (packets : List Packet) (w : Writer W) : Type 0 where
+pub record HasWritten {W : Type 0} (taken : W → Option (List ℕ)) (start : Option (List ℕ))
+    (order : Order) (unit : TimeUnit) (snap : ℕ) (packets : List Packet) (w : Writer W) : Type 0 where
   pub sent : Sent taken start (encoded order unit snap packets) w
   pub works : has_failed w ≡ false
   pub in_order : w.order ≡ order
   pub in_unit : w.unit ≡ unit
 
 -- A writer that a device failed: it has sent a beginning of the written text of these packets.
-pub record BrokeOff {W : Type 0} (taken : W → Option (List ℕ)) (start : Option (List ℕ)) (order : Order) (unit : TimeUnit) (snap : ℕ) (packets : List Packet) (w : Writer W) : Type 0 where
+pub record BrokeOff {W : Type 0} (taken : W → Option (List ℕ)) (start : Option (List ℕ))
+    (order : Order) (unit : TimeUnit) (snap : ℕ) (packets : List Packet) (w : Writer W) : Type 0 where
   pub text : List ℕ
   pub begins : IsBeginning text (encoded order unit snap packets)
   pub sent : Sent taken start text w
@@ -53,4 +55,5 @@ pub record Sends {W : Type 0} (taken : W → Option (List ℕ)) (old new : Write
 
 -- a number's bytes stand behind the first bytes of a text, as many as `at`, and the rest is as it was
 abbrev pub Fills : ℕ → List ℕ → List ℕ → List ℕ → Type 0
-Fills at old bytes new = (front rest : List ℕ) → old ≡ front ++ rest → length front ≡ at → new ≡ (front ++ bytes) ++ drop (length bytes) rest
+Fills at old bytes new =
+    (front rest : List ℕ) → old ≡ front ++ rest → length front ≡ at → new ≡ (front ++ bytes) ++ drop (length bytes) rest
