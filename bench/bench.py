@@ -167,7 +167,7 @@ def hostile():
 
 
 def expressions(rounds):
-    """The slowest shows whether one pass is enough. Recursion by the length of a text would not fit the stack."""
+    """The slowest shows whether one pass is enough, the small stack that calls do not go too deep."""
     _, most = resource.getrlimit(resource.RLIMIT_STACK)
     resource.setrlimit(resource.RLIMIT_STACK, (STACK, most))
     print(f"bpftap check on a stack of {STACK >> 10} KiB, median of {rounds} interleaved rounds")
