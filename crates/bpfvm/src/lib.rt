@@ -20,4 +20,6 @@ pub use machine::run;
 pub use program::{MAX_INSNS, Program};
 
 #[cfg(test)]
+mod page_tests;
+#[cfg(test)]
 mod tests;
