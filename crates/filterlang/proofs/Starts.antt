@@ -23,7 +23,7 @@ use Rattle.filterlang.specs.declared.parser.Start.{Start}
 use Rattle.filterlang.specs.declared.parser.Start.TheVariants as starts
 use Rattle.filterlang.specs.Phrases.{phrase_at, identifier_at}
 use Rattle.filterlang.specs.Primitives.{plain_of, stands_alone, ports_between}
-use Rattle.filterlang.specs.Qualifiers.{qualifiers_of, identified, transport_of, between}
+use Rattle.filterlang.specs.Qualifiers.{qualifiers_of, identified, transport_of, port_of}
 use Rattle.filterlang.specs.Grammar.{only_protocol, is_written, Prim, prim_plain, prim_broadcast, prim_ether_broadcast, prim_multicast, prim_ether_multicast, prim_ip_multicast, prim_less, prim_greater, prim_portrange, prim_phrase, prim_inherited}
 use Rattle.filterlang.specs.Reading.{◌>>=◌, identified_at, port_at, portrange_at, under, without_qualifiers, qualified_at, inherited_at, phrased_by, phrased_at, start_at, bare_number_at, minus_at, range_at, plain_at, broadcast_at, unqualified_at}
 use Rattle.filterlang.proofs.Steps.{step, each_step, weaken, at_some}
@@ -52,9 +52,9 @@ identified_complete g ts rest id p e f = ap (λ o. o >>= λ x. identified g x.0 
 -- two ports, as the grammar has them
 portrange_reads : (phrase : Phrase) (t : Option Transport) (a b : ℕ) (rest : List Kind) → transport_of phrase.protocol ≡ Some t → portrange_at phrase (kind.Number a ∷ kind.Operator Minus ∷ kind.Number b ∷ rest) ≡ (ports_between t (unwrap_or phrase.direction SrcOrDst) a b >>= λ p. Some (p, rest))
 unfolding portrange_at
-portrange_reads phrase t a b rest e = at_ports (between 0 65535 a) (between 0 65535 b) refl refl
+portrange_reads phrase t a b rest e = at_ports (port_of a) (port_of b) refl refl
   where
-    at_ports : (o p : Option ℕ) → between 0 65535 a ≡ o → between 0 65535 b ≡ p → portrange_at phrase (kind.Number a ∷ kind.Operator Minus ∷ kind.Number b ∷ rest) ≡ (ports_between t (unwrap_or phrase.direction SrcOrDst) a b >>= λ p. Some (p, rest))
+    at_ports : (o p : Option ℕ) → port_of a ≡ o → port_of b ≡ p → portrange_at phrase (kind.Number a ∷ kind.Operator Minus ∷ kind.Number b ∷ rest) ≡ (ports_between t (unwrap_or phrase.direction SrcOrDst) a b >>= λ p. Some (p, rest))
     at_ports None p f g = rw (e, f)
     at_ports (Some x) None f g = rw (e, f, g)
     at_ports (Some x) (Some y) f g = rw (e, f, g)
@@ -75,13 +75,13 @@ number_sound ts = tt
 
 -- a number that is a port
 abbrev IsPort : List Kind → ℕ → List Kind → Type 0
-IsPort ts port rest = (a : ℕ) × (ts ≡ kind.Number a ∷ rest) × (between 0 65535 a ≡ Some port)
+IsPort ts port rest = (a : ℕ) × (ts ≡ kind.Number a ∷ rest) × (port_of a ≡ Some port)
 
 -- a port that is found is one
 port_sound : (ts : List Kind) → IfSome (port_at ts) (λ n. IsPort ts n.0 n.1)
 port_sound ts =
-    each_step (λ n. IsPort ts n.0 n.1) (bare_number_at ts) (λ n. between 0 65535 n.0 >>= λ port. Some (port, n.1))
-    (λ n e. each_step (λ p. IsPort ts p.0 p.1) (between 0 65535 n.0) (λ port. Some (port, n.1)) (λ p f. (n.0, at_some (λ n. ts ≡ kind.Number n.0 ∷ n.1) (bare_number_at ts) n e (number_sound ts), f)))
+    each_step (λ n. IsPort ts n.0 n.1) (bare_number_at ts) (λ n. port_of n.0 >>= λ port. Some (port, n.1))
+    (λ n e. each_step (λ p. IsPort ts p.0 p.1) (port_of n.0) (λ port. Some (port, n.1)) (λ p f. (n.0, at_some (λ n. ts ≡ kind.Number n.0 ∷ n.1) (bare_number_at ts) n e (number_sound ts), f)))
 
 -- two ports and the minus between them, in either order
 ports_found : (phrase : Phrase) (t : Option Transport) (ts : List Kind) (first second : ℕ × List Kind) (minus : List Kind) → transport_of phrase.protocol ≡ Some t → IsPort ts first.0 first.1 → first.1 ≡ kind.Operator Minus ∷ minus → IsPort minus second.0 second.1 → Ranges phrase ts (primitives.Ports t (unwrap_or phrase.direction SrcOrDst) (min first.0 second.0) (max first.0 second.0)) second.1

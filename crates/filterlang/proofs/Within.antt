@@ -12,7 +12,7 @@ use Rattle.filterlang.specs.declared.token.Kind.TheVariants.{Number}
 use Rattle.filterlang.specs.declared.lexer.Cause.{Cause}
 use Rattle.filterlang.specs.declared.lexer.Cause.TheVariants.{BadByte, BadWord, BadNumber}
 use Rattle.filterlang.specs.Words.{Entry, words, names, signs, begins, stands, stands_whole, token_of, whole_word, standing}
-use Rattle.filterlang.specs.Numbers.{is_in_run, run_at, number_at, ethernet_at, number_of, dotted_of, ethernet_of}
+use Rattle.filterlang.specs.Numbers.{is_in_run, run_at, number_or_dotted_at, ethernet_at, number_of, dotted_of, ethernet_of}
 use Rattle.filterlang.specs.Tokens.{HasBytes, IsWithin, is_blank, or_else, token_at, front, front_of}
 use Rattle.filterlang.specs.declared.lexer.Front.TheVariants.{Blank}
 
@@ -84,8 +84,8 @@ unfolding ethernet_at
 ethernet_within text = run_within 58 text ethernet_of refl
 
 -- a number or dotted address lies within it
-pub number_within : (text : List ℕ) → IfSome (number_at text) (λ t. HasBytes t.1 (length text))
-unfolding number_at
+pub number_within : (text : List ℕ) → IfSome (number_or_dotted_at text) (λ t. HasBytes t.1 (length text))
+unfolding number_or_dotted_at
 number_within text = run_within 46 text (λ run. if list_any (λ b. b == 46) run then dotted_of run else option_map Number (number_of run)) refl
 
 -- each way to a token keeps within the text
@@ -117,7 +117,7 @@ pub token_within : (text : List ℕ) → IfOk (token_at text) (IsTokenOf text)
 unfolding token_at
 token_within text =
     or_else_within text (ethernet_at text) _ (ethernet_within text)
-    (if_within text (begins is_ascii_digit text) _ _ (ok_or_within text (number_at text) BadNumber (number_within text))
+    (if_within text (begins is_ascii_digit text) _ _ (ok_or_within text (number_or_dotted_at text) BadNumber (number_within text))
     (if_within text (begins is_ascii_alphabetic text) _ _ (ok_or_within text (whole_word words text) BadWord (word_within text))
     (if_within text (begins (λ b. b == 92) text) _ _ (ok_or_within text _ BadWord (backslash_within text (whole_word names (drop 1 text)) (name_within (drop 1 text))))
     (ok_or_within text (standing signs text) BadByte (sign_within text)))))

@@ -58,8 +58,8 @@ abbrev pub dotted_of : List ℕ → Option Kind
 dotted_of run = option_and_then dotted (octets 10 3 (slice_split (λ b. b == 46) run))
 
 -- the run of letters, digits and dots is a dotted address where it has a dot, else a number
-unfoldable pub number_at : List ℕ → Option (Kind × ℕ)
-number_at text =
+unfoldable pub number_or_dotted_at : List ℕ → Option (Kind × ℕ)
+number_or_dotted_at text =
     let run = run_at 46 text in
     option_map (λ kind. (kind, length run)) (if list_any (λ b. b == 46) run then dotted_of run else option_map Number (number_of run))
 

@@ -10,7 +10,7 @@ use Rattle.filterlang.specs.declared.tree.Primitive.{Primitive}
 use Rattle.filterlang.specs.declared.tree.Primitive.TheVariants as primitives
 use Rattle.filterlang.specs.declared.tree.Plain.{Plain}
 use Rattle.filterlang.specs.declared.tree.Plain.TheVariants as plain
-use Rattle.filterlang.specs.Qualifiers.{between}
+use Rattle.filterlang.specs.Qualifiers.{port_of}
 
 -- a protocol word that is a primitive of its own
 abbrev pub plain_of : Protocol → Option Plain
@@ -43,4 +43,4 @@ stands_alone protocol (t ∷ ts) = not (begins_identifier t)
 -- the ports from the one to the other, whichever comes first
 abbrev pub ports_between : Option Transport → Direction → ℕ → ℕ → Option Primitive
 ports_between transport direction first second =
-    option_and_then (λ a. option_map (λ b. primitives.Ports transport direction (min a b) (max a b)) (between 0 65535 second)) (between 0 65535 first)
+    option_and_then (λ a. option_map (λ b. primitives.Ports transport direction (min a b) (max a b)) (port_of second)) (port_of first)

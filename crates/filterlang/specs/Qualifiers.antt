@@ -70,6 +70,10 @@ net_of network direction address mask =
 abbrev pub between : ℕ → ℕ → ℕ → Option ℕ
 between low high n = if nat_le low n && nat_le n high then Some n else None
 
+-- a number is a port
+abbrev pub port_of : ℕ → Option ℕ
+port_of n = between 0 65535 n
+
 -- The identifiers that the qualifiers take, and the test that each gives.
 abbrev pub identified : Qualifiers → Identifier → Option Primitive
 identified (Host network direction) (ids.Dotted address Four) = Some (primitives.Net network direction address (mask_of 32))
@@ -79,7 +83,7 @@ identified (Net network direction) (ids.Dotted address parts) = net_of network d
 identified (Net network direction) (ids.Prefix address bits) = if nat_le bits 32 then net_of network direction address (mask_of bits) else None
 identified (Net network direction) (ids.Masked address mask Four) = net_of network direction address mask
 identified (EtherHost direction) (ids.Ethernet address) = Some (primitives.EtherHost direction address)
-identified (Port transport direction) (ids.Number n) = option_map (λ port. primitives.Ports transport direction port port) (between 0 65535 n)
+identified (Port transport direction) (ids.Number n) = option_map (λ port. primitives.Ports transport direction port port) (port_of n)
 identified IpProto (ids.Number n) = option_map primitives.IpProto (between 0 255 n)
 identified IpProto (ids.Name protocols.Icmp) = Some (primitives.IpProto 1)
 identified IpProto (ids.Name protocols.Tcp) = Some (primitives.IpProto 6)

@@ -27,7 +27,7 @@ use Rattle.filterlang.specs.declared.parser.Start.{Start}
 use Rattle.filterlang.specs.declared.parser.Start.TheVariants as starts
 use Rattle.filterlang.specs.Phrases.{joined, phrase_at, identifier_at}
 use Rattle.filterlang.specs.Primitives.{plain_of, stands_alone}
-use Rattle.filterlang.specs.Qualifiers.{qualifiers_of, identified, transport_of, between}
+use Rattle.filterlang.specs.Qualifiers.{qualifiers_of, identified, transport_of, port_of}
 use Rattle.filterlang.specs.Trees.{Tree, everything, test, negation, both, either}
 use Rattle.filterlang.specs.Grammar.{begins_relation, is_written}
 use Rattle.filterlang.specs.Texts.{is_misreading}
@@ -144,7 +144,7 @@ unfoldable pub identified_at : Qualifiers → List Kind → Option (Primitive ×
 identified_at g tokens = identifier_at tokens >>= λ id. identified g id.0 >>= λ p. Some (p, id.1)
 
 abbrev pub port_at : List Kind → Option (ℕ × List Kind)
-port_at tokens = bare_number_at tokens >>= λ n. between 0 65535 n.0 >>= λ port. Some (port, n.1)
+port_at tokens = bare_number_at tokens >>= λ n. port_of n.0 >>= λ port. Some (port, n.1)
 
 -- two ports with a `-` between them, behind a phrase and portrange
 unfoldable pub portrange_at : Phrase → List Kind → Option (Primitive × List Kind)

@@ -12,7 +12,7 @@ use Rattle.filterlang.specs.declared.lexer.Front.{Front}
 use Rattle.filterlang.specs.declared.lexer.Front.TheVariants as fronts
 use Rattle.filterlang.specs.declared.lexer.TheConstants.{MAX_TEXT}
 use Rattle.filterlang.specs.Words.{words, names, signs, begins, whole_word, standing}
-use Rattle.filterlang.specs.Numbers.{number_at, ethernet_at}
+use Rattle.filterlang.specs.Numbers.{number_or_dotted_at, ethernet_at}
 
 -- space, tab, carriage return and line feed
 abbrev pub is_blank : ℕ → Bool
@@ -29,7 +29,7 @@ or_else None other = other
 unfoldable pub token_at : List ℕ → Result (Kind × ℕ) Cause
 token_at text =
     or_else (ethernet_at text)
-    (if begins is_ascii_digit text then ok_or (number_at text) BadNumber
+    (if begins is_ascii_digit text then ok_or (number_or_dotted_at text) BadNumber
     else (if begins is_ascii_alphabetic text then ok_or (whole_word words text) BadWord
     else (if begins (λ b. b == 92) text then ok_or (option_map (λ name. (name.0, name.1 + 1)) (whole_word names (drop 1 text))) BadWord
     else ok_or (standing signs text) BadByte)))

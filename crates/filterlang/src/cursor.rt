@@ -10,7 +10,7 @@ ghost use Rattle.filterlang.specs.Reading.{Gives, port_at, portrange_at, deeper,
 use crate::fault::Fault;
 use crate::phrases::{bare_number_at, begins_identifier, close_at, identifier_at, minus_at, next};
 use crate::qualifiers::{
-    Identifier, Misfit, Phrase, Qualifiers, between, identified, transport_of,
+    Identifier, Misfit, Phrase, Qualifiers, identified, port_of, transport_of,
 };
 use crate::token::{Kind, Token};
 use crate::tree::{Direction, Primitive};
@@ -37,11 +37,18 @@ impl<'a> Cursor<'a> {
         self.place_of(self.rest)
     }
 
+    /// No expression goes on where these tokens begin, which are the last ones of the text.
+    pub fn syntax_at(&self, tokens: &[Token]) -> Fault
+        ensures { is_misreading result ≡ true }
+    {
+        Fault::Syntax(self.place_of(tokens))
+    }
+
     /// No expression goes on with the next token.
     pub fn syntax(&self) -> Fault
         ensures { is_misreading result ≡ true }
     {
-        Fault::Syntax(self.place())
+        self.syntax_at(self.rest)
     }
 
     /// `NoQualifier` where an identifier is next, which has nothing to inherit; else `Syntax`.
@@ -64,7 +71,7 @@ impl<'a> Cursor<'a> {
                 self.rest = rest;
                 Ok(value)
             }
-            Err(at) => Err(Fault::Syntax(self.place_of(at))),
+            Err(at) => Err(self.syntax_at(at)),
         }
     }
 
@@ -81,10 +88,7 @@ impl<'a> Cursor<'a> {
     {
         let place = self.place();
         let number = self.past(bare_number_at(self.rest))?;
-        match between(0, 65535, number) {
-            Ok(port) => Ok(port as u16),
-            Err(_) => Err(Fault::OutOfRange(place)),
-        }
+        port_of(number).map_err(|_| Fault::OutOfRange(place))
     }
 
     /// Two port numbers with a `-` between them, whichever comes first, in these tokens, which stand behind the
@@ -93,6 +97,7 @@ impl<'a> Cursor<'a> {
     pub fn portrange(&mut self, phrase: Phrase, behind: &'a [Token]) -> Result<Primitive, Fault>
         ensures { Gives (λ p. (p, kinds self.new.rest.now)) result (portrange_at phrase (kinds behind.now)) }
     {
+        // The cursor stands at the phrase still, where its fault has its place.
         let Some(transport) = transport_of(phrase.protocol) else {
             return Err(Fault::BadQualifier(self.place()));
         };

@@ -9,7 +9,7 @@ ghost use Rattle.filterlang.specs.Words.{names, whole_word};
 ghost use Rattle.filterlang.specs.Tokens.{is_blank, token_at, front, fault_at, Lexes, Stuck, AreInOrder, IsFaultOf, IsWithin};
 
 use crate::fault::Fault;
-use crate::numbers::{ethernet_at, number_at};
+use crate::numbers::{ethernet_at, number_or_dotted_at};
 use crate::token::{Kind, Span, Token};
 use crate::words::{name_at, sign_at, word_at};
 use std::alloc::Global;
@@ -73,7 +73,7 @@ fn token_at(text: &[u8]) -> Result<(Kind, usize), Cause>
         return Err(Cause::BadByte);
     };
     if byte.is_ascii_digit() {
-        number_at(text).ok_or(Cause::BadNumber)
+        number_or_dotted_at(text).ok_or(Cause::BadNumber)
     } else if byte.is_ascii_alphabetic() {
         word_at(text).ok_or(Cause::BadWord)
     } else if *byte == b'\\' {

@@ -2,10 +2,13 @@
 
 ghost use Rattle.std.specs.Prelude.{◌≡◌, ◌≤◌, ◌<◌, ◌==◌, List, ℕ, Some, length, take, IfSome, IfNone};
 ghost use Rattle.std.specs.List.{prefix_len, slice_split};
-ghost use Rattle.filterlang.specs.Numbers.{is_in_run, numeral, octet, octets, at_most, number_of, dotted_of, ethernet_of, number_at, ethernet_at};
+ghost use Rattle.filterlang.specs.Numbers.{is_in_run, numeral, octet, octets, at_most, number_of, dotted_of, ethernet_of, number_or_dotted_at, ethernet_at};
 ghost use Rattle.filterlang.specs.Tokens.{HasBytes};
 
 use crate::token::{EthernetAddress, Kind, Parts};
+
+/// The most bytes of an Ethernet address.
+const MAX_ETHERNET: usize = 17;
 
 /// How many bytes at the front of the text are letters, digits or this mark.
 fn run_length(text: &[u8], mark: u8) -> usize
@@ -107,9 +110,9 @@ fn ethernet_of(run: &[u8]) -> Option<Kind>
 }
 
 /// The number or dotted address at the front of the text, and how many bytes it has.
-#[tactic(auto, unfolding(crate::specs::Numbers::number_at), using(crate::proofs::Within::number_within))]
-pub fn number_at(text: &[u8]) -> Option<(Kind, usize)>
-    ensures value { result ≡ number_at text.now }
+#[tactic(auto, unfolding(crate::specs::Numbers::number_or_dotted_at), using(crate::proofs::Within::number_within))]
+pub(crate) fn number_or_dotted_at(text: &[u8]) -> Option<(Kind, usize)>
+    ensures value { result ≡ number_or_dotted_at text.now }
     ensures within { IfSome result (λ token. HasBytes token.1 (length text.now)) }
 {
     let length = run_length(text, b'.');
@@ -122,12 +125,9 @@ pub fn number_at(text: &[u8]) -> Option<(Kind, usize)>
     Some((kind, length))
 }
 
-/// The most bytes of an Ethernet address.
-const MAX_ETHERNET: usize = 17;
-
 /// The Ethernet address at the front of the text, and how many bytes it has.
 #[tactic(auto, unfolding(crate::specs::Numbers::ethernet_at), using(crate::proofs::Within::ethernet_within))]
-pub fn ethernet_at(text: &[u8]) -> Option<(Kind, usize)>
+pub(crate) fn ethernet_at(text: &[u8]) -> Option<(Kind, usize)>
     ensures value { result ≡ ethernet_at text.now }
     ensures within { IfSome result (λ token. HasBytes token.1 (length text.now)) }
 {

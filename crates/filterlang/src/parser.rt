@@ -111,19 +111,21 @@ impl<'a> Parser<'a> {
             (start_at self.old.nearest (kinds self.old.cursor.rest.now)) }
     {
         match unqualified_at(self.cursor.rest) {
-            Ok(Some((primitive, rest))) => Ok(self.without_qualifiers(primitive, rest)),
+            Ok(Some((primitive, rest))) => {
+                self.cursor.rest = rest;
+                Ok(self.without_qualifiers(primitive))
+            }
             Ok(None) => self.phrased(),
-            Err(at) => Err(Fault::Syntax(self.cursor.place_of(at))),
+            Err(at) => Err(self.cursor.syntax_at(at)),
         }
     }
 
-    /// Goes on at these tokens, behind a primitive that has no qualifiers to give.
-    fn without_qualifiers(&mut self, primitive: Primitive, rest: &'a [Token]) -> Start
+    /// A primitive that was read, which has no qualifiers to give.
+    fn without_qualifiers(&mut self, primitive: Primitive) -> Start
         ensures start { result ≡ starts.Primitive primitive }
         ensures nearest { self.new.nearest ≡ None }
-        ensures rest { kinds self.new.cursor.rest.now ≡ kinds rest.now }
+        ensures rest { kinds self.new.cursor.rest.now ≡ kinds self.old.cursor.rest.now }
     {
-        self.cursor.rest = rest;
         self.nearest = None;
         Start::Primitive(primitive)
     }
@@ -136,10 +138,11 @@ impl<'a> Parser<'a> {
     {
         let (phrase, rest) = phrase_at(self.cursor.rest);
         if let Some(plain) = plain_at(phrase, rest) {
-            Ok(self.without_qualifiers(Primitive::Protocol(plain), rest))
+            self.cursor.rest = rest;
+            Ok(self.without_qualifiers(Primitive::Protocol(plain)))
         } else if let Some(behind) = range_at(phrase, rest) {
             let primitive = self.cursor.portrange(phrase, behind)?;
-            Ok(self.without_qualifiers(primitive, self.cursor.rest))
+            Ok(self.without_qualifiers(primitive))
         } else if is_written(phrase) {
             self.qualified(phrase, rest)
         } else {
@@ -152,6 +155,7 @@ impl<'a> Parser<'a> {
         ensures { Gives (λ s. (s, self.new.nearest, kinds self.new.cursor.rest.now)) result
             (qualified_at phrase (kinds rest.now)) }
     {
+        // The cursor stands at the phrase still, where its fault has its place.
         let Some(qualifiers) = qualifiers_of(phrase) else {
             return Err(Fault::BadQualifier(self.cursor.place()));
         };

@@ -2,7 +2,7 @@
 
 ghost use Rattle.std.specs.Prelude.{◌≡◌, ◌≤◌, IfOk};
 ghost use Rattle.std.specs.Result.{result_ok};
-ghost use Rattle.filterlang.specs.Qualifiers.{network_of, transport_of, qualifiers_of, mask_of, bits_of, between, net_of, identified};
+ghost use Rattle.filterlang.specs.Qualifiers.{network_of, transport_of, qualifiers_of, mask_of, bits_of, between, port_of, net_of, identified};
 ghost use Rattle.filterlang.specs.declared.qualifiers.Qualifiers.TheVariants.{Net, IpProto, EtherProto};
 
 use crate::token::{EthernetAddress, Parts, Protocol, TypeWord};
@@ -150,7 +150,7 @@ fn bits_of(parts: Parts) -> u32
 }
 
 /// The number, where it is within these ends.
-pub(crate) fn between(low: u32, high: u32, n: u32) -> Result<u32, Misfit>
+fn between(low: u32, high: u32, n: u32) -> Result<u32, Misfit>
     ensures value { result_ok result ≡ between low high n }
     ensures within { IfOk result (λ m. (low ≤ m) × (m ≤ high)) }
 {
@@ -159,6 +159,13 @@ pub(crate) fn between(low: u32, high: u32, n: u32) -> Result<u32, Misfit>
     } else {
         Err(Misfit::Range)
     }
+}
+
+/// The port of this number.
+pub(crate) fn port_of(n: u32) -> Result<u16, Misfit>
+    ensures { result_ok result ≡ port_of n }
+{
+    Ok(between(0, 65535, n)? as u16)
 }
 
 /// A net, whose address has no bits outside its mask.
@@ -273,7 +280,7 @@ pub(crate) fn identified(qualifiers: Qualifiers, id: Identifier) -> Result<Primi
             },
             Identifier::Number(n),
         ) => {
-            let port = between(0, 65535, n)? as u16;
+            let port = port_of(n)?;
             Ok(Primitive::Ports {
                 transport,
                 direction,

@@ -7,7 +7,7 @@ ghost use Rattle.filterlang.specs.Tokens.{HasBytes};
 use crate::token::{Comparison, Joint, Kind, Operator, Protocol, Side, TypeWord};
 
 /// The words of pcap-filter(7), the hyphenated ones first: of two that stand at a place the first is meant.
-pub const WORDS: [(&[u8], Kind); 38] = [
+pub(crate) const WORDS: [(&[u8], Kind); 38] = [
     (b"tcp-fin", Kind::Named(1)),
     (b"tcp-syn", Kind::Named(2)),
     (b"tcp-rst", Kind::Named(4)),
@@ -49,7 +49,7 @@ pub const WORDS: [(&[u8], Kind); 38] = [
 ];
 
 /// The names behind a backslash.
-pub const NAMES: [(&[u8], Kind); 6] = [
+pub(crate) const NAMES: [(&[u8], Kind); 6] = [
     (b"tcp", Kind::Name(Protocol::Tcp)),
     (b"udp", Kind::Name(Protocol::Udp)),
     (b"icmp", Kind::Name(Protocol::Icmp)),
@@ -59,7 +59,7 @@ pub const NAMES: [(&[u8], Kind); 6] = [
 ];
 
 /// The signs, the longer ones first: the first that stands at a place is the longest there.
-pub const SIGNS: [(&[u8], Kind); 23] = [
+pub(crate) const SIGNS: [(&[u8], Kind); 23] = [
     (b"<<", Kind::Operator(Operator::ShiftLeft)),
     (b">>", Kind::Operator(Operator::ShiftRight)),
     (b"&&", Kind::Joint(Joint::And)),
@@ -112,7 +112,7 @@ fn standing(table: &[(&[u8], Kind)], text: &[u8]) -> Option<(Kind, usize)>
 }
 
 /// The word at the front of the text, the longest that stands whole there, and how many bytes it has.
-pub fn word_at(text: &[u8]) -> Option<(Kind, usize)>
+pub(crate) fn word_at(text: &[u8]) -> Option<(Kind, usize)>
     ensures value { result ≡ whole_word words text.now }
     ensures within { IfSome result (λ word. HasBytes word.1 (length text.now)) }
 {
@@ -120,7 +120,7 @@ pub fn word_at(text: &[u8]) -> Option<(Kind, usize)>
 }
 
 /// The name at the front of the text, and how many bytes it has. A backslash stands before it.
-pub fn name_at(text: &[u8]) -> Option<(Kind, usize)>
+pub(crate) fn name_at(text: &[u8]) -> Option<(Kind, usize)>
     ensures value { result ≡ whole_word names text.now }
     ensures within { IfSome result (λ name. HasBytes name.1 (length text.now)) }
 {
@@ -128,7 +128,7 @@ pub fn name_at(text: &[u8]) -> Option<(Kind, usize)>
 }
 
 /// The longest sign at the front of the text, and how many bytes it has.
-pub fn sign_at(text: &[u8]) -> Option<(Kind, usize)>
+pub(crate) fn sign_at(text: &[u8]) -> Option<(Kind, usize)>
     ensures value { result ≡ standing signs text.now }
     ensures within { IfSome result (λ sign. HasBytes sign.1 (length text.now)) }
 {
