@@ -5,20 +5,10 @@
 -- are open within one another, and that q and r are the qualifiers that the nearest primitive to the left has
 -- to give, before the expression and behind it.
 use Rattle.std.specs.Prelude.{◌≡◌, ℕ, zero, suc, Bool, ◌||◌, is_some, true, false, List, [], ◌∷◌, Option, Some, None, unwrap_or}
-use Rattle.filterlang.specs.declared.token.Kind.{Kind}
-use Rattle.filterlang.specs.declared.token.Kind.TheVariants as kind
-use Rattle.filterlang.specs.declared.token.Protocol.{Protocol}
-use Rattle.filterlang.specs.declared.token.Protocol.TheVariants as protocols
-use Rattle.filterlang.specs.declared.token.Joint.TheVariants.{And, Or}
-use Rattle.filterlang.specs.declared.token.Operator.TheVariants.{Minus}
-use Rattle.filterlang.specs.declared.tree.Primitive.{Primitive}
-use Rattle.filterlang.specs.declared.tree.Primitive.TheVariants as primitives
-use Rattle.filterlang.specs.declared.tree.Plain.{Plain}
-use Rattle.filterlang.specs.declared.tree.Transport.{Transport}
-use Rattle.filterlang.specs.declared.tree.Direction.TheVariants.{SrcOrDst}
-use Rattle.filterlang.specs.declared.qualifiers.Phrase.{Phrase}
-use Rattle.filterlang.specs.declared.qualifiers.Qualifiers.{Qualifiers}
-use Rattle.filterlang.specs.declared.qualifiers.Identifier.{Identifier}
+use Rattle.filterlang.specs.Types.{Kind, Protocol, And, Or, Minus, Primitive, Plain, Transport, SrcOrDst, Phrase, Qualifiers, Identifier}
+use Rattle.filterlang.specs.Types.kind
+use Rattle.filterlang.specs.Types.protocols
+use Rattle.filterlang.specs.Types.primitives
 use Rattle.filterlang.specs.Trees.{Tree, everything, test, negation, both, either}
 use Rattle.filterlang.specs.Phrases.{phrase_at, identifier_at}
 use Rattle.filterlang.specs.Primitives.{plain_of, stands_alone, ports_between}

@@ -1,3 +1,4 @@
+pub mod Types
 pub mod Words
 pub mod Numbers
 pub mod Tokens

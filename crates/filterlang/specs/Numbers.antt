@@ -3,9 +3,8 @@ use Rattle.std.specs.Prelude.{ℕ, ◌+◌, ◌*◌, Bool, ◌||◌, ◌==◌, n
 use Rattle.std.specs.Char.{is_ascii_alphanumeric, is_digit, digit_value}
 use Rattle.std.specs.Int.{w32, from_be_bytes}
 use Rattle.std.specs.List.{take_while, slice_split, list_any, starts_with}
-use Rattle.filterlang.specs.declared.token.Kind.{Kind}
-use Rattle.filterlang.specs.declared.token.Kind.TheVariants.{Number, Dotted, Ethernet}
-use Rattle.filterlang.specs.declared.token.Parts.TheVariants.{Two, Three, Four}
+use Rattle.filterlang.specs.Types.{Kind, Two, Three, Four}
+use Rattle.filterlang.specs.Types.kind
 
 -- a letter, a digit, or this mark
 abbrev pub is_in_run : ℕ → ℕ → Bool
@@ -48,9 +47,9 @@ octets base most (part ∷ parts) = option_and_then (λ n. option_map (λ ns. n 
 
 -- two, three or four decimal parts; those that are missing on the right are 0
 abbrev pub dotted : List ℕ → Option Kind
-dotted (a ∷ b ∷ []) = Some (Dotted (from_be_bytes w32 (a ∷ b ∷ 0 ∷ 0 ∷ [])) Two)
-dotted (a ∷ b ∷ c ∷ []) = Some (Dotted (from_be_bytes w32 (a ∷ b ∷ c ∷ 0 ∷ [])) Three)
-dotted (a ∷ b ∷ c ∷ d ∷ []) = Some (Dotted (from_be_bytes w32 (a ∷ b ∷ c ∷ d ∷ [])) Four)
+dotted (a ∷ b ∷ []) = Some (kind.Dotted (from_be_bytes w32 (a ∷ b ∷ 0 ∷ 0 ∷ [])) Two)
+dotted (a ∷ b ∷ c ∷ []) = Some (kind.Dotted (from_be_bytes w32 (a ∷ b ∷ c ∷ 0 ∷ [])) Three)
+dotted (a ∷ b ∷ c ∷ d ∷ []) = Some (kind.Dotted (from_be_bytes w32 (a ∷ b ∷ c ∷ d ∷ [])) Four)
 dotted _ = None
 
 -- parts of one to three decimal digits with dots between them
@@ -61,11 +60,11 @@ dotted_of run = option_and_then dotted (octets 10 3 (slice_split (λ b. b == 46)
 unfoldable pub number_or_dotted_at : List ℕ → Option (Kind × ℕ)
 number_or_dotted_at text =
     let run = run_at 46 text in
-    option_map (λ kind. (kind, length run)) (if list_any (λ b. b == 46) run then dotted_of run else option_map Number (number_of run))
+    option_map (λ kind. (kind, length run)) (if list_any (λ b. b == 46) run then dotted_of run else option_map kind.Number (number_of run))
 
 -- six numbers, which are the octets in network order
 abbrev pub ethernet : List ℕ → Option Kind
-ethernet numbers = if length numbers == 6 then Some (Ethernet (record { octets = numbers })) else None
+ethernet numbers = if length numbers == 6 then Some (kind.Ethernet (record { octets = numbers })) else None
 
 -- six groups of one or two hexadecimal digits with colons between them
 abbrev pub ethernet_of : List ℕ → Option Kind

@@ -1,21 +1,9 @@
 -- Phrases and identifiers, from the front of a list of tokens.
 use Rattle.std.specs.Prelude.{ℕ, List, ◌∷◌, Option, Some, None, map}
-use Rattle.filterlang.specs.declared.token.Kind.{Kind}
-use Rattle.filterlang.specs.declared.token.Kind.TheVariants as kind
-use Rattle.filterlang.specs.declared.token.Token.{Token}
-use Rattle.filterlang.specs.declared.token.Protocol.{Protocol}
-use Rattle.filterlang.specs.declared.token.TypeWord.{TypeWord}
-use Rattle.filterlang.specs.declared.token.Side.{Side}
-use Rattle.filterlang.specs.declared.token.Side.TheVariants as side
-use Rattle.filterlang.specs.declared.token.Parts.{Parts}
-use Rattle.filterlang.specs.declared.token.Joint.{Joint}
-use Rattle.filterlang.specs.declared.token.Joint.TheVariants.{And, Or}
-use Rattle.filterlang.specs.declared.token.Operator.TheVariants.{Divide}
-use Rattle.filterlang.specs.declared.tree.Direction.{Direction}
-use Rattle.filterlang.specs.declared.tree.Direction.TheVariants.{Src, Dst, SrcOrDst, SrcAndDst}
-use Rattle.filterlang.specs.declared.qualifiers.Phrase.{Phrase}
-use Rattle.filterlang.specs.declared.qualifiers.Identifier.{Identifier}
-use Rattle.filterlang.specs.declared.qualifiers.Identifier.TheVariants as ids
+use Rattle.filterlang.specs.Types.{Kind, Token, Protocol, TypeWord, Side, Parts, Joint, And, Or, Divide, Direction, Src, Dst, SrcOrDst, SrcAndDst, Phrase, Identifier}
+use Rattle.filterlang.specs.Types.kind
+use Rattle.filterlang.specs.Types.side
+use Rattle.filterlang.specs.Types.ids
 
 -- what the tokens are, without where they stand
 abbrev pub kinds : List Token → List Kind

@@ -1,15 +1,10 @@
 -- Primitives that have no identifier.
 use Rattle.std.specs.Prelude.{ℕ, Bool, true, false, not, List, [], ◌∷◌, Option, Some, None, option_map, option_and_then, min, max}
-use Rattle.filterlang.specs.declared.token.Kind.{Kind}
-use Rattle.filterlang.specs.declared.token.Kind.TheVariants as kind
-use Rattle.filterlang.specs.declared.token.Protocol.{Protocol}
-use Rattle.filterlang.specs.declared.token.Protocol.TheVariants as protocols
-use Rattle.filterlang.specs.declared.tree.Direction.{Direction}
-use Rattle.filterlang.specs.declared.tree.Transport.{Transport}
-use Rattle.filterlang.specs.declared.tree.Primitive.{Primitive}
-use Rattle.filterlang.specs.declared.tree.Primitive.TheVariants as primitives
-use Rattle.filterlang.specs.declared.tree.Plain.{Plain}
-use Rattle.filterlang.specs.declared.tree.Plain.TheVariants as plain
+use Rattle.filterlang.specs.Types.{Kind, Protocol, Direction, Transport, Primitive, Plain}
+use Rattle.filterlang.specs.Types.kind
+use Rattle.filterlang.specs.Types.protocols
+use Rattle.filterlang.specs.Types.primitives
+use Rattle.filterlang.specs.Types.plain
 use Rattle.filterlang.specs.Qualifiers.{port_of}
 
 -- a protocol word that is a primitive of its own

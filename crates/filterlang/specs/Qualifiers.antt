@@ -1,24 +1,12 @@
 -- Which qualifiers go together, and which identifiers they take.
 use Rattle.std.specs.Prelude.{ℕ, ◌-◌, ◌*◌, ◌^◌, ◌&&◌, ◌==◌, nat_le, if◌then◌else◌, Option, Some, None, option_map, unwrap_or, bit_and}
-use Rattle.filterlang.specs.declared.token.Protocol.{Protocol}
-use Rattle.filterlang.specs.declared.token.Protocol.TheVariants as protocols
-use Rattle.filterlang.specs.declared.token.TypeWord.{TypeWord}
-use Rattle.filterlang.specs.declared.token.TypeWord.TheVariants as types
-use Rattle.filterlang.specs.declared.token.Parts.{Parts}
-use Rattle.filterlang.specs.declared.token.Parts.TheVariants.{Two, Three, Four}
-use Rattle.filterlang.specs.declared.tree.Direction.{Direction}
-use Rattle.filterlang.specs.declared.tree.Direction.TheVariants.{SrcOrDst}
-use Rattle.filterlang.specs.declared.tree.Network.{Network}
-use Rattle.filterlang.specs.declared.tree.Network.TheVariants as networks
-use Rattle.filterlang.specs.declared.tree.Transport.{Transport}
-use Rattle.filterlang.specs.declared.tree.Transport.TheVariants as transports
-use Rattle.filterlang.specs.declared.tree.Primitive.{Primitive}
-use Rattle.filterlang.specs.declared.tree.Primitive.TheVariants as primitives
-use Rattle.filterlang.specs.declared.qualifiers.Phrase.{Phrase}
-use Rattle.filterlang.specs.declared.qualifiers.Qualifiers.{Qualifiers}
-use Rattle.filterlang.specs.declared.qualifiers.Qualifiers.TheVariants.{Host, Net, EtherHost, Port, IpProto, EtherProto}
-use Rattle.filterlang.specs.declared.qualifiers.Identifier.{Identifier}
-use Rattle.filterlang.specs.declared.qualifiers.Identifier.TheVariants as ids
+use Rattle.filterlang.specs.Types.{Protocol, TypeWord, Parts, Two, Three, Four, Direction, SrcOrDst, Network, Transport, Primitive, Phrase, Qualifiers, Host, Net, EtherHost, Port, IpProto, EtherProto, Identifier}
+use Rattle.filterlang.specs.Types.protocols
+use Rattle.filterlang.specs.Types.type_word
+use Rattle.filterlang.specs.Types.networks
+use Rattle.filterlang.specs.Types.transports
+use Rattle.filterlang.specs.Types.primitives
+use Rattle.filterlang.specs.Types.ids
 
 -- the protocols of hosts and nets
 abbrev pub network_of : Option Protocol → Option (Option Network)
@@ -38,18 +26,18 @@ transport_of _ = None
 
 -- The table: the type, its protocols, its direction. A proto has no direction.
 abbrev pub allowed : TypeWord → Option Protocol → Option Direction → Direction → Option Qualifiers
-allowed types.Host (Some protocols.Ether) written direction = Some (EtherHost direction)
-allowed types.Host protocol written direction = option_map (λ network. Host network direction) (network_of protocol)
-allowed types.Net protocol written direction = option_map (λ network. Net network direction) (network_of protocol)
-allowed types.Port protocol written direction = option_map (λ transport. Port transport direction) (transport_of protocol)
-allowed types.Proto None None direction = Some IpProto
-allowed types.Proto (Some protocols.Ip) None direction = Some IpProto
-allowed types.Proto (Some protocols.Ether) None direction = Some EtherProto
-allowed types.Proto protocol written direction = None
+allowed type_word.Host (Some protocols.Ether) written direction = Some (EtherHost direction)
+allowed type_word.Host protocol written direction = option_map (λ network. Host network direction) (network_of protocol)
+allowed type_word.Net protocol written direction = option_map (λ network. Net network direction) (network_of protocol)
+allowed type_word.Port protocol written direction = option_map (λ transport. Port transport direction) (transport_of protocol)
+allowed type_word.Proto None None direction = Some IpProto
+allowed type_word.Proto (Some protocols.Ip) None direction = Some IpProto
+allowed type_word.Proto (Some protocols.Ether) None direction = Some EtherProto
+allowed type_word.Proto protocol written direction = None
 
 -- without a type a host is meant, without a direction source or destination
 abbrev pub qualifiers_of : Phrase → Option Qualifiers
-qualifiers_of phrase = allowed (unwrap_or phrase.type_word types.Host) phrase.protocol phrase.direction (unwrap_or phrase.direction SrcOrDst)
+qualifiers_of phrase = allowed (unwrap_or phrase.type_word type_word.Host) phrase.protocol phrase.direction (unwrap_or phrase.direction SrcOrDst)
 
 -- the mask of so many bits
 abbrev pub mask_of : ℕ → ℕ

@@ -3,28 +3,13 @@
 -- A reading is what was read, what can be inherited behind it, and the tokens that follow. There is none where
 -- nothing can be read.
 use Rattle.std.specs.Prelude.{◌≡◌, ◌⊎◌, ℕ, zero, suc, true, if◌then◌else◌, List, [], ◌∷◌, length, Option, Some, None, Result, Ok, Err, unwrap_or, min, max, is_none, is_some, ◌||◌, option_map, option_and_then}
-use Rattle.filterlang.specs.declared.fault.Fault.{Fault}
-use Rattle.filterlang.specs.declared.fault.Fault.TheVariants as faults
-use Rattle.filterlang.specs.declared.token.Kind.{Kind}
-use Rattle.filterlang.specs.declared.token.Kind.TheVariants as kind
-use Rattle.filterlang.specs.declared.token.Protocol.{Protocol}
-use Rattle.filterlang.specs.declared.token.Protocol.TheVariants as protocols
-use Rattle.filterlang.specs.declared.token.Parts.{Parts}
-use Rattle.filterlang.specs.declared.token.Side.{Side}
-use Rattle.filterlang.specs.declared.tree.Direction.{Direction}
-use Rattle.filterlang.specs.declared.token.Joint.{Joint}
-use Rattle.filterlang.specs.declared.token.Joint.TheVariants.{And, Or}
-use Rattle.filterlang.specs.declared.token.Operator.TheVariants.{Minus}
-use Rattle.filterlang.specs.declared.tree.Plain.{Plain}
-use Rattle.filterlang.specs.declared.tree.Primitive.{Primitive}
-use Rattle.filterlang.specs.declared.tree.Primitive.TheVariants as primitives
-use Rattle.filterlang.specs.declared.tree.Direction.TheVariants.{SrcOrDst}
-use Rattle.filterlang.specs.declared.lookahead.Beginning.{Beginning}
-use Rattle.filterlang.specs.declared.lookahead.Beginning.TheVariants as beginnings
-use Rattle.filterlang.specs.declared.qualifiers.Phrase.{Phrase}
-use Rattle.filterlang.specs.declared.qualifiers.Qualifiers.{Qualifiers}
-use Rattle.filterlang.specs.declared.parser.Start.{Start}
-use Rattle.filterlang.specs.declared.parser.Start.TheVariants as starts
+use Rattle.filterlang.specs.Types.{Fault, Kind, Protocol, Parts, Side, Direction, Joint, And, Or, Minus, Plain, Primitive, SrcOrDst, Beginning, Phrase, Qualifiers, Start}
+use Rattle.filterlang.specs.Types.faults
+use Rattle.filterlang.specs.Types.kind
+use Rattle.filterlang.specs.Types.protocols
+use Rattle.filterlang.specs.Types.primitives
+use Rattle.filterlang.specs.Types.beginnings
+use Rattle.filterlang.specs.Types.starts
 use Rattle.filterlang.specs.Phrases.{joined, phrase_at, identifier_at}
 use Rattle.filterlang.specs.Primitives.{plain_of, stands_alone}
 use Rattle.filterlang.specs.Qualifiers.{qualifiers_of, identified, transport_of, port_of}

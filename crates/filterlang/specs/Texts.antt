@@ -1,9 +1,7 @@
 -- Filter expressions as texts: which tree one reads as, and why one is refused.
 use Rattle.std.specs.Prelude.{◌≤◌, ℕ, Bool, true, false, List, length}
-use Rattle.filterlang.specs.declared.fault.Fault.{Fault}
-use Rattle.filterlang.specs.declared.fault.Fault.TheVariants as faults
-use Rattle.filterlang.specs.declared.token.Token.{Token}
-use Rattle.filterlang.specs.declared.lexer.TheConstants.{MAX_TEXT}
+use Rattle.filterlang.specs.Types.{Fault, Token, MAX_TEXT}
+use Rattle.filterlang.specs.Types.faults
 use Rattle.filterlang.specs.Tokens.{Lexes, IsFaultOf}
 use Rattle.filterlang.specs.Phrases.{kinds}
 use Rattle.filterlang.specs.Trees.{Tree}

@@ -2,15 +2,9 @@
 use Rattle.std.specs.Prelude.{◌≡◌, ℕ, ◌+◌, ◌<◌, ◌≤◌, Bool, ◌||◌, ◌==◌, if◌then◌else◌, List, [], ◌∷◌, Option, Some, None, Result, Ok, Err, length, drop, option_map}
 use Rattle.std.specs.Char.{is_ascii_digit, is_ascii_alphabetic}
 use Rattle.std.specs.Option.{ok_or}
-use Rattle.filterlang.specs.declared.fault.Fault.{Fault}
-use Rattle.filterlang.specs.declared.fault.Fault.TheVariants as faults
-use Rattle.filterlang.specs.declared.token.Kind.{Kind}
-use Rattle.filterlang.specs.declared.token.Token.{Token}
-use Rattle.filterlang.specs.declared.lexer.Cause.{Cause}
-use Rattle.filterlang.specs.declared.lexer.Cause.TheVariants.{BadByte, BadWord, BadNumber}
-use Rattle.filterlang.specs.declared.lexer.Front.{Front}
-use Rattle.filterlang.specs.declared.lexer.Front.TheVariants as fronts
-use Rattle.filterlang.specs.declared.lexer.TheConstants.{MAX_TEXT}
+use Rattle.filterlang.specs.Types.{Fault, Kind, Token, Cause, BadByte, BadWord, BadNumber, Front, MAX_TEXT}
+use Rattle.filterlang.specs.Types.faults
+use Rattle.filterlang.specs.Types.fronts
 use Rattle.filterlang.specs.Words.{words, names, signs, begins, whole_word, standing}
 use Rattle.filterlang.specs.Numbers.{number_or_dotted_at, ethernet_at}
 

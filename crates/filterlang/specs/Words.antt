@@ -3,14 +3,14 @@ use Rattle.std.specs.Prelude.{ℕ, Bool, false, not, ◌&&◌, List, [], ◌∷�
 use Rattle.std.specs.Borrow.{Bor}
 use Rattle.std.specs.Char.{is_ascii_alphanumeric}
 use Rattle.std.specs.List.{find, starts_with}
-use Rattle.filterlang.specs.declared.token.Kind.{Kind}
-use Rattle.filterlang.specs.declared.token.Kind.TheVariants as kind
-use Rattle.filterlang.specs.declared.token.Protocol.TheVariants as protocol
-use Rattle.filterlang.specs.declared.token.TypeWord.TheVariants as type_word
-use Rattle.filterlang.specs.declared.token.Side.TheVariants as side
-use Rattle.filterlang.specs.declared.token.Joint.TheVariants as joint
-use Rattle.filterlang.specs.declared.token.Operator.TheVariants as operator
-use Rattle.filterlang.specs.declared.token.Comparison.TheVariants as comparison
+use Rattle.filterlang.specs.Types.{Kind}
+use Rattle.filterlang.specs.Types.kind
+use Rattle.filterlang.specs.Types.protocols
+use Rattle.filterlang.specs.Types.type_word
+use Rattle.filterlang.specs.Types.side
+use Rattle.filterlang.specs.Types.joint
+use Rattle.filterlang.specs.Types.operator
+use Rattle.filterlang.specs.Types.comparison
 
 -- an entry of a table: a spelling, and what it stands for
 abbrev pub Entry : Type 0
@@ -37,14 +37,14 @@ words =
     ∷ (codes "tcpflags", kind.Named 13)
     ∷ (codes "icmptype", kind.Named 0)
     ∷ (codes "icmpcode", kind.Named 1)
-    ∷ (codes "ether", kind.Protocol protocol.Ether)
-    ∷ (codes "ip", kind.Protocol protocol.Ip)
-    ∷ (codes "arp", kind.Protocol protocol.Arp)
-    ∷ (codes "rarp", kind.Protocol protocol.Rarp)
-    ∷ (codes "tcp", kind.Protocol protocol.Tcp)
-    ∷ (codes "udp", kind.Protocol protocol.Udp)
-    ∷ (codes "icmp", kind.Protocol protocol.Icmp)
-    ∷ (codes "sctp", kind.Protocol protocol.Sctp)
+    ∷ (codes "ether", kind.Protocol protocols.Ether)
+    ∷ (codes "ip", kind.Protocol protocols.Ip)
+    ∷ (codes "arp", kind.Protocol protocols.Arp)
+    ∷ (codes "rarp", kind.Protocol protocols.Rarp)
+    ∷ (codes "tcp", kind.Protocol protocols.Tcp)
+    ∷ (codes "udp", kind.Protocol protocols.Udp)
+    ∷ (codes "icmp", kind.Protocol protocols.Icmp)
+    ∷ (codes "sctp", kind.Protocol protocols.Sctp)
     ∷ (codes "host", kind.Type type_word.Host)
     ∷ (codes "net", kind.Type type_word.Net)
     ∷ (codes "port", kind.Type type_word.Port)
@@ -66,12 +66,12 @@ words =
 -- the names behind a backslash
 unfoldable pub names : List Entry
 names =
-    (codes "tcp", kind.Name protocol.Tcp)
-    ∷ (codes "udp", kind.Name protocol.Udp)
-    ∷ (codes "icmp", kind.Name protocol.Icmp)
-    ∷ (codes "ip", kind.Name protocol.Ip)
-    ∷ (codes "arp", kind.Name protocol.Arp)
-    ∷ (codes "rarp", kind.Name protocol.Rarp)
+    (codes "tcp", kind.Name protocols.Tcp)
+    ∷ (codes "udp", kind.Name protocols.Udp)
+    ∷ (codes "icmp", kind.Name protocols.Icmp)
+    ∷ (codes "ip", kind.Name protocols.Ip)
+    ∷ (codes "arp", kind.Name protocols.Arp)
+    ∷ (codes "rarp", kind.Name protocols.Rarp)
     ∷ []
 
 -- the signs, the longer ones first
