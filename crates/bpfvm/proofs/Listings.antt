@@ -7,7 +7,8 @@ use Rattle.bpfvm.specs.declared.insn.Insn.{Insn}
 use Rattle.bpfvm.specs.declared.fault.ListingFault.{ListingFault}
 use Rattle.bpfvm.specs.declared.fault.ListingFault.TheVariants.{BadLine, Count, Program}
 use Rattle.bpfvm.specs.Validity.{IsValidProgram, IsRefusedAs}
-use Rattle.bpfvm.specs.Listing.{space, IsNumber, IsLine, AreLines, IsListing, HasForm, IsRefusedListing, StopsAfter, lines_of}
+use Rattle.bpfvm.specs.Listing.{space, IsNumber, IsLine, AreLines, IsListing, HasForm, IsRefusedListing, lines_of}
+use Rattle.bpfvm.specs.Lines.{StopsAfter}
 use Rattle.bpfvm.proofs.Fields.{number-no_space, line-first, Behind, four-fields}
 use Rattle.bpfvm.proofs.Refusals.{IsRefusedAs-one, IsRefusedAs-invalid}
 

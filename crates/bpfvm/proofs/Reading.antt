@@ -4,7 +4,8 @@ use Rattle.std.proofs.lemmas.List.{take_all, take-append-le}
 use Rattle.std.specs.List.{slice_get}
 use Rattle.std.proofs.lemmas.Option.{get_or_from_slice_get}
 use Rattle.bpfvm.specs.declared.insn.Insn.{Insn}
-use Rattle.bpfvm.specs.Listing.{IsLine, AreLines, StopsAfter}
+use Rattle.bpfvm.specs.Listing.{IsLine, AreLines}
+use Rattle.bpfvm.specs.Lines.{StopsAfter}
 use Rattle.bpfvm.proofs.Fields.{NoLine}
 
 -- so many instructions are read of all the lines, of which these are left and the first 512 kept

@@ -4,3 +4,4 @@ pub mod Validity
 pub mod Next
 pub mod Listing
 pub mod Laws
+pub mod Lines

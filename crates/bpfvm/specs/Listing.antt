@@ -81,14 +81,6 @@ IsRefusedListing text Count =
     × IsNumber 4294967295 first n × AreLines others insns × (n ≡ length insns → ⊥)
 IsRefusedListing text (Program fault) = (insns : List Insn) × IsListing text insns × IsRefusedAs insns fault
 
--- These lines begin with lines that are instructions, so many, and then comes one that is none. Private clauses alone
--- say this.
-pub record StopsAfter (lines : List (List ℕ)) (good : ℕ) : Type 0 where
-  pub line : List ℕ
-  pub here : slice_get lines good ≡ Some line
-  pub bad : (insn : Insn) → IsLine line insn → ⊥
-  pub before : (k : ℕ) (earlier : List ℕ) → k < good → slice_get lines k ≡ Some earlier → (insn : Insn) × IsLine earlier insn
-
 -- a line feed after the number of the instructions and after each instruction, and no leading zeros
 abbrev pub line_text : Insn → List ℕ
 line_text i = decimal i.code ++ space ∷ decimal i.jt ++ space ∷ decimal i.jf ++ space ∷ decimal i.k ++ line_feed ∷ []

@@ -4,7 +4,8 @@ ghost use Rattle.std.specs.Prelude.{◌≡◌, ◌≢◌, ◌↔◌, ℕ, ◌+�
 ghost use Rattle.std.specs.String.{string_bytes};
 ghost use Rattle.bpfvm.specs.declared.insn.Insn.{Insn};
 ghost use Rattle.bpfvm.specs.Validity.{IsValidProgram};
-ghost use Rattle.bpfvm.specs.Listing.{IsNumber, IsLine, AreLines, IsListing, IsRefusedListing, StopsAfter, further_lines, lines_of, line_text, listing_of};
+ghost use Rattle.bpfvm.specs.Listing.{IsNumber, IsLine, AreLines, IsListing, IsRefusedListing, further_lines, lines_of, line_text, listing_of};
+ghost use Rattle.bpfvm.specs.Lines.{StopsAfter};
 ghost use Rattle.bpfvm.specs.Laws.{HasFields};
 
 use crate::fault::{Invalid, ListingFault, NoMemory};
