@@ -3,9 +3,9 @@
 use crate::check::check;
 use crate::command_line::{CutWords, Request, read_words};
 use crate::cut::{CutEnd, End, cut};
-use crate::files::{LateFile, is_same_file};
+use crate::files::{LateFile, hold_stream, is_same_file};
 use crate::filter::filter;
-use crate::tell::{REFUSED, tell, tell_device, tell_fault};
+use crate::tell::{Path, REFUSED, tell, tell_device, tell_fault};
 use clap::Error;
 use savefile::{Counted, Fault};
 use std::convert::AsStr;
@@ -24,6 +24,9 @@ pub fn run<R: Files + AllocGlobal, S: AsStr, O: Write, E: Write>(
     out: &mut O,
     err: &mut E,
 ) -> u8 {
+    let _input = hold_stream(rt);
+    let _output = hold_stream(rt);
+    let _error = hold_stream(rt);
     match read_words(rt.alloc(), words) {
         Ok(Request::Check(expr)) => check(rt.alloc(), expr, out, err),
         Ok(Request::Cut(words)) => cut_files(rt, &words, err),
@@ -72,7 +75,11 @@ fn cut_files<R: Files + AllocGlobal, E: Write>(rt: &R, words: &CutWords<'_>, err
     // Nothing may be lost: OUT is neither of the files that are read.
     for read in [words.input, words.listing] {
         if is_same_file(rt, read, words.output) {
-            return tell_fault(format_args!("SameFile {}", words.output), REFUSED, err);
+            return tell_fault(
+                format_args!("SameFile {}", Path(words.output)),
+                REFUSED,
+                err,
+            );
         }
     }
     let late = LateFile::new(rt, words.output);
@@ -100,4 +107,35 @@ fn flushed<R, W: Write>(mut end: CutEnd<R, Counted<W>>) -> CutEnd<R, Counted<W>>
         end.end = End::Output(Fault::Device);
     }
     end
+}
+
+#[cfg(test)]
+mod tests {
+    use super::*;
+    use std::alloc::AllocError;
+
+    #[test]
+    fn want_of_memory_is_told_by_its_name(rt: HostRuntime) {
+        let mut out: Vec<u8> = Vec::new(rt.alloc());
+        let mut err: Vec<u8> = Vec::new(rt.alloc());
+        let refused = io::Error::from(ErrorKind::OutOfMemory);
+        assert_eq!(rt; tell_io(&refused, "in.pcap", &mut err), 1);
+        assert_eq!(rt; tell_clap(&Error::from(AllocError), &mut out, &mut err), 1);
+        assert_eq!(rt;
+            err.as_slice(),
+            b"bpftap: NoMemory\nbpftap: NoMemory\n".as_slice()
+        );
+        assert!(rt; out.is_empty());
+    }
+
+    #[test]
+    fn control_characters_of_a_path_are_escaped(rt: HostRuntime) {
+        let mut err: Vec<u8> = Vec::new(rt.alloc());
+        let gone = io::Error::from(ErrorKind::NotFound);
+        assert_eq!(rt; tell_io(&gone, "a\n\u{1b}[1mé b", &mut err), 3);
+        assert_eq!(rt;
+            err.as_slice(),
+            "bpftap: Device a\\n\\u{1b}[1mé b\n".as_bytes()
+        );
+    }
 }

@@ -5,9 +5,9 @@ ghost use Rattle.bpftap.specs.Telling.{fault_status, status_of};
 
 use crate::cut::{CutEnd, End};
 use savefile::Fault;
-use std::fmt::Display;
-use std::io;
+use std::fmt::{Display, Formatter};
 use std::io::{Cursor, ErrorKind, Write};
+use std::{fmt, io};
 
 /// The exit status of wrong words, a refusal and want of memory.
 pub const REFUSED: u8 = 1;
@@ -45,10 +45,31 @@ fn write_line<E: Write, D: Display + Drop>(fault: D, err: &mut E) -> io::Result<
 pub fn tell_words<E: Write>(error: io::Error, err: &mut E) -> u8
     ensures { result ≡ REFUSED }
 {
-    if error.kind() == ErrorKind::OutOfMemory {
-        tell_fault(Fault::NoMemory, REFUSED, err)
-    } else {
-        tell_fault(error, REFUSED, err)
+    match error.kind() {
+        ErrorKind::OutOfMemory => tell_fault(Fault::NoMemory, REFUSED, err),
+        ErrorKind::InvalidData => tell_fault(
+            "a word of the command line is not UTF-8",
+            REFUSED,
+            err,
+        ),
+        _ => tell_fault(error, REFUSED, err),
+    }
+}
+
+/// A path in a line of its own: control characters are written as in a Rust string, `\n` or `\u{1b}`.
+#[derive(Clone, Copy)]
+pub struct Path<'a>(pub &'a str);
+
+impl Display for Path<'_> {
+    fn fmt<W: fmt::Write>(&self, f: &mut Formatter<W>) -> fmt::Result {
+        for character in self.0.chars() {
+            if character.is_control() {
+                write!(f, "{}", character.escape_default())?;
+            } else {
+                f.write_char(character)?;
+            }
+        }
+        Ok(())
     }
 }
 
@@ -56,7 +77,7 @@ pub fn tell_words<E: Write>(error: io::Error, err: &mut E) -> u8
 pub fn tell_device<E: Write>(path: &str, err: &mut E) -> u8
     ensures { result ≡ DEVICE }
 {
-    tell_fault(format_args!("Device {path}"), DEVICE, err)
+    tell_fault(format_args!("Device {}", Path(path)), DEVICE, err)
 }
 
 // A fault of the file or device at a path.

@@ -27,6 +27,8 @@ pub use token::{
 pub use tree::{Direction, Expr, Network, Plain, Primitive, Transport};
 
 #[cfg(test)]
+mod length_tests;
+#[cfg(test)]
 mod page_tests;
 #[cfg(test)]
 mod parser_fault_tests;

@@ -1,0 +1,267 @@
+//! The files of a command over a made system, whose descriptors are numbers and whose files break; and which files are
+//! one.
+
+use super::{FileId, LateFile, file_at};
+use crate::program::run;
+use std::alloc::Allocator;
+use std::cell::Cell;
+use std::fs::{Files, Metadata, OpenFile, OpenOptions};
+use std::io::{ErrorKind, Read, Seek, SeekFrom, Write};
+use std::os::unix::fs::MetadataExt;
+use std::process::Abort;
+use std::test::Fail;
+use std::{fs, io, process};
+
+/// Enough for the standard streams, and all files of a command at once.
+const DESCRIPTORS: usize = 8;
+
+const LISTING: &[u8] = b"1\n6 0 0 262144\n";
+
+/// A header, and 7 bytes of a record's.
+const TORN: &[u8] =
+    b"\xd4\xc3\xb2\xa1\x02\0\x04\0\0\0\0\0\0\0\0\0\0\0\x04\0\x01\0\0\0\x02\0\0\0\0\0\0";
+
+/// Which descriptors are taken, and which one OUT was given; how many of the next calls that make or write a file are
+/// refused, and how many calls there were.
+#[derive(Drop)]
+struct Table {
+    taken: Cell<[bool; DESCRIPTORS]>,
+    output: Cell<Option<usize>>,
+    refused: Cell<u32>,
+    calls: Cell<u32>,
+}
+
+impl Table {
+    fn new(taken: [bool; DESCRIPTORS], refused: u32) -> Table {
+        Table {
+            taken: Cell::new(taken),
+            output: Cell::new(None),
+            refused: Cell::new(refused),
+            calls: Cell::new(0),
+        }
+    }
+
+    // Counts a call, and refuses it where one is to be refused still.
+    fn call(&self) -> io::Result<()> {
+        self.calls.set(self.calls.get().wrapping_add(1));
+        let Some(refused) = self.refused.get().checked_sub(1) else {
+            return Ok(());
+        };
+        self.refused.set(refused);
+        Err(io::Error::from(ErrorKind::Other))
+    }
+
+    fn set(&self, number: usize, taken: bool) {
+        let mut all = self.taken.get();
+        if let Some(one) = all.get_mut(number) {
+            *one = taken;
+        }
+        self.taken.set(all);
+    }
+}
+
+/// The made system.
+#[derive(Drop)]
+struct System<'a> {
+    table: &'a Table,
+}
+
+/// A file of it, whose descriptor is free again when it is let go.
+struct Numbered<'a> {
+    number: usize,
+    table: &'a Table,
+    left: &'static [u8],
+}
+
+impl Drop for Numbered<'_> {
+    fn drop(self) {
+        let Numbered {
+            number,
+            table,
+            left: _,
+        } = self;
+        table.set(number, false);
+    }
+}
+
+impl Read for Numbered<'_> {
+    fn read(&mut self, buf: &mut [u8]) -> io::Result<usize> {
+        self.left.read(buf)
+    }
+}
+
+impl Write for Numbered<'_> {
+    fn write(&mut self, buf: &[u8]) -> io::Result<usize> {
+        self.table.call()?;
+        Ok(buf.len())
+    }
+
+    fn flush(&mut self) -> io::Result<()> {
+        Ok(())
+    }
+}
+
+impl Seek for Numbered<'_> {
+    fn seek(&mut self, _pos: SeekFrom) -> io::Result<u64> {
+        Err(io::Error::from(ErrorKind::Unsupported))
+    }
+}
+
+impl OpenFile for Numbered<'_> {
+    fn metadata(&self) -> io::Result<Metadata> {
+        Err(io::Error::from(ErrorKind::Unsupported))
+    }
+
+    fn set_len(&self, _size: u64) -> io::Result<()> {
+        Ok(())
+    }
+
+    fn sync_all(&self) -> io::Result<()> {
+        Ok(())
+    }
+
+    fn sync_data(&self) -> io::Result<()> {
+        Ok(())
+    }
+}
+
+impl<'a> Files for System<'a> {
+    type File = Numbered<'a>;
+
+    type Dir = &'static [u8];
+
+    fn open_file(&self, _how: &OpenOptions, path: &str) -> io::Result<Numbered<'a>> {
+        let table = self.table;
+        let Some(number) = table.taken.get().iter().position(|taken| !*taken) else {
+            return Err(io::Error::from(ErrorKind::Other));
+        };
+        let left = match path {
+            "all.bpf" => LISTING,
+            "in.pcap" => TORN,
+            _ => b"",
+        };
+        if path == "out.pcap" {
+            table.call()?;
+            table.output.set(Some(number));
+        }
+        table.set(number, true);
+        Ok(Numbered {
+            number,
+            table,
+            left,
+        })
+    }
+
+    fn open_dir(&self, _path: &str) -> io::Result<&'static [u8]> {
+        Err(io::Error::from(ErrorKind::Unsupported))
+    }
+
+    fn metadata(&self, _path: &str) -> io::Result<Metadata> {
+        Err(io::Error::from(ErrorKind::NotFound))
+    }
+
+    fn symlink_metadata(&self, _path: &str) -> io::Result<Metadata> {
+        Err(io::Error::from(ErrorKind::NotFound))
+    }
+
+    fn copy(&self, _from: &str, _to: &str) -> io::Result<u64> {
+        Err(io::Error::from(ErrorKind::Unsupported))
+    }
+
+    fn rename(&self, _from: &str, _to: &str) -> io::Result<()> {
+        Err(io::Error::from(ErrorKind::Unsupported))
+    }
+
+    fn remove_file(&self, _path: &str) -> io::Result<()> {
+        Err(io::Error::from(ErrorKind::Unsupported))
+    }
+
+    fn create_dir(&self, _path: &str) -> io::Result<()> {
+        Err(io::Error::from(ErrorKind::Unsupported))
+    }
+
+    fn remove_dir(&self, _path: &str) -> io::Result<()> {
+        Err(io::Error::from(ErrorKind::Unsupported))
+    }
+
+    fn remove_dir_all<B: Allocator>(&self, _alloc: B, _path: &str) -> io::Result<()> {
+        Err(io::Error::from(ErrorKind::Unsupported))
+    }
+}
+
+// Cuts the torn capture with these of the standard streams open, and looks where OUT went.
+fn cut_with(rt: &(impl Abort + AllocGlobal), open: [bool; 3]) {
+    let mut taken = [false; DESCRIPTORS];
+    for (number, is_open) in open.iter().enumerate() {
+        taken[number] = *is_open;
+    }
+    let table = Table::new(taken, 0);
+    let system = (System { table: &table }, rt.alloc());
+    let mut out: Vec<u8> = Vec::new(rt.alloc());
+    let mut err: Vec<u8> = Vec::new(rt.alloc());
+    let words = [
+        "bpftap", "cut", "-s", "0", "-f", "all.bpf", "in.pcap", "out.pcap",
+    ];
+    let status = run(&system, &words, &mut out, &mut err);
+    assert_eq!(rt; status, 2, "{open:?}");
+    assert_eq!(rt; err.as_slice(), b"bpftap: TornRecord 0\n".as_slice());
+    let output = table.output.get().expect(rt, "OUT is made");
+    assert!(rt; output > 2, "{open:?}: OUT is descriptor {output}");
+}
+
+#[test]
+fn no_file_takes_the_place_of_a_closed_stream(rt: HostRuntime) {
+    for input in [false, true] {
+        for output in [false, true] {
+            for error in [false, true] {
+                cut_with(&rt, [input, output, error]);
+            }
+        }
+    }
+}
+
+// Writes a file of which the next call to be made is refused, and looks that no further one is.
+fn fail_once<R: Files>(rt: &impl Abort, system: &R, table: &Table, is_made: bool) {
+    let mut file = LateFile::new(system, "out.pcap");
+    if is_made {
+        assert_eq!(rt; file.write(b"a").ok(), Some(1));
+    }
+    let before = table.calls.get();
+    table.refused.set(1);
+    assert!(rt; file.write(b"b").is_err());
+    assert!(rt; file.write(b"c").is_err());
+    assert!(rt; file.flush().is_err());
+    assert_eq!(rt; table.calls.get(), before.wrapping_add(1));
+}
+
+#[test]
+fn a_file_that_failed_is_not_touched_again(rt: HostRuntime) {
+    // The call that makes the file is refused, or the one that writes it.
+    for is_made in [false, true] {
+        let table = Table::new([false; DESCRIPTORS], 0);
+        fail_once(&rt, &System { table: &table }, &table, is_made);
+    }
+}
+
+#[test]
+fn a_file_is_told_by_its_device_and_its_inode(rt: HostRuntime) -> Result<(), Fail> {
+    let path = format!(in rt.alloc(); "/tmp/bpftap-file-{}", process::id(rt.process()))?;
+    fs::write(&rt, path.as_str(), b"".as_slice())?;
+    let metadata = fs::metadata(&rt, path.as_str())?;
+    let file = FileId {
+        device: metadata.dev(),
+        inode: metadata.ino(),
+    };
+    assert_eq!(rt; file_at(&rt, path.as_str()), Some(file));
+    // A file of another device may have the same inode.
+    let other = FileId {
+        device: file.device ^ 1,
+        inode: file.inode,
+    };
+    assert!(rt; file != other);
+    assert_eq!(rt; file_at(&rt, "/dev/null"), None);
+    assert_eq!(rt; file_at(&rt, "/tmp"), None);
+    fs::remove_file(&rt, path.as_str())?;
+    assert_eq!(rt; file_at(&rt, path.as_str()), None);
+    Ok(())
+}
