@@ -19,3 +19,8 @@ pub use evaluator::evaluate;
 pub use refusal::Refusal;
 pub use verdict::Verdict;
 pub use weighing::{MAX_WEIGHT, weight};
+
+#[cfg(test)]
+mod comparison_tests;
+#[cfg(test)]
+mod tests;
