@@ -1,4 +1,3 @@
-pub mod AcceptAll
 pub mod Accepted
 pub mod Writing
 pub mod Outcomes

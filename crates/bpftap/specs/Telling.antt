@@ -1,5 +1,5 @@
 -- The exit statuses.
-use Rattle.std.specs.Prelude.{ℕ, Result, Ok, Err}
+use Rattle.std.specs.Prelude.{ℕ}
 use Rattle.savefile.specs.declared.fault.Fault.{Fault}
 use Rattle.savefile.specs.declared.fault.Fault.TheVariants.{TornRecord, BadFraction, TooLong, Device}
 use Rattle.bpftap.specs.declared.cut.End.{End}
@@ -18,8 +18,3 @@ abbrev pub status_of : End → ℕ
 status_of Clean = 0
 status_of (Input fault) = fault_status fault
 status_of (Output fault) = fault_status fault
-
--- 0 where an expression was read, 1 where it was refused
-abbrev pub reading_status : {E F : Type 0} → Result E F → ℕ
-reading_status (Ok expr) = 0
-reading_status (Err fault) = 1

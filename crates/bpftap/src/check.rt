@@ -1,33 +1,43 @@
 //! A filter expression that is looked at: the function under `bpftap check`.
 
 ghost use Rattle.std.specs.Prelude.{◌≡◌, ◌⊎◌};
-ghost use Rattle.filterlang.specs.Texts.{ReadsAs};
-ghost use Rattle.filterlang.specs.Trees.{Tree};
-ghost use Rattle.bpftap.specs.Telling.{reading_status};
+ghost use Rattle.std.specs.Io.KnownBytes.{Appends, Keeps};
+ghost use Rattle.bpfvm.specs.Listing.{listing_of};
+ghost use Rattle.bpftap.specs.Filter.{Prints};
 
-use crate::tell::{REFUSED, tell_fault};
-use filterlang::{Expr, Fault, parse};
+use crate::cut::MAX_SNAP;
+use crate::expression::compile_text;
+use crate::tell::{DEVICE, REFUSED, tell_device, tell_fault};
+use bpfvm::{Program, write_listing};
 use std::alloc::Global;
 use std::io::Write;
 
-/// Looks whether a text is a filter expression. Where it is one nothing is printed and the status is 0; else, and for
-/// want of memory, the fault is told on `err` and the status is 1.
+/// Prints the listing of an expression's program at the largest snapshot length, 262,144, with status 0.
 ///
-/// What an accepted expression compiles to will go to `out`.
-pub fn check<O: Write, E: Write>(alloc: Global, expr: &str, _out: &mut O, err: &mut E) -> u8
-    // Only what reads as a tree is accepted.
-    ensures accepted { result ≡ 0 → (tree : Tree) × ReadsAs expr.now tree }
-    ensures status { (result ≡ 0) ⊎ (result ≡ REFUSED) }
+/// Where the text is no expression, its program would be too long, or memory is wanting, the fault is told on `err`,
+/// nothing is printed and the status is 1. Where `out` fails the status is 3, and a beginning may have been printed.
+pub fn check<O: Write, E: Write>(alloc: Global, expr: &str, out: &mut O, err: &mut E) -> u8
+    ensures printed { result ≡ 0 → Prints (O.contents out.old) (O.contents out.new) expr.now }
+    ensures nothing { result ≡ REFUSED → Keeps (O.contents out.old) (O.contents out.new) }
+    ensures status { (result ≡ 0) ⊎ (result ≡ REFUSED) ⊎ (result ≡ DEVICE) }
 {
-    tell_reading(parse(alloc, expr), err)
+    match compile_text(alloc, expr, MAX_SNAP) {
+        Ok(program) => print(alloc, &program, out, err),
+        Err(fault) => tell_fault(fault, REFUSED, err),
+    }
 }
 
-// Tells the fault of an expression that was refused, and answers the exit status.
-fn tell_reading<E: Write>(read: Result<Expr, Fault>, err: &mut E) -> u8
-    ensures { result ≡ reading_status read }
+// Prints the listing of a program, and answers the exit status.
+fn print<O: Write, E: Write>(alloc: Global, program: &Program, out: &mut O, err: &mut E) -> u8
+    ensures printed { result ≡ 0 → Appends (O.contents out.old) (O.contents out.new) (listing_of program.now) }
+    ensures nothing { result ≡ REFUSED → Keeps (O.contents out.old) (O.contents out.new) }
+    ensures status { (result ≡ 0) ⊎ (result ≡ REFUSED) ⊎ (result ≡ DEVICE) }
 {
-    match read {
-        Ok(_) => 0,
+    match write_listing(alloc, program) {
+        Ok(listing) => match out.write_all(listing.as_slice()) {
+            Ok(()) => 0,
+            Err(_) => tell_device("standard output", err),
+        },
         Err(fault) => tell_fault(fault, REFUSED, err),
     }
 }

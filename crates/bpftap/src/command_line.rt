@@ -1,7 +1,7 @@
 //! The words of the command line, by `clap`.
 use crate::cut::MAX_SNAP;
 use clap::error::ErrorKind;
-use clap::{Arg, ArgMatches, Command, Error, value_parser};
+use clap::{Arg, ArgMatches, Command, Error};
 use savefile::{Order, Unit};
 use std::alloc::{AllocError, Global};
 use std::convert::AsStr;
@@ -11,8 +11,10 @@ use std::convert::AsStr;
 pub struct CutWords<'a> {
     /// The snapshot length as it was given, 0 to [`MAX_SNAP`].
     pub snap: u32,
-    /// The path of the listing.
-    pub listing: &'a str,
+    /// The path of the listing, where `-f` is given.
+    pub listing: Option<&'a str>,
+    /// The expression, where `-e` is given.
+    pub expr: Option<&'a str>,
     pub order: Order,
     pub unit: Unit,
     /// The path of the capture that is read.
@@ -29,21 +31,27 @@ pub enum Request<'a> {
     Cut(CutWords<'a>),
 }
 
+/// What the program calls itself, and what it was proved with.
+const VERSION: &str = "0.1.0, proved with rattle-kit-13b logic dac8208d650f15bf";
+
 const ABOUT: &str = "Filters captures offline, as the BSD packet filter would have taken them";
 
 const EXAMPLES: &str = "Examples:
   bpftap check 'tcp dst port 80 or 443'
+  bpftap cut -s 0 -e 'udp port 5353' examples/veth.pcap dns.pcap
   bpftap cut -s 0 -f examples/ip.bpf examples/veth.pcap ip.pcap
-  bpftap cut -s 64 -f examples/all.bpf examples/veth.pcap headers.pcap
 
 Exit status: 0 clean; 1 wrong words, a refused expression, file or listing, or want of memory;
 2 a torn or bad record, after the packets before it; 3 a file or device failed.";
 
 const CUT_EXAMPLES: &str = "Examples:
+  bpftap cut -s 0 -e 'udp port 5353' examples/veth.pcap dns.pcap
   bpftap cut -s 0 -f examples/ip.bpf examples/veth.pcap ip.pcap
-  bpftap cut -s 64 -f examples/all.bpf examples/veth.pcap headers.pcap
+  bpftap cut -s 64 examples/veth.pcap headers.pcap     the first 64 bytes of every packet
 
-Exit status: 0 clean; 1 wrong words, a refused file or listing, or want of memory;
+-e and -f exclude each other. An expression that begins with - is written in parentheses.
+
+Exit status: 0 clean; 1 wrong words, a refused expression, file or listing, or want of memory;
 2 a torn or bad record, after the packets before it; 3 a file or device failed.";
 
 const CHECK_EXAMPLES: &str = "Examples:
@@ -51,16 +59,18 @@ const CHECK_EXAMPLES: &str = "Examples:
   bpftap check 'tcp and 80'       prints bpftap: NoQualifier 8
   bpftap check ''                 the empty expression accepts every packet
 
-An expression that begins with - is written in parentheses. The number behind a fault's name
-is the byte of the expression that it stands at, from 0; docs/LANGUAGE.md has the language.
+What is printed is a line with the number of instructions, and a line code jt jf k for each:
+tcpdump -ddd prints the same form, and cut -f reads it. An expression that begins with - is
+written in parentheses. The number behind a fault's name is the byte of the expression that
+it stands at, from 0; docs/LANGUAGE.md has the language.
 
-Exit status: 0 the expression is accepted; 1 it is refused, wrong words, or want of memory.";
+Exit status: 0 the expression is accepted; 1 it is refused or its program is too long, wrong
+words, or want of memory; 3 standard output failed.";
 
 fn snap_arg<'a>(alloc: Global) -> Arg<'a> {
     Arg::new(alloc, "snap")
         .short('s')
         .value_name("N")
-        .value_parser(value_parser!(u32).range(0..=262_144))
         .required(true)
         .help("Snapshot length: keep at most N bytes of a packet, 0 to 262144 (0 means 262144)")
 }
@@ -69,8 +79,13 @@ fn listing_arg<'a>(alloc: Global) -> Arg<'a> {
     Arg::new(alloc, "listing")
         .short('f')
         .value_name("LISTING")
-        .required(true)
         .help("Filter program, as lines of numbers in the form of tcpdump -ddd")
+}
+
+fn expr_arg<'a>(alloc: Global) -> Arg<'a> {
+    Arg::new(alloc, "expr").short('e').value_name("EXPR").help(
+        "Filter expression of pcap-filter(7), as one word; without -e and -f every packet is taken",
+    )
 }
 
 fn order_arg<'a>(alloc: Global) -> Arg<'a> {
@@ -97,7 +112,7 @@ fn path_arg<'a>(alloc: Global, name: &'a str, help: &'a str) -> Arg<'a> {
 
 fn check_command<'a>(alloc: Global) -> Result<Command<'a>, AllocError> {
     Command::new(alloc, "check")
-        .about("Tell whether a filter expression is accepted, and what is wrong with it")
+        .about("Print the program of a filter expression, or tell what is wrong with it")
         .after_help(CHECK_EXAMPLES)
         .arg(
             Arg::new(alloc, "EXPR").required(true).help(
@@ -112,6 +127,7 @@ fn cut_command<'a>(alloc: Global) -> Result<Command<'a>, AllocError> {
         .after_help(CUT_EXAMPLES)
         .arg(snap_arg(alloc))?
         .arg(listing_arg(alloc))?
+        .arg(expr_arg(alloc))?
         .arg(order_arg(alloc))?
         .arg(unit_arg(alloc))?
         .arg(path_arg(
@@ -122,12 +138,13 @@ fn cut_command<'a>(alloc: Global) -> Result<Command<'a>, AllocError> {
         .arg(path_arg(
             alloc,
             "OUT",
-            "Capture to write; made once the listing and the header of IN are accepted",
+            "Capture to write; made once the filter and the header of IN are accepted",
         ))
 }
 
 fn program<'a>(alloc: Global) -> Result<Command<'a>, AllocError> {
     Command::new(alloc, "bpftap")
+        .version(VERSION)
         .about(ABOUT)
         .after_help(EXAMPLES)
         .subcommand_required(true)
@@ -189,7 +206,8 @@ fn bad_snap(alloc: Global) -> Result<Error, AllocError> {
 fn cut_words<'a>(matches: &ArgMatches<'a>) -> Option<CutWords<'a>> {
     Some(CutWords {
         snap: snapshot_length(matches.get_str("snap")?)?,
-        listing: matches.get_str("listing")?,
+        listing: matches.get_str("listing"),
+        expr: matches.get_str("expr"),
         order: order_of(matches),
         unit: unit_of(matches),
         input: matches.get_str("IN")?,

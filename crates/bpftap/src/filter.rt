@@ -1,44 +1,40 @@
 //! The filter of a command.
 
-ghost use Rattle.std.specs.Prelude.{◌≡◌, List, IfOk, IfErr, option_copied};
-ghost use Rattle.bpfvm.specs.declared.insn.Insn.{Insn};
-ghost use Rattle.bpftap.specs.Filter.{IsFilter, all_packets};
+ghost use Rattle.std.specs.Prelude.{◌≡◌, IfOk, IfErr, option_copied};
+ghost use Rattle.bpftap.specs.Filter.{IsFilter, HasNoFilter};
 
 use crate::cut::meant;
+use crate::expression::compile_text;
 use crate::tell::{REFUSED, tell_fault};
-use bpfvm::{Insn, Program, code, read_listing};
+use bpfvm::{Program, read_listing};
+use std::alloc::Global;
 use std::io::Write;
 
-// The program that accepts every packet, with the snapshot length as its answer.
-fn accept_all(snap: u32) -> Program
-    ensures { result ≡ all_packets snap }
-{
-    let answer = Insn {
-        code: code::RET_K,
-        jt: 0,
-        jf: 0,
-        k: meant(snap),
-    };
-    match Program::new(&[answer]) {
-        Ok(program) => program,
-        Err(_) => unreachable!(),
-    }
-}
-
-/// The filter that a listing is, or, without one, the filter that accepts every packet and answers the snapshot length.
+/// The filter that a listing is, or that stands for an expression: it answers the snapshot length where the expression
+/// accepts a packet. Without either it is that of the empty expression, which accepts every packet.
 ///
-/// Where the text is no listing of a valid program, its fault is told on `err` and the answer is the exit status, 1.
-pub fn filter<E: Write>(listing: Option<&[u8]>, snap: u32, err: &mut E) -> Result<Program, u8>
-    ensures found { IfOk result (IsFilter (option_copied listing.entry) snap) }
-    ensures refused { IfErr result (λ status. (status ≡ 1) ×
-        ((program : List Insn) → IsFilter (option_copied listing.entry) snap program → ⊥)) }
+/// A fault is told on `err`, and the answer is then the exit status, 1: that of a text that is no listing of a valid
+/// program, of an expression that is refused or too long, and `FilterTwice` where both are given.
+pub fn filter<E: Write>(
+    alloc: Global,
+    listing: Option<&[u8]>,
+    expr: Option<&str>,
+    snap: u32,
+    err: &mut E,
+) -> Result<Program, u8>
+    ensures found { IfOk result (IsFilter (option_copied listing.entry) (option_copied expr.entry) snap) }
+    ensures refused { IfErr result (λ status.
+        (status ≡ 1) × HasNoFilter (option_copied listing.entry) (option_copied expr.entry) snap) }
 {
-    let fault = match listing {
-        None => return Ok(accept_all(snap)),
-        Some(text) => match read_listing(text) {
-            Ok(program) => return Ok(program),
-            Err(fault) => fault,
+    match (listing, expr) {
+        (Some(_), Some(_)) => Err(tell_fault("FilterTwice", REFUSED, err)),
+        (Some(text), None) => match read_listing(text) {
+            Ok(program) => Ok(program),
+            Err(fault) => Err(tell_fault(fault, REFUSED, err)),
         },
-    };
-    Err(tell_fault(fault, REFUSED, err))
+        (None, expr) => match compile_text(alloc, expr.unwrap_or(""), meant(snap)) {
+            Ok(program) => Ok(program),
+            Err(fault) => Err(tell_fault(fault, REFUSED, err)),
+        },
+    }
 }

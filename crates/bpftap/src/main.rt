@@ -6,12 +6,17 @@ pub mod check;
 mod check_tests;
 mod command_line;
 pub mod cut;
+pub mod expression;
+#[cfg(test)]
+mod expression_tests;
 mod files;
 pub mod filter;
 mod program;
 pub mod tell;
 #[cfg(test)]
 mod tests;
+#[cfg(test)]
+mod veth_frames;
 
 use std::process::ExitCode;
 use std::{env, io};

@@ -6,6 +6,7 @@ use crate::cut::{CutEnd, End, cut};
 use crate::files::{LateFile, hold_stream, is_same_file};
 use crate::filter::filter;
 use crate::tell::{Path, REFUSED, tell, tell_device, tell_fault};
+use bpfvm::Program;
 use clap::Error;
 use savefile::{Counted, Fault};
 use std::convert::AsStr;
@@ -58,13 +59,32 @@ fn tell_io<E: Write>(error: &io::Error, path: &str, err: &mut E) -> u8 {
     }
 }
 
-// `bpftap cut`: the listing is accepted before IN is opened, and OUT is made at its first write.
+// The filter that the words give: a listing's file is read, unless there is an expression too.
+fn filter_of<R: Files + AllocGlobal, E: Write>(
+    rt: &R,
+    words: &CutWords<'_>,
+    err: &mut E,
+) -> Result<Program, u8> {
+    let alloc = rt.alloc();
+    match words.listing {
+        Some(path) if words.expr.is_none() => match fs::read(rt, path) {
+            Ok(listing) => filter(alloc, Some(listing.as_slice()), None, words.snap, err),
+            Err(error) => Err(tell_io(&error, path, err)),
+        },
+        Some(_) => filter(alloc, Some(&[]), words.expr, words.snap, err),
+        None => filter(alloc, None, words.expr, words.snap, err),
+    }
+}
+
+// Whether OUT is one of the files that are read.
+fn loses_a_file<R: Files + AllocGlobal>(rt: &R, words: &CutWords<'_>) -> bool {
+    let listing = words.listing.unwrap_or(words.input);
+    is_same_file(rt, words.input, words.output) || is_same_file(rt, listing, words.output)
+}
+
+// `bpftap cut`: the filter is accepted before IN is opened, and OUT is made at its first write.
 fn cut_files<R: Files + AllocGlobal, E: Write>(rt: &R, words: &CutWords<'_>, err: &mut E) -> u8 {
-    let listing = match fs::read(rt, words.listing) {
-        Ok(listing) => listing,
-        Err(error) => return tell_io(&error, words.listing, err),
-    };
-    let program = match filter(Some(listing.as_slice()), words.snap, err) {
+    let program = match filter_of(rt, words, err) {
         Ok(program) => program,
         Err(status) => return status,
     };
@@ -73,14 +93,12 @@ fn cut_files<R: Files + AllocGlobal, E: Write>(rt: &R, words: &CutWords<'_>, err
         Err(error) => return tell_io(&error, words.input, err),
     };
     // Nothing may be lost: OUT is neither of the files that are read.
-    for read in [words.input, words.listing] {
-        if is_same_file(rt, read, words.output) {
-            return tell_fault(
-                format_args!("SameFile {}", Path(words.output)),
-                REFUSED,
-                err,
-            );
-        }
+    if loses_a_file(rt, words) {
+        return tell_fault(
+            format_args!("SameFile {}", Path(words.output)),
+            REFUSED,
+            err,
+        );
     }
     let late = LateFile::new(rt, words.output);
     match BufWriter::with_capacity(rt.alloc(), OUTPUT_BUFFER, late) {

@@ -60,7 +60,7 @@ fn concat(alloc: Global, texts: &[&str]) -> Result<Vec<u8>, AllocError> {
 
 fn program_of(rt: &(impl Abort + AllocGlobal), listing: &[u8]) -> Program {
     let mut err: Vec<u8> = Vec::new(rt.alloc());
-    filter(Some(listing), 0, &mut err).expect(rt, "the listing is a program's")
+    filter(rt.alloc(), Some(listing), None, 0, &mut err).expect(rt, "the listing is a program's")
 }
 
 /// What a cut of a text gives: what was written, the number of bytes told, the line on standard error, the status.
@@ -342,14 +342,15 @@ fn a_refused_listing_is_told(rt: HostRuntime) -> Result<(), Fail> {
     ];
     for (listing, line) in cases {
         let mut err: Vec<u8> = Vec::new(alloc);
-        assert_eq!(rt; filter(Some(listing), 0, &mut err).err(), Some(1), "{line}");
+        let refused = filter(alloc, Some(listing), None, 0, &mut err).err();
+        assert_eq!(rt; refused, Some(1), "{line}");
         assert_eq!(rt; err.as_slice(), line.as_bytes());
     }
-    // Without a listing every packet is accepted.
+    // Without a filter every packet is accepted.
     let mut err: Vec<u8> = Vec::new(alloc);
-    let all = filter(None, 96, &mut err).expect(&rt, "the empty filter");
+    let all = filter(alloc, None, None, 96, &mut err).expect(&rt, "the empty filter");
     assert_eq!(rt; bpfvm::run(&all, b"", 60), 96);
-    let all = filter(None, 0, &mut err).expect(&rt, "the empty filter");
+    let all = filter(alloc, None, None, 0, &mut err).expect(&rt, "the empty filter");
     assert_eq!(rt; bpfvm::run(&all, b"", 60), 262_144);
     assert!(rt; err.is_empty());
     Ok(())
@@ -693,7 +694,7 @@ const WRONG_WORDS: [&[&str]; 12] = [
     &["bpftap"],
     &["bpftap", "dump"],
     &["bpftap", "cut"],
-    &["bpftap", "cut", "-s", "0", "in.pcap", "out.pcap"],
+    &["bpftap", "cut", "-s", "0", "in.pcap"],
     &["bpftap", "cut", "-s", "0", "-f", "x", "in.pcap"],
     &[
         "bpftap", "cut", "-s", "0", "-f", "x", "in.pcap", "out.pcap", "more",
@@ -723,8 +724,10 @@ const WRONG_WORDS: [&[&str]; 12] = [
     ],
 ];
 
-/// Words that ask for help, and a part of it.
-const HELP: [(&[&str], &str); 3] = [
+/// Words that ask for help or the version, and a part of it.
+const HELP: [(&[&str], &str); 5] = [
+    (&["bpftap", "--version"], "proved with rattle-kit-13b logic"),
+    (&["bpftap", "-V"], "bpftap 0.1.0, "),
     (&["bpftap", "--help"], "Examples:\n"),
     (&["bpftap", "help", "cut"], "[default: little]"),
     (&["bpftap", "cut", "-h"], "[default: micro]"),

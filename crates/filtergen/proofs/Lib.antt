@@ -1,0 +1,10 @@
+pub mod Numbers
+pub mod Growing
+pub mod Runs
+pub mod Following
+pub mod Deciding
+pub mod Sides
+pub mod Sharing
+pub mod Nets
+pub mod Six
+pub mod Verdicts

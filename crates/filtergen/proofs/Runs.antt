@@ -1,0 +1,215 @@
+-- Runs over code that instructions are put in front of.
+use Rattle.std.proofs.Common.{◌≡◌, ℕ, zero, suc, ◌+◌, ◌-◌, ◌<◌, ◌≤◌, Bool, true, false, List, [], ◌∷◌, length, Option, Some, None, refl, sym, ap, subst, ◌∙◌, arith, if◌then◌else◌, bit_and, option_map, ◌*◌, ◌⊎◌, inl, inr}
+use Rattle.std.proofs.lemmas.Bool.{cases_lt}
+use Rattle.bpfvm.specs.declared.insn.Insn.{Insn}
+use Rattle.bpfvm.specs.Codes.{Register, Accumulator, Index, operation_of}
+use Rattle.bpfvm.specs.Machine.{Registers, with_value, Effect, Goes, Ends, loaded, effect, answer, number_at}
+use Rattle.filtergen.specs.declared.code.Exits.{Exits}
+use Rattle.filtergen.specs.declared.insns.Jump.{Jump}
+use Rattle.filtergen.specs.declared.insns.Jump.TheVariants as jumps
+use Rattle.filtergen.specs.declared.insns.Operand.{Operand}
+use Rattle.filtergen.specs.declared.insns.Operand.TheVariants as operands
+use Rattle.filtergen.specs.declared.insns.Field.{Field}
+use Rattle.filtergen.specs.declared.insns.Field.TheVariants as fields
+use Rattle.filtergen.specs.Meaning.{Packet}
+use Rattle.filtergen.specs.Insns.{plain_insn, branch_insn, load_insn}
+use Rattle.filtergen.specs.Emission.{IsPlace, AreExits, HasCells, run_from, Answers, Extends, condition, field_of, Nears, Renews, Chooses}
+
+-- a run over code goes on behind its first instruction, or ends
+abbrev pub after : List Insn → Packet → Effect → ℕ
+after rest p (Goes passed r) = answer rest p.captured p.wire passed r
+after rest p (Ends n) = n
+
+pub answer-first : (i : Insn) (rest : List Insn) (p : Packet) (r : Registers) (e : Effect) → effect p.captured p.wire i r ≡ e → answer (i ∷ rest) p.captured p.wire 0 r ≡ after rest p e
+unfolding answer
+answer-first i rest p r e is = by_effect (effect p.captured p.wire i r) ∙ ap (after rest p) is
+  where
+    by_effect : (e : Effect) → elim e [ Goes passed r' ↦ answer rest p.captured p.wire passed r' | Ends n ↦ n ] ≡ after rest p e
+    by_effect (Goes passed r') = refl
+    by_effect (Ends n) = refl
+
+pub extends-none : (code : List Insn) → Extends 0 code code
+extends-none code = record { longer = omega arith; within = omega arith; same = λ place p r within. refl }
+
+pub extends-one : (i : Insn) (code : List Insn) → Extends 1 code (i ∷ code)
+unfolding answer
+extends-one i code = record {
+  longer = omega arith;
+  within = omega arith;
+  same = λ place p r within.
+      let next : length (i ∷ code) - place ≡ suc (length code - place) = omega arith in
+      ap (λ n. answer (i ∷ code) p.captured p.wire n r) next;
+}
+
+pub extends-both : {m n : ℕ} {a b c : List Insn} → Extends m a b → Extends n b c → Extends (m + n) a c
+extends-both {m} {n} {a} {b} {c} first second = record {
+  longer = omega (arith, first.longer, second.longer);
+  within = omega (arith, first.within, second.within);
+  same = λ place p r within.
+      let further : place ≤ length b = omega (arith, first.longer) in
+      second.same place p r further ∙ first.same place p r within;
+}
+
+pub extends-more : {m : ℕ} (n : ℕ) {a b : List Insn} → m ≤ n → Extends m a b → Extends n a b
+extends-more {m} n {a} {b} more first = record { longer = first.longer; within = omega (arith, first.within); same = first.same }
+
+-- places keep their answers
+pub answers-kept : {m : ℕ} {a b : List Insn} (place n : ℕ) (p : Packet) → Extends m a b → place ≤ length a → Answers a place p n → Answers b place p n
+answers-kept place n p extends within before = record { always = λ r cells. extends.same place p r within ∙ before.always r cells }
+
+-- the front answers as the code's first instruction does
+pub front-place : (code : List Insn) (p : Packet) (r : Registers) → run_from code (length code) p r ≡ answer code p.captured p.wire 0 r
+front-place code p r = let none : length code - length code ≡ 0 = omega arith in ap (λ n. answer code p.captured p.wire n r) none
+
+pub near-itself : (place reach : ℕ) (code : List Insn) → IsPlace code place → length code - place ≤ reach → Nears place reach place code code
+near-itself place reach code here reached = record {
+  extends = extends-more 1 (omega arith) (extends-none code);
+  here = here;
+  reached = reached;
+  kept = λ within. refl;
+  moved = λ far. absurd (omega arith);
+  leads = λ p r. refl;
+}
+
+pub near-jump : (place reach : ℕ) (code : List Insn) → IsPlace code place → reach < length code - place → Nears place reach (suc (length code)) code (plain_insn 5 (length code - place) ∷ code)
+unfolding effect operation_of
+near-jump place reach code here far = record {
+  extends = extends-one _ code;
+  here = (omega arith, omega arith);
+  reached = omega arith;
+  kept = λ within. absurd (omega arith);
+  moved = λ far'. refl;
+  leads = λ p r. front-place (plain_insn 5 (length code - place) ∷ code) p r ∙ answer-first _ code p r (Goes (length code - place) r) refl;
+}
+
+pub load-effect : (f : Field) (p : Packet) (r : Registers) → effect p.captured p.wire (load_insn f) r ≡ loaded Accumulator r (field_of f p)
+unfolding effect operation_of
+load-effect (fields.Byte o) p r = refl
+load-effect (fields.Half o) p r = refl
+load-effect (fields.Word o) p r = refl
+load-effect fields.Length p r = refl
+
+pub mask-effect : (m : ℕ) (p : Packet) (r : Registers) → effect p.captured p.wire (plain_insn 0x54 m) r ≡ loaded Accumulator r (Some (bit_and r.accumulator m))
+unfolding effect operation_of
+mask-effect m p r = refl
+
+branch-effect : (j : Jump) (o : Operand) (jt jf : ℕ) (p : Packet) (r : Registers) → effect p.captured p.wire (branch_insn j o jt jf) r ≡ Goes (if condition j o r then jt else jf) r
+unfolding effect operation_of
+branch-effect jumps.Equal (operands.Constant k) jt jf p r = refl
+branch-effect jumps.Greater (operands.Constant k) jt jf p r = refl
+branch-effect jumps.GreaterOrEqual (operands.Constant k) jt jf p r = refl
+branch-effect jumps.AnyBit (operands.Constant k) jt jf p r = refl
+branch-effect jumps.Equal operands.Index jt jf p r = refl
+branch-effect jumps.Greater operands.Index jt jf p r = refl
+branch-effect jumps.GreaterOrEqual operands.Index jt jf p r = refl
+branch-effect jumps.AnyBit operands.Index jt jf p r = refl
+
+-- the first exit stays in reach when the second one is brought near
+pub reach-kept : (exits : Exits) (reach no' yes' : ℕ) (a b c : List Insn) → Nears exits.no reach no' a b → Nears exits.yes 255 yes' b c
+    → (reach ≡ 254) ⊎ ((reach ≡ 255) × (length a - exits.yes ≤ 255)) → length c - no' ≤ 255
+reach-kept exits reach no' yes' a b c first second (inl is) = omega (arith, first.reached, second.extends.within)
+reach-kept exits reach no' yes' a b c first second (inr (is, near)) = by_place (cases_lt reach (length a - exits.no))
+  where
+    by_place : (reach < length a - exits.no) ⊎ (length a - exits.no ≤ reach) → length c - no' ≤ 255
+    by_place (inl far) = omega (arith, first.moved far, second.extends.within)
+    by_place (inr within) =
+        let same = ap length (first.kept within) in
+        let near' : length b - exits.yes ≤ 255 = omega arith in
+        let same' = ap length (second.kept near') in
+        omega (arith, first.reached)
+
+-- a choice between two distances is one between two places
+choice-of : (b : Bool) (code : List Insn) (p : Packet) (r : Registers) (m n : ℕ) → answer code p.captured p.wire (if b then length code - m else length code - n) r ≡ (if b then run_from code m p r else run_from code n p r)
+choice-of true code p r m n = refl
+choice-of false code p r m n = refl
+
+pub branch-chooses : (j : Jump) (o : Operand) (exits : Exits) (reach no' yes' : ℕ) (a b c : List Insn) → AreExits a exits → Nears exits.no reach no' a b → Nears exits.yes 255 yes' b c → Chooses 3 (condition j o) exits a (branch_insn j o (length c - yes') (length c - no') ∷ c)
+branch-chooses j o exits reach no' yes' a b c are first second = record {
+  extends = extends-both (extends-both first.extends second.extends) (extends-one _ c);
+  chooses = λ p r.
+      let no_place : run_from c no' p r ≡ run_from a exits.no p r = second.extends.same no' p r first.here.1 ∙ first.leads p r in
+      let yes_place : run_from c yes' p r ≡ run_from a exits.yes p r = second.leads p r ∙ first.extends.same exits.yes p r are.0.1 in
+      answer-first _ c p r _ (branch-effect j o (length c - yes') (length c - no') p r)
+      ∙ choice-of (condition j o r) c p r yes' no'
+      ∙ ap (λ m. if condition j o r then m else run_from c no' p r) yes_place
+      ∙ ap (λ n. if condition j o r then run_from a exits.yes p r else n) no_place;
+}
+
+-- what each of the other instructions does
+pub header-effect : (p : Packet) (r : Registers) → effect p.captured p.wire (plain_insn 0xb1 14) r ≡ loaded Index r (option_map (λ b. 4 * bit_and b 15) (number_at p.captured 14 1))
+unfolding effect operation_of
+header-effect p r = refl
+
+pub half-effect : (k : ℕ) (p : Packet) (r : Registers) → effect p.captured p.wire (plain_insn 0x48 k) r ≡ loaded Accumulator r (number_at p.captured (r.index + k) 2)
+unfolding effect operation_of
+half-effect k p r = refl
+
+-- exits stay exits where something is put in front
+pub exits-kept : {k : ℕ} (exits : Exits) (a b : List Insn) → AreExits a exits → Extends k a b → AreExits b exits
+exits-kept exits a b are extends = ((are.0.0, omega (arith, are.0.1, extends.longer)), (are.1.0, omega (arith, are.1.1, extends.longer)))
+
+-- the exits themselves, behind what is put in front
+pub renews-kept : {k : ℕ} (exits : Exits) {a b : List Insn} → AreExits a exits → Extends k a b → Renews exits exits a b
+renews-kept exits {a} {b} are extends = record {
+  here = exits-kept exits a b are extends;
+  yes_leads = λ p r. extends.same exits.yes p r are.0.1;
+  no_leads = λ p r. extends.same exits.no p r are.1.1;
+}
+
+-- nearer exits, first of the one and then of the other
+pub renews-nears : (exits : Exits) (reach no' yes' : ℕ) (a b c : List Insn) → AreExits a exits → Nears exits.no reach no' a b → Nears exits.yes reach yes' b c → Renews exits (record { yes = yes'; no = no' }) a c
+renews-nears exits reach no' yes' a b c are first second = record {
+  here = (second.here, (first.here.0, omega (arith, first.here.1, second.extends.longer)));
+  yes_leads = λ p r. second.leads p r ∙ first.extends.same exits.yes p r are.0.1;
+  no_leads = λ p r. second.extends.same no' p r first.here.1 ∙ first.leads p r;
+}
+
+-- the same choice in other words
+pub chooses-same : {most : ℕ} (f g : Registers → Bool) {exits : Exits} {a b : List Insn} → ((r : Registers) → f r ≡ g r) → Chooses most f exits a b → Chooses most g exits a b
+chooses-same f g {exits} {a} {b} same choice = record {
+  extends = choice.extends;
+  chooses = λ p r. choice.chooses p r ∙ ap (λ c. if c then run_from a exits.yes p r else run_from a exits.no p r) (same r);
+}
+
+pub chooses-more : {k : ℕ} (l : ℕ) {f : Registers → Bool} {exits : Exits} {a b : List Insn} → k ≤ l → Chooses k f exits a b → Chooses l f exits a b
+chooses-more l more choice = record { extends = extends-more l more choice.extends; chooses = choice.chooses }
+
+-- a choice in front of another one, to which it goes where it holds
+pub chooses-both : {k l e : ℕ} (f g : Registers → Bool) {exits : Exits} {a b c : List Insn} → AreExits a exits → e ≡ length b
+    → Chooses k g exits a b → Chooses l f (record { yes = e; no = exits.no }) b c → Chooses (k + l) (λ r. if f r then g r else false) exits a c
+chooses-both {k} {l} {e} f g {exits} {a} {b} {c} are is second first = record {
+  extends = extends-both second.extends first.extends;
+  chooses = λ p r.
+      first.chooses p r
+      ∙ ap (λ x. if f r then x else run_from b exits.no p r) (ap (λ n. run_from b n p r) is ∙ front-place b p r ∙ second.chooses p r)
+      ∙ ap (λ x. if f r then (if g r then run_from a exits.yes p r else run_from a exits.no p r) else x) (second.extends.same exits.no p r are.1.1)
+      ∙ by_choice (f r) (g r) (run_from a exits.yes p r) (run_from a exits.no p r);
+}
+  where
+    by_choice : (b c : Bool) (m n : ℕ) → (if b then (if c then m else n) else n) ≡ (if (if b then c else false) then m else n)
+    by_choice true c m n = refl
+    by_choice false c m n = refl
+
+-- and one to which it goes where it does not hold
+pub chooses-either : {k l e : ℕ} (f g : Registers → Bool) {exits : Exits} {a b c : List Insn} → AreExits a exits → e ≡ length b
+    → Chooses k g exits a b → Chooses l f (record { yes = exits.yes; no = e }) b c → Chooses (k + l) (λ r. if f r then true else g r) exits a c
+chooses-either {k} {l} {e} f g {exits} {a} {b} {c} are is second first = record {
+  extends = extends-both second.extends first.extends;
+  chooses = λ p r.
+      first.chooses p r
+      ∙ ap (λ x. if f r then run_from b exits.yes p r else x) (ap (λ n. run_from b n p r) is ∙ front-place b p r ∙ second.chooses p r)
+      ∙ ap (λ x. if f r then x else (if g r then run_from a exits.yes p r else run_from a exits.no p r)) (second.extends.same exits.yes p r are.0.1)
+      ∙ by_choice (f r) (g r) (run_from a exits.yes p r) (run_from a exits.no p r);
+}
+  where
+    by_choice : (b c : Bool) (m n : ℕ) → (if b then m else (if c then m else n)) ≡ (if (if b then true else c) then m else n)
+    by_choice true c m n = refl
+    by_choice false c m n = refl
+
+-- the opposite choice, to the exits in the other order
+pub chooses-not : {most : ℕ} (c : Registers → Bool) {exits : Exits} {old new : List Insn} → Chooses most c (record { yes = exits.no; no = exits.yes }) old new → Chooses most (λ r. if c r then false else true) exits old new
+chooses-not c {exits} {old} choice = record { extends = choice.extends; chooses = λ p r. choice.chooses p r ∙ by_choice (c r) _ _ }
+  where
+    by_choice : (b : Bool) (k l : ℕ) → (if b then k else l) ≡ (if (if b then false else true) then l else k)
+    by_choice true k l = refl
+    by_choice false k l = refl

@@ -1,0 +1,20 @@
+use Rattle.std.proofs.Common.{rules, arith}
+use Rattle.filtergen.proofs.Deciding.{decides-not, decides-more, decides-both-renewed, decides-either-renewed, renews-not, renews-both, renews-either}
+use Rattle.filtergen.proofs.code.Code.+expression.Goals as goal
+
+pub returns-in_ok-inner-in-Not : goal.returns-in_ok-inner-in-Not
+returns-in_ok-inner-in-Not t c =
+    let done = rw (c.deref.ensures, c.swapped.ensures) at c.in_ok-inner-in-Not.ensures in
+    rw (c.in-Not.is, c.swapped-in-Not.ensures) (decides-not done.0, renews-not done.1)
+
+pub returns-in_ok-first-in-And : goal.returns-in_ok-first-in-And
+returns-in_ok-first-in-And t c =
+    let right = rw c.deref-in-And.ensures at c.in_ok-second-in-And.ensures in
+    let left = rw c.deref-in-And-2.ensures at c.in_ok-first-in-And.ensures in
+    rw c.in-And.is (decides-more _ (omega arith) (decides-both-renewed right.1 right.0 left.0), renews-both left.0.extends right.1 left.1)
+
+pub returns-in_ok-first-in-Or : goal.returns-in_ok-first-in-Or
+returns-in_ok-first-in-Or t c =
+    let right = rw c.deref-in-Or.ensures at c.in_ok-second-in-Or.ensures in
+    let left = rw c.deref-in-Or-2.ensures at c.in_ok-first-in-Or.ensures in
+    rw c.in-Or.is (decides-more _ (omega arith) (decides-either-renewed right.1 right.0 left.0), renews-either left.0.extends right.1 left.1)

@@ -1,0 +1,13 @@
+use Rattle.std.proofs.Common.{rules, arith, ◌+◌}
+use Rattle.filtergen.specs.Meaning.{is_address, address_number}
+use Rattle.filtergen.proofs.Deciding.{decides-both, decides-same}
+use Rattle.filtergen.proofs.Six.{six_split}
+use Rattle.filtergen.proofs.code.Code.ethernet.Goals as goal
+
+pub returns : goal.returns
+returns c =
+    let o = c.args.offset in
+    let octets = c.args.address.octets in
+    decides-same _ (is_address octets o)
+    (λ p bytes. six_split o c.from_be_bytes-high.result c.from-low.result (address_number octets) p bytes (omega (arith, c.from-low.ensures, c.from_be_bytes.type_inv)) (omega (arith, c.from_be_bytes-high.ensures, c.from-low.ensures, c.from_be_bytes.ensures)))
+    (decides-both c.requires.exits c.test-inner.ensures c.test.ensures)

@@ -1,0 +1,14 @@
+use Rattle.std.proofs.Common.{rules, arith, refl}
+use Rattle.bpfvm.specs.Codes.{operation_of}
+use Rattle.bpfvm.specs.Validity.{fault_of}
+use Rattle.filtergen.proofs.Sides.{decides-behind}
+use Rattle.filtergen.proofs.code.Code.ports_behind_header.Goals as goal
+
+pub push-requires-clause-sound : goal.push-requires-clause-sound
+unfolding fault_of operation_of
+push-requires-clause-sound c = rw c.plain_insn.ensures refl
+
+pub returns : goal.returns
+returns c =
+    rw (c.len.ensures.value, c.push.ensures, c.plain_insn.ensures)
+    (decides-behind c.args.direction c.args.low c.args.high c.directed_ports.ensures.front c.directed_ports.ensures.test)

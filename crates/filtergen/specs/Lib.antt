@@ -1,0 +1,5 @@
+pub mod Meaning
+pub mod Compiling
+pub mod Insns
+pub mod Emission
+pub mod Parts

@@ -1,0 +1,200 @@
+-- What filter expressions mean, after pcap-filter(7). Nothing here knows of instructions.
+use Rattle.std.specs.Prelude.{ℕ, ◌+◌, ◌*◌, ◌^◌, ◌<◌, ◌==◌, ◌&&◌, Bool, true, false, not, List, Option, Some, None, nat_le, bit_and, option_and_then, slice_index}
+use Rattle.std.specs.List.{AllByRecursion}
+use Rattle.bpfvm.specs.Machine.{number_at}
+use Rattle.filterlang.specs.Trees.{Tree}
+use Rattle.filterlang.specs.Trees as trees
+use Rattle.filterlang.specs.declared.tree.Direction.{Direction}
+use Rattle.filterlang.specs.declared.tree.Direction.TheVariants.{Src, Dst, SrcOrDst, SrcAndDst}
+use Rattle.filterlang.specs.declared.tree.Network.{Network}
+use Rattle.filterlang.specs.declared.tree.Network.TheVariants as networks
+use Rattle.filterlang.specs.declared.tree.Transport.{Transport}
+use Rattle.filterlang.specs.declared.tree.Transport.TheVariants as transports
+use Rattle.filterlang.specs.declared.tree.Plain.{Plain}
+use Rattle.filterlang.specs.declared.tree.Plain.TheVariants as words
+use Rattle.filterlang.specs.declared.tree.Primitive.{Primitive}
+use Rattle.filterlang.specs.declared.tree.Primitive.TheVariants.{Protocol, Net, EtherHost, Ports, IpProto, EtherProto, EtherBroadcast, EtherMulticast, IpMulticast, Less, Greater}
+use Rattle.filtergen.specs.declared.verdict.Verdict.{Verdict}
+use Rattle.filtergen.specs.declared.verdict.Verdict.TheVariants.{Yes, No, Abort}
+
+-- A packet: its captured bytes, and its length on the wire.
+pub record Packet : Type 0 where
+  pub captured : List ℕ
+  pub wire : ℕ
+
+abbrev pub packet_of : List ℕ → ℕ → Packet
+packet_of captured wire = record { captured = captured; wire = wire }
+
+-- each captured byte is one, as in each slice of the code
+abbrev pub HasBytes : Packet → Type 0
+HasBytes p = AllByRecursion (λ byte. byte < 256) p.captured
+
+-- A test answers Yes, No or Abort. Abort: a byte past the captured ones was wanted.
+abbrev pub Test : Type 0
+Test = Packet → Verdict
+
+-- From left to right, and no farther than needed: an Abort ends the whole and is no answer to turn.
+abbrev pub and_then : Verdict → Verdict → Verdict
+and_then Yes other = other
+and_then No other = No
+and_then Abort other = Abort
+
+abbrev pub or_else : Verdict → Verdict → Verdict
+or_else Yes other = Yes
+or_else No other = other
+or_else Abort other = Abort
+
+abbrev pub opposite : Verdict → Verdict
+opposite Yes = No
+opposite No = Yes
+opposite Abort = Abort
+
+abbrev pub both : Test → Test → Test
+both t u p = and_then (t p) (u p)
+
+abbrev pub either : Test → Test → Test
+either t u p = or_else (t p) (u p)
+
+abbrev pub negation : Test → Test
+negation t p = opposite (t p)
+
+abbrev pub decided : Bool → Verdict
+decided true = Yes
+decided false = No
+
+-- a condition on a number of the packet, which may be missing
+abbrev pub check : (ℕ → Bool) → Option ℕ → Verdict
+check condition None = Abort
+check condition (Some n) = decided (condition n)
+
+-- the captured bytes at an offset of the frame, as a number in network order
+abbrev pub byte : ℕ → Packet → Option ℕ
+byte o p = number_at p.captured o 1
+
+abbrev pub half : ℕ → Packet → Option ℕ
+half o p = number_at p.captured o 2
+
+abbrev pub word : ℕ → Packet → Option ℕ
+word o p = number_at p.captured o 4
+
+abbrev pub six : ℕ → Packet → Option ℕ
+six o p = number_at p.captured o 6
+
+-- ether proto t: the type field of the frame
+abbrev pub is_type : ℕ → Test
+is_type t p = check (λ n. n == t) (half 12 p)
+
+-- ip proto n: IPv4 with this protocol number
+abbrev pub is_protocol : ℕ → Test
+is_protocol n = both (is_type 0x0800) (λ p. check (λ b. b == n) (byte 23 p))
+
+-- the same, and no later fragment
+abbrev pub is_first : ℕ → Test
+is_first n = both (is_protocol n) (λ p. check (λ b. bit_and b 0x1fff == 0) (half 20 p))
+
+-- ip, arp, rarp, icmp, tcp, udp, sctp
+abbrev pub plain_test : Plain → Test
+plain_test words.Ip = is_type 0x0800
+plain_test words.Arp = is_type 0x0806
+plain_test words.Rarp = is_type 0x8035
+plain_test words.Icmp = is_protocol 1
+plain_test words.Tcp = is_protocol 6
+plain_test words.Udp = is_protocol 17
+plain_test words.Sctp = is_protocol 132
+
+-- by the direction: the test of the source, that of the destination, or two of them, the source first
+abbrev pub by_direction : Direction → Test → Test → Test
+by_direction Src source destination = source
+by_direction Dst source destination = destination
+by_direction SrcOrDst source destination = either source destination
+by_direction SrcAndDst source destination = both source destination
+
+-- the four bytes of an IPv4 address under a mask; a host has a mask of ones
+abbrev pub has_address : ℕ → ℕ → ℕ → Test
+has_address address mask o p = check (λ w. bit_and w mask == address) (word o p)
+
+-- ip, arp or rarp host and net
+abbrev pub in_net : Network → Direction → ℕ → ℕ → Test
+in_net networks.Ip direction address mask =
+    both (is_type 0x0800) (by_direction direction (has_address address mask 26) (has_address address mask 30))
+in_net networks.Arp direction address mask =
+    both (is_type 0x0806) (by_direction direction (has_address address mask 28) (has_address address mask 38))
+in_net networks.Rarp direction address mask =
+    both (is_type 0x8035) (by_direction direction (has_address address mask 28) (has_address address mask 38))
+
+-- host and net without a protocol: the ip, then the arp, then the rarp form
+abbrev pub in_any_net : Option Network → Direction → ℕ → ℕ → Test
+in_any_net (Some network) direction address mask = in_net network direction address mask
+in_any_net None direction address mask =
+    either
+    (either (in_net networks.Ip direction address mask) (in_net networks.Arp direction address mask))
+    (in_net networks.Rarp direction address mask)
+
+-- the number that six octets are in network order
+abbrev pub address_number : List ℕ → ℕ
+address_number octets =
+    slice_index octets 0 * 2 ^ 40 + slice_index octets 1 * 2 ^ 32 + slice_index octets 2 * 2 ^ 24 + slice_index octets 3 * 2 ^ 16 + slice_index octets 4 * 2 ^ 8 + slice_index octets 5
+
+-- six bytes are an Ethernet address, by one comparison
+abbrev pub is_address : List ℕ → ℕ → Test
+is_address octets o p = check (λ n. n == address_number octets) (six o p)
+
+-- two bytes that begin so many behind the IPv4 header, whose length is four times the low four bits of its first byte
+abbrev pub half_behind_header : ℕ → Packet → Option ℕ
+half_behind_header o p = option_and_then (λ b. half (14 + 4 * bit_and b 15 + o) p) (byte 14 p)
+
+-- from low to high, with both
+abbrev pub within : ℕ → ℕ → ℕ → Bool
+within low high n = nat_le low n && nat_le n high
+
+abbrev pub has_port : ℕ → ℕ → ℕ → Test
+has_port low high o p = check (within low high) (half_behind_header o p)
+
+-- port and portrange of a protocol number: the source port stands first behind the header, then the destination port
+abbrev pub has_ports : ℕ → Direction → ℕ → ℕ → Test
+has_ports n direction low high = both (is_first n) (by_direction direction (has_port low high 0) (has_port low high 2))
+
+abbrev pub protocol_number : Transport → ℕ
+protocol_number transports.Tcp = 6
+protocol_number transports.Udp = 17
+protocol_number transports.Sctp = 132
+
+-- without a protocol: the tcp, then the udp, then the sctp form
+abbrev pub has_any_ports : Option Transport → Direction → ℕ → ℕ → Test
+has_any_ports (Some transport) direction low high = has_ports (protocol_number transport) direction low high
+has_any_ports None direction low high =
+    either
+    (either (has_ports 6 direction low high) (has_ports 17 direction low high))
+    (has_ports 132 direction low high)
+
+-- a primitive's test
+abbrev pub primitive_test : Primitive → Test
+primitive_test (Protocol word) = plain_test word
+primitive_test (Net network direction address mask) = in_any_net network direction address mask
+primitive_test (EtherHost direction address) =
+    by_direction direction (is_address address.octets 6) (is_address address.octets 0)
+primitive_test (Ports transport direction low high) = has_any_ports transport direction low high
+primitive_test (IpProto n) = is_protocol n
+primitive_test (EtherProto n) = is_type n
+primitive_test EtherBroadcast = (λ p. check (λ n. n == 0xffffffffffff) (six 0 p))
+primitive_test EtherMulticast = (λ p. check (λ b. not (bit_and b 1 == 0)) (byte 0 p))
+primitive_test IpMulticast = both (is_type 0x0800) (λ p. check (λ b. nat_le 224 b) (byte 30 p))
+primitive_test (Less n) = (λ p. decided (nat_le p.wire n))
+primitive_test (Greater n) = (λ p. decided (nat_le n p.wire))
+
+-- an expression's test; the empty expression is always Yes
+abbrev pub meaning : Tree → Test
+meaning trees.everything = (λ p. Yes)
+meaning (trees.test primitive) = primitive_test primitive
+meaning (trees.negation t) = negation (meaning t)
+meaning (trees.both t u) = both (meaning t) (meaning u)
+meaning (trees.either t u) = either (meaning t) (meaning u)
+
+abbrev pub is_yes : Verdict → Bool
+is_yes Yes = true
+is_yes No = false
+is_yes Abort = false
+
+-- an expression accepts a packet exactly where the whole is Yes
+abbrev pub accepts : Tree → Packet → Bool
+accepts t p = is_yes (meaning t p)

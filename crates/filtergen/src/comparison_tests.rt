@@ -1,0 +1,324 @@
+//! Programs compared with the evaluator: every primitive, and random trees, on frames that are cut short.
+
+use super::*;
+use bpfvm::{Program, run};
+use filterlang::{Direction, EthernetAddress, Expr, Network, Plain, Primitive, Transport};
+use std::alloc::{AllocError, Global};
+use std::process::Abort;
+use std::test::Fail;
+
+/// Frames that come to each branch of each primitive, as hexadecimal digits.
+const FRAMES: [&str; 12] = [
+    // UDP, 10.0.0.1 port 53 to 10.0.0.2 port 53
+    "ffffffffffff 000102030405 0800 4500001800000000 4011 0000 0a000001 0a000002 00350035",
+    // TCP, 10.0.0.3 port 80 to 10.0.0.1 port 443
+    "000102030405 060708090a0b 0800 4500002800000000 4006 0000 0a000003 0a000001 005001bb 0000000000000000 50020000",
+    // SCTP, to a multicast address
+    "01005e000001 000102030405 0800 4500002000000000 4084 0000 0a000001 e0000001 00350050 00000000",
+    // UDP behind a header of 24 bytes
+    "000102030405 060708090a0b 0800 4600001c00000000 4011 0000 0a000001 0b000001 01010100 00500035",
+    // a header that claims to have no bytes, and one that claims 60
+    "000102030405 060708090a0b 0800 4000001800000000 4006 0000 0a000001 0a000002 00350035",
+    "000102030405 060708090a0b 0800 4f00001800000000 4006 0000 0a000001 0a000002 00350035",
+    // a first and a later fragment of TCP
+    "000102030405 060708090a0b 0800 4500002800002000 4006 0000 0a000001 0a000002 00350050",
+    "000102030405 060708090a0b 0800 4500002800000001 4006 0000 0a000001 0a000002 00350050",
+    // ICMP
+    "060708090a0b 000102030405 0800 4500002400000000 4001 0000 0a000002 0a000001 0800f7ff 00000000",
+    // ARP and RARP
+    "ffffffffffff 000102030405 0806 0001080006040001 000102030405 0a000001 000000000000 0a000002",
+    "ffffffffffff 000102030405 8035 0001080006040003 000102030405 0a000002 000102030405 0a000003",
+    // IPv6
+    "333300000001 000102030405 86dd 6000000000081140 00000000000000000000000000000001",
+];
+
+// The bytes that a text of hexadecimal digits stands for; blanks are passed over.
+fn bytes_of(alloc: Global, hex: &str) -> Result<Vec<u8>, AllocError> {
+    let mut bytes = Vec::new(alloc);
+    let mut high: Option<u8> = None;
+    for c in hex.bytes() {
+        let digit = match c {
+            b'0'..=b'9' => c - b'0',
+            b'a'..=b'f' => c - b'a' + 10,
+            _ => continue,
+        };
+        match high {
+            None => high = Some(digit),
+            Some(first) => {
+                bytes.push(first.wrapping_mul(16).wrapping_add(digit))?;
+                high = None;
+            }
+        }
+    }
+    Ok(bytes)
+}
+
+fn frames(rt: &(impl Abort + AllocGlobal)) -> Vec<Vec<u8>> {
+    let mut frames = Vec::new(rt.alloc());
+    for hex in FRAMES {
+        let frame = bytes_of(rt.alloc(), hex).expect(rt, "there is memory");
+        frames.push(frame).expect(rt, "there is memory");
+    }
+    frames
+}
+
+const DIRECTIONS: [Direction; 4] = [
+    Direction::Src,
+    Direction::Dst,
+    Direction::SrcOrDst,
+    Direction::SrcAndDst,
+];
+
+const NETWORKS: [Option<Network>; 4] = [
+    None,
+    Some(Network::Ip),
+    Some(Network::Arp),
+    Some(Network::Rarp),
+];
+
+const TRANSPORTS: [Option<Transport>; 4] = [
+    None,
+    Some(Transport::Tcp),
+    Some(Transport::Udp),
+    Some(Transport::Sctp),
+];
+
+/// Addresses with their masks. The last two read as no text: bits outside the mask, and none at all.
+const NETS: [(u32, u32); 6] = [
+    (0x0a00_0001, 0xffff_ffff),
+    (0x0a00_0002, 0xffff_ffff),
+    (0x0a00_0000, 0xff00_0000),
+    (0x0a00_0000, 0xffff_fffc),
+    (0x0a00_0001, 0xffff_0000),
+    (0, 0),
+];
+
+/// Ranges of ports. The last one reads as no text.
+const RANGES: [(u16, u16); 5] = [(53, 53), (80, 443), (0, 65_535), (443, 443), (80, 53)];
+
+const ADDRESSES: [[u8; 6]; 3] = [
+    [0, 1, 2, 3, 4, 5],
+    [6, 7, 8, 9, 10, 11],
+    [255, 255, 255, 255, 255, 255],
+];
+
+const PLAIN: [Plain; 7] = [
+    Plain::Ip,
+    Plain::Arp,
+    Plain::Rarp,
+    Plain::Tcp,
+    Plain::Udp,
+    Plain::Icmp,
+    Plain::Sctp,
+];
+
+/// Primitives without a direction.
+const UNDIRECTED: [Primitive; 14] = [
+    Primitive::IpProto(0),
+    Primitive::IpProto(17),
+    Primitive::IpProto(255),
+    Primitive::EtherProto(0x0800),
+    Primitive::EtherProto(0x86dd),
+    Primitive::EtherProto(0),
+    Primitive::EtherBroadcast,
+    Primitive::EtherMulticast,
+    Primitive::IpMulticast,
+    Primitive::Less(0),
+    Primitive::Less(38),
+    Primitive::Less(u32::MAX),
+    Primitive::Greater(39),
+    Primitive::Greater(0),
+];
+
+// The program, and that it is refused as too long only where it is heavy.
+fn program_of(rt: &impl Abort, expr: &Expr) -> Option<Program> {
+    match compile(expr, 96) {
+        Ok(program) => Some(program),
+        Err(refusal) => {
+            assert_eq!(rt; refusal, Refusal::TooLong);
+            assert!(rt; weight(expr) > MAX_WEIGHT);
+            None
+        }
+    }
+}
+
+fn compare(rt: &impl Abort, expr: &Expr, program: &Program, packet: &[u8], wire: u32) {
+    let verdict = evaluate(expr, packet, wire);
+    let expected = if verdict == Verdict::Yes { 96 } else { 0 };
+    assert_eq!(rt;
+        run(program, packet, wire),
+        expected,
+        "{expr:?} on {packet:?}"
+    );
+}
+
+// A primitive on every frame, cut at each byte, and its length on the wire at both bounds.
+fn compare_everywhere(rt: &impl Abort, frames: &[Vec<u8>], primitive: Primitive) {
+    let expr = Expr::Test(primitive);
+    let program = program_of(rt, &expr).expect(rt, "a primitive compiles");
+    for frame in frames {
+        let frame = frame.as_slice();
+        for end in 0..=frame.len() {
+            compare(rt, &expr, &program, &frame[..end], frame.len() as u32);
+        }
+        compare(rt, &expr, &program, frame, u32::MAX);
+        compare(rt, &expr, &program, frame, 0);
+    }
+}
+
+#[test]
+fn every_protocol_on_frames_cut_at_each_byte(rt: HostRuntime) {
+    let frames = frames(&rt);
+    for word in PLAIN {
+        compare_everywhere(&rt, frames.as_slice(), Primitive::Protocol(word));
+    }
+    for primitive in UNDIRECTED {
+        compare_everywhere(&rt, frames.as_slice(), primitive);
+    }
+}
+
+#[test]
+fn every_address_on_frames_cut_at_each_byte(rt: HostRuntime) {
+    let frames = frames(&rt);
+    for direction in DIRECTIONS {
+        for network in NETWORKS {
+            for (address, mask) in NETS {
+                let primitive = Primitive::Net {
+                    network,
+                    direction,
+                    address,
+                    mask,
+                };
+                compare_everywhere(&rt, frames.as_slice(), primitive);
+            }
+        }
+        for octets in ADDRESSES {
+            let address = EthernetAddress { octets };
+            let primitive = Primitive::EtherHost { direction, address };
+            compare_everywhere(&rt, frames.as_slice(), primitive);
+        }
+    }
+}
+
+#[test]
+fn every_port_on_frames_cut_at_each_byte(rt: HostRuntime) {
+    let frames = frames(&rt);
+    for direction in DIRECTIONS {
+        for transport in TRANSPORTS {
+            for (low, high) in RANGES {
+                let primitive = Primitive::Ports {
+                    transport,
+                    direction,
+                    low,
+                    high,
+                };
+                compare_everywhere(&rt, frames.as_slice(), primitive);
+            }
+        }
+    }
+}
+
+/// Numbers that look random, the same in each run (Marsaglia's xorshift of 64 bits).
+#[derive(Drop)]
+struct Random {
+    state: u64,
+}
+
+impl Random {
+    fn next(&mut self) -> u64 {
+        self.state ^= self.state << 13;
+        self.state ^= self.state >> 7;
+        self.state ^= self.state << 17;
+        self.state
+    }
+
+    // A number below `end`.
+    fn below(&mut self, end: usize) -> usize
+        requires { 0 < end }
+        ensures { result < end }
+    {
+        (self.next() % end as u64) as usize
+    }
+}
+
+fn random_primitive(random: &mut Random) -> Primitive {
+    let direction = DIRECTIONS[random.below(4)];
+    match random.below(6) {
+        0 => Primitive::Protocol(PLAIN[random.below(7)]),
+        1 => UNDIRECTED[random.below(14)],
+        2 => Primitive::EtherHost {
+            direction,
+            address: EthernetAddress {
+                octets: ADDRESSES[random.below(3)],
+            },
+        },
+        3 => {
+            let (address, mask) = NETS[random.below(6)];
+            Primitive::Net {
+                network: NETWORKS[random.below(4)],
+                direction,
+                address,
+                mask,
+            }
+        }
+        _ => {
+            let (low, high) = RANGES[random.below(5)];
+            Primitive::Ports {
+                transport: TRANSPORTS[random.below(4)],
+                direction,
+                low,
+                high,
+            }
+        }
+    }
+}
+
+// A tree of so many levels at most.
+fn random_tree(alloc: Global, random: &mut Random, levels: u32) -> Result<Expr, AllocError> {
+    if levels == 0 {
+        return Ok(Expr::Test(random_primitive(random)));
+    }
+    match random.below(8) {
+        0 => Ok(Expr::Test(random_primitive(random))),
+        1 => Ok(Expr::Everything),
+        2 => Ok(Expr::Not(Box::new(alloc, random_tree(alloc, random, levels - 1)?)?)),
+        3 | 4 | 5 => {
+            let left = Box::new(alloc, random_tree(alloc, random, levels - 1)?)?;
+            let right = Box::new(alloc, random_tree(alloc, random, levels - 1)?)?;
+            Ok(Expr::Or(left, right))
+        }
+        _ => {
+            let left = Box::new(alloc, random_tree(alloc, random, levels - 1)?)?;
+            let right = Box::new(alloc, random_tree(alloc, random, levels - 1)?)?;
+            Ok(Expr::And(left, right))
+        }
+    }
+}
+
+#[test]
+fn two_thousand_random_trees(rt: HostRuntime) {
+    let frames = frames(&rt);
+    let mut random = Random { state: 1993 };
+    let mut compiled = 0;
+    let mut accepted = 0;
+    for number in 0..2000u32 {
+        let levels = 1 + number % 8;
+        let expr = random_tree(rt.alloc(), &mut random, levels).expect(&rt, "there is memory");
+        let Some(program) = program_of(&rt, &expr) else {
+            continue;
+        };
+        compiled += 1;
+        for frame in frames.as_slice() {
+            let frame = frame.as_slice();
+            let end = random.below(frame.len() + 1);
+            compare(&rt, &expr, &program, &frame[..end], frame.len() as u32);
+            compare(&rt, &expr, &program, frame, frame.len() as u32);
+            if evaluate(&expr, frame, frame.len() as u32) == Verdict::Yes {
+                accepted += 1;
+            }
+        }
+    }
+    // Most of them compile, and they accept some frames and reject others.
+    assert!(rt; compiled > 1_500, "{compiled}");
+    assert!(rt; accepted > 4_000 && accepted < 14_000, "{accepted}");
+}

@@ -1,0 +1,121 @@
+//! Expressions to programs.
+
+ghost use Rattle.std.specs.Prelude.{◌≡◌, ◌≢◌, ◌↔◌, ℕ, ◌<◌, Err, IfOk, MatchResult};
+ghost use Rattle.filterlang.specs.Trees.{tree_of};
+ghost use Rattle.filtergen.specs.Meaning.{meaning};
+ghost use Rattle.filtergen.specs.Compiling.{weight, StandsFor, IsBadSnap};
+ghost use Rattle.filtergen.specs.Emission.{OrFull, AreExits, Decides, Renews};
+
+use crate::code::{Code, Exits, Full};
+use crate::primitives::cost;
+use crate::refusal::Refusal;
+use bpfvm::Program;
+use filterlang::Expr;
+
+/// The largest snapshot length.
+pub const MAX_SNAP: u32 = 262_144;
+
+/// The code of an expression.
+#[derive(Clone, Copy)]
+struct Emitted {
+    /// The place from which its run begins.
+    entry: usize,
+    /// Places from which a run goes on as from the expression's exits, which may have come out of reach.
+    exits: Exits,
+}
+
+impl Code {
+    /// An expression, from whose entry a run goes to an exit. The right operand is there before the left one.
+    fn expression(&mut self, expr: &Expr, exits: Exits) -> Result<Emitted, Full>
+        requires exits { AreExits self.old exits }
+        ensures { OrFull (weight (tree_of expr.now)) self.old result (λ emitted.
+            Decides (weight (tree_of expr.now)) (meaning (tree_of expr.now)) exits emitted.entry self.old self.new
+            × Renews exits emitted.exits self.old self.new) }
+    {
+        match expr {
+            Expr::Everything => Ok(Emitted {
+                entry: exits.yes,
+                exits,
+            }),
+            Expr::Test(primitive) => {
+                self.room(2 + cost(*primitive))?;
+                let exits = self.renew(exits);
+                let entry = self.primitive(*primitive, exits);
+                Ok(Emitted { entry, exits })
+            }
+            Expr::Not(operand) => {
+                let inner = self.expression(operand, exits.swapped())?;
+                Ok(Emitted {
+                    entry: inner.entry,
+                    exits: inner.exits.swapped(),
+                })
+            }
+            Expr::And(left, right) => {
+                let second = self.expression(right, exits)?;
+                let inner = Exits {
+                    yes: second.entry,
+                    no: second.exits.no,
+                };
+                let first = self.expression(left, inner)?;
+                Ok(Emitted {
+                    entry: first.entry,
+                    exits: Exits {
+                        yes: second.exits.yes,
+                        no: first.exits.no,
+                    },
+                })
+            }
+            Expr::Or(left, right) => {
+                let second = self.expression(right, exits)?;
+                let inner = Exits {
+                    yes: second.exits.yes,
+                    no: second.entry,
+                };
+                let first = self.expression(left, inner)?;
+                Ok(Emitted {
+                    entry: first.entry,
+                    exits: Exits {
+                        yes: first.exits.yes,
+                        no: second.exits.no,
+                    },
+                })
+            }
+        }
+    }
+}
+
+/// The program of an expression, whose entry is its first instruction.
+fn program_of(expr: &Expr, snap: u32) -> Result<Program, Full>
+    ensures { MatchResult result
+        (λ program. StandsFor program (tree_of expr.now) snap) (λ _. 500 < weight (tree_of expr.now)) }
+{
+    let mut code = Code::new(snap);
+    let emitted = code.expression(expr, Exits { yes: 2, no: 1 })?;
+    code.room(1)?;
+    code.near(emitted.entry, 0);
+    Ok(code.into_program())
+}
+
+/// Compiles an expression: the program answers the snapshot length where the expression accepts the packet, and else 0.
+///
+/// What an expression means is told in docs/LANGUAGE.md, after pcap-filter(7). A packet is what was captured of it and
+/// its length on the wire, in bytes; where a test wants a byte past the captured ones the packet is rejected, also
+/// under a `not`.
+///
+/// `BadSnap` comes exactly where `snap` is not from 1 to [`MAX_SNAP`] bytes. `TooLong` comes only where the
+/// expression's weight exceeds 500 (see [`weight`](crate::weight)). The other refusals do not come. It takes no memory.
+pub fn compile(expr: &Expr, snap: u32) -> Result<Program, Refusal>
+    ensures program { IfOk result (λ program. StandsFor program (tree_of expr.now) snap) }
+    ensures bad_snap { (result ≡ Err Refusal.BadSnap) ↔ IsBadSnap snap }
+    ensures too_long { result ≡ Err Refusal.TooLong → 500 < weight (tree_of expr.now) }
+    ensures too_deep { result ≢ Err Refusal.TooDeep }
+    ensures no_memory { result ≢ Err Refusal.NoMemory }
+{
+    if snap == 0 || snap > MAX_SNAP {
+        return Err(Refusal::BadSnap);
+    }
+    match program_of(expr, snap) {
+        Ok(program) => Ok(program),
+        Err(_) => Err(Refusal::TooLong),
+    }
+}

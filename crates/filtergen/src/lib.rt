@@ -1,0 +1,26 @@
+//! The compiler from filter expressions to programs of the filter machine.
+//!
+//! [`compile`] makes the program that stands for an expression: on every packet it answers the snapshot length where
+//! the expression accepts it, and else 0. [`evaluate`] answers an expression without compiling it, and [`weight`] tells
+//! how much room an expression may take: up to [`MAX_WEIGHT`] it compiles. Nothing here takes memory.
+#![tactic(auto)]
+
+mod code;
+mod compiler;
+mod evaluator;
+mod insns;
+mod primitives;
+mod refusal;
+mod verdict;
+mod weighing;
+
+pub use compiler::{MAX_SNAP, compile};
+pub use evaluator::evaluate;
+pub use refusal::Refusal;
+pub use verdict::Verdict;
+pub use weighing::{MAX_WEIGHT, weight};
+
+#[cfg(test)]
+mod comparison_tests;
+#[cfg(test)]
+mod tests;

@@ -1,0 +1,20 @@
+//! Why an expression is not compiled.
+
+use thiserror::Error;
+
+/// Why an expression is not compiled. `BadSnap` is looked for first.
+#[derive(Clone, Copy, Debug, PartialEq, Eq, Error)]
+pub enum Refusal {
+    /// The program would not fit into 512 instructions. It comes only where the expression's weight is above 500.
+    #[error("TooLong")]
+    TooLong,
+    /// A relation takes more than 16 cells of the scratch memory. It does not come, since there are no relations yet.
+    #[error("TooDeep")]
+    TooDeep,
+    /// The snapshot length is not from 1 to 262,144.
+    #[error("BadSnap")]
+    BadSnap,
+    /// Memory was refused. It does not come, since the compiler takes none.
+    #[error("NoMemory")]
+    NoMemory,
+}
