@@ -40,7 +40,10 @@ fn a_listener_keeps_what_its_filter_says(rt: HostRuntime) {
     let all = filter(rt.alloc(), "", 10).expect(&rt, "a filter");
     assert_eq!(rt; kept(&all, &frame, 61), 10);
     let fault = filter(rt.alloc(), "tcp and 80", 20).err();
-    assert_eq!(rt; fault, Some(NoFilter::Text(filterlang::Fault::NoQualifier(8))));
+    assert_eq!(rt;
+        fault,
+        Some(NoFilter::Text(filterlang::Fault::NoQualifier(8)))
+    );
     let refusal = filter(rt.alloc(), "tcp", 0).err();
     assert_eq!(rt; refusal, Some(NoFilter::Tree(Refusal::BadSnap)));
 }
