@@ -151,18 +151,18 @@ def hostile():
     deep = "(" * 64
     ors = " or ".join(["1"] * 1600)
     yield "ip", "ip", 0
-    yield "a chain of words", "ip" + "||ip" * 2047, 0
-    yield "a chain of hosts that inherit", "host 10.0.0.1" + " or 10.0.0.1" * 681, 0
+    yield "a chain of words", "ip" + "||ip" * 2047, 1
+    yield "a chain of hosts that inherit", "host 10.0.0.1" + " or 10.0.0.1" * 681, 1
     yield "negations", "||".join(["!" * 62 + "ip"] * 124), 0
-    yield "the deepest tree", "!" * 64 + "net 1" + "||1" * 2707, 0
-    yield "short parentheses", "||".join(["(ip)"] * 1365), 0
-    yield "64 levels round a chain", deep + "ip" + "||ip" * 2015 + ")" * 64, 0
+    yield "the deepest tree", "!" * 64 + "net 1" + "||1" * 2707, 1
+    yield "short parentheses", "||".join(["(ip)"] * 1365), 1
+    yield "64 levels round a chain", deep + "ip" + "||ip" * 2015 + ")" * 64, 1
     yield "a chain of 64 levels", "||".join([deep + "ip" + ")" * 64] * 62), 0
     yield "64 levels that are not closed", deep + "ip" + "||ip" * 2031, 1
     yield "parentheses that are not closed", "(" * 8192, 1
     yield "64 levels that an operator follows", deep + "ip" + "||ip" * 2013 + ")" * 64 + "&1=1", 1
-    yield "a group", "port (" + ors + ")", 0
-    yield "64 levels of a group", "port " + deep + ors + ")" * 64, 0
+    yield "a group", "port (" + ors + ")", 1
+    yield "64 levels of a group", "port " + deep + ors + ")" * 64, 1
     yield "blanks", "ip" + " " * 8190, 0
 
 

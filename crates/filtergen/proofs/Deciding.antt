@@ -2,14 +2,14 @@
 use Rattle.std.proofs.Common.{◌≡◌, ℕ, suc, ◌+◌, ◌-◌, ◌<◌, ◌≤◌, Bool, true, false, List, ◌∷◌, length, Option, Some, None, refl, sym, ap, ◌∙◌, arith, if◌then◌else◌, bit_and}
 use Rattle.bpfvm.specs.declared.insn.Insn.{Insn}
 use Rattle.bpfvm.specs.Codes.{Accumulator}
-use Rattle.bpfvm.specs.Machine.{Registers, with_value, loaded, effect}
+use Rattle.bpfvm.specs.Machine.{Registers, with_value, Goes, loaded, effect}
 use Rattle.filtergen.specs.declared.code.Exits.{Exits}
 use Rattle.filtergen.specs.declared.verdict.Verdict.{Verdict}
 use Rattle.filtergen.specs.declared.verdict.Verdict.TheVariants.{Yes, No, Abort}
 use Rattle.filtergen.specs.Meaning.{Packet, HasBytes, Test, and_then, or_else, opposite, both, either, negation, check, decided}
 use Rattle.filtergen.specs.Insns.{plain_insn}
-use Rattle.filtergen.specs.Emission.{IsPlace, AreExits, HasCells, run_from, Answers, Extends, Renews, outcome, Chooses, with_loaded, Follows, Decides}
-use Rattle.filtergen.proofs.Runs.{extends-none, extends-both, extends-more, answers-kept, renews-kept, mask-effect}
+use Rattle.filtergen.specs.Emission.{IsPlace, AreExits, HasCells, run_from, Answers, Extends, Passes, Renews, outcome, Chooses, with_loaded, Follows, Decides}
+use Rattle.filtergen.proofs.Runs.{after, answer-first, front-place, extends-none, extends-one, extends-both, extends-more, answers-kept, renews-kept, mask-effect}
 use Rattle.filtergen.proofs.Following.{decides-followed, follows-loaded, follows-exits}
 
 outcome-both : (v w : Verdict) (m n : ℕ) → outcome v (outcome w m n) n ≡ outcome (and_then v w) m n
@@ -124,18 +124,31 @@ no-exits are second = ((are.0.0, omega (arith, are.0.1, second.extends.longer)),
 pub decides-always : (exits : Exits) (code : List Insn) → AreExits code exits → Decides 0 (λ p. Yes) exits exits.yes code code
 decides-always exits code are = record { extends = extends-none code; here = are.0; decides = λ p m n bytes yes' no'. yes' }
 
--- a load in front of a choice by the accumulator
-pub decides-tested : {m : ℕ} (i : Insn) (value : Packet → Option ℕ) (f : ℕ → Bool) {exits : Exits} {a b : List Insn}
+-- a load in front of a choice by the accumulator, whose exits may be passed by such a load
+pub decides-tested : {m y n : ℕ} (i : Insn) (value : Packet → Option ℕ) (f : ℕ → Bool) {exits : Exits} {a b : List Insn}
     → ((p : Packet) (r : Registers) → effect p.captured p.wire i r ≡ loaded Accumulator r (value p))
-    → AreExits a exits → Chooses m (λ r. f r.accumulator) exits a b
+    → Passes i exits.yes y a → Passes i exits.no n a → Chooses m (λ r. f r.accumulator) (record { yes = y; no = n }) a b
     → Decides (m + 1) (λ p. check f (value p)) exits (suc (length b)) a (i ∷ b)
-decides-tested i value f {exits} loads are choice =
-    decides-followed (λ r p. with_loaded Accumulator r (value p) (λ r' p'. decided (f r'.accumulator)) p) (λ p. check f (value p)) (λ r p bytes. by_value r p (value p))
-    (follows-loaded i Accumulator (λ r. value) (λ r p. decided (f r.accumulator)) loads (follows-exits (λ r. f r.accumulator) are choice))
+decides-tested {m} {y} {n} i value f {exits} {a} {b} loads yes-passed no-passed choice = record {
+  extends = extends-both choice.extends (extends-one i b);
+  here = (omega arith, omega arith);
+  decides = λ p k l bytes yes' no'. record {
+    always = λ r cells. front-place (i ∷ b) p r ∙ answer-first i b p r _ (loads p r) ∙ by_value p k l r cells yes' no' (value p) refl;
+  };
+}
   where
-    by_value : (r : Registers) (p : Packet) (v : Option ℕ) → with_loaded Accumulator r v (λ r' p'. decided (f r'.accumulator)) p ≡ check f v
-    by_value r p None = refl
-    by_value r p (Some n) = refl
+    by_choice : (c : Bool) (k l s t : ℕ) → s ≡ k → t ≡ l → (if c then s else t) ≡ outcome (decided c) k l
+    by_choice true k l s t first second = first
+    by_choice false k l s t first second = second
+
+    by_value : (p : Packet) (k l : ℕ) (r : Registers) → HasCells r → Answers a exits.yes p k → Answers a exits.no p l → (v : Option ℕ) → value p ≡ v
+        → after b p (loaded Accumulator r v) ≡ outcome (check f v) k l
+    by_value p k l r cells yes' no' None is = refl
+    by_value p k l r cells yes' no' (Some x) is =
+        let r' = with_value Accumulator x r in
+        let unchanged : effect p.captured p.wire i r' ≡ Goes 0 r' = loads p r' ∙ ap (loaded Accumulator r') is in
+        choice.chooses p r'
+        ∙ by_choice (f x) k l _ _ (yes-passed.leads p r' unchanged ∙ yes'.always r' cells) (no-passed.leads p r' unchanged ∙ no'.always r' cells)
 
 -- the same with bits taken in between
 pub decides-masked : {m : ℕ} (i : Insn) (mask : ℕ) (value : Packet → Option ℕ) (f : ℕ → Bool) {exits : Exits} {a b : List Insn}

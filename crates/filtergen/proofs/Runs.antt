@@ -1,5 +1,9 @@
 -- Runs over code that instructions are put in front of.
-use Rattle.std.proofs.Common.{◌≡◌, ℕ, zero, suc, ◌+◌, ◌-◌, ◌<◌, ◌≤◌, Bool, true, false, List, [], ◌∷◌, length, Option, Some, None, refl, sym, ap, subst, ◌∙◌, arith, if◌then◌else◌, bit_and, option_map, ◌*◌, ◌⊎◌, inl, inr}
+use Rattle.std.proofs.Common.{◌≡◌, ℕ, zero, suc, ◌+◌, ◌-◌, ◌<◌, ◌≤◌, Bool, true, false, List, [], ◌∷◌, length, Option, Some, None, refl, sym, ap, subst, ◌∙◌, arith, if◌then◌else◌, bit_and, option_map, ◌*◌, ◌⊎◌, inl, inr, get_or, reverse, ◌&&◌, ◌==◌}
+use Rattle.std.proofs.lemmas.Bool.Decides.{nat_tests}
+use Rattle.std.specs.List.{slice_get}
+use Rattle.std.proofs.lemmas.List.{get_or-reverse, length-reverse}
+use Rattle.std.proofs.lemmas.Option.{slice_get-get_or}
 use Rattle.std.proofs.lemmas.Bool.{cases_lt}
 use Rattle.bpfvm.specs.declared.insn.Insn.{Insn}
 use Rattle.bpfvm.specs.Codes.{Register, Accumulator, Index, operation_of}
@@ -13,7 +17,7 @@ use Rattle.filtergen.specs.declared.insns.Field.{Field}
 use Rattle.filtergen.specs.declared.insns.Field.TheVariants as fields
 use Rattle.filtergen.specs.Meaning.{Packet}
 use Rattle.filtergen.specs.Insns.{plain_insn, branch_insn, load_insn}
-use Rattle.filtergen.specs.Emission.{IsPlace, AreExits, HasCells, run_from, Answers, Extends, condition, field_of, Nears, Renews, Chooses}
+use Rattle.filtergen.specs.Emission.{IsPlace, AreExits, HasCells, run_from, Answers, Extends, condition, field_of, Passes, Nears, Renews, Chooses}
 
 -- a run over code goes on behind its first instruction, or ends
 abbrev pub after : List Insn → Packet → Effect → ℕ
@@ -60,6 +64,58 @@ answers-kept place n p extends within before = record { always = λ r cells. ext
 -- the front answers as the code's first instruction does
 pub front-place : (code : List Insn) (p : Packet) (r : Registers) → run_from code (length code) p r ≡ answer code p.captured p.wire 0 r
 front-place code p r = let none : length code - length code ≡ 0 = omega arith in ap (λ n. answer code p.captured p.wire n r) none
+
+-- an instruction that changes nothing may be passed
+passing : (code : List Insn) (k : ℕ) (i : Insn) (p : Packet) (r : Registers) → slice_get code k ≡ Some i → effect p.captured p.wire i r ≡ Goes 0 r
+    → answer code p.captured p.wire (suc k) r ≡ answer code p.captured p.wire k r
+unfolding answer
+passing [] k i p r here is = absurd cc
+passing (j ∷ rest) zero i p r here is =
+    let same : i ≡ j = cc in
+    sym (answer-first j rest p r (Goes 0 r) (subst (λ (x : Insn). effect p.captured p.wire x r ≡ Goes 0 r) same is))
+passing (j ∷ rest) (suc k) i p r here is = passing rest k i p r here is
+
+pub passes-itself : (i : Insn) (place : ℕ) (code : List Insn) → IsPlace code place → Passes i place place code
+passes-itself i place code here = record { here = here; leads = λ p r is. refl }
+
+abbrev pub insn_of : ℕ → ℕ → ℕ → ℕ → Insn
+insn_of code jt jf k = record { code = code; jt = jt; jf = jf; k = k }
+
+four-true : (a b c d : Bool) → true ≡ (a && (b && (c && d))) → (a ≡ true) × (b ≡ true) × (c ≡ true) × (d ≡ true)
+four-true true true true true is = (refl, refl, refl, refl)
+four-true true true true false is = absurd cc
+four-true true true false d is = absurd cc
+four-true true false c d is = absurd cc
+four-true false b c d is = absurd cc
+
+equal-true : (m n : ℕ) → (m == n) ≡ true → m ≡ n
+equal-true m n is = grind (arith, nat_tests)
+
+-- instructions whose fields are the same are the same
+pub same-insn : (i j : Insn) → true ≡ ((i.code == j.code) && ((i.jt == j.jt) && ((i.jf == j.jf) && (i.k == j.k)))) → i ≡ j
+same-insn i j is =
+    let each = four-true (i.code == j.code) (i.jt == j.jt) (i.jf == j.jf) (i.k == j.k) is in
+    ap (λ n. insn_of n i.jt i.jf i.k) (equal-true i.code j.code each.0)
+    ∙ ap (λ n. insn_of j.code n i.jf i.k) (equal-true i.jt j.jt each.1)
+    ∙ ap (λ n. insn_of j.code j.jt n i.k) (equal-true i.jf j.jf each.2)
+    ∙ ap (λ n. insn_of j.code j.jt j.jf n) (equal-true i.k j.k each.3)
+
+-- the code's last instruction comes first in its buffer
+pub passes-one : (i d : Insn) (place : ℕ) (items : List Insn) → 1 < place → place ≤ length items → get_or items (place - 1) d ≡ i → Passes i place (place - 1) (reverse items)
+passes-one i d place items behind' within is =
+    let code = reverse items in
+    let l : length code ≡ length items = length-reverse items in
+    let k = length items - place in
+    let at : get_or code k d ≡ get_or items (length items - 1 - k) d = get_or-reverse items k d (omega arith) in
+    let same : length items - 1 - k ≡ place - 1 = omega arith in
+    let here : slice_get code k ≡ Some i = slice_get-get_or code k d (omega arith) ∙ ap Some (at ∙ ap (λ n. get_or items n d) same ∙ is) in
+    let next : length code - (place - 1) ≡ suc k = omega arith in
+    let this : length code - place ≡ k = omega arith in
+    record {
+      here = (omega arith, omega arith);
+      leads = λ p r unchanged.
+          ap (λ n. answer code p.captured p.wire n r) next ∙ passing code k i p r here unchanged ∙ sym (ap (λ n. answer code p.captured p.wire n r) this);
+    }
 
 pub near-itself : (place reach : ℕ) (code : List Insn) → IsPlace code place → length code - place ≤ reach → Nears place reach place code code
 near-itself place reach code here reached = record {

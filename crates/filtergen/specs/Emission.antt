@@ -2,7 +2,7 @@
 use Rattle.std.specs.Prelude.{◌≡◌, ℕ, ◌+◌, ◌-◌, ◌<◌, ◌≤◌, List, ◌∷◌, length, Bool, Option, Some, None, if◌then◌else◌, Result, MatchResult}
 use Rattle.bpfvm.specs.declared.insn.Insn.{Insn}
 use Rattle.bpfvm.specs.Codes.{Register, Comparison, Equal, Greater, GreaterOrEqual, AnyBit}
-use Rattle.bpfvm.specs.Machine.{Registers, with_value, answer, holds}
+use Rattle.bpfvm.specs.Machine.{Registers, with_value, Goes, effect, answer, holds}
 use Rattle.filtergen.specs.declared.code.Exits.{Exits}
 use Rattle.filtergen.specs.declared.code.Full.{Full}
 use Rattle.filtergen.specs.declared.insns.Jump.{Jump}
@@ -54,6 +54,11 @@ pub record Nears (place reach near : ℕ) (old new : List Insn) : Type 0 where
   pub kept : length old - place ≤ reach → new ≡ old
   pub moved : reach < length old - place → near ≡ length new
   pub leads : (p : Packet) (r : Registers) → run_from new near p r ≡ run_from old place p r
+
+-- a place from which a run in which the instruction would change nothing goes on as from the place
+pub record Passes (insn : Insn) (place passed : ℕ) (code : List Insn) : Type 0 where
+  pub here : IsPlace code passed
+  pub leads : (p : Packet) (r : Registers) → effect p.captured p.wire insn r ≡ Goes 0 r → run_from code passed p r ≡ run_from code place p r
 
 -- places of new from which a run goes on as from the exits of old
 pub record Renews (exits renewed : Exits) (old new : List Insn) : Type 0 where

@@ -6,7 +6,7 @@ ghost use Rattle.bpfvm.specs.Validity.{fault_of, IsValidProgram};
 ghost use Rattle.bpfvm.specs.Machine.{holds};
 ghost use Rattle.filtergen.specs.Meaning.{check, within};
 ghost use Rattle.filtergen.specs.Insns.{plain_insn};
-ghost use Rattle.filtergen.specs.Emission.{IsPlace, AreExits, Extends, comparison_of, condition, field_of, Nears, Renews, Chooses, Decides};
+ghost use Rattle.filtergen.specs.Emission.{IsPlace, AreExits, Extends, comparison_of, condition, field_of, Passes, Nears, Renews, Chooses, Decides};
 
 use crate::insns::{Field, Jump, Operand, branch_insn, load_insn, plain_insn};
 use arrayvec::ArrayVec;
@@ -164,15 +164,34 @@ impl Code {
         }
     }
 
-    /// Goes to an exit by a comparison of a number of the packet.
+    /// The place, or the one behind it where this instruction stands there: for a run in which it would change nothing.
+    fn passed(&self, insn: Insn, place: usize) -> usize
+        requires { IsPlace self.now place }
+        ensures { Passes insn place result self.now }
+    {
+        let found = self.insns.as_slice()[place - 1];
+        if place > 1 && found == insn {
+            place - 1
+        } else {
+            place
+        }
+    }
+
+    /// Goes to an exit by a comparison of a number of the packet. An exit that begins with the same load is passed: the
+    /// number is still in the accumulator.
     pub fn test(&mut self, field: Field, jump: Jump, value: u32, exits: Exits) -> usize
         requires room { length self.old + 4 ≤ 512 }
         requires exits { AreExits self.old exits }
         ensures { Decides 4 (λ p. check (λ n. holds (comparison_of jump) n value) (field_of field p)) exits result
             self.old self.new }
     {
+        let load = load_insn(field);
+        let exits = Exits {
+            yes: self.passed(load, exits.yes),
+            no: self.passed(load, exits.no),
+        };
         self.branch(jump, Operand::Constant(value), exits);
-        self.push(load_insn(field));
+        self.push(load);
         self.len()
     }
 

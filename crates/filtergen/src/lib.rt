@@ -21,6 +21,8 @@ pub use verdict::Verdict;
 pub use weighing::{MAX_WEIGHT, weight};
 
 #[cfg(test)]
+mod caller_tests;
+#[cfg(test)]
 mod comparison_tests;
 #[cfg(test)]
 mod tests;

@@ -6,7 +6,7 @@ use Rattle.filtergen.specs.Insns.{load_insn}
 use Rattle.filtergen.specs.Meaning.{byte, check}
 use Rattle.filtergen.specs.Parts.{has_port_number}
 use Rattle.filtergen.proofs.Growing.{load-sound}
-use Rattle.filtergen.proofs.Runs.{load-effect, chooses-either}
+use Rattle.filtergen.proofs.Runs.{load-effect, chooses-either, passes-itself}
 use Rattle.filtergen.proofs.Deciding.{decides-tested, decides-same}
 use Rattle.filtergen.proofs.Sharing.{three_numbers}
 use Rattle.filtergen.proofs.code.Code.port_number.Goals as goal
@@ -21,4 +21,4 @@ returns c =
     let tcp = chooses-either (λ r. r.accumulator == 6) (λ r. if r.accumulator == 17 then true else r.accumulator == 132) are c.len-udp.ensures.value udp c.branch-self-3.ensures in
     rw (c.len.ensures.value, c.push.ensures, c.load_insn.ensures)
     (decides-same _ has_port_number (λ p bytes. three_numbers (byte 23 p) (λ b. b == 6) (λ b. b == 17) (λ b. b == 132))
-    (decides-tested (load_insn (fields.Byte 23)) (byte 23) (λ b. if b == 6 then true else (if b == 17 then true else b == 132)) (load-effect (fields.Byte 23)) are tcp))
+    (decides-tested (load_insn (fields.Byte 23)) (byte 23) (λ b. if b == 6 then true else (if b == 17 then true else b == 132)) (load-effect (fields.Byte 23)) (passes-itself _ _ _ are.0) (passes-itself _ _ _ are.1) tcp))

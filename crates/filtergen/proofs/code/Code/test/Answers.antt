@@ -8,10 +8,10 @@ use Rattle.filtergen.proofs.Deciding.{decides-tested}
 use Rattle.filtergen.proofs.code.Code.test.Goals as goal
 
 pub push-requires-clause-sound : goal.push-requires-clause-sound
-push-requires-clause-sound c = rw c.load_insn.ensures (load-sound c.args.field _)
+push-requires-clause-sound c = rw c.load_insn-load.ensures (load-sound c.args.field _)
 
 pub returns : goal.returns
 returns c =
     let v = c.args.value in
-    rw (c.len.ensures.value, c.push.ensures, c.load_insn.ensures)
-    (decides-tested (load_insn c.args.field) (field_of c.args.field) (λ n. holds (comparison_of c.args.jump) n v) (load-effect c.args.field) c.requires.exits c.branch-self.ensures)
+    rw (c.len.ensures.value, c.push.ensures, c.load_insn-load.ensures)
+    (decides-tested (load_insn c.args.field) (field_of c.args.field) (λ n. holds (comparison_of c.args.jump) n v) (load-effect c.args.field) (rw c.load_insn-load.ensures at c.passed.ensures) (rw c.load_insn-load.ensures at c.passed-2.ensures) c.branch-self.ensures)
