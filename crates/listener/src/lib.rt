@@ -17,3 +17,6 @@ pub use listener::Listener;
 pub use message::{Message, Record};
 pub use mode::Mode;
 pub use records::Records;
+
+#[cfg(test)]
+mod tests;
