@@ -4,19 +4,20 @@ use Rattle.std.specs.Bool.{OnTrue}
 use Rattle.std.proofs.lemmas.Bool.{false≢true}
 use Rattle.std.proofs.lemmas.List.{append-nil, take_min}
 use Rattle.std.proofs.Math.Seq.{drop-append_seam}
+use Rattle.savefile.specs.declared.packet.Packet.{Packet}
 use Rattle.bpfvm.specs.declared.insn.Insn.{Insn}
 use Rattle.bpfvm.specs.Machine.{verdict}
 use Rattle.listener.specs.declared.message.Message.{Message}
 use Rattle.listener.specs.declared.answer.Fed.TheVariants.{Passed, Stored, Held, Rotated, Dropped}
 use Rattle.listener.specs.declared.mode.Mode.{Mode}
 use Rattle.listener.specs.declared.mode.Mode.TheVariants.{Buffered, Immediate}
-use Rattle.listener.specs.Messages.{Arrival, cut_to, kept_by, size, size_of, room}
+use Rattle.listener.specs.Messages.{Arrival, arrival, cut_to, kept_by, size, size_of, room}
 use Rattle.listener.specs.PlainList.{Terms, PlainList, plain, arrived, Steps, load, StaysStored, IsHandedOver}
 use Rattle.listener.proofs.Rooms.{size_of_is}
 
 -- ---- What the program keeps of a packet
 
-pub kept_by_rejected : (program : List Insn) (snap : ℕ) (a : Arrival) → verdict program a.packet.bytes a.packet.len ≡ 0 → kept_by program snap a ≡ None
+kept_by_rejected : (program : List Insn) (snap : ℕ) (a : Arrival) → verdict program a.packet.bytes a.packet.len ≡ 0 → kept_by program snap a ≡ None
 unfolding kept_by
 kept_by_rejected program snap a h = rw h refl
 
@@ -42,16 +43,26 @@ pub record IsSeen (program : List Insn) (snap : ℕ) (a : Arrival) (kept : ℕ) 
   pub within : kept ≤ snap
   pub captured : kept ≤ length a.packet.bytes
 
-pub seen_cut : (program : List Insn) (snap : ℕ) (a : Arrival) (v kept : ℕ) → v ≡ verdict program a.packet.bytes a.packet.len → 0 < v →
-    kept ≡ min (min v snap) (length a.packet.bytes) → IsSeen program snap a kept
-seen_cut program snap a v kept is some e =
-    let k : kept ≡ min (min (verdict program a.packet.bytes a.packet.len) snap) (length a.packet.bytes) = e ∙ (λ i. min (min (is i) snap) (length a.packet.bytes)) in
+-- by what the code reads of the packet, which is seen as p
+pub seen_cut : (program : List Insn) (snap capture place : ℕ) (p q : Packet) (v most kept : ℕ) → q ≡ p → v ≡ verdict program q.bytes q.len → 0 < v →
+    most ≡ min v snap → kept ≡ min most (length q.bytes) → IsSeen program snap (arrival capture place p) kept
+seen_cut program snap capture place p q v most kept view is some m k =
+    let a = arrival capture place p in
+    let w : v ≡ verdict program p.bytes p.len = is ∙ ap (λ (x : Packet). verdict program x.bytes x.len) view in
+    let n : kept ≡ min (min v snap) (length p.bytes) = k ∙ (λ i. min (m i) (length (view i).bytes)) in
+    let e : kept ≡ min (min (verdict program p.bytes p.len) snap) (length p.bytes) = n ∙ (λ i. min (min (w i) snap) (length p.bytes)) in
     record {
-      message = kept_by_cut program snap a kept (subst (λ (x : ℕ). 0 < x) is some) k;
+      message = kept_by_cut program snap a kept (subst (λ (x : ℕ). 0 < x) w some) e;
       size = size_cut a kept (omega arith);
       within = omega arith;
       captured = omega arith;
     }
+
+-- a packet that the program rejects, by what the code reads of it
+pub seen_rejected : (program : List Insn) (snap capture place : ℕ) (p q : Packet) (v : ℕ) → q ≡ p → v ≡ verdict program q.bytes q.len → v ≡ 0 →
+    kept_by program snap (arrival capture place p) ≡ None
+seen_rejected program snap capture place p q v view is none =
+    kept_by_rejected program snap (arrival capture place p) (sym (is ∙ ap (λ (x : Packet). verdict program x.bytes x.len) view) ∙ none)
 
 -- ---- The steps
 

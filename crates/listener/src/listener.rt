@@ -148,19 +148,22 @@ impl Listener {
         self.counts.matched += 1;
         let most = verdict.min(self.snap);
         let kept = (most as usize).min(packet.bytes.len()) as u32;
-        if self.store.put(capture, place, packet, kept) {
-            if hands_over(self.mode, &self.hold) {
+        let stored = self.store.put(capture, place, packet, kept);
+        if stored {
+            let at_once = hands_over(self.mode, &self.hold);
+            if at_once {
                 mem::swap(&mut self.store, &mut self.hold);
                 return Fed::Held;
             }
             return Fed::Stored;
         }
-        if !self.hold.is_empty() {
+        let free = self.hold.is_empty();
+        if !free {
             self.counts.dropped += 1;
             return Fed::Dropped;
         }
         mem::swap(&mut self.store, &mut self.hold);
-        self.store.put(capture, place, packet, kept);
+        let _moved = self.store.put(capture, place, packet, kept);
         Fed::Rotated
     }
 
