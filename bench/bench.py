@@ -3,6 +3,8 @@
 
   bench/bench.py                   wall time and peak memory on a capture of some 100 MB, interleaved runs
   bench/bench.py --instructions    user instructions for each packet, by valgrind's callgrind, on a small capture
+  bench/bench.py --listener        user instructions for each arrival of 660 bytes at a listener, by callgrind; proves and builds
+                                   bench/listener in a copy first, which takes some minutes
   bench/bench.py --expressions     wall time of `check` on expressions of some 8,192 bytes, interleaved runs, on a small stack
 
 Machines are noisy, so the ratios of one run are what to compare. Instructions are repeatable.
@@ -146,6 +148,28 @@ def instructions(folder):
         print(f"{name:40} {count:8.0f}")
 
 
+def listener_program(folder):
+    """Builds bench/listener over copies of the crates that it stands on, and tells where the program is."""
+    below = ["savefile", "bpfvm", "listener"]
+    for crate in below:
+        shutil.copytree(ROOT / "crates" / crate, folder / "crates" / crate, symlinks=True)
+    shutil.copytree(ROOT / "bench" / "listener", folder / "crates" / "listener_bench")
+    shutil.copy(ROOT / "HANDLES", folder)
+    lines = [line for line in (ROOT / "crates.txt").read_text().splitlines() if line.split(":")[0] in below]
+    (folder / "crates.txt").write_text("\n".join([*lines, f"listener_bench: {' '.join(below)}"]) + "\n")
+    subprocess.run(["git", "init", "-q"], cwd=folder, check=True)
+    crate = folder / "crates" / "listener_bench"
+    subprocess.run(["rt", "run", "--", "1"], cwd=crate, check=True, stdout=subprocess.DEVNULL, stderr=subprocess.DEVNULL)
+    return crate / "out" / "listener_bench"
+
+
+def arrivals(folder):
+    """Instructions for each arrival that is stored, with a read behind each rotation."""
+    program = str(listener_program(folder))
+    count = instructions_of([program, "101000"], folder) - instructions_of([program, "1000"], folder)
+    print(f"user instructions for each arrival of 660 bytes, by callgrind: {count / 100000:.0f}")
+
+
 def hostile():
     """Name, text and exit status of expressions near the limit of 8,192 bytes, each meant to be slow or deep."""
     deep = "(" * 64
@@ -186,9 +210,13 @@ def main():
     parser = argparse.ArgumentParser(description=__doc__, formatter_class=argparse.RawDescriptionHelpFormatter)
     parser.add_argument("--instructions", action="store_true")
     parser.add_argument("--expressions", action="store_true")
+    parser.add_argument("--listener", action="store_true")
     parser.add_argument("--packets", type=int, default=150000)
     parser.add_argument("--rounds", type=int, default=5)
     words = parser.parse_args()
+    if words.listener:
+        with tempfile.TemporaryDirectory() as name:
+            return arrivals(pathlib.Path(name))
     subprocess.run([str(ROOT / "bpftap"), "--help"], check=True, stdout=subprocess.DEVNULL)
     with tempfile.TemporaryDirectory() as name:
         folder = pathlib.Path(name)

@@ -1,0 +1,346 @@
+//! Worked examples over the public functions.
+
+use super::*;
+use bpfvm::{Insn, Program};
+use savefile::PacketRef;
+use std::alloc::{AllocError, Global};
+use std::process::Abort;
+use std::test::Fail;
+
+mod caller;
+mod plain;
+
+/// A program that accepts each packet, with at most so many bytes.
+fn keeping(most: u32) -> Result<Program, bpfvm::Invalid> {
+    Program::new(&[Insn {
+        code: bpfvm::code::RET_K,
+        jt: 0,
+        jf: 0,
+        k: most,
+    }])
+}
+
+/// A packet of one second and these bytes.
+fn packet(bytes: &[u8]) -> PacketRef<'_> {
+    PacketRef {
+        sec: 1,
+        nanos: 0,
+        len: 60,
+        bytes,
+    }
+}
+
+/// The places of a buffer's messages.
+fn places(alloc: Global, buffer: &Buffer) -> Result<String, AllocError> {
+    let mut out = String::new(alloc);
+    for record in buffer.records() {
+        let place = format!(in alloc; " {}", record.place)?;
+        out.push_str(place.as_str())?;
+    }
+    Ok(out)
+}
+
+/// One step of a script at a listener: `a` is an arrival of 60 bytes, `f` a flush, `r` a read and `c` a close.
+fn step(alloc: Global, listener: &mut Listener, step: char, place: u64) -> Result<String, Fail> {
+    match step {
+        'a' if listener.counts().received < u64::MAX => {
+            let fed = listener.arrive(0, place, &packet(&[7; 60]));
+            Ok(format!(in alloc; "{fed:?}")?)
+        }
+        'f' => Ok(format!(in alloc; "{}", listener.flush())?),
+        'r' => {
+            let empty = Buffer::new(alloc, listener.capacity())?;
+            match listener.read(empty) {
+                Read::Full(buffer) => Ok(format!(in alloc; "Full{}", places(alloc, &buffer)?)?),
+                Read::Nothing(_) => Ok(format!(in alloc; "Nothing")?),
+            }
+        }
+        _ => {
+            listener.close();
+            Ok(format!(in alloc; "closed")?)
+        }
+    }
+}
+
+/// What a listener of snapshot length 32 answers to a script, what it has then, and its counts.
+fn played(
+    rt: &(impl Abort + AllocGlobal),
+    capacity: usize,
+    mode: Mode,
+    script: &str,
+    want: &str,
+) -> Result<(), Fail> {
+    let alloc = rt.alloc();
+    let program = keeping(262_144)?;
+    let mut listener = Listener::open_as(alloc, program, 32, capacity, mode)?;
+    let mut out = String::new(alloc);
+    let mut place = 0;
+    for one in script.chars() {
+        let answer = step(alloc, &mut listener, one, place)?;
+        let line = format!(in alloc; "{answer}, ")?;
+        out.push_str(line.as_str())?;
+        if one == 'a' {
+            place = place.wrapping_add(1);
+        }
+    }
+    let (hold, store) = listener.buffers();
+    let left = format!(in alloc;
+        "held{}, stored{}",
+        places(alloc, hold)?,
+        places(alloc, store)?
+    )?;
+    out.push_str(left.as_str())?;
+    let counts = listener.counts();
+    let line = format!(in alloc;
+        "; {} {} {}",
+        counts.received, counts.matched, counts.dropped
+    )?;
+    out.push_str(line.as_str())?;
+    assert_eq!(rt; out.as_str(), want);
+    Ok(())
+}
+
+#[test]
+fn a_full_store_rotates_and_then_drops(rt: HostRuntime) -> Result<(), Fail> {
+    played(
+        &rt,
+        64,
+        Mode::Buffered,
+        "aaara",
+        "Stored, Rotated, Dropped, Full 0, Rotated, held 1, stored 3; 4 4 1",
+    )
+}
+
+#[test]
+fn a_store_that_is_just_full_stores(rt: HostRuntime) -> Result<(), Fail> {
+    played(
+        &rt,
+        128,
+        Mode::Buffered,
+        "aarfcarcf",
+        "Stored, Stored, Nothing, true, closed, Closed, Nothing, closed, false, held 0 1, stored; 2 2 0",
+    )
+}
+
+#[test]
+fn each_mode_hands_over_in_its_way(rt: HostRuntime) -> Result<(), Fail> {
+    played(
+        &rt,
+        128,
+        Mode::Immediate,
+        "aaaararacar",
+        "Held, Stored, Stored, Dropped, Full 0, Rotated, Full 1 2, Held, closed, Closed, Nothing, held 4 5, stored; 6 6 1",
+    )?;
+    played(
+        &rt,
+        128,
+        Mode::Buffered,
+        "aaaararacar",
+        "Stored, Stored, Rotated, Stored, Full 0 1, Rotated, Full 2 3, Stored, closed, Closed, Nothing, held, stored 4 5; 6 6 0",
+    )
+}
+
+/// Capture 0, place 1, second 2, 3,000 nanoseconds, 60 bytes on the wire, data aa bb cc.
+const RECORD: [u8; 40] = [
+    2, 0, 0, 0, 0xb8, 0x0b, 0, 0, 3, 0, 0, 0, 0x3c, 0, 0, 0, 1, 0, 0, 0, 0, 0, 0, 0, 0, 0, 0, 0, 0,
+    0, 0, 0, 0xaa, 0xbb, 0xcc, 0, 0, 0, 0, 0,
+];
+
+/// So many bytes: 0, 1, 2 and on.
+fn numbered(alloc: Global, len: usize) -> Result<Vec<u8>, AllocError> {
+    let mut bytes = Vec::new(alloc);
+    for i in 0..len {
+        bytes.push((i % 256) as u8)?;
+    }
+    Ok(bytes)
+}
+
+/// Puts the first bytes of a packet into a buffer.
+fn put(
+    rt: &impl Abort,
+    buffer: &mut Buffer,
+    capture: u32,
+    place: u64,
+    packet: &PacketRef<'_>,
+    kept: u32,
+) -> bool {
+    assert!(rt; kept <= 262_144);
+    assert!(rt; kept as usize <= packet.bytes.len());
+    buffer.put(capture, place, packet, kept)
+}
+
+#[test]
+fn a_record_has_its_bytes(rt: HostRuntime) -> Result<(), Fail> {
+    let mut buffer = Buffer::new(rt.alloc(), 40)?;
+    let data = [0xaa, 0xbb, 0xcc];
+    let packet = PacketRef {
+        sec: 2,
+        nanos: 3000,
+        len: 60,
+        bytes: &data,
+    };
+    assert!(rt; buffer.fits(3));
+    assert!(rt; put(&rt, &mut buffer, 0, 1, &packet, 3));
+    assert!(rt; buffer.bytes() == RECORD.as_slice());
+    // no room for a record without data
+    assert!(rt; !buffer.fits(0));
+    assert!(rt; !put(&rt, &mut buffer, 0, 2, &packet, 0));
+    assert!(rt; buffer.bytes() == RECORD.as_slice());
+    assert_eq!(rt; buffer.len(), 1);
+    // emptied, it has the same room again
+    buffer.clear();
+    assert!(rt; buffer.is_empty());
+    assert_eq!(rt; buffer.len(), 0);
+    assert_eq!(rt; buffer.capacity(), 40);
+    assert!(rt; put(&rt, &mut buffer, 0, 1, &packet, 3));
+    assert!(rt; buffer.bytes() == RECORD.as_slice());
+    Ok(())
+}
+
+/// A record shows the greatest fields, and these bytes.
+fn shows(rt: &impl Abort, record: Record<'_>, bytes: &[u8]) {
+    assert_eq!(rt; record.capture, u32::MAX - 2);
+    assert_eq!(rt; record.place, u64::MAX - 3);
+    assert_eq!(rt; record.sec, u32::MAX);
+    assert_eq!(rt; record.nanos, 999_999_999);
+    assert_eq!(rt; record.len, u32::MAX - 1);
+    assert!(rt; record.bytes == bytes);
+}
+
+#[test]
+fn records_show_what_was_put(rt: HostRuntime) -> Result<(), Fail> {
+    let mut buffer = Buffer::new(rt.alloc(), 64)?;
+    let data = numbered(rt.alloc(), 60)?;
+    let want = numbered(rt.alloc(), 25)?;
+    let packet = PacketRef {
+        sec: u32::MAX,
+        nanos: 999_999_999,
+        len: u32::MAX - 1,
+        bytes: &data,
+    };
+    assert!(rt; put(&rt, &mut buffer, u32::MAX - 2, u64::MAX - 3, &packet, 25));
+    assert_eq!(rt; buffer.bytes().len(), 64);
+    let mut found = false;
+    for record in buffer.records() {
+        found = true;
+        shows(&rt, record, &want);
+        let message = record.to_message(rt.alloc())?;
+        shows(&rt, message.as_record(), &want);
+    }
+    assert!(rt; found);
+    Ok(())
+}
+
+/// A record with so many bytes of data takes so many bytes of a buffer of that capacity, or finds no room in it.
+fn takes(
+    rt: &(impl Abort + AllocGlobal),
+    packet: &PacketRef<'_>,
+    kept: u32,
+    capacity: usize,
+    want: usize,
+) -> Result<(), Fail> {
+    let mut buffer = Buffer::new(rt.alloc(), capacity)?;
+    put(rt, &mut buffer, 0, 0, packet, kept);
+    assert_eq!(rt; buffer.bytes().len(), want, "at {kept} in {capacity}");
+    Ok(())
+}
+
+#[test]
+fn a_record_takes_its_size(rt: HostRuntime) -> Result<(), Fail> {
+    let data = numbered(rt.alloc(), 262_144)?;
+    let packet = packet(&data);
+    takes(&rt, &packet, 0, 40, 32)?;
+    takes(&rt, &packet, 1, 40, 40)?;
+    takes(&rt, &packet, 24, 56, 56)?;
+    takes(&rt, &packet, 24, 55, 0)?;
+    takes(&rt, &packet, 25, 64, 64)?;
+    takes(&rt, &packet, 25, 63, 0)?;
+    takes(&rt, &packet, 32, 64, 64)?;
+    takes(&rt, &packet, 262_144, 262_176, 262_176)?;
+    takes(&rt, &packet, 262_144, 262_175, 0)
+}
+
+/// The fault of an answer, or `Ok`.
+fn told<T: Drop>(alloc: Global, answer: Result<T, OpenFault>) -> Result<String, AllocError> {
+    match answer {
+        Ok(_) => format!(in alloc; "Ok"),
+        Err(fault) => format!(in alloc; "{fault}"),
+    }
+}
+
+/// Capacities, and how a buffer of each is made.
+const BUFFERS: [(usize, &str); 6] = [
+    (39, "BadCapacity"),
+    (40, "Ok"),
+    (1_048_576, "Ok"),
+    (1_048_577, "BadCapacity"),
+    (0, "BadCapacity"),
+    (usize::MAX, "BadCapacity"),
+];
+
+/// Snapshot lengths and capacities, and how a listener with each is opened.
+const LISTENERS: [(u32, usize, &str); 12] = [
+    (0, 64, "BadSnap"),
+    (0, 0, "BadSnap"),
+    (262_145, 1_048_576, "BadSnap"),
+    (u32::MAX, 0, "BadSnap"),
+    (1, 40, "Ok"),
+    (1, 39, "BadCapacity"),
+    (10, 48, "Ok"),
+    (10, 47, "BadCapacity"),
+    (262_144, 262_176, "Ok"),
+    (262_144, 262_175, "BadCapacity"),
+    (262_144, 1_048_576, "Ok"),
+    (1, 1_048_577, "BadCapacity"),
+];
+
+/// A listener is opened so in both modes.
+fn opens(
+    rt: &(impl Abort + AllocGlobal),
+    snap: u32,
+    capacity: usize,
+    want: &str,
+) -> Result<(), Fail> {
+    let opened = Listener::open(rt.alloc(), keeping(1)?, snap, capacity);
+    let got = told(rt.alloc(), opened)?;
+    assert_eq!(rt; got.as_str(), want, "at {snap} {capacity}");
+    let opened = Listener::open_as(rt.alloc(), keeping(1)?, snap, capacity, Mode::Immediate);
+    let got = told(rt.alloc(), opened)?;
+    assert_eq!(rt; got.as_str(), want, "at {snap} {capacity}");
+    Ok(())
+}
+
+#[test]
+fn capacities_and_snapshot_lengths_have_their_ranges(rt: HostRuntime) -> Result<(), Fail> {
+    for (capacity, want) in BUFFERS {
+        let got = told(rt.alloc(), Buffer::new(rt.alloc(), capacity))?;
+        assert_eq!(rt; got.as_str(), want, "at {capacity}");
+    }
+    for (snap, capacity, want) in LISTENERS {
+        opens(&rt, snap, capacity, want)?;
+    }
+    Ok(())
+}
+
+#[test]
+fn want_of_memory_is_told(rt: HostRuntime) -> Result<(), Fail> {
+    // With ample memory both are there. `rt try --test --fail-alloc N` refuses one of the requests.
+    let program = keeping(1)?;
+    let opened = Listener::open(rt.alloc(), program, 1, 40);
+    let told = match opened {
+        Ok(_) => OpenFault::NoMemory,
+        Err(fault) => fault,
+    };
+    assert_eq!(rt; told, OpenFault::NoMemory);
+    Ok(())
+}
+
+/// Takes what may be sent to another thread and dropped there.
+fn takes_what_is_sent<T: Send + Drop>(_value: T) {}
+
+#[test]
+fn values_may_be_sent(rt: HostRuntime) -> Result<(), Fail> {
+    takes_what_is_sent(Buffer::new(rt.alloc(), 40)?);
+    takes_what_is_sent(Listener::open(rt.alloc(), keeping(1)?, 1, 40)?);
+    Ok(())
+}

@@ -1,0 +1,263 @@
+//! The plain list as a slow program of its own, beside the listener, over random lists of steps.
+
+ghost use Rattle.std.specs.Prelude.{◌<◌};
+
+use super::*;
+use std::alloc::AllocError;
+
+/// A message: its place, how many bytes are kept of it, and the last of them.
+#[derive(Clone, Copy, Debug, PartialEq, Eq)]
+struct Kept {
+    place: u64,
+    len: usize,
+    last: u8,
+}
+
+/// What pends, how many of it are held, and the counts, as the table tells them.
+#[derive(Drop)]
+struct Slow {
+    capacity: usize,
+    mode: Mode,
+    pending: Vec<Kept>,
+    held: usize,
+    received: u64,
+    matched: u64,
+    dropped: u64,
+    closed: bool,
+}
+
+/// A record's size, counted up.
+fn size_of(len: usize) -> usize {
+    let mut size: usize = 32;
+    for i in 0..len {
+        if i % 8 == 0 {
+            size = size.wrapping_add(8);
+        }
+    }
+    size
+}
+
+impl Slow {
+    fn load(&self) -> usize {
+        let mut load: usize = 0;
+        for kept in self.pending.iter().skip(self.held) {
+            load = load.wrapping_add(size_of(kept.len));
+        }
+        load
+    }
+
+    /// An arrival at a Buffered list.
+    fn arrive_buffered(&mut self, kept: Option<Kept>) -> Result<Fed, AllocError> {
+        self.received = self.received.wrapping_add(1);
+        let Some(kept) = kept else {
+            return Ok(Fed::Passed);
+        };
+        self.matched = self.matched.wrapping_add(1);
+        if self.load().wrapping_add(size_of(kept.len)) <= self.capacity {
+            self.pending.push(kept)?;
+            return Ok(Fed::Stored);
+        }
+        if self.held > 0 {
+            self.dropped = self.dropped.wrapping_add(1);
+            return Ok(Fed::Dropped);
+        }
+        self.held = self.pending.len();
+        self.pending.push(kept)?;
+        Ok(Fed::Rotated)
+    }
+
+    /// An Immediate list makes the store the hold behind each accepted arrival.
+    fn arrive(&mut self, kept: Option<Kept>) -> Result<Fed, AllocError> {
+        if self.closed {
+            return Ok(Fed::Closed);
+        }
+        let fed = self.arrive_buffered(kept)?;
+        if self.mode == Mode::Immediate && kept.is_some() && self.flush() && fed == Fed::Stored {
+            return Ok(Fed::Held);
+        }
+        Ok(fed)
+    }
+
+    fn flush(&mut self) -> bool {
+        if self.closed || self.held > 0 || self.pending.is_empty() {
+            return false;
+        }
+        self.held = self.pending.len();
+        true
+    }
+
+    /// The batch that a read takes.
+    fn read(&mut self, alloc: Global) -> Result<Option<Vec<Kept>>, AllocError> {
+        if self.closed || self.held == 0 {
+            return Ok(None);
+        }
+        let mut batch = Vec::new(alloc);
+        let mut rest = Vec::new(alloc);
+        for (i, kept) in self.pending.iter().enumerate() {
+            if i < self.held {
+                batch.push(*kept)?;
+            } else {
+                rest.push(*kept)?;
+            }
+        }
+        self.pending = rest;
+        self.held = 0;
+        Ok(Some(batch))
+    }
+}
+
+/// The messages of a buffer.
+fn messages(alloc: Global, buffer: &Buffer) -> Result<Vec<Kept>, AllocError> {
+    let mut out = Vec::new(alloc);
+    for record in buffer.records() {
+        let last = match record.bytes.last() {
+            Some(byte) => *byte,
+            None => 0,
+        };
+        out.push(Kept {
+            place: record.place,
+            len: record.bytes.len(),
+            last,
+        })?;
+    }
+    Ok(out)
+}
+
+/// Numbers that look random, the same each time.
+#[derive(Drop)]
+struct Random {
+    state: u64,
+}
+
+impl Random {
+    fn below(&mut self, n: u64) -> u64
+        requires { 0 < n }
+        ensures { result < n }
+    {
+        self.state = self
+            .state
+            .wrapping_mul(6364136223846793005)
+            .wrapping_add(1442695040888963407);
+        (self.state >> 33) % n
+    }
+}
+
+/// What is kept of a packet: nothing where that has no bytes.
+fn cut(bytes: &[u8], place: u64, len: usize) -> Option<Kept> {
+    let last = *bytes.get(..len)?.last()?;
+    Some(Kept { place, len, last })
+}
+
+/// A packet arrives at both. Its first byte is the program's answer, 0 at times.
+fn arrive_at_both(
+    rt: &impl Abort,
+    listener: &mut Listener,
+    slow: &mut Slow,
+    random: &mut Random,
+    place: u64,
+    snap: usize,
+) -> Result<(), Fail> {
+    let captured = random.below(97) as usize;
+    let verdict = random.below(100).saturating_sub(9);
+    let mut data = [0; 96];
+    for (i, byte) in data.iter_mut().enumerate() {
+        *byte = (place.wrapping_add(i as u64) % 251) as u8;
+    }
+    data[0] = verdict as u8;
+    let bytes = &data[..captured];
+    let kept = cut(bytes, place, captured.min(verdict as usize).min(snap));
+    assert!(rt; listener.counts().received < u64::MAX);
+    let fed = listener.arrive(0, place, &packet(bytes));
+    assert_eq!(rt; fed, slow.arrive(kept)?);
+    Ok(())
+}
+
+/// A read at both.
+fn read_at_both(
+    rt: &(impl Abort + AllocGlobal),
+    listener: &mut Listener,
+    slow: &mut Slow,
+) -> Result<(), Fail> {
+    let empty = Buffer::new(rt.alloc(), listener.capacity())?;
+    let batch = slow.read(rt.alloc())?;
+    match listener.read(empty) {
+        Read::Full(buffer) => {
+            let Some(batch) = batch else {
+                return Err(Fail::from("a batch too many"));
+            };
+            assert!(rt; messages(rt.alloc(), &buffer)?.as_slice() == batch.as_slice());
+        }
+        Read::Nothing(_) => assert!(rt; batch.is_none()),
+    }
+    Ok(())
+}
+
+/// Both have the same state.
+fn compare(rt: &(impl Abort + AllocGlobal), listener: &Listener, slow: &Slow) -> Result<(), Fail> {
+    let (hold, store) = listener.buffers();
+    let mut pending = messages(rt.alloc(), hold)?;
+    assert_eq!(rt; pending.len(), slow.held);
+    for kept in &messages(rt.alloc(), store)? {
+        pending.push(*kept)?;
+    }
+    assert!(rt; pending.as_slice() == slow.pending.as_slice());
+    let counts = listener.counts();
+    assert_eq!(rt; counts.received, slow.received);
+    assert_eq!(rt; counts.matched, slow.matched);
+    assert_eq!(rt; counts.dropped, slow.dropped);
+    Ok(())
+}
+
+/// One random list of steps.
+fn run_both(rt: &(impl Abort + AllocGlobal), random: &mut Random, mode: Mode) -> Result<(), Fail> {
+    let snap = random.below(64) as u32 + 1;
+    let capacity = size_of(snap as usize).wrapping_add(random.below(200) as usize);
+    let program = Program::new(&[
+        Insn {
+            code: bpfvm::code::LD_B_ABS,
+            jt: 0,
+            jf: 0,
+            k: 0,
+        },
+        Insn {
+            code: bpfvm::code::RET_A,
+            jt: 0,
+            jf: 0,
+            k: 0,
+        },
+    ])?;
+    let mut listener = Listener::open_as(rt.alloc(), program, snap, capacity, mode)?;
+    let mut slow = Slow {
+        capacity,
+        mode,
+        pending: Vec::new(rt.alloc()),
+        held: 0,
+        received: 0,
+        matched: 0,
+        dropped: 0,
+        closed: false,
+    };
+    for place in 0..40 {
+        match random.below(40) {
+            0..30 => arrive_at_both(rt, &mut listener, &mut slow, random, place, snap as usize)?,
+            30..33 => assert_eq!(rt; listener.flush(), slow.flush()),
+            33..39 => read_at_both(rt, &mut listener, &mut slow)?,
+            _ => {
+                listener.close();
+                slow.closed = true;
+            }
+        }
+        compare(rt, &listener, &slow)?;
+    }
+    Ok(())
+}
+
+#[test]
+fn a_listener_is_its_plain_list(rt: HostRuntime) -> Result<(), Fail> {
+    let mut random = Random { state: 1993 };
+    for _ in 0..2000 {
+        run_both(&rt, &mut random, Mode::Buffered)?;
+        run_both(&rt, &mut random, Mode::Immediate)?;
+    }
+    Ok(())
+}
