@@ -33,10 +33,10 @@ impl Code {
             × Renews exits emitted.exits self.old self.new) }
     {
         match expr {
-            Expr::Everything => Ok(Emitted {
-                entry: exits.yes,
-                exits,
-            }),
+            Expr::Everything => {
+                let entry = exits.yes;
+                Ok(Emitted { entry, exits })
+            }
             Expr::Test(primitive) => {
                 self.room(2 + cost(*primitive))?;
                 let exits = self.renew(exits);
@@ -45,40 +45,24 @@ impl Code {
             }
             Expr::Not(operand) => {
                 let inner = self.expression(operand, exits.swapped())?;
-                Ok(Emitted {
-                    entry: inner.entry,
-                    exits: inner.exits.swapped(),
-                })
+                let (entry, exits) = (inner.entry, inner.exits.swapped());
+                Ok(Emitted { entry, exits })
             }
             Expr::And(left, right) => {
                 let second = self.expression(right, exits)?;
-                let inner = Exits {
-                    yes: second.entry,
-                    no: second.exits.no,
-                };
-                let first = self.expression(left, inner)?;
-                Ok(Emitted {
-                    entry: first.entry,
-                    exits: Exits {
-                        yes: second.exits.yes,
-                        no: first.exits.no,
-                    },
-                })
+                let (yes, no) = (second.entry, second.exits.no);
+                let first = self.expression(left, Exits { yes, no })?;
+                let (yes, no) = (second.exits.yes, first.exits.no);
+                let (entry, exits) = (first.entry, Exits { yes, no });
+                Ok(Emitted { entry, exits })
             }
             Expr::Or(left, right) => {
                 let second = self.expression(right, exits)?;
-                let inner = Exits {
-                    yes: second.exits.yes,
-                    no: second.entry,
-                };
-                let first = self.expression(left, inner)?;
-                Ok(Emitted {
-                    entry: first.entry,
-                    exits: Exits {
-                        yes: first.exits.yes,
-                        no: second.exits.no,
-                    },
-                })
+                let (yes, no) = (second.exits.yes, second.entry);
+                let first = self.expression(left, Exits { yes, no })?;
+                let (yes, no) = (first.exits.yes, second.exits.no);
+                let (entry, exits) = (first.entry, Exits { yes, no });
+                Ok(Emitted { entry, exits })
             }
         }
     }

@@ -5,7 +5,7 @@ use Rattle.filtergen.proofs.code.Code.+expression.Goals as goal
 pub returns-in_ok-inner-in-Not : goal.returns-in_ok-inner-in-Not
 returns-in_ok-inner-in-Not t c =
     let done = rw (c.deref.ensures, c.swapped.ensures) at c.in_ok-inner-in-Not.ensures in
-    rw (c.in-Not.is, c.swapped-in-Not.ensures) (decides-not done.0, renews-not done.1)
+    rw (c.in-Not.is, c.swapped-exits.ensures) (decides-not done.0, renews-not done.1)
 
 pub returns-in_ok-first-in-And : goal.returns-in_ok-first-in-And
 returns-in_ok-first-in-And t c =
