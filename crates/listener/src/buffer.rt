@@ -1,12 +1,12 @@
 //! Buffers of records.
 
-ghost use Rattle.std.specs.Prelude.{◌≡◌, false, vec_len, vec_capacity, replicate, All, MatchBool, ◌+◌, ◌*◌, ◌/◌, ◌-◌, ◌^◌, ◌<◌, ◌≤◌, [], ◌++◌, length, IfOk, IfErr, OnOk, IsTrue, ◌↔◌};
+ghost use Rattle.std.specs.Prelude.{◌≡◌, ◌↔◌, false, ◌+◌, ◌^◌, ◌<◌, ◌≤◌, [], ◌++◌, length, All, vec_len, vec_capacity, IfOk, IfErr, OnOk, IsTrue};
 ghost use Rattle.std.specs.Bool.{OnTrue};
 ghost use Rattle.byteorder.specs.Endian.{little_bytes};
 ghost use Rattle.listener.specs.Buffers.{filled, with_message, IsWritable, RefusesBuffer};
 ghost use Rattle.listener.specs.Decoded.{Fills};
 ghost use Rattle.listener.specs.Messages.{size, room, cut_to, arrival};
-ghost use Rattle.listener.specs.RecordBytes.{fields_text, padding, records_text};
+ghost use Rattle.listener.specs.RecordBytes.{fields_text, records_text};
 
 use crate::fault::OpenFault;
 use crate::records::Records;
