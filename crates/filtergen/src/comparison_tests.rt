@@ -1,5 +1,7 @@
 //! Programs compared with the evaluator: every primitive, and random trees, on frames that are cut short.
 
+ghost use Rattle.std.specs.Prelude.{◌<◌};
+
 use super::*;
 use bpfvm::{Program, run};
 use filterlang::{Direction, EthernetAddress, Expr, Network, Plain, Primitive, Transport};
@@ -142,6 +144,11 @@ fn program_of(rt: &impl Abort, expr: &Expr) -> Option<Program> {
     }
 }
 
+// A frame's own length.
+fn wire_of(frame: &[u8]) -> u32 {
+    frame.len().min(65_535) as u32
+}
+
 fn compare(rt: &impl Abort, expr: &Expr, program: &Program, packet: &[u8], wire: u32) {
     let verdict = evaluate(expr, packet, wire);
     let expected = if verdict == Verdict::Yes { 96 } else { 0 };
@@ -158,8 +165,9 @@ fn compare_everywhere(rt: &impl Abort, frames: &[Vec<u8>], primitive: Primitive)
     let program = program_of(rt, &expr).expect(rt, "a primitive compiles");
     for frame in frames {
         let frame = frame.as_slice();
+        let wire = wire_of(frame);
         for end in 0..=frame.len() {
-            compare(rt, &expr, &program, &frame[..end], frame.len() as u32);
+            compare(rt, &expr, &program, &frame[..end], wire);
         }
         compare(rt, &expr, &program, frame, u32::MAX);
         compare(rt, &expr, &program, frame, 0);
@@ -273,52 +281,87 @@ fn random_primitive(random: &mut Random) -> Primitive {
     }
 }
 
-// A tree of so many levels at most.
-fn random_tree(alloc: Global, random: &mut Random, levels: u32) -> Result<Expr, AllocError> {
-    if levels == 0 {
-        return Ok(Expr::Test(random_primitive(random)));
-    }
-    match random.below(8) {
-        0 => Ok(Expr::Test(random_primitive(random))),
-        1 => Ok(Expr::Everything),
-        2 => Ok(Expr::Not(Box::new(alloc, random_tree(alloc, random, levels - 1)?)?)),
-        3 | 4 | 5 => {
-            let left = Box::new(alloc, random_tree(alloc, random, levels - 1)?)?;
-            let right = Box::new(alloc, random_tree(alloc, random, levels - 1)?)?;
-            Ok(Expr::Or(left, right))
+// A tree, and so many others joined to it, negated or not.
+fn joined_trees(
+    alloc: Global,
+    random: &mut Random,
+    mut tree: Expr,
+    others: Vec<Expr>,
+) -> Result<Expr, AllocError> {
+    for other in others {
+        let (left, right) = if random.below(2) == 0 {
+            (tree, other)
+        } else {
+            (other, tree)
+        };
+        let left = Box::new(alloc, left)?;
+        let right = Box::new(alloc, right)?;
+        tree = if random.below(2) == 0 {
+            Expr::And(left, right)
+        } else {
+            Expr::Or(left, right)
+        };
+        if random.below(4) == 0 {
+            tree = Expr::Not(Box::new(alloc, tree)?);
         }
-        _ => {
-            let left = Box::new(alloc, random_tree(alloc, random, levels - 1)?)?;
-            let right = Box::new(alloc, random_tree(alloc, random, levels - 1)?)?;
-            Ok(Expr::And(left, right))
-        }
     }
+    Ok(tree)
+}
+
+// A primitive, or now and then the empty expression.
+fn random_leaf(random: &mut Random) -> Expr {
+    if random.below(12) == 0 {
+        Expr::Everything
+    } else {
+        Expr::Test(random_primitive(random))
+    }
+}
+
+// A tree of a few primitives.
+fn random_branch(alloc: Global, random: &mut Random) -> Result<Expr, AllocError> {
+    let mut leaves = Vec::new(alloc);
+    for _ in 0..random.below(4) {
+        leaves.push(random_leaf(random))?;
+    }
+    let first = random_leaf(random);
+    joined_trees(alloc, random, first, leaves)
+}
+
+// A tree of up to so many such trees.
+fn random_tree(alloc: Global, random: &mut Random, most: u32) -> Result<Expr, AllocError> {
+    let mut branches = Vec::new(alloc);
+    for _ in 1..most {
+        branches.push(random_branch(alloc, random)?)?;
+    }
+    let first = random_branch(alloc, random)?;
+    joined_trees(alloc, random, first, branches)
 }
 
 #[test]
 fn two_thousand_random_trees(rt: HostRuntime) {
     let frames = frames(&rt);
     let mut random = Random { state: 1993 };
-    let mut compiled = 0;
-    let mut accepted = 0;
+    let mut compiled = 0u32;
+    let mut accepted = 0u32;
     for number in 0..2000u32 {
-        let levels = 1 + number % 8;
-        let expr = random_tree(rt.alloc(), &mut random, levels).expect(&rt, "there is memory");
+        let tree = random_tree(rt.alloc(), &mut random, 1 + number % 12);
+        let expr = tree.expect(&rt, "there is memory");
         let Some(program) = program_of(&rt, &expr) else {
             continue;
         };
-        compiled += 1;
+        compiled = compiled.saturating_add(1);
         for frame in frames.as_slice() {
             let frame = frame.as_slice();
+            let wire = wire_of(frame);
             let end = random.below(frame.len() + 1);
-            compare(&rt, &expr, &program, &frame[..end], frame.len() as u32);
-            compare(&rt, &expr, &program, frame, frame.len() as u32);
-            if evaluate(&expr, frame, frame.len() as u32) == Verdict::Yes {
-                accepted += 1;
+            compare(&rt, &expr, &program, &frame[..end], wire);
+            compare(&rt, &expr, &program, frame, wire);
+            if evaluate(&expr, frame, wire) == Verdict::Yes {
+                accepted = accepted.saturating_add(1);
             }
         }
     }
     // Most of them compile, and they accept some frames and reject others.
-    assert!(rt; compiled > 1_500, "{compiled}");
-    assert!(rt; accepted > 4_000 && accepted < 14_000, "{accepted}");
+    assert!(rt; compiled > 1_000, "{compiled}");
+    assert!(rt; accepted > 2_000 && accepted < 20_000, "{accepted}");
 }

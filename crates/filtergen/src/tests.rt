@@ -34,7 +34,7 @@ fn program_of(rt: &(impl Abort + AllocGlobal), text: &str, snap: u32) -> Program
 
 // Whether an expression accepts a whole frame, by its program, and that the evaluator agrees.
 fn accepts(rt: &(impl Abort + AllocGlobal), text: &str, frame: &[u8]) -> bool {
-    let wire = frame.len() as u32;
+    let wire = frame.len().min(65_535) as u32;
     let answer = run(&program_of(rt, text, 96), frame, wire);
     let verdict = evaluate(&tree_of(rt, text), frame, wire);
     assert_eq!(rt;
@@ -45,14 +45,20 @@ fn accepts(rt: &(impl Abort + AllocGlobal), text: &str, frame: &[u8]) -> bool {
     answer == 96
 }
 
-// The frame with two bytes changed.
-fn with_bytes(frame: &[u8; 38], at: usize, high: u8, low: u8) -> [u8; 38]
-    requires { at < 37 }
-{
-    let mut changed = *frame;
-    changed[at] = high;
-    changed[at + 1] = low;
-    changed
+// The UDP frame with another fragment field.
+fn fragment(high: u8, low: u8) -> [u8; 38] {
+    let mut frame = UDP_FRAME;
+    frame[20] = high;
+    frame[21] = low;
+    frame
+}
+
+// The UDP frame to another port below 256.
+fn to_port(number: u8) -> [u8; 38] {
+    let mut frame = UDP_FRAME;
+    frame[36] = 0;
+    frame[37] = number;
+    frame
 }
 
 #[test]
@@ -81,10 +87,10 @@ fn and_binds_as_or_does(rt: HostRuntime) {
 #[test]
 fn a_later_fragment_has_no_port(rt: HostRuntime) {
     assert!(rt; accepts(&rt, "port 53", &UDP_FRAME));
-    let later = with_bytes(&UDP_FRAME, 20, 0x00, 0x01);
+    let later = fragment(0x00, 0x01);
     assert!(rt; !accepts(&rt, "port 53", &later));
     assert!(rt; accepts(&rt, "not port 53", &later));
-    let first = with_bytes(&UDP_FRAME, 20, 0x20, 0x00);
+    let first = fragment(0x20, 0x00);
     assert!(rt; accepts(&rt, "port 53", &first));
 }
 
@@ -114,7 +120,7 @@ fn twelve_ports_weigh_480_and_compile(rt: HostRuntime) {
     let program = program_of(&rt, text, 96);
     assert_eq!(rt; run(&program, &UDP_FRAME, 38), 0);
     for number in [12, 1] {
-        let frame = with_bytes(&UDP_FRAME, 36, 0, number);
+        let frame = to_port(number);
         assert_eq!(rt; run(&program, &frame, 38), 96, "port {number}");
     }
 }
@@ -127,7 +133,7 @@ fn thirteen_ports_weigh_520(rt: HostRuntime) {
     // They may be too long. They fit.
     let program = compile(&tree, 96).expect(&rt, "they fit");
     assert_eq!(rt; run(&program, &UDP_FRAME, 38), 0);
-    assert_eq!(rt; run(&program, &with_bytes(&UDP_FRAME, 36, 0, 13), 38), 96);
+    assert_eq!(rt; run(&program, &to_port(13), 38), 96);
 }
 
 // `ip`, and so many times `||ip` behind it.
