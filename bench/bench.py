@@ -7,9 +7,14 @@
                                    bench/listener in a copy first, which takes some minutes
   bench/bench.py --expressions     wall time of `check` on expressions of some 8,192 bytes, interleaved runs, on a small stack
 
-Machines are noisy, so the ratios of one run are what to compare. Instructions are repeatable.
+Machines are noisy, so the ratios of one run are what to compare. Instructions are repeatable. The captures that
+bpftap and tcpdump write are compared.
+
+It needs Python alone; without tcpdump only bpftap is measured, --instructions needs valgrind, and peak memory is
+told where GNU time is (a program started by Python itself shows Python's size where it needs less).
 """
 import argparse
+import filecmp
 import os
 import pathlib
 import random
@@ -80,27 +85,50 @@ def generate(path, packets):
             out.write(struct.pack("<IIII", number // 1000, number % 1000 * 1000, len(data), len(data)) + data)
 
 
-def run(words):
-    """Seconds, peak memory in MiB and exit status of one run."""
+def gnu_time():
+    """GNU time, a small process to start the measured program from; None where it is not there."""
+    path = shutil.which("time")
+    if path is None:
+        return None
+    done = subprocess.run([path, "--version"], stdout=subprocess.PIPE, stderr=subprocess.STDOUT, text=True)
+    return path if "GNU" in done.stdout else None
+
+
+def run(words, folder=None, timer=None):
+    """Seconds, exit status, and peak memory in KiB where GNU time tells it, of one run."""
+    told = folder / "peak" if timer else None
+    small = [timer, "-f", "%M", "-o", str(told)] if timer else []
     start = time.perf_counter()
-    child = subprocess.Popen(words, stdout=subprocess.DEVNULL, stderr=subprocess.DEVNULL)
-    _, status, usage = os.wait4(child.pid, 0)
-    return time.perf_counter() - start, usage.ru_maxrss / 1024, os.waitstatus_to_exitcode(status)
+    done = subprocess.run([*small, *words], stdout=subprocess.DEVNULL, stderr=subprocess.DEVNULL)
+    seconds = time.perf_counter() - start
+    memory = int(told.read_text().split()[-1]) if timer else 0
+    return seconds, done.returncode, memory
 
 
 def commands(folder, capture):
-    """Name and words of each thing that is measured; cp first, as the one that the others are compared with."""
-    out = str(folder / "out.pcap")
-    yield "cp", ["cp", str(capture), out]
+    """Name, words and written capture of each thing that is measured; cp first, as the one that the others are
+    compared with."""
+    out = folder / "cp.pcap"
+    yield "cp", ["cp", str(capture), str(out)], out
     for at, (name, listing, expression) in enumerate(LISTINGS):
         path = folder / f"{at}.bpf"
         path.write_text(listing)
-        yield f"bpftap cut, {name}", [str(PROGRAM), "cut", "-s", "0", "-f", str(path), str(capture), out]
+        out = folder / f"{at}-bpftap.pcap"
+        yield f"bpftap cut, {name}", [str(PROGRAM), "cut", "-s", "0", "-f", str(path), str(capture), str(out)], out
         if shutil.which("tcpdump"):
             # As root tcpdump would become another user, which may not write here.
             stay = ["-Z", "root"] if os.geteuid() == 0 else []
-            words = ["tcpdump", *stay, "-r", str(capture), "-w", out]
-            yield f"tcpdump, {name}", words + ([expression] if expression else [])
+            out = folder / f"{at}-tcpdump.pcap"
+            words = ["tcpdump", *stay, "-r", str(capture), "-w", str(out)]
+            yield f"tcpdump, {name}", words + ([expression] if expression else []), out
+
+
+def compare(folder):
+    """What bpftap and tcpdump wrote is the same, byte by byte."""
+    for at, (name, _, _) in enumerate(LISTINGS):
+        ours, theirs = folder / f"{at}-bpftap.pcap", folder / f"{at}-tcpdump.pcap"
+        if theirs.exists() and not filecmp.cmp(ours, theirs, shallow=False):
+            sys.exit(f"{name}: bpftap and tcpdump wrote different captures")
 
 
 def wall(folder, packets, rounds):
@@ -108,19 +136,21 @@ def wall(folder, packets, rounds):
     generate(capture, packets)
     size = capture.stat().st_size
     print(f"{packets} packets, {size / 1e6:.0f} MB, median of {rounds} interleaved rounds")
+    timer = gnu_time()
     all_commands = list(commands(folder, capture))
-    seen = {name: [] for name, _ in all_commands}
+    seen = {name: [] for name, _, _ in all_commands}
     for _ in range(rounds):
-        for name, words in all_commands:
-            seconds, memory, status = run(words)
+        for name, words, _ in all_commands:
+            seconds, status, memory = run(words, folder, timer)
             if status != 0:
                 sys.exit(f"{name}: status {status}")
             seen[name].append((seconds, memory))
+        compare(folder)
     base = statistics.median(seconds for seconds, _ in seen["cp"])
     for name, runs in seen.items():
         seconds = statistics.median(s for s, _ in runs)
-        memory = max(m for _, m in runs)
-        print(f"{name:40} {seconds:8.3f} s  {seconds / base:6.2f} x cp  {memory:7.0f} MiB at most")
+        memory = f"{max(m for _, m in runs):7.0f} KiB at most" if timer else ""
+        print(f"{name:40} {seconds:8.3f} s  {seconds / base:6.2f} x cp  {memory}")
 
 
 def instructions_of(words, folder):
@@ -137,15 +167,19 @@ def instructions_of(words, folder):
 
 def instructions(folder):
     """The difference of two captures' counts, so that starting up counts for nothing."""
+    if shutil.which("valgrind") is None:
+        sys.exit("valgrind is not there: without it no instructions can be counted")
     small, large = folder / "small.pcap", folder / "large.pcap"
     generate(small, 1000)
     generate(large, 11000)
     print("user instructions for each packet (660 bytes on average), by callgrind")
-    for (name, first), (_, second) in zip(commands(folder, small), commands(folder, large)):
+    for (name, first, _), (_, second, _) in zip(commands(folder, small), commands(folder, large)):
         if name == "cp":
             continue
-        count = (instructions_of(second, folder) - instructions_of(first, folder)) / 10000
+        few = instructions_of(first, folder)
+        count = (instructions_of(second, folder) - few) / 10000
         print(f"{name:40} {count:8.0f}")
+    compare(folder)
 
 
 def listener_program(folder):
@@ -198,7 +232,7 @@ def expressions(rounds):
     seen = {name: [] for name, _, _ in hostile()}
     for _ in range(rounds):
         for name, text, wanted in hostile():
-            seconds, _, status = run([str(PROGRAM), "check", text])
+            seconds, status, _ = run([str(PROGRAM), "check", text])
             if status != wanted:
                 sys.exit(f"{name}: status {status} and not {wanted}")
             seen[name].append(seconds)
@@ -218,6 +252,8 @@ def main():
         with tempfile.TemporaryDirectory() as name:
             return arrivals(pathlib.Path(name))
     subprocess.run([str(ROOT / "bpftap"), "--help"], check=True, stdout=subprocess.DEVNULL)
+    if not words.expressions and shutil.which("tcpdump") is None:
+        print("tcpdump is not there: only bpftap is measured")
     with tempfile.TemporaryDirectory() as name:
         folder = pathlib.Path(name)
         if words.instructions:

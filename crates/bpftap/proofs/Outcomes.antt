@@ -1,72 +1,95 @@
--- How the parts of a cut make its outcome.
-use Rattle.std.proofs.Common.{◌≡◌, ℕ, inr, List, [], ◌++◌, refl, ap, sym, ◌∙◌, subst, Option, Some, None, IfSome, Result, Ok, Err, Bool, true, false, unwrap_or, cond, length, nat_lt, nat_le, ◌==◌, ◌+◌}
+-- How a cut that came to its end was one.
+use Rattle.std.proofs.Common.{◌≡◌, ℕ, inl, inr, List, [], ◌++◌, refl, ap, sym, ◌∙◌, subst, Option, Some, None, IfSome, Result, Ok, Err, unwrap_or, ◌⊎◌}
 use Rattle.std.proofs.lemmas.List.{append-nil}
-use Rattle.std.specs.Io.KnownBytes.{Appends, Consumes, IsAtEnd}
+use Rattle.std.specs.Io.KnownBytes.{Appends}
 use Rattle.savefile.specs.declared.fault.Fault.{Fault}
-use Rattle.savefile.specs.declared.fault.Fault.TheVariants.{Device, TornRecord, BadFraction, TooLong}
+use Rattle.savefile.specs.declared.fault.Fault.TheVariants.{Device, NoMemory}
+use Rattle.savefile.specs.declared.header.Header.{Header}
 use Rattle.savefile.specs.declared.header.Order.{Order}
 use Rattle.savefile.specs.declared.header.Unit.{Unit as TimeUnit}
 use Rattle.savefile.specs.declared.packet.Packet.{Packet}
-use Rattle.savefile.specs.Savefile.{first_fault, number_in, per_second, fraction, captured}
+use Rattle.savefile.specs.declared.writing.Writer.{Writer}
+use Rattle.savefile.specs.Reader.{WasRead, WasRefused}
+use Rattle.savefile.specs.Savefile.{encoded}
+use Rattle.savefile.specs.Writer.{IsBeginning, Sent, sent_by, sink_of}
 use Rattle.bpfvm.specs.declared.insn.Insn.{Insn}
-use Rattle.bpftap.specs.declared.cut.End.TheVariants.{Input, Output}
-use Rattle.bpftap.specs.Cut.{cut_text}
-use Rattle.bpftap.specs.Outcome.{IsRead, Outcome, Writes, end_of}
-
--- the text that a source has left, where it tells
-pub told-text : (left : Option (List ℕ)) → IfSome left (λ bytes. bytes ≡ unwrap_or left [])
-told-text None = tt
-told-text (Some bytes) = refl
-
--- what was consumed to the end is all that was left
-pub consumed-all : (old new : Option (List ℕ)) (bytes : List ℕ) → Consumes old new bytes → IsAtEnd new → IfSome old (λ left. left ≡ bytes)
-consumed-all None new bytes consumed end = tt
-consumed-all (Some left) None bytes consumed end = absurd consumed
-consumed-all (Some left) (Some rest) bytes consumed end = consumed ∙ ap (λ (t : List ℕ). bytes ++ t) end ∙ append-nil bytes
+use Rattle.bpftap.specs.declared.cut.End.{End}
+use Rattle.bpftap.specs.declared.cut.End.TheVariants.{Clean, Input, Output}
+use Rattle.bpftap.specs.Copying.{Copied}
+use Rattle.bpftap.specs.Cut.{accepted, cut_text, meant}
+use Rattle.bpftap.specs.Outcome.{AllSent, BrokeOff, IsRead, Took}
+use Rattle.bpftap.proofs.Accepted.{accepted-append}
+use Rattle.bpftap.proofs.Writing.{goes-further}
 
 -- nothing was taken
-pub nothing-appended : (taken : Option (List ℕ)) → Appends taken taken []
+nothing-appended : (taken : Option (List ℕ)) → Appends taken taken []
 nothing-appended None = tt
 nothing-appended (Some bytes) = sym (append-nil bytes)
 
--- the fault of a rest is none of a device, whatever stands in the rest
-no-device : (none torn bad long cut : Bool) (place : ℕ) →
-    cond none None (cond torn (Some (TornRecord place)) (cond bad (Some (BadFraction place)) (cond long (Some (TooLong place)) (cond cut (Some (TornRecord place)) None)))) ≡ Some Device → ⊥
-no-device true torn bad long cut place e = cc
-no-device false true bad long cut place e = cc
-no-device false false true long cut place e = cc
-no-device false false false true cut place e = cc
-no-device false false false false true place e = cc
-no-device false false false false false place e = cc
+-- the text that a source has left, where it tells
+told-text : (left : Option (List ℕ)) → IfSome left (λ bytes. bytes ≡ unwrap_or left [])
+told-text None = tt
+told-text (Some bytes) = refl
 
--- nor is the first fault of a rest
-first-fault-no-device : (number : ℕ → List ℕ → ℕ) (unit : TimeUnit) (place : ℕ) (rest : List ℕ) → first_fault number unit place rest ≡ Some Device → ⊥
-first-fault-no-device number unit place rest =
-    no-device (length rest == 0) (nat_lt (length rest) 16) (nat_le (per_second unit) (fraction number rest)) (nat_lt 262144 (captured number rest))
-    (nat_lt (length rest) (16 + captured number rest)) place
+-- what the source had left and what the sink took, and the outcome
+abbrev pub IsOutcome : {W : Type 0} → (W → Option (List ℕ)) → Option (List ℕ) → W → W → ℕ → List Insn → ℕ → Order → TimeUnit → End → Type 0
+IsOutcome taken from to sink count program snap order unit end =
+    (text : List ℕ) × IfSome from (λ bytes. bytes ≡ text) × (sent : List ℕ) × Took taken to sink count sent
+    × (AllSent text program snap order unit end sent ⊎ BrokeOff text program snap order unit end sent)
 
--- nor the fault that a reading ends with
-pub read-fault-no-device : (text : List ℕ) (packets : List Packet) → IsRead text packets (Some Device) → ⊥
-read-fault-no-device text packets read =
-    first-fault-no-device (number_in read.order) read.unit (length packets) read.holds.rest (sym read.holds.ends)
+-- a reader read the text
+is-read : (from : Option (List ℕ)) (header : Header) (packets : List Packet) (fault : Option Fault) (w : WasRead from header packets fault) → IsRead w.text packets fault
+is-read from header packets fault w = record { order = header.order; unit = header.unit; snap = header.snap; holds = w.holds }
 
--- the packets that were read, and how their text was written
-pub outcome-of : (text : List ℕ) (program : List Insn) (snap : ℕ) (order : Order) (unit : TimeUnit) (packets : List Packet) (fault : Option Fault) (written : Result (Unit {0}) Fault) (sent : List ℕ) →
-    IsRead text packets fault → Writes (cut_text program snap order unit packets) written sent →
-    Outcome text program snap order unit (end_of written fault) sent
-outcome-of text program snap order unit packets None (Ok x) sent read writes = (packets, read, writes)
-outcome-of text program snap order unit packets (Some fault) (Ok x) sent read writes = inr (packets, read, writes)
-outcome-of text program snap order unit packets torn (Err fault) sent read writes = (packets, torn, read, writes)
+-- what the closed writer's sink took
+took : {W : Type 0} (taken : W → Option (List ℕ)) (to sink : W) (count : ℕ) (sent : List ℕ) (writer : Writer W) → sink ≡ sink_of writer → count ≡ sent_by writer → Sent taken (taken to) sent writer → Took taken to sink count sent
+took taken to sink count sent writer is told s =
+    record { appends = subst (λ x. Appends (taken to) (taken x) sent) (sym is) s.bytes; counts = told ∙ s.count }
 
--- the end is a fault of the sink exactly where the writing ended so
-pub sink-broke : (written : Result (Unit {0}) Fault) (fault : Option Fault) → (end_of written fault ≡ Output Device → written ≡ Err Device) × (written ≡ Err Device → end_of written fault ≡ Output Device)
-sink-broke (Ok x) None = (λ e. cc, λ e. cc)
-sink-broke (Ok x) (Some fault) = (λ e. cc, λ e. cc)
-sink-broke (Err why) fault = (λ e. cc, λ e. cc)
+-- the header was not read
+pub unread-outcome : {W : Type 0} (taken : W → Option (List ℕ)) (from : Option (List ℕ)) (to : W) (program : List Insn) (snap : ℕ) (order : Order) (unit : TimeUnit) (fault : Fault) →
+    WasRefused from fault ⊎ (fault ≡ Device) ⊎ (fault ≡ NoMemory) → IsOutcome taken from to to 0 program snap order unit (Input fault)
+unread-outcome taken from to program snap order unit fault (inl w) =
+    (w.text, w.told, [], record { appends = nothing-appended (taken to); counts = refl }, inr (inl (inl w.refused, refl)))
+unread-outcome taken from to program snap order unit fault (inr other) =
+    (unwrap_or from [], told-text from, [], record { appends = nothing-appended (taken to); counts = refl }, inr (inl (inr other, refl)))
 
--- and no fault of the source where the source was read
-pub source-did-not-break : (text : List ℕ) (packets : List Packet) (written : Result (Unit {0}) Fault) (fault : Option Fault) → IsRead text packets fault → end_of written fault ≡ Input Device → ⊥
-source-did-not-break text packets (Ok x) None read e = cc
-source-did-not-break text packets (Ok x) (Some fault) read e =
-    let device : fault ≡ Device = cc in read-fault-no-device text packets (subst (λ f. IsRead text packets (Some f)) device read)
-source-did-not-break text packets (Err why) fault read e = cc
+-- what the law of the growing text says
+abbrev pub Growing : Type 0
+Growing = (order : Order) (unit : TimeUnit) (snap : ℕ) (packets more : List Packet) (text : List ℕ) → IsBeginning text (encoded order unit snap packets) → IsBeginning text (encoded order unit snap (packets ++ more))
+
+-- the packets were copied up to this end
+pub copied-outcome : {W : Type 0} (taken : W → Option (List ℕ)) (from : Option (List ℕ)) (header : Header) (to sink : W) (count : ℕ) (program : List Insn) (snap : ℕ) (order : Order) (unit : TimeUnit) (end : End) (writer : Writer W) →
+    Growing → sink ≡ sink_of writer → count ≡ sent_by writer → Copied taken from header (taken to) order unit (meant snap) program (meant snap) end writer →
+    IsOutcome taken from to sink count program snap order unit end
+unfolding cut_text
+copied-outcome taken from header to sink count program snap order unit Clean writer growing is told (packets, w, written) = (
+  w.text,
+  w.told,
+  cut_text program snap order unit packets,
+  took taken to sink count _ writer is told written.sent,
+  inl (record { packets = packets; fault = None; reads = is-read from header packets None w; ends = refl; whole = refl }),
+)
+copied-outcome taken from header to sink count program snap order unit (Input fault) writer growing is told (packets, written, inl w) = (
+  w.text,
+  w.told,
+  cut_text program snap order unit packets,
+  took taken to sink count _ writer is told written.sent,
+  inl (record { packets = packets; fault = Some fault; reads = is-read from header packets (Some fault) w; ends = refl; whole = refl }),
+)
+copied-outcome taken from header to sink count program snap order unit (Input fault) writer growing is told (packets, written, inr ((more, torn, w), why)) = (
+  w.text,
+  w.told,
+  cut_text program snap order unit packets,
+  took taken to sink count _ writer is told written.sent,
+  inr (inr (packets, more, torn, is-read from header (packets ++ more) torn w, refl, why)),
+)
+copied-outcome taken from header to sink count program snap order unit (Output fault) writer growing is told (packets, (more, torn, w), wrote) =
+    let further = goes-further taken (taken to) order unit (meant snap) (accepted program (meant snap) packets) (accepted program (meant snap) more) fault writer (growing order unit (meant snap) _ _) wrote in
+    let (sent, sends, begins, why) = rw (sym (accepted-append program (meant snap) packets more)) at further in (
+      w.text,
+      w.told,
+      sent,
+      took taken to sink count sent writer is told sends,
+      inr (packets ++ more, torn, is-read from header (packets ++ more) torn w, begins, why),
+    )

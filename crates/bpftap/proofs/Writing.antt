@@ -12,7 +12,7 @@ use Rattle.savefile.specs.Savefile.{encoded, packet}
 use Rattle.savefile.specs.Writer.{IsBeginning, HasWritten, BrokeOff, Sent, has_failed, sent_by, sink_of}
 use Rattle.bpfvm.specs.declared.insn.Insn.{Insn}
 use Rattle.bpftap.specs.Cut.{answer, accepted}
-use Rattle.bpftap.specs.Outcome.{GoesOn, Took, Writes}
+use Rattle.bpftap.specs.Copying.{Wrote}
 use Rattle.bpftap.proofs.Accepted.{accepted-rejected, accepted-kept}
 
 -- a text begins itself
@@ -35,9 +35,9 @@ fault-goes-on : {W : Type 0} (taken : W → Option (List ℕ)) (start : Option (
     (fault ≡ CountFull → 2 ^ 64 ≤ sent_by old + 16 + length p.bytes) →
     (fault ≡ CountFull → new ≡ old) →
     (fault ≡ Device) ⊎ (fault ≡ Failed) ⊎ (fault ≡ CountFull) →
-    GoesOn taken start order unit snap (ps ++ p ∷ []) (Err fault) new
+    Wrote taken start order unit snap (ps ++ p ∷ []) (Err fault) new
 fault-goes-on taken start order unit snap ps p old new fault begins adds written broke failed full same (inl device) =
-    let b = broke device in (b.text, b.sent, (b.begins, inl device))
+    let b = broke device in (b.text, b.sent, b.begins, inl device)
 -- a writer that works has not failed before
 fault-goes-on taken start order unit snap ps p old new fault begins adds written broke failed full same (inr (inl again)) =
     let works : false ≡ true = sym written.works ∙ failed again in cc
@@ -45,7 +45,8 @@ fault-goes-on taken start order unit snap ps p old new fault begins adds written
 fault-goes-on taken start order unit snap ps p old new fault begins adds written broke failed full same (inr (inr many)) = (
   encoded order unit snap ps,
   subst (Sent taken start (encoded order unit snap ps)) (sym (same many)) written.sent,
-  (begins _ (begins-itself _), inr (many, omega (arith, full many, written.sent.count, adds))),
+  begins _ (begins-itself _),
+  inr (many, omega (arith, full many, written.sent.count, adds)),
 )
 
 -- the clauses of `put`, as one step
@@ -57,7 +58,7 @@ pub put-goes-on : {W : Type 0} (taken : W → Option (List ℕ)) (start : Option
     (result ≡ Err CountFull → 2 ^ 64 ≤ sent_by old + 16 + length p.bytes) →
     ((result ≡ Err Failed) ⊎ (result ≡ Err CountFull) → new ≡ old) →
     IfErr result (λ fault. (fault ≡ Device) ⊎ (fault ≡ Failed) ⊎ (fault ≡ CountFull)) →
-    GoesOn taken start order unit snap (ps ++ p ∷ []) result new
+    Wrote taken start order unit snap (ps ++ p ∷ []) result new
 put-goes-on taken start order unit snap ps p old new (Ok x) begins adds written ok broke failed full same only = ok
 put-goes-on taken start order unit snap ps p old new (Err fault) begins adds written ok broke failed full same only =
     fault-goes-on taken start order unit snap ps p old new fault begins adds written
@@ -69,15 +70,13 @@ length-begins text whole (more, e) = omega (arith, ap length e, length-append te
 
 -- what a text's beginning was, is a beginning of the text with more packets
 pub goes-further : {W : Type 0} (taken : W → Option (List ℕ)) (start : Option (List ℕ)) (order : Order) (unit : TimeUnit) (snap : ℕ) (ps qs : List Packet) (fault : Fault) (w : Writer W) →
-    Begins order unit snap ps qs → GoesOn taken start order unit snap ps (Err fault) w → GoesOn taken start order unit snap (ps ++ qs) (Err fault) w
-goes-further taken start order unit snap ps qs fault w further (sent, is, (begins, why)) =
+    Begins order unit snap ps qs → Wrote taken start order unit snap ps (Err fault) w → Wrote taken start order unit snap (ps ++ qs) (Err fault) w
+goes-further taken start order unit snap ps qs fault w further (sent, is, begins, why) =
     let longer : length (encoded order unit snap ps) ≤ length (encoded order unit snap (ps ++ qs)) = length-begins _ _ (further _ (begins-itself _)) in (
       sent,
       is,
-      (
-        further sent begins,
-        elim why [ inl device ↦ inl device | inr (many, long) ↦ inr (many, omega (arith, long, longer)) ],
-      ),
+      further sent begins,
+      elim why [ inl device ↦ inl device | inr (many, long) ↦ inr (many, omega (arith, long, longer)) ],
     )
 
 -- a rejected packet: the text stays
@@ -92,40 +91,22 @@ rejected-goes-on taken start order unit head program snap before p w rejects wri
 -- an accepted packet: its own put
 pub accepted-goes-on : {W : Type 0} (taken : W → Option (List ℕ)) (start : Option (List ℕ)) (order : Order) (unit : TimeUnit) (head : ℕ) (program : List Insn) (snap : ℕ) (before : List Packet) (p : Packet) (kept : List ℕ) (result : Result (Unit {0}) Fault) (w : Writer W) →
     0 < answer program p → kept ≡ take (min (min (answer program p) snap) (length p.bytes)) p.bytes →
-    GoesOn taken start order unit head (before ++ packet p.sec p.nanos p.len kept ∷ []) result w →
-    GoesOn taken start order unit head (before ++ accepted program snap (p ∷ [])) result w
+    Wrote taken start order unit head (before ++ packet p.sec p.nanos p.len kept ∷ []) result w →
+    Wrote taken start order unit head (before ++ accepted program snap (p ∷ [])) result w
 accepted-goes-on taken start order unit head program snap before p kept result w accepts-it is gone =
-    subst (λ (ps : List Packet). GoesOn taken start order unit head (before ++ ps) result w)
+    subst (λ (ps : List Packet). Wrote taken start order unit head (before ++ ps) result w)
     (sym (accepted-kept program snap p kept accepts-it is)) gone
 
 -- a writer that was opened
-pub opened : (result : Result (Unit {0}) Fault) (P : Type 0) → OnOk result P → is_ok result ≡ true → P
-opened (Ok x) P p ok = p
-opened (Err fault) P p ok = absurd (cc)
+pub opened : (result : Result (Unit {0}) Fault) (x : Unit {0}) (P : Type 0) → result ≡ Ok x → OnOk result P → P
+opened (Ok y) x P is p = p
+opened (Err fault) x P is p = absurd (cc)
 
 -- a writer that could not be opened
-pub not-opened-goes-on : {W : Type 0} (taken : W → Option (List ℕ)) (start : Option (List ℕ)) (order : Order) (unit : TimeUnit) (snap : ℕ) (result : Result (Unit {0}) Fault) (w : Writer W) →
-    OnErr result (BrokeOff taken start order unit snap [] w) → IfErr result (λ fault. fault ≡ Device) → is_ok result ≡ false → (ps : List Packet) → Begins order unit snap [] ps →
-    GoesOn taken start order unit snap ps result w
-not-opened-goes-on taken start order unit snap (Ok x) w broke only failed ps begins = absurd (cc)
-not-opened-goes-on taken start order unit snap (Err fault) w broke only failed ps begins =
-    goes-further taken start order unit snap [] ps fault w begins (broke.text, broke.sent, (broke.begins, inl only))
-
--- what a closed writer's sink took
-pub goes-took : {W : Type 0} (taken : W → Option (List ℕ)) (to sink : W) (count : ℕ) (order : Order) (unit : TimeUnit) (snap : ℕ) (ps : List Packet) (result : Result (Unit {0}) Fault) (w : Writer W) →
-    sink ≡ sink_of w → count ≡ sent_by w → GoesOn taken (taken to) order unit snap ps result w →
-    (sent : List ℕ) × Took taken to sink count sent × Writes (encoded order unit snap ps) result sent
-goes-took taken to sink count order unit snap ps (Ok x) w is told written =
-    let text = encoded order unit snap ps in (
-      text,
-      record { appends = subst (λ s. Appends (taken to) (taken s) text) (sym is) written.sent.bytes; counts = told ∙ written.sent.count },
-      refl,
-    )
-goes-took taken to sink count order unit snap ps (Err fault) w is told (sent, sends, writes) = (
-  sent,
-  record { appends = subst (λ s. Appends (taken to) (taken s) sent) (sym is) sends.bytes; counts = told ∙ sends.count },
-  writes,
-)
+pub not-opened : {W : Type 0} (taken : W → Option (List ℕ)) (start : Option (List ℕ)) (order : Order) (unit : TimeUnit) (snap : ℕ) (result : Result (Unit {0}) Fault) (fault : Fault) (w : Writer W) →
+    result ≡ Err fault → OnErr result (BrokeOff taken start order unit snap [] w) → IfErr result (λ why. why ≡ Device) → Wrote taken start order unit snap [] (Err fault) w
+not-opened taken start order unit snap (Ok x) fault w is broke only = absurd (cc)
+not-opened taken start order unit snap (Err why) fault w is broke only = (broke.text, broke.sent, broke.begins, inl (cc))
 
 -- numbers that do not differ are the same
 pub same-unless-different : (a b : ℕ) → (a ≢ b → ⊥) → a ≡ b

@@ -1,3 +1,4 @@
+pub mod Copying
 pub mod Cut
 pub mod Outcome
 pub mod Telling

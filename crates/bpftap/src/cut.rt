@@ -1,14 +1,19 @@
 //! A capture cut by a filter: the function under `bpftap cut`.
 
-ghost use Rattle.std.specs.Prelude.{◌≡◌, ◌≢◌, ℕ, List, [], ◌∷◌, ◌++◌, Option, Err, ◌↔◌, All, IfSome, MatchResult};
+ghost use Rattle.std.specs.Prelude.{◌≡◌, ◌≢◌, ℕ, List, [], ◌∷◌, ◌++◌, Option, Err, ◌↔◌};
 ghost use Rattle.savefile.specs.Savefile.{IsWritable};
-ghost use Rattle.savefile.specs.Writer.{HasWritten, sink_of};
-ghost use Rattle.bpftap.specs.Cut.{accepted, cut_text, meant};
-ghost use Rattle.bpftap.specs.Outcome.{Cuts, GoesOn, IsRead, IsUnread, Took, Writes, end_of};
+ghost use Rattle.savefile.specs.declared.header.Header.{Header};
+ghost use Rattle.savefile.specs.declared.packet.Packet.{Packet};
+ghost use Rattle.savefile.specs.declared.writing.Writer.{Writer};
+ghost use Rattle.savefile.specs.Reader.{HasGiven, source_of};
+ghost use Rattle.savefile.specs.Writer.{HasWritten, sent_by, sink_of};
+ghost use Rattle.bpftap.specs.Copying.{Copied, Wrote};
+ghost use Rattle.bpftap.specs.Cut.{accepted, meant};
+ghost use Rattle.bpftap.specs.Outcome.{Cuts};
 
 use bpfvm::Program;
-use savefile::laws::growing_text;
-use savefile::{Fault, Order, Packet, Sink, Source, Unit, Writer, read_all, read_to_end};
+use savefile::laws::{given_so_far, growing_text};
+use savefile::{Fault, Order, PacketRef, Reader, Sink, Source, Unit, Writer};
 use std::alloc::Global;
 
 /// The largest snapshot length, in bytes, which 0 stands for; libpcap's MAXIMUM_SNAPLEN.
@@ -47,15 +52,18 @@ pub struct CutEnd<R, W> {
 /// A packet is kept with the least of the snapshot length, the program's answer and the captured length as its number
 /// of bytes; its time and its length on the wire stay. The new header has the snapshot length, and 0 stands for
 /// 262,144. The capture is a savefile of pcap-savefile(5), in any byte order and unit; it is written in those given.
+/// Each packet is written before the next one is read, in memory that does not grow with the capture.
 ///
 /// The end is [`End::Clean`] where the whole capture was read and written. It is [`End::Input`] with the header's fault,
 /// and nothing is written; with the fault of the first torn or bad record, behind all packets before it; with
-/// [`Fault::Device`] exactly where the source failed, or [`Fault::NoMemory`], and nothing is written. It is
-/// [`End::Output`] with [`Fault::Device`] exactly where the sink failed, or [`Fault::CountFull`] where the text has
-/// 2^64 bytes or more. In every case the sink took exactly `sent` bytes, a beginning of the text that was to be written.
+/// [`Fault::Device`] exactly where the source failed, behind all packets before that, and without a header where the
+/// capture's was not known; with [`Fault::NoMemory`], and nothing is written; or with [`Fault::CountFull`] after
+/// 2^64 - 1 packets. It is [`End::Output`] with [`Fault::Device`] exactly where the sink failed, or
+/// [`Fault::CountFull`] where the text has 2^64 bytes or more. In every case the sink took exactly `sent` bytes, a
+/// beginning of the text that was to be written.
 pub fn cut<R: Source, W: Sink>(
     alloc: Global,
-    mut from: R,
+    from: R,
     program: &Program,
     snap: u32,
     order: Order,
@@ -69,123 +77,105 @@ pub fn cut<R: Source, W: Sink>(
     ensures source_broke { (result.end ≡ End.Input Fault.Device) ↔ (R.failures result.source ≢ R.failures from) }
     ensures sink_broke { (result.end ≡ End.Output Fault.Device) ↔ (W.failures result.sink ≢ W.failures to) }
 {
-    match read_capture(alloc, &mut from) {
-        Ok((packets, fault)) => {
-            let (sink, sent, written) = write_accepted(
-                packets.as_slice(),
-                program,
-                snap,
-                order,
-                unit,
-                to,
-            );
-            CutEnd {
-                source: from,
-                sink,
-                sent,
-                end: end_of(written, fault),
-            }
+    let mut reader = match Reader::open(alloc, from) {
+        Ok(reader) => reader,
+        Err((source, fault)) => {
+            return CutEnd {
+                source,
+                sink: to,
+                sent: 0,
+                end: End::Input(fault),
+            };
         }
-        Err(fault) => CutEnd {
-            source: from,
-            sink: to,
-            sent: 0,
-            end: End::Input(fault),
-        },
-    }
-}
-
-// The packets of a source that is read to its end, and the fault that ended them, if any.
-fn read_capture<R: Source>(
-    alloc: Global,
-    from: &mut R,
-) -> Result<(Vec<Packet>, Option<Fault>), Fault>
-    ensures reads { (text : List ℕ) × IfSome (R.left from.old) (λ bytes. bytes ≡ text)
-        × MatchResult result (λ r. IsRead text r.0.items r.1 × All IsWritable r.0.items) (IsUnread text) }
-    ensures source_broke { (result ≡ Err Fault.Device) ↔ (R.failures from.new ≢ R.failures from.old) }
-{
-    let text = read_to_end(alloc, from)?;
-    let (_header, packets, fault) = read_all(alloc, text.as_slice())?;
-    Ok((packets, fault))
-}
-
-// A fault of the output goes before one of the input, which comes behind the packets that were to be written.
-fn end_of(written: Result<(), Fault>, fault: Option<Fault>) -> End
-    ensures { result ≡ end_of written fault }
-{
-    match (written, fault) {
-        (Err(fault), _) => End::Output(fault),
-        (Ok(()), Some(fault)) => End::Input(fault),
-        (Ok(()), None) => End::Clean,
+    };
+    // What was sent of the text of some packets begins the text of all.
+    growing_text();
+    let (sink, sent, end) = write_accepted(&mut reader, program, snap, order, unit, to);
+    CutEnd {
+        source: reader.close(),
+        sink,
+        sent,
+        end,
     }
 }
 
 // The header, and then each accepted packet.
-fn write_accepted<W: Sink>(
-    packets: &[Packet],
+fn write_accepted<R: Source, W: Sink>(
+    reader: &mut Reader<R>,
     program: &Program,
     snap: u32,
     order: Order,
     unit: Unit,
     to: W,
-) -> (W, u64, Result<(), Fault>)
-    requires { All IsWritable packets.now }
-    ensures writes { (sent : List ℕ) × Took W.taken to result.0 result.1 sent
-        × Writes (cut_text program.now snap order unit packets.now) result.2 sent }
-    ensures sink_broke { (result.2 ≡ Err Fault.Device) ↔ (W.failures result.0 ≢ W.failures to) }
+) -> (W, u64, End)
+    ensures writes { (from : Option (List ℕ)) (header : Header) → HasGiven R.left from header [] reader.old →
+        (writer : Writer W) × (result.0 ≡ sink_of writer) × (result.1 ≡ sent_by writer)
+        × Copied W.taken from header (W.taken to) order unit (meant snap) program.now (meant snap) result.2 writer }
+    ensures source_broke { (result.2 ≡ End.Input Fault.Device) ↔ (R.failures (source_of reader.new) ≢ R.failures (source_of reader.old)) }
+    ensures sink_broke { (result.2 ≡ End.Output Fault.Device) ↔ (W.failures result.0 ≢ W.failures to) }
 {
-    // A header that was not sent whole begins the text of all packets.
-    growing_text();
     let snap = meant(snap);
-    let (mut writer, mut written) = Writer::open(to, order, unit, snap);
-    if written.is_ok() {
-        written = put_accepted(&mut writer, packets, program, snap);
+    let (mut writer, opened) = Writer::open(to, order, unit, snap);
+    if let Err(fault) = opened {
+        // No packet, too, begins what the capture holds.
+        given_so_far(reader);
+        let (sink, sent) = writer.close();
+        return (sink, sent, End::Output(fault));
     }
+    let end = copy_accepted(reader, program, snap, &mut writer);
     let (sink, sent) = writer.close();
-    (sink, sent, written)
+    (sink, sent, end)
 }
 
-// Each accepted packet, in order, to a writer that no device failed.
-fn put_accepted<W: Sink>(
-    writer: &mut Writer<W>,
-    packets: &[Packet],
+// Each accepted packet, written before the next one is read.
+fn copy_accepted<R: Source, W: Sink>(
+    reader: &mut Reader<R>,
     program: &Program,
     snap: u32,
-) -> Result<(), Fault>
-    requires { All IsWritable packets.now }
-    ensures writes { (start : Option (List ℕ)) (order : Order) (unit : Unit) (head : ℕ) →
-        HasWritten W.taken start order unit head [] writer.old →
-        GoesOn W.taken start order unit head (accepted program.now snap packets.now) result writer.new }
-    ensures sink_broke { (result ≡ Err Fault.Device) ↔ (W.failures (sink_of writer.new) ≢ W.failures (sink_of writer.old)) }
+    writer: &mut Writer<W>,
+) -> End
+    ensures copies { (from : Option (List ℕ)) (header : Header) (to : Option (List ℕ)) (order : Order) (unit : Unit) (head : ℕ) →
+        HasGiven R.left from header [] reader.old → HasWritten W.taken to order unit head [] writer.old →
+        Copied W.taken from header to order unit head program.now snap result writer.new }
+    ensures source_broke { (result ≡ End.Input Fault.Device) ↔ (R.failures (source_of reader.new) ≢ R.failures (source_of reader.old)) }
+    ensures sink_broke { (result ≡ End.Output Fault.Device) ↔ (W.failures (sink_of writer.new) ≢ W.failures (sink_of writer.old)) }
 {
-    // What was sent before a fault begins the text with the packets behind it, too.
-    growing_text();
-    for packet in packets {
-        put_one(writer, packet, program, snap)?;
+    loop {
+        match reader.advance() {
+            Ok(true) => {
+                // Where the sink breaks, what was read so far begins what the capture holds.
+                given_so_far(reader);
+                match put_one(writer, &reader.packet(), program, snap) {
+                    Ok(()) => {}
+                    Err(fault) => return End::Output(fault),
+                }
+            }
+            Ok(false) => return End::Clean,
+            Err(fault) => return End::Input(fault),
+        }
     }
-    Ok(())
 }
 
 // A packet, cut, where the program accepts it.
+#[inline]
 fn put_one<W: Sink>(
     writer: &mut Writer<W>,
-    packet: &Packet,
+    packet: &PacketRef<'_>,
     program: &Program,
     snap: u32,
 ) -> Result<(), Fault>
     requires { IsWritable packet.now }
     ensures writes { (start : Option (List ℕ)) (order : Order) (unit : Unit) (head : ℕ) (before : List Packet) →
         HasWritten W.taken start order unit head before writer.old →
-        GoesOn W.taken start order unit head (before ++ accepted program.now snap (packet.now ∷ [])) result writer.new }
+        Wrote W.taken start order unit head (before ++ accepted program.now snap (packet.now ∷ [])) result writer.new }
     ensures sink_broke { (result ≡ Err Fault.Device) ↔ (W.failures (sink_of writer.new) ≢ W.failures (sink_of writer.old)) }
 {
     // The text grows by this packet's record.
     growing_text();
-    let bytes = packet.bytes.as_slice();
-    let verdict = bpfvm::run(program, bytes, packet.len);
+    let verdict = bpfvm::run(program, packet.bytes, packet.len);
     if verdict == 0 {
         return Ok(());
     }
-    let kept = (verdict.min(snap) as usize).min(bytes.len());
-    writer.put(packet.sec, packet.nanos, packet.len, &bytes[..kept])
+    let kept = (verdict.min(snap) as usize).min(packet.bytes.len());
+    writer.put(packet.sec, packet.nanos, packet.len, &packet.bytes[..kept])
 }

@@ -399,12 +399,24 @@ impl Write for BreakingWriter {
     }
 }
 
+/// Each time the packets before the break are written, and nothing where the header was not read.
 #[test]
-fn a_broken_source_is_told_and_nothing_is_written(rt: HostRuntime) -> Result<(), Fail> {
+fn a_broken_source_is_told_behind_its_packets(rt: HostRuntime) -> Result<(), Fail> {
     let alloc = rt.alloc();
     let text = concat(alloc, &[HEADER, ARP_RECORD, IP_RECORD])?;
     let program = program_of(&rt, ALL);
-    for (piece, given) in [(1, 0), (7, 10), (1000, 24), (7, 41), (1000, text.len())] {
+    for (piece, given, written) in [
+        (1, 0, 0),
+        (7, 10, 0),
+        (1000, 23, 0),
+        (1000, 24, 24),
+        (7, 41, 24),
+        (1, 53, 24),
+        (1000, 54, 54),
+        (1000, 57, 54),
+        (7, 57, 54),
+        (1000, text.len(), 84),
+    ] {
         let from = Counted::new(BreakingReader {
             left: text.as_slice().get(..given).unwrap_or(b""),
             piece,
@@ -418,7 +430,7 @@ fn a_broken_source_is_told_and_nothing_is_written(rt: HostRuntime) -> Result<(),
             &rt,
             "a broken source",
             &seen,
-            b"",
+            text.as_slice().get(..written).unwrap_or(b""),
             "bpftap: Device in.pcap\n",
             3,
         );

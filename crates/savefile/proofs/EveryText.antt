@@ -74,7 +74,7 @@ header_or_refusal text = elim (cases_lt (length text) 24) [
 -- ---- The records
 
 -- a text of at most n bytes is records up to a rest that begins with none
-all_records : (number : ℕ → List ℕ → ℕ) (unit : TimeUnit) (n : ℕ) (text : List ℕ) → length text ≤ n
+pub all_records : (number : ℕ → List ℕ → ℕ) (unit : TimeUnit) (n : ℕ) (text : List ℕ) → length text ≤ n
     → (ps : List Packet) × (rest : List ℕ) × AreRecords number unit text ps rest × NoRecord number unit rest
 all_records number unit zero text le = ([], text, refl, NoRecord-nil number unit text (omega (arith, le)))
 all_records number unit (suc n) text le = elim (record_or_fault number unit 0 text) [

@@ -3,7 +3,10 @@ pub mod Contents
 pub mod Encoding
 pub mod EveryText
 pub mod Filling
+pub mod Given
 pub mod Headers
 pub mod Lengths
+pub mod Pieces
 pub mod Records
 pub mod Sending
+pub mod Steps

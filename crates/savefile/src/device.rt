@@ -1,11 +1,9 @@
 //! What a savefile is read from and written to.
 
-ghost use Rattle.std.specs.Prelude.{◌≡◌, ◌≢◌, ℕ, List, Option, None, ◌+◌, ◌%◌, ◌^◌, ◌<◌, ◌≤◌, ◌↔◌, ◌⊎◌, length, vec_len, IfOk, IfErr, OnOk};
-ghost use Rattle.std.specs.Io.KnownBytes.{ReadConsumes, WriteAppends, IsAtEnd, Consumes};
+ghost use Rattle.std.specs.Prelude.{◌≡◌, ℕ, List, Option, None, Some, ◌<◌, ◌≤◌, length, IfOk};
+ghost use Rattle.std.specs.Io.KnownBytes.{ReadConsumes, WriteAppends};
 ghost use Rattle.savefile.specs.Device.{CountsFailure};
 
-use crate::fault::Fault;
-use std::alloc::{AllocError, Global};
 use std::io::{Read, Write};
 
 /// A device failed. The call moved no byte.
@@ -44,6 +42,20 @@ pub trait Sink {
         ensures progress { IfOk result (λ n. 0 < length from.now → 0 < n) }
         ensures bytes { WriteAppends (taken self.old) (taken self.new) result from.now }
         ensures failures { CountsFailure (failures self.old) (failures self.new) result };
+}
+
+/// Bytes in memory, which never fail.
+impl Source for &[u8] {
+    ghost left = { λ s. Some s.now };
+
+    ghost failures = { λ _. 0 };
+
+    fn read(&mut self, to: &mut [u8]) -> Result<usize, Broken> {
+        match Read::read(self, to) {
+            Ok(n) => Ok(n),
+            Err(_) => Err(Broken),
+        }
+    }
 }
 
 /// Makes a [`Source`] of any [`Read`] and a [`Sink`] of any [`Write`], and counts the failures.
@@ -103,37 +115,6 @@ impl<T: Write> Sink for Counted<T> {
                 self.failures = self.failures.wrapping_add(1);
                 Err(Broken)
             }
-        }
-    }
-}
-
-/// How many bytes a source is asked for at a time.
-const PIECE: usize = 1 << 18;
-
-/// A vector of this length.
-fn room(alloc: Global, len: usize) -> Result<Vec<u8>, AllocError>
-    ensures { IfOk result (λ v. vec_len v ≡ len) }
-{
-    vec![in alloc; 0; len]
-}
-
-/// Reads a source to its end, in pieces of up to 256 KiB.
-///
-/// [`Fault::Device`] comes exactly where the source failed, and then the bytes read are lost.
-/// [`Fault::NoMemory`] comes where memory was refused.
-pub fn read_to_end<R: Source>(alloc: Global, source: &mut R) -> Result<Vec<u8>, Fault>
-    ensures bytes { IfOk result (λ v. Consumes (R.left source.old) (R.left source.new) v.items) }
-    ensures end { OnOk result (IsAtEnd (R.left source.new)) }
-    ensures device { (result ≡ Err Fault.Device) ↔ (R.failures source.new ≢ R.failures source.old) }
-    ensures only { IfErr result (λ fault. (fault ≡ Fault.Device) ⊎ (fault ≡ Fault.NoMemory)) }
-{
-    let mut bytes = Vec::new(alloc);
-    let mut piece = room(alloc, PIECE)?;
-    loop {
-        match source.read(&mut piece) {
-            Ok(0) => return Ok(bytes),
-            Ok(n) => bytes.extend_from_slice(&piece[..n])?,
-            Err(Broken) => return Err(Fault::Device),
         }
     }
 }

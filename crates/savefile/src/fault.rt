@@ -1,8 +1,9 @@
 //! Why a savefile could not be read or written.
 
 ghost use Rattle.std.specs.Prelude.{◌≡◌};
-ghost use Rattle.savefile.specs.declared.fault.Fault.TheVariants.{NoMemory};
+ghost use Rattle.savefile.specs.declared.fault.Fault.TheVariants.{Device, NoMemory};
 
+use crate::device::Broken;
 use std::alloc::{AllocError, AllocFailed};
 use thiserror::Error;
 
@@ -44,6 +45,14 @@ pub enum Fault {
     /// The number of bytes sent would pass 2^64 - 1; nothing was done.
     #[error("CountFull")]
     CountFull,
+}
+
+impl From<Broken> for Fault {
+    ghost from_gives = { λ _ e. e ≡ Device };
+
+    fn from(_e: Broken) -> Fault {
+        Fault::Device
+    }
 }
 
 impl From<AllocError> for Fault {

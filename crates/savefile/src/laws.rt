@@ -1,12 +1,17 @@
 //! What follows from the definitions alone. Each function does nothing: its contract is the law.
 
-ghost use Rattle.std.specs.Prelude.{◌≡◌, ◌⊎◌, ◌↔◌, ℕ, ◌+◌, ◌<◌, ◌^◌, List, [], ◌∷◌, ◌++◌, length, map, All, Option, None};
+ghost use Rattle.std.specs.Prelude.{◌≡◌, ◌⊎◌, ◌↔◌, ℕ, ◌+◌, ◌*◌, ◌<◌, ◌≤◌, ◌^◌, List, [], ◌∷◌, ◌++◌, length, map, All, Option, None};
 ghost use Rattle.savefile.specs.declared.fault.Fault.{Fault};
+ghost use Rattle.savefile.specs.declared.header.Header.{Header};
 ghost use Rattle.savefile.specs.declared.header.Order.{Order};
 ghost use Rattle.savefile.specs.declared.header.Unit.{Unit as TimeUnit};
 ghost use Rattle.savefile.specs.declared.packet.Packet.{Packet};
+ghost use Rattle.savefile.specs.Reader.{HasGiven, WasBegun};
 ghost use Rattle.savefile.specs.Savefile.{encoded, in_units, Holds, IsSavefile, IsText, IsWritable, RefusesHeader};
 ghost use Rattle.savefile.specs.Writer.{IsBeginning};
+
+use crate::device::Source;
+use crate::reader::Reader;
 
 /// A text is a savefile in one way: its header is one, and as many packets as it is read as, they are the same.
 pub fn one_reading()
@@ -55,4 +60,18 @@ pub fn growing_text()
         IsBeginning text (encoded order unit snap packets) → IsBeginning text (encoded order unit snap (packets ++ more)) }
     ensures adds { (order : Order) (unit : TimeUnit) (snap : ℕ) (packets : List Packet) (packet : Packet) →
         length (encoded order unit snap (packets ++ packet ∷ [])) ≡ length (encoded order unit snap packets) + 16 + length packet.bytes }
+{}
+
+/// Each packet takes 16 bytes at least, so there are fewer packets than bytes.
+pub fn packets_take_room()
+    ensures read { (text : List ℕ) (order : Order) (unit : TimeUnit) (snap : ℕ) (packets : List Packet) (rest : List ℕ) →
+        IsSavefile text order unit snap packets rest → 24 + 16 * length packets + length rest ≤ length text }
+    ensures written { (order : Order) (unit : TimeUnit) (snap : ℕ) (packets : List Packet) →
+        24 + 16 * length packets ≤ length (encoded order unit snap packets) }
+{}
+
+/// What a reader has given so far begins what the text holds that its source had left, whatever comes.
+pub fn given_so_far<R: Source>(_reader: &Reader<R>)
+    ensures { (start : Option (List ℕ)) (header : Header) (packets : List Packet) → HasGiven R.left start header packets _reader.now →
+        WasBegun start header packets }
 {}

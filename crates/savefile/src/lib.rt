@@ -11,24 +11,33 @@
 //! have more bytes than the snapshot length or than the packet had on the wire. What is written has
 //! zeros in the reserved fields.
 //!
-//! [`read_all`] reads a whole savefile, [`Writer`] writes one packet by packet into a [`Sink`], and
+//! [`Reader`] reads a savefile packet by packet from a [`Source`], in memory that does not grow, and lends each packet
+//! without a copy. [`read_all`] reads a whole one from memory. [`Writer`] writes one packet by packet into a [`Sink`].
 //! [`laws`] has what follows from the definitions alone.
 #![tactic(auto)]
 
+mod ahead;
 mod device;
 mod fault;
 mod header;
 pub mod laws;
 mod packet;
+mod reader;
 mod reading;
+mod record;
 mod writing;
 
-pub use device::{Broken, Counted, Sink, Source, read_to_end};
+pub use device::{Broken, Counted, Sink, Source};
 pub use fault::Fault;
 pub use header::{Header, Order, Unit};
 pub use packet::{Data, Packet, PacketRef};
+pub use reader::Reader;
 pub use reading::read_all;
 pub use writing::Writer;
 
+#[cfg(test)]
+mod calling_tests;
+#[cfg(test)]
+mod reader_tests;
 #[cfg(test)]
 mod tests;

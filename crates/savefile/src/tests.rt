@@ -8,18 +8,18 @@ use std::process::Abort;
 use std::test::Fail;
 
 /// Little-endian, microseconds, snapshot length 262,144.
-const HEADER_LITTLE_MICRO: [u8; 24] = [
+pub(crate) const HEADER_LITTLE_MICRO: [u8; 24] = [
     0xd4, 0xc3, 0xb2, 0xa1, 2, 0, 4, 0, 0, 0, 0, 0, 0, 0, 0, 0, 0, 0, 4, 0, 1, 0, 0, 0,
 ];
 
 /// An IPv4 packet of TCP, without options or data, between two hosts of 10.0.0.0.
-const TCP_FRAME: [u8; 38] = [
+pub(crate) const TCP_FRAME: [u8; 38] = [
     0xff, 0xff, 0xff, 0xff, 0xff, 0xff, 0, 1, 2, 3, 4, 5, 8, 0, 0x45, 0, 0, 0x18, 0, 0, 0, 0, 0x40,
     6, 0, 0, 10, 0, 0, 1, 10, 0, 0, 2, 0, 0x35, 0, 0x35,
 ];
 
 /// The parts, one behind the other.
-fn joined(alloc: Global, parts: &[&[u8]]) -> Result<Vec<u8>, AllocError> {
+pub(crate) fn joined(alloc: Global, parts: &[&[u8]]) -> Result<Vec<u8>, AllocError> {
     let mut text = Vec::new(alloc);
     for part in parts {
         text.extend_from_slice(part)?;
@@ -166,7 +166,7 @@ fn fraction_of_a_million_is_refused(rt: HostRuntime) -> Result<(), Fail> {
     )
 }
 
-fn sevens(alloc: Global, len: usize) -> Result<Vec<u8>, AllocError> {
+pub(crate) fn sevens(alloc: Global, len: usize) -> Result<Vec<u8>, AllocError> {
     vec![in alloc; 7; len]
 }
 
@@ -307,9 +307,9 @@ fn each_form_is_written_as_it_stands(rt: HostRuntime) -> Result<(), Fail> {
 
 /// A device that moves few bytes a call, and fails at one of its calls.
 #[derive(Drop)]
-struct Drip {
-    bytes: Vec<u8>,
-    place: usize,
+pub(crate) struct Drip {
+    pub(crate) bytes: Vec<u8>,
+    pub(crate) place: usize,
     at_once: usize,
     calls: usize,
     fails_at: usize,
@@ -350,7 +350,7 @@ impl Write for Drip {
     }
 }
 
-fn dripping(bytes: Vec<u8>, at_once: usize, fails_at: usize) -> Counted<Drip> {
+pub(crate) fn dripping(bytes: Vec<u8>, at_once: usize, fails_at: usize) -> Counted<Drip> {
     Counted::new(Drip {
         bytes,
         place: 0,
@@ -392,29 +392,6 @@ fn a_failed_sink_has_what_was_sent(rt: HostRuntime) -> Result<(), Fail> {
     let mut sink = dripping(Vec::new(rt.alloc()), 5, 9);
     assert_eq!(rt; sink.write(&[]), Ok(0));
     assert_eq!(rt; sink.failures, 0);
-    Ok(())
-}
-
-#[test]
-fn a_source_is_read_to_its_end(rt: HostRuntime) -> Result<(), Fail> {
-    let text = sevens(rt.alloc(), 600_000)?;
-    for (at_once, fails_at, want) in [
-        (usize::MAX, 0, Ok(())),
-        (99_999, 0, Ok(())),
-        (99_999, 3, Err(Fault::Device)),
-        (99_999, 8, Err(Fault::Device)),
-    ] {
-        let mut source = dripping(Vec::from_slice(rt.alloc(), &text)?, at_once, fails_at);
-        let got = read_to_end(rt.alloc(), &mut source);
-        assert_eq!(rt; source.failures, if want.is_ok() { 0 } else { 1 });
-        match got {
-            Ok(bytes) => {
-                assert_eq!(rt; want, Ok(()));
-                assert!(rt; bytes.as_slice() == text.as_slice());
-            }
-            Err(fault) => assert_eq!(rt; Err(fault), want),
-        }
-    }
     Ok(())
 }
 
@@ -483,10 +460,4 @@ fn want_of_memory_is_named(rt: HostRuntime) {
         }
         Err(fault) => assert_eq!(rt; fault, Fault::NoMemory),
     }
-    let mut source = Counted::new(TORN.as_slice());
-    match read_to_end(rt.alloc(), &mut source) {
-        Ok(bytes) => assert!(rt; bytes.as_slice() == TORN.as_slice()),
-        Err(fault) => assert_eq!(rt; fault, Fault::NoMemory),
-    }
-    assert_eq!(rt; source.failures, 0);
 }

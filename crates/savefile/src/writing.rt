@@ -110,8 +110,37 @@ impl<W: Sink> Writer<W> {
         (writer, answer)
     }
 
-    /// Sends bytes, as many at a time as the sink takes.
+    /// Sends bytes. Mostly the sink takes them all at once.
+    #[inline]
     fn send(&mut self, bytes: &[u8]) -> Result<(), Fault>
+        requires { self.old.sent + length bytes.now < 2 ^ 64 }
+        ensures ok { OnOk result (Sends W.taken self.old self.new bytes.now × (self.new.failed ≡ self.old.failed)) }
+        ensures err { OnErr result ((part : List ℕ) × IsBeginning part bytes.now × Sends W.taken self.old self.new part × (self.new.failed ≡ true)) }
+        ensures only { IfErr result (λ fault. fault ≡ Fault.Device) }
+        ensures failures { CountsFailure (W.failures self.old.sink) (W.failures self.new.sink) result }
+    {
+        if bytes.is_empty() {
+            return Ok(());
+        }
+        match self.sink.write(bytes) {
+            Ok(n) => {
+                self.sent += n as u64;
+                if n == bytes.len() {
+                    return Ok(());
+                }
+                self.send_rest(&bytes[n..])
+            }
+            Err(Broken) => {
+                self.failed = true;
+                Err(Fault::Device)
+            }
+        }
+    }
+
+    /// Sends bytes, as many at a time as the sink takes.
+    #[cold]
+    #[inline(never)]
+    fn send_rest(&mut self, bytes: &[u8]) -> Result<(), Fault>
         requires { self.old.sent + length bytes.now < 2 ^ 64 }
         ensures ok { OnOk result (Sends W.taken self.old self.new bytes.now × (self.new.failed ≡ self.old.failed)) }
         ensures err { OnErr result ((part : List ℕ) × IsBeginning part bytes.now × Sends W.taken self.old self.new part × (self.new.failed ≡ true)) }
@@ -121,9 +150,9 @@ impl<W: Sink> Writer<W> {
         let mut rest = bytes;
         while !rest.is_empty() {
             match self.sink.write(rest) {
-                Ok(n) => {
-                    self.sent += n as u64;
-                    rest = &rest[n..];
+                Ok(taken) => {
+                    self.sent += taken as u64;
+                    rest = &rest[taken..];
                 }
                 Err(Broken) => {
                     self.failed = true;
@@ -135,6 +164,7 @@ impl<W: Sink> Writer<W> {
     }
 
     /// Sends a header, and then bytes.
+    #[inline]
     fn send_both(&mut self, header: &[u8], bytes: &[u8]) -> Result<(), Fault>
         requires { self.old.sent + length header.now + length bytes.now < 2 ^ 64 }
         ensures ok { OnOk result (Sends W.taken self.old self.new (header.now ++ bytes.now) × (self.new.failed ≡ self.old.failed)) }
@@ -154,6 +184,7 @@ impl<W: Sink> Writer<W> {
     /// failed, and every `put` answers [`Fault::Failed`] and does nothing. [`Fault::CountFull`] comes
     /// exactly where the record would take [`Writer::sent`] past 2^64 - 1; it does nothing, and the writer
     /// can be used on. No memory is taken.
+    #[inline]
     pub fn put(&mut self, sec: u32, nanos: u32, len: u32, bytes: &[u8]) -> Result<(), Fault>
         requires nanos { nanos < 1000000000 }
         requires size { length bytes.now ≤ 262144 }

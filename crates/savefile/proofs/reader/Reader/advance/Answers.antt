@@ -1,0 +1,33 @@
+use Rattle.savefile.proofs.Given.{begins_all, gives_packet, gives_all, gives_fault}
+use Rattle.savefile.proofs.reader.Reader.advance.Goals as goal
+
+pub returns-in-Ok-true-clause-packet : goal.returns-in-Ok-true-clause-packet
+returns-in-Ok-true-clause-packet g c = λ start header packets given _.
+    let told = c.in-Ok-true.ensures in
+    gives_packet g.R.Source.left start header packets c.args.self.now c.read_record.new.self given told.stays (told.packet (cc))
+
+pub returns-in-Ok-false-clause-end : goal.returns-in-Ok-false-clause-end
+returns-in-Ok-false-clause-end g c = λ start header packets given _.
+    gives_all g.R.Source.left start header packets c.args.self.now c.read_record.new.self given (c.in-Ok-false.ensures.end (cc))
+
+pub returns-in-Err-clause-cause : goal.returns-in-Err-clause-cause
+returns-in-Err-clause-cause g c = λ start header packets given.
+    gives_fault g.R.Source.left start header packets c.args.self.now c.read_record.new.self c.in-Err.fault given c.in-Err.ensures.fault
+
+pub returns-in-Ended-clause-so_far : goal.returns-in-Ended-clause-so_far
+returns-in-Ended-clause-so_far g c = λ start header packets given. begins_all g.R.Source.left start header packets c.args.self.now given
+
+pub returns-in-Broken-clause-so_far : goal.returns-in-Broken-clause-so_far
+returns-in-Broken-clause-so_far g c = λ start header packets given. begins_all g.R.Source.left start header packets c.args.self.now given
+
+pub returns-then-self-clause-so_far : goal.returns-then-self-clause-so_far
+returns-then-self-clause-so_far g c = λ start header packets given. begins_all g.R.Source.left start header packets c.args.self.now given
+
+pub returns-in-Ok-true-clause-so_far : goal.returns-in-Ok-true-clause-so_far
+returns-in-Ok-true-clause-so_far g c = λ start header packets given. begins_all g.R.Source.left start header packets c.args.self.now given
+
+pub returns-in-Ok-false-clause-so_far : goal.returns-in-Ok-false-clause-so_far
+returns-in-Ok-false-clause-so_far g c = λ start header packets given. begins_all g.R.Source.left start header packets c.args.self.now given
+
+pub returns-in-Err-clause-so_far : goal.returns-in-Err-clause-so_far
+returns-in-Err-clause-so_far g c = λ start header packets given. begins_all g.R.Source.left start header packets c.args.self.now given

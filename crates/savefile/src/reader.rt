@@ -1,0 +1,253 @@
+//! Reading a savefile, packet by packet.
+
+ghost use Rattle.std.specs.Prelude.{◌≡◌, ◌≢◌, ℕ, List, [], ◌∷◌, ◌++◌, Option, None, true, false, ◌+◌, ◌-◌, ◌^◌, ◌<◌, ◌≤◌, ◌↔◌, ◌⊎◌, length, IfOk, IfErr, IfSome, MatchOption, MatchResult};
+ghost use Rattle.std.specs.Io.KnownBytes.{Consumes, IsAtEnd};
+ghost use Rattle.savefile.specs.Ahead.{held_by, Grows};
+ghost use Rattle.savefile.specs.Savefile.{number_in, IsHeader, IsRecord, IsWritable, RefusesHeader};
+ghost use Rattle.savefile.specs.Reader.{count_given, header_told, packet_lent, source_of, taken_ahead, GoesOn, HasEnded, HasFailed, HasGiven, IsCause, Leaves, LeavesNext, Lends, WasBegun, WasRead, WasRefused};
+ghost use Rattle.savefile.specs.Reading.{MeetsEnd, MeetsFault, Passes, PassesHeader, StaysAt};
+
+use crate::ahead::Ahead;
+use crate::device::Source;
+use crate::fault::Fault;
+use crate::header::{HEADER_LEN, Header, header_of};
+use crate::packet::{Packet, PacketRef};
+use crate::record::{RECORD_HEADER_LEN, RecordHeader};
+use std::alloc::{AllocError, Global};
+
+/// How far a reader has come.
+#[derive(Clone, Copy, Debug)]
+enum State {
+    /// It goes on.
+    Reading,
+    /// It met the clean end.
+    Ended,
+    /// It told a fault, behind which it cannot read.
+    Broken,
+}
+
+/// Reads a savefile from a source, packet by packet, in memory that is taken once, however long the savefile is.
+///
+/// A packet comes in one of two ways. [`Reader::advance`] goes on to the next one, which [`Reader::packet`] then lends
+/// out of the reader's own memory, without a copy. [`Reader::next`] gives a copy of its own.
+///
+/// It reads what [`read_all`](crate::read_all) reads, in whatever pieces the source gives its bytes. It asks the source
+/// only where the next record is not whole in what it has taken already, for as many bytes as it has room for, which
+/// is mostly half a mebibyte. So a fault, of the source too, stands behind all packets that came whole.
+#[derive(Debug, Drop)]
+pub struct Reader<R> {
+    ahead: Ahead<R>,
+    header: Header,
+    /// How many packets were given.
+    given: u64,
+    /// The header of the record that is lent.
+    record: RecordHeader,
+    state: State,
+}
+
+/// Passes the header of a savefile.
+fn read_header<R: Source>(ahead: &mut Ahead<R>) -> Result<Header, Fault>
+    ensures ok { IfOk result (λ header. PassesHeader R.left ahead.old ahead.new header) }
+    ensures err { IfErr result (λ fault. Grows R.left ahead.old ahead.new × ((fault ≡ Fault.Device) ⊎ ((rest : List ℕ)
+        × IfSome (R.left ahead.new.source) (λ bytes. bytes ≡ rest) × RefusesHeader (held_by ahead.new ++ rest) fault))) }
+    ensures device { (result ≡ Err Fault.Device) ↔ (R.failures ahead.new.source ≢ R.failures ahead.old.source) }
+{
+    ahead.fill(HEADER_LEN)?;
+    let header = header_of(ahead.held())?;
+    ahead.pass(HEADER_LEN, 0);
+    Ok(header)
+}
+
+impl<R: Source> Reader<R> {
+    /// Reads the header of a savefile.
+    ///
+    /// The error is [`Fault::ShortHeader`], [`Fault::NotSavefile`], [`Fault::Version`] or [`Fault::LinkType`] where
+    /// that is the first check of the header to fail; [`Fault::Device`] exactly where the source failed in this call;
+    /// or [`Fault::NoMemory`], and then the source was not read. The source comes back with it; bytes that were read
+    /// are lost.
+    pub fn open(alloc: Global, source: R) -> Result<Reader<R>, (R, Fault)>
+        // The reader has given nothing yet.
+        ensures ok { IfOk result (λ reader. HasGiven R.left (R.left source) (header_told reader) [] reader) }
+
+        // When each error comes, and no other.
+        ensures refused { IfErr result (λ back. WasRefused (R.left source) back.1 ⊎ (back.1 ≡ Fault.Device) ⊎ (back.1 ≡ Fault.NoMemory)) }
+        ensures device { MatchResult result (λ reader. R.failures (source_of reader) ≡ R.failures source)
+            (λ back. (back.1 ≡ Fault.Device) ↔ (R.failures back.0 ≢ R.failures source)) }
+
+        // What an error leaves of the source.
+        ensures unread { IfErr result (λ back. back.1 ≡ Fault.NoMemory → back.0 ≡ source) }
+        ensures taken { IfErr result (λ back. (bytes : List ℕ) × Consumes (R.left source) (R.left back.0) bytes) }
+    {
+        let mut ahead = match Ahead::new(alloc, source) {
+            Ok(ahead) => ahead,
+            Err(source) => return Err((source, Fault::NoMemory)),
+        };
+        match read_header(&mut ahead) {
+            Ok(header) => Ok(Reader {
+                ahead,
+                header,
+                given: 0,
+                record: RecordHeader::EMPTY,
+                state: State::Reading,
+            }),
+            Err(fault) => Err((ahead.into_source(), fault)),
+        }
+    }
+
+    /// The header of the savefile.
+    pub fn header(&self) -> Header
+        ensures { result ≡ header_told self.now }
+    {
+        self.header
+    }
+
+    /// Goes on to the next packet, which [`Reader::packet`] then lends. `false` is the clean end, and repeats.
+    ///
+    /// A torn or bad record ends the packets: [`Fault::TornRecord`], [`Fault::BadFraction`] or [`Fault::TooLong`], with
+    /// its place, comes behind all packets before it. [`Fault::Device`] comes exactly where the source failed in this
+    /// call. After each of these every call answers [`Fault::Failed`], which comes nowhere else, and reads nothing.
+    /// [`Fault::CountFull`] comes exactly after 2^64 - 1 packets, reads nothing, and repeats. No memory is taken.
+    #[inline]
+    pub fn advance(&mut self) -> Result<bool, Fault>
+        // One packet more, the end, or why there is none. What was given so far begins what the text holds, whatever
+        // comes. Each packet may be written.
+        ensures packet { (start : Option (List ℕ)) (header : Header) (packets : List Packet) → HasGiven R.left start header packets self.old →
+            result ≡ Ok true → HasGiven R.left start header (packets ++ packet_lent self.new ∷ []) self.new }
+        ensures end { (start : Option (List ℕ)) (header : Header) (packets : List Packet) → HasGiven R.left start header packets self.old →
+            result ≡ Ok false → WasRead start header packets None }
+        ensures cause { (start : Option (List ℕ)) (header : Header) (packets : List Packet) → HasGiven R.left start header packets self.old →
+            IfErr result (IsCause start header packets self.new) }
+        ensures so_far { (start : Option (List ℕ)) (header : Header) (packets : List Packet) → HasGiven R.left start header packets self.old →
+            WasBegun start header packets }
+        ensures writable { result ≡ Ok true → IsWritable (packet_lent self.new) }
+
+        // When the errors come that are not of the text, and how each answer leaves the reader.
+        ensures device { (result ≡ Err Fault.Device) ↔ (R.failures (source_of self.new) ≢ R.failures (source_of self.old)) }
+        ensures failed { (result ≡ Err Fault.Failed) ↔ HasFailed self.old }
+        ensures count_full { (result ≡ Err Fault.CountFull) ↔ (GoesOn self.old × (count_given self.old ≡ 2 ^ 64 - 1)) }
+        ensures ended { HasEnded self.old → (result ≡ Ok false) × (self.new ≡ self.old) }
+        ensures leaves { Leaves self.old self.new result }
+
+        // The source is not asked where the next record was taken whole already.
+        ensures idle { (p : Packet) (after : List ℕ) →
+            IsRecord (number_in (header_told self.old).order) (header_told self.old).unit (taken_ahead self.old) p after →
+            source_of self.new ≡ source_of self.old }
+    {
+        match self.state {
+            State::Reading => {}
+            State::Ended => return Ok(false),
+            State::Broken => return Err(Fault::Failed),
+        }
+        if self.given == u64::MAX {
+            return Err(Fault::CountFull);
+        }
+        match self.read_record() {
+            Ok(true) => {
+                self.given += 1;
+                Ok(true)
+            }
+            Ok(false) => {
+                self.state = State::Ended;
+                Ok(false)
+            }
+            Err(fault) => {
+                self.state = State::Broken;
+                Err(fault)
+            }
+        }
+    }
+
+    /// Lends the packet that the latest [`Reader::advance`] went on to.
+    #[inline]
+    pub fn packet(&self) -> PacketRef<'_>
+        requires { Lends self.now }
+        ensures { result ≡ packet_lent self.now }
+    {
+        PacketRef {
+            sec: self.record.sec,
+            nanos: self.record.nanos,
+            len: self.record.len,
+            bytes: self.ahead.lent(),
+        }
+    }
+
+    /// Gives the next packet, with a copy of its bytes. `None` is the clean end, and repeats.
+    ///
+    /// The faults are those of [`Reader::advance`], and [`Fault::NoMemory`] where memory for the copy was refused; after
+    /// that one too every call answers [`Fault::Failed`].
+    pub fn next(&mut self, alloc: Global) -> Result<Option<Packet>, Fault>
+        // One packet more, the end, or why there is none. What was given so far begins what the text holds, whatever
+        // comes. Each packet may be written.
+        ensures packet { (start : Option (List ℕ)) (header : Header) (packets : List Packet) → HasGiven R.left start header packets self.old →
+            IfOk result (λ next. MatchOption next (WasRead start header packets None) (λ p. HasGiven R.left start header (packets ++ p ∷ []) self.new)) }
+        ensures cause { (start : Option (List ℕ)) (header : Header) (packets : List Packet) → HasGiven R.left start header packets self.old →
+            IfErr result (λ fault. IsCause start header packets self.new fault ⊎ (fault ≡ Fault.NoMemory)) }
+        ensures so_far { (start : Option (List ℕ)) (header : Header) (packets : List Packet) → HasGiven R.left start header packets self.old →
+            WasBegun start header packets }
+        ensures writable { IfOk result (λ next. IfSome next IsWritable) }
+
+        // When the errors come that are not of the text, and how each answer leaves the reader.
+        ensures device { (result ≡ Err Fault.Device) ↔ (R.failures (source_of self.new) ≢ R.failures (source_of self.old)) }
+        ensures failed { (result ≡ Err Fault.Failed) ↔ HasFailed self.old }
+        ensures count_full { (result ≡ Err Fault.CountFull) ↔ (GoesOn self.old × (count_given self.old ≡ 2 ^ 64 - 1)) }
+        ensures ended { HasEnded self.old → (result ≡ Ok None) × (self.new ≡ self.old) }
+        ensures leaves { LeavesNext self.old self.new result }
+    {
+        if !self.advance()? {
+            return Ok(None);
+        }
+        match self.packet().to_packet(alloc) {
+            Ok(packet) => Ok(Some(packet)),
+            Err(AllocError) => {
+                self.state = State::Broken;
+                Err(Fault::NoMemory)
+            }
+        }
+    }
+
+    /// Gives the source back. What was read of it ahead of the packets that were given is lost.
+    pub fn close(self) -> R
+        ensures { result ≡ source_of self }
+    {
+        let Reader {
+            ahead,
+            header: _,
+            given: _,
+            record: _,
+            state: _,
+        } = self;
+        ahead.into_source()
+    }
+
+    /// The record that comes next, which is then lent; `false` where nothing is left.
+    #[inline]
+    fn read_record(&mut self) -> Result<bool, Fault>
+        ensures stays { StaysAt self.old self.new }
+        ensures packet { result ≡ Ok true → Passes R.left self.old self.new }
+        ensures writable { result ≡ Ok true → IsWritable (packet_lent self.new) }
+        ensures end { result ≡ Ok false → MeetsEnd R.left self.old self.new }
+        ensures fault { IfErr result (MeetsFault R.left self.old self.new) }
+        ensures idle { (p : Packet) (after : List ℕ) → IsRecord (number_in self.old.header.order) self.old.header.unit (taken_ahead self.old) p after →
+            source_of self.new ≡ source_of self.old }
+        ensures device { (result ≡ Err Fault.Device) ↔ (R.failures (source_of self.new) ≢ R.failures (source_of self.old)) }
+    {
+        self.ahead.fill(RECORD_HEADER_LEN)?;
+        let text = self.ahead.held();
+        if text.is_empty() {
+            return Ok(false);
+        }
+        self.record
+            .read(self.header.order, self.header.unit, self.given, text)?;
+        let captured = self.record.captured as usize;
+        let size = RECORD_HEADER_LEN + captured;
+        self.ahead.fill(size)?;
+        if self.ahead.held().len() < size {
+            return Err(Fault::TornRecord(self.given));
+        }
+        self.ahead.pass(RECORD_HEADER_LEN, captured);
+        Ok(true)
+    }
+}
+
+#[cfg(test)]
+mod tests;

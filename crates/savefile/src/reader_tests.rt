@@ -1,0 +1,243 @@
+//! A reader over sources that give their bytes in pieces, and that fail in mid-stream.
+
+use super::tests::{Drip, HEADER_LITTLE_MICRO, TCP_FRAME, dripping, joined, sevens};
+use super::*;
+use std::alloc::{AllocError, Global};
+use std::process::Abort;
+use std::test::Fail;
+
+/// A header and one packet of TCP at second 1: 24 and 54 bytes.
+fn one_packet(alloc: Global) -> Result<Vec<u8>, AllocError> {
+    let header = [1, 0, 0, 0, 0, 0, 0, 0, 38, 0, 0, 0, 38, 0, 0, 0];
+    joined(alloc, &[&HEADER_LITTLE_MICRO, &header, &TCP_FRAME])
+}
+
+/// A source that gives at most so many bytes a call, and fails at one of its calls.
+fn source_of(
+    alloc: Global,
+    text: &[u8],
+    at_once: usize,
+    fails_at: usize,
+) -> Result<Counted<Drip>, AllocError> {
+    Ok(dripping(Vec::from_slice(alloc, text)?, at_once, fails_at))
+}
+
+fn opened<R: Source + Drop>(alloc: Global, source: R) -> Result<Reader<R>, Fault> {
+    match Reader::open(alloc, source) {
+        Ok(reader) => Ok(reader),
+        Err((_source, fault)) => Err(fault),
+    }
+}
+
+/// What the next call answers: the packet's parts, the end, or the fault.
+fn told_next<R: Source>(alloc: Global, reader: &mut Reader<R>) -> Result<String, AllocError> {
+    match reader.next(alloc) {
+        Ok(Some(packet)) => {
+            let bytes = packet.bytes.as_slice();
+            format!(in alloc;
+                "{}.{:09} {} {:?}",
+                packet.sec, packet.nanos, packet.len, bytes
+            )
+        }
+        Ok(None) => format!(in alloc; "end"),
+        Err(fault) => format!(in alloc; "{fault}"),
+    }
+}
+
+/// The same of a packet that is lent.
+fn told_lent<R: Source>(alloc: Global, reader: &mut Reader<R>) -> Result<String, AllocError> {
+    match reader.advance() {
+        Ok(true) => {
+            let packet = reader.packet();
+            format!(in alloc;
+                "{}.{:09} {} {:?}",
+                packet.sec, packet.nanos, packet.len, packet.bytes
+            )
+        }
+        Ok(false) => format!(in alloc; "end"),
+        Err(fault) => format!(in alloc; "{fault}"),
+    }
+}
+
+#[test]
+fn a_torn_record_header_in_pieces_is_told_once(rt: HostRuntime) -> Result<(), Fail> {
+    let whole = [1, 0, 0, 0, 5, 0, 0, 0, 2, 0, 0, 0, 60, 0, 0, 0, 7, 8];
+    let text = joined(rt.alloc(), &[&HEADER_LITTLE_MICRO, &whole, &whole[..7]])?;
+    for at_once in [1, 5, 7, usize::MAX] {
+        let mut owning = opened(rt.alloc(), source_of(rt.alloc(), &text, at_once, 0)?)?;
+        let mut lending = opened(rt.alloc(), source_of(rt.alloc(), &text, at_once, 0)?)?;
+        assert_eq!(rt; owning.header().snap, 262_144);
+        for want in ["1.000005000 60 [7, 8]", "TornRecord 1", "Failed", "Failed"] {
+            let got = told_next(rt.alloc(), &mut owning)?;
+            assert_eq!(rt; got.as_str(), want);
+            let got = told_lent(rt.alloc(), &mut lending)?;
+            assert_eq!(rt; got.as_str(), want);
+        }
+        assert_eq!(rt; owning.close().failures, 0);
+    }
+    Ok(())
+}
+
+/// What one call after the other answers, up to the first that is no packet, and that one again.
+fn fate<R: Source + Drop>(alloc: Global, source: R) -> Result<String, AllocError> {
+    let mut reader = match opened(alloc, source) {
+        Ok(reader) => reader,
+        Err(fault) => return format!(in alloc; "open {fault}"),
+    };
+    let mut packets = 0_u32;
+    while packets < 9 {
+        match reader.advance() {
+            Ok(true) => packets += 1,
+            Ok(false) => {
+                let again = told_lent(alloc, &mut reader)?;
+                return format!(in alloc; "{packets} end {again}");
+            }
+            Err(fault) => {
+                let again = told_lent(alloc, &mut reader)?;
+                return format!(in alloc; "{packets} {fault} {again}");
+            }
+        }
+    }
+    format!(in alloc; "too many")
+}
+
+#[test]
+fn a_text_cut_short_anywhere_is_torn(rt: HostRuntime) -> Result<(), Fail> {
+    let text = one_packet(rt.alloc())?;
+    assert_eq!(rt; text.len(), 78);
+    for n in 0..79_usize {
+        let want = match n {
+            0..24 => "open ShortHeader",
+            24 => "0 end end",
+            25..78 => "0 TornRecord 0 Failed",
+            _ => "1 end end",
+        };
+        let part = text.as_slice().get(..n).unwrap_or(&[]);
+        let got = fate(rt.alloc(), part)?;
+        assert_eq!(rt; got.as_str(), want);
+        let got = fate(rt.alloc(), source_of(rt.alloc(), part, 1, 0)?)?;
+        assert_eq!(rt; got.as_str(), want);
+    }
+    Ok(())
+}
+
+#[test]
+fn a_source_that_fails_anywhere_is_told(rt: HostRuntime) -> Result<(), Fail> {
+    let text = one_packet(rt.alloc())?;
+    for k in 1..80_usize {
+        let want = match k {
+            1..25 => "open Device",
+            25..79 => "0 Device Failed",
+            _ => "1 Device Failed",
+        };
+        let got = fate(rt.alloc(), source_of(rt.alloc(), &text, 1, k)?)?;
+        assert_eq!(rt; got.as_str(), want);
+    }
+    Ok(())
+}
+
+#[test]
+fn whole_records_come_before_a_break(rt: HostRuntime) -> Result<(), Fail> {
+    // a header, a record and 3 bytes more in one call, and then a break
+    let text = joined(rt.alloc(), &[&one_packet(rt.alloc())?, &[1, 0, 0]])?;
+    let got = fate(rt.alloc(), source_of(rt.alloc(), &text, 81, 2)?)?;
+    assert_eq!(rt; got.as_str(), "1 Device Failed");
+    // the source comes back with what is left of it
+    match Reader::open(rt.alloc(), source_of(rt.alloc(), &text, 10, 2)?) {
+        Ok(_) => assert!(rt; false),
+        Err((source, fault)) => {
+            assert_eq!(rt; fault, Fault::Device);
+            assert_eq!(rt; source.failures, 1);
+            assert_eq!(rt; source.inner.place, 10);
+        }
+    }
+    Ok(())
+}
+
+/// A record of no bytes, and one of 262,144: the longest that there is, at the end of the reader's memory.
+fn longest(alloc: Global) -> Result<Vec<u8>, AllocError> {
+    let mut text = joined(
+        alloc,
+        &[
+            &HEADER_LITTLE_MICRO,
+            &[0; 16],
+            &[2, 0, 0, 0, 0, 0, 0, 0, 0, 0, 4, 0, 5, 0, 0, 0],
+        ],
+    )?;
+    text.extend_from_slice(&sevens(alloc, 262_144)?)?;
+    Ok(text)
+}
+
+#[test]
+fn the_longest_record_comes_whole_in_all_pieces(rt: HostRuntime) -> Result<(), Fail> {
+    let mut text = longest(rt.alloc())?;
+    // twice, so that the second stands behind what was read ahead
+    let again = longest(rt.alloc())?;
+    text.extend_from_slice(again.as_slice().get(24..).unwrap_or(&[]))?;
+    for at_once in [
+        1,
+        16,
+        24,
+        39,
+        40,
+        41,
+        4_095,
+        65_537,
+        262_143,
+        262_144,
+        262_159,
+        262_160,
+        262_161,
+        524_287,
+        524_288,
+        524_289,
+        usize::MAX,
+    ] {
+        let mut reader = opened(rt.alloc(), source_of(rt.alloc(), &text, at_once, 0)?)?;
+        for (sec, len, captured) in [(0, 0, 0), (2, 5, 262_144), (0, 0, 0), (2, 5, 262_144)] {
+            match reader.advance() {
+                Ok(true) => {
+                    let packet = reader.packet();
+                    assert_eq!(rt; (packet.sec, packet.len), (sec, len));
+                    assert_eq!(rt; packet.bytes.len(), captured);
+                    assert!(rt; packet.bytes.iter().all(|byte| *byte == 7));
+                }
+                _ => assert!(rt; false),
+            }
+        }
+        assert_eq!(rt; reader.advance(), Ok(false));
+        assert_eq!(rt; reader.advance(), Ok(false));
+    }
+    Ok(())
+}
+
+fn is_sent<T: Send + Drop>(_value: &T) {}
+
+/// This one passes too where any one request for memory is refused.
+#[test]
+fn want_of_memory_breaks_a_reader(rt: HostRuntime) {
+    let text = match one_packet(rt.alloc()) {
+        Ok(text) => text,
+        Err(_) => return,
+    };
+    match Reader::open(rt.alloc(), text.as_slice()) {
+        Ok(mut reader) => {
+            is_sent(&reader);
+            match reader.next(rt.alloc()) {
+                Ok(Some(packet)) => {
+                    assert!(rt; packet.bytes.as_slice() == TCP_FRAME.as_slice());
+                    assert!(rt; reader.next(rt.alloc()).is_ok());
+                }
+                Ok(None) => assert!(rt; false),
+                Err(fault) => {
+                    assert_eq!(rt; fault, Fault::NoMemory);
+                    assert_eq!(rt; reader.advance(), Err(Fault::Failed));
+                }
+            }
+        }
+        Err((source, fault)) => {
+            assert_eq!(rt; fault, Fault::NoMemory);
+            assert_eq!(rt; source.len(), 78);
+        }
+    }
+}

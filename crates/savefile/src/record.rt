@@ -1,0 +1,81 @@
+//! The header of a record.
+
+ghost use Rattle.std.specs.Prelude.{◌≡◌, ◌<◌, ◌≤◌, ◌⊎◌, ◌++◌, List, [], length, Some, IfErr, OnOk};
+ghost use Rattle.savefile.specs.Savefile.{first_fault, number_in};
+ghost use Rattle.savefile.specs.RecordHeader.{IsRecordHeader};
+
+use crate::fault::Fault;
+use crate::header::{Order, Unit};
+use byteorder::{BigEndian, ByteOrder, LittleEndian};
+
+/// What the header of a record says.
+#[derive(Clone, Copy, Debug)]
+pub(crate) struct RecordHeader {
+    pub(crate) sec: u32,
+    pub(crate) nanos: u32,
+    pub(crate) captured: u32,
+    pub(crate) len: u32,
+}
+
+/// The bytes of a record's header.
+pub(crate) const RECORD_HEADER_LEN: usize = 16;
+
+/// The most bytes of a packet that a record may have, a bar of this project.
+pub(crate) const MOST_CAPTURED: u32 = 262_144;
+
+impl RecordHeader {
+    /// That of no packet.
+    pub(crate) const EMPTY: RecordHeader = RecordHeader {
+        sec: 0,
+        nanos: 0,
+        captured: 0,
+        len: 0,
+    };
+
+    /// Reads the header of the record that a text begins with, or tells its first fault. The place is that of the
+    /// record.
+    #[inline]
+    pub(crate) fn read(
+        &mut self,
+        order: Order,
+        unit: Unit,
+        place: u64,
+        text: &[u8],
+    ) -> Result<(), Fault>
+        requires { 0 < length text.now }
+        ensures ok { OnOk result (IsRecordHeader (number_in order) unit text.now self.new) }
+        // Whatever follows the text; where it ends inside the header, nothing does.
+        ensures err { IfErr result (λ fault. (more : List _) → (16 ≤ length text.now) ⊎ (more ≡ []) →
+            first_fault (number_in order) unit place (text.now ++ more) ≡ Some fault) }
+    {
+        match order {
+            Order::Little => self.read_in::<LittleEndian>(unit, place, text),
+            Order::Big => self.read_in::<BigEndian>(unit, place, text),
+        }
+    }
+
+    #[inline]
+    fn read_in<B: ByteOrder>(&mut self, unit: Unit, place: u64, text: &[u8]) -> Result<(), Fault>
+        requires { 0 < length text.now }
+        ensures ok { OnOk result (IsRecordHeader B.number_of unit text.now self.new) }
+        ensures err { IfErr result (λ fault. (more : List _) → (16 ≤ length text.now) ⊎ (more ≡ []) →
+            first_fault B.number_of unit place (text.now ++ more) ≡ Some fault) }
+    {
+        if text.len() < RECORD_HEADER_LEN {
+            return Err(Fault::TornRecord(place));
+        }
+        let fraction = B::read_u32(&text[4..]);
+        if fraction >= unit.per_second() {
+            return Err(Fault::BadFraction(place));
+        }
+        let captured = B::read_u32(&text[8..]);
+        if captured > MOST_CAPTURED {
+            return Err(Fault::TooLong(place));
+        }
+        self.sec = B::read_u32(text);
+        self.nanos = fraction * unit.nanos();
+        self.captured = captured;
+        self.len = B::read_u32(&text[12..]);
+        Ok(())
+    }
+}
