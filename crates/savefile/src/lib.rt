@@ -26,7 +26,7 @@ mod writing;
 pub use device::{Broken, Counted, Sink, Source, read_to_end};
 pub use fault::Fault;
 pub use header::{Header, Order, Unit};
-pub use packet::{Data, Packet};
+pub use packet::{Data, Packet, PacketRef};
 pub use reading::read_all;
 pub use writing::Writer;
 

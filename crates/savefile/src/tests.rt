@@ -439,6 +439,29 @@ fn faults_are_told_by_name_and_place(rt: HostRuntime) -> Result<(), Fail> {
     Ok(())
 }
 
+/// This one passes too where any one request for memory is refused.
+#[test]
+fn a_packet_is_lent_and_copied(rt: HostRuntime) -> Result<(), Fail> {
+    let bytes = match Vec::from_slice(rt.alloc(), &TCP_FRAME) {
+        Ok(bytes) => bytes,
+        Err(_) => return Ok(()),
+    };
+    let packet = Packet {
+        sec: 1,
+        nanos: 2,
+        len: 60,
+        bytes: Data::new(bytes),
+    };
+    let lent = packet.as_ref();
+    assert_eq!(rt; (lent.sec, lent.nanos, lent.len), (1, 2, 60));
+    assert!(rt; lent.bytes == TCP_FRAME.as_slice());
+    if let Ok(copy) = lent.to_packet(rt.alloc()) {
+        assert_eq!(rt; (copy.sec, copy.nanos, copy.len), (1, 2, 60));
+        assert!(rt; copy.bytes.as_slice() == TCP_FRAME.as_slice());
+    }
+    Ok(())
+}
+
 /// A header, two records of two bytes, and a third without its last byte.
 const TORN: [u8; 77] = [
     0xd4, 0xc3, 0xb2, 0xa1, 2, 0, 4, 0, 0, 0, 0, 0, 0, 0, 0, 0, 0, 0, 4, 0, 1, 0, 0, 0, //

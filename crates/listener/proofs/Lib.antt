@@ -1,0 +1,7 @@
+pub mod Rooms
+pub mod Events
+pub mod KeptRuns
+pub mod Kept
+pub mod Decoding
+pub mod Filling
+pub mod ArriveSteps

@@ -1,0 +1,51 @@
+//! Laws of the plain list. Each function is empty, and its contract is the law.
+
+ghost use Rattle.listener.specs.Laws.{AnswersAreFair, AnswersAreLegal, ImmediateIsFlushed, RunsAppend, LegalAppends, BatchesAppend, HeldStaysWithin, BuffersFollow, BuffersStayWithin, CountsFollow, CountsStayOrdered, ReadsCommute, RunsAreKept, MatchedAreKeptOrDropped, KeptIsThinned, KeptAreAccepted};
+
+/// Each request has one right answer, and a list of requests one legal run.
+pub fn answers()
+    ensures fair { AnswersAreFair }
+    ensures legal { AnswersAreLegal }
+{}
+
+/// An accepted arrival at an Immediate list is one at a Buffered list and then a flush, as one step.
+pub fn immediate()
+    ensures { ImmediateIsFlushed }
+{}
+
+/// A run goes on where another one ended.
+pub fn runs()
+    ensures state { RunsAppend }
+    ensures legal { LegalAppends }
+    ensures batches { BatchesAppend }
+{}
+
+/// What pends is the hold and then the store; how an event changes them, and that neither grows past the capacity.
+pub fn buffers()
+    ensures held { HeldStaysWithin }
+    ensures follow { BuffersFollow }
+    ensures within { BuffersStayWithin }
+{}
+
+/// What an event adds to the counts, and that the dropped are some of the matched, and these some of the received.
+pub fn counts()
+    ensures follow { CountsFollow }
+    ensures ordered { CountsStayOrdered }
+{}
+
+/// A read and an event that the store alone decides may stand in either order.
+pub fn reads()
+    ensures { ReadsCommute }
+{}
+
+/// What was read in a run and then what pends is what looking back keeps, and the counts are those of looking back.
+pub fn looking_back()
+    ensures { RunsAreKept }
+{}
+
+/// What is kept are accepted arrivals, in order, each once; the others that matched were dropped.
+pub fn kept()
+    ensures matched { MatchedAreKeptOrDropped }
+    ensures thinned { KeptIsThinned }
+    ensures accepted { KeptAreAccepted }
+{}

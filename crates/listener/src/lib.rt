@@ -1,0 +1,19 @@
+//! Listeners of a packet tap: a store and a hold of messages each, as in the BSD packet filter.
+#![tactic(auto)]
+
+mod answer;
+mod buffer;
+mod fault;
+pub mod laws;
+mod listener;
+mod message;
+mod mode;
+mod records;
+
+pub use answer::{Counts, Fed, Read};
+pub use buffer::Buffer;
+pub use fault::OpenFault;
+pub use listener::Listener;
+pub use message::{Message, Record};
+pub use mode::Mode;
+pub use records::Records;

@@ -1,0 +1,207 @@
+//! One listener: a program, a store and a hold.
+
+ghost use Rattle.std.specs.Prelude.{◌≡◌, ◌-◌, ◌<◌, ◌^◌, ◌++◌, [], length, Some, None, IfOk, IfErr, OnOk, IsTrue, ◌↔◌};
+ghost use Rattle.listener.specs.Buffers.{filled};
+ghost use Rattle.listener.specs.Listening.{listening, seen_by, Takes, RefusesOpen, InRange};
+ghost use Rattle.listener.specs.Messages.{arrival};
+ghost use Rattle.listener.specs.PlainList.{terms, empty, arrived, flushed, read, closed};
+ghost use Rattle.listener.specs.declared.answer.Read.{Read};
+ghost use Rattle.listener.specs.declared.mode.Mode.TheVariants.{Buffered, Immediate};
+
+use crate::answer::{Counts, Fed, Read};
+use crate::buffer::{Buffer, MOST_CAPACITY, size};
+use crate::fault::OpenFault;
+use crate::mode::Mode;
+use bpfvm::Program;
+use savefile::PacketRef;
+use std::alloc::Global;
+use std::marker::Model;
+use std::mem;
+
+/// The largest snapshot length.
+const MOST_SNAP: u32 = 262_144;
+
+/// A listener of a tap: a filter program, and the packets that it accepted, in a store and a hold.
+///
+/// Contracts see its program, its snapshot length, and its plain list: what pends, oldest first, how many of it are held,
+/// the counts, and whether it is closed. Each call is one step of that list.
+#[derive(Drop)]
+pub struct Listener {
+    program: Program,
+    snap: u32,
+    mode: Mode,
+    store: Buffer,
+    hold: Buffer,
+    counts: Counts,
+    closed: bool,
+}
+
+impl Model for Listener {
+    ghost use Rattle.std.specs.Prelude.{◌≡◌, ◌≤◌, ◌++◌, length};
+    ghost use Rattle.listener.specs.Listening.{Listening, listening, InRange};
+    ghost use Rattle.listener.specs.PlainList.{plain, terms};
+
+    ghost Value = { Listening };
+
+    ghost view = { λ l. listening l.program l.snap (terms l.store.capacity l.mode)
+        (plain (l.hold.messages ++ l.store.messages) (length l.hold.messages) l.counts.received l.counts.matched l.counts.dropped l.closed) };
+
+    ghost invariant = { λ l. (l.hold.capacity ≡ l.store.capacity) × (l.counts.dropped ≤ l.counts.matched)
+        × (l.counts.matched ≤ l.counts.received) × InRange l.snap l.store.capacity };
+}
+
+/// Whether a message that went into the store is handed over at once.
+fn hands_over(mode: Mode, hold: &Buffer) -> bool
+    ensures { IsTrue result ↔ ((mode ≡ Immediate) × (hold.now.messages ≡ [])) }
+{
+    match mode {
+        Mode::Buffered => false,
+        Mode::Immediate => hold.is_empty(),
+    }
+}
+
+impl Listener {
+    /// Opens a listener in the mode [`Mode::Buffered`], as [`Listener::open_as`].
+    pub fn open(
+        alloc: Global,
+        program: Program,
+        snap: u32,
+        capacity: usize,
+    ) -> Result<Listener, OpenFault>
+        ensures ok { IfOk result (λ listener. listener ≡ listening program snap (terms capacity Buffered) empty) }
+        ensures in_range { OnOk result (InRange snap capacity) }
+        ensures only { IfErr result (RefusesOpen snap capacity) }
+    {
+        Listener::open_as(alloc, program, snap, capacity, Mode::Buffered)
+    }
+
+    /// Opens a listener: a filter program, at most so many bytes of a packet, so many bytes of records in each of the two
+    /// buffers, and when the store becomes the hold.
+    ///
+    /// [`OpenFault::BadSnap`] comes exactly where the snapshot length is not 1 to 262,144;
+    /// else [`OpenFault::BadCapacity`] exactly where the capacity is below the bytes of a record with a snapshot length of
+    /// data (32, and the data up to a multiple of 8) or above 1,048,576.
+    pub fn open_as(
+        alloc: Global,
+        program: Program,
+        snap: u32,
+        capacity: usize,
+        mode: Mode,
+    ) -> Result<Listener, OpenFault>
+        ensures ok { IfOk result (λ listener. listener ≡ listening program snap (terms capacity mode) empty) }
+        ensures in_range { OnOk result (InRange snap capacity) }
+        ensures only { IfErr result (RefusesOpen snap capacity) }
+    {
+        if snap < 1 || snap > MOST_SNAP {
+            return Err(OpenFault::BadSnap);
+        }
+        if capacity < size(snap) || capacity > MOST_CAPACITY {
+            return Err(OpenFault::BadCapacity);
+        }
+        Ok(Listener {
+            program,
+            snap,
+            mode,
+            store: Buffer::new(alloc, capacity)?,
+            hold: Buffer::new(alloc, capacity)?,
+            counts: Counts {
+                received: 0,
+                matched: 0,
+                dropped: 0,
+            },
+            closed: false,
+        })
+    }
+
+    /// How many bytes of records each of its buffers has room for.
+    pub fn capacity(&self) -> usize
+        ensures { result ≡ self.now.terms.capacity }
+    {
+        self.store.capacity()
+    }
+
+    /// The counts, of the packets that arrived before the listener was closed.
+    pub fn counts(&self) -> Counts
+        ensures received { result.received ≡ self.now.list.received }
+        ensures matched { result.matched ≡ self.now.list.matched }
+        ensures dropped { result.dropped ≡ self.now.list.dropped }
+    {
+        self.counts
+    }
+
+    /// A packet arrives, from a capture and a place there.
+    ///
+    /// Where the program accepts it, the least of the snapshot length, the program's answer and the captured length is
+    /// kept of it. It takes no memory, and copies these bytes once where it stores them.
+    pub fn arrive(&mut self, capture: u32, place: u64, packet: &PacketRef<'_>) -> Fed
+        requires { self.old.list.received < 2 ^ 64 - 1 }
+        ensures { Takes self.old (arrived (seen_by self.old (arrival capture place packet.now)) result) self.new }
+    {
+        if self.closed {
+            return Fed::Closed;
+        }
+        let verdict = bpfvm::run(&self.program, packet.bytes, packet.len);
+        self.counts.received += 1;
+        if verdict == 0 {
+            return Fed::Passed;
+        }
+        self.counts.matched += 1;
+        let most = verdict.min(self.snap);
+        let kept = (most as usize).min(packet.bytes.len()) as u32;
+        if self.store.put(capture, place, packet, kept) {
+            if hands_over(self.mode, &self.hold) {
+                mem::swap(&mut self.store, &mut self.hold);
+                return Fed::Held;
+            }
+            return Fed::Stored;
+        }
+        if !self.hold.is_empty() {
+            self.counts.dropped += 1;
+            return Fed::Dropped;
+        }
+        mem::swap(&mut self.store, &mut self.hold);
+        self.store.put(capture, place, packet, kept);
+        Fed::Rotated
+    }
+
+    /// Makes a nonempty store the hold where the hold is empty, and tells whether it did: what the read timeout of bpf(4)
+    /// does.
+    pub fn flush(&mut self) -> bool
+        ensures { Takes self.old (flushed result) self.new }
+    {
+        if self.closed || !self.hold.is_empty() || self.store.is_empty() {
+            return false;
+        }
+        mem::swap(&mut self.store, &mut self.hold);
+        true
+    }
+
+    /// Takes the whole hold, and leaves the empty buffer that was brought, which has the listener's capacity, in its place.
+    /// Where there is nothing to read, that buffer is given back.
+    pub fn read(&mut self, empty: Buffer) -> Read
+        requires { empty ≡ filled self.old.terms.capacity [] }
+        ensures full { (buffer : _) → result ≡ Read.Full buffer →
+            Takes self.old (read (Some buffer.messages)) self.new × (buffer.capacity ≡ self.old.terms.capacity) }
+        ensures nothing { (buffer : _) → result ≡ Read.Nothing buffer → Takes self.old (read None) self.new × (buffer ≡ empty) }
+    {
+        if self.closed || self.hold.is_empty() {
+            return Read::Nothing(empty);
+        }
+        Read::Full(mem::replace(&mut self.hold, empty))
+    }
+
+    /// Closes the listener: from now on nothing changes.
+    pub fn close(&mut self)
+        ensures { Takes self.old closed self.new }
+    {
+        self.closed = true;
+    }
+
+    /// The hold and the store.
+    pub fn buffers(&self) -> (&Buffer, &Buffer)
+        ensures pending { result.0.now.messages ++ result.1.now.messages ≡ self.now.list.pending }
+        ensures held { length result.0.now.messages ≡ self.now.list.held }
+    {
+        (&self.hold, &self.store)
+    }
+}
