@@ -1,0 +1,65 @@
+-- A listener's call is a step of a replay.
+use Rattle.std.proofs.Common.{◌≡◌, ℕ, List, [], ◌∷◌, ◌++◌, Option, Some, None, option_map, refl, ap, sym, ◌∙◌, append_assoc, append-nil}
+use Rattle.bpfvm.specs.declared.insn.Insn.{Insn}
+use Rattle.listener.specs.declared.message.Message.{Message}
+use Rattle.listener.specs.Listening.{Listening, listening, Takes}
+use Rattle.listener.specs.PlainList.{Terms, PlainList, Request, Event, answer, answers, next, run, request_of, batch_in, batches, load}
+use Rattle.listener.specs.Laws.{AnswersAreFair}
+use Rattle.tap.specs.declared.answer.Answered.{Answered}
+use Rattle.tap.specs.Answers.{answer_in, answered, all_answered}
+use Rattle.tap.specs.Watching.{watch, with_answer, after, stepped, all_stepped}
+
+-- an answer as the code writes it
+pub told_as : (s : PlainList) (e : Event) (bytes many : ℕ) → bytes ≡ load s → many ≡ s.held → record { load = bytes; held = many; answer = answer_in e } ≡ answered s e
+told_as s e bytes many loaded held = λ i. record { load = loaded i; held = held i; answer = answer_in e }
+
+-- the one right answer is what the listener answers
+pub step_is : (law : AnswersAreFair) (old new : Listening) (bs : List (List Message)) (before : Option (List Answered)) (e : Event) (r : Request) →
+    request_of e ≡ r → Takes old e new →
+    watch new (bs ++ batch_in e) (with_answer (answered old.list e) before) ≡ stepped r (watch old bs before)
+unfolding stepped
+step_is law old new bs before e r is takes =
+    let same : e ≡ answer old.terms old.list r = (law old.terms old.list r).1 e is takes.steps.fair in
+    (λ i. watch (listening (takes.program i) (takes.snap i) (takes.terms i) (takes.steps.change i)) (bs ++ batch_in e) (with_answer (answered old.list e) before))
+    ∙ ap (λ (f : Event). after f (watch old bs before)) same
+
+-- the same, where nothing was read
+pub step_without : (law : AnswersAreFair) (old new : Listening) (bs : List (List Message)) (before : Option (List Answered)) (e : Event) (r : Request) →
+    request_of e ≡ r → batch_in e ≡ [] → Takes old e new →
+    watch new bs (with_answer (answered old.list e) before) ≡ stepped r (watch old bs before)
+step_without law old new bs before e r is none takes =
+    ap (λ (l : List (List Message)). watch new l (with_answer (answered old.list e) before)) (sym (ap (λ (l : List (List Message)). bs ++ l) none ∙ append-nil bs))
+    ∙ step_is law old new bs before e r is takes
+
+-- the same, with the answer as the code writes it
+pub step_told : (law : AnswersAreFair) (old new : Listening) (bs : List (List Message)) (before after : Option (List Answered)) (told : Answered) (e : Event) (r : Request) →
+    request_of e ≡ r → batch_in e ≡ [] → (bytes many : ℕ) → bytes ≡ load old.list → many ≡ old.list.held →
+    told ≡ record { load = bytes; held = many; answer = answer_in e } → Takes old e new → after ≡ with_answer told before →
+    watch new bs after ≡ stepped r (watch old bs before)
+step_told law old new bs before after told e r is none bytes many loaded held same takes adds =
+    ap (watch new bs) (adds ∙ ap (λ (a : Answered). with_answer a before) (same ∙ told_as old.list e bytes many loaded held))
+    ∙ step_without law old new bs before e r is none takes
+
+-- the answers behind others
+answers_join : (before : Option (List Answered)) (a : Answered) (later : List Answered) →
+    option_map (λ l. l ++ later) (with_answer a before) ≡ option_map (λ l. l ++ a ∷ later) before
+answers_join None a later = refl
+answers_join (Some l) a later = ap Some (append_assoc l (a ∷ []) later)
+
+no_more : (before : Option (List Answered)) → before ≡ option_map (λ l. l ++ []) before
+no_more None = refl
+no_more (Some l) = ap Some (sym (append-nil l))
+
+-- steps of a listener's own are a run of its plain list
+pub all_stepped_is : (program : List Insn) (snap : ℕ) (t : Terms) (s : PlainList) (bs : List (List Message)) (before : Option (List Answered)) (rs : List Request) →
+    all_stepped rs (watch (listening program snap t s) bs before)
+    ≡ watch (listening program snap t (run s (answers t s rs))) (bs ++ batches (answers t s rs)) (option_map (λ l. l ++ all_answered s (answers t s rs)) before)
+unfolding stepped
+all_stepped_is program snap t s bs before [] =
+    λ i. watch (listening program snap t s) (sym (append-nil bs) i) (no_more before i)
+all_stepped_is program snap t s bs before (r ∷ rs) =
+    let e : Event = answer t s r in
+    all_stepped_is program snap t (next s e) (bs ++ batch_in e) (with_answer (answered s e) before) rs
+    ∙ (λ i. watch (listening program snap t (run s (answers t s (r ∷ rs))))
+    (append_assoc bs (batch_in e) (batches (answers t (next s e) rs)) i)
+    (answers_join before (answered s e) (all_answered (next s e) (answers t (next s e) rs)) i))

@@ -1,0 +1,7 @@
+use Rattle.std.proofs.Common.{take}
+use Rattle.std.specs.List.{AllZip}
+use Rattle.tap.specs.Watching.{Opened}
+use Rattle.tap.proofs.open.open_all.Given as goal
+
+abbrev pub invariant-loop-l : goal.invariant-loop-l
+invariant-loop-l l = AllZip (Opened l.traced) (take l.l l.specs) l.watched.items

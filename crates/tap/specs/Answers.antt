@@ -1,0 +1,47 @@
+-- What a replay tells of its listeners' answers.
+use Rattle.std.specs.Prelude.{◌≡◌, ℕ, List, [], ◌∷◌, Option, Some, None, true, false, length}
+use Rattle.std.specs.List.{slice_get}
+use Rattle.savefile.specs.declared.fault.Fault.{Fault}
+use Rattle.listener.specs.PlainList.{Terms, PlainList, Event, Request, arrived, flushed, read, closed, load, next, empty, Legal, requests}
+use Rattle.tap.specs.declared.answer.Answer.{Answer}
+use Rattle.tap.specs.declared.answer.Answer.TheVariants.{Arrived, Flushed, Read, Closed}
+use Rattle.tap.specs.declared.answer.Answered.{Answered}
+use Rattle.tap.specs.declared.playlist.Placed.{Placed}
+use Rattle.tap.specs.declared.step.Step.{Step}
+use Rattle.tap.specs.declared.filters.Spec.{Spec}
+use Rattle.tap.specs.Filters.{Told}
+use Rattle.tap.specs.Headline.{terms_of}
+use Rattle.tap.specs.OwnSteps.{own}
+use Rattle.tap.specs.Playlist.{IsPlaylist}
+
+-- the answer of an event
+abbrev pub answer_in : Event → Answer
+answer_in (arrived m fed) = Arrived fed
+answer_in (flushed full) = Flushed full
+answer_in (read (Some batch)) = Read true
+answer_in (read None) = Read false
+answer_in closed = Closed
+
+-- the answer of an event, with the load and the number of held messages before it
+abbrev pub answered : PlainList → Event → Answered
+answered s e = record { load = load s; held = s.held; answer = answer_in e }
+
+-- the same of each event, from a state on
+abbrev pub all_answered : PlainList → List Event → List Answered
+all_answered s [] = []
+all_answered s (e ∷ es) = answered s e ∷ all_answered (next s e) es
+
+-- These are the answers to these steps in a legal run of the plain list, of which there is no other.
+pub record AreLegal (t : Terms) (steps : List Request) (answers : List Answered) : Type 0 where
+  pub events : List Event
+  pub of_steps : requests events ≡ steps
+  pub legal : Legal t empty events
+  pub told : answers ≡ all_answered empty events
+
+-- For each listener there are the legal answers to its own steps over the playlist.
+pub record Traces (captures : List (List ℕ)) (specs : List Spec) (steps : List Step) (playlist : List Placed) (torn : Option (ℕ × Fault)) (answers : List (List Answered)) : Type 0 where
+  pub of_captures : IsPlaylist 0 captures playlist torn
+  pub one_each : length answers ≡ length specs
+  pub each : (l : ℕ) (spec : Spec) → slice_get specs l ≡ Some spec →
+      (own_answers : List Answered) × (slice_get answers l ≡ Some own_answers)
+      × Told spec.filter spec.snap (λ keeps. AreLegal (terms_of spec) (own keeps l steps playlist) own_answers)

@@ -1,0 +1,25 @@
+-- What a listener's filter keeps of a packet.
+use Rattle.std.specs.Prelude.{◌≡◌, ℕ, List, Option, Some, None, string_bytes, if◌then◌else◌}
+use Rattle.filterlang.specs.Trees.{Tree}
+use Rattle.filterlang.specs.Texts.{ReadsAs}
+use Rattle.filtergen.specs.Meaning.{packet_of, accepts}
+use Rattle.listener.specs.declared.message.Message.{Message}
+use Rattle.listener.specs.Messages.{Arrival, cut_to, kept_by}
+use Rattle.tap.specs.declared.filters.Filter.{Filter}
+use Rattle.tap.specs.declared.filters.Filter.TheVariants.{Text, Program}
+
+-- What an expression keeps of an arrival, as its tree means it: the packet cut to the snapshot length where the
+-- expression accepts it, else nothing.
+unfoldable pub kept_of : Tree → ℕ → Arrival → Option Message
+kept_of tree snap a = if accepts tree (packet_of a.packet.bytes a.packet.len) then Some (cut_to snap a) else None
+
+-- A text reads as this tree, and as no other one.
+pub record ReadsOnlyAs (text : List ℕ) (tree : Tree) : Type 0 where
+  pub reads : ReadsAs text tree
+  pub only : (other : Tree) → ReadsAs text other → other ≡ tree
+
+-- What is said holds of what the filter keeps, at this snapshot length. A filter is a program, or a text that reads as
+-- one tree.
+abbrev pub Told : Filter → ℕ → ((Arrival → Option Message) → Type 0) → Type 0
+Told (Program program) snap Holds = Holds (kept_by program snap)
+Told (Text text) snap Holds = (tree : Tree) × ReadsOnlyAs (string_bytes text) tree × Holds (kept_of tree snap)

@@ -1,0 +1,104 @@
+-- Why a replay gives no report.
+use Rattle.std.specs.Prelude.{◌≡◌, ℕ, ◌<◌, ◌≤◌, ◌⊎◌, List, [], ◌∷◌, length, take, Some, slice_get, All, string_bytes}
+use Rattle.savefile.specs.Savefile.{RefusesHeader}
+use Rattle.filterlang.specs.declared.fault.Fault.TheVariants as misread
+use Rattle.filterlang.specs.declared.lexer.TheConstants.{MAX_TEXT}
+use Rattle.filterlang.specs.Trees.{Tree}
+use Rattle.filterlang.specs.Texts.{ReadsAs, IsRefusalOf}
+use Rattle.filtergen.specs.declared.refusal.Refusal.TheVariants as uncompiled
+use Rattle.filtergen.specs.Compiling.{weight, IsBadSnap}
+use Rattle.listener.specs.declared.fault.OpenFault.TheVariants as unopened
+use Rattle.listener.specs.Listening.{RefusesOpen, InRange}
+use Rattle.tap.specs.declared.fault.Fault.{Fault}
+use Rattle.tap.specs.declared.fault.Fault.TheVariants.{TooMany, NoListener, Capture, Expression, Compile, Open, NoMemory}
+use Rattle.tap.specs.declared.filters.Spec.{Spec}
+use Rattle.tap.specs.declared.filters.Filter.{Filter}
+use Rattle.tap.specs.declared.filters.Filter.TheVariants.{Text, Program}
+use Rattle.tap.specs.declared.step.Step.{Step}
+use Rattle.tap.specs.OwnSteps.{Names}
+use Rattle.tap.specs.Playlist.{HeadersStand}
+
+-- ---- The limits
+
+abbrev pub AreTooMany : List (List ℕ) → List Spec → Type 0
+AreTooMany texts specs = (64 < length specs) ⊎ (65536 < length texts)
+
+-- ---- Steps
+
+-- each step names a listener that there is, or none
+abbrev pub AllName : ℕ → List Step → Type 0
+AllName n steps = All (Names n) steps
+
+-- the first step that names a listener that there is not
+pub record FirstMissing (n : ℕ) (steps : List Step) (place : ℕ) : Type 0 where
+  pub step : Step
+  pub here : slice_get steps place ≡ Some step
+  pub missing : Names n step → ⊥
+  pub before : AllName n (take place steps)
+
+-- ---- Captures
+
+-- a capture's header is refused, and no header before it is
+abbrev pub RefusesCapture : List (List ℕ) → Fault → Type 0
+RefusesCapture texts (Capture n fault) =
+    (text : List ℕ) × (slice_get texts n ≡ Some text) × RefusesHeader text fault × HeadersStand (take n texts)
+RefusesCapture texts other = ⊥
+
+-- ---- Listeners
+
+-- a text reads as an expression
+pub record IsExpression (text : List ℕ) : Type 0 where
+  pub short : length text ≤ MAX_TEXT
+  pub tree : Tree
+  pub reads : ReadsAs text tree
+
+-- Nothing stands against a filter at this snapshot length: a program, or an expression, which wants a snapshot length
+-- that can be compiled.
+abbrev pub FilterStands : Filter → ℕ → Type 0
+FilterStands (Program program) snap = Unit {0}
+FilterStands (Text text) snap = IsExpression (string_bytes text) × (IsBadSnap snap → ⊥)
+
+-- Why a filter is refused: a text that is no expression, or one that isn't compiled. That an expression is too long for
+-- a program comes only where its weight is above 500.
+abbrev pub RefusesFilter : ℕ → Filter → ℕ → Fault → Type 0
+RefusesFilter l (Text text) snap (Expression k misread.NoMemory) = ⊥
+RefusesFilter l (Text text) snap (Expression k fault) = (k ≡ l) × IsRefusalOf (string_bytes text) fault
+RefusesFilter l (Text text) snap (Compile k uncompiled.BadSnap) = (k ≡ l) × IsExpression (string_bytes text) × IsBadSnap snap
+RefusesFilter l (Text text) snap (Compile k uncompiled.TooLong) =
+    (k ≡ l) × (IsBadSnap snap → ⊥) × (expression : IsExpression (string_bytes text)) × (500 < weight expression.tree)
+RefusesFilter l filter snap other = ⊥
+
+-- why the l-th listener is refused: its filter, or else its snapshot length or capacity
+abbrev pub RefusesListener : ℕ → Spec → Fault → Type 0
+RefusesListener l spec (Open k unopened.NoMemory) = ⊥
+RefusesListener l spec (Open k fault) = (k ≡ l) × FilterStands spec.filter spec.snap × RefusesOpen spec.snap spec.capacity fault
+RefusesListener l spec other = RefusesFilter l spec.filter spec.snap other
+
+-- nothing stands against these listeners
+abbrev pub ListenersStand : List Spec → Type 0
+ListenersStand [] = Unit {0}
+ListenersStand (spec ∷ specs) = (FilterStands spec.filter spec.snap × InRange spec.snap spec.capacity) × ListenersStand specs
+
+-- a listener is refused, and none before it is
+abbrev pub RefusesOne : List Spec → Fault → Type 0
+RefusesOne specs fault = (l : ℕ) × (spec : Spec) × (slice_get specs l ≡ Some spec) × RefusesListener l spec fault × ListenersStand (take l specs)
+
+-- ---- The whole
+
+-- Why a replay gives no report: the first fault that stands, each supposes that none before stands. Want of memory can
+-- come at any point.
+abbrev pub IsFirst : List (List ℕ) → List Spec → List Step → Fault → Type 0
+IsFirst texts specs steps TooMany = AreTooMany texts specs
+IsFirst texts specs steps (NoListener place) = (AreTooMany texts specs → ⊥) × FirstMissing (length specs) steps place
+IsFirst texts specs steps (Capture n fault) =
+    (AreTooMany texts specs → ⊥) × AllName (length specs) steps × RefusesCapture texts (Capture n fault)
+IsFirst texts specs steps NoMemory = Unit {0}
+IsFirst texts specs steps fault =
+    (AreTooMany texts specs → ⊥) × AllName (length specs) steps × HeadersStand texts × RefusesOne specs fault
+
+-- no fault stands
+pub record NoneStands (texts : List (List ℕ)) (specs : List Spec) (steps : List Step) : Type 0 where
+  pub number : AreTooMany texts specs → ⊥
+  pub all_name : AllName (length specs) steps
+  pub headers : HeadersStand texts
+  pub listeners : ListenersStand specs

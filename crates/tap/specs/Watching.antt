@@ -1,0 +1,119 @@
+-- The states that steps lead listeners to. Private clauses alone say this.
+use Rattle.std.specs.Prelude.{◌≡◌, ℕ, ◌+◌, ◌<◌, ◌^◌, Bool, List, [], ◌∷◌, ◌++◌, Option, Some, None, map, zero, suc, option_map, string_bytes, if◌then◌else◌}
+use Rattle.std.specs.List.{AllZip}
+use Rattle.bpfvm.specs.declared.insn.Insn.{Insn}
+use Rattle.savefile.specs.declared.fault.Fault.{Fault}
+use Rattle.filterlang.specs.Trees.{Tree}
+use Rattle.filtergen.specs.Compiling.{StandsFor}
+use Rattle.filtergen.specs.Meaning.{HasBytes, packet_of}
+use Rattle.listener.specs.declared.message.Message.{Message}
+use Rattle.listener.specs.Listening.{Listening, listening, seen_by, InRange}
+use Rattle.listener.specs.PlainList.{Request, Event, answer, next, batch_in, empty}
+use Rattle.listener.specs.PlainList as P
+use Rattle.tap.specs.declared.answer.Answered.{Answered}
+use Rattle.tap.specs.declared.playlist.Placed.{Placed}
+use Rattle.tap.specs.declared.report.Report.{Report}
+use Rattle.tap.specs.declared.filters.Spec.{Spec}
+use Rattle.tap.specs.declared.filters.Filter.{Filter}
+use Rattle.tap.specs.declared.filters.Filter.TheVariants.{Text, Program}
+use Rattle.tap.specs.declared.step.Step.{Step}
+use Rattle.tap.specs.declared.step.Step.TheVariants.{Arrive, Flush, Read, Close}
+use Rattle.tap.specs.Answers.{answered}
+use Rattle.tap.specs.Filters.{ReadsOnlyAs}
+use Rattle.tap.specs.Headline.{read_in, held_in, terms_of}
+use Rattle.tap.specs.OwnSteps.{arrival_of}
+use Rattle.tap.specs.Playlist.{IsPlaylist}
+use Rattle.tap.specs.Refusals.{FilterStands}
+
+-- A listener, the batches that were read from it, and, where they are followed, its answers.
+pub record Watch : Type 0 where
+  pub listener : Listening
+  pub batches : List (List Message)
+  pub answers : Option (List Answered)
+
+abbrev pub watch : Listening → List (List Message) → Option (List Answered) → Watch
+watch l batches answers = record { listener = l; batches = batches; answers = answers }
+
+-- answers with one more
+abbrev pub with_answer : Answered → Option (List Answered) → Option (List Answered)
+with_answer a answers = option_map (λ before. before ++ a ∷ []) answers
+
+-- after an event of the listener's own
+abbrev pub after : Event → Watch → Watch
+after e w = watch (listening w.listener.program w.listener.snap w.listener.terms (next w.listener.list e))
+    (w.batches ++ batch_in e) (with_answer (answered w.listener.list e) w.answers)
+
+-- after a step of the listener's own
+unfoldable pub stepped : Request → Watch → Watch
+stepped r w = after (answer w.listener.terms w.listener.list r) w
+
+-- after an arrival
+abbrev pub arrived_at : Placed → Watch → Watch
+arrived_at p w = stepped (P.Arrive (seen_by w.listener (arrival_of p))) w
+
+-- after a step of one listener
+abbrev pub one_stepped : ℕ → Request → List Watch → List Watch
+one_stepped l r [] = []
+one_stepped zero r (w ∷ ws) = stepped r w ∷ ws
+one_stepped (suc l) r (w ∷ ws) = w ∷ one_stepped l r ws
+
+-- after all steps
+abbrev pub played : List Step → List Placed → List Watch → List Watch
+played [] playlist ws = ws
+played (Arrive ∷ steps) [] ws = played steps [] ws
+played (Arrive ∷ steps) (p ∷ playlist) ws = played steps playlist (map (arrived_at p) ws)
+played (Flush l ∷ steps) playlist ws = played steps playlist (one_stepped l P.Flush ws)
+played (Read l ∷ steps) playlist ws = played steps playlist (one_stepped l P.Read ws)
+played (Close l ∷ steps) playlist ws = played steps playlist (one_stepped l P.Close ws)
+
+-- after steps of the listener's own
+abbrev pub all_stepped : List Request → Watch → Watch
+all_stepped [] w = w
+all_stepped (r ∷ rs) w = all_stepped rs (stepped r w)
+
+-- no count can pass 2^64 - 1 while so many arrivals are left
+abbrev pub CountsFit : ℕ → List Watch → Type 0
+CountsFit left [] = Unit {0}
+CountsFit left (w ∷ ws) = (w.listener.list.received + left < 2 ^ 64) × CountsFit left ws
+
+-- a report tells what a listener came to
+pub record Tells (w : Watch) (report : Report) : Type 0 where
+  pub read : read_in report ≡ w.batches
+  pub held : held_in report ≡ w.listener.list.pending
+  pub received : report.received ≡ w.listener.list.received
+  pub matched : report.matched ≡ w.listener.list.matched
+  pub dropped : report.dropped ≡ w.listener.list.dropped
+
+-- these are the listener's answers, where they were followed
+abbrev pub IsFollowed : Watch → List Answered → Type 0
+IsFollowed w answers = (followed : List Answered) → w.answers ≡ Some followed → answers ≡ followed
+
+-- the program that a filter is made
+abbrev pub ProgramOf : Filter → ℕ → List Insn → Type 0
+ProgramOf (Program p) snap program = program ≡ p
+ProgramOf (Text text) snap program = (tree : Tree) × ReadsOnlyAs (string_bytes text) tree × StandsFor program tree snap
+
+-- the answers before the first step: none, or none that are followed
+abbrev pub no_answers : Bool → Option (List Answered)
+no_answers traced = if traced then Some [] else None
+
+-- a listener as it was asked for, as it begins, and whether its answers are followed
+pub record Opened (traced : Bool) (spec : Spec) (w : Watch) : Type 0 where
+  pub program : List Insn
+  pub made : ProgramOf spec.filter spec.snap program
+  pub stands : FilterStands spec.filter spec.snap
+  pub range : InRange spec.snap spec.capacity
+  pub is : w ≡ watch (listening program spec.snap (terms_of spec) empty) [] (no_answers traced)
+
+-- each packet's data are bytes
+abbrev pub AllPackets : List Placed → Type 0
+AllPackets [] = Unit {0}
+AllPackets (p ∷ ps) = HasBytes (packet_of p.packet.bytes p.packet.len) × AllPackets ps
+
+-- What steps came to: the listeners as they were opened went through all steps, over the playlist of the captures.
+pub record ComesTo (traced : Bool) (captures : List (List ℕ)) (specs : List Spec) (steps : List Step) (playlist : List Placed) (torn : Option (ℕ × Fault)) (done : List Watch) : Type 0 where
+  pub of_captures : IsPlaylist 0 captures playlist torn
+  pub packets : AllPackets playlist
+  pub began : List Watch
+  pub opened : AllZip (Opened traced) specs began
+  pub ends : done ≡ played steps playlist began

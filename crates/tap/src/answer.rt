@@ -1,0 +1,25 @@
+//! What listeners answer, step by step.
+
+use listener::Fed;
+
+/// What a listener answered to a step.
+#[derive(Clone, Copy, Debug, PartialEq, Eq)]
+pub enum Answer {
+    /// What became of a packet that arrived.
+    Arrived(Fed),
+    /// Whether the flush made the store the hold.
+    Flushed(bool),
+    /// Whether the read took the hold.
+    Read(bool),
+    Closed,
+}
+
+/// A listener's answer to a step, with how the listener stood before it.
+#[derive(Clone, Copy, Debug, PartialEq, Eq)]
+pub struct Answered {
+    /// The bytes of the records in the store before the step.
+    pub load: usize,
+    /// The number of messages in the hold before the step.
+    pub held: usize,
+    pub answer: Answer,
+}

@@ -1,0 +1,52 @@
+//! Why a replay gives no report.
+
+ghost use Rattle.std.specs.Prelude.{◌≡◌};
+ghost use Rattle.tap.specs.declared.fault.Fault.TheVariants.{NoMemory};
+
+use filtergen::Refusal;
+use listener::OpenFault;
+use std::alloc::{AllocError, AllocFailed};
+use thiserror::Error;
+
+/// Why a replay gives no report: the first that stands, in this order, and of the last three the first listener's.
+/// Captures, listeners and steps are counted from 0.
+#[derive(Clone, Copy, Debug, PartialEq, Eq, Error)]
+pub enum Fault {
+    /// There are over 64 listeners, or over 65,536 captures.
+    #[error("TooMany")]
+    TooMany,
+    /// This step is the first that names a listener that there is not.
+    #[error("NoListener {0}")]
+    NoListener(usize),
+    /// This capture is the first whose header is refused.
+    #[error("Capture {0} {1}")]
+    Capture(u32, savefile::Fault),
+    /// This listener's expression is refused.
+    #[error("Expression {0} {1}")]
+    Expression(u32, filterlang::Fault),
+    /// This listener's expression is not compiled.
+    #[error("Compile {0} {1}")]
+    Compile(u32, Refusal),
+    /// This listener is not opened.
+    #[error("Open {0} {1}")]
+    Open(u32, OpenFault),
+    /// Memory was refused, at any point.
+    #[error("NoMemory")]
+    NoMemory,
+}
+
+impl From<AllocError> for Fault {
+    ghost from_gives = { λ _ e. e ≡ NoMemory };
+
+    fn from(_e: AllocError) -> Fault {
+        Fault::NoMemory
+    }
+}
+
+impl<T: Drop> From<AllocFailed<T>> for Fault {
+    ghost from_gives = { λ _ e. e ≡ NoMemory };
+
+    fn from(_e: AllocFailed<T>) -> Fault {
+        Fault::NoMemory
+    }
+}

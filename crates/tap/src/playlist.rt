@@ -1,0 +1,117 @@
+//! The packets of several captures, in order.
+
+ghost use Rattle.std.specs.Prelude.{◌≡◌, ◌++◌, ◌≤◌, ◌<◌, ℕ, List, [], ◌∷◌, map, length, IfOk, IfErr, OnOk, ◌⊎◌, option_map};
+ghost use Rattle.std.specs.List.{AllByRecursion};
+ghost use Rattle.savefile.specs.Savefile.{RefusesHeader};
+ghost use Rattle.tap.specs.Playlist.{IsPlaylist, HeadersStand, placed, Reads};
+ghost use Rattle.tap.specs.Refusals.{RefusesCapture};
+ghost use Rattle.tap.specs.Watching.{AllPackets};
+ghost use Rattle.tap.specs.declared.fault.Fault.TheVariants.{NoMemory, Capture};
+
+use crate::fault::Fault;
+use savefile::{Packet, read_all};
+use std::alloc::{AllocError, Global};
+
+/// A packet with the number of its capture and its place there, both from 0.
+#[derive(Debug, Drop)]
+pub struct Placed {
+    pub capture: u32,
+    pub place: u64,
+    pub packet: Packet,
+}
+
+/// The packets of captures, and the record fault that ended them, with the number of its capture.
+#[derive(Debug, Drop)]
+pub struct Playlist {
+    pub arrivals: Vec<Placed>,
+    pub torn: Option<(u32, savefile::Fault)>,
+}
+
+impl Playlist {
+    // The packets of the next capture, where none before is torn.
+    fn add(
+        &mut self,
+        n: u32,
+        packets: Vec<Packet>,
+        fault: Option<savefile::Fault>,
+    ) -> Result<(), AllocError>
+        ensures packets { OnOk result (AllPackets self.old.arrivals.items → AllPackets self.new.arrivals.items) }
+        ensures more { OnOk result ((texts : List (List ℕ)) (text : List ℕ) → length texts ≡ n → IsPlaylist 0 texts self.old.arrivals.items self.old.torn →
+            Reads text packets.items fault → IsPlaylist 0 (texts ++ text ∷ []) self.new.arrivals.items self.new.torn) }
+    {
+        if self.torn.is_some() {
+            return Ok(());
+        }
+        place(&mut self.arrivals, n, packets)?;
+        self.torn = torn_at(n, fault);
+        Ok(())
+    }
+}
+
+fn torn_at(n: u32, fault: Option<savefile::Fault>) -> Option<(u32, savefile::Fault)>
+    ensures { result ≡ option_map (λ f. (n, f)) fault }
+{
+    match fault {
+        Some(fault) => Some((n, fault)),
+        None => None,
+    }
+}
+
+// Packets with their places, behind what is there.
+fn place(to: &mut Vec<Placed>, capture: u32, packets: Vec<Packet>) -> Result<(), AllocError>
+    ensures items { OnOk result (to.new.items ≡ to.old.items ++ placed capture 0 packets.items) }
+    ensures packets { OnOk result (AllPackets to.old.items → AllPackets to.new.items) }
+{
+    let mut place = 0;
+    for packet in packets {
+        are_bytes(packet.bytes.as_slice());
+        to.push(Placed {
+            capture,
+            place,
+            packet,
+        })?;
+        place += 1;
+    }
+    Ok(())
+}
+
+// What the type says of bytes.
+fn are_bytes(bytes: &[u8])
+    ensures { AllByRecursion (λ b. b < 256) bytes.now }
+{}
+
+// The packets of a capture.
+fn read_one(
+    alloc: Global,
+    n: u32,
+    text: &[u8],
+) -> Result<(Vec<Packet>, Option<savefile::Fault>), Fault>
+    ensures reads { IfOk result (λ r. Reads text.now r.0.items r.1) }
+    ensures stands { OnOk result ((fault : _) → RefusesHeader text.now fault → ⊥) }
+    ensures err { IfErr result (λ f. (f ≡ NoMemory) ⊎ ((fault : _) × (f ≡ Capture n fault) × RefusesHeader text.now fault)) }
+{
+    match read_all(alloc, text) {
+        Ok((_header, packets, fault)) => Ok((packets, fault)),
+        Err(savefile::Fault::NoMemory) => Err(Fault::NoMemory),
+        Err(fault) => Err(Fault::Capture(n, fault)),
+    }
+}
+
+/// Reads all captures. Those behind a torn one give no packets, but their headers count.
+pub fn read_playlist(alloc: Global, captures: &[&[u8]]) -> Result<Playlist, Fault>
+    requires { length captures.now ≤ 65536 }
+    ensures ok { IfOk result (λ p. IsPlaylist 0 (map (λ c. c.now) captures.now) p.arrivals.items p.torn) }
+    ensures packets { IfOk result (λ p. AllPackets p.arrivals.items) }
+    ensures stand { OnOk result (HeadersStand (map (λ c. c.now) captures.now)) }
+    ensures err { IfErr result (λ f. (f ≡ NoMemory) ⊎ RefusesCapture (map (λ c. c.now) captures.now) f) }
+{
+    let mut playlist = Playlist {
+        arrivals: Vec::new(alloc),
+        torn: None,
+    };
+    for (n, text) in captures.iter().enumerate() {
+        let (packets, fault) = read_one(alloc, n as u32, text)?;
+        playlist.add(n as u32, packets, fault)?;
+    }
+    Ok(playlist)
+}

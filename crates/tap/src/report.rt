@@ -1,0 +1,34 @@
+//! What a replay tells.
+
+use crate::answer::Answered;
+use crate::playlist::Placed;
+use listener::Message;
+
+/// What a replay tells of one listener.
+#[derive(Debug, Drop)]
+pub struct Report {
+    /// The batches that were read, in order.
+    pub batches: Vec<Vec<Message>>,
+    /// What the hold has, and then what the store has.
+    pub held: Vec<Message>,
+    /// How many packets arrived before the listener was closed.
+    pub received: u64,
+    /// How many of these the filter accepted.
+    pub matched: u64,
+    /// How many of these found no room.
+    pub dropped: u64,
+}
+
+/// What a replay tells where its steps are followed too.
+#[derive(Debug, Drop)]
+pub struct Trace {
+    /// A report for each listener.
+    pub reports: Vec<Report>,
+    /// For each listener its answers to its own steps, in order. These are each arrival that took a packet, and the
+    /// flushes, reads and closes that name the listener.
+    pub answers: Vec<Vec<Answered>>,
+    /// The packets of the captures, in order: the first arrival takes the first, and so on.
+    pub playlist: Vec<Placed>,
+    /// The first capture that ended with a record fault, and that fault.
+    pub torn: Option<(u32, savefile::Fault)>,
+}

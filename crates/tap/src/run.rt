@@ -1,0 +1,155 @@
+//! The replay of captures to listeners.
+
+ghost use Rattle.std.specs.Prelude.{◌≡◌, map, IfOk, IfErr, OnOk};
+ghost use Rattle.std.specs.List.{AllZip};
+ghost use Rattle.tap.specs.Answers.{Traces};
+ghost use Rattle.tap.specs.Headline.{Replays};
+ghost use Rattle.tap.specs.Refusals.{IsFirst, NoneStands};
+ghost use Rattle.tap.specs.Watching.{ComesTo, Tells, IsFollowed};
+ghost use Rattle.tap.specs.declared.fault.Fault.TheVariants.{NoMemory};
+
+use crate::answer::Answered;
+use crate::fault::Fault;
+use crate::filters::Spec;
+use crate::open::open_all;
+use crate::play::{first_missing, play};
+use crate::playlist::{Playlist, read_playlist};
+use crate::report::{Report, Trace};
+use crate::step::Step;
+use crate::watched::Watched;
+use std::alloc::Global;
+
+/// The most listeners of a replay.
+pub const MOST_LISTENERS: usize = 64;
+
+/// The most captures of a replay.
+pub const MOST_CAPTURES: usize = 65_536;
+
+// What a replay came to.
+#[derive(Drop)]
+struct Outcome {
+    playlist: Playlist,
+    watched: Vec<Watched>,
+}
+
+// Plays steps over the packets of captures.
+fn play_all(
+    alloc: Global,
+    captures: &[&[u8]],
+    specs: &[Spec],
+    steps: &[Step],
+    traced: bool,
+) -> Result<Outcome, Fault>
+    ensures ok { IfOk result (λ o. ComesTo traced (map (λ c. c.now) captures.now) specs.now steps.now o.playlist.arrivals.items o.playlist.torn o.watched.items) }
+    ensures stands { OnOk result (NoneStands (map (λ c. c.now) captures.now) specs.now steps.now) }
+    ensures first { IfErr result (IsFirst (map (λ c. c.now) captures.now) specs.now steps.now) }
+{
+    if specs.len() > MOST_LISTENERS || captures.len() > MOST_CAPTURES {
+        return Err(Fault::TooMany);
+    }
+    if let Some(place) = first_missing(steps, specs.len()) {
+        return Err(Fault::NoListener(place));
+    }
+    let playlist = read_playlist(alloc, captures)?;
+    let mut watched = open_all(alloc, specs, traced)?;
+    play(alloc, &mut watched, steps, playlist.arrivals.as_slice())?;
+    Ok(Outcome { playlist, watched })
+}
+
+// The reports.
+fn report_all(alloc: Global, watched: Vec<Watched>) -> Result<Vec<Report>, Fault>
+    ensures ok { IfOk result (λ rs. AllZip Tells watched.items rs.items) }
+    ensures err { IfErr result (λ f. f ≡ NoMemory) }
+{
+    let mut reports = Vec::with_capacity(alloc, watched.len())?;
+    for one in watched {
+        let (report, _answers) = one.report(alloc)?;
+        reports.push(report)?;
+    }
+    Ok(reports)
+}
+
+// The reports, and the answers that were followed.
+fn trace_all(
+    alloc: Global,
+    watched: Vec<Watched>,
+) -> Result<(Vec<Report>, Vec<Vec<Answered>>), Fault>
+    ensures reports { IfOk result (λ r. AllZip Tells watched.items r.0.items) }
+    ensures answers { IfOk result (λ r. AllZip IsFollowed watched.items (map (λ a. a.items) r.1.items)) }
+    ensures err { IfErr result (λ f. f ≡ NoMemory) }
+{
+    let mut reports = Vec::with_capacity(alloc, watched.len())?;
+    let mut answers = Vec::with_capacity(alloc, watched.len())?;
+    for one in watched {
+        let (report, own) = one.report(alloc)?;
+        reports.push(report)?;
+        answers.push(own.unwrap_or(Vec::new(alloc)))?;
+    }
+    Ok((reports, answers))
+}
+
+/// Replays captures to listeners, step by step, and reports what each listener came to.
+///
+/// For every list of captures, accepted expression, snapshot length and list of steps, what a listener has read followed
+/// by what its buffers hold is exactly the packets that its expression accepts before its close, cut, with capture and
+/// place, in order of arrival, each once, without those that found no room; its received, matched and dropped counts are
+/// exact.
+///
+/// The reports stand in the order of `specs`. For a filter that is a program, a packet is accepted where the program
+/// does not answer 0, and the answer cuts it too. The packets are those of the captures in order; the first capture that
+/// ends with a record fault gives its packets before that fault and no capture behind it gives any. Its number and the
+/// fault are the second part of what is answered.
+///
+/// The faults are looked for in this order, and the first that stands is answered: [`Fault::TooMany`] where there are
+/// over [`MOST_LISTENERS`] listeners or over [`MOST_CAPTURES`] captures; [`Fault::NoListener`] with the first step that
+/// names a listener that there is not; [`Fault::Capture`] with the first capture whose header is refused; then listener
+/// by listener [`Fault::Expression`], [`Fault::Compile`] and [`Fault::Open`]. [`Fault::NoMemory`] can come at any point.
+/// A fault gives no report.
+pub fn replay(
+    alloc: Global,
+    captures: &[&[u8]],
+    specs: &[Spec],
+    steps: &[Step],
+) -> Result<(Vec<Report>, Option<(u32, savefile::Fault)>), Fault>
+    // The headline.
+    ensures tells { IfOk result (λ r. Replays (map (λ c. c.now) captures.now) specs.now steps.now r.0.items r.1) }
+    // No fault stands where there are reports, and each fault is the first that stands.
+    ensures stands { OnOk result (NoneStands (map (λ c. c.now) captures.now) specs.now steps.now) }
+    ensures first { IfErr result (IsFirst (map (λ c. c.now) captures.now) specs.now steps.now) }
+{
+    listener::laws::answers();
+    listener::laws::looking_back();
+    let Outcome { playlist, watched } = play_all(alloc, captures, specs, steps, false)?;
+    let reports = report_all(alloc, watched)?;
+    Ok((reports, playlist.torn))
+}
+
+/// Replays captures as [`replay`] does, with the same reports and faults, and also tells what each listener answered to
+/// each of its steps, with the load of its store and the number of held messages before it.
+///
+/// The answers are those of the plain list, of which each step has one that is right. They take memory for each step.
+pub fn trace(
+    alloc: Global,
+    captures: &[&[u8]],
+    specs: &[Spec],
+    steps: &[Step],
+) -> Result<Trace, Fault>
+    // The headline.
+    ensures tells { IfOk result (λ r. Replays (map (λ c. c.now) captures.now) specs.now steps.now r.reports.items r.torn) }
+    // The answers.
+    ensures answers { IfOk result (λ r. Traces (map (λ c. c.now) captures.now) specs.now steps.now r.playlist.items r.torn (map (λ a. a.items) r.answers.items)) }
+    // No fault stands where there are reports, and each fault is the first that stands.
+    ensures stands { OnOk result (NoneStands (map (λ c. c.now) captures.now) specs.now steps.now) }
+    ensures first { IfErr result (IsFirst (map (λ c. c.now) captures.now) specs.now steps.now) }
+{
+    listener::laws::answers();
+    listener::laws::looking_back();
+    let Outcome { playlist, watched } = play_all(alloc, captures, specs, steps, true)?;
+    let (reports, answers) = trace_all(alloc, watched)?;
+    Ok(Trace {
+        reports,
+        answers,
+        playlist: playlist.arrivals,
+        torn: playlist.torn,
+    })
+}

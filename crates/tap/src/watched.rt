@@ -1,0 +1,206 @@
+//! A listener with what was read from it, and what it answered.
+
+ghost use Rattle.std.specs.Prelude.{◌≡◌, ◌<◌, ◌-◌, ◌^◌, ◌++◌, [], Option, IfOk, IfErr, OnOk, option_map};
+ghost use Rattle.listener.specs.Buffers.{filled};
+ghost use Rattle.listener.specs.PlainList.{load};
+ghost use Rattle.listener.specs.PlainList as P;
+ghost use Rattle.tap.specs.Watching.{watch, stepped, arrived_at, with_answer, no_answers, Tells};
+ghost use Rattle.tap.specs.declared.fault.Fault.TheVariants.{NoMemory};
+
+use crate::answer::{Answer, Answered};
+use crate::fault::Fault;
+use crate::playlist::Placed;
+use crate::report::Report;
+use listener::{Buffer, Listener, Message, Read};
+use std::alloc::{AllocError, Global};
+use std::marker::Model;
+
+/// A listener, the batches that were read from it, and its answers, where they are followed.
+#[derive(Drop)]
+pub struct Watched {
+    listener: Listener,
+    batches: Vec<Vec<Message>>,
+    answers: Option<Vec<Answered>>,
+    // An empty buffer for the next read, once there was a read.
+    spare: Option<Buffer>,
+}
+
+impl Model for Watched {
+    ghost use Rattle.std.specs.Option.{ForSome};
+    ghost use Rattle.std.specs.Prelude.{◌≡◌, [], map, option_map};
+    ghost use Rattle.listener.specs.Buffers.{filled};
+    ghost use Rattle.tap.specs.Watching.{Watch, watch};
+
+    ghost Value = { Watch };
+
+    ghost view = { λ w. watch w.listener (map (λ b. b.items) w.batches.items) (option_map (λ a. a.items) w.answers) };
+
+    ghost invariant = { λ w. ForSome w.spare (λ b. b ≡ filled w.listener.terms.capacity []) };
+}
+
+// How a listener stands before a step.
+#[derive(Clone, Copy)]
+struct Standing {
+    load: usize,
+    held: usize,
+}
+
+impl Standing {
+    fn of(listener: &Listener) -> Standing
+        ensures load { result.load ≡ load listener.now.list }
+        ensures held { result.held ≡ listener.now.list.held }
+    {
+        let (hold, store) = listener.buffers();
+        Standing {
+            load: store.bytes().len(),
+            held: hold.len(),
+        }
+    }
+
+    fn answered(self, answer: Answer) -> Answered
+        ensures { result ≡ record { load = self.load; held = self.held; answer = answer } }
+    {
+        Answered {
+            load: self.load,
+            held: self.held,
+            answer,
+        }
+    }
+}
+
+// Adds an answer, where answers are followed.
+fn follow(answers: &mut Option<Vec<Answered>>, answered: Answered) -> Result<(), AllocError>
+    ensures { OnOk result (option_map (λ a. a.items) answers.new ≡ with_answer answered (option_map (λ a. a.items) answers.old)) }
+{
+    if let Some(answers) = answers {
+        answers.push(answered)?;
+    }
+    Ok(())
+}
+
+impl Watched {
+    pub fn new(alloc: Global, listener: Listener, traced: bool) -> Watched
+        ensures { result ≡ watch listener [] (no_answers traced) }
+    {
+        Watched {
+            listener,
+            batches: Vec::new(alloc),
+            answers: if traced { Some(Vec::new(alloc)) } else { None },
+            spare: None,
+        }
+    }
+
+    /// A packet arrives.
+    pub fn arrive(&mut self, placed: &Placed) -> Result<(), Fault>
+        requires { self.old.listener.list.received < 2 ^ 64 - 1 }
+        ensures ok { OnOk result (self.new ≡ arrived_at placed.now self.old) }
+        ensures err { IfErr result (λ f. f ≡ NoMemory) }
+    {
+        listener::laws::answers();
+        let before = Standing::of(&self.listener);
+        let packet = placed.packet.as_ref();
+        let fed = self.listener.arrive(placed.capture, placed.place, &packet);
+        follow(&mut self.answers, before.answered(Answer::Arrived(fed)))?;
+        Ok(())
+    }
+
+    pub fn flush(&mut self) -> Result<(), Fault>
+        ensures ok { OnOk result (self.new ≡ stepped P.Flush self.old) }
+        ensures err { IfErr result (λ f. f ≡ NoMemory) }
+    {
+        listener::laws::answers();
+        let before = Standing::of(&self.listener);
+        let full = self.listener.flush();
+        follow(&mut self.answers, before.answered(Answer::Flushed(full)))?;
+        Ok(())
+    }
+
+    pub fn close(&mut self) -> Result<(), Fault>
+        ensures ok { OnOk result (self.new ≡ stepped P.Close self.old) }
+        ensures err { IfErr result (λ f. f ≡ NoMemory) }
+    {
+        listener::laws::answers();
+        let before = Standing::of(&self.listener);
+        self.listener.close();
+        follow(&mut self.answers, before.answered(Answer::Closed))?;
+        Ok(())
+    }
+
+    // An empty buffer to bring to a read.
+    fn empty_buffer(&mut self, alloc: Global) -> Result<Buffer, Fault>
+        ensures ok { IfOk result (λ buffer. buffer ≡ filled self.old.listener.terms.capacity []) }
+        ensures same { self.new ≡ self.old }
+        ensures err { IfErr result (λ f. f ≡ NoMemory) }
+    {
+        if let Some(spare) = self.spare.take() {
+            return Ok(spare);
+        }
+        let Ok(empty) = Buffer::new(alloc, self.listener.capacity()) else {
+            return Err(Fault::NoMemory);
+        };
+        Ok(empty)
+    }
+
+    /// Reads a batch, where there is one.
+    pub fn read(&mut self, alloc: Global) -> Result<(), Fault>
+        ensures ok { OnOk result (self.new ≡ stepped P.Read self.old) }
+        ensures err { IfErr result (λ f. f ≡ NoMemory) }
+    {
+        listener::laws::answers();
+        let empty = self.empty_buffer(alloc)?;
+        let before = Standing::of(&self.listener);
+        match self.listener.read(empty) {
+            Read::Full(mut full) => {
+                let mut batch = Vec::with_capacity(alloc, full.len())?;
+                copy(alloc, &full, &mut batch)?;
+                self.batches.push(batch)?;
+                full.clear();
+                self.spare = Some(full);
+                follow(&mut self.answers, before.answered(Answer::Read(true)))?;
+                return Ok(());
+            }
+            Read::Nothing(empty) => {
+                self.spare = Some(empty);
+                follow(&mut self.answers, before.answered(Answer::Read(false)))?;
+                return Ok(());
+            }
+        }
+    }
+
+    /// The report, and the answers, where they were followed.
+    pub fn report(self, alloc: Global) -> Result<(Report, Option<Vec<Answered>>), Fault>
+        ensures ok { IfOk result (λ r. Tells self r.0) }
+        ensures answers { IfOk result (λ r. option_map (λ a. a.items) r.1 ≡ self.answers) }
+        ensures err { IfErr result (λ f. f ≡ NoMemory) }
+    {
+        let Watched {
+            listener,
+            batches,
+            answers,
+            ..
+        } = self;
+        let counts = listener.counts();
+        let (hold, store) = listener.buffers();
+        let mut held = Vec::with_capacity(alloc, hold.len() + store.len())?;
+        copy(alloc, hold, &mut held)?;
+        copy(alloc, store, &mut held)?;
+        let report = Report {
+            batches,
+            held,
+            received: counts.received,
+            matched: counts.matched,
+            dropped: counts.dropped,
+        };
+        Ok((report, answers))
+    }
+}
+
+// Copies the messages of a buffer behind those that are there.
+fn copy(alloc: Global, buffer: &Buffer, to: &mut Vec<Message>) -> Result<(), AllocError>
+    ensures { OnOk result (to.new.items ≡ to.old.items ++ buffer.now.messages) }
+{
+    for record in buffer.records() {
+        to.push(record.to_message(alloc)?)?;
+    }
+    Ok(())
+}
