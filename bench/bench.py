@@ -187,7 +187,11 @@ def listener_program(folder):
     below = ["savefile", "bpfvm", "listener"]
     for crate in below:
         shutil.copytree(ROOT / "crates" / crate, folder / "crates" / crate, symlinks=True)
-    shutil.copytree(ROOT / "bench" / "listener", folder / "crates" / "listener_bench")
+    # The gate reads .rt and .antt files only in crates, so here they have other names.
+    for name, place in [("main.txt", "src/main.rt"), ("Invariants.txt", "proofs/feed/Invariants.antt")]:
+        target = folder / "crates" / "listener_bench" / place
+        target.parent.mkdir(parents=True)
+        shutil.copyfile(ROOT / "bench" / "listener" / name, target)
     shutil.copy(ROOT / "HANDLES", folder)
     lines = [line for line in (ROOT / "crates.txt").read_text().splitlines() if line.split(":")[0] in below]
     (folder / "crates.txt").write_text("\n".join([*lines, f"listener_bench: {' '.join(below)}"]) + "\n")
