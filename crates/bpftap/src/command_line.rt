@@ -1,5 +1,6 @@
 //! The words of the command line, by `clap`.
 use crate::cut::MAX_SNAP;
+use crate::steps_words::{StepsWords, steps_command, steps_words};
 use clap::error::ErrorKind;
 use clap::{Arg, ArgMatches, Command, Error, value_parser};
 use savefile::{Order, Unit};
@@ -22,11 +23,12 @@ pub struct CutWords<'a> {
 }
 
 /// What the words ask for.
-#[derive(Clone, Copy, Debug)]
+#[derive(Drop)]
 pub enum Request<'a> {
     /// `bpftap check`, of this expression.
     Check(&'a str),
     Cut(CutWords<'a>),
+    Steps(StepsWords<'a>),
 }
 
 const ABOUT: &str = "Filters captures offline, as the BSD packet filter would have taken them";
@@ -35,6 +37,7 @@ const EXAMPLES: &str = "Examples:
   bpftap check 'tcp dst port 80 or 443'
   bpftap cut -s 0 -f examples/ip.bpf examples/veth.pcap ip.pcap
   bpftap cut -s 64 -f examples/all.bpf examples/veth.pcap headers.pcap
+  bpftap steps -v examples/listeners.txt examples/script.txt examples/veth.pcap
 
 Exit status: 0 clean; 1 wrong words, a refused expression, file or listing, or want of memory;
 2 a torn or bad record, after the packets before it; 3 a file or device failed.";
@@ -133,7 +136,8 @@ fn program<'a>(alloc: Global) -> Result<Command<'a>, AllocError> {
         .subcommand_required(true)
         .arg_required_else_help(true)
         .subcommand(check_command(alloc)?)?
-        .subcommand(cut_command(alloc)?)
+        .subcommand(cut_command(alloc)?)?
+        .subcommand(steps_command(alloc)?)
 }
 
 // A number is decimal digits alone: a sign, a blank or nothing is none.
@@ -173,6 +177,10 @@ pub fn read_words<'a, S: AsStr>(alloc: Global, words: &'a [S]) -> Result<Request
         Some(("cut", cut)) => match cut_words(cut) {
             Some(words) => Ok(Request::Cut(words)),
             None => Err(bad_snap(alloc)?),
+        },
+        Some(("steps", steps)) => match steps_words(alloc, steps)? {
+            Some(words) => Ok(Request::Steps(words)),
+            None => Err(program.error(ErrorKind::MissingRequiredArgument, "IN is wanted")?),
         },
         _ => Err(program.error(ErrorKind::MissingSubcommand, "a subcommand is wanted")?),
     }

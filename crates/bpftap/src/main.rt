@@ -6,9 +6,17 @@ pub mod check;
 mod check_tests;
 mod command_line;
 pub mod cut;
+mod explain;
 mod files;
 pub mod filter;
+mod lines;
+mod listeners_file;
 mod program;
+mod reports;
+mod script;
+pub mod steps;
+mod steps_files;
+mod steps_words;
 pub mod tell;
 #[cfg(test)]
 mod tests;
