@@ -1,5 +1,6 @@
 //! The words of the command line, by `clap`.
 use crate::cut::MAX_SNAP;
+use crate::steps_words::{StepsWords, steps_command, steps_words};
 use clap::error::ErrorKind;
 use clap::{Arg, ArgMatches, Command, Error};
 use savefile::{Order, Unit};
@@ -24,11 +25,12 @@ pub struct CutWords<'a> {
 }
 
 /// What the words ask for.
-#[derive(Clone, Copy, Debug)]
+#[derive(Drop)]
 pub enum Request<'a> {
     /// `bpftap check`, of this expression.
     Check(&'a str),
     Cut(CutWords<'a>),
+    Steps(StepsWords<'a>),
 }
 
 /// What the program calls itself, and what it was proved with.
@@ -40,6 +42,7 @@ const EXAMPLES: &str = "Examples:
   bpftap check 'tcp dst port 80 or 443'
   bpftap cut -s 0 -e 'udp port 5353' examples/veth.pcap dns.pcap
   bpftap cut -s 0 -f examples/ip.bpf examples/veth.pcap ip.pcap
+  bpftap steps -v examples/listeners.txt examples/script.txt examples/veth.pcap
 
 Exit status: 0 clean; 1 wrong words, a refused expression, file or listing, or want of memory;
 2 a torn or bad record, after the packets before it; 3 a file or device failed.";
@@ -150,7 +153,8 @@ fn program<'a>(alloc: Global) -> Result<Command<'a>, AllocError> {
         .subcommand_required(true)
         .arg_required_else_help(true)
         .subcommand(check_command(alloc)?)?
-        .subcommand(cut_command(alloc)?)
+        .subcommand(cut_command(alloc)?)?
+        .subcommand(steps_command(alloc)?)
 }
 
 // A number is decimal digits alone: a sign, a blank or nothing is none.
@@ -190,6 +194,10 @@ pub fn read_words<'a, S: AsStr>(alloc: Global, words: &'a [S]) -> Result<Request
         Some(("cut", cut)) => match cut_words(cut) {
             Some(words) => Ok(Request::Cut(words)),
             None => Err(bad_snap(alloc)?),
+        },
+        Some(("steps", steps)) => match steps_words(alloc, steps)? {
+            Some(words) => Ok(Request::Steps(words)),
+            None => Err(program.error(ErrorKind::MissingRequiredArgument, "IN is wanted")?),
         },
         _ => Err(program.error(ErrorKind::MissingSubcommand, "a subcommand is wanted")?),
     }

@@ -6,12 +6,20 @@ pub mod check;
 mod check_tests;
 mod command_line;
 pub mod cut;
+mod explain;
 pub mod expression;
 #[cfg(test)]
 mod expression_tests;
 mod files;
 pub mod filter;
+mod lines;
+mod listeners_file;
 mod program;
+mod reports;
+mod script;
+pub mod steps;
+mod steps_files;
+mod steps_words;
 pub mod tell;
 #[cfg(test)]
 mod tests;

@@ -5,6 +5,7 @@ use crate::command_line::{CutWords, Request, read_words};
 use crate::cut::{CutEnd, End, cut};
 use crate::files::{LateFile, hold_stream, is_same_file};
 use crate::filter::filter;
+use crate::steps_files::steps_files;
 use crate::tell::{Path, REFUSED, tell, tell_device, tell_fault};
 use bpfvm::Program;
 use clap::Error;
@@ -31,6 +32,10 @@ pub fn run<R: Files + AllocGlobal, S: AsStr, O: Write, E: Write>(
     match read_words(rt.alloc(), words) {
         Ok(Request::Check(expr)) => check(rt.alloc(), expr, out, err),
         Ok(Request::Cut(words)) => cut_files(rt, &words, err),
+        Ok(Request::Steps(words)) => match steps_files(rt, &words, out, err) {
+            Ok(status) => status,
+            Err(status) => status,
+        },
         Err(error) => tell_clap(&error, out, err),
     }
 }
@@ -50,8 +55,8 @@ fn tell_clap<O: Write, E: Write>(error: &Error, out: &mut O, err: &mut E) -> u8 
     }
 }
 
-// A file could not be opened or read.
-fn tell_io<E: Write>(error: &io::Error, path: &str, err: &mut E) -> u8 {
+/// Tells that a file could not be opened or read, or that memory was refused.
+pub fn tell_io<E: Write>(error: &io::Error, path: &str, err: &mut E) -> u8 {
     if error.kind() == ErrorKind::OutOfMemory {
         tell_fault(Fault::NoMemory, REFUSED, err)
     } else {

@@ -1,1 +1,414 @@
-//! Worked examples.
+//! Worked examples, and replays beside a slow program of the definitions.
+
+use crate::answer::Answer;
+use crate::fault::Fault;
+use crate::filters::{Filter, Spec};
+use crate::report::{Report, Trace};
+use crate::run::{replay, trace};
+use crate::step::Step;
+use bpfvm::read_listing;
+use filtergen::Refusal;
+use listener::{Fed, Message, Mode, OpenFault};
+use std::alloc::{AllocError, Global};
+use std::process::Abort;
+use std::rt::Env;
+use std::test::Fail;
+
+/// Little-endian, microseconds, snapshot length 262,144, Ethernet.
+const HEADER: [u8; 24] = [
+    0xd4, 0xc3, 0xb2, 0xa1, 2, 0, 4, 0, 0, 0, 0, 0, 0, 0, 0, 0, 0, 0, 4, 0, 1, 0, 0, 0,
+];
+
+/// A frame of 38 bytes: UDP from 10.0.0.1 to 10.0.0.2, port 53 to port 53.
+const UDP: [u8; 38] = [
+    0xff, 0xff, 0xff, 0xff, 0xff, 0xff, 0, 1, 2, 3, 4, 5, 8, 0, 0x45, 0, 0, 0x18, 0, 0, 0, 0, 0x40,
+    0x11, 0, 0, 10, 0, 0, 1, 10, 0, 0, 2, 0, 0x35, 0, 0x35,
+];
+
+/// Appends a record at a second, of a packet of these bytes.
+fn put_record(text: &mut Vec<u8>, sec: u8, data: &[u8]) -> Result<(), AllocError> {
+    let len = data.len() as u8;
+    text.extend_from_slice(&[sec, 0, 0, 0, 0, 0, 0, 0, len, 0, 0, 0, len, 0, 0, 0])?;
+    text.extend_from_slice(data)
+}
+
+/// A capture of so many packets of 60 zeros, at second 1, 2, ..
+fn zeros(alloc: Global, packets: u8) -> Result<Vec<u8>, AllocError> {
+    let mut text = Vec::from_slice(alloc, &HEADER)?;
+    for i in 0..packets {
+        put_record(&mut text, i.wrapping_add(1), &[0; 60])?;
+    }
+    Ok(text)
+}
+
+/// The frame with the protocol TCP.
+fn tcp() -> [u8; 38] {
+    let mut frame = UDP;
+    frame[23] = 6;
+    frame
+}
+
+/// A capture of one TCP frame, at second 1.
+fn one_tcp(alloc: Global) -> Result<Vec<u8>, AllocError> {
+    let mut text = Vec::from_slice(alloc, &HEADER)?;
+    put_record(&mut text, 1, &tcp())?;
+    Ok(text)
+}
+
+fn wanted(
+    rt: &(impl Abort + AllocGlobal),
+    expression: &str,
+    snap: u32,
+    capacity: usize,
+    mode: Mode,
+) -> Spec {
+    Spec {
+        filter: Filter::Text(String::from_str(rt.alloc(), expression).expect(rt, "memory")),
+        snap,
+        capacity,
+        mode,
+    }
+}
+
+/// The places of messages.
+fn places(rt: &(impl Abort + AllocGlobal), messages: &[Message]) -> Vec<u64> {
+    messages
+        .iter()
+        .map(|m| m.place)
+        .collect(rt.alloc())
+        .expect(rt, "memory")
+}
+
+/// What became of the packets that arrived.
+fn fates(rt: &(impl Abort + AllocGlobal), trace: &Trace, l: usize) -> Vec<Fed> {
+    let mut fates = Vec::new(rt.alloc());
+    for answered in &trace.answers[l] {
+        if let Answer::Arrived(fed) = answered.answer {
+            fates.push(fed).expect(rt, "memory");
+        }
+    }
+    fates
+}
+
+fn counts(report: &Report) -> (u64, u64, u64) {
+    (report.received, report.matched, report.dropped)
+}
+
+#[test]
+fn four_packets_rotate_and_drop(rt: HostRuntime) {
+    let text = zeros(rt.alloc(), 4).expect(&rt, "memory");
+    let steps = [
+        Step::Arrive,
+        Step::Arrive,
+        Step::Arrive,
+        Step::Read(0),
+        Step::Arrive,
+    ];
+    let program = read_listing(b"1\n6 0 0 32\n").expect(&rt, "a program");
+    let by_program = Spec {
+        filter: Filter::Program(program),
+        snap: 64,
+        capacity: 96,
+        mode: Mode::Buffered,
+    };
+    for spec in [wanted(&rt, "", 32, 64, Mode::Buffered), by_program] {
+        let specs = [spec];
+        let trace = trace(rt.alloc(), &[text.as_slice()], &specs, &steps).expect(&rt, "a trace");
+        let report = &trace.reports[0];
+        assert_eq!(rt; counts(report), (4, 4, 1));
+        assert_eq!(rt; report.batches.len(), 1);
+        assert_eq!(rt; places(&rt, &report.batches[0]).as_slice(), [0].as_slice());
+        assert_eq!(rt; places(&rt, &report.held).as_slice(), [1, 3].as_slice());
+        assert_eq!(rt; report.held[1].bytes.as_slice().len(), 32);
+        assert_eq!(rt; (report.held[1].sec, report.held[1].nanos, report.held[1].len), (4, 0, 60));
+        assert_eq!(rt;
+            fates(&rt, &trace, 0).as_slice(),
+            [Fed::Stored, Fed::Rotated, Fed::Dropped, Fed::Rotated].as_slice()
+        );
+        assert!(rt; trace.torn.is_none());
+    }
+}
+
+/// A replay of one capture to one listener.
+fn replayed(
+    rt: &(impl Abort + AllocGlobal),
+    text: &[u8],
+    spec: Spec,
+    steps: &[Step],
+) -> Result<Trace, Fault> {
+    let specs = [spec];
+    let plain = replay(rt.alloc(), &[text], &specs, steps);
+    let trace = trace(rt.alloc(), &[text], &specs, steps);
+    match (&plain, &trace) {
+        (Ok((reports, torn)), Ok(trace)) => {
+            assert_eq!(rt; counts(&reports[0]), counts(&trace.reports[0]));
+            assert_eq!(rt; *torn, trace.torn);
+        }
+        (Err(plain), Err(trace)) => assert_eq!(rt; plain, trace),
+        _ => assert!(rt; false, "one of the two calls refused"),
+    }
+    trace
+}
+
+#[test]
+fn a_closed_listener_takes_nothing_and_gives_nothing(rt: HostRuntime) {
+    let text = zeros(rt.alloc(), 3).expect(&rt, "memory");
+    let steps = [
+        Step::Arrive,
+        Step::Arrive,
+        Step::Read(0),
+        Step::Flush(0),
+        Step::Close(0),
+        Step::Arrive,
+        Step::Read(0),
+        Step::Close(0),
+    ];
+    let spec = wanted(&rt, "", 32, 128, Mode::Buffered);
+    let trace = replayed(&rt, text.as_slice(), spec, &steps).expect(&rt, "a trace");
+    let report = &trace.reports[0];
+    assert_eq!(rt; counts(report), (2, 2, 0));
+    assert!(rt; report.batches.is_empty());
+    assert_eq!(rt; places(&rt, &report.held).as_slice(), [0, 1].as_slice());
+    let mut answers = Vec::new(rt.alloc());
+    for answered in &trace.answers[0] {
+        answers
+            .push((answered.load, answered.held, answered.answer))
+            .expect(&rt, "memory");
+    }
+    assert_eq!(rt;
+        answers.as_slice(),
+        [
+            (0, 0, Answer::Arrived(Fed::Stored)),
+            (64, 0, Answer::Arrived(Fed::Stored)),
+            (128, 0, Answer::Read(false)),
+            (128, 0, Answer::Flushed(true)),
+            (0, 2, Answer::Closed),
+            (0, 2, Answer::Arrived(Fed::Closed)),
+            (0, 2, Answer::Read(false)),
+            (0, 2, Answer::Closed),
+        ].as_slice()
+    );
+}
+
+/// Eleven steps, which the two modes answer in different ways.
+const ELEVEN: [Step; 11] = [
+    Step::Arrive,
+    Step::Arrive,
+    Step::Arrive,
+    Step::Arrive,
+    Step::Read(0),
+    Step::Arrive,
+    Step::Read(0),
+    Step::Arrive,
+    Step::Close(0),
+    Step::Arrive,
+    Step::Read(0),
+];
+
+#[test]
+fn an_immediate_listener_hands_over_at_once(rt: HostRuntime) {
+    let text = zeros(rt.alloc(), 7).expect(&rt, "memory");
+    let spec = wanted(&rt, "", 32, 128, Mode::Immediate);
+    let trace = replayed(&rt, text.as_slice(), spec, &ELEVEN).expect(&rt, "a trace");
+    let report = &trace.reports[0];
+    assert_eq!(rt; counts(report), (6, 6, 1));
+    assert_eq!(rt; report.batches.len(), 2);
+    assert_eq!(rt; places(&rt, &report.batches[0]).as_slice(), [0].as_slice());
+    assert_eq!(rt; places(&rt, &report.batches[1]).as_slice(), [1, 2].as_slice());
+    assert_eq!(rt; places(&rt, &report.held).as_slice(), [4, 5].as_slice());
+    assert_eq!(rt;
+        fates(&rt, &trace, 0).as_slice(),
+        [
+            Fed::Held,
+            Fed::Stored,
+            Fed::Stored,
+            Fed::Dropped,
+            Fed::Rotated,
+            Fed::Held,
+            Fed::Closed,
+        ].as_slice()
+    );
+}
+
+#[test]
+fn a_buffered_listener_waits(rt: HostRuntime) {
+    let text = zeros(rt.alloc(), 7).expect(&rt, "memory");
+    let spec = wanted(&rt, "", 32, 128, Mode::Buffered);
+    let trace = replayed(&rt, text.as_slice(), spec, &ELEVEN).expect(&rt, "a trace");
+    let report = &trace.reports[0];
+    assert_eq!(rt; counts(report), (6, 6, 0));
+    assert_eq!(rt; report.batches.len(), 2);
+    assert_eq!(rt; places(&rt, &report.batches[0]).as_slice(), [0, 1].as_slice());
+    assert_eq!(rt; places(&rt, &report.batches[1]).as_slice(), [2, 3].as_slice());
+    assert_eq!(rt; places(&rt, &report.held).as_slice(), [4, 5].as_slice());
+    assert_eq!(rt;
+        fates(&rt, &trace, 0).as_slice(),
+        [
+            Fed::Stored,
+            Fed::Stored,
+            Fed::Rotated,
+            Fed::Stored,
+            Fed::Rotated,
+            Fed::Stored,
+            Fed::Closed,
+        ].as_slice()
+    );
+}
+
+#[test]
+fn an_expression_keeps_what_it_accepts_cut(rt: HostRuntime) {
+    let text = one_tcp(rt.alloc()).expect(&rt, "memory");
+    let spec = wanted(&rt, "tcp", 10, 48, Mode::Buffered);
+    let steps = [Step::Arrive, Step::Flush(0), Step::Read(0)];
+    let trace = replayed(&rt, text.as_slice(), spec, &steps).expect(&rt, "a trace");
+    let report = &trace.reports[0];
+    assert_eq!(rt; counts(report), (1, 1, 0));
+    assert_eq!(rt; report.batches.len(), 1);
+    let message = &report.batches[0][0];
+    assert_eq!(rt; message.bytes.as_slice(), &UDP[..10]);
+    assert_eq!(rt; (message.sec, message.nanos, message.len), (1, 0, 38));
+    let spec = wanted(&rt, "udp", 10, 48, Mode::Buffered);
+    let trace = replayed(&rt, text.as_slice(), spec, &steps).expect(&rt, "a trace");
+    assert_eq!(rt; counts(&trace.reports[0]), (1, 0, 0));
+    assert_eq!(rt; fates(&rt, &trace, 0).as_slice(), [Fed::Passed].as_slice());
+}
+
+#[test]
+fn past_the_last_packet_nothing_arrives(rt: HostRuntime) {
+    let text = zeros(rt.alloc(), 0).expect(&rt, "memory");
+    let spec = wanted(&rt, "", 32, 64, Mode::Buffered);
+    let steps = [Step::Arrive, Step::Flush(0), Step::Arrive, Step::Read(0)];
+    let trace = replayed(&rt, text.as_slice(), spec, &steps).expect(&rt, "a trace");
+    assert_eq!(rt; counts(&trace.reports[0]), (0, 0, 0));
+    assert!(rt; trace.reports[0].batches.is_empty());
+    assert!(rt; trace.reports[0].held.is_empty());
+    assert_eq!(rt; trace.answers[0].len(), 2);
+    assert!(rt; trace.playlist.is_empty());
+}
+
+/// The fault of a replay of one TCP frame to one listener.
+fn fault_of(rt: &(impl Abort + AllocGlobal), spec: Spec, steps: &[Step]) -> Fault {
+    let text = one_tcp(rt.alloc()).expect(rt, "memory");
+    match replayed(rt, text.as_slice(), spec, steps) {
+        Ok(_) => Fault::TooMany,
+        Err(fault) => fault,
+    }
+}
+
+#[test]
+fn each_fault_comes_where_it_stands(rt: HostRuntime) {
+    let buffered = Mode::Buffered;
+    assert_eq!(rt;
+        fault_of(&rt, wanted(&rt, "tcp", 10, 47, buffered), &[Step::Arrive]),
+        Fault::Open(0, OpenFault::BadCapacity)
+    );
+    assert_eq!(rt;
+        fault_of(&rt, wanted(&rt, "tcp", 10, 1_048_577, buffered), &[]),
+        Fault::Open(0, OpenFault::BadCapacity)
+    );
+    assert_eq!(rt;
+        fault_of(&rt, wanted(&rt, "tcp and 80", 0, 0, buffered), &[]),
+        Fault::Expression(0, filterlang::Fault::NoQualifier(8))
+    );
+    assert_eq!(rt;
+        fault_of(&rt, wanted(&rt, "tcp", 0, 0, buffered), &[]),
+        Fault::Compile(0, Refusal::BadSnap)
+    );
+    assert_eq!(rt;
+        fault_of(&rt, wanted(&rt, "tcp and 80", 0, 0, buffered), &[Step::Arrive, Step::Read(1)]),
+        Fault::NoListener(1)
+    );
+    let spec = Spec {
+        filter: Filter::Program(read_listing(b"1\n6 0 0 32\n").expect(&rt, "a program")),
+        snap: 262_145,
+        capacity: 0,
+        mode: buffered,
+    };
+    assert_eq!(rt; fault_of(&rt, spec, &[]), Fault::Open(0, OpenFault::BadSnap));
+}
+
+#[test]
+fn a_torn_capture_ends_the_playlist(rt: HostRuntime) {
+    let whole = one_tcp(rt.alloc()).expect(&rt, "memory");
+    let mut torn = one_tcp(rt.alloc()).expect(&rt, "memory");
+    torn.extend_from_slice(&[0; 7]).expect(&rt, "memory");
+    let steps = [Step::Arrive; 4];
+    let specs = [wanted(&rt, "", 64, 1_000, Mode::Buffered)];
+    let (whole, torn) = (whole.as_slice(), torn.as_slice());
+    let (reports, fault) =
+        replay(rt.alloc(), &[whole, torn, whole, torn], &specs, &steps).expect(&rt, "a report");
+    assert_eq!(rt; fault, Some((1, savefile::Fault::TornRecord(1))));
+    assert_eq!(rt; counts(&reports[0]), (2, 2, 0));
+    assert_eq!(rt; (reports[0].held[0].capture, reports[0].held[0].place), (0, 0));
+    assert_eq!(rt; (reports[0].held[1].capture, reports[0].held[1].place), (1, 0));
+    // A header behind the tear counts, and a listener that is refused comes after it.
+    let refused = [wanted(&rt, "tcp and 80", 64, 1_000, Mode::Buffered)];
+    match replay(rt.alloc(), &[whole, torn, &whole[..23]], &refused, &steps) {
+        Ok(_) => assert!(rt; false, "a header is refused"),
+        Err(fault) => {
+            assert_eq!(rt; fault, Fault::Capture(2, savefile::Fault::ShortHeader));
+        }
+    }
+}
+
+#[test]
+fn as_many_as_may_be(rt: HostRuntime) {
+    let alloc = rt.alloc();
+    let header: &[u8] = &HEADER;
+    for (listeners, captures, taken) in [
+        (64, 1, true),
+        (65, 1, false),
+        (1, 65_536, true),
+        (1, 65_537, false),
+    ] {
+        let mut specs = Vec::new(alloc);
+        for _ in 0..listeners {
+            specs
+                .push(wanted(&rt, "", 32, 64, Mode::Buffered))
+                .expect(&rt, "memory");
+        }
+        let mut texts = Vec::new(alloc);
+        for _ in 0..captures {
+            texts.push(header).expect(&rt, "memory");
+        }
+        let steps = [Step::Read(listeners)];
+        match replay(alloc, texts.as_slice(), specs.as_slice(), &steps) {
+            Ok(_) => assert!(rt; false, "a step names no listener"),
+            Err(fault) => {
+                let wanted = if taken {
+                    Fault::NoListener(0)
+                } else {
+                    Fault::TooMany
+                };
+                assert_eq!(rt; fault, wanted);
+            }
+        }
+        let one = replay(alloc, texts.as_slice(), specs.as_slice(), [Step::Arrive].as_slice());
+        assert_eq!(rt; one.is_ok(), taken);
+    }
+}
+
+#[test]
+fn faults_are_told_with_their_places(rt: HostRuntime) {
+    for (fault, line) in [
+        (Fault::TooMany, "TooMany"),
+        (Fault::NoListener(1), "NoListener 1"),
+        (
+            Fault::Capture(0, savefile::Fault::BadFraction(3)),
+            "Capture 0 BadFraction 3",
+        ),
+        (
+            Fault::Expression(0, filterlang::Fault::NoQualifier(8)),
+            "Expression 0 NoQualifier 8",
+        ),
+        (Fault::Compile(2, Refusal::TooLong), "Compile 2 TooLong"),
+        (
+            Fault::Open(0, OpenFault::BadCapacity),
+            "Open 0 BadCapacity",
+        ),
+        (Fault::NoMemory, "NoMemory"),
+    ] {
+        let told = format!(in rt.alloc(); "{fault}").expect(&rt, "memory");
+        assert_eq!(rt; told.as_str(), line);
+    }
+}

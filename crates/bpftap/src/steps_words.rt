@@ -1,0 +1,80 @@
+//! The words of `bpftap steps`, by `clap`.
+
+use clap::{Arg, ArgAction, ArgMatches, Command};
+use std::alloc::{AllocError, Global};
+
+/// What one call of `bpftap steps` asks for.
+#[derive(Drop)]
+pub struct StepsWords<'a> {
+    /// Whether each answer is explained.
+    pub explained: bool,
+    /// The path of LISTENERS.
+    pub listeners: &'a str,
+    /// The path of SCRIPT.
+    pub script: &'a str,
+    /// The paths of the captures, in order.
+    pub inputs: Vec<&'a str>,
+}
+
+const STEPS_EXAMPLES: &str = "LISTENERS has a line SNAP CAPACITY EXPRESSION for each listener: the most bytes that are kept of
+a packet (0 means 262144), the bytes of each of its two buffers, and its filter. An i behind
+CAPACITY makes the listener Immediate: a packet that is stored can be read at once.
+
+SCRIPT has a line for each step: arrive, flush L, read L or close L. Listeners and packets are
+counted from 0.
+
+Examples:
+  bpftap steps examples/listeners.txt examples/script.txt examples/veth.pcap
+  bpftap steps -v examples/listeners.txt examples/script.txt examples/veth.pcap
+
+Exit status: 0 clean; 1 wrong words, a refused line, expression or file, or want of memory;
+2 a torn or bad record, after the reports; 3 a file or device failed.";
+
+/// The subcommand.
+pub fn steps_command<'a>(alloc: Global) -> Result<Command<'a>, AllocError> {
+    Command::new(alloc, "steps")
+        .about("Play a script to listeners over captures, and report what each has read and holds")
+        .after_help(STEPS_EXAMPLES)
+        .arg(
+            Arg::new(alloc, "explained")
+                .short('v')
+                .action(ArgAction::SetTrue)
+                .help("Print each step's answers first, and why they were given"),
+        )?
+        .arg(
+            Arg::new(alloc, "LISTENERS")
+                .required(true)
+                .help("File with a line SNAP CAPACITY EXPRESSION for each listener"),
+        )?
+        .arg(
+            Arg::new(alloc, "SCRIPT")
+                .required(true)
+                .help("File with a line for each step: arrive, flush L, read L or close L"),
+        )?
+        .arg(
+            Arg::new(alloc, "IN")
+                .required(true)
+                .num_args(1..)
+                .help("Captures to replay, in order: classic savefiles of Ethernet frames"),
+        )
+}
+
+/// The words that were found, nothing where one is missing.
+pub fn steps_words<'a>(
+    alloc: Global,
+    matches: &ArgMatches<'a>,
+) -> Result<Option<StepsWords<'a>>, AllocError> {
+    let (Some(listeners), Some(script), Some(inputs)) = (
+        matches.get_str("LISTENERS"),
+        matches.get_str("SCRIPT"),
+        matches.get_strs("IN"),
+    ) else {
+        return Ok(None);
+    };
+    Ok(Some(StepsWords {
+        explained: matches.get_flag("explained"),
+        listeners,
+        script,
+        inputs: Vec::from_slice(alloc, inputs)?,
+    }))
+}
