@@ -1,7 +1,5 @@
-use Rattle.std.proofs.Common.{ℕ, ◌≡◌, ◌+◌, min, length, ◌++◌, ◌∷◌, [], None, refl, ap, sym, ◌∙◌, arith}
-use Rattle.bpfvm.specs.Machine.{verdict}
-use Rattle.savefile.specs.declared.packet.Packet.{Packet}
-use Rattle.listener.specs.Messages.{cut_to, arrival, kept_by, size, room}
+use Rattle.std.proofs.Common.{ℕ, ◌≡◌, ◌+◌, ◌++◌, ◌∷◌, [], refl, ap, ◌∙◌, arith}
+use Rattle.listener.specs.Messages.{cut_to, arrival, size, room}
 use Rattle.listener.specs.Buffers.{Filled}
 use Rattle.listener.specs.PlainList.{terms}
 use Rattle.listener.proofs.Rooms.{room_nil}
