@@ -12,7 +12,7 @@ use std::io;
 use std::io::{ErrorKind, Write};
 use std::process::Abort;
 
-/// An expression, and what `check` prints of it. The first two are as long as libpcap's, the third is libpcap's.
+/// An expression, and what `check` prints of it.
 const PRINTED: [(&str, &str); 4] = [
     ("", "2\n6 0 0 262144\n6 0 0 0\n"),
     ("ip", "4\n40 0 0 12\n21 0 1 2048\n6 0 0 262144\n6 0 0 0\n"),

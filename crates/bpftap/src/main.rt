@@ -5,6 +5,8 @@ pub mod check;
 #[cfg(test)]
 mod check_tests;
 mod command_line;
+#[cfg(test)]
+mod command_tests;
 pub mod cut;
 mod explain;
 pub mod expression;

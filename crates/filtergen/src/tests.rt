@@ -153,6 +153,27 @@ fn a_chain_of_250_compiles(rt: HostRuntime) {
     assert_eq!(rt; run(&program, &ARP_FRAME, 42), 0);
 }
 
+// How many instructions the program of a text has, and how many of them are long jumps.
+fn lengths(rt: &(impl Abort + AllocGlobal), text: &str) -> (usize, usize) {
+    let program = program_of(rt, text, 96);
+    let long = program.insns().iter().filter(|insn| insn.code == 5).count();
+    (program.insns().len(), long)
+}
+
+#[test]
+fn a_jump_reaches_over_255_instructions(rt: HostRuntime) -> Result<(), Fail> {
+    let mut text = String::new(rt.alloc());
+    text.push_str("ip")?;
+    for _ in 0..127 {
+        text.push_str("&&ip")?;
+    }
+    assert_eq!(rt; lengths(&rt, text.as_str()), (258, 0));
+    text.push_str("&&ip")?;
+    let (_, long) = lengths(&rt, text.as_str());
+    assert_eq!(rt; long, 1);
+    Ok(())
+}
+
 #[test]
 fn a_chain_of_2048_is_too_long(rt: HostRuntime) {
     let tree = chain(&rt, 2047);

@@ -9,6 +9,9 @@ use filterlang::Expr;
 /// An expression up to this weight compiles.
 pub const MAX_WEIGHT: u64 = 500;
 
+// The contract of `compile` has the number.
+const _: () = prove!(MAX_WEIGHT == 500);
+
 /// The weight of a primitive.
 const PRIMITIVE: u64 = 40;
 

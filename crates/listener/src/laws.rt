@@ -8,7 +8,8 @@ pub fn answers()
     ensures legal { AnswersAreLegal }
 {}
 
-/// An accepted arrival at an Immediate list is one at a Buffered list and then a flush, as one step.
+/// An accepted arrival at an Immediate list, of a message that fits the capacity, is one at a Buffered list and then a
+/// flush, as one step.
 pub fn immediate()
     ensures { ImmediateIsFlushed }
 {}
@@ -38,7 +39,8 @@ pub fn reads()
     ensures { ReadsCommute }
 {}
 
-/// What was read in a run and then what pends is what looking back keeps, and the counts are those of looking back.
+/// What was read in a run and then what pends is what looking back keeps, and the counts are those of looking back, where
+/// each message fits the capacity.
 pub fn looking_back()
     ensures { RunsAreKept }
 {}

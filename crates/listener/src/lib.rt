@@ -1,4 +1,4 @@
-//! Listeners of a packet tap: a store and a hold of messages each, as in the BSD packet filter.
+//! Listeners of a packet tap: a store and a hold of messages each, which count as bpf(4) does.
 #![tactic(auto)]
 
 mod answer;
