@@ -84,10 +84,9 @@ fn fate<R: Source + Drop>(alloc: Global, source: R) -> Result<String, AllocError
         Ok(reader) => reader,
         Err(fault) => return format!(in alloc; "open {fault}"),
     };
-    let mut packets = 0_u32;
-    while packets < 9 {
+    for packets in 0..9_u32 {
         match reader.advance() {
-            Ok(true) => packets += 1,
+            Ok(true) => {}
             Ok(false) => {
                 let again = told_lent(alloc, &mut reader)?;
                 return format!(in alloc; "{packets} end {again}");
@@ -144,7 +143,7 @@ fn whole_records_come_before_a_break(rt: HostRuntime) -> Result<(), Fail> {
     assert_eq!(rt; got.as_str(), "1 Device Failed");
     // the source comes back with what is left of it
     match Reader::open(rt.alloc(), source_of(rt.alloc(), &text, 10, 2)?) {
-        Ok(_) => assert!(rt; false),
+        Ok(_reader) => assert!(rt; false),
         Err((source, fault)) => {
             assert_eq!(rt; fault, Fault::Device);
             assert_eq!(rt; source.failures, 1);
