@@ -1,5 +1,8 @@
 //! Worked examples, and replays beside a slow program of the definitions.
 
+mod caller;
+mod random;
+
 use crate::answer::Answer;
 use crate::fault::Fault;
 use crate::filters::{Filter, Spec};
@@ -25,9 +28,8 @@ const UDP: [u8; 38] = [
     0x11, 0, 0, 10, 0, 0, 1, 10, 0, 0, 2, 0, 0x35, 0, 0x35,
 ];
 
-/// Appends a record at a second, of a packet of these bytes.
-fn put_record(text: &mut Vec<u8>, sec: u8, data: &[u8]) -> Result<(), AllocError> {
-    let len = data.len() as u8;
+/// Appends a record at a second, of a packet of these bytes, as many as `len`.
+fn put_record(text: &mut Vec<u8>, sec: u8, len: u8, data: &[u8]) -> Result<(), AllocError> {
     text.extend_from_slice(&[sec, 0, 0, 0, 0, 0, 0, 0, len, 0, 0, 0, len, 0, 0, 0])?;
     text.extend_from_slice(data)
 }
@@ -36,7 +38,7 @@ fn put_record(text: &mut Vec<u8>, sec: u8, data: &[u8]) -> Result<(), AllocError
 fn zeros(alloc: Global, packets: u8) -> Result<Vec<u8>, AllocError> {
     let mut text = Vec::from_slice(alloc, &HEADER)?;
     for i in 0..packets {
-        put_record(&mut text, i.wrapping_add(1), &[0; 60])?;
+        put_record(&mut text, i.wrapping_add(1), 60, &[0; 60])?;
     }
     Ok(text)
 }
@@ -51,7 +53,7 @@ fn tcp() -> [u8; 38] {
 /// A capture of one TCP frame, at second 1.
 fn one_tcp(alloc: Global) -> Result<Vec<u8>, AllocError> {
     let mut text = Vec::from_slice(alloc, &HEADER)?;
-    put_record(&mut text, 1, &tcp())?;
+    put_record(&mut text, 1, 38, &tcp())?;
     Ok(text)
 }
 
@@ -82,12 +84,17 @@ fn places(rt: &(impl Abort + AllocGlobal), messages: &[Message]) -> Vec<u64> {
 /// What became of the packets that arrived.
 fn fates(rt: &(impl Abort + AllocGlobal), trace: &Trace, l: usize) -> Vec<Fed> {
     let mut fates = Vec::new(rt.alloc());
-    for answered in &trace.answers[l] {
+    for answered in at(rt, trace.answers.as_slice(), l) {
         if let Answer::Arrived(fed) = answered.answer {
             fates.push(fed).expect(rt, "memory");
         }
     }
     fates
+}
+
+/// The item at a place, where there is one.
+fn at<'a, T>(rt: &(impl Abort + AllocGlobal), items: &'a [T], place: usize) -> &'a T {
+    items.get(place).expect(rt, "an item")
 }
 
 fn counts(report: &Report) -> (u64, u64, u64) {
@@ -114,13 +121,20 @@ fn four_packets_rotate_and_drop(rt: HostRuntime) {
     for spec in [wanted(&rt, "", 32, 64, Mode::Buffered), by_program] {
         let specs = [spec];
         let trace = trace(rt.alloc(), &[text.as_slice()], &specs, &steps).expect(&rt, "a trace");
-        let report = &trace.reports[0];
+        let report = at(&rt, trace.reports.as_slice(), 0);
         assert_eq!(rt; counts(report), (4, 4, 1));
         assert_eq!(rt; report.batches.len(), 1);
-        assert_eq!(rt; places(&rt, &report.batches[0]).as_slice(), [0].as_slice());
-        assert_eq!(rt; places(&rt, &report.held).as_slice(), [1, 3].as_slice());
-        assert_eq!(rt; report.held[1].bytes.as_slice().len(), 32);
-        assert_eq!(rt; (report.held[1].sec, report.held[1].nanos, report.held[1].len), (4, 0, 60));
+        assert_eq!(rt;
+            places(&rt, at(&rt, report.batches.as_slice(), 0).as_slice()).as_slice(),
+            [0].as_slice()
+        );
+        assert_eq!(rt;
+            places(&rt, report.held.as_slice()).as_slice(),
+            [1, 3].as_slice()
+        );
+        let last = at(&rt, report.held.as_slice(), 1);
+        assert_eq!(rt; last.bytes.as_slice().len(), 32);
+        assert_eq!(rt; (last.sec, last.nanos, last.len), (4, 0, 60));
         assert_eq!(rt;
             fates(&rt, &trace, 0).as_slice(),
             [Fed::Stored, Fed::Rotated, Fed::Dropped, Fed::Rotated].as_slice()
@@ -141,7 +155,8 @@ fn replayed(
     let trace = trace(rt.alloc(), &[text], &specs, steps);
     match (&plain, &trace) {
         (Ok((reports, torn)), Ok(trace)) => {
-            assert_eq!(rt; counts(&reports[0]), counts(&trace.reports[0]));
+            let plain = at(rt, reports.as_slice(), 0);
+            assert_eq!(rt; counts(plain), counts(at(rt, trace.reports.as_slice(), 0)));
             assert_eq!(rt; *torn, trace.torn);
         }
         (Err(plain), Err(trace)) => assert_eq!(rt; plain, trace),
@@ -165,12 +180,15 @@ fn a_closed_listener_takes_nothing_and_gives_nothing(rt: HostRuntime) {
     ];
     let spec = wanted(&rt, "", 32, 128, Mode::Buffered);
     let trace = replayed(&rt, text.as_slice(), spec, &steps).expect(&rt, "a trace");
-    let report = &trace.reports[0];
+    let report = at(&rt, trace.reports.as_slice(), 0);
     assert_eq!(rt; counts(report), (2, 2, 0));
     assert!(rt; report.batches.is_empty());
-    assert_eq!(rt; places(&rt, &report.held).as_slice(), [0, 1].as_slice());
+    assert_eq!(rt;
+        places(&rt, report.held.as_slice()).as_slice(),
+        [0, 1].as_slice()
+    );
     let mut answers = Vec::new(rt.alloc());
-    for answered in &trace.answers[0] {
+    for answered in at(&rt, trace.answers.as_slice(), 0) {
         answers
             .push((answered.load, answered.held, answered.answer))
             .expect(&rt, "memory");
@@ -186,7 +204,8 @@ fn a_closed_listener_takes_nothing_and_gives_nothing(rt: HostRuntime) {
             (0, 2, Answer::Arrived(Fed::Closed)),
             (0, 2, Answer::Read(false)),
             (0, 2, Answer::Closed),
-        ].as_slice()
+        ]
+        .as_slice()
     );
 }
 
@@ -210,12 +229,21 @@ fn an_immediate_listener_hands_over_at_once(rt: HostRuntime) {
     let text = zeros(rt.alloc(), 7).expect(&rt, "memory");
     let spec = wanted(&rt, "", 32, 128, Mode::Immediate);
     let trace = replayed(&rt, text.as_slice(), spec, &ELEVEN).expect(&rt, "a trace");
-    let report = &trace.reports[0];
+    let report = at(&rt, trace.reports.as_slice(), 0);
     assert_eq!(rt; counts(report), (6, 6, 1));
     assert_eq!(rt; report.batches.len(), 2);
-    assert_eq!(rt; places(&rt, &report.batches[0]).as_slice(), [0].as_slice());
-    assert_eq!(rt; places(&rt, &report.batches[1]).as_slice(), [1, 2].as_slice());
-    assert_eq!(rt; places(&rt, &report.held).as_slice(), [4, 5].as_slice());
+    assert_eq!(rt;
+        places(&rt, at(&rt, report.batches.as_slice(), 0).as_slice()).as_slice(),
+        [0].as_slice()
+    );
+    assert_eq!(rt;
+        places(&rt, at(&rt, report.batches.as_slice(), 1).as_slice()).as_slice(),
+        [1, 2].as_slice()
+    );
+    assert_eq!(rt;
+        places(&rt, report.held.as_slice()).as_slice(),
+        [4, 5].as_slice()
+    );
     assert_eq!(rt;
         fates(&rt, &trace, 0).as_slice(),
         [
@@ -226,7 +254,8 @@ fn an_immediate_listener_hands_over_at_once(rt: HostRuntime) {
             Fed::Rotated,
             Fed::Held,
             Fed::Closed,
-        ].as_slice()
+        ]
+        .as_slice()
     );
 }
 
@@ -235,12 +264,21 @@ fn a_buffered_listener_waits(rt: HostRuntime) {
     let text = zeros(rt.alloc(), 7).expect(&rt, "memory");
     let spec = wanted(&rt, "", 32, 128, Mode::Buffered);
     let trace = replayed(&rt, text.as_slice(), spec, &ELEVEN).expect(&rt, "a trace");
-    let report = &trace.reports[0];
+    let report = at(&rt, trace.reports.as_slice(), 0);
     assert_eq!(rt; counts(report), (6, 6, 0));
     assert_eq!(rt; report.batches.len(), 2);
-    assert_eq!(rt; places(&rt, &report.batches[0]).as_slice(), [0, 1].as_slice());
-    assert_eq!(rt; places(&rt, &report.batches[1]).as_slice(), [2, 3].as_slice());
-    assert_eq!(rt; places(&rt, &report.held).as_slice(), [4, 5].as_slice());
+    assert_eq!(rt;
+        places(&rt, at(&rt, report.batches.as_slice(), 0).as_slice()).as_slice(),
+        [0, 1].as_slice()
+    );
+    assert_eq!(rt;
+        places(&rt, at(&rt, report.batches.as_slice(), 1).as_slice()).as_slice(),
+        [2, 3].as_slice()
+    );
+    assert_eq!(rt;
+        places(&rt, report.held.as_slice()).as_slice(),
+        [4, 5].as_slice()
+    );
     assert_eq!(rt;
         fates(&rt, &trace, 0).as_slice(),
         [
@@ -251,7 +289,8 @@ fn a_buffered_listener_waits(rt: HostRuntime) {
             Fed::Rotated,
             Fed::Stored,
             Fed::Closed,
-        ].as_slice()
+        ]
+        .as_slice()
     );
 }
 
@@ -261,15 +300,15 @@ fn an_expression_keeps_what_it_accepts_cut(rt: HostRuntime) {
     let spec = wanted(&rt, "tcp", 10, 48, Mode::Buffered);
     let steps = [Step::Arrive, Step::Flush(0), Step::Read(0)];
     let trace = replayed(&rt, text.as_slice(), spec, &steps).expect(&rt, "a trace");
-    let report = &trace.reports[0];
+    let report = at(&rt, trace.reports.as_slice(), 0);
     assert_eq!(rt; counts(report), (1, 1, 0));
     assert_eq!(rt; report.batches.len(), 1);
-    let message = &report.batches[0][0];
+    let message = at(&rt, at(&rt, report.batches.as_slice(), 0).as_slice(), 0);
     assert_eq!(rt; message.bytes.as_slice(), &UDP[..10]);
     assert_eq!(rt; (message.sec, message.nanos, message.len), (1, 0, 38));
     let spec = wanted(&rt, "udp", 10, 48, Mode::Buffered);
     let trace = replayed(&rt, text.as_slice(), spec, &steps).expect(&rt, "a trace");
-    assert_eq!(rt; counts(&trace.reports[0]), (1, 0, 0));
+    assert_eq!(rt; counts(at(&rt, trace.reports.as_slice(), 0)), (1, 0, 0));
     assert_eq!(rt; fates(&rt, &trace, 0).as_slice(), [Fed::Passed].as_slice());
 }
 
@@ -279,10 +318,10 @@ fn past_the_last_packet_nothing_arrives(rt: HostRuntime) {
     let spec = wanted(&rt, "", 32, 64, Mode::Buffered);
     let steps = [Step::Arrive, Step::Flush(0), Step::Arrive, Step::Read(0)];
     let trace = replayed(&rt, text.as_slice(), spec, &steps).expect(&rt, "a trace");
-    assert_eq!(rt; counts(&trace.reports[0]), (0, 0, 0));
-    assert!(rt; trace.reports[0].batches.is_empty());
-    assert!(rt; trace.reports[0].held.is_empty());
-    assert_eq!(rt; trace.answers[0].len(), 2);
+    assert_eq!(rt; counts(at(&rt, trace.reports.as_slice(), 0)), (0, 0, 0));
+    assert!(rt; at(&rt, trace.reports.as_slice(), 0).batches.is_empty());
+    assert!(rt; at(&rt, trace.reports.as_slice(), 0).held.is_empty());
+    assert_eq!(rt; at(&rt, trace.answers.as_slice(), 0).len(), 2);
     assert!(rt; trace.playlist.is_empty());
 }
 
@@ -315,7 +354,11 @@ fn each_fault_comes_where_it_stands(rt: HostRuntime) {
         Fault::Compile(0, Refusal::BadSnap)
     );
     assert_eq!(rt;
-        fault_of(&rt, wanted(&rt, "tcp and 80", 0, 0, buffered), &[Step::Arrive, Step::Read(1)]),
+        fault_of(
+            &rt,
+            wanted(&rt, "tcp and 80", 0, 0, buffered),
+            &[Step::Arrive, Step::Read(1)]
+        ),
         Fault::NoListener(1)
     );
     let spec = Spec {
@@ -324,7 +367,10 @@ fn each_fault_comes_where_it_stands(rt: HostRuntime) {
         capacity: 0,
         mode: buffered,
     };
-    assert_eq!(rt; fault_of(&rt, spec, &[]), Fault::Open(0, OpenFault::BadSnap));
+    assert_eq!(rt;
+        fault_of(&rt, spec, &[]),
+        Fault::Open(0, OpenFault::BadSnap)
+    );
 }
 
 #[test]
@@ -335,15 +381,21 @@ fn a_torn_capture_ends_the_playlist(rt: HostRuntime) {
     let steps = [Step::Arrive; 4];
     let specs = [wanted(&rt, "", 64, 1_000, Mode::Buffered)];
     let (whole, torn) = (whole.as_slice(), torn.as_slice());
-    let (reports, fault) =
-        replay(rt.alloc(), &[whole, torn, whole, torn], &specs, &steps).expect(&rt, "a report");
+    let (reports, fault) = replay(rt.alloc(), &[whole, torn, whole, torn], &specs, &steps).expect(
+        &rt, "a report",
+    );
     assert_eq!(rt; fault, Some((1, savefile::Fault::TornRecord(1))));
-    assert_eq!(rt; counts(&reports[0]), (2, 2, 0));
-    assert_eq!(rt; (reports[0].held[0].capture, reports[0].held[0].place), (0, 0));
-    assert_eq!(rt; (reports[0].held[1].capture, reports[0].held[1].place), (1, 0));
+    let report = at(&rt, reports.as_slice(), 0);
+    assert_eq!(rt; counts(report), (2, 2, 0));
+    let (first, second) = (
+        at(&rt, report.held.as_slice(), 0),
+        at(&rt, report.held.as_slice(), 1),
+    );
+    assert_eq!(rt; (first.capture, first.place), (0, 0));
+    assert_eq!(rt; (second.capture, second.place), (1, 0));
     // A header behind the tear counts, and a listener that is refused comes after it.
     let refused = [wanted(&rt, "tcp and 80", 64, 1_000, Mode::Buffered)];
-    match replay(rt.alloc(), &[whole, torn, &whole[..23]], &refused, &steps) {
+    match replay(rt.alloc(), &[whole, torn, &HEADER[..23]], &refused, &steps) {
         Ok(_) => assert!(rt; false, "a header is refused"),
         Err(fault) => {
             assert_eq!(rt; fault, Fault::Capture(2, savefile::Fault::ShortHeader));
@@ -383,7 +435,12 @@ fn as_many_as_may_be(rt: HostRuntime) {
                 assert_eq!(rt; fault, wanted);
             }
         }
-        let one = replay(alloc, texts.as_slice(), specs.as_slice(), [Step::Arrive].as_slice());
+        let one = replay(
+            alloc,
+            texts.as_slice(),
+            specs.as_slice(),
+            [Step::Arrive].as_slice(),
+        );
         assert_eq!(rt; one.is_ok(), taken);
     }
 }
@@ -402,10 +459,7 @@ fn faults_are_told_with_their_places(rt: HostRuntime) {
             "Expression 0 NoQualifier 8",
         ),
         (Fault::Compile(2, Refusal::TooLong), "Compile 2 TooLong"),
-        (
-            Fault::Open(0, OpenFault::BadCapacity),
-            "Open 0 BadCapacity",
-        ),
+        (Fault::Open(0, OpenFault::BadCapacity), "Open 0 BadCapacity"),
         (Fault::NoMemory, "NoMemory"),
     ] {
         let told = format!(in rt.alloc(); "{fault}").expect(&rt, "memory");
