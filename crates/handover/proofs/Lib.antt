@@ -1,0 +1,4 @@
+pub mod Merges
+pub mod Runs
+pub mod Keeps
+pub mod Steps

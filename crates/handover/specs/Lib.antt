@@ -1,0 +1,6 @@
+pub mod History
+pub mod Steps
+pub mod Own
+pub mod Tidy
+pub mod Allowed
+pub mod Rule
