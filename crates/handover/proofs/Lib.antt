@@ -2,3 +2,4 @@ pub mod Merges
 pub mod Runs
 pub mod Keeps
 pub mod Steps
+pub mod Settling

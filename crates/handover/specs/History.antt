@@ -100,12 +100,11 @@ EndedIsLast (got Ended ∷ hs) = (feeds_in hs ≡ []) × EndedIsLast hs
 EndedIsLast (shut ∷ hs) = EndedIsLast hs
 
 -- A legal history of a feeder's calls and a drain's reads: each call of both stands in it once, in their orders, and every
--- answer is right in the run of the plain list from the empty one. `closes` tells whether the drain closed.
-pub record LegalHistory (t : Terms) (fs : List Feed) (ts : List Take) (closes : Bool) (hs : List Happening) : Type 0 where
+-- answer is right in the run of the plain list from the empty one.
+pub record LegalHistory (t : Terms) (fs : List Feed) (ts : List Take) (hs : List Happening) : Type 0 where
   pub feeds : feeds_in hs ≡ fs
   pub takes : takes_in hs ≡ ts
   pub close : CloseIsPlaced hs
-  pub closer : closes ≡ false → finds fs ≡ false
   pub ended : EndedIsLast hs
   pub answers : Legal t empty (events hs)
 
@@ -153,3 +152,10 @@ ended_in [] = false
 ended_in (Full batch ∷ ts) = ended_in ts
 ended_in (Nothing ∷ ts) = ended_in ts
 ended_in (Ended ∷ ts) = true
+
+-- the batches of the reads
+abbrev pub batches_of : List Take → List (List Message)
+batches_of [] = []
+batches_of (Full batch ∷ ts) = batch ∷ batches_of ts
+batches_of (Nothing ∷ ts) = batches_of ts
+batches_of (Ended ∷ ts) = batches_of ts
