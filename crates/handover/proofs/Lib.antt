@@ -3,3 +3,4 @@ pub mod Runs
 pub mod Keeps
 pub mod Steps
 pub mod Settling
+pub mod Owns

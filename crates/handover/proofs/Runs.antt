@@ -183,7 +183,7 @@ busy_state t s FlushClosed o w h q = absurd q
 drop_none : (s : PlainList) → s.held ≡ 0 → stored s ≡ s.pending
 drop_none s e = ap (λ (n : ℕ). drop n s.pending) e
 
-full_list : (ms : List Message) → 0 < room ms → 0 < length ms
+pub full_list : (ms : List Message) → 0 < room ms → 0 < length ms
 full_list [] r = absurd (omega (arith, room_nil))
 full_list (m ∷ ms) r = omega arith
 
