@@ -4,3 +4,4 @@ pub mod Keeps
 pub mod Steps
 pub mod Settling
 pub mod Owns
+pub mod Seated

@@ -10,10 +10,12 @@ use Rattle.handover.specs.declared.calls.Feed.TheVariants.{Arrive, Flush, FlushC
 use Rattle.handover.specs.declared.calls.Take.{Take}
 use Rattle.handover.specs.declared.calls.Take.TheVariants.{Full, Nothing, Ended}
 use Rattle.handover.specs.History.{Happening, fed, got, shut, event_of, events, feeds_in, takes_in, Kind, plain, stores, finds_closed, kind, by_kind, OnlyFeeds, FirstFinds, CloseIsPlaced, turn_of, past_turn, merge_from, merge, batches_of}
-use Rattle.handover.specs.Own.{arrivals, matches, drops}
+use Rattle.handover.specs.Own.{own, arrivals, matches, drops}
 use Rattle.handover.specs.Allowed.{AllFit}
 use Rattle.handover.specs.Rule.{last}
-use Rattle.handover.specs.Laws.{MergesHaveBoth, HistoriesAreSettled}
+use Rattle.handover.specs.Laws.{MergesHaveBoth, HistoriesAreSettled, OwnRunsAreRight}
+use Rattle.handover.proofs.Keeps.{store_is}
+use Rattle.handover.proofs.Owns.{own_legal, feeds_in-own, own_store}
 use Rattle.handover.proofs.Merges.{feeds_in-merge, takes_in-merge}
 
 -- ---- Where the close stands
@@ -116,4 +118,24 @@ histories_are_settled t fs ts fits legal =
       all_received = omega (arith, c.received, a);
       all_matched = omega (arith, c.matched, m);
       all_dropped = omega (arith, c.dropped, d);
+    }
+
+-- ---- The feeder's own run
+
+pub own_runs_are_right : OwnRunsAreRight
+own_runs_are_right t fs ts fits legal =
+    let right = own_legal t fs ts fits legal in
+    let one = counts_run t empty (own fs) right in
+    let other = counts_run t empty (merge fs ts) legal in
+    let same : feeds_in (own fs) ≡ feeds_in (merge fs ts) = feeds_in-own false empty fs ∙ sym (feeds_in-merge false fs ts) in
+    let a : arrivals (feeds_in (own fs)) ≡ arrivals (feeds_in (merge fs ts)) = ap arrivals same in
+    let m : matches (feeds_in (own fs)) ≡ matches (feeds_in (merge fs ts)) = ap matches same in
+    let d : drops (feeds_in (own fs)) ≡ drops (feeds_in (merge fs ts)) = ap drops same in
+    record {
+      legal = right;
+      feeds = feeds_in-own false empty fs;
+      store = own_store t fs right ∙ sym (store_is t fs ts legal);
+      all_received = omega (arith, one.received, other.received, a);
+      all_matched = omega (arith, one.matched, other.matched, m);
+      all_dropped = omega (arith, one.dropped, other.dropped, d);
     }

@@ -19,7 +19,7 @@ use Rattle.handover.specs.declared.view.Profile.{Profile}
 use Rattle.handover.specs.declared.view.View.{View}
 use Rattle.handover.specs.History.{events, merge, EndedIsLast, ended_in, finds, kind, finds_closed}
 use Rattle.handover.specs.Tidy.{Tidy}
-use Rattle.handover.specs.Allowed.{Quiet, Busy, Loud, handed, AllFit}
+use Rattle.handover.specs.Allowed.{Quiet, IsQuiet, Busy, Loud, handed, AllFit}
 use Rattle.handover.specs.Own.{store_of}
 use Rattle.handover.specs.Rule.{Home, IsHeld, bit, terms_of, last, Stands, Facts, Seats, whole, apart, joined, Kept, first, for_feeder, for_drain, joint, spent, fed_by, taken_by, ended_by, saw_end, closed_by, idle, Backed, Owned, Sat, saw_closed, saw_turn, set_turn, set_ended, looked_ended, looked_turn, cleared, set_closed}
 use Rattle.handover.proofs.Keeps.{quiet_keeps, busy_keeps, loud_keeps, late_keeps, idle_keeps, full_keeps}
@@ -163,12 +163,6 @@ drain_allows p slots id me i f then role go s k _ at _ =
     )
 
 -- ---- The feeder's load of `closed`
-
--- no call, or one that the store alone decides
-abbrev pub IsQuiet : Terms → List Feed → List Feed → Type 0
-IsQuiet t fs [] = Unit {0}
-IsQuiet t fs (f ∷ []) = Quiet t (store_of fs) f × AllFit t.capacity (f ∷ [])
-IsQuiet t fs (f ∷ g ∷ gs) = ⊥
 
 -- a load that ends no call
 looks_on : (t : Terms) (full : Bool) (home : Home) (v d w : View) → w.feeds ≡ v.feeds ++ [] → w.ended ≡ v.ended → w.rotating ≡ v.rotating → Facts t full home v d → Facts t full home w d

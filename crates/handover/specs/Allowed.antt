@@ -5,6 +5,7 @@ use Rattle.listener.specs.declared.mode.Mode.TheVariants.{Buffered, Immediate}
 use Rattle.listener.specs.declared.message.Message.{Message}
 use Rattle.listener.specs.Messages.{size_of, room}
 use Rattle.listener.specs.PlainList.{Terms}
+use Rattle.handover.specs.Own.{store_of}
 use Rattle.handover.specs.declared.calls.Feed.{Feed}
 use Rattle.handover.specs.declared.calls.Feed.TheVariants.{Arrive, Flush, FlushClosed}
 
@@ -39,3 +40,9 @@ abbrev pub AllFit : ℕ → List Feed → Type 0
 AllFit capacity [] = Unit {0}
 AllFit capacity (Arrive (Some m) answer ∷ fs) = (size_of m ≤ capacity) × AllFit capacity fs
 AllFit capacity (f ∷ fs) = AllFit capacity fs
+
+-- no call, or one that the store alone decides
+abbrev pub IsQuiet : Terms → List Feed → List Feed → Type 0
+IsQuiet t fs [] = Unit {0}
+IsQuiet t fs (f ∷ []) = Quiet t (store_of fs) f × AllFit t.capacity (f ∷ [])
+IsQuiet t fs (f ∷ g ∷ gs) = ⊥

@@ -1,5 +1,5 @@
 -- The steps of each call, in order, each with its number.
-use Rattle.std.specs.Prelude.{◌≡◌, ℕ, ◌≤◌, true, false, List, [], ◌∷◌, ◌++◌}
+use Rattle.std.specs.Prelude.{◌≡◌, ℕ, ◌≤◌, Bool, true, false, List, [], ◌∷◌, ◌++◌}
 use Rattle.listener.specs.declared.answer.Fed.{Fed}
 use Rattle.listener.specs.declared.answer.Fed.TheVariants.{Passed, Stored, Held, Rotated, Dropped, Closed}
 use Rattle.listener.specs.declared.mode.Mode.{Mode}
@@ -41,13 +41,23 @@ arrive_steps mode Rotated = gave
 arrive_steps mode Dropped = found_full
 arrive_steps mode Closed = found_closed
 
+-- of a flush that leaves this store as it was
+abbrev pub kept_steps : List Message → List Step
+kept_steps [] = open_alone
+kept_steps (m ∷ ms) = found_full
+
 -- of a flush, by the store that it found
 abbrev pub flush_steps : List Message → Feed → List Step
 flush_steps store (Flush true) = gave
-flush_steps [] (Flush false) = open_alone
-flush_steps (m ∷ ms) (Flush false) = found_full
+flush_steps store (Flush false) = kept_steps store
 flush_steps store FlushClosed = found_closed
 flush_steps store (Arrive m fed) = []
+
+-- what a flush answered
+abbrev pub FlushAnswers : Bool → Feed → Type 0
+FlushAnswers full (Flush made) = full ≡ made
+FlushAnswers full FlushClosed = full ≡ false
+FlushAnswers full (Arrive m fed) = ⊥
 
 -- of a read that found so much in `ended`, which is loaded first
 abbrev pub read_steps : ℕ → Take → List Step
