@@ -1,0 +1,7 @@
+pub mod Merges
+pub mod Runs
+pub mod Keeps
+pub mod Steps
+pub mod Settling
+pub mod Owns
+pub mod Seated

@@ -1,0 +1,141 @@
+-- What a merged list that is legal tells: where the close stands, what is kept, and the counts.
+use Rattle.std.proofs.Common.{◌≡◌, ◌+◌, Bool, true, false, true≢false, List, [], ◌∷◌, ◌++◌, map, Some, None, refl, sym, ap, ◌∙◌, subst, arith}
+use Rattle.listener.specs.declared.answer.Fed.TheVariants.{Passed, Stored, Held, Rotated, Dropped, Closed}
+use Rattle.listener.specs.declared.message.Message.{Message}
+use Rattle.listener.specs.PlainList.{Terms, PlainList, empty, Fair, Legal, next, run, requests, batches}
+use Rattle.listener.specs.Laws.{AllFitIn, joined}
+use Rattle.listener.proofs.KeptRuns.{runs_are_kept}
+use Rattle.handover.specs.declared.calls.Feed.{Feed}
+use Rattle.handover.specs.declared.calls.Feed.TheVariants.{Arrive, Flush, FlushClosed}
+use Rattle.handover.specs.declared.calls.Take.{Take}
+use Rattle.handover.specs.declared.calls.Take.TheVariants.{Full, Nothing, Ended}
+use Rattle.handover.specs.History.{Happening, fed, got, shut, event_of, events, feeds_in, takes_in, Kind, plain, stores, finds_closed, kind, by_kind, OnlyFeeds, FirstFinds, CloseIsPlaced, turn_of, past_turn, merge_from, merge, batches_of}
+use Rattle.handover.specs.Own.{own, arrivals, matches, drops}
+use Rattle.handover.specs.Allowed.{AllFit}
+use Rattle.handover.specs.Rule.{last}
+use Rattle.handover.specs.Laws.{MergesHaveBoth, HistoriesAreSettled, OwnRunsAreRight}
+use Rattle.handover.proofs.Keeps.{store_is}
+use Rattle.handover.proofs.Owns.{own_legal, feeds_in-own, own_store}
+use Rattle.handover.proofs.Merges.{feeds_in-merge, takes_in-merge}
+
+-- ---- Where the close stands
+
+close_reads : (ts : List Take) → CloseIsPlaced (map got ts)
+close_reads [] = tt
+close_reads (t ∷ ts) = close_reads ts
+
+close_got : (ts : List Take) (hs : List Happening) → CloseIsPlaced hs → CloseIsPlaced (map got ts ++ hs)
+close_got [] hs c = c
+close_got (t ∷ ts) hs c = close_got ts hs c
+
+only_feeds : (fs : List Feed) → OnlyFeeds (map fed fs)
+only_feeds [] = tt
+only_feeds (f ∷ fs) = only_feeds fs
+
+pub close_placed : (after : Bool) (fs : List Feed) (ts : List Take) → CloseIsPlaced (merge_from after fs ts)
+close_placed after [] ts = close_reads ts
+close_placed after (g ∷ fs) ts = elim (kind g) as (λ b. kind g ≡ b →
+    CloseIsPlaced (by_kind b (fed g ∷ merge_from after fs ts) (map got (turn_of after ts) ++ fed g ∷ merge_from true fs (past_turn after ts)) (map got ts ++ shut ∷ fed g ∷ map fed fs))) [
+      plain ↦ λ e. ((λ is. let no : plain ≡ finds_closed = sym e ∙ is in cc), close_placed after fs ts)
+      | stores ↦ λ e. close_got (turn_of after ts) (fed g ∷ merge_from true fs (past_turn after ts)) ((λ is. let no : stores ≡ finds_closed = sym e ∙ is in cc), close_placed true fs (past_turn after ts))
+      | finds_closed ↦ λ e. close_got ts (shut ∷ fed g ∷ map fed fs) (e, only_feeds fs)
+    ] refl
+
+pub merges_have_both : MergesHaveBoth
+merges_have_both fs ts = record { feeds = feeds_in-merge false fs ts; takes = takes_in-merge false fs ts; close = close_placed false fs ts }
+
+-- ---- The counts
+
+pub record CountsOn (s u : PlainList) (fs gs : List Feed) : Type 0 where
+  pub received : s.received + arrivals fs ≡ u.received + arrivals gs
+  pub matched : s.matched + matches fs ≡ u.matched + matches gs
+  pub dropped : s.dropped + drops fs ≡ u.dropped + drops gs
+
+counts_next : (t : Terms) (s : PlainList) (h : Happening) (hs : List Happening) → Fair t s (event_of h)
+    → CountsOn (next s (event_of h)) s (feeds_in hs) (feeds_in (h ∷ hs))
+counts_next t s (fed (Arrive None Passed)) hs fair = record { received = omega arith; matched = omega arith; dropped = omega arith }
+counts_next t s (fed (Arrive None Stored)) hs fair = absurd fair
+counts_next t s (fed (Arrive None Held)) hs fair = absurd fair
+counts_next t s (fed (Arrive None Rotated)) hs fair = absurd fair
+counts_next t s (fed (Arrive None Dropped)) hs fair = absurd fair
+counts_next t s (fed (Arrive None Closed)) hs fair = record { received = omega arith; matched = omega arith; dropped = omega arith }
+counts_next t s (fed (Arrive (Some m) Passed)) hs fair = absurd fair
+counts_next t s (fed (Arrive (Some m) Stored)) hs fair = record { received = omega arith; matched = omega arith; dropped = omega arith }
+counts_next t s (fed (Arrive (Some m) Held)) hs fair = record { received = omega arith; matched = omega arith; dropped = omega arith }
+counts_next t s (fed (Arrive (Some m) Rotated)) hs fair = record { received = omega arith; matched = omega arith; dropped = omega arith }
+counts_next t s (fed (Arrive (Some m) Dropped)) hs fair = record { received = omega arith; matched = omega arith; dropped = omega arith }
+counts_next t s (fed (Arrive (Some m) Closed)) hs fair = record { received = omega arith; matched = omega arith; dropped = omega arith }
+counts_next t s (fed (Flush true)) hs fair = record { received = refl; matched = refl; dropped = refl }
+counts_next t s (fed (Flush false)) hs fair = record { received = refl; matched = refl; dropped = refl }
+counts_next t s (fed FlushClosed) hs fair = record { received = refl; matched = refl; dropped = refl }
+counts_next t s (got (Full b)) hs fair = record { received = refl; matched = refl; dropped = refl }
+counts_next t s (got Nothing) hs fair = record { received = refl; matched = refl; dropped = refl }
+counts_next t s (got Ended) hs fair = record { received = refl; matched = refl; dropped = refl }
+counts_next t s shut hs fair = record { received = refl; matched = refl; dropped = refl }
+
+counts_run : (t : Terms) (s : PlainList) (hs : List Happening) → Legal t s (events hs) → CountsOn (run s (events hs)) s [] (feeds_in hs)
+counts_run t s [] legal = record { received = refl; matched = refl; dropped = refl }
+counts_run t s (h ∷ hs) legal =
+    let r = counts_run t (next s (event_of h)) hs legal.1 in
+    let n = counts_next t s h hs legal.0 in
+    record { received = r.received ∙ n.received; matched = r.matched ∙ n.matched; dropped = r.dropped ∙ n.dropped }
+
+-- ---- What is kept
+
+all_fit : (t : Terms) (hs : List Happening) → AllFit t.capacity (feeds_in hs) → AllFitIn t.capacity (requests (events hs))
+all_fit t [] fits = tt
+all_fit t (fed (Arrive (Some m) answer) ∷ hs) fits = (fits.0, all_fit t hs fits.1)
+all_fit t (fed (Arrive None answer) ∷ hs) fits = (tt, all_fit t hs fits)
+all_fit t (fed (Flush full) ∷ hs) fits = (tt, all_fit t hs fits)
+all_fit t (fed FlushClosed ∷ hs) fits = (tt, all_fit t hs fits)
+all_fit t (got (Full b) ∷ hs) fits = (tt, all_fit t hs fits)
+all_fit t (got Nothing ∷ hs) fits = (tt, all_fit t hs fits)
+all_fit t (got Ended ∷ hs) fits = (tt, all_fit t hs fits)
+all_fit t (shut ∷ hs) fits = (tt, all_fit t hs fits)
+
+batches_are : (hs : List Happening) → batches (events hs) ≡ batches_of (takes_in hs)
+batches_are [] = refl
+batches_are (fed (Arrive m answer) ∷ hs) = batches_are hs
+batches_are (fed (Flush full) ∷ hs) = batches_are hs
+batches_are (fed FlushClosed ∷ hs) = batches_are hs
+batches_are (got (Full b) ∷ hs) = ap (λ (l : List (List Message)). b ∷ l) (batches_are hs)
+batches_are (got Nothing ∷ hs) = batches_are hs
+batches_are (got Ended ∷ hs) = batches_are hs
+batches_are (shut ∷ hs) = batches_are hs
+
+pub histories_are_settled : HistoriesAreSettled
+histories_are_settled t fs ts fits legal =
+    let hs : List Happening = merge fs ts in
+    let fed_is : feeds_in hs ≡ fs = feeds_in-merge false fs ts in
+    let k = runs_are_kept t (events hs) (all_fit t hs (subst (AllFit t.capacity) (sym fed_is) fits)) legal in
+    let c = counts_run t empty hs legal in
+    let bs : batches (events hs) ≡ batches_of ts = batches_are hs ∙ ap batches_of (takes_in-merge false fs ts) in
+    let a : arrivals (feeds_in hs) ≡ arrivals fs = ap arrivals fed_is in
+    let m : matches (feeds_in hs) ≡ matches fs = ap matches fed_is in
+    let d : drops (feeds_in hs) ≡ drops fs = ap drops fed_is in
+    record {
+      whole = ap (λ (b : List (List Message)). joined b ++ (last fs ts).pending) (sym bs) ∙ k.whole;
+      all_received = omega (arith, c.received, a);
+      all_matched = omega (arith, c.matched, m);
+      all_dropped = omega (arith, c.dropped, d);
+    }
+
+-- ---- The feeder's own run
+
+pub own_runs_are_right : OwnRunsAreRight
+own_runs_are_right t fs ts fits legal =
+    let right = own_legal t fs ts fits legal in
+    let one = counts_run t empty (own fs) right in
+    let other = counts_run t empty (merge fs ts) legal in
+    let same : feeds_in (own fs) ≡ feeds_in (merge fs ts) = feeds_in-own false empty fs ∙ sym (feeds_in-merge false fs ts) in
+    let a : arrivals (feeds_in (own fs)) ≡ arrivals (feeds_in (merge fs ts)) = ap arrivals same in
+    let m : matches (feeds_in (own fs)) ≡ matches (feeds_in (merge fs ts)) = ap matches same in
+    let d : drops (feeds_in (own fs)) ≡ drops (feeds_in (merge fs ts)) = ap drops same in
+    record {
+      legal = right;
+      feeds = feeds_in-own false empty fs;
+      store = own_store t fs right ∙ sym (store_is t fs ts legal);
+      all_received = omega (arith, one.received, other.received, a);
+      all_matched = omega (arith, one.matched, other.matched, m);
+      all_dropped = omega (arith, one.dropped, other.dropped, d);
+    }

@@ -1,0 +1,593 @@
+-- Each step keeps the rule.
+use Rattle.std.proofs.Common.{◌≡◌, ◌≢◌, ℕ, zero, suc, ◌<◌, Bool, true, false, true≢false, List, [], ◌∷◌, ◌++◌, length, set, Option, Some, None, refl, sym, ap, ◌∙◌, subst, arith, append-nil}
+use Rattle.std.specs.Prelude.{slice_index}
+use mathlib.Core.Option.{some, none, some-injective, some-ne-none}
+use lib.ListN.{get_elem?}
+use Rattle.atomic_table.specs.Table.{Act, keeps, takes, gives, Valid, homes_after, carried_after, Allows, Splits, Joins, rest, put_back}
+use Rattle.listener.specs.declared.message.Message.{Message}
+use Rattle.listener.specs.Buffers.{Filled, filled}
+use Rattle.listener.specs.PlainList.{Terms, terms, empty, Legal}
+use Rattle.listener.specs.Laws.{hold_of}
+use Rattle.handover.specs.declared.calls.Feed.{Feed}
+use Rattle.handover.specs.declared.calls.Take.{Take}
+use Rattle.handover.specs.declared.calls.Take.TheVariants.{Full, Nothing, Ended}
+use Rattle.handover.specs.declared.calls.Word.TheVariants as word
+use Rattle.handover.specs.declared.calls.Step.{Step}
+use Rattle.handover.specs.declared.calls.Step.TheVariants.{Load, Store}
+use Rattle.handover.specs.declared.view.Role.TheVariants.{Whole, Feeds, Drains}
+use Rattle.handover.specs.declared.view.Profile.{Profile}
+use Rattle.handover.specs.declared.view.View.{View}
+use Rattle.handover.specs.History.{events, merge, EndedIsLast, ended_in, finds, kind, finds_closed}
+use Rattle.handover.specs.Tidy.{Tidy}
+use Rattle.handover.specs.Allowed.{Quiet, IsQuiet, Busy, Loud, handed, AllFit}
+use Rattle.handover.specs.Own.{store_of}
+use Rattle.handover.specs.Rule.{Home, IsHeld, bit, terms_of, last, Stands, Facts, Seats, whole, apart, joined, Kept, first, for_feeder, for_drain, joint, spent, fed_by, taken_by, ended_by, saw_end, closed_by, idle, Backed, Owned, Sat, saw_closed, saw_turn, set_turn, set_ended, looked_ended, looked_turn, cleared, set_closed}
+use Rattle.handover.proofs.Keeps.{quiet_keeps, busy_keeps, loud_keeps, late_keeps, idle_keeps, full_keeps}
+
+-- ---- The feeder's seat
+
+abbrev words_of : Bool → View → View → List ℕ
+words_of full f d = bit full ∷ bit d.closed ∷ bit f.ended ∷ []
+
+-- what a step of the feeder owes, where its view and the drain's are known
+pub record FeedStep (me : Sat) (i : ℕ) (f : ℕ → ℕ) (then : ℕ → Sat → Type 0) (full : Bool) (home : Home) (d : View) : Type 0 where
+  pub view : View
+  pub act : Act Filled
+  pub full_after : Bool
+  pub home_after : Home
+  pub valid : Valid (home ∷ []) me.1 act
+  pub role : view.role ≡ Feeds
+  pub profile : view.profile ≡ me.0.profile
+  pub words : set (words_of full me.0 d) i (f (slice_index (words_of full me.0 d) i)) ≡ words_of full_after view d
+  pub homes : homes_after (home ∷ []) me.1 act ≡ home_after ∷ []
+  pub facts : Facts (terms_of me.0.profile) full_after home_after view d
+  pub told : then (slice_index (words_of full me.0 d) i) (view, carried_after me.1 act)
+
+-- the feeder's seat is the first
+feeder_at : (f d v : View) (vs : List View) (id : ℕ) → Seats f d vs → get_elem? vs id ≡ some v → v.role ≡ Feeds → (vs ≡ f ∷ d ∷ []) × (id ≡ 0) × (f ≡ v) × (d.role ≡ Drains)
+feeder_at f d v vs id (whole p q) at r = absurd (one id at)
+  where
+    one : (id : ℕ) → get_elem? (f ∷ []) id ≡ some v → ⊥
+    one zero e = let s : f.role ≡ v.role = ap (λ (o : View). o.role) (some-injective f v e) in let q' : f.role ≡ Whole = q in cc
+    one (suc k) e = some-ne-none v (sym e)
+feeder_at f d v vs id (apart p q) at r = two id at
+  where
+    two : (id : ℕ) → get_elem? (f ∷ d ∷ []) id ≡ some v → (f ∷ d ∷ [] ≡ f ∷ d ∷ []) × (id ≡ 0) × (f ≡ v) × (d.role ≡ Drains)
+    two zero e = (refl, refl, some-injective f v e, q)
+    two (suc zero) e = let s : d.role ≡ v.role = ap (λ (o : View). o.role) (some-injective d v e) in absurd (cc)
+    two (suc (suc k)) e = absurd (some-ne-none v (sym e))
+feeder_at f d v vs id (joined o p q s) at r = absurd (two id at)
+  where
+    two : (id : ℕ) → get_elem? (f ∷ o ∷ []) id ≡ some v → ⊥
+    two zero e = let t : f.role ≡ v.role = ap (λ (u : View). u.role) (some-injective f v e) in cc
+    two (suc zero) e = let t : o.role ≡ v.role = ap (λ (u : View). u.role) (some-injective o v e) in cc
+    two (suc (suc k)) e = some-ne-none v (sym e)
+
+pub feeder_allows : (p : Profile) (slots id : ℕ) (me : Sat) (i : ℕ) (f : ℕ → ℕ) (then : ℕ → Sat → Type 0) → me.0.role ≡ Feeds
+    → ((full : Bool) (home : Home) (d : View) → Facts (terms_of me.0.profile) full home me.0 d → FeedStep me i f then full home d)
+    → Allows (Kept p) slots id me i f (λ r n. then r n × Owned n.0)
+feeder_allows p slots id me i f then role go s k _ at _ =
+    let a = feeder_at k.feeder k.drain me.0 s.views id k.seats at role in
+    let same : k.feeder.profile ≡ me.0.profile = ap (λ (v : View). v.profile) a.2 in
+    let facts : Facts (terms_of me.0.profile) k.full k.home me.0 k.drain =
+    subst (λ (v : View). Facts (terms_of v.profile) k.full k.home v k.drain) a.2
+    (subst (λ (x : Profile). Facts (terms_of x) k.full k.home k.feeder k.drain) (sym k.feeder_profile) k.facts) in
+    let words : s.words ≡ words_of k.full me.0 k.drain = k.words ∙ ap (λ (v : View). words_of k.full v k.drain) a.2 in
+    let g = go k.full k.home k.drain facts in
+    let is : me.0.profile ≡ p = sym same ∙ k.feeder_profile in (
+      g.view,
+      g.act,
+      subst (λ (hs : List Home). Valid hs me.1 g.act) (sym k.homes) g.valid,
+      record {
+        full = g.full_after;
+        home = g.home_after;
+        feeder = g.view;
+        drain = k.drain;
+        words = ap (λ (ws : List ℕ). set ws i (f (slice_index ws i))) words ∙ g.words;
+        homes = ap (λ (hs : List Home). homes_after hs me.1 g.act) k.homes ∙ g.homes;
+        seats = subst (Seats g.view k.drain) (λ j. set (sym a.0 j) (sym a.1 j) g.view) (apart g.role a.3);
+        feeder_profile = g.profile ∙ is;
+        drain_profile = k.drain_profile;
+        facts = subst (λ (x : Profile). Facts (terms_of x) g.full_after g.home_after g.view k.drain) is g.facts;
+      },
+      (
+        subst (λ (ws : List ℕ). then (slice_index ws i) (g.view, carried_after me.1 g.act)) (sym words) g.told,
+        subst (λ (x : Profile). Backed (terms_of x) g.view.feeds) (sym g.profile) (record { fits = g.facts.fits; takes = k.drain.takes; legal = g.facts.legal }),
+      ),
+    )
+
+-- ---- The drain's seat
+
+-- the drain's seat is the second
+drain_at : (f d v : View) (vs : List View) (id : ℕ) → Seats f d vs → get_elem? vs id ≡ some v → v.role ≡ Drains → (vs ≡ f ∷ d ∷ []) × (id ≡ 1) × (d ≡ v) × (f.role ≡ Feeds)
+drain_at f d v vs id (whole p q) at r = absurd (one id at)
+  where
+    one : (id : ℕ) → get_elem? (f ∷ []) id ≡ some v → ⊥
+    one zero e = let s : f.role ≡ v.role = ap (λ (o : View). o.role) (some-injective f v e) in let q' : f.role ≡ Whole = q in cc
+    one (suc k) e = some-ne-none v (sym e)
+drain_at f d v vs id (apart p q) at r = two id at
+  where
+    two : (id : ℕ) → get_elem? (f ∷ d ∷ []) id ≡ some v → (f ∷ d ∷ [] ≡ f ∷ d ∷ []) × (id ≡ 1) × (d ≡ v) × (f.role ≡ Feeds)
+    two zero e = let s : f.role ≡ v.role = ap (λ (o : View). o.role) (some-injective f v e) in absurd (cc)
+    two (suc zero) e = (refl, refl, some-injective d v e, p)
+    two (suc (suc k)) e = absurd (some-ne-none v (sym e))
+drain_at f d v vs id (joined o p q s) at r = absurd (two id at)
+  where
+    two : (id : ℕ) → get_elem? (f ∷ o ∷ []) id ≡ some v → ⊥
+    two zero e = let t : f.role ≡ v.role = ap (λ (u : View). u.role) (some-injective f v e) in cc
+    two (suc zero) e = let t : o.role ≡ v.role = ap (λ (u : View). u.role) (some-injective o v e) in cc
+    two (suc (suc k)) e = some-ne-none v (sym e)
+
+-- what a step of the drain owes, where its view and the feeder's are known
+pub record DrainStep (me : Sat) (i : ℕ) (f : ℕ → ℕ) (then : ℕ → Sat → Type 0) (full : Bool) (home : Home) (v : View) : Type 0 where
+  pub view : View
+  pub act : Act Filled
+  pub full_after : Bool
+  pub home_after : Home
+  pub valid : Valid (home ∷ []) me.1 act
+  pub role : view.role ≡ Drains
+  pub profile : view.profile ≡ me.0.profile
+  pub words : set (words_of full v me.0) i (f (slice_index (words_of full v me.0) i)) ≡ words_of full_after v view
+  pub homes : homes_after (home ∷ []) me.1 act ≡ home_after ∷ []
+  pub facts : Facts (terms_of me.0.profile) full_after home_after v view
+  pub told : then (slice_index (words_of full v me.0) i) (view, carried_after me.1 act)
+
+pub drain_allows : (p : Profile) (slots id : ℕ) (me : Sat) (i : ℕ) (f : ℕ → ℕ) (then : ℕ → Sat → Type 0) → me.0.role ≡ Drains
+    → ((full : Bool) (home : Home) (v : View) → Facts (terms_of me.0.profile) full home v me.0 → DrainStep me i f then full home v)
+    → Allows (Kept p) slots id me i f then
+drain_allows p slots id me i f then role go s k _ at _ =
+    let a = drain_at k.feeder k.drain me.0 s.views id k.seats at role in
+    let same : k.drain.profile ≡ me.0.profile = ap (λ (v : View). v.profile) a.2 in
+    let facts : Facts (terms_of me.0.profile) k.full k.home k.feeder me.0 =
+    subst (λ (v : View). Facts (terms_of v.profile) k.full k.home k.feeder v) a.2
+    (subst (λ (x : Profile). Facts (terms_of x) k.full k.home k.feeder k.drain) (sym k.drain_profile) k.facts) in
+    let words : s.words ≡ words_of k.full k.feeder me.0 = k.words ∙ ap (λ (v : View). words_of k.full k.feeder v) a.2 in
+    let g = go k.full k.home k.feeder facts in
+    let is : me.0.profile ≡ p = sym same ∙ k.drain_profile in (
+      g.view,
+      g.act,
+      subst (λ (hs : List Home). Valid hs me.1 g.act) (sym k.homes) g.valid,
+      record {
+        full = g.full_after;
+        home = g.home_after;
+        feeder = k.feeder;
+        drain = g.view;
+        words = ap (λ (ws : List ℕ). set ws i (f (slice_index ws i))) words ∙ g.words;
+        homes = ap (λ (hs : List Home). homes_after hs me.1 g.act) k.homes ∙ g.homes;
+        seats = subst (Seats k.feeder g.view) (λ j. set (sym a.0 j) (sym a.1 j) g.view) (apart a.3 g.role);
+        feeder_profile = k.feeder_profile;
+        drain_profile = g.profile ∙ is;
+        facts = subst (λ (x : Profile). Facts (terms_of x) g.full_after g.home_after k.feeder g.view) is g.facts;
+      },
+      subst (λ (ws : List ℕ). then (slice_index ws i) (g.view, carried_after me.1 g.act)) (sym words) g.told,
+    )
+
+-- ---- The feeder's load of `closed`
+
+-- a load that ends no call
+looks_on : (t : Terms) (full : Bool) (home : Home) (v d w : View) → w.feeds ≡ v.feeds ++ [] → w.ended ≡ v.ended → w.rotating ≡ v.rotating → Facts t full home v d → Facts t full home w d
+looks_on t full home v d w same going turning k =
+    let fs : w.feeds ≡ v.feeds = same ∙ append-nil v.feeds in record {
+      fits = subst (AllFit t.capacity) (sym fs) k.fits;
+      legal = subst (λ (l : List Feed). Legal t empty (events (merge l d.takes))) (sym fs) k.legal;
+      is_open = subst (λ (l : List Feed). (last l d.takes).closed ≡ finds l) (sym fs) k.is_open;
+      closer = subst (λ (l : List Feed). d.closed ≡ false → finds l ≡ false) (sym fs) k.closer;
+      held = subst (λ (l : List Feed). IsHeld full (last l d.takes).held) (sym fs) k.held;
+      tidy = subst (λ (l : List Feed). Tidy false l d.takes full) (sym fs) k.tidy;
+      late = subst (λ (l : List Feed). EndedIsLast (merge l d.takes)) (sym fs) k.late;
+      ender = subst (λ (b : Bool). b ≡ false → ended_in d.takes ≡ false) (sym going) k.ender;
+      unclosed = subst (λ (l : List Feed). ended_in d.takes ≡ true → finds l ≡ false) (sym fs) k.unclosed;
+      seen = subst (λ (b : Bool). d.sees_end ≡ true → b ≡ true) (sym going) k.seen;
+      place = subst (λ (l : List Feed). Stands t.capacity full w.rotating d.taking home (hold_of (last l d.takes))) (sym fs)
+        (subst (λ (b : Bool). Stands t.capacity full b d.taking home (hold_of (last v.feeds d.takes))) (sym turning) k.place);
+    }
+
+quiet_list : (t : Terms) (full : Bool) (home : Home) (v d : View) (gs : List Feed) (e : Step) → v.rotating ≡ false → v.ended ≡ false → finds v.feeds ≡ false
+    → IsQuiet t v.feeds gs → Facts t full home v d → Facts t full home (fed_by v gs e false) d
+quiet_list t full home v d [] e calm going yet q k = looks_on t full home v d (fed_by v [] e false) refl refl (sym calm) k
+quiet_list t full home v d (f ∷ []) e calm going yet q k = quiet_keeps t full home v d f e calm going yet q.1 q.0 k
+quiet_list t full home v d (f ∷ g ∷ gs) e calm going yet q k = absurd q
+
+closed_step : (me : Sat) (gs : List Feed) (f : Feed) → me.0.role ≡ Feeds → me.0.rotating ≡ false → me.0.ended ≡ false → IsQuiet (terms_of me.0.profile) me.0.feeds gs
+    → kind f ≡ finds_closed → AllFit me.0.profile.capacity (f ∷ [])
+    → (full : Bool) (home : Home) (d : View) (b : Bool) → d.closed ≡ b → Facts (terms_of me.0.profile) full home me.0 d → FeedStep me 1 (λ n. n) (saw_closed gs f me) full home d
+closed_step me gs f role calm going q is fit full home d false at k = record {
+  view = fed_by me.0 gs (Load word.Closed 0) false;
+  act = keeps;
+  full_after = full;
+  home_after = home;
+  valid = tt;
+  role = role;
+  profile = refl;
+  words = refl;
+  homes = refl;
+  facts = quiet_list (terms_of me.0.profile) full home me.0 d gs (Load word.Closed 0) calm going (k.closer at) q k;
+  told = ((λ _. (refl, k.closer at)), (λ ne. absurd (ne (ap bit at))));
+}
+closed_step me gs f role calm going q is fit full home d true at k = record {
+  view = fed_by me.0 (f ∷ []) (Load word.Closed 1) false;
+  act = keeps;
+  full_after = full;
+  home_after = home;
+  valid = tt;
+  role = role;
+  profile = refl;
+  words = refl;
+  homes = refl;
+  facts = late_keeps (terms_of me.0.profile) full home me.0 d f (Load word.Closed 1) calm going at is fit k;
+  told = ((λ z. let o : bit true ≡ 0 = ap bit (sym at) ∙ z in absurd (omega (arith, o))), (λ _. (ap bit at, refl)));
+}
+
+pub sees_closed : (p : Profile) (slots id : ℕ) (me : Sat) (gs : List Feed) (f : Feed) → me.0.role ≡ Feeds → me.0.rotating ≡ false → me.0.ended ≡ false
+    → IsQuiet (terms_of me.0.profile) me.0.feeds gs → kind f ≡ finds_closed → AllFit me.0.profile.capacity (f ∷ [])
+    → Allows (Kept p) slots id me 1 (λ n. n) (λ r n. saw_closed gs f me r n × Owned n.0)
+sees_closed p slots id me gs f role calm going q is fit = feeder_allows p slots id me 1 (λ n. n) (saw_closed gs f me) role
+    (λ full home d k. closed_step me gs f role calm going q is fit full home d d.closed refl k)
+
+-- ---- The feeder's load of `turn`
+
+turn_step : (me : Sat) (f : Feed) → me.0.role ≡ Feeds → me.0.rotating ≡ false → me.0.ended ≡ false → finds me.0.feeds ≡ false → Busy (terms_of me.0.profile) (store_of me.0.feeds) f
+    → AllFit me.0.profile.capacity (f ∷ [])
+    → (full : Bool) (home : Home) (d : View) (x : Option (List Message)) → d.taking ≡ x → Facts (terms_of me.0.profile) full home me.0 d → FeedStep me 0 (λ n. n) (saw_turn f me) full home d
+turn_step me f role calm going yet q fit true home d x at k = record {
+  view = fed_by me.0 (f ∷ []) (Load word.Turn 1) false;
+  act = keeps;
+  full_after = true;
+  home_after = home;
+  valid = tt;
+  role = role;
+  profile = refl;
+  words = refl;
+  homes = refl;
+  facts = busy_keeps (terms_of me.0.profile) home me.0 d f (Load word.Turn 1) calm going yet fit q k;
+  told = ((λ e. absurd (omega arith)), (λ _. (refl, refl)));
+}
+turn_step me f role calm going yet q fit false home d None at k =
+    let t : Terms = terms_of me.0.profile in
+    let place : home ≡ some (filled t.capacity []) =
+    subst (λ (x : Option (List Message)). Stands t.capacity false false x home (hold_of (last me.0.feeds d.takes))) at
+    (subst (λ (b : Bool). Stands t.capacity false b d.taking home (hold_of (last me.0.feeds d.takes))) calm k.place) in
+    let out : Facts t false home (fed_by me.0 [] (Load word.Turn 0) false) d = looks_on t false home me.0 d (fed_by me.0 [] (Load word.Turn 0) false) refl refl (sym calm) k in record {
+      view = fed_by me.0 [] (Load word.Turn 0) true;
+      act = takes 0 (filled t.capacity []);
+      full_after = false;
+      home_after = none;
+      valid = ap some place;
+      role = role;
+      profile = refl;
+      words = refl;
+      homes = refl;
+      facts = record {
+        fits = out.fits;
+        legal = out.legal;
+        is_open = out.is_open;
+        closer = out.closer;
+        held = out.held;
+        tidy = out.tidy;
+        late = out.late;
+        ender = out.ender;
+        unclosed = out.unclosed;
+        seen = out.seen;
+        place = subst (λ (x : Option (List Message)). Stands t.capacity false true x none (hold_of (last (me.0.feeds ++ []) d.takes))) (sym at) refl;
+      };
+      told = ((λ _. refl), (λ ne. absurd (ne refl)));
+    }
+turn_step me f role calm going yet q fit false home d (Some batch) at k =
+    let t : Terms = terms_of me.0.profile in
+    absurd (subst (λ (x : Option (List Message)). Stands t.capacity false false x home (hold_of (last me.0.feeds d.takes))) at
+    (subst (λ (b : Bool). Stands t.capacity false b d.taking home (hold_of (last me.0.feeds d.takes))) calm k.place))
+
+pub sees_turn : (p : Profile) (slots id : ℕ) (me : Sat) (f : Feed) → me.0.role ≡ Feeds → me.0.rotating ≡ false → me.0.ended ≡ false → finds me.0.feeds ≡ false
+    → Busy (terms_of me.0.profile) (store_of me.0.feeds) f → AllFit me.0.profile.capacity (f ∷ [])
+    → Allows (Kept p) slots id me 0 (λ n. n) (λ r n. saw_turn f me r n × Owned n.0)
+sees_turn p slots id me f role calm going yet q fit = feeder_allows p slots id me 0 (λ n. n) (saw_turn f me) role
+    (λ full home d k. turn_step me f role calm going yet q fit full home d d.taking refl k)
+
+-- ---- The feeder's stores
+
+set_step : (me : Sat) (f : Feed) → me.0.role ≡ Feeds → me.0.rotating ≡ true → me.0.ended ≡ false → finds me.0.feeds ≡ false → Loud (terms_of me.0.profile) (store_of me.0.feeds) f
+    → AllFit me.0.profile.capacity (f ∷ []) → me.1 ≡ (0, filled me.0.profile.capacity (handed (store_of me.0.feeds) f)) ∷ []
+    → (full : Bool) (home : Home) (d : View) (x : Option (List Message)) → d.taking ≡ x → Facts (terms_of me.0.profile) full home me.0 d → FeedStep me 0 (λ _. 1) (λ _. set_turn f me 1) full home d
+set_step me f role busy going yet q fit carries true home d x at k =
+    absurd (subst (λ (b : Bool). Stands me.0.profile.capacity true b d.taking home (hold_of (last me.0.feeds d.takes))) busy k.place)
+set_step me f role busy going yet q fit carries false home d (Some batch) at k =
+    absurd (subst (λ (x : Option (List Message)). Stands me.0.profile.capacity false me.0.rotating x home (hold_of (last me.0.feeds d.takes))) at k.place)
+set_step me f role busy going yet q fit carries false home d None at k = record {
+  view = fed_by me.0 (f ∷ []) (Store word.Turn 1) false;
+  act = gives;
+  full_after = true;
+  home_after = some (filled me.0.profile.capacity (handed (store_of me.0.feeds) f));
+  valid = tt;
+  role = role;
+  profile = refl;
+  words = refl;
+  homes = ap (λ (c : List (ℕ × Filled)). put_back (home ∷ []) c) carries;
+  facts = loud_keeps (terms_of me.0.profile) home me.0 d f (Store word.Turn 1) going yet at fit q k;
+  told = refl;
+}
+
+pub sets_turn : (p : Profile) (slots id : ℕ) (me : Sat) (f : Feed) → me.0.role ≡ Feeds → me.0.rotating ≡ true → me.0.ended ≡ false → finds me.0.feeds ≡ false
+    → Loud (terms_of me.0.profile) (store_of me.0.feeds) f → AllFit me.0.profile.capacity (f ∷ [])
+    → me.1 ≡ (0, filled me.0.profile.capacity (handed (store_of me.0.feeds) f)) ∷ []
+    → Allows (Kept p) slots id me 0 (λ _. 1) (λ _ n. set_turn f me 1 n × Owned n.0)
+sets_turn p slots id me f role busy going yet q fit carries = feeder_allows p slots id me 0 (λ _. 1) (λ _. set_turn f me 1) role
+    (λ full home d k. set_step me f role busy going yet q fit carries full home d d.taking refl k)
+
+pub sets_ended : (p : Profile) (slots id : ℕ) (me : Sat) → me.0.role ≡ Feeds → me.0.ended ≡ false
+    → Allows (Kept p) slots id me 2 (λ _. 1) (λ _ n. set_ended me 1 n × Owned n.0)
+sets_ended p slots id me role going = feeder_allows p slots id me 2 (λ _. 1) (λ _. set_ended me 1) role
+    (λ full home d k. record {
+      view = ended_by me.0;
+      act = keeps;
+      full_after = full;
+      home_after = home;
+      valid = tt;
+      role = role;
+      profile = refl;
+      words = refl;
+      homes = refl;
+      facts = record {
+        fits = k.fits;
+        legal = k.legal;
+        is_open = k.is_open;
+        closer = k.closer;
+        held = k.held;
+        tidy = k.tidy;
+        late = k.late;
+        ender = λ n. absurd (true≢false n);
+        unclosed = k.unclosed;
+        seen = λ _. refl;
+        place = k.place;
+      };
+      told = refl;
+    })
+
+-- ---- The drain's steps
+
+ended_step : (me : Sat) → me.0.role ≡ Drains → (full : Bool) (home : Home) (v : View) (b : Bool) → v.ended ≡ b → Facts (terms_of me.0.profile) full home v me.0
+    → DrainStep me 2 (λ n. n) (looked_ended me) full home v
+ended_step me role full home v b at k = record {
+  view = saw_end me.0 b;
+  act = keeps;
+  full_after = full;
+  home_after = home;
+  valid = tt;
+  role = role;
+  profile = refl;
+  words = refl;
+  homes = refl;
+  facts = record {
+    fits = k.fits;
+    legal = k.legal;
+    is_open = k.is_open;
+    closer = k.closer;
+    held = k.held;
+    tidy = k.tidy;
+    late = k.late;
+    ender = k.ender;
+    unclosed = k.unclosed;
+    seen = λ e. at ∙ e;
+    place = k.place;
+  };
+  told = by b at;
+}
+  where
+    by : (b : Bool) → v.ended ≡ b → looked_ended me (bit v.ended) (saw_end me.0 b, me.1)
+    by true e = ((λ z. let o : bit true ≡ 0 = ap bit (sym e) ∙ z in absurd (omega (arith, o))), (λ _. (ap bit e, refl)))
+    by false e = ((λ _. refl), (λ ne. absurd (ne (ap bit e))))
+
+pub looks_ended : (p : Profile) (slots id : ℕ) (me : Sat) → me.0.role ≡ Drains → Allows (Kept p) slots id me 2 (λ n. n) (looked_ended me)
+looks_ended p slots id me role = drain_allows p slots id me 2 (λ n. n) (looked_ended me) role (λ full home v k. ended_step me role full home v v.ended refl k)
+
+look_step : (me : Sat) → me.0.role ≡ Drains → me.0.closed ≡ false → me.0.taking ≡ None → (full : Bool) (home : Home) (v : View) (b : Bool) → v.rotating ≡ b
+    → Facts (terms_of me.0.profile) full home v me.0 → DrainStep me 0 (λ n. n) (looked_turn me) full home v
+look_step me role unshut calm false home v b at k = record {
+  view = taken_by me.0 (idle me.0.sees_end ∷ []) (Load word.Turn 0) None;
+  act = keeps;
+  full_after = false;
+  home_after = home;
+  valid = tt;
+  role = role;
+  profile = refl;
+  words = refl;
+  homes = refl;
+  facts = idle_keeps (terms_of me.0.profile) home v me.0 (Load word.Turn 0) unshut calm k;
+  told = ((λ _. refl), (λ ne. absurd (ne refl)));
+}
+look_step me role unshut calm true home v false at k =
+    let t : Terms = terms_of me.0.profile in
+    let batch : List Message = hold_of (last v.feeds me.0.takes) in
+    let place : home ≡ some (filled t.capacity batch) = subst (λ (x : Option (List Message)). Stands t.capacity true false x home batch) calm
+    (subst (λ (x : Bool). Stands t.capacity true x me.0.taking home batch) at k.place) in
+    let ts : me.0.takes ≡ me.0.takes ++ [] = sym (append-nil me.0.takes) in record {
+      view = taken_by me.0 [] (Load word.Turn 1) (Some batch);
+      act = takes 0 (filled t.capacity batch);
+      full_after = true;
+      home_after = none;
+      valid = ap some place;
+      role = role;
+      profile = refl;
+      words = refl;
+      homes = refl;
+      facts = record {
+        fits = k.fits;
+        legal = subst (λ (l : List Take). Legal t empty (events (merge v.feeds l))) ts k.legal;
+        is_open = subst (λ (l : List Take). (last v.feeds l).closed ≡ finds v.feeds) ts k.is_open;
+        closer = k.closer;
+        held = subst (λ (l : List Take). IsHeld true (last v.feeds l).held) ts k.held;
+        tidy = subst (λ (l : List Take). Tidy false v.feeds l true) ts k.tidy;
+        late = subst (λ (l : List Take). EndedIsLast (merge v.feeds l)) ts k.late;
+        ender = subst (λ (l : List Take). v.ended ≡ false → ended_in l ≡ false) ts k.ender;
+        unclosed = subst (λ (l : List Take). ended_in l ≡ true → finds v.feeds ≡ false) ts k.unclosed;
+        seen = k.seen;
+        place = subst (λ (x : Bool). Stands t.capacity true x (Some batch) none (hold_of (last v.feeds (me.0.takes ++ [])))) (sym at)
+          (refl, ap (λ (l : List Take). hold_of (last v.feeds l)) ts);
+      };
+      told = ((λ e. absurd (omega arith)), (λ _. (refl, (batch, refl))));
+    }
+look_step me role unshut calm true home v true at k =
+    absurd (subst (λ (x : Bool). Stands me.0.profile.capacity true x me.0.taking home (hold_of (last v.feeds me.0.takes))) at k.place)
+
+pub looks_turn : (p : Profile) (slots id : ℕ) (me : Sat) → me.0.role ≡ Drains → me.0.closed ≡ false → me.0.taking ≡ None → Allows (Kept p) slots id me 0 (λ n. n) (looked_turn me)
+looks_turn p slots id me role unshut calm = drain_allows p slots id me 0 (λ n. n) (looked_turn me) role
+    (λ full home v k. look_step me role unshut calm full home v v.rotating refl k)
+
+clear_step : (me : Sat) (batch : List Message) → me.0.role ≡ Drains → me.0.closed ≡ false → me.0.taking ≡ Some batch → me.1 ≡ (0, filled me.0.profile.capacity []) ∷ []
+    → (full : Bool) (home : Home) (v : View) (b : Bool) → v.rotating ≡ b → Facts (terms_of me.0.profile) full home v me.0
+    → DrainStep me 0 (λ _. 0) (λ _. cleared me 0) full home v
+clear_step me batch role unshut busy carries true home v false at k = record {
+  view = taken_by me.0 (Full batch ∷ []) (Store word.Turn 0) None;
+  act = gives;
+  full_after = false;
+  home_after = some (filled me.0.profile.capacity []);
+  valid = tt;
+  role = role;
+  profile = refl;
+  words = refl;
+  homes = ap (λ (c : List (ℕ × Filled)). put_back (home ∷ []) c) carries;
+  facts = full_keeps (terms_of me.0.profile) home v me.0 batch (Store word.Turn 0) unshut busy at k;
+  told = λ other is. let same : batch ≡ other = let e : Some batch ≡ Some other = sym busy ∙ is in cc in ap (λ (l : List Message). (taken_by me.0 (Full l ∷ []) (Store word.Turn 0) None, rest me.1)) same;
+}
+clear_step me batch role unshut busy carries true home v true at k =
+    absurd (subst (λ (x : Bool). Stands me.0.profile.capacity true x me.0.taking home (hold_of (last v.feeds me.0.takes))) at k.place)
+clear_step me batch role unshut busy carries false home v b at k =
+    absurd (subst (λ (x : Option (List Message)). Stands me.0.profile.capacity false v.rotating x home (hold_of (last v.feeds me.0.takes))) busy k.place)
+
+pub clears : (p : Profile) (slots id : ℕ) (me : Sat) (batch : List Message) → me.0.role ≡ Drains → me.0.closed ≡ false → me.0.taking ≡ Some batch
+    → me.1 ≡ (0, filled me.0.profile.capacity []) ∷ [] → Allows (Kept p) slots id me 0 (λ _. 0) (λ _. cleared me 0)
+clears p slots id me batch role unshut busy carries = drain_allows p slots id me 0 (λ _. 0) (λ _. cleared me 0) role
+    (λ full home v k. clear_step me batch role unshut busy carries full home v v.rotating refl k)
+
+pub sets_closed : (p : Profile) (slots id : ℕ) (me : Sat) → me.0.role ≡ Drains → Allows (Kept p) slots id me 1 (λ _. 1) (λ _. set_closed me 1)
+sets_closed p slots id me role = drain_allows p slots id me 1 (λ _. 1) (λ _. set_closed me 1) role
+    (λ full home v k. record {
+      view = closed_by me.0;
+      act = keeps;
+      full_after = full;
+      home_after = home;
+      valid = tt;
+      role = role;
+      profile = refl;
+      words = refl;
+      homes = refl;
+      facts = record {
+        fits = k.fits;
+        legal = k.legal;
+        is_open = k.is_open;
+        closer = λ n. absurd (true≢false n);
+        held = k.held;
+        tidy = k.tidy;
+        late = k.late;
+        ender = k.ender;
+        unclosed = k.unclosed;
+        seen = k.seen;
+        place = k.place;
+      };
+      told = refl;
+    })
+
+-- ---- The first seat, its cut, and the join
+
+pub opens : (p : Profile) → Kept p (record { words = 0 ∷ 0 ∷ 0 ∷ []; homes = some (filled p.capacity []) ∷ []; views = first p ∷ [] })
+opens p = record {
+  full = false;
+  home = some (filled p.capacity []);
+  feeder = first p;
+  drain = first p;
+  words = refl;
+  homes = refl;
+  seats = whole refl refl;
+  feeder_profile = refl;
+  drain_profile = refl;
+  facts = record {
+    fits = tt;
+    legal = tt;
+    is_open = refl;
+    closer = λ _. refl;
+    held = refl;
+    tidy = (refl, tt);
+    late = tt;
+    ender = λ _. refl;
+    unclosed = λ _. refl;
+    seen = λ n. absurd (true≢false (sym n));
+    place = refl;
+  };
+}
+
+whole_at : (f d v : View) (vs : List View) (id : ℕ) → Seats f d vs → get_elem? vs id ≡ some v → v.role ≡ Whole → (vs ≡ f ∷ []) × (id ≡ 0) × (f ≡ v) × (d ≡ v)
+whole_at f d v vs id (whole p q) at r = one id at
+  where
+    one : (id : ℕ) → get_elem? (f ∷ []) id ≡ some v → (f ∷ [] ≡ f ∷ []) × (id ≡ 0) × (f ≡ v) × (d ≡ v)
+    one zero e = let s = some-injective f v e in (refl, refl, s, sym p ∙ s)
+    one (suc k) e = absurd (some-ne-none v (sym e))
+whole_at f d v vs id (apart p q) at r = absurd (two id at)
+  where
+    two : (id : ℕ) → get_elem? (f ∷ d ∷ []) id ≡ some v → ⊥
+    two zero e = let s : f.role ≡ v.role = ap (λ (o : View). o.role) (some-injective f v e) in cc
+    two (suc zero) e = let s : d.role ≡ v.role = ap (λ (o : View). o.role) (some-injective d v e) in cc
+    two (suc (suc k)) e = some-ne-none v (sym e)
+whole_at f d v vs id (joined o p q s) at r = absurd (two id at)
+  where
+    two : (id : ℕ) → get_elem? (f ∷ o ∷ []) id ≡ some v → ⊥
+    two zero e = let t : f.role ≡ v.role = ap (λ (u : View). u.role) (some-injective f v e) in cc
+    two (suc zero) e = let t : o.role ≡ v.role = ap (λ (u : View). u.role) (some-injective o v e) in cc
+    two (suc (suc k)) e = some-ne-none v (sym e)
+
+-- facts do not read what a seat is for
+recast : (t : Terms) (full : Bool) (home : Home) (v w x y : View) → x.feeds ≡ v.feeds → x.rotating ≡ v.rotating → x.ended ≡ v.ended
+    → y.takes ≡ w.takes → y.taking ≡ w.taking → y.sees_end ≡ w.sees_end → y.closed ≡ w.closed → Facts t full home v w → Facts t full home x y
+recast t full home v w x y a b c g h i j k = record {
+  fits = subst (AllFit t.capacity) (sym a) k.fits;
+  legal = subst (λ (l : List Feed). Legal t empty (events (merge l y.takes))) (sym a) (subst (λ (l : List Take). Legal t empty (events (merge v.feeds l))) (sym g) k.legal);
+  is_open = subst (λ (l : List Feed). (last l y.takes).closed ≡ finds l) (sym a) (subst (λ (l : List Take). (last v.feeds l).closed ≡ finds v.feeds) (sym g) k.is_open);
+  closer = λ n. ap finds a ∙ k.closer (sym j ∙ n);
+  held = subst (λ (l : List Feed). IsHeld full (last l y.takes).held) (sym a) (subst (λ (l : List Take). IsHeld full (last v.feeds l).held) (sym g) k.held);
+  tidy = subst (λ (l : List Feed). Tidy false l y.takes full) (sym a) (subst (λ (l : List Take). Tidy false v.feeds l full) (sym g) k.tidy);
+  late = subst (λ (l : List Feed). EndedIsLast (merge l y.takes)) (sym a) (subst (λ (l : List Take). EndedIsLast (merge v.feeds l)) (sym g) k.late);
+  ender = λ n. ap ended_in g ∙ k.ender (sym c ∙ n);
+  unclosed = λ n. ap finds a ∙ k.unclosed (ap ended_in (sym g) ∙ n);
+  seen = λ n. c ∙ k.seen (sym i ∙ n);
+  place = subst (λ (l : List Feed). Stands t.capacity full x.rotating y.taking home (hold_of (last l y.takes))) (sym a)
+    (subst (λ (l : List Take). Stands t.capacity full x.rotating y.taking home (hold_of (last v.feeds l))) (sym g)
+    (subst (λ (r : Bool). Stands t.capacity full r y.taking home (hold_of (last v.feeds w.takes))) (sym b)
+    (subst (λ (o : Option (List Message)). Stands t.capacity full v.rotating o home (hold_of (last v.feeds w.takes))) (sym h) k.place)));
+}
+
+pub cuts : (p : Profile) (id : ℕ) (v : View) → v.role ≡ Whole → Splits (Kept p) id v (for_feeder v) (for_drain v)
+cuts p id v role s k at = let a = whole_at k.feeder k.drain v s.views id k.seats at role in record {
+  full = k.full;
+  home = k.home;
+  feeder = for_feeder v;
+  drain = for_drain v;
+  words = k.words ∙ (λ i. words_of k.full (a.2 i) (a.3 i));
+  homes = k.homes;
+  seats = subst (Seats (for_feeder v) (for_drain v)) (λ j. set (sym a.0 j) (sym a.1 j) (for_feeder v) ++ for_drain v ∷ []) (apart refl refl);
+  feeder_profile = ap (λ (u : View). u.profile) (sym a.2) ∙ k.feeder_profile;
+  drain_profile = ap (λ (u : View). u.profile) (sym a.2) ∙ k.feeder_profile;
+  facts = recast (terms_of p) k.full k.home k.feeder k.drain (for_feeder v) (for_drain v)
+    (λ i. (sym a.2 i).feeds) (λ i. (sym a.2 i).rotating) (λ i. (sym a.2 i).ended)
+    (λ i. (sym a.3 i).takes) (λ i. (sym a.3 i).taking) (λ i. (sym a.3 i).sees_end) (λ i. (sym a.3 i).closed) k.facts;
+}
+
+pub joins : (p : Profile) (id : ℕ) (v : View) (other : ℕ) (w : View) → v.role ≡ Feeds → w.role ≡ Drains → Joins (Kept p) id v other w (joint v w) spent
+joins p id v other w role role' s k at apart_ there = let a = feeder_at k.feeder k.drain v s.views id k.seats at role in
+    let views : set s.views id (joint v w) ≡ joint v w ∷ k.drain ∷ [] = λ j. set (a.0 j) (a.1 j) (joint v w) in
+    let q = second other (λ e. apart_ (e ∙ sym a.1)) (subst (λ (l : List View). get_elem? l other ≡ some w) views there) in record {
+      full = k.full;
+      home = k.home;
+      feeder = joint v w;
+      drain = joint v w;
+      words = k.words ∙ (λ i. words_of k.full (a.2 i) (q.1 i));
+      homes = k.homes;
+      seats = subst (Seats (joint v w) (joint v w)) (λ j. set (sym views j) (sym q.0 j) spent) (joined spent refl refl refl);
+      feeder_profile = ap (λ (u : View). u.profile) (sym a.2) ∙ k.feeder_profile;
+      drain_profile = ap (λ (u : View). u.profile) (sym a.2) ∙ k.feeder_profile;
+      facts = recast (terms_of p) k.full k.home k.feeder k.drain (joint v w) (joint v w)
+        (λ i. (sym a.2 i).feeds) (λ i. (sym a.2 i).rotating) (λ i. (sym a.2 i).ended)
+        (λ i. (sym q.1 i).takes) (λ i. (sym q.1 i).taking) (λ i. (sym q.1 i).sees_end) (λ i. (sym q.1 i).closed) k.facts;
+    }
+  where
+    second : (i : ℕ) → ¬ (i ≡ 0) → get_elem? (joint v w ∷ k.drain ∷ []) i ≡ some w → (i ≡ 1) × (k.drain ≡ w)
+    second zero n e = absurd (n refl)
+    second (suc zero) n e = (refl, some-injective k.drain w e)
+    second (suc (suc i)) n e = absurd (some-ne-none w (sym e))

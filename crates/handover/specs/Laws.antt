@@ -1,0 +1,103 @@
+-- What holds of the definitions, whatever the code does.
+use Rattle.std.specs.Prelude.{◌≡◌, ℕ, true, false, List, [], ◌∷◌, ◌++◌, Some, None}
+use mathlib.Core.Option.{some}
+use Rattle.atomic_table.specs.Table.{Allows, Splits, Joins}
+use Rattle.listener.specs.declared.message.Message.{Message}
+use Rattle.listener.specs.Buffers.{filled}
+use Rattle.listener.specs.PlainList.{Terms, empty, run, stored, Legal, requests}
+use Rattle.listener.specs.Laws.{joined}
+use Rattle.listener.specs.LookingBack.{kept}
+use Rattle.handover.specs.declared.calls.Feed.{Feed}
+use Rattle.handover.specs.declared.calls.Take.{Take}
+use Rattle.handover.specs.declared.view.Role.TheVariants.{Whole, Feeds, Drains}
+use Rattle.handover.specs.declared.view.Profile.{Profile}
+use Rattle.handover.specs.declared.view.View.{View}
+use Rattle.handover.specs.History.{events, feeds_in, takes_in, merge, CloseIsPlaced, batches_of, finds, kind, finds_closed}
+use Rattle.handover.specs.Own.{own, store_of, arrivals, matches, drops}
+use Rattle.handover.specs.Allowed.{AllFit, IsQuiet, Busy, Loud, handed}
+use Rattle.handover.specs.Rule.{last, terms_of, Kept, first, for_feeder, for_drain, joint, spent, Owned, Sat, saw_closed, saw_turn, set_turn, set_ended, looked_ended, looked_turn, cleared, set_closed}
+
+-- Each call of both lists stands in the merged list once, in its order, and the close is in its place.
+pub record HasBoth (fs : List Feed) (ts : List Take) : Type 0 where
+  pub feeds : feeds_in (merge fs ts) ≡ fs
+  pub takes : takes_in (merge fs ts) ≡ ts
+  pub close : CloseIsPlaced (merge fs ts)
+
+abbrev pub MergesHaveBoth : Type 0
+MergesHaveBoth = (fs : List Feed) (ts : List Take) → HasBoth fs ts
+
+-- Where the merged list is legal: what was read and then what pends is what looking back keeps, and the counts are those of the
+-- feeder's calls.
+pub record IsSettled (t : Terms) (fs : List Feed) (ts : List Take) : Type 0 where
+  pub whole : joined (batches_of ts) ++ (last fs ts).pending ≡ kept t (requests (events (merge fs ts)))
+  pub all_received : (last fs ts).received ≡ arrivals fs
+  pub all_matched : (last fs ts).matched ≡ matches fs
+  pub all_dropped : (last fs ts).dropped ≡ drops fs
+
+abbrev pub HistoriesAreSettled : Type 0
+HistoriesAreSettled = (t : Terms) (fs : List Feed) (ts : List Take) → AllFit t.capacity fs → Legal t empty (events (merge fs ts)) → IsSettled t fs ts
+
+-- Where the merged list is legal, the feeder's own calls are right by themselves, with one read directly before each that stores 1
+-- to `turn` but the first, and the close directly before the first that found it. Both runs have one store and the same counts.
+pub record IsOwn (t : Terms) (fs : List Feed) (ts : List Take) : Type 0 where
+  pub legal : Legal t empty (events (own fs))
+  pub feeds : feeds_in (own fs) ≡ fs
+  pub store : stored (run empty (events (own fs))) ≡ stored (last fs ts)
+  pub all_received : (run empty (events (own fs))).received ≡ (last fs ts).received
+  pub all_matched : (run empty (events (own fs))).matched ≡ (last fs ts).matched
+  pub all_dropped : (run empty (events (own fs))).dropped ≡ (last fs ts).dropped
+
+abbrev pub OwnRunsAreRight : Type 0
+OwnRunsAreRight = (t : Terms) (fs : List Feed) (ts : List Take) → AllFit t.capacity fs → Legal t empty (events (merge fs ts)) → IsOwn t fs ts
+
+-- ---- The rule of the table, and the steps that keep it
+
+-- The table begins with the rule, the first seat is cut in two, and the two ends' seats are joined.
+abbrev pub SeatsKeepTheRule : Type 0
+SeatsKeepTheRule =
+    ((p : Profile) → Kept p (record { words = 0 ∷ 0 ∷ 0 ∷ []; homes = some (filled p.capacity []) ∷ []; views = first p ∷ [] }))
+    × ((p : Profile) (id : ℕ) (v : View) → v.role ≡ Whole → Splits (Kept p) id v (for_feeder v) (for_drain v))
+    × ((p : Profile) (id : ℕ) (v : View) (other : ℕ) (w : View) → v.role ≡ Feeds → w.role ≡ Drains → Joins (Kept p) id v other w (joint v w) spent)
+
+-- The feeder's load of `closed` ends a call that the store alone decides where the pair is open, and a call that found it closed
+-- where it is not.
+abbrev pub FeederLooksAtClosed : Type 0
+FeederLooksAtClosed =
+    (p : Profile) (slots id : ℕ) (me : Sat) (gs : List Feed) (f : Feed) → me.0.role ≡ Feeds → me.0.rotating ≡ false → me.0.ended ≡ false
+    → IsQuiet (terms_of me.0.profile) me.0.feeds gs → kind f ≡ finds_closed → AllFit me.0.profile.capacity (f ∷ [])
+    → Allows (Kept p) slots id me 1 (λ n. n) (λ r n. saw_closed gs f me r n × Owned n.0)
+
+-- The feeder's load of `turn` ends a call that found the hold full, or takes the empty buffer out of the slot.
+abbrev pub FeederLooksAtTurn : Type 0
+FeederLooksAtTurn =
+    (p : Profile) (slots id : ℕ) (me : Sat) (f : Feed) → me.0.role ≡ Feeds → me.0.rotating ≡ false → me.0.ended ≡ false → finds me.0.feeds ≡ false
+    → Busy (terms_of me.0.profile) (store_of me.0.feeds) f → AllFit me.0.profile.capacity (f ∷ [])
+    → Allows (Kept p) slots id me 0 (λ n. n) (λ r n. saw_turn f me r n × Owned n.0)
+
+-- The feeder's store to `turn` brings home what the call hands over, and ends the call.
+abbrev pub FeederGives : Type 0
+FeederGives =
+    (p : Profile) (slots id : ℕ) (me : Sat) (f : Feed) → me.0.role ≡ Feeds → me.0.rotating ≡ true → me.0.ended ≡ false → finds me.0.feeds ≡ false
+    → Loud (terms_of me.0.profile) (store_of me.0.feeds) f → AllFit me.0.profile.capacity (f ∷ [])
+    → me.1 ≡ (0, filled me.0.profile.capacity (handed (store_of me.0.feeds) f)) ∷ []
+    → Allows (Kept p) slots id me 0 (λ _. 1) (λ _ n. set_turn f me 1 n × Owned n.0)
+
+abbrev pub FeederEnds : Type 0
+FeederEnds = (p : Profile) (slots id : ℕ) (me : Sat) → me.0.role ≡ Feeds → me.0.ended ≡ false
+    → Allows (Kept p) slots id me 2 (λ _. 1) (λ _ n. set_ended me 1 n × Owned n.0)
+
+abbrev pub DrainLooksAtEnded : Type 0
+DrainLooksAtEnded = (p : Profile) (slots id : ℕ) (me : Sat) → me.0.role ≡ Drains → Allows (Kept p) slots id me 2 (λ n. n) (looked_ended me)
+
+-- The drain's load of `turn` ends a read of an empty hold, or takes the hold out of the slot.
+abbrev pub DrainLooksAtTurn : Type 0
+DrainLooksAtTurn = (p : Profile) (slots id : ℕ) (me : Sat) → me.0.role ≡ Drains → me.0.closed ≡ false → me.0.taking ≡ None
+    → Allows (Kept p) slots id me 0 (λ n. n) (looked_turn me)
+
+-- The drain's store to `turn` brings an empty buffer home, and ends the read.
+abbrev pub DrainClears : Type 0
+DrainClears = (p : Profile) (slots id : ℕ) (me : Sat) (batch : List Message) → me.0.role ≡ Drains → me.0.closed ≡ false → me.0.taking ≡ Some batch
+    → me.1 ≡ (0, filled me.0.profile.capacity []) ∷ [] → Allows (Kept p) slots id me 0 (λ _. 0) (λ _. cleared me 0)
+
+abbrev pub DrainCloses : Type 0
+DrainCloses = (p : Profile) (slots id : ℕ) (me : Sat) → me.0.role ≡ Drains → Allows (Kept p) slots id me 1 (λ _. 1) (λ _. set_closed me 1)

@@ -1,0 +1,9 @@
+pub mod History
+pub mod Steps
+pub mod Own
+pub mod Tidy
+pub mod Allowed
+pub mod Rule
+pub mod Ends
+pub mod Seated
+pub mod Laws

@@ -1,0 +1,175 @@
+-- The rule of the table, between any two steps.
+use Rattle.std.specs.Prelude.{◌≡◌, ◌≢◌, ℕ, ◌<◌, Bool, true, false, List, [], ◌∷◌, ◌++◌, Option, Some, None}
+use mathlib.Core.Option.{some, none}
+use mathlib.Core.Option as lean
+use Rattle.atomic_table.specs.Table.{State, Me, rest}
+use Rattle.listener.specs.declared.mode.Mode.TheVariants.{Buffered}
+use Rattle.listener.specs.declared.message.Message.{Message}
+use Rattle.listener.specs.Buffers.{Filled, filled}
+use Rattle.listener.specs.PlainList.{Terms, terms, PlainList, empty, run, Legal}
+use Rattle.listener.specs.Laws.{hold_of}
+use Rattle.handover.specs.declared.calls.Feed.{Feed}
+use Rattle.handover.specs.declared.calls.Take.{Take}
+use Rattle.handover.specs.declared.calls.Take.TheVariants.{Full, Nothing, Ended}
+use Rattle.handover.specs.declared.calls.Word.TheVariants as word
+use Rattle.handover.specs.declared.calls.Step.{Step}
+use Rattle.handover.specs.declared.calls.Step.TheVariants.{Load, Store}
+use Rattle.handover.specs.declared.view.Role.TheVariants.{Whole, Feeds, Drains, Joined, Spent}
+use Rattle.handover.specs.declared.view.Profile.{Profile}
+use Rattle.handover.specs.declared.view.View.{View}
+use Rattle.handover.specs.History.{events, merge, finds, ended_in, EndedIsLast}
+use Rattle.handover.specs.Allowed.{AllFit}
+use Rattle.handover.specs.Tidy.{Tidy}
+
+abbrev pub terms_of : Profile → Terms
+terms_of p = terms p.capacity p.mode
+
+-- what the slot has while it is at home
+abbrev pub Home : Type 0
+Home = lean.Option Filled
+
+-- the number of a word
+abbrev pub bit : Bool → ℕ
+bit true = 1
+bit false = 0
+
+abbrev pub IsHeld : Bool → ℕ → Type 0
+IsHeld true held = 0 < held
+IsHeld false held = held ≡ 0
+
+-- Where the buffer is, by `turn`: at home, empty or with what is held, or with the one seat that exchanges it.
+abbrev pub Stands : ℕ → Bool → Bool → Option (List Message) → Home → List Message → Type 0
+Stands capacity false false None home held = home ≡ some (filled capacity [])
+Stands capacity false true None home held = home ≡ none
+Stands capacity true false None home held = home ≡ some (filled capacity held)
+Stands capacity true false (Some batch) home held = (home ≡ none) × (batch ≡ held)
+Stands capacity false rotating (Some batch) home held = ⊥
+Stands capacity true true taking home held = ⊥
+
+-- the plain list behind both lists of calls
+abbrev pub last : List Feed → List Take → PlainList
+last fs ts = run empty (events (merge fs ts))
+
+-- what holds of the two views, of `turn` and of the slot
+pub record Facts (t : Terms) (full : Bool) (home : Home) (f d : View) : Type 0 where
+  pub fits : AllFit t.capacity f.feeds
+  pub legal : Legal t empty (events (merge f.feeds d.takes))
+  pub is_open : (last f.feeds d.takes).closed ≡ finds f.feeds
+  pub closer : d.closed ≡ false → finds f.feeds ≡ false
+  pub held : IsHeld full (last f.feeds d.takes).held
+  pub tidy : Tidy false f.feeds d.takes full
+  pub late : EndedIsLast (merge f.feeds d.takes)
+  pub ender : f.ended ≡ false → ended_in d.takes ≡ false
+  pub unclosed : ended_in d.takes ≡ true → finds f.feeds ≡ false
+  pub seen : d.sees_end ≡ true → f.ended ≡ true
+  pub place : Stands t.capacity full f.rotating d.taking home (hold_of (last f.feeds d.takes))
+
+-- the seats: the one that is whole, the two, or the joined one beside the spent
+pub data Seats (feeder drain : View) : List View → Type 0 where
+  whole : feeder ≡ drain → feeder.role ≡ Whole → Seats feeder drain (feeder ∷ [])
+  apart : feeder.role ≡ Feeds → drain.role ≡ Drains → Seats feeder drain (feeder ∷ drain ∷ [])
+  joined : (other : View) → feeder ≡ drain → feeder.role ≡ Joined → other.role ≡ Spent → Seats feeder drain (feeder ∷ other ∷ [])
+
+-- The rule: the merged list is a legal history whose hold is full exactly where `turn` is 1; the buffer is at home but where one
+-- seat has it; `closed` and `ended` are 1 exactly where the drain's and the feeder's view holds that store.
+pub record Kept (p : Profile) (s : State Filled View) : Type 0 where
+  pub full : Bool
+  pub home : Home
+  pub feeder : View
+  pub drain : View
+  pub words : s.words ≡ bit full ∷ bit drain.closed ∷ bit feeder.ended ∷ []
+  pub homes : s.homes ≡ home ∷ []
+  pub seats : Seats feeder drain s.views
+  pub feeder_profile : feeder.profile ≡ p
+  pub drain_profile : drain.profile ≡ p
+  pub facts : Facts (terms_of p) full home feeder drain
+
+-- ---- Views
+
+abbrev pub first : Profile → View
+first p = record { role = Whole; profile = p; feeds = []; feed_steps = []; rotating = false; ended = false; takes = []; take_steps = []; taking = None; sees_end = false; closed = false }
+
+abbrev pub for_feeder : View → View
+for_feeder v = record v { role = Feeds }
+
+abbrev pub for_drain : View → View
+for_drain v = record v { role = Drains }
+
+-- the feeder's view with what the drain's knows
+abbrev pub joint : View → View → View
+joint v w = record v { role = Joined; takes = w.takes; take_steps = w.take_steps; taking = w.taking; sees_end = w.sees_end; closed = w.closed }
+
+abbrev pub spent : View
+spent = record (first (record { capacity = 0; mode = Buffered })) { role = Spent }
+
+-- after a step of the feeder, with the calls that it ends
+abbrev pub fed_by : View → List Feed → Step → Bool → View
+fed_by v fs e rotating = record v { feeds = v.feeds ++ fs; feed_steps = v.feed_steps ++ e ∷ []; rotating = rotating }
+
+-- after a step of the drain, with the reads that it ends
+abbrev pub taken_by : View → List Take → Step → Option (List Message) → View
+taken_by v ts e taking = record v { takes = v.takes ++ ts; take_steps = v.take_steps ++ e ∷ []; taking = taking }
+
+-- after the feeder's store to `ended`
+abbrev pub ended_by : View → View
+ended_by v = record v { feed_steps = v.feed_steps ++ Store word.Ended 1 ∷ []; ended = true }
+
+-- after the drain's load of `ended`
+abbrev pub saw_end : View → Bool → View
+saw_end v seen = record v { take_steps = v.take_steps ++ Load word.Ended (bit seen) ∷ []; sees_end = seen }
+
+-- after the drain's store to `closed`
+abbrev pub closed_by : View → View
+closed_by v = record v { take_steps = v.take_steps ++ Store word.Closed 1 ∷ []; closed = true }
+
+-- a read of an empty hold
+abbrev pub idle : Bool → Take
+idle true = Ended
+idle false = Nothing
+
+-- with some reads the feeder's calls make a legal history
+pub record Backed (t : Terms) (fs : List Feed) : Type 0 where
+  pub fits : AllFit t.capacity fs
+  pub takes : List Take
+  pub legal : Legal t empty (events (merge fs takes))
+
+abbrev pub Owned : View → Type 0
+Owned v = Backed (terms_of v.profile) v.feeds
+
+abbrev pub Sat : Type 0
+Sat = Me Filled View
+
+-- ---- What each step tells: of the seat before, the number found and the seat after
+
+-- The feeder's load of `closed` ends the calls fs where the pair is open, and the call f where it is closed.
+abbrev pub saw_closed : List Feed → Feed → Sat → ℕ → Sat → Type 0
+saw_closed fs f m r n =
+    (r ≡ 0 → (n ≡ (fed_by m.0 fs (Load word.Closed 0) false, m.1)) × (finds m.0.feeds ≡ false))
+    × (r ≢ 0 → (r ≡ 1) × (n ≡ (fed_by m.0 (f ∷ []) (Load word.Closed 1) false, m.1)))
+
+-- The feeder's load of `turn` takes the empty buffer out of the slot, or ends the call f.
+abbrev pub saw_turn : Feed → Sat → ℕ → Sat → Type 0
+saw_turn f m r n =
+    (r ≡ 0 → n ≡ (fed_by m.0 [] (Load word.Turn 0) true, (0, filled m.0.profile.capacity []) ∷ m.1))
+    × (r ≢ 0 → (r ≡ 1) × (n ≡ (fed_by m.0 (f ∷ []) (Load word.Turn 1) false, m.1)))
+
+abbrev pub set_turn : Feed → Sat → ℕ → Sat → Type 0
+set_turn f m r n = n ≡ (fed_by m.0 (f ∷ []) (Store word.Turn 1) false, rest m.1)
+
+abbrev pub set_ended : Sat → ℕ → Sat → Type 0
+set_ended m r n = n ≡ (ended_by m.0, m.1)
+
+abbrev pub looked_ended : Sat → ℕ → Sat → Type 0
+looked_ended m r n = (r ≡ 0 → n ≡ (saw_end m.0 false, m.1)) × (r ≢ 0 → (r ≡ 1) × (n ≡ (saw_end m.0 true, m.1)))
+
+-- The drain's load of `turn` takes the hold out of the slot, or ends the read.
+abbrev pub looked_turn : Sat → ℕ → Sat → Type 0
+looked_turn m r n =
+    (r ≡ 0 → n ≡ (taken_by m.0 (idle m.0.sees_end ∷ []) (Load word.Turn 0) None, m.1))
+    × (r ≢ 0 → (r ≡ 1) × ((batch : List Message) × (n ≡ (taken_by m.0 [] (Load word.Turn 1) (Some batch), (0, filled m.0.profile.capacity batch) ∷ m.1))))
+
+abbrev pub cleared : Sat → ℕ → Sat → Type 0
+cleared m r n = (batch : List Message) → m.0.taking ≡ Some batch → n ≡ (taken_by m.0 (Full batch ∷ []) (Store word.Turn 0) None, rest m.1)
+
+abbrev pub set_closed : Sat → ℕ → Sat → Type 0
+set_closed m r n = n ≡ (closed_by m.0, m.1)

@@ -1,0 +1,41 @@
+//! Laws of the two lists of calls, of the history that they make, and of the steps. Each function is empty, and its contract is the
+//! law.
+
+ghost use Rattle.handover.specs.Laws.{MergesHaveBoth, HistoriesAreSettled, OwnRunsAreRight, SeatsKeepTheRule, FeederLooksAtClosed, FeederLooksAtTurn, FeederGives, FeederEnds, DrainLooksAtEnded, DrainLooksAtTurn, DrainClears, DrainCloses};
+
+/// Each call of the feeder and each read of the drain stands in the merged list once, in its order, and the close in its
+/// place.
+pub fn merges()
+    ensures { MergesHaveBoth }
+{}
+
+/// What the reads took and then what pends is what looking back keeps, and the counts are those of the feeder's calls.
+pub fn histories()
+    ensures { HistoriesAreSettled }
+{}
+
+/// What the feeder knows by its own calls alone: they are right by themselves, and tell its store and its counts.
+pub fn own_runs()
+    ensures { OwnRunsAreRight }
+{}
+
+/// The rule of the table holds at its start, where the seat is cut in two, and where the two are joined.
+pub fn seats()
+    ensures { SeatsKeepTheRule }
+{}
+
+/// Each step of the feeder keeps the rule, and tells what it found.
+pub fn feeder_steps()
+    ensures closed { FeederLooksAtClosed }
+    ensures turn { FeederLooksAtTurn }
+    ensures gives { FeederGives }
+    ensures ends { FeederEnds }
+{}
+
+/// Each step of the drain keeps the rule, and tells what it found.
+pub fn drain_steps()
+    ensures ended { DrainLooksAtEnded }
+    ensures turn { DrainLooksAtTurn }
+    ensures clears { DrainClears }
+    ensures closes { DrainCloses }
+{}
