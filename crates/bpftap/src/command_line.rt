@@ -42,7 +42,7 @@ const EXAMPLES: &str = "Examples:
   bpftap check 'tcp dst port 80 or 443'
   bpftap cut -s 0 -e 'udp port 5353' examples/veth.pcap dns.pcap
   bpftap cut -s 0 -f examples/ip.bpf examples/veth.pcap ip.pcap
-  bpftap steps -v examples/listeners.txt examples/script.txt examples/veth.pcap
+  bpftap steps -v examples/steps/listeners.txt examples/steps/script.txt examples/veth.pcap
 
 Exit status: 0 clean; 1 wrong words, a refused expression, file or listing, or want of memory;
 2 a torn or bad record, after the packets before it; 3 a file or device failed.";

@@ -21,6 +21,8 @@ mod reports;
 mod script;
 pub mod steps;
 mod steps_files;
+#[cfg(test)]
+mod steps_tests;
 mod steps_words;
 pub mod tell;
 #[cfg(test)]

@@ -31,9 +31,7 @@ fn write_report<O: Write>(l: usize, report: &Report, out: &mut O) -> io::Result<
     writeln!(
         out,
         "listener {l} received {} matched {} dropped {}",
-        report.received,
-        report.matched,
-        report.dropped
+        report.received, report.matched, report.dropped
     )?;
     for (b, batch) in report.batches.iter().enumerate() {
         writeln!(out, "batch {b}")?;

@@ -16,7 +16,8 @@ pub struct StepsWords<'a> {
     pub inputs: Vec<&'a str>,
 }
 
-const STEPS_EXAMPLES: &str = "LISTENERS has a line SNAP CAPACITY EXPRESSION for each listener: the most bytes that are kept of
+const STEPS_EXAMPLES: &str =
+    "LISTENERS has a line SNAP CAPACITY EXPRESSION for each listener: the most bytes that are kept of
 a packet (0 means 262144), the bytes of each of its two buffers, and its filter. An i behind
 CAPACITY makes the listener Immediate: a packet that is stored can be read at once.
 
@@ -24,8 +25,8 @@ SCRIPT has a line for each step: arrive, flush L, read L or close L. Listeners a
 counted from 0.
 
 Examples:
-  bpftap steps examples/listeners.txt examples/script.txt examples/veth.pcap
-  bpftap steps -v examples/listeners.txt examples/script.txt examples/veth.pcap
+  bpftap steps examples/steps/listeners.txt examples/steps/script.txt examples/veth.pcap
+  bpftap steps -v examples/steps/listeners.txt examples/steps/script.txt examples/veth.pcap
 
 Exit status: 0 clean; 1 wrong words, a refused line, expression or file, or want of memory;
 2 a torn or bad record, after the reports; 3 a file or device failed.";
@@ -42,20 +43,19 @@ pub fn steps_command<'a>(alloc: Global) -> Result<Command<'a>, AllocError> {
                 .help("Print each step's answers first, and why they were given"),
         )?
         .arg(
-            Arg::new(alloc, "LISTENERS")
-                .required(true)
-                .help("File with a line SNAP CAPACITY EXPRESSION for each listener"),
+            Arg::new(alloc, "LISTENERS").required(true).help(
+                "File with a line SNAP CAPACITY EXPRESSION for each listener",
+            ),
         )?
         .arg(
-            Arg::new(alloc, "SCRIPT")
-                .required(true)
-                .help("File with a line for each step: arrive, flush L, read L or close L"),
+            Arg::new(alloc, "SCRIPT").required(true).help(
+                "File with a line for each step: arrive, flush L, read L or close L",
+            ),
         )?
         .arg(
-            Arg::new(alloc, "IN")
-                .required(true)
-                .num_args(1..)
-                .help("Captures to replay, in order: classic savefiles of Ethernet frames"),
+            Arg::new(alloc, "IN").required(true).num_args(1..).help(
+                "Captures to replay, in order: classic savefiles of Ethernet frames",
+            ),
         )
 }
 
