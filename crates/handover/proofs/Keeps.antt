@@ -1,5 +1,5 @@
 -- What each call does to the merged list, and that the rule's facts stand after it.
-use Rattle.std.proofs.Common.{◌≡◌, ℕ, ◌<◌, Bool, true, false, true≢false, List, [], ◌∷◌, ◌++◌, map, length, drop, Option, Some, None, refl, sym, ap, ◌∙◌, subst, arith, append-nil, inr}
+use Rattle.std.proofs.Common.{◌≡◌, ℕ, Bool, true, false, true≢false, List, [], ◌∷◌, ◌++◌, map, Option, Some, None, refl, sym, ap, ◌∙◌, subst, arith, append-nil, inr}
 use mathlib.Core.Option.{some}
 use Rattle.listener.specs.declared.answer.Fed.TheVariants.{Passed, Stored, Held, Rotated, Dropped, Closed}
 use Rattle.listener.specs.declared.message.Message.{Message}
@@ -17,8 +17,8 @@ use Rattle.handover.specs.Allowed.{Quiet, Busy, Loud, handed, AllFit}
 use Rattle.handover.specs.Tidy.{by_kind_type, Ends, Begins, Tidy, AllFind}
 use Rattle.handover.specs.Own.{store_of, store_from}
 use Rattle.handover.specs.Rule.{Home, IsHeld, Stands, last, Facts, fed_by, taken_by, idle}
-use Rattle.handover.proofs.Runs.{run_more, legal_join, legal_front, legal_back, within_run, stored_run, open_run, fed_open, got_open, quiet_fair, swap_all, Keeps, quiet_state, busy_state, loud_state, late_state}
-use Rattle.handover.proofs.Merges.{Before, plain_before, store_last, shut_last, closed_last, Answers, read_last, feeds_in-merge, takes_in-merge}
+use Rattle.handover.proofs.Runs.{run_more, legal_join, legal_front, legal_back, within_run, stored_run, open_run, fed_open, quiet_fair, swap_all, Keeps, quiet_state, busy_state, loud_state, late_state}
+use Rattle.handover.proofs.Merges.{plain_before, store_last, shut_last, closed_last, Answers, read_last, feeds_in-merge, takes_in-merge}
 
 pub store_is : (t : Terms) (fs : List Feed) (ts : List Take) → Legal t empty (events (merge fs ts)) → stored (last fs ts) ≡ store_of fs
 store_is t fs ts legal = stored_run t empty (merge fs ts) (omega arith) legal ∙ ap (λ (l : List Feed). store_from [] l) (feeds_in-merge false fs ts)
@@ -32,7 +32,7 @@ feeds_in_reads (t ∷ ts) = feeds_in_reads ts
 finds_more : (fs : List Feed) (f : Feed) (b : Bool) → by_kind (kind f) false false true ≡ b → finds fs ≡ false → finds (fs ++ f ∷ []) ≡ b
 finds_more [] f b is n = is
 finds_more (g ∷ fs) f b is n = elim (kind g) as (λ k. by_kind k (finds fs) (finds fs) true ≡ false → by_kind k (finds (fs ++ f ∷ [])) (finds (fs ++ f ∷ [])) true ≡ b) [
-  plain ↦ λ m. finds_more fs f b is m
+  | plain ↦ λ m. finds_more fs f b is m
   | stores ↦ λ m. finds_more fs f b is m
   | finds_closed ↦ λ m. absurd (true≢false m)
 ] n
@@ -40,7 +40,7 @@ finds_more (g ∷ fs) f b is n = elim (kind g) as (λ k. by_kind k (finds fs) (f
 found_more : (fs : List Feed) (f : Feed) → finds fs ≡ true → finds (fs ++ f ∷ []) ≡ true
 found_more [] f n = absurd (true≢false (sym n))
 found_more (g ∷ fs) f n = elim (kind g) as (λ k. by_kind k (finds fs) (finds fs) true ≡ true → by_kind k (finds (fs ++ f ∷ [])) (finds (fs ++ f ∷ [])) true ≡ true) [
-  plain ↦ λ m. found_more fs f m
+  | plain ↦ λ m. found_more fs f m
   | stores ↦ λ m. found_more fs f m
   | finds_closed ↦ λ m. refl
 ] n
@@ -122,8 +122,8 @@ plain_tidy : (after : Bool) (fs : List Feed) (ts : List Take) (f : Feed) (full :
 plain_tidy after [] ts f full is n h = subst (λ (b : Kind). by_kind_type b (Ends after full ts) (Begins after ts × Ends true full (past_turn after ts)) (Ends after full ts × Unit {0})) (sym is) h
 plain_tidy after (g ∷ fs) ts f full is n h =
     elim (kind g) as (λ b. by_kind b (finds fs) (finds fs) true ≡ false → by_kind_type b (Tidy after fs ts full) (Begins after ts × Tidy true fs (past_turn after ts) full) (Ends after full ts × AllFind fs)
-      → by_kind_type b (Tidy after (fs ++ f ∷ []) ts full) (Begins after ts × Tidy true (fs ++ f ∷ []) (past_turn after ts) full) (Ends after full ts × AllFind (fs ++ f ∷ []))) [
-      plain ↦ λ m k. plain_tidy after fs ts f full is m k
+    → by_kind_type b (Tidy after (fs ++ f ∷ []) ts full) (Begins after ts × Tidy true (fs ++ f ∷ []) (past_turn after ts) full) (Ends after full ts × AllFind (fs ++ f ∷ []))) [
+      | plain ↦ λ m k. plain_tidy after fs ts f full is m k
       | stores ↦ λ m k. (k.0, plain_tidy true fs (past_turn after ts) f full is m k.1)
       | finds_closed ↦ λ m k. absurd (true≢false m)
     ] n h
@@ -246,7 +246,7 @@ loud_keeps t home v d f e going none idle fit q k =
       unclosed = λ _. finds_more fs f false stays none;
       seen = k.seen;
       place = subst (λ (x : Option (List Message)). Stands t.capacity true false x (some (filled t.capacity (handed (store_of fs) f))) (hold_of (last (fs ++ f ∷ []) ts))) (sym idle)
-        (ap (λ (l : List Message). some (filled t.capacity l)) (ap (λ (l : List Message). handed l f) (sym store) ∙ (s.2 ∙ ap hold_of (sym r.1))));
+          (ap (λ (l : List Message). some (filled t.capacity l)) (ap (λ (l : List Message). handed l f) (sym store) ∙ (s.2 ∙ ap hold_of (sym r.1))));
     }
 
 -- ---- Calls that found the pair closed

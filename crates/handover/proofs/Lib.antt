@@ -4,4 +4,3 @@ pub mod Keeps
 pub mod Steps
 pub mod Settling
 pub mod Owns
-pub mod Seated

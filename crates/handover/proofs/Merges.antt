@@ -61,9 +61,9 @@ plain_before after [] ts f full is none h = record {
 }
 plain_before after (g ∷ fs) ts f full is none h =
     elim (kind g) as (λ b. by_kind b (finds fs) (finds fs) true ≡ false → by_kind_type b (Tidy after fs ts full) (Begins after ts × Tidy true fs (past_turn after ts) full) (Ends after full ts × AllFind fs)
-      → Before f full (by_kind b (fed g ∷ merge_from after fs ts) (map got (turn_of after ts) ++ fed g ∷ merge_from true fs (past_turn after ts)) (map got ts ++ shut ∷ fed g ∷ map fed fs))
-        (by_kind b (fed g ∷ merge_from after (fs ++ f ∷ []) ts) (map got (turn_of after ts) ++ fed g ∷ merge_from true (fs ++ f ∷ []) (past_turn after ts)) (map got ts ++ shut ∷ fed g ∷ map fed (fs ++ f ∷ [])))) [
-      plain ↦ λ n k. behind f full [] _ _ (fed g) (plain_before after fs ts f full is n k)
+    → Before f full (by_kind b (fed g ∷ merge_from after fs ts) (map got (turn_of after ts) ++ fed g ∷ merge_from true fs (past_turn after ts)) (map got ts ++ shut ∷ fed g ∷ map fed fs))
+    (by_kind b (fed g ∷ merge_from after (fs ++ f ∷ []) ts) (map got (turn_of after ts) ++ fed g ∷ merge_from true (fs ++ f ∷ []) (past_turn after ts)) (map got ts ++ shut ∷ fed g ∷ map fed (fs ++ f ∷ [])))) [
+      | plain ↦ λ n k. behind f full [] _ _ (fed g) (plain_before after fs ts f full is n k)
       | stores ↦ λ n k. behind f full (map got (turn_of after ts)) _ _ (fed g) (plain_before true fs (past_turn after ts) f full is n k.1)
       | finds_closed ↦ λ n k. absurd (true≢false n)
     ] none h
@@ -81,15 +81,16 @@ store_ends true (Ended ∷ ts) f h = absurd h
 
 pub store_last : (after : Bool) (fs : List Feed) (ts : List Take) (f : Feed) → kind f ≡ stores → finds fs ≡ false → Tidy after fs ts false
     → (merge_from after (fs ++ f ∷ []) ts ≡ merge_from after fs ts ++ fed f ∷ []) × Tidy after (fs ++ f ∷ []) ts true
-store_last after [] ts f is none h = let r = store_ends after ts f h in
-    (ap (λ (b : Kind). by_kind b (fed f ∷ map got ts) (map got (turn_of after ts) ++ fed f ∷ map got (past_turn after ts)) (map got ts ++ shut ∷ fed f ∷ [])) is ∙ r.0,
-     subst (λ (b : Kind). by_kind_type b (Ends after true ts) (Begins after ts × Ends true true (past_turn after ts)) (Ends after true ts × Unit {0})) (sym is) r.1)
+store_last after [] ts f is none h = let r = store_ends after ts f h in (
+  ap (λ (b : Kind). by_kind b (fed f ∷ map got ts) (map got (turn_of after ts) ++ fed f ∷ map got (past_turn after ts)) (map got ts ++ shut ∷ fed f ∷ [])) is ∙ r.0,
+  subst (λ (b : Kind). by_kind_type b (Ends after true ts) (Begins after ts × Ends true true (past_turn after ts)) (Ends after true ts × Unit {0})) (sym is) r.1,
+)
 store_last after (g ∷ fs) ts f is none h =
     elim (kind g) as (λ b. by_kind b (finds fs) (finds fs) true ≡ false → by_kind_type b (Tidy after fs ts false) (Begins after ts × Tidy true fs (past_turn after ts) false) (Ends after false ts × AllFind fs)
-      → (by_kind b (fed g ∷ merge_from after (fs ++ f ∷ []) ts) (map got (turn_of after ts) ++ fed g ∷ merge_from true (fs ++ f ∷ []) (past_turn after ts)) (map got ts ++ shut ∷ fed g ∷ map fed (fs ++ f ∷ []))
-          ≡ by_kind b (fed g ∷ merge_from after fs ts) (map got (turn_of after ts) ++ fed g ∷ merge_from true fs (past_turn after ts)) (map got ts ++ shut ∷ fed g ∷ map fed fs) ++ fed f ∷ [])
-        × by_kind_type b (Tidy after (fs ++ f ∷ []) ts true) (Begins after ts × Tidy true (fs ++ f ∷ []) (past_turn after ts) true) (Ends after true ts × AllFind (fs ++ f ∷ []))) [
-      plain ↦ λ n k. let r = store_last after fs ts f is n k in (ap (λ (l : List Happening). fed g ∷ l) r.0, r.1)
+    → (by_kind b (fed g ∷ merge_from after (fs ++ f ∷ []) ts) (map got (turn_of after ts) ++ fed g ∷ merge_from true (fs ++ f ∷ []) (past_turn after ts)) (map got ts ++ shut ∷ fed g ∷ map fed (fs ++ f ∷ []))
+    ≡ by_kind b (fed g ∷ merge_from after fs ts) (map got (turn_of after ts) ++ fed g ∷ merge_from true fs (past_turn after ts)) (map got ts ++ shut ∷ fed g ∷ map fed fs) ++ fed f ∷ [])
+    × by_kind_type b (Tidy after (fs ++ f ∷ []) ts true) (Begins after ts × Tidy true (fs ++ f ∷ []) (past_turn after ts) true) (Ends after true ts × AllFind (fs ++ f ∷ []))) [
+      | plain ↦ λ n k. let r = store_last after fs ts f is n k in (ap (λ (l : List Happening). fed g ∷ l) r.0, r.1)
       | stores ↦ λ n k. let r = store_last true fs (past_turn after ts) f is n k.1 in
           (ap (λ (l : List Happening). map got (turn_of after ts) ++ fed g ∷ l) r.0 ∙ sym (append_assoc (map got (turn_of after ts)) (fed g ∷ merge_from true fs (past_turn after ts)) (fed f ∷ [])), (k.0, r.1))
       | finds_closed ↦ λ n k. absurd (true≢false n)
@@ -98,15 +99,16 @@ store_last after (g ∷ fs) ts f is none h =
 -- the first call that found `closed` brings the Close before it, both at the end
 pub shut_last : (after : Bool) (fs : List Feed) (ts : List Take) (f : Feed) (full : Bool) → kind f ≡ finds_closed → finds fs ≡ false → Tidy after fs ts full
     → (merge_from after (fs ++ f ∷ []) ts ≡ merge_from after fs ts ++ shut ∷ fed f ∷ []) × Tidy after (fs ++ f ∷ []) ts full
-shut_last after [] ts f full is none h =
-    (ap (λ (b : Kind). by_kind b (fed f ∷ map got ts) (map got (turn_of after ts) ++ fed f ∷ map got (past_turn after ts)) (map got ts ++ shut ∷ fed f ∷ [])) is,
-     subst (λ (b : Kind). by_kind_type b (Ends after full ts) (Begins after ts × Ends true full (past_turn after ts)) (Ends after full ts × Unit {0})) (sym is) (h, tt))
+shut_last after [] ts f full is none h = (
+  ap (λ (b : Kind). by_kind b (fed f ∷ map got ts) (map got (turn_of after ts) ++ fed f ∷ map got (past_turn after ts)) (map got ts ++ shut ∷ fed f ∷ [])) is,
+  subst (λ (b : Kind). by_kind_type b (Ends after full ts) (Begins after ts × Ends true full (past_turn after ts)) (Ends after full ts × Unit {0})) (sym is) (h, tt),
+)
 shut_last after (g ∷ fs) ts f full is none h =
     elim (kind g) as (λ b. by_kind b (finds fs) (finds fs) true ≡ false → by_kind_type b (Tidy after fs ts full) (Begins after ts × Tidy true fs (past_turn after ts) full) (Ends after full ts × AllFind fs)
-      → (by_kind b (fed g ∷ merge_from after (fs ++ f ∷ []) ts) (map got (turn_of after ts) ++ fed g ∷ merge_from true (fs ++ f ∷ []) (past_turn after ts)) (map got ts ++ shut ∷ fed g ∷ map fed (fs ++ f ∷ []))
-          ≡ by_kind b (fed g ∷ merge_from after fs ts) (map got (turn_of after ts) ++ fed g ∷ merge_from true fs (past_turn after ts)) (map got ts ++ shut ∷ fed g ∷ map fed fs) ++ shut ∷ fed f ∷ [])
-        × by_kind_type b (Tidy after (fs ++ f ∷ []) ts full) (Begins after ts × Tidy true (fs ++ f ∷ []) (past_turn after ts) full) (Ends after full ts × AllFind (fs ++ f ∷ []))) [
-      plain ↦ λ n k. let r = shut_last after fs ts f full is n k in (ap (λ (l : List Happening). fed g ∷ l) r.0, r.1)
+    → (by_kind b (fed g ∷ merge_from after (fs ++ f ∷ []) ts) (map got (turn_of after ts) ++ fed g ∷ merge_from true (fs ++ f ∷ []) (past_turn after ts)) (map got ts ++ shut ∷ fed g ∷ map fed (fs ++ f ∷ []))
+    ≡ by_kind b (fed g ∷ merge_from after fs ts) (map got (turn_of after ts) ++ fed g ∷ merge_from true fs (past_turn after ts)) (map got ts ++ shut ∷ fed g ∷ map fed fs) ++ shut ∷ fed f ∷ [])
+    × by_kind_type b (Tidy after (fs ++ f ∷ []) ts full) (Begins after ts × Tidy true (fs ++ f ∷ []) (past_turn after ts) full) (Ends after full ts × AllFind (fs ++ f ∷ []))) [
+      | plain ↦ λ n k. let r = shut_last after fs ts f full is n k in (ap (λ (l : List Happening). fed g ∷ l) r.0, r.1)
       | stores ↦ λ n k. let r = shut_last true fs (past_turn after ts) f full is n k.1 in
           (ap (λ (l : List Happening). map got (turn_of after ts) ++ fed g ∷ l) r.0 ∙ sym (append_assoc (map got (turn_of after ts)) (fed g ∷ merge_from true fs (past_turn after ts)) (shut ∷ fed f ∷ [])), (k.0, r.1))
       | finds_closed ↦ λ n k. absurd (true≢false n)
@@ -122,10 +124,10 @@ pub closed_last : (after : Bool) (fs : List Feed) (ts : List Take) (f : Feed) (f
 closed_last after [] ts f full is some h = absurd (true≢false (sym some))
 closed_last after (g ∷ fs) ts f full is some h =
     elim (kind g) as (λ b. by_kind b (finds fs) (finds fs) true ≡ true → by_kind_type b (Tidy after fs ts full) (Begins after ts × Tidy true fs (past_turn after ts) full) (Ends after full ts × AllFind fs)
-      → (by_kind b (fed g ∷ merge_from after (fs ++ f ∷ []) ts) (map got (turn_of after ts) ++ fed g ∷ merge_from true (fs ++ f ∷ []) (past_turn after ts)) (map got ts ++ shut ∷ fed g ∷ map fed (fs ++ f ∷ []))
-          ≡ by_kind b (fed g ∷ merge_from after fs ts) (map got (turn_of after ts) ++ fed g ∷ merge_from true fs (past_turn after ts)) (map got ts ++ shut ∷ fed g ∷ map fed fs) ++ fed f ∷ [])
-        × by_kind_type b (Tidy after (fs ++ f ∷ []) ts full) (Begins after ts × Tidy true (fs ++ f ∷ []) (past_turn after ts) full) (Ends after full ts × AllFind (fs ++ f ∷ []))) [
-      plain ↦ λ n k. let r = closed_last after fs ts f full is n k in (ap (λ (l : List Happening). fed g ∷ l) r.0, r.1)
+    → (by_kind b (fed g ∷ merge_from after (fs ++ f ∷ []) ts) (map got (turn_of after ts) ++ fed g ∷ merge_from true (fs ++ f ∷ []) (past_turn after ts)) (map got ts ++ shut ∷ fed g ∷ map fed (fs ++ f ∷ []))
+    ≡ by_kind b (fed g ∷ merge_from after fs ts) (map got (turn_of after ts) ++ fed g ∷ merge_from true fs (past_turn after ts)) (map got ts ++ shut ∷ fed g ∷ map fed fs) ++ fed f ∷ [])
+    × by_kind_type b (Tidy after (fs ++ f ∷ []) ts full) (Begins after ts × Tidy true (fs ++ f ∷ []) (past_turn after ts) full) (Ends after full ts × AllFind (fs ++ f ∷ []))) [
+      | plain ↦ λ n k. let r = closed_last after fs ts f full is n k in (ap (λ (l : List Happening). fed g ∷ l) r.0, r.1)
       | stores ↦ λ n k. let r = closed_last true fs (past_turn after ts) f full is n k.1 in
           (ap (λ (l : List Happening). map got (turn_of after ts) ++ fed g ∷ l) r.0 ∙ sym (append_assoc (map got (turn_of after ts)) (fed g ∷ merge_from true fs (past_turn after ts)) (fed f ∷ [])), (k.0, r.1))
       | finds_closed ↦ λ n k. (ap (λ (l : List Happening). map got ts ++ shut ∷ fed g ∷ l) (map-append fed fs (f ∷ [])) ∙ sym (append_assoc (map got ts) (shut ∷ fed g ∷ map fed fs) (fed f ∷ [])), (k.0, all_more fs f is k.1))
@@ -158,7 +160,7 @@ full_first [] (Full b ∷ ts) n h = tt
 full_first [] (Nothing ∷ ts) n h = absurd h
 full_first [] (Ended ∷ ts) n h = absurd h
 full_first (g ∷ fs) ts n h = elim (kind g) as (λ b. by_kind b (finds fs) (finds fs) true ≡ false → by_kind_type b (Tidy true fs ts false) (FullFirst ts × Tidy true fs (past_turn true ts) false) (Ends true false ts × AllFind fs) → FullFirst ts) [
-  plain ↦ λ m k. full_first fs ts m k
+  | plain ↦ λ m k. full_first fs ts m k
   | stores ↦ λ m k. k.0
   | finds_closed ↦ λ m k. absurd (true≢false m)
 ] n h
@@ -186,15 +188,16 @@ pub read_last : (after : Bool) (fs : List Feed) (ts : List Take) (t : Take) (ful
 read_last after [] ts t full a n h = (map-append got ts (t ∷ []), read_ends after ts t full a h)
 read_last after (g ∷ fs) ts t full a n h =
     elim (kind g) as (λ b. by_kind b (finds fs) (finds fs) true ≡ false → by_kind_type b (Tidy after fs ts full) (Begins after ts × Tidy true fs (past_turn after ts) full) (Ends after full ts × AllFind fs)
-      → (by_kind b (fed g ∷ merge_from after fs (ts ++ t ∷ [])) (map got (turn_of after (ts ++ t ∷ [])) ++ fed g ∷ merge_from true fs (past_turn after (ts ++ t ∷ []))) (map got (ts ++ t ∷ []) ++ shut ∷ fed g ∷ map fed fs)
-          ≡ by_kind b (fed g ∷ merge_from after fs ts) (map got (turn_of after ts) ++ fed g ∷ merge_from true fs (past_turn after ts)) (map got ts ++ shut ∷ fed g ∷ map fed fs) ++ got t ∷ [])
-        × by_kind_type b (Tidy after fs (ts ++ t ∷ []) false) (Begins after (ts ++ t ∷ []) × Tidy true fs (past_turn after (ts ++ t ∷ [])) false) (Ends after false (ts ++ t ∷ []) × AllFind fs)) [
-      plain ↦ λ n k. let r = read_last after fs ts t full a n k in (ap (λ (l : List Happening). fed g ∷ l) r.0, r.1)
-      | stores ↦ λ n k. let m = turn_more after ts t k.0 (stops fs (past_turn after ts) t full a n k.1) in let r = read_last true fs (past_turn after ts) t full a n k.1 in
-          ((λ i. map got (m.0 i) ++ fed g ∷ merge_from true fs (m.1 i))
+    → (by_kind b (fed g ∷ merge_from after fs (ts ++ t ∷ [])) (map got (turn_of after (ts ++ t ∷ [])) ++ fed g ∷ merge_from true fs (past_turn after (ts ++ t ∷ []))) (map got (ts ++ t ∷ []) ++ shut ∷ fed g ∷ map fed fs)
+    ≡ by_kind b (fed g ∷ merge_from after fs ts) (map got (turn_of after ts) ++ fed g ∷ merge_from true fs (past_turn after ts)) (map got ts ++ shut ∷ fed g ∷ map fed fs) ++ got t ∷ [])
+    × by_kind_type b (Tidy after fs (ts ++ t ∷ []) false) (Begins after (ts ++ t ∷ []) × Tidy true fs (past_turn after (ts ++ t ∷ [])) false) (Ends after false (ts ++ t ∷ []) × AllFind fs)) [
+      | plain ↦ λ n k. let r = read_last after fs ts t full a n k in (ap (λ (l : List Happening). fed g ∷ l) r.0, r.1)
+      | stores ↦ λ n k. let m = turn_more after ts t k.0 (stops fs (past_turn after ts) t full a n k.1) in let r = read_last true fs (past_turn after ts) t full a n k.1 in (
+        (λ i. map got (m.0 i) ++ fed g ∷ merge_from true fs (m.1 i))
             ∙ (ap (λ (l : List Happening). map got (turn_of after ts) ++ fed g ∷ l) r.0
             ∙ sym (append_assoc (map got (turn_of after ts)) (fed g ∷ merge_from true fs (past_turn after ts)) (got t ∷ []))),
-           (m.2, subst (λ (l : List Take). Tidy true fs l false) (sym m.1) r.1))
+        (m.2, subst (λ (l : List Take). Tidy true fs l false) (sym m.1) r.1),
+      )
       | finds_closed ↦ λ n k. absurd (true≢false n)
     ] n h
 
@@ -230,7 +233,7 @@ turn_whole true (t ∷ ts) = ap (λ (l : List Take). t ∷ l) (lull_whole ts)
 pub feeds_in-merge : (after : Bool) (fs : List Feed) (ts : List Take) → feeds_in (merge_from after fs ts) ≡ fs
 feeds_in-merge after [] ts = ap feeds_in (sym (append-nil (map got ts))) ∙ feeds_got ts []
 feeds_in-merge after (g ∷ fs) ts = elim (kind g) as (λ b. feeds_in (by_kind b (fed g ∷ merge_from after fs ts) (map got (turn_of after ts) ++ fed g ∷ merge_from true fs (past_turn after ts)) (map got ts ++ shut ∷ fed g ∷ map fed fs)) ≡ g ∷ fs) [
-  plain ↦ ap (λ (l : List Feed). g ∷ l) (feeds_in-merge after fs ts)
+  | plain ↦ ap (λ (l : List Feed). g ∷ l) (feeds_in-merge after fs ts)
   | stores ↦ feeds_got (turn_of after ts) (fed g ∷ merge_from true fs (past_turn after ts)) ∙ ap (λ (l : List Feed). g ∷ l) (feeds_in-merge true fs (past_turn after ts))
   | finds_closed ↦ feeds_got ts (shut ∷ fed g ∷ map fed fs) ∙ ap (λ (l : List Feed). g ∷ l) (feeds_fed fs)
 ]
@@ -238,7 +241,7 @@ feeds_in-merge after (g ∷ fs) ts = elim (kind g) as (λ b. feeds_in (by_kind b
 pub takes_in-merge : (after : Bool) (fs : List Feed) (ts : List Take) → takes_in (merge_from after fs ts) ≡ ts
 takes_in-merge after [] ts = ap takes_in (sym (append-nil (map got ts))) ∙ (takes_got ts [] ∙ append-nil ts)
 takes_in-merge after (g ∷ fs) ts = elim (kind g) as (λ b. takes_in (by_kind b (fed g ∷ merge_from after fs ts) (map got (turn_of after ts) ++ fed g ∷ merge_from true fs (past_turn after ts)) (map got ts ++ shut ∷ fed g ∷ map fed fs)) ≡ ts) [
-  plain ↦ takes_in-merge after fs ts
+  | plain ↦ takes_in-merge after fs ts
   | stores ↦ takes_got (turn_of after ts) (fed g ∷ merge_from true fs (past_turn after ts)) ∙ (ap (λ (l : List Take). turn_of after ts ++ l) (takes_in-merge true fs (past_turn after ts)) ∙ turn_whole after ts)
   | finds_closed ↦ takes_got ts (shut ∷ fed g ∷ map fed fs) ∙ (ap (λ (l : List Take). ts ++ l) (takes_fed fs) ∙ append-nil ts)
 ]

@@ -1,17 +1,16 @@
 -- The feeder's own run is right wherever the merged one is.
-use Rattle.std.proofs.Common.{◌≡◌, ℕ, ◌<◌, ◌⊎◌, Bool, true, false, true≢false, cond, List, [], ◌∷◌, ◌++◌, map, Some, None, length, drop, refl, sym, ap, ◌∙◌, arith, inl, inr, length-append}
+use Rattle.std.proofs.Common.{◌≡◌, ℕ, ◌<◌, Bool, true, false, true≢false, cond, List, [], ◌∷◌, ◌++◌, map, Some, None, length, drop, refl, sym, ap, ◌∙◌, arith, inl, inr, length-append}
 use Rattle.listener.specs.declared.answer.Fed.TheVariants.{Passed, Stored, Held, Rotated, Dropped, Closed}
 use Rattle.listener.specs.declared.mode.Mode.{Mode}
 use Rattle.listener.specs.declared.mode.Mode.TheVariants.{Buffered, Immediate}
 use Rattle.listener.specs.declared.message.Message.{Message}
 use Rattle.listener.specs.Messages.{room}
 use Rattle.listener.specs.PlainList.{Terms, PlainList, empty, closed, stored, Fair, Legal, StaysStored, IsHandedOver, next, run, flushed}
-use Rattle.listener.specs.Laws.{HeldIsWithin, hold_of, store_after}
+use Rattle.listener.specs.Laws.{HeldIsWithin}
 use Rattle.handover.specs.declared.calls.Feed.{Feed}
 use Rattle.handover.specs.declared.calls.Feed.TheVariants.{Arrive, Flush, FlushClosed}
 use Rattle.handover.specs.declared.calls.Take.{Take}
-use Rattle.handover.specs.declared.calls.Take.TheVariants.{Full}
-use Rattle.handover.specs.History.{Happening, fed, got, shut, event_of, events, feeds_in, Kind, plain, stores, finds_closed, kind, by_kind, turn_of, past_turn, merge_from, merge}
+use Rattle.handover.specs.History.{Happening, fed, got, shut, event_of, events, feeds_in, plain, stores, finds_closed, kind, by_kind, turn_of, past_turn, merge_from, merge}
 use Rattle.handover.specs.Own.{reads_hold, own_from, own, store_from, store_of}
 use Rattle.handover.specs.Allowed.{AllFit}
 use Rattle.handover.proofs.Runs.{legal_back, within_next, stored_run, fed_open, got_open, full_list}
@@ -215,9 +214,9 @@ owns t after [] ts s u fits w h = tt
 owns t after (f ∷ fs) ts s u fits w h =
     let fit = fits_head t.capacity f fs fits in
     elim (kind f) as (λ b. kind f ≡ b
-      → Legal t s (events (by_kind b (fed f ∷ merge_from after fs ts) (map got (turn_of after ts) ++ fed f ∷ merge_from true fs (past_turn after ts)) (map got ts ++ shut ∷ fed f ∷ map fed fs)))
-      → Legal t u (events (by_kind b (fed f ∷ own_from after (next u (event_of (fed f))) fs) (own_storing after u f fs) (shut ∷ map fed (f ∷ fs))))) [
-      plain ↦ λ is k. let p = plain_step t after s u f is w k.0 in (
+    → Legal t s (events (by_kind b (fed f ∷ merge_from after fs ts) (map got (turn_of after ts) ++ fed f ∷ merge_from true fs (past_turn after ts)) (map got ts ++ shut ∷ fed f ∷ map fed fs)))
+    → Legal t u (events (by_kind b (fed f ∷ own_from after (next u (event_of (fed f))) fs) (own_storing after u f fs) (shut ∷ map fed (f ∷ fs))))) [
+      | plain ↦ λ is k. let p = plain_step t after s u f is w k.0 in (
         p.0,
         owns t after fs ts (next s (event_of (fed f))) (next u (event_of (fed f))) fit.1 (record {
           left = within_next s (event_of (fed f)) w.left;
@@ -239,12 +238,12 @@ own_legal t fs ts fits h = owns t false fs ts empty empty fits (record { left = 
 pub feeds_in-own : (after : Bool) (s : PlainList) (fs : List Feed) → feeds_in (own_from after s fs) ≡ fs
 feeds_in-own after s [] = refl
 feeds_in-own true s (f ∷ fs) = elim (kind f) as (λ b. feeds_in (by_kind b (fed f ∷ own_from true (next s (event_of (fed f))) fs) (own_storing true s f fs) (shut ∷ map fed (f ∷ fs))) ≡ f ∷ fs) [
-  plain ↦ ap (λ (l : List Feed). f ∷ l) (feeds_in-own true (next s (event_of (fed f))) fs)
+  | plain ↦ ap (λ (l : List Feed). f ∷ l) (feeds_in-own true (next s (event_of (fed f))) fs)
   | stores ↦ ap (λ (l : List Feed). f ∷ l) (feeds_in-own true (next (next s (event_of (reads_hold s))) (event_of (fed f))) fs)
   | finds_closed ↦ feeds_fed (f ∷ fs)
 ]
 feeds_in-own false s (f ∷ fs) = elim (kind f) as (λ b. feeds_in (by_kind b (fed f ∷ own_from false (next s (event_of (fed f))) fs) (own_storing false s f fs) (shut ∷ map fed (f ∷ fs))) ≡ f ∷ fs) [
-  plain ↦ ap (λ (l : List Feed). f ∷ l) (feeds_in-own false (next s (event_of (fed f))) fs)
+  | plain ↦ ap (λ (l : List Feed). f ∷ l) (feeds_in-own false (next s (event_of (fed f))) fs)
   | stores ↦ ap (λ (l : List Feed). f ∷ l) (feeds_in-own true (next s (event_of (fed f))) fs)
   | finds_closed ↦ feeds_fed (f ∷ fs)
 ]

@@ -1,17 +1,16 @@
 -- Facts on runs of the plain list over histories.
-use Rattle.std.proofs.Common.{◌≡◌, ℕ, zero, suc, ◌+◌, ◌<◌, ◌≤◌, Bool, true, false, true≢false, ◌⊎◌, List, [], ◌∷◌, ◌++◌, map, Some, None, length, take, drop, refl, sym, ap, ◌∙◌, subst, arith, inl, inr, length-append}
+use Rattle.std.proofs.Common.{◌≡◌, ℕ, zero, suc, ◌+◌, ◌<◌, true, false, ◌⊎◌, List, [], ◌∷◌, ◌++◌, map, Some, None, length, drop, refl, sym, ap, ◌∙◌, subst, arith, inl, inr, length-append}
 use Rattle.std.proofs.lemmas.List.{drop-append-le, take-append-le, take_all}
 use Rattle.std.proofs.lemmas.Grind.{common_steps}
 use Rattle.std.proofs.Math.Seq.{take-append_seam}
 use Rattle.listener.specs.declared.answer.Fed.TheVariants.{Passed, Stored, Held, Rotated, Dropped, Closed}
 use Rattle.listener.specs.declared.mode.Mode.{Mode}
-use Rattle.listener.specs.declared.mode.Mode.TheVariants.{Buffered, Immediate}
 use Rattle.listener.specs.declared.message.Message.{Message}
-use Rattle.listener.specs.Messages.{size_of, room}
-use Rattle.listener.specs.PlainList.{Terms, PlainList, plain, empty, Event, arrived, flushed, read, closed, stored, Fair, Legal, StaysStored, IsHandedOver, next, run}
-use Rattle.listener.specs.Laws.{HeldIsWithin, hold_of, store_after}
+use Rattle.listener.specs.Messages.{room}
+use Rattle.listener.specs.PlainList.{Terms, PlainList, plain, empty, Event, read, stored, Fair, Legal, StaysStored, IsHandedOver, next, run}
+use Rattle.listener.specs.Laws.{HeldIsWithin, hold_of}
 use Rattle.listener.proofs.Events.{held_stays, buffers_follow}
-use Rattle.listener.proofs.Rooms.{room_nil, room_nonempty}
+use Rattle.listener.proofs.Rooms.{room_nil}
 use Rattle.handover.specs.declared.calls.Feed.{Feed}
 use Rattle.handover.specs.declared.calls.Feed.TheVariants.{Arrive, Flush, FlushClosed}
 use Rattle.handover.specs.declared.calls.Take.{Take}

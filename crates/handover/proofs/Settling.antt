@@ -1,5 +1,5 @@
 -- What a merged list that is legal tells: where the close stands, what is kept, and the counts.
-use Rattle.std.proofs.Common.{◌≡◌, ◌+◌, Bool, true, false, true≢false, List, [], ◌∷◌, ◌++◌, map, Some, None, refl, sym, ap, ◌∙◌, subst, arith}
+use Rattle.std.proofs.Common.{◌≡◌, ◌+◌, Bool, true, false, List, [], ◌∷◌, ◌++◌, map, Some, None, refl, sym, ap, ◌∙◌, subst, arith}
 use Rattle.listener.specs.declared.answer.Fed.TheVariants.{Passed, Stored, Held, Rotated, Dropped, Closed}
 use Rattle.listener.specs.declared.message.Message.{Message}
 use Rattle.listener.specs.PlainList.{Terms, PlainList, empty, Fair, Legal, next, run, requests, batches}
@@ -9,7 +9,7 @@ use Rattle.handover.specs.declared.calls.Feed.{Feed}
 use Rattle.handover.specs.declared.calls.Feed.TheVariants.{Arrive, Flush, FlushClosed}
 use Rattle.handover.specs.declared.calls.Take.{Take}
 use Rattle.handover.specs.declared.calls.Take.TheVariants.{Full, Nothing, Ended}
-use Rattle.handover.specs.History.{Happening, fed, got, shut, event_of, events, feeds_in, takes_in, Kind, plain, stores, finds_closed, kind, by_kind, OnlyFeeds, FirstFinds, CloseIsPlaced, turn_of, past_turn, merge_from, merge, batches_of}
+use Rattle.handover.specs.History.{Happening, fed, got, shut, event_of, events, feeds_in, takes_in, plain, stores, finds_closed, kind, by_kind, OnlyFeeds, CloseIsPlaced, turn_of, past_turn, merge_from, merge, batches_of}
 use Rattle.handover.specs.Own.{own, arrivals, matches, drops}
 use Rattle.handover.specs.Allowed.{AllFit}
 use Rattle.handover.specs.Rule.{last}
@@ -36,7 +36,7 @@ pub close_placed : (after : Bool) (fs : List Feed) (ts : List Take) → CloseIsP
 close_placed after [] ts = close_reads ts
 close_placed after (g ∷ fs) ts = elim (kind g) as (λ b. kind g ≡ b →
     CloseIsPlaced (by_kind b (fed g ∷ merge_from after fs ts) (map got (turn_of after ts) ++ fed g ∷ merge_from true fs (past_turn after ts)) (map got ts ++ shut ∷ fed g ∷ map fed fs))) [
-      plain ↦ λ e. ((λ is. let no : plain ≡ finds_closed = sym e ∙ is in cc), close_placed after fs ts)
+      | plain ↦ λ e. ((λ is. let no : plain ≡ finds_closed = sym e ∙ is in cc), close_placed after fs ts)
       | stores ↦ λ e. close_got (turn_of after ts) (fed g ∷ merge_from true fs (past_turn after ts)) ((λ is. let no : stores ≡ finds_closed = sym e ∙ is in cc), close_placed true fs (past_turn after ts))
       | finds_closed ↦ λ e. close_got ts (shut ∷ fed g ∷ map fed fs) (e, only_feeds fs)
     ] refl

@@ -1,16 +1,16 @@
 -- Each step keeps the rule.
-use Rattle.std.proofs.Common.{◌≡◌, ◌≢◌, ℕ, zero, suc, ◌<◌, Bool, true, false, true≢false, List, [], ◌∷◌, ◌++◌, length, set, Option, Some, None, refl, sym, ap, ◌∙◌, subst, arith, append-nil}
+use Rattle.std.proofs.Common.{◌≡◌, ℕ, zero, suc, Bool, true, false, true≢false, List, [], ◌∷◌, ◌++◌, set, Option, Some, None, refl, sym, ap, ◌∙◌, subst, arith, append-nil}
 use Rattle.std.specs.Prelude.{slice_index}
 use mathlib.Core.Option.{some, none, some-injective, some-ne-none}
 use lib.ListN.{get_elem?}
 use Rattle.atomic_table.specs.Table.{Act, keeps, takes, gives, Valid, homes_after, carried_after, Allows, Splits, Joins, rest, put_back}
 use Rattle.listener.specs.declared.message.Message.{Message}
 use Rattle.listener.specs.Buffers.{Filled, filled}
-use Rattle.listener.specs.PlainList.{Terms, terms, empty, Legal}
+use Rattle.listener.specs.PlainList.{Terms, empty, Legal}
 use Rattle.listener.specs.Laws.{hold_of}
 use Rattle.handover.specs.declared.calls.Feed.{Feed}
 use Rattle.handover.specs.declared.calls.Take.{Take}
-use Rattle.handover.specs.declared.calls.Take.TheVariants.{Full, Nothing, Ended}
+use Rattle.handover.specs.declared.calls.Take.TheVariants.{Full}
 use Rattle.handover.specs.declared.calls.Word.TheVariants as word
 use Rattle.handover.specs.declared.calls.Step.{Step}
 use Rattle.handover.specs.declared.calls.Step.TheVariants.{Load, Store}
@@ -19,7 +19,7 @@ use Rattle.handover.specs.declared.view.Profile.{Profile}
 use Rattle.handover.specs.declared.view.View.{View}
 use Rattle.handover.specs.History.{events, merge, EndedIsLast, ended_in, finds, kind, finds_closed}
 use Rattle.handover.specs.Tidy.{Tidy}
-use Rattle.handover.specs.Allowed.{Quiet, IsQuiet, Busy, Loud, handed, AllFit}
+use Rattle.handover.specs.Allowed.{IsQuiet, Busy, Loud, handed, AllFit}
 use Rattle.handover.specs.Own.{store_of}
 use Rattle.handover.specs.Rule.{Home, IsHeld, bit, terms_of, last, Stands, Facts, Seats, whole, apart, joined, Kept, first, for_feeder, for_drain, joint, spent, fed_by, taken_by, ended_by, saw_end, closed_by, idle, Backed, Owned, Sat, saw_closed, saw_turn, set_turn, set_ended, looked_ended, looked_turn, cleared, set_closed}
 use Rattle.handover.proofs.Keeps.{quiet_keeps, busy_keeps, loud_keeps, late_keeps, idle_keeps, full_keeps}
@@ -179,7 +179,7 @@ looks_on t full home v d w same going turning k =
       unclosed = subst (λ (l : List Feed). ended_in d.takes ≡ true → finds l ≡ false) (sym fs) k.unclosed;
       seen = subst (λ (b : Bool). d.sees_end ≡ true → b ≡ true) (sym going) k.seen;
       place = subst (λ (l : List Feed). Stands t.capacity full w.rotating d.taking home (hold_of (last l d.takes))) (sym fs)
-        (subst (λ (b : Bool). Stands t.capacity full b d.taking home (hold_of (last v.feeds d.takes))) (sym turning) k.place);
+          (subst (λ (b : Bool). Stands t.capacity full b d.taking home (hold_of (last v.feeds d.takes))) (sym turning) k.place);
     }
 
 quiet_list : (t : Terms) (full : Bool) (home : Home) (v d : View) (gs : List Feed) (e : Step) → v.rotating ≡ false → v.ended ≡ false → finds v.feeds ≡ false
@@ -421,7 +421,7 @@ look_step me role unshut calm true home v false at k =
         unclosed = subst (λ (l : List Take). ended_in l ≡ true → finds v.feeds ≡ false) ts k.unclosed;
         seen = k.seen;
         place = subst (λ (x : Bool). Stands t.capacity true x (Some batch) none (hold_of (last v.feeds (me.0.takes ++ [])))) (sym at)
-          (refl, ap (λ (l : List Take). hold_of (last v.feeds l)) ts);
+            (refl, ap (λ (l : List Take). hold_of (last v.feeds l)) ts);
       };
       told = ((λ e. absurd (omega arith)), (λ _. (refl, (batch, refl))));
     }
@@ -548,9 +548,9 @@ recast t full home v w x y a b c g h i j k = record {
   unclosed = λ n. ap finds a ∙ k.unclosed (ap ended_in (sym g) ∙ n);
   seen = λ n. c ∙ k.seen (sym i ∙ n);
   place = subst (λ (l : List Feed). Stands t.capacity full x.rotating y.taking home (hold_of (last l y.takes))) (sym a)
-    (subst (λ (l : List Take). Stands t.capacity full x.rotating y.taking home (hold_of (last v.feeds l))) (sym g)
-    (subst (λ (r : Bool). Stands t.capacity full r y.taking home (hold_of (last v.feeds w.takes))) (sym b)
-    (subst (λ (o : Option (List Message)). Stands t.capacity full v.rotating o home (hold_of (last v.feeds w.takes))) (sym h) k.place)));
+      (subst (λ (l : List Take). Stands t.capacity full x.rotating y.taking home (hold_of (last v.feeds l))) (sym g)
+      (subst (λ (r : Bool). Stands t.capacity full r y.taking home (hold_of (last v.feeds w.takes))) (sym b)
+      (subst (λ (o : Option (List Message)). Stands t.capacity full v.rotating o home (hold_of (last v.feeds w.takes))) (sym h) k.place)));
 }
 
 pub cuts : (p : Profile) (id : ℕ) (v : View) → v.role ≡ Whole → Splits (Kept p) id v (for_feeder v) (for_drain v)
@@ -565,8 +565,8 @@ cuts p id v role s k at = let a = whole_at k.feeder k.drain v s.views id k.seats
   feeder_profile = ap (λ (u : View). u.profile) (sym a.2) ∙ k.feeder_profile;
   drain_profile = ap (λ (u : View). u.profile) (sym a.2) ∙ k.feeder_profile;
   facts = recast (terms_of p) k.full k.home k.feeder k.drain (for_feeder v) (for_drain v)
-    (λ i. (sym a.2 i).feeds) (λ i. (sym a.2 i).rotating) (λ i. (sym a.2 i).ended)
-    (λ i. (sym a.3 i).takes) (λ i. (sym a.3 i).taking) (λ i. (sym a.3 i).sees_end) (λ i. (sym a.3 i).closed) k.facts;
+      (λ i. (sym a.2 i).feeds) (λ i. (sym a.2 i).rotating) (λ i. (sym a.2 i).ended)
+      (λ i. (sym a.3 i).takes) (λ i. (sym a.3 i).taking) (λ i. (sym a.3 i).sees_end) (λ i. (sym a.3 i).closed) k.facts;
 }
 
 pub joins : (p : Profile) (id : ℕ) (v : View) (other : ℕ) (w : View) → v.role ≡ Feeds → w.role ≡ Drains → Joins (Kept p) id v other w (joint v w) spent
@@ -583,8 +583,8 @@ joins p id v other w role role' s k at apart_ there = let a = feeder_at k.feeder
       feeder_profile = ap (λ (u : View). u.profile) (sym a.2) ∙ k.feeder_profile;
       drain_profile = ap (λ (u : View). u.profile) (sym a.2) ∙ k.feeder_profile;
       facts = recast (terms_of p) k.full k.home k.feeder k.drain (joint v w) (joint v w)
-        (λ i. (sym a.2 i).feeds) (λ i. (sym a.2 i).rotating) (λ i. (sym a.2 i).ended)
-        (λ i. (sym q.1 i).takes) (λ i. (sym q.1 i).taking) (λ i. (sym q.1 i).sees_end) (λ i. (sym q.1 i).closed) k.facts;
+          (λ i. (sym a.2 i).feeds) (λ i. (sym a.2 i).rotating) (λ i. (sym a.2 i).ended)
+          (λ i. (sym q.1 i).takes) (λ i. (sym q.1 i).taking) (λ i. (sym q.1 i).sees_end) (λ i. (sym q.1 i).closed) k.facts;
     }
   where
     second : (i : ℕ) → ¬ (i ≡ 0) → get_elem? (joint v w ∷ k.drain ∷ []) i ≡ some w → (i ≡ 1) × (k.drain ≡ w)

@@ -1,13 +1,13 @@
 -- Which calls a step may end, by the feeder's store.
 use Rattle.std.specs.Prelude.{◌≡◌, ℕ, ◌+◌, ◌<◌, ◌≤◌, true, false, List, [], ◌∷◌, ◌++◌, length, Some, None}
-use Rattle.listener.specs.declared.answer.Fed.TheVariants.{Passed, Stored, Held, Rotated, Dropped, Closed}
+use Rattle.listener.specs.declared.answer.Fed.TheVariants.{Passed, Stored, Held, Rotated, Dropped}
 use Rattle.listener.specs.declared.mode.Mode.TheVariants.{Buffered, Immediate}
 use Rattle.listener.specs.declared.message.Message.{Message}
 use Rattle.listener.specs.Messages.{size_of, room}
 use Rattle.listener.specs.PlainList.{Terms}
 use Rattle.handover.specs.Own.{store_of}
 use Rattle.handover.specs.declared.calls.Feed.{Feed}
-use Rattle.handover.specs.declared.calls.Feed.TheVariants.{Arrive, Flush, FlushClosed}
+use Rattle.handover.specs.declared.calls.Feed.TheVariants.{Arrive, Flush}
 
 -- a call of an open pair that the store alone decides
 abbrev pub Quiet : Terms → List Message → Feed → Type 0

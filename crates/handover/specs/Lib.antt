@@ -4,6 +4,4 @@ pub mod Own
 pub mod Tidy
 pub mod Allowed
 pub mod Rule
-pub mod Ends
-pub mod Seated
 pub mod Laws

@@ -1,11 +1,11 @@
 -- What the feeder knows by its own calls alone.
-use Rattle.std.specs.Prelude.{ℕ, ◌+◌, Bool, true, false, cond, List, [], ◌∷◌, map, Some, None}
-use Rattle.listener.specs.declared.answer.Fed.TheVariants.{Passed, Stored, Held, Rotated, Dropped, Closed}
+use Rattle.std.specs.Prelude.{ℕ, ◌+◌, Bool, true, false, cond, List, [], ◌∷◌, map}
+use Rattle.listener.specs.declared.answer.Fed.TheVariants.{Passed, Dropped, Closed}
 use Rattle.listener.specs.declared.message.Message.{Message}
 use Rattle.listener.specs.PlainList.{PlainList, empty, next}
 use Rattle.listener.specs.Laws.{hold_of, store_after}
 use Rattle.handover.specs.declared.calls.Feed.{Feed}
-use Rattle.handover.specs.declared.calls.Feed.TheVariants.{Arrive, Flush, FlushClosed}
+use Rattle.handover.specs.declared.calls.Feed.TheVariants.{Arrive}
 use Rattle.handover.specs.declared.calls.Take.TheVariants.{Full}
 use Rattle.handover.specs.History.{Happening, fed, got, shut, event_of, kind, by_kind}
 
@@ -20,8 +20,8 @@ own_from after s [] = []
 own_from after s (f ∷ fs) = by_kind (kind f)
     (fed f ∷ own_from after (next s (event_of (fed f))) fs)
     (cond after
-      (reads_hold s ∷ fed f ∷ own_from true (next (next s (event_of (reads_hold s))) (event_of (fed f))) fs)
-      (fed f ∷ own_from true (next s (event_of (fed f))) fs))
+    (reads_hold s ∷ fed f ∷ own_from true (next (next s (event_of (reads_hold s))) (event_of (fed f))) fs)
+    (fed f ∷ own_from true (next s (event_of (fed f))) fs))
     (shut ∷ map fed (f ∷ fs))
 
 abbrev pub own : List Feed → List Happening
