@@ -6,19 +6,21 @@ use crate::tell::tell;
 use bpfvm::Program;
 use savefile::{Counted, Fault, Order, Unit};
 use std::alloc::{AllocError, Global};
+use std::io;
 use std::io::{ErrorKind, Read, Write};
 use std::process::Abort;
 use std::test::Fail;
-use std::io;
 
 /// Little-endian, microseconds, snapshot length 262,144, Ethernet.
 pub(crate) const HEADER: &str = "d4c3b2a1 02000400 00000000 00000000 00000400 01000000";
 
 /// A record of one ARP frame's first 14 bytes, at second 1.
-pub(crate) const ARP_RECORD: &str = "01000000 00000000 0e000000 0e000000 ffffffffffff 000102030405 0806";
+pub(crate) const ARP_RECORD: &str =
+    "01000000 00000000 0e000000 0e000000 ffffffffffff 000102030405 0806";
 
 /// A record of one IPv4 frame's first 14 bytes, at second 2.
-pub(crate) const IP_RECORD: &str = "02000000 00000000 0e000000 0e000000 ffffffffffff 000102030405 0800";
+pub(crate) const IP_RECORD: &str =
+    "02000000 00000000 0e000000 0e000000 ffffffffffff 000102030405 0800";
 
 pub(crate) const ALL: &[u8] = b"1\n6 0 0 262144\n";
 

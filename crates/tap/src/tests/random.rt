@@ -266,7 +266,13 @@ fn play(rt: &(impl Abort + AllocGlobal), dice: &mut Dice) -> Result<(), Fail> {
     let asked = [some_listener(dice), some_listener(dice)];
     let mut specs = Vec::new(alloc);
     for one in asked {
-        specs.push(wanted(rt, one.filter, u32::try_from(one.snap)?, one.capacity, one.mode))?;
+        specs.push(wanted(
+            rt,
+            one.filter,
+            u32::try_from(one.snap)?,
+            one.capacity,
+            one.mode,
+        ))?;
     }
     let steps = some_steps(alloc, dice)?;
     let captures = [first.as_slice(), second.as_slice()];

@@ -24,13 +24,12 @@ loop-reader-preserved g c = record {
   copies = λ from header to order unit head given written.
       let program = c.args.program.now in
       let (packets, gives, wrote) = c.loop-reader.invariant.copies from header to order unit head given written in
-      let p = packet_lent c.advance.new.self in
-      (
+      let p = packet_lent c.advance.new.self in (
         packets ++ p ∷ [],
         c.in-Ok-true.ensures.packet from header packets gives (cc),
         subst (λ (ps : List Packet). HasWritten g.W.Sink.taken to order unit head ps c.put_one.new.writer)
-        (ap (λ (q : Packet). accepted program c.args.snap packets ++ accepted program c.args.snap (q ∷ [])) c.packet.ensures ∙ sym (accepted-append program c.args.snap packets (p ∷ [])))
-        (c.in-Ok.ensures.writes to order unit head (accepted program c.args.snap packets) wrote),
+            (ap (λ (q : Packet). accepted program c.args.snap packets ++ accepted program c.args.snap (q ∷ [])) c.packet.ensures ∙ sym (accepted-append program c.args.snap packets (p ∷ [])))
+            (c.in-Ok.ensures.writes to order unit head (accepted program c.args.snap packets) wrote),
       );
   source_works = same-unless-different _ _ (λ different. let broke = c.in-Ok-true.ensures.device.1 different in cc) ∙ c.loop-reader.invariant.source_works;
   sink_works = same-unless-different _ _ (λ different. let broke = c.in-Ok.ensures.sink_broke.1 different in cc) ∙ c.loop-reader.invariant.sink_works;
@@ -40,13 +39,12 @@ pub returns-in-Err-put_one-clause-copies : goal.returns-in-Err-put_one-clause-co
 returns-in-Err-put_one-clause-copies g c = λ from header to order unit head given written.
     let program = c.args.program.now in
     let (packets, gives, wrote) = c.loop-reader.invariant.copies from header to order unit head given written in
-    let p = packet_lent c.advance.new.self in
-    (
+    let p = packet_lent c.advance.new.self in (
       packets ++ p ∷ [],
       c.given_so_far.ensures from header (packets ++ p ∷ []) (c.in-Ok-true.ensures.packet from header packets gives (cc)),
       subst (λ (ps : List Packet). Wrote g.W.Sink.taken to order unit head ps (Err c.in-Err-put_one.fault) c.put_one.new.writer)
-      (ap (λ (q : Packet). accepted program c.args.snap packets ++ accepted program c.args.snap (q ∷ [])) c.packet.ensures ∙ sym (accepted-append program c.args.snap packets (p ∷ [])))
-      (c.in-Err-put_one.ensures.writes to order unit head (accepted program c.args.snap packets) wrote),
+          (ap (λ (q : Packet). accepted program c.args.snap packets ++ accepted program c.args.snap (q ∷ [])) c.packet.ensures ∙ sym (accepted-append program c.args.snap packets (p ∷ [])))
+          (c.in-Err-put_one.ensures.writes to order unit head (accepted program c.args.snap packets) wrote),
     )
 
 pub returns-in-Ok-false-clause-copies : goal.returns-in-Ok-false-clause-copies
@@ -57,8 +55,7 @@ returns-in-Ok-false-clause-copies g c = λ from header to order unit head given 
 pub returns-in-Err-clause-copies : goal.returns-in-Err-clause-copies
 returns-in-Err-clause-copies g c = λ from header to order unit head given written.
     let (packets, gives, wrote) = c.loop-reader.invariant.copies from header to order unit head given written in
-    let told = c.in-Err.ensures in
-    (
+    let told = c.in-Err.ensures in (
       packets,
       wrote,
       elim (told.cause from header packets gives) [
