@@ -78,6 +78,66 @@ def closed_streams(folder):
         check(f"files behind --help {redirections}", after, before)
 
 
+# Expressions, and how many of the 253 packets of the real capture tcpdump 4.99.3 keeps: `tcpdump -r veth.pcap EXPR`.
+TCPDUMP = [
+    ("", 253),
+    ("tcp", 122),
+    ("udp", 75),
+    ("arp", 7),
+    ("icmp", 49),
+    ("udp port 5353", 67),
+    ("ether broadcast", 7),
+    ("ether multicast", 10),
+    ("greater 100", 96),
+    ("src host 192.0.2.1", 131),
+]
+
+
+def real_capture(folder):
+    """A listener for each expression counts what tcpdump keeps, and so many packets `cut -e` writes."""
+    capture = ROOT / "examples" / "veth.pcap"
+    (folder / "ten.txt").write_text("".join(f"0 1048576 {expr}\n" for expr, _ in TCPDUMP))
+    (folder / "arrivals.txt").write_text("arrive\n" * 300)
+    done = subprocess.run([PROGRAM, "steps", "ten.txt", "arrivals.txt", capture], cwd=folder, capture_output=True)
+    told = [line for line in done.stdout.decode().splitlines() if line.startswith("listener")]
+    for l, (expr, kept) in enumerate(TCPDUMP):
+        check(f"steps: {expr!r}", told[l], f"listener {l} received 253 matched {kept} dropped 0")
+        subprocess.run([PROGRAM, "cut", "-s", "0", "-e", expr, capture, "cut.pcap"], cwd=folder)
+        check(f"cut -e {expr!r}", len(records(folder / "cut.pcap")), kept)
+    check("steps: status", (done.returncode, done.stderr), (0, b""))
+
+
+def records(path):
+    """The records of a little-endian capture, header and data together."""
+    text, place, found = path.read_bytes(), 24, []
+    while place < len(text):
+        end = place + 16 + int.from_bytes(text[place + 8 : place + 12], "little")
+        found.append(text[place:end])
+        place = end
+    return found
+
+
+def files_of_steps(folder):
+    """LISTENERS is read before SCRIPT, the lines of both are looked at before IN, and IN goes before an expression."""
+    for name, text in [("l.txt", "32 64\n"), ("s.txt", "arrive\n"), ("bad.txt", "x\n"), ("refused.txt", "32 64 tcp and 80\n")]:
+        (folder / name).write_text(text)
+    for words, wanted in [
+        ("no.txt none.txt no.pcap", (3, b"bpftap: Device no.txt\n")),
+        ("bad.txt none.txt no.pcap", (3, b"bpftap: Device none.txt\n")),
+        ("bad.txt bad.txt no.pcap", (1, b"bpftap: Listeners 1\n")),
+        ("l.txt bad.txt no.pcap", (1, b"bpftap: Script 1\n")),
+        ("refused.txt s.txt whole.pcap no.pcap", (3, b"bpftap: Device no.pcap\n")),
+        ("refused.txt s.txt whole.pcap", (1, b"bpftap: Expression 0 NoQualifier 8\n")),
+        ("refused.txt s.txt whole.pcap empty.pcap", (1, b"bpftap: Capture 1 ShortHeader\n")),
+        ("l.txt s.txt torn.pcap", (2, b"bpftap: Capture 0 TornRecord 1\n")),
+        ("l.txt s.txt .", (3, b"bpftap: Device .\n")),
+        ("/dev/null /dev/null whole.pcap", (0, b"")),
+    ]:
+        check(f"steps {words}", shell(folder, f"steps {words}"), wanted)
+    full = (3, b"bpftap: Device standard output\n")
+    check("steps into a full device", shell(folder, "steps l.txt s.txt whole.pcap", ">/dev/full"), full)
+
+
 def main():
     subprocess.run([str(PROGRAM), "--help"], check=True, stdout=subprocess.DEVNULL)
     with tempfile.TemporaryDirectory() as name:
@@ -91,6 +151,8 @@ def main():
             (folder / file).write_bytes(content)
         statuses(folder)
         closed_streams(folder)
+        real_capture(folder)
+        files_of_steps(folder)
     for line in failures:
         print(line)
     print(f"{passed} passed, {len(failures)} failed")

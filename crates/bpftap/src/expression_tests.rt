@@ -4,10 +4,9 @@ use crate::check::check;
 use crate::expression::{ExpressionFault, compile_text};
 use crate::filter::filter;
 use crate::program::run;
-use crate::veth_frames::{KEPT, VETH};
+use crate::veth_frames::{KEPT, VETH, bytes_of};
 use bpfvm::read_listing;
 use filtergen::Refusal;
-use std::alloc::{AllocError, Global};
 use std::io;
 use std::io::{ErrorKind, Write};
 use std::process::Abort;
@@ -100,8 +99,8 @@ fn a_program_that_is_too_long_is_told(rt: HostRuntime) {
 
 /// A writer that has room for so many bytes, and then breaks.
 #[derive(Drop)]
-struct Narrow {
-    room: usize,
+pub struct Narrow {
+    pub room: usize,
 }
 
 impl Write for Narrow {
@@ -192,27 +191,6 @@ fn a_refused_expression_goes_before_a_missing_file(rt: HostRuntime) {
     let mut err: Vec<u8> = Vec::new(rt.alloc());
     assert_eq!(rt; run(&rt, words.as_slice(), &mut out, &mut err), 3);
     assert_eq!(rt; err.as_slice(), b"bpftap: Device no.pcap\n".as_slice());
-}
-
-// The bytes that hexadecimal digits stand for.
-fn bytes_of(alloc: Global, hex: &str) -> Result<Vec<u8>, AllocError> {
-    let mut bytes = Vec::new(alloc);
-    let mut high: Option<u8> = None;
-    for c in hex.bytes() {
-        let digit = match c {
-            b'0'..=b'9' => c - b'0',
-            b'a'..=b'f' => c - b'a' + 10,
-            _ => continue,
-        };
-        match high {
-            None => high = Some(digit),
-            Some(first) => {
-                bytes.push(first.wrapping_mul(16).wrapping_add(digit))?;
-                high = None;
-            }
-        }
-    }
-    Ok(bytes)
 }
 
 #[test]

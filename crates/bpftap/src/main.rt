@@ -22,6 +22,8 @@ mod script;
 pub mod steps;
 mod steps_files;
 #[cfg(test)]
+mod steps_device_tests;
+#[cfg(test)]
 mod steps_tests;
 mod steps_words;
 pub mod tell;

@@ -1,5 +1,7 @@
 //! Frames of the real capture `examples/veth.pcap`, and which of them tcpdump keeps.
 
+use std::alloc::{AllocError, Global};
+
 /// How many frames there are.
 pub const FRAMES: usize = 64;
 
@@ -297,3 +299,24 @@ pub const KEPT: [(&str, u64); 24] = [
     ("src and dst portrange 5000-6000", 0x8000_4fff_0000_0000),
     ("proto 17 and less 100", 0xfe00_007f_0000_0000),
 ];
+
+/// The bytes that hexadecimal digits stand for.
+pub fn bytes_of(alloc: Global, hex: &str) -> Result<Vec<u8>, AllocError> {
+    let mut bytes = Vec::new(alloc);
+    let mut high: Option<u8> = None;
+    for c in hex.bytes() {
+        let digit = match c {
+            b'0'..=b'9' => c - b'0',
+            b'a'..=b'f' => c - b'a' + 10,
+            _ => continue,
+        };
+        match high {
+            None => high = Some(digit),
+            Some(first) => {
+                bytes.push(first.wrapping_mul(16).wrapping_add(digit))?;
+                high = None;
+            }
+        }
+    }
+    Ok(bytes)
+}
