@@ -4,11 +4,10 @@ use crate::check::check;
 use crate::expression::{ExpressionFault, compile_text};
 use crate::filter::filter;
 use crate::program::run;
-use crate::veth_frames::{KEPT, VETH, bytes_of};
+use crate::tests::{BreakingWriter, bytes_of};
+use crate::veth_frames::{KEPT, VETH};
 use bpfvm::read_listing;
 use filtergen::Refusal;
-use std::io;
-use std::io::{ErrorKind, Write};
 use std::process::Abort;
 
 /// An expression, and what `check` prints of it.
@@ -97,31 +96,11 @@ fn a_program_that_is_too_long_is_told(rt: HostRuntime) {
     assert_eq!(rt; fault, Some(ExpressionFault::Tree(Refusal::BadSnap)));
 }
 
-/// A writer that has room for so many bytes, and then breaks.
-#[derive(Drop)]
-pub struct Narrow {
-    pub room: usize,
-}
-
-impl Write for Narrow {
-    fn write(&mut self, buf: &[u8]) -> io::Result<usize> {
-        let n = self.room.min(buf.len());
-        if n == 0 {
-            return Err(io::Error::from(ErrorKind::Other));
-        }
-        self.room -= n;
-        Ok(n)
-    }
-
-    fn flush(&mut self) -> io::Result<()> {
-        Ok(())
-    }
-}
-
 #[test]
 fn a_listing_that_is_not_taken_is_a_device_fault(rt: HostRuntime) {
     for room in [0, 5] {
-        let mut out = Narrow { room };
+        let taken = Vec::new(rt.alloc());
+        let mut out = BreakingWriter { taken, room };
         let mut err: Vec<u8> = Vec::new(rt.alloc());
         assert_eq!(rt; check(rt.alloc(), "ip", &mut out, &mut err), 3);
         assert_eq!(rt;

@@ -20,9 +20,9 @@ mod program;
 mod reports;
 mod script;
 pub mod steps;
-mod steps_files;
 #[cfg(test)]
 mod steps_device_tests;
+mod steps_files;
 #[cfg(test)]
 mod steps_tests;
 mod steps_words;

@@ -1,40 +1,27 @@
 //! `bpftap steps` over real frames, over too many listeners, and into an output that breaks.
 
-use crate::expression_tests::Narrow;
 use crate::program::run;
 use crate::steps::{play_asked, read_asked, steps};
-use crate::veth_frames::{FRAMES, KEPT, VETH, bytes_of};
-use std::alloc::{AllocError, Global};
+use crate::tests::{BreakingWriter, HEADER, bytes_of};
+use crate::veth_frames::{FRAMES, KEPT, VETH, capture};
 use std::fmt::Write as _;
 use std::process::Abort;
 use std::test::Fail;
 
-/// Little-endian, microseconds, snapshot length 262,144, Ethernet.
-const HEADER: [u8; 24] = [
-    0xd4, 0xc3, 0xb2, 0xa1, 2, 0, 4, 0, 0, 0, 0, 0, 0, 0, 0, 0, 0, 0, 4, 0, 1, 0, 0, 0,
-];
-
-/// The real frames as a capture, at second 0, 1, ..
-fn veth(alloc: Global) -> Result<Vec<u8>, AllocError> {
-    let mut text = Vec::from_slice(alloc, &HEADER)?;
-    for (place, (wire, hex)) in VETH.iter().enumerate() {
-        let frame = bytes_of(alloc, hex)?;
-        for field in [place as u32, 0, frame.len() as u32, *wire] {
-            text.extend_from_slice(&field.to_le_bytes())?;
-        }
-        text.extend_from_slice(frame.as_slice())?;
-    }
-    Ok(text)
-}
-
 /// What is printed of a listener that nobody reads, of snapshot length 40, which keeps the frames of these bits.
 fn put_report(text: &mut String, l: usize, kept: u64) -> Result<(), Fail> {
     let matched = kept.count_ones();
-    write!(text, "listener {l} received {FRAMES} matched {matched} dropped 0\nheld\n")?;
+    write!(
+        text,
+        "listener {l} received {FRAMES} matched {matched} dropped 0\nheld\n"
+    )?;
     let mut left = kept;
     for (place, (wire, _hex)) in VETH.iter().enumerate() {
         if left % 2 == 1 {
-            write!(text, "capture 0 place {place} time {place}.000000000 len {wire} kept 40\n")?;
+            write!(
+                text,
+                "capture 0 place {place} time {place}.000000000 len {wire} kept 40\n"
+            )?;
         }
         left /= 2;
     }
@@ -53,7 +40,7 @@ fn real_frames_are_counted_as_tcpdump_counts_them(rt: HostRuntime) -> Result<(),
     for _ in 0..FRAMES {
         script.push_str("arrive\n")?;
     }
-    let text = veth(rt.alloc())?;
+    let text = capture(rt.alloc())?;
     let mut out: Vec<u8> = Vec::new(rt.alloc());
     let mut err: Vec<u8> = Vec::new(rt.alloc());
     let status = steps(
@@ -76,6 +63,7 @@ fn as_many_listeners_as_may_be(rt: HostRuntime) -> Result<(), Fail> {
     for _ in 0..64 {
         listeners.push_str("32 64\n")?;
     }
+    let header = bytes_of(rt.alloc(), HEADER)?;
     for (status, told) in [(0, ""), (1, "bpftap: TooMany\n")] {
         let mut out: Vec<u8> = Vec::new(rt.alloc());
         let mut err: Vec<u8> = Vec::new(rt.alloc());
@@ -83,7 +71,7 @@ fn as_many_listeners_as_may_be(rt: HostRuntime) -> Result<(), Fail> {
             rt.alloc(),
             listeners.as_bytes(),
             b"arrive",
-            &[HEADER.as_slice()],
+            &[header.as_slice()],
             &mut out,
             &mut err,
         );
@@ -97,20 +85,22 @@ fn as_many_listeners_as_may_be(rt: HostRuntime) -> Result<(), Fail> {
 
 #[test]
 fn reports_that_are_not_taken_are_a_device_fault(rt: HostRuntime) -> Result<(), Fail> {
-    let mut torn = Vec::from_slice(rt.alloc(), &HEADER)?;
+    let header = bytes_of(rt.alloc(), HEADER)?;
+    let mut torn = bytes_of(rt.alloc(), HEADER)?;
     torn.extend_from_slice(&[0; 15])?;
     let asked = read_asked(rt.alloc(), b"32 64", b"arrive\nread 0")?;
     for explained in [false, true] {
         // The fault of the capture is told too, and the greatest status stands.
         for (text, told) in [
-            (HEADER.as_slice(), "bpftap: Device standard output\n"),
+            (header.as_slice(), "bpftap: Device standard output\n"),
             (
                 torn.as_slice(),
                 "bpftap: Device standard output\nbpftap: Capture 0 TornRecord 0\n",
             ),
         ] {
             for room in [0, 5, 44] {
-                let mut out = Narrow { room };
+                let taken = Vec::new(rt.alloc());
+                let mut out = BreakingWriter { taken, room };
                 let mut err: Vec<u8> = Vec::new(rt.alloc());
                 let status = play_asked(rt.alloc(), &asked, &[text], explained, &mut out, &mut err);
                 assert_eq!(rt; err.as_slice(), told.as_bytes());

@@ -3,6 +3,7 @@
 use crate::cut::{CutEnd, End, cut};
 use crate::filter::filter;
 use crate::tell::tell;
+use crate::veth_frames::capture;
 use bpfvm::Program;
 use savefile::{Counted, Fault, Order, Unit};
 use std::alloc::{AllocError, Global};
@@ -27,7 +28,7 @@ pub(crate) const ALL: &[u8] = b"1\n6 0 0 262144\n";
 pub(crate) const ETHERTYPE: &[u8] = b"4\n40 0 0 12\n21 0 1 2048\n6 0 0 262144\n6 0 0 0\n";
 
 // The bytes that a text of hexadecimal digits stands for; what is no digit is passed over.
-fn bytes_of(alloc: Global, hex: &str) -> Result<Vec<u8>, AllocError> {
+pub(crate) fn bytes_of(alloc: Global, hex: &str) -> Result<Vec<u8>, AllocError> {
     let mut bytes = Vec::new(alloc);
     let mut high = None;
     for c in hex.bytes() {
@@ -354,17 +355,18 @@ fn a_refused_listing_is_told(rt: HostRuntime) -> Result<(), Fail> {
     Ok(())
 }
 
-/// A reader that gives a piece at a time, and breaks where it has none left.
+/// A reader that gives a piece at a time, and ends or breaks where it has none left.
 #[derive(Drop)]
-struct BreakingReader<'a> {
-    left: &'a [u8],
-    piece: usize,
+pub(crate) struct PiecesReader<'a> {
+    pub(crate) left: &'a [u8],
+    pub(crate) piece: usize,
+    pub(crate) breaks: bool,
 }
 
-impl Read for BreakingReader<'_> {
+impl Read for PiecesReader<'_> {
     fn read(&mut self, buf: &mut [u8]) -> io::Result<usize> {
         let n = self.piece.min(buf.len()).min(self.left.len());
-        if n == 0 {
+        if n == 0 && self.breaks {
             return Err(io::Error::from(ErrorKind::Other));
         }
         let (front, rest) = self.left.split_at(n);
@@ -415,9 +417,10 @@ fn a_broken_source_is_told_behind_its_packets(rt: HostRuntime) -> Result<(), Fai
         (7, 57, 54),
         (1000, text.len(), 84),
     ] {
-        let from = Counted::new(BreakingReader {
+        let from = Counted::new(PiecesReader {
             left: text.as_slice().get(..given).unwrap_or(b""),
             piece,
+            breaks: true,
         });
         let to = Counted::new(Vec::new(alloc));
         let end = cut(alloc, from, &program, 0, Order::Little, Unit::Micro, to);
@@ -432,6 +435,26 @@ fn a_broken_source_is_told_behind_its_packets(rt: HostRuntime) -> Result<(), Fai
             "bpftap: Device in.pcap\n",
             3,
         );
+    }
+    Ok(())
+}
+
+#[test]
+fn real_frames_are_copied_in_pieces_of_any_size(rt: HostRuntime) -> Result<(), Fail> {
+    let alloc = rt.alloc();
+    let text = capture(alloc)?;
+    let program = program_of(&rt, ALL);
+    for piece in [1, 2, 17, 61, 62, 63, text.len()] {
+        let from = Counted::new(PiecesReader {
+            left: text.as_slice(),
+            piece,
+            breaks: false,
+        });
+        let to = Counted::new(Vec::new(alloc));
+        let end = cut(alloc, from, &program, 0, Order::Little, Unit::Micro, to);
+        assert_eq!(rt; end.end, End::Clean);
+        let (_source, seen) = seen_of(alloc, end);
+        check(&rt, "real frames", &seen, text.as_slice(), "", 0);
     }
     Ok(())
 }

@@ -1,5 +1,6 @@
 //! Frames of the real capture `examples/veth.pcap`, and which of them tcpdump keeps.
 
+use crate::tests::{HEADER, bytes_of};
 use std::alloc::{AllocError, Global};
 
 /// How many frames there are.
@@ -300,23 +301,15 @@ pub const KEPT: [(&str, u64); 24] = [
     ("proto 17 and less 100", 0xfe00_007f_0000_0000),
 ];
 
-/// The bytes that hexadecimal digits stand for.
-pub fn bytes_of(alloc: Global, hex: &str) -> Result<Vec<u8>, AllocError> {
-    let mut bytes = Vec::new(alloc);
-    let mut high: Option<u8> = None;
-    for c in hex.bytes() {
-        let digit = match c {
-            b'0'..=b'9' => c - b'0',
-            b'a'..=b'f' => c - b'a' + 10,
-            _ => continue,
-        };
-        match high {
-            None => high = Some(digit),
-            Some(first) => {
-                bytes.push(first.wrapping_mul(16).wrapping_add(digit))?;
-                high = None;
-            }
+/// The frames as a little-endian capture in microseconds, at second 0, 1, ..
+pub fn capture(alloc: Global) -> Result<Vec<u8>, AllocError> {
+    let mut text = bytes_of(alloc, HEADER)?;
+    for (place, (wire, hex)) in VETH.iter().enumerate() {
+        let frame = bytes_of(alloc, hex)?;
+        for field in [place as u32, 0, frame.len() as u32, *wire] {
+            text.extend_from_slice(&field.to_le_bytes())?;
         }
+        text.extend_from_slice(frame.as_slice())?;
     }
-    Ok(bytes)
+    Ok(text)
 }
