@@ -4,7 +4,8 @@ use Rattle.listener.specs.declared.answer.Fed.{Fed}
 use Rattle.listener.specs.declared.answer.Fed.TheVariants.{Passed, Stored, Held, Rotated, Dropped, Closed}
 use Rattle.listener.specs.declared.mode.Mode.TheVariants.{Buffered, Immediate}
 use Rattle.listener.specs.declared.message.Message.{Message}
-use Rattle.listener.specs.Messages.{size_of, room}
+use Rattle.bpfvm.specs.declared.insn.Insn.{Insn}
+use Rattle.listener.specs.Messages.{Arrival, kept_by, size, size_of, room}
 use Rattle.listener.specs.PlainList.{Terms, terms, PlainList, Event, arrived, flushed, read, stored, load, Fair, Legal, next, run, empty, batches, Request, Arrive, requests, request_of, answer, answers}
 use Rattle.listener.specs.LookingBack.{before_close, all_accepted, kept, dropped, received, matched}
 
@@ -90,6 +91,10 @@ BuffersFollow = (t : Terms) (s : PlainList) (e : Event) → HeldIsWithin s → F
 abbrev pub FitsIn : ℕ → Request → Type 0
 FitsIn capacity (Arrive (Some m)) = size_of m ≤ capacity
 FitsIn capacity other = Unit {0}
+
+-- What a filter keeps fits each capacity that has room for a snapshot length of data.
+abbrev pub KeptFits : Type 0
+KeptFits = (program : List Insn) (snap capacity : ℕ) (a : Arrival) → size snap ≤ capacity → FitsIn capacity (Arrive (kept_by program snap a))
 
 abbrev pub AllFitIn : ℕ → List Request → Type 0
 AllFitIn capacity [] = Unit {0}

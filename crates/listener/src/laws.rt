@@ -1,6 +1,6 @@
 //! Laws of the plain list. Each function is empty, and its contract is the law.
 
-ghost use Rattle.listener.specs.Laws.{AnswersAreFair, AnswersAreLegal, ImmediateIsFlushed, RunsAppend, LegalAppends, BatchesAppend, HeldStaysWithin, BuffersFollow, BuffersStayWithin, CountsFollow, CountsStayOrdered, ReadsCommute, RunsAreKept, MatchedAreKeptOrDropped, KeptIsThinned, KeptAreAccepted};
+ghost use Rattle.listener.specs.Laws.{AnswersAreFair, AnswersAreLegal, ImmediateIsFlushed, RunsAppend, LegalAppends, BatchesAppend, HeldStaysWithin, BuffersFollow, BuffersStayWithin, KeptFits, CountsFollow, CountsStayOrdered, ReadsCommute, RunsAreKept, MatchedAreKeptOrDropped, KeptIsThinned, KeptAreAccepted};
 
 /// Each request has one right answer, and a list of requests one legal run.
 pub fn answers()
@@ -26,6 +26,11 @@ pub fn buffers()
     ensures held { HeldStaysWithin }
     ensures follow { BuffersFollow }
     ensures within { BuffersStayWithin }
+{}
+
+/// What a filter keeps of a packet fits the capacity of each listener of its snapshot length.
+pub fn fitting()
+    ensures { KeptFits }
 {}
 
 /// What an event adds to the counts, and that the dropped are some of the matched, and these some of the received.

@@ -1,6 +1,6 @@
 //! One listener: a program, a store and a hold.
 
-ghost use Rattle.std.specs.Prelude.{◌≡◌, ◌-◌, ◌<◌, ◌^◌, ◌++◌, [], length, Some, None, IfOk, IfErr, OnOk, IsTrue, ◌↔◌};
+ghost use Rattle.std.specs.Prelude.{◌≡◌, ◌-◌, ◌<◌, ◌≤◌, ◌^◌, ◌++◌, [], length, Some, None, IfOk, IfErr, OnOk, IsTrue, ◌↔◌};
 ghost use Rattle.listener.specs.Buffers.{filled};
 ghost use Rattle.listener.specs.Listening.{listening, seen_by, Takes, RefusesOpen, InRange};
 ghost use Rattle.listener.specs.Messages.{arrival};
@@ -115,7 +115,8 @@ impl Listener {
 
     /// How many bytes of records each of its buffers has room for.
     pub fn capacity(&self) -> usize
-        ensures { result ≡ self.now.terms.capacity }
+        ensures is { result ≡ self.now.terms.capacity }
+        ensures in_range { InRange self.now.snap result }
     {
         self.store.capacity()
     }
@@ -125,6 +126,8 @@ impl Listener {
         ensures received { result.received ≡ self.now.list.received }
         ensures matched { result.matched ≡ self.now.list.matched }
         ensures dropped { result.dropped ≡ self.now.list.dropped }
+        ensures some_matched { result.matched ≤ result.received }
+        ensures some_dropped { result.dropped ≤ result.matched }
     {
         self.counts
     }
@@ -204,6 +207,8 @@ impl Listener {
     pub fn buffers(&self) -> (&Buffer, &Buffer)
         ensures pending { result.0.now.messages ++ result.1.now.messages ≡ self.now.list.pending }
         ensures held { length result.0.now.messages ≡ self.now.list.held }
+        ensures hold_capacity { result.0.now.capacity ≡ self.now.terms.capacity }
+        ensures store_capacity { result.1.now.capacity ≡ self.now.terms.capacity }
     {
         (&self.hold, &self.store)
     }

@@ -12,7 +12,7 @@ use Rattle.listener.specs.Messages.{Arrival, cut_to, kept_by, size, size_of}
 use Rattle.listener.specs.Listening.{listening}
 use Rattle.listener.specs.PlainList.{Terms, Request, Event, Legal, answers, empty, batches, requests}
 use Rattle.listener.specs.PlainList as P
-use Rattle.listener.specs.Laws.{AnswersAreLegal, RunsAreKept, FitsIn, AllFitIn, IsKept, joined}
+use Rattle.listener.specs.Laws.{AnswersAreLegal, RunsAreKept, KeptFits, FitsIn, AllFitIn, IsKept, joined}
 use Rattle.tap.specs.declared.playlist.Placed.{Placed}
 use Rattle.tap.specs.declared.report.Report.{Report}
 use Rattle.tap.specs.declared.step.Step.{Step}
@@ -39,19 +39,7 @@ use Rattle.std.specs.List.{AllZip, slice_get}
 use Rattle.std.proofs.Common.{zero, suc, map, option_map}
 use Rattle.std.proofs.lemmas.List.{length-map}
 
--- ---- What is kept fits
-
-size_mono : (a b : ℕ) → a ≤ b → size a ≤ size b
-size_mono a b h = omega arith
-
-fits_by : (program : List Insn) (snap capacity : ℕ) (a : Arrival) → size snap ≤ capacity → (b : Bool) → nat_lt 0 (verdict program a.packet.bytes a.packet.len) ≡ b → FitsIn capacity (P.Arrive (kept_by program snap a))
-unfolding kept_by size_of
-fits_by program snap capacity a h true e =
-    let n : ℕ = min (verdict program a.packet.bytes a.packet.len) snap in
-    let l : length (take n a.packet.bytes) ≤ snap = omega (arith, length-take n a.packet.bytes) in
-    let m : size (length (take n a.packet.bytes)) ≤ capacity = omega (arith, size_mono (length (take n a.packet.bytes)) snap l) in
-    rw e m
-fits_by program snap capacity a h false e = rw e tt
+-- ---- Own steps fit
 
 if_fits : (capacity : ℕ) (b : Bool) (r : Request) (rs : List Request) → FitsIn capacity r → AllFitIn capacity rs → AllFitIn capacity (cond b (r ∷ []) [] ++ rs)
 if_fits capacity true r rs h hs = (h, hs)
@@ -71,7 +59,7 @@ own_fits keeps capacity l h (Close k ∷ steps) playlist = if_fits capacity (k =
 abbrev came_to : Bool → List Insn → ℕ → Terms → List Request → Watch
 came_to traced program snap t rs = all_stepped rs (watch (listening program snap t empty) [] (no_answers traced))
 
-module _ (legal_law : AnswersAreLegal) (kept_law : RunsAreKept) where
+module _ (legal_law : AnswersAreLegal) (kept_law : RunsAreKept) (fit_law : KeptFits) where
   pub reports_by : (traced : Bool) (program : List Insn) (snap : ℕ) (t : Terms) (l : ℕ) (steps : List Step) (playlist : List Placed) (report : Report) → size snap ≤ t.capacity →
       Tells (came_to traced program snap t (own (kept_by program snap) l steps playlist)) report →
       Reports t (own (kept_by program snap) l steps playlist) report
@@ -83,7 +71,7 @@ module _ (legal_law : AnswersAreLegal) (kept_law : RunsAreKept) where
       let r : Tells (watch (listening program snap t (run_of t rs)) (batches es) (option_map (λ l. l ++ all_answered empty es) (no_answers traced))) report =
       subst (λ (w : Watch). Tells w report) is tells in
       let fit : AllFitIn t.capacity (requests es) = subst (AllFitIn t.capacity) (sym law.1)
-      (own_fits (kept_by program snap) t.capacity l (λ a. fits_by program snap t.capacity a room (nat_lt 0 (verdict program a.packet.bytes a.packet.len)) refl) steps playlist) in
+      (own_fits (kept_by program snap) t.capacity l (λ a. fit_law program snap t.capacity a room) steps playlist) in
       let k : IsKept t rs (batches es) (run_of t rs) = subst (λ (q : List Request). IsKept t q (batches es) (run_of t rs)) law.1 (kept_law t es fit law.0) in
       record {
         looks_back = record {
@@ -95,16 +83,17 @@ module _ (legal_law : AnswersAreLegal) (kept_law : RunsAreKept) where
         runs = record { batches = r.read; pending = r.held; received = r.received; matched = r.matched; dropped = r.dropped };
       }
 
-  pub legal_by : (program : List Insn) (snap : ℕ) (t : Terms) (rs : List Request) (followed : List Answered) →
-      IsFollowed (came_to true program snap t rs) followed → AreLegal t rs followed
-  legal_by program snap t rs followed follows =
-      let law = legal_law t empty rs in
-      record {
-        events = answers t empty rs;
-        of_steps = law.1;
-        legal = law.0;
-        told = follows (all_answered empty (answers t empty rs)) (ap (λ (w : Watch). w.answers) (all_stepped_is program snap t empty [] (no_answers true) rs));
-      }
+-- the answers that were followed are the legal ones of a listener's own steps
+pub legal_by : AnswersAreLegal → (program : List Insn) (snap : ℕ) (t : Terms) (rs : List Request) (followed : List Answered) →
+    IsFollowed (came_to true program snap t rs) followed → AreLegal t rs followed
+legal_by legal_law program snap t rs followed follows =
+    let law = legal_law t empty rs in
+    record {
+      events = answers t empty rs;
+      of_steps = law.1;
+      legal = law.0;
+      told = follows (all_answered empty (answers t empty rs)) (ap (λ (w : Watch). w.answers) (all_stepped_is program snap t empty [] (no_answers true) rs));
+    }
 
 -- ---- An expression stands for its program
 
@@ -155,7 +144,7 @@ ended_at R traced specs ws done ys steps playlist opened is tells l spec here =
     let r = zip_at R done ys l (goes l steps playlist o.0) tells d in
     (o.0, o.2, r.0, r.1, r.2)
 
-module _ (legal_law : AnswersAreLegal) (kept_law : RunsAreKept) (traced : Bool) (specs : List Spec) (ws done : List Watch) (steps : List Step) (playlist : List Placed)
+module _ (legal_law : AnswersAreLegal) (kept_law : RunsAreKept) (fit_law : KeptFits) (traced : Bool) (specs : List Spec) (ws done : List Watch) (steps : List Step) (playlist : List Placed)
     (opened : AllZip (Opened traced) specs ws) (is : done ≡ played steps playlist ws) (real : AllPackets playlist) where
   pub headline_at : (reports : List Report) → AllZip Tells done reports → (l : ℕ) (spec : Spec) → slice_get specs l ≡ Some spec →
       (report : Report) × (slice_get reports l ≡ Some report) × Told spec.filter spec.snap (λ keeps. Reports (terms_of spec) (own keeps l steps playlist) report)
@@ -167,10 +156,10 @@ module _ (legal_law : AnswersAreLegal) (kept_law : RunsAreKept) (traced : Bool) 
         e.2,
         e.3,
         told (λ rs. Reports (terms_of spec) rs e.2) spec.filter o.program spec.snap l steps playlist o.range.least real o.made
-            (reports_by legal_law kept_law traced o.program spec.snap (terms_of spec) l steps playlist e.2 o.range.room r),
+            (reports_by legal_law kept_law fit_law traced o.program spec.snap (terms_of spec) l steps playlist e.2 o.range.room r),
       )
 
-module _ (legal_law : AnswersAreLegal) (kept_law : RunsAreKept) (specs : List Spec) (ws done : List Watch) (steps : List Step) (playlist : List Placed)
+module _ (legal_law : AnswersAreLegal) (specs : List Spec) (ws done : List Watch) (steps : List Step) (playlist : List Placed)
     (opened : AllZip (Opened true) specs ws) (is : done ≡ played steps playlist ws) (real : AllPackets playlist) where
   pub answers_at : (all : List (List Answered)) → AllZip IsFollowed done all → (l : ℕ) (spec : Spec) → slice_get specs l ≡ Some spec →
       (own_answers : List Answered) × (slice_get all l ≡ Some own_answers) × Told spec.filter spec.snap (λ keeps. AreLegal (terms_of spec) (own keeps l steps playlist) own_answers)
@@ -182,7 +171,7 @@ module _ (legal_law : AnswersAreLegal) (kept_law : RunsAreKept) (specs : List Sp
         e.2,
         e.3,
         told (λ rs. AreLegal (terms_of spec) rs e.2) spec.filter o.program spec.snap l steps playlist o.range.least real o.made
-            (legal_by legal_law kept_law o.program spec.snap (terms_of spec) (own (kept_by o.program spec.snap) l steps playlist) e.2 f),
+            (legal_by legal_law o.program spec.snap (terms_of spec) (own (kept_by o.program spec.snap) l steps playlist) e.2 f),
       )
 
 pub length_played : (steps : List Step) (playlist : List Placed) (ws : List Watch) → length (played steps playlist ws) ≡ length ws
@@ -200,24 +189,24 @@ ended_many R traced specs ws done ys steps playlist opened is tells =
     zip_length R done ys tells ∙ ap length is ∙ length_played steps playlist ws ∙ zip_length (Opened traced) specs ws opened
 
 -- what the reports of a replay's end tell
-pub replays_by : (legal_law : AnswersAreLegal) (kept_law : RunsAreKept) (traced : Bool) (captures : List (List ℕ)) (specs : List Spec) (steps : List Step) (playlist : List Placed)
+pub replays_by : (legal_law : AnswersAreLegal) (kept_law : RunsAreKept) (fit_law : KeptFits) (traced : Bool) (captures : List (List ℕ)) (specs : List Spec) (steps : List Step) (playlist : List Placed)
     (torn : Option (ℕ × Misread)) (done : List Watch) → ComesTo traced captures specs steps playlist torn done →
     (reports : List Report) → AllZip Tells done reports → Replays captures specs steps reports torn
-replays_by legal_law kept_law traced captures specs steps playlist torn done c reports tells = record {
+replays_by legal_law kept_law fit_law traced captures specs steps playlist torn done c reports tells = record {
   playlist = playlist;
   of_captures = c.of_captures;
   one_each = ended_many Tells traced specs c.began done reports steps playlist c.opened c.ends tells;
-  each = headline_at legal_law kept_law traced specs c.began done steps playlist c.opened c.ends c.packets reports tells;
+  each = headline_at legal_law kept_law fit_law traced specs c.began done steps playlist c.opened c.ends c.packets reports tells;
 }
 
 -- what the answers tell, where they were followed
-pub traces_by : (legal_law : AnswersAreLegal) (kept_law : RunsAreKept) (captures : List (List ℕ)) (specs : List Spec) (steps : List Step) (playlist : List Placed)
+pub traces_by : (legal_law : AnswersAreLegal) (captures : List (List ℕ)) (specs : List Spec) (steps : List Step) (playlist : List Placed)
     (torn : Option (ℕ × Misread)) (done : List Watch) → ComesTo true captures specs steps playlist torn done →
     (all : List (List Answered)) → AllZip IsFollowed done all → Traces captures specs steps playlist torn all
-traces_by legal_law kept_law captures specs steps playlist torn done c all followed = record {
+traces_by legal_law captures specs steps playlist torn done c all followed = record {
   of_captures = c.of_captures;
   one_each = ended_many IsFollowed true specs c.began done all steps playlist c.opened c.ends followed;
-  each = answers_at legal_law kept_law specs c.began done steps playlist c.opened c.ends c.packets all followed;
+  each = answers_at legal_law specs c.began done steps playlist c.opened c.ends c.packets all followed;
 }
 
 pub stand_opened : (traced : Bool) (specs : List Spec) (ws : List Watch) → AllZip (Opened traced) specs ws → ListenersStand specs

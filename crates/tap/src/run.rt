@@ -119,6 +119,7 @@ pub fn replay(
 {
     listener::laws::answers();
     listener::laws::looking_back();
+    listener::laws::fitting();
     let Outcome { playlist, watched } = play_all(alloc, captures, specs, steps, false)?;
     let reports = report_all(alloc, watched)?;
     Ok((reports, playlist.torn))
@@ -144,6 +145,7 @@ pub fn trace(
 {
     listener::laws::answers();
     listener::laws::looking_back();
+    listener::laws::fitting();
     let Outcome { playlist, watched } = play_all(alloc, captures, specs, steps, true)?;
     let (reports, answers) = trace_all(alloc, watched)?;
     Ok(Trace {
