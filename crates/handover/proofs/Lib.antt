@@ -4,3 +4,7 @@ pub mod Keeps
 pub mod Steps
 pub mod Settling
 pub mod Owns
+pub mod Seats
+pub mod Paths
+pub mod Feeders
+pub mod Endings

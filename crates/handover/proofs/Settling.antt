@@ -3,7 +3,7 @@ use Rattle.std.proofs.Common.{◌≡◌, ◌+◌, Bool, true, false, List, [], �
 use Rattle.listener.specs.declared.answer.Fed.TheVariants.{Passed, Stored, Held, Rotated, Dropped, Closed}
 use Rattle.listener.specs.declared.message.Message.{Message}
 use Rattle.listener.specs.PlainList.{Terms, PlainList, empty, Fair, Legal, next, run, requests, batches}
-use Rattle.listener.specs.Laws.{AllFitIn, joined}
+use Rattle.listener.specs.Laws.{AllFitIn, IsKept, joined}
 use Rattle.listener.proofs.KeptRuns.{runs_are_kept}
 use Rattle.handover.specs.declared.calls.Feed.{Feed}
 use Rattle.handover.specs.declared.calls.Feed.TheVariants.{Arrive, Flush, FlushClosed}
@@ -103,11 +103,16 @@ batches_are (got Nothing ∷ hs) = batches_are hs
 batches_are (got Ended ∷ hs) = batches_are hs
 batches_are (shut ∷ hs) = batches_are hs
 
+pub histories_are_kept : (t : Terms) (fs : List Feed) (ts : List Take) → AllFit t.capacity fs → Legal t empty (events (merge fs ts))
+    → IsKept t (requests (events (merge fs ts))) (batches (events (merge fs ts))) (last fs ts)
+histories_are_kept t fs ts fits legal =
+    runs_are_kept t (events (merge fs ts)) (all_fit t (merge fs ts) (subst (AllFit t.capacity) (sym (feeds_in-merge false fs ts)) fits)) legal
+
 pub histories_are_settled : HistoriesAreSettled
 histories_are_settled t fs ts fits legal =
     let hs : List Happening = merge fs ts in
     let fed_is : feeds_in hs ≡ fs = feeds_in-merge false fs ts in
-    let k = runs_are_kept t (events hs) (all_fit t hs (subst (AllFit t.capacity) (sym fed_is) fits)) legal in
+    let k = histories_are_kept t fs ts fits legal in
     let c = counts_run t empty hs legal in
     let bs : batches (events hs) ≡ batches_of ts = batches_are hs ∙ ap batches_of (takes_in-merge false fs ts) in
     let a : arrivals (feeds_in hs) ≡ arrivals fs = ap arrivals fed_is in

@@ -5,3 +5,8 @@ pub mod Tidy
 pub mod Allowed
 pub mod Rule
 pub mod Laws
+pub mod Asks
+pub mod Ends
+pub mod Seated
+pub mod Reads
+pub mod Settling

@@ -3,6 +3,7 @@ use Rattle.std.specs.Prelude.{◌≡◌, ◌≢◌, ℕ, ◌<◌, Bool, true, fa
 use mathlib.Core.Option.{some, none}
 use mathlib.Core.Option as lean
 use Rattle.atomic_table.specs.Table.{State, Me, rest}
+use Rattle.listener.specs.declared.mode.Mode.{Mode}
 use Rattle.listener.specs.declared.mode.Mode.TheVariants.{Buffered}
 use Rattle.listener.specs.declared.message.Message.{Message}
 use Rattle.listener.specs.Buffers.{Filled, filled}
@@ -20,6 +21,9 @@ use Rattle.handover.specs.declared.view.View.{View}
 use Rattle.handover.specs.History.{events, merge, finds, ended_in, EndedIsLast}
 use Rattle.handover.specs.Allowed.{AllFit}
 use Rattle.handover.specs.Tidy.{Tidy}
+
+abbrev pub profile_of : ℕ → Mode → Profile
+profile_of capacity mode = record { capacity = capacity; mode = mode }
 
 abbrev pub terms_of : Profile → Terms
 terms_of p = terms p.capacity p.mode

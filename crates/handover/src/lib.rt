@@ -1,10 +1,21 @@
-//! The histories of a feeder and a drain that hand packets over without a lock, and the laws of their steps. The pair itself is
-//! not there yet.
+//! A feeder and a drain, each in a thread of its own, hand a listener's packets over without a lock: their calls have one
+//! legal history.
 #![tactic(auto)]
 
 mod calls;
+mod drain;
+mod feeder;
 pub mod laws;
+mod link;
+mod rule;
+mod stand;
 mod view;
 
 pub use calls::{Feed, Step, Take, Word};
+pub use drain::{Drain, DrainEnd, Read};
+pub use feeder::{FeedEnd, Feeder};
+pub use link::{Link, Settled, pair, pair_as, settle};
 pub use view::{Profile, Role, View};
+
+#[cfg(test)]
+mod tests;

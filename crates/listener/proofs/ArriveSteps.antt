@@ -1,5 +1,5 @@
 -- The steps of an arrival, over a hold and a store.
-use Rattle.std.proofs.Common.{◌≡◌, ℕ, ◌+◌, ◌*◌, ◌/◌, ◌<◌, ◌≤◌, Bool, true, false, List, [], ◌∷◌, ◌++◌, Option, Some, None, length, take, min, refl, ap, sym, ◌∙◌, subst, arith, lt-ltb, length-take, append_assoc, IsTrue}
+use Rattle.std.proofs.Common.{◌≡◌, ℕ, ◌+◌, ◌<◌, ◌≤◌, Bool, true, false, List, [], ◌∷◌, ◌++◌, Option, Some, None, length, take, min, refl, ap, sym, ◌∙◌, subst, arith, lt-ltb, length-take, append_assoc, IsTrue}
 use Rattle.std.specs.Bool.{OnTrue}
 use Rattle.std.proofs.lemmas.Bool.{false≢true}
 use Rattle.std.proofs.lemmas.List.{append-nil, take_min}
@@ -11,7 +11,7 @@ use Rattle.listener.specs.declared.message.Message.{Message}
 use Rattle.listener.specs.declared.answer.Fed.TheVariants.{Passed, Stored, Held, Rotated, Dropped}
 use Rattle.listener.specs.declared.mode.Mode.{Mode}
 use Rattle.listener.specs.declared.mode.Mode.TheVariants.{Buffered, Immediate}
-use Rattle.listener.specs.Messages.{Arrival, arrival, cut_to, kept_by, size, size_of, room}
+use Rattle.listener.specs.Messages.{Arrival, arrival, cut_to, kept_by, Keeps, size, size_of, room}
 use Rattle.listener.specs.PlainList.{Terms, PlainList, plain, arrived, Steps, load, StaysStored, IsHandedOver}
 use Rattle.listener.proofs.Rooms.{size_of_is}
 
@@ -33,19 +33,12 @@ kept_by_cut program snap a kept h e =
     let answer : ℕ = verdict program a.packet.bytes a.packet.len in
     rw (lt-ltb _ _ h) (ap (λ (bytes : List ℕ). Some (with_bytes a bytes)) (sym (take_min (min answer snap) a.packet.bytes) ∙ ap (λ (n : ℕ). take n a.packet.bytes) (sym e)))
 
-size_cut : (a : Arrival) (kept : ℕ) → kept ≤ length a.packet.bytes → size_of (cut_to kept a) ≡ size kept
+pub size_cut : (a : Arrival) (kept : ℕ) → kept ≤ length a.packet.bytes → size_of (cut_to kept a) ≡ size kept
 size_cut a kept h = size_of_is (cut_to kept a) ∙ ap size (let e : length (take kept a.packet.bytes) ≡ kept = omega (arith, length-take kept a.packet.bytes) in e)
-
--- What the code's numbers say of the message.
-pub record IsSeen (program : List Insn) (snap : ℕ) (a : Arrival) (kept : ℕ) : Type 0 where
-  pub message : kept_by program snap a ≡ Some (cut_to kept a)
-  pub size : size_of (cut_to kept a) ≡ 32 + (kept + 7) / 8 * 8
-  pub within : kept ≤ snap
-  pub captured : kept ≤ length a.packet.bytes
 
 -- by what the code reads of the packet, which is seen as p
 pub seen_cut : (program : List Insn) (snap capture place : ℕ) (p q : Packet) (v most kept : ℕ) → q ≡ p → v ≡ verdict program q.bytes q.len → 0 < v →
-    most ≡ min v snap → kept ≡ min most (length q.bytes) → IsSeen program snap (arrival capture place p) kept
+    most ≡ min v snap → kept ≡ min most (length q.bytes) → Keeps program snap (arrival capture place p) kept
 seen_cut program snap capture place p q v most kept view is some m k =
     let a = arrival capture place p in
     let w : v ≡ verdict program p.bytes p.len = is ∙ ap (λ (x : Packet). verdict program x.bytes x.len) view in
@@ -53,7 +46,6 @@ seen_cut program snap capture place p q v most kept view is some m k =
     let e : kept ≡ min (min (verdict program p.bytes p.len) snap) (length p.bytes) = n ∙ (λ i. min (min (w i) snap) (length p.bytes)) in
     record {
       message = kept_by_cut program snap a kept (subst (λ (x : ℕ). 0 < x) w some) e;
-      size = size_cut a kept (omega arith);
       within = omega arith;
       captured = omega arith;
     }

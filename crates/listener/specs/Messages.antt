@@ -1,5 +1,5 @@
 -- What a listener keeps of the packets that arrive, and the room that it takes in a buffer.
-use Rattle.std.specs.Prelude.{ℕ, ◌+◌, ◌*◌, ◌/◌, List, Option, Some, None, length, take, min, nat_lt, if◌then◌else◌}
+use Rattle.std.specs.Prelude.{◌≡◌, ℕ, ◌+◌, ◌*◌, ◌/◌, ◌≤◌, List, Option, Some, None, length, take, min, nat_lt, if◌then◌else◌}
 use Rattle.std.specs.List.{sum_by}
 use Rattle.savefile.specs.declared.packet.Packet.{Packet}
 use Rattle.bpfvm.specs.declared.insn.Insn.{Insn}
@@ -38,3 +38,9 @@ kept_by program snap a =
     if nat_lt 0 (verdict program a.packet.bytes a.packet.len)
     then Some (cut_to (min (verdict program a.packet.bytes a.packet.len) snap) a)
     else None
+
+-- this many of its first bytes are what the filter keeps of an arrival
+pub record Keeps (program : List Insn) (snap : ℕ) (a : Arrival) (kept : ℕ) : Type 0 where
+  pub message : kept_by program snap a ≡ Some (cut_to kept a)
+  pub within : kept ≤ snap
+  pub captured : kept ≤ length a.packet.bytes

@@ -4,6 +4,7 @@
 mod answer;
 mod buffer;
 mod fault;
+mod filter;
 pub mod laws;
 mod listener;
 mod message;
@@ -13,7 +14,8 @@ mod records;
 pub use answer::{Counts, Fed, Read};
 pub use buffer::Buffer;
 pub use fault::OpenFault;
-pub use listener::Listener;
+pub use filter::kept_of;
+pub use listener::{Listener, check_range};
 pub use message::{Message, Record};
 pub use mode::Mode;
 pub use records::Records;

@@ -1,16 +1,18 @@
 //! One listener: a program, a store and a hold.
 
-ghost use Rattle.std.specs.Prelude.{◌≡◌, ◌-◌, ◌<◌, ◌≤◌, ◌^◌, ◌++◌, [], length, Some, None, IfOk, IfErr, OnOk, IsTrue, ◌↔◌};
+ghost use Rattle.std.specs.Prelude.{◌≡◌, ◌≢◌, ◌-◌, ◌<◌, ◌≤◌, ◌^◌, ◌++◌, [], length, Some, None, IfOk, IfErr, OnOk, IsTrue, ◌↔◌};
 ghost use Rattle.listener.specs.Buffers.{filled};
 ghost use Rattle.listener.specs.Listening.{listening, seen_by, Takes, RefusesOpen, InRange};
 ghost use Rattle.listener.specs.Messages.{arrival};
 ghost use Rattle.listener.specs.PlainList.{terms, empty, arrived, flushed, read, closed};
 ghost use Rattle.listener.specs.declared.answer.Read.{Read};
+ghost use Rattle.listener.specs.declared.fault.OpenFault.TheVariants.{NoMemory};
 ghost use Rattle.listener.specs.declared.mode.Mode.TheVariants.{Buffered, Immediate};
 
 use crate::answer::{Counts, Fed, Read};
 use crate::buffer::{Buffer, MOST_CAPACITY, size};
 use crate::fault::OpenFault;
+use crate::filter::kept_of;
 use crate::mode::Mode;
 use bpfvm::Program;
 use savefile::PacketRef;
@@ -50,6 +52,25 @@ impl Model for Listener {
         × (l.counts.matched ≤ l.counts.received) × InRange l.snap l.store.capacity };
 }
 
+/// Tests the numbers that a listener is opened with, and takes no memory.
+///
+/// [`OpenFault::BadSnap`] comes exactly where the snapshot length is not 1 to 262,144; else [`OpenFault::BadCapacity`]
+/// exactly where the capacity is below the bytes of a record with a snapshot length of data (32, and the data up to a
+/// multiple of 8) or above 1,048,576.
+pub fn check_range(snap: u32, capacity: usize) -> Result<(), OpenFault>
+    ensures in_range { OnOk result (InRange snap capacity) }
+    ensures only { IfErr result (RefusesOpen snap capacity) }
+    ensures no_memory { IfErr result (λ fault. fault ≢ NoMemory) }
+{
+    if snap < 1 || snap > MOST_SNAP {
+        return Err(OpenFault::BadSnap);
+    }
+    if capacity < size(snap) || capacity > MOST_CAPACITY {
+        return Err(OpenFault::BadCapacity);
+    }
+    Ok(())
+}
+
 /// Whether a message that went into the store is handed over at once.
 fn hands_over(mode: Mode, hold: &Buffer) -> bool
     ensures { IsTrue result ↔ ((mode ≡ Immediate) × (hold.now.messages ≡ [])) }
@@ -78,9 +99,7 @@ impl Listener {
     /// Opens a listener: a filter program, at most so many bytes of a packet, so many bytes of records in each of the two
     /// buffers, and when the store becomes the hold.
     ///
-    /// [`OpenFault::BadSnap`] comes exactly where the snapshot length is not 1 to 262,144;
-    /// else [`OpenFault::BadCapacity`] exactly where the capacity is below the bytes of a record with a snapshot length of
-    /// data (32, and the data up to a multiple of 8) or above 1,048,576.
+    /// [`OpenFault::BadSnap`] and [`OpenFault::BadCapacity`] come exactly where [`check_range`] answers them.
     pub fn open_as(
         alloc: Global,
         program: Program,
@@ -92,12 +111,7 @@ impl Listener {
         ensures in_range { OnOk result (InRange snap capacity) }
         ensures only { IfErr result (RefusesOpen snap capacity) }
     {
-        if snap < 1 || snap > MOST_SNAP {
-            return Err(OpenFault::BadSnap);
-        }
-        if capacity < size(snap) || capacity > MOST_CAPACITY {
-            return Err(OpenFault::BadCapacity);
-        }
+        check_range(snap, capacity)?;
         Ok(Listener {
             program,
             snap,
@@ -143,14 +157,11 @@ impl Listener {
         if self.closed {
             return Fed::Closed;
         }
-        let verdict = bpfvm::run(&self.program, packet.bytes, packet.len);
         self.counts.received += 1;
-        if verdict == 0 {
+        let Some(kept) = kept_of(&self.program, self.snap, packet) else {
             return Fed::Passed;
-        }
+        };
         self.counts.matched += 1;
-        let most = verdict.min(self.snap);
-        let kept = (most as usize).min(packet.bytes.len()) as u32;
         let stored = self.store.put(capture, place, packet, kept);
         if stored {
             let at_once = hands_over(self.mode, &self.hold);

@@ -1,0 +1,139 @@
+-- What the rule tells of a pair that is taken apart.
+use Rattle.std.proofs.Common.{◌≡◌, ℕ, zero, suc, ◌+◌, Bool, true, false, List, [], ◌∷◌, ◌++◌, length, take, Option, Some, None, Contains, refl, sym, ap, ◌∙◌, subst, arith, append_assoc, take-append-drop}
+use mathlib.Core.Option.{some, some-injective, some-ne-none}
+use lib.ListN.{get_elem?}
+use Rattle.atomic_table.specs.Seated.{TableId}
+use Rattle.atomic_table.specs.Table.{Final, Seen}
+use Rattle.listener.specs.declared.answer.Counts.{Counts}
+use Rattle.listener.specs.declared.message.Message.{Message}
+use Rattle.listener.specs.Buffers.{Filled, filled}
+use Rattle.listener.specs.Laws.{hold_of, joined}
+use Rattle.listener.specs.LookingBack.{all_accepted}
+use Rattle.listener.specs.PlainList.{Terms, PlainList, empty, stored, Legal, requests}
+use Rattle.listener.proofs.Kept.{matched_are_kept_or_dropped, kept_are_accepted}
+use Rattle.handover.specs.declared.calls.Feed.{Feed}
+use Rattle.handover.specs.declared.calls.Feed.TheVariants.{Arrive, Flush, FlushClosed}
+use Rattle.handover.specs.declared.calls.Take.{Take}
+use Rattle.handover.specs.declared.calls.Take.TheVariants.{Full, Nothing, Ended}
+use Rattle.handover.specs.declared.view.Role.TheVariants.{Joined}
+use Rattle.handover.specs.declared.view.Profile.{Profile}
+use Rattle.handover.specs.declared.view.View.{View}
+use Rattle.handover.specs.Allowed.{AllFit}
+use Rattle.handover.specs.Asks.{asks}
+use Rattle.handover.specs.Ends.{FeedingEnded, feeding_ended, Draining, draining, AreCountsOf, Counted}
+use Rattle.handover.specs.History.{Happening, fed, got, shut, events, feeds_in, merge, finds, ended_in, EndedIsLast, LegalHistory, batches_of}
+use Rattle.handover.specs.Own.{matches, drops, store_of}
+use Rattle.handover.specs.Rule.{Home, IsHeld, last, terms_of, Stands, Facts, Seats, whole, apart, joined as seats_joined, Kept, joint}
+use Rattle.handover.specs.Settling.{kept_of, IsWhole}
+use Rattle.handover.proofs.Keeps.{store_is}
+use Rattle.handover.proofs.Merges.{feeds_in-merge}
+use Rattle.handover.proofs.Settling.{merges_have_both, histories_are_kept, histories_are_settled}
+
+-- the last state, once the ends are joined
+joined_at : (f d u : View) (vs : List View) (id : ℕ) → Seats f d vs → get_elem? vs id ≡ some u → u.role ≡ Joined → (f ≡ u) × (d ≡ u)
+joined_at f d u vs id (whole p q) at r = absurd (one id at)
+  where
+    one : (id : ℕ) → get_elem? (f ∷ []) id ≡ some u → ⊥
+    one zero e = let s : f.role ≡ u.role = ap (λ (o : View). o.role) (some-injective f u e) in cc
+    one (suc k) e = some-ne-none u (sym e)
+joined_at f d u vs id (apart p q) at r = absurd (two id at)
+  where
+    two : (id : ℕ) → get_elem? (f ∷ d ∷ []) id ≡ some u → ⊥
+    two zero e = let s : f.role ≡ u.role = ap (λ (o : View). o.role) (some-injective f u e) in cc
+    two (suc zero) e = let s : d.role ≡ u.role = ap (λ (o : View). o.role) (some-injective d u e) in cc
+    two (suc (suc k)) e = some-ne-none u (sym e)
+joined_at f d u vs id (seats_joined o p q s) at r = two id at
+  where
+    two : (id : ℕ) → get_elem? (f ∷ o ∷ []) id ≡ some u → (f ≡ u) × (d ≡ u)
+    two zero e = let t = some-injective f u e in (t, sym p ∙ t)
+    two (suc zero) e = let t : o.role ≡ u.role = ap (λ (v : View). v.role) (some-injective o u e) in absurd (cc)
+    two (suc (suc k)) e = absurd (some-ne-none u (sym e))
+
+at_home : (capacity : ℕ) (full : Bool) (home : Home) (s : PlainList) → IsHeld full s.held → Stands capacity full false None home (hold_of s) → home ≡ some (filled capacity (hold_of s))
+at_home capacity true home s h p = p
+at_home capacity false home s h p = p ∙ ap (λ (n : ℕ). some (filled capacity (take n s.pending))) (sym h)
+
+-- what the joined seat's rule tells of both lists and of the buffer in the slot
+pub record Ending (p : Profile) (fs : List Feed) (ts : List Take) (y : Filled) : Type 0 where
+  pub fits : AllFit p.capacity fs
+  pub legal : Legal (terms_of p) empty (events (merge fs ts))
+  pub late : EndedIsLast (merge fs ts)
+  pub unclosed : ended_in ts ≡ true → finds fs ≡ false
+  pub hold : y ≡ filled p.capacity (hold_of (last fs ts))
+
+pub ends_well : (p : Profile) (id : ℕ) (v w u : View) (ws : List ℕ) (xs : List Filled) (y : Filled) → u ≡ joint v w → v.rotating ≡ false → w.taking ≡ None
+    → Final (Seen (Kept p) id u) ws xs → get_elem? xs 0 ≡ some y → Ending v.profile v.feeds w.takes y
+ends_well p id v w u ws xs y is calm idle (s, seen, _, _, values) there =
+    let k = seen.0 in
+    let at = joined_at k.feeder k.drain u s.views id k.seats seen.1 (ap (λ (o : View). o.role) is) in
+    let f : k.feeder ≡ joint v w = at.0 ∙ is in
+    let d : k.drain ≡ joint v w = at.1 ∙ is in
+    let same : p ≡ v.profile = sym k.feeder_profile ∙ ap (λ (o : View). o.profile) f in
+    let facts : Facts (terms_of v.profile) k.full k.home (joint v w) (joint v w) =
+    subst (λ (x : Profile). Facts (terms_of x) k.full k.home (joint v w) (joint v w)) same
+    (subst (λ (o : View). Facts (terms_of p) k.full k.home (joint v w) o) d (subst (λ (o : View). Facts (terms_of p) k.full k.home o k.drain) f k.facts)) in
+    let place : Stands v.profile.capacity k.full false None k.home (hold_of (last v.feeds w.takes)) =
+    subst (λ (x : Option (List Message)). Stands v.profile.capacity k.full false x k.home (hold_of (last v.feeds w.takes))) idle
+    (subst (λ (b : Bool). Stands v.profile.capacity k.full b w.taking k.home (hold_of (last v.feeds w.takes))) calm facts.place) in
+    let home = at_home v.profile.capacity k.full k.home (last v.feeds w.takes) facts.held place in
+    let found = values 0 (filled v.profile.capacity (hold_of (last v.feeds w.takes))) (ap (λ (l : List Home). get_elem? l 0) k.homes ∙ ap some home) in
+    record { fits = facts.fits; legal = facts.legal; late = facts.late; unclosed = facts.unclosed; hold = some-injective _ _ (sym there ∙ found) }
+
+-- ---- What settling promises of it
+
+pub ends_legally : (p : Profile) (fs : List Feed) (ts : List Take) (y : Filled) → Ending p fs ts y → LegalHistory (terms_of p) fs ts (merge fs ts)
+ends_legally p fs ts y e =
+    let b = merges_have_both fs ts in
+    record { feeds = b.feeds; takes = b.takes; close = b.close; ended = e.late; answers = e.legal }
+
+pub ends_counted : (p : Profile) (fs : List Feed) (ts : List Take) (y : Filled) (counts : Counts) → Ending p fs ts y → Counted counts fs → AreCountsOf counts (last fs ts)
+ends_counted p fs ts y counts e c =
+    let s = histories_are_settled (terms_of p) fs ts e.fits e.legal in
+    record { all_received = c.all_received ∙ sym s.all_received; all_matched = c.all_matched ∙ sym s.all_matched; all_dropped = c.all_dropped ∙ sym s.all_dropped }
+
+accepted_is : (hs : List Happening) → all_accepted (requests (events hs)) ≡ all_accepted (asks (feeds_in hs))
+accepted_is [] = refl
+accepted_is (fed (Arrive (Some m) answer) ∷ hs) = ap (λ (l : List Message). m ∷ l) (accepted_is hs)
+accepted_is (fed (Arrive None answer) ∷ hs) = accepted_is hs
+accepted_is (fed (Flush full) ∷ hs) = accepted_is hs
+accepted_is (fed FlushClosed ∷ hs) = accepted_is hs
+accepted_is (got (Full b) ∷ hs) = accepted_is hs
+accepted_is (got Nothing ∷ hs) = accepted_is hs
+accepted_is (got Ended ∷ hs) = accepted_is hs
+accepted_is (shut ∷ hs) = accepted_is hs
+
+kept_counts : (p : Profile) (fs : List Feed) (ts : List Take) (y : Filled) → Ending p fs ts y → matches fs ≡ length (kept_of p fs ts) + drops fs
+kept_counts p fs ts y e =
+    let t : Terms = terms_of p in
+    let s = histories_are_settled t fs ts e.fits e.legal in
+    let k = histories_are_kept t fs ts e.fits e.legal in
+    sym s.all_matched ∙ (k.all_matched ∙ (matched_are_kept_or_dropped t (requests (events (merge fs ts))) ∙ ap (λ (n : ℕ). length (kept_of p fs ts) + n) (sym k.all_dropped ∙ s.all_dropped)))
+
+pub ends_whole : (p : Profile) (fs : List Feed) (ts : List Take) (hold rest : Filled) (counts : Counts) → Ending p fs ts hold
+    → rest ≡ filled p.capacity (stored (last fs ts)) → Counted counts fs → IsWhole p fs ts hold.messages rest.messages counts
+ends_whole p fs ts hold rest counts e r c =
+    let t : Terms = terms_of p in
+    let s = histories_are_settled t fs ts e.fits e.legal in
+    let l : PlainList = last fs ts in
+    let read : List Message = joined (batches_of ts) in
+    let left : hold.messages ++ rest.messages ≡ l.pending =
+    ap (λ (x : Filled). x.messages ++ rest.messages) e.hold ∙ (ap (λ (x : Filled). hold_of l ++ x.messages) r ∙ take-append-drop l.held l.pending) in
+    let steps = requests (events (merge fs ts)) in
+    let same : all_accepted steps ≡ all_accepted (asks fs) = accepted_is (merge fs ts) ∙ ap (λ (x : List Feed). all_accepted (asks x)) (feeds_in-merge false fs ts) in
+    let k = kept_counts p fs ts hold e in
+    record {
+      whole = append_assoc read hold.messages rest.messages ∙ (ap (λ (x : List Message). read ++ x) left ∙ s.whole);
+      accepted = λ m has. subst (λ (x : List Message). Contains x m) same (kept_are_accepted t steps m has);
+      balance = omega (arith, c.all_matched, c.all_dropped, k);
+      unclosed = e.unclosed;
+    }
+
+-- the same of the ends as contracts see them
+pub ends_as : (v w : View) (y : Filled) (f : FeedingEnded) (d : Draining) (one other : TableId) (store : List Message) → feeding_ended one v.profile v.feeds v.feed_steps store ≡ f
+    → draining other w.profile w.takes w.take_steps ≡ d → Ending v.profile v.feeds w.takes y → Ending f.profile f.feeds d.takes y
+ends_as v w y f d one other store is also e =
+    subst (λ (x : FeedingEnded). Ending x.profile x.feeds d.takes y) is (subst (λ (x : Draining). Ending v.profile v.feeds x.takes y) also e)
+
+pub ends_rest : (p : Profile) (fs : List Feed) (ts : List Take) (y rest : Filled) → Ending p fs ts y → rest ≡ filled p.capacity (store_of fs)
+    → rest ≡ filled p.capacity (stored (last fs ts))
+ends_rest p fs ts y rest e is = is ∙ ap (filled p.capacity) (sym (store_is (terms_of p) fs ts e.legal))

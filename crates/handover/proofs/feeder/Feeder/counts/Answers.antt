@@ -1,0 +1,19 @@
+use Rattle.std.proofs.Common.{ap, subst, ◌∙◌}
+use Rattle.handover.specs.Ends.{Feeding, AreCountsOf, own_list}
+use Rattle.handover.specs.Own.{arrivals, matches, drops}
+use Rattle.handover.proofs.Feeders.{own_counts}
+use Rattle.handover.proofs.feeder.Feeder.counts.Goals as goal
+
+pub returns-clause-own : goal.returns-clause-own
+returns-clause-own c =
+    let k = own_counts c.self.inside.stand.seat.me.0 c.self.inside.counts c.self.invariant.0.owned c.self.invariant.3 in
+    subst (λ (f : Feeding). AreCountsOf c.self.inside.counts (own_list f.feeds)) c.self.view_is k
+
+pub returns-clause-received : goal.returns-clause-received
+returns-clause-received c = c.self.invariant.3.all_received ∙ ap (λ f. arrivals f.feeds) c.self.view_is
+
+pub returns-clause-matched : goal.returns-clause-matched
+returns-clause-matched c = c.self.invariant.3.all_matched ∙ ap (λ f. matches f.feeds) c.self.view_is
+
+pub returns-clause-dropped : goal.returns-clause-dropped
+returns-clause-dropped c = c.self.invariant.3.all_dropped ∙ ap (λ f. drops f.feeds) c.self.view_is

@@ -1,0 +1,60 @@
+use Rattle.std.proofs.Common.{◌≡◌, arith, sym, ap, ◌∙◌, subst}
+use Rattle.listener.specs.Buffers.{filled}
+use Rattle.handover.specs.Ends.{FeedingEnded, Counted}
+use Rattle.handover.specs.Own.{store_of}
+use Rattle.handover.proofs.Steps.{joins}
+use Rattle.handover.proofs.Endings.{ends_well, ends_as, ends_legally, ends_rest, ends_counted, ends_whole}
+use Rattle.handover.proofs.link.settle.Goals as goal
+
+pub join_seat-requires : goal.join_seat-requires
+join_seat-requires c = (
+  ap (λ f. f.pair) c.feeder.view_is ∙ c.requires.0 ∙ sym c.link.view_is,
+  ap (λ d. d.pair) c.drain.view_is ∙ c.requires.1 ∙ sym c.link.view_is,
+  c.drain.invariant.home,
+  omega arith,
+  joins _ _ _ _ _ c.feeder.invariant.0.role c.drain.invariant.role,
+)
+
+pub returns-clause-history : goal.returns-clause-history
+returns-clause-history c =
+    let v = c.feeder.inside.stand.seat.me.0 in
+    let w = c.drain.inside.seat.me.0 in
+    let e = ends_as v w _ _ _ _ _ _ c.feeder.view_is c.drain.view_is
+    (ends_well _ _ v w _ _ _ c.take-hold.result (ap (λ m. m.0) c.join_seat.ensures.2) c.feeder.invariant.0.calm c.drain.invariant.calm c.close_with-closed.ensures.values.2 c.take-hold.ensures.value) in
+    ends_legally _ _ _ _ e
+
+pub returns-clause-hold : goal.returns-clause-hold
+returns-clause-hold c =
+    let v = c.feeder.inside.stand.seat.me.0 in
+    let w = c.drain.inside.seat.me.0 in
+    let e = ends_as v w _ _ _ _ _ _ c.feeder.view_is c.drain.view_is
+    (ends_well _ _ v w _ _ _ c.take-hold.result (ap (λ m. m.0) c.join_seat.ensures.2) c.feeder.invariant.0.calm c.drain.invariant.calm c.close_with-closed.ensures.values.2 c.take-hold.ensures.value) in
+    e.hold
+
+pub returns-clause-rest : goal.returns-clause-rest
+returns-clause-rest c =
+    let v = c.feeder.inside.stand.seat.me.0 in
+    let w = c.drain.inside.seat.me.0 in
+    let e = ends_as v w _ _ _ _ _ _ c.feeder.view_is c.drain.view_is
+    (ends_well _ _ v w _ _ _ c.take-hold.result (ap (λ m. m.0) c.join_seat.ensures.2) c.feeder.invariant.0.calm c.drain.invariant.calm c.close_with-closed.ensures.values.2 c.take-hold.ensures.value) in
+    let rest = ends_rest _ _ _ _ _ e (subst (λ (f : FeedingEnded). c.feeder.inside.stand.store ≡ filled f.profile.capacity (store_of f.feeds)) c.feeder.view_is c.feeder.invariant.0.store) in
+    rest
+
+pub returns-clause-counts : goal.returns-clause-counts
+returns-clause-counts c =
+    let v = c.feeder.inside.stand.seat.me.0 in
+    let w = c.drain.inside.seat.me.0 in
+    let e = ends_as v w _ _ _ _ _ _ c.feeder.view_is c.drain.view_is
+    (ends_well _ _ v w _ _ _ c.take-hold.result (ap (λ m. m.0) c.join_seat.ensures.2) c.feeder.invariant.0.calm c.drain.invariant.calm c.close_with-closed.ensures.values.2 c.take-hold.ensures.value) in
+    let counted = subst (λ (f : FeedingEnded). Counted c.feeder.inside.counts f.feeds) c.feeder.view_is c.feeder.invariant.1 in
+    (ends_counted _ _ _ _ _ e counted, counted)
+
+pub returns-clause-whole : goal.returns-clause-whole
+returns-clause-whole c =
+    let v = c.feeder.inside.stand.seat.me.0 in
+    let w = c.drain.inside.seat.me.0 in
+    let e = ends_as v w _ _ _ _ _ _ c.feeder.view_is c.drain.view_is
+    (ends_well _ _ v w _ _ _ c.take-hold.result (ap (λ m. m.0) c.join_seat.ensures.2) c.feeder.invariant.0.calm c.drain.invariant.calm c.close_with-closed.ensures.values.2 c.take-hold.ensures.value) in
+    let rest = ends_rest _ _ _ _ _ e (subst (λ (f : FeedingEnded). c.feeder.inside.stand.store ≡ filled f.profile.capacity (store_of f.feeds)) c.feeder.view_is c.feeder.invariant.0.store) in
+    let counted = subst (λ (f : FeedingEnded). Counted c.feeder.inside.counts f.feeds) c.feeder.view_is c.feeder.invariant.1 in
+    ends_whole _ _ _ c.take-hold.result c.feeder.inside.stand.store c.feeder.inside.counts e rest counted

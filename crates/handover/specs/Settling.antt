@@ -1,0 +1,25 @@
+-- What is left of a pair, in words that need no merge but in what is kept.
+use Rattle.std.specs.Prelude.{◌≡◌, ◌+◌, true, false, List, ◌++◌, length, Contains}
+use Rattle.listener.specs.declared.answer.Counts.{Counts}
+use Rattle.listener.specs.declared.message.Message.{Message}
+use Rattle.listener.specs.Laws.{joined}
+use Rattle.listener.specs.LookingBack.{kept, all_accepted}
+use Rattle.listener.specs.PlainList.{requests}
+use Rattle.handover.specs.declared.calls.Feed.{Feed}
+use Rattle.handover.specs.declared.calls.Take.{Take}
+use Rattle.handover.specs.declared.view.Profile.{Profile}
+use Rattle.handover.specs.Asks.{asks}
+use Rattle.handover.specs.History.{events, merge, finds, ended_in, batches_of}
+use Rattle.handover.specs.Rule.{terms_of}
+
+-- what looking back keeps of the history of both lists
+abbrev pub kept_of : Profile → List Feed → List Take → List Message
+kept_of p fs ts = kept (terms_of p) (requests (events (merge fs ts)))
+
+-- What was read, the hold and then the rest are what is kept, each message an accepted arrival; what matched is what is kept and what
+-- was dropped; and where a read found the end, no call found the pair closed.
+pub record IsWhole (p : Profile) (fs : List Feed) (ts : List Take) (hold rest : List Message) (counts : Counts) : Type 0 where
+  pub whole : (joined (batches_of ts) ++ hold) ++ rest ≡ kept_of p fs ts
+  pub accepted : (m : Message) → Contains (kept_of p fs ts) m → Contains (all_accepted (asks fs)) m
+  pub balance : counts.matched ≡ length (kept_of p fs ts) + counts.dropped
+  pub unclosed : ended_in ts ≡ true → finds fs ≡ false

@@ -1,0 +1,164 @@
+//! The end that packets are given to.
+
+ghost use Rattle.std.specs.Prelude.{◌≡◌, ◌-◌, ◌^◌, ◌<◌, ◌≤◌, List, ◌++◌, [], ◌∷◌, Option};
+ghost use Rattle.listener.specs.declared.message.Message.{Message};
+ghost use Rattle.handover.specs.declared.calls.Feed.{Feed};
+ghost use Rattle.listener.specs.Messages.{arrival, kept_by};
+ghost use Rattle.handover.specs.declared.calls.Feed.TheVariants.{Arrive};
+ghost use Rattle.handover.specs.declared.calls.Step.TheVariants.{Store};
+ghost use Rattle.handover.specs.declared.calls.Word.TheVariants as word;
+ghost use Rattle.handover.specs.Ends.{feeding_ended, IsSameFeeder, HasOwnRun, AreCountsOf, Counted, Flushed, own_list};
+ghost use Rattle.handover.specs.Own.{arrivals, matches, drops};
+ghost use Rattle.handover.specs.Steps.{arrive_steps};
+
+use crate::link::Link;
+use crate::rule::{ENDED, SetEnded};
+use crate::stand::{Accepted, Stand};
+use bpfvm::Program;
+use listener::{Counts, Fed, Mode, kept_of};
+use savefile::PacketRef;
+use std::marker::Model;
+
+/// The end of a pair that packets are given to: a filter, the store, and the counts.
+///
+/// Contracts see which pair it is of, its filter, its calls with their answers, the steps that these took, and its store.
+#[derive(Drop)]
+pub struct Feeder {
+    pub(crate) stand: Stand,
+    pub(crate) program: Program,
+    pub(crate) snap: u32,
+    pub(crate) mode: Mode,
+    pub(crate) counts: Counts,
+}
+
+impl Model for Feeder {
+    ghost use Rattle.std.specs.Prelude.{◌≡◌, false};
+    ghost use Rattle.listener.specs.Listening.{InRange};
+    ghost use Rattle.handover.specs.Ends.{Feeding, feeding};
+    ghost use Rattle.handover.specs.Ends.{Counted};
+    ghost use Rattle.handover.specs.Seated.{IsFeeder};
+
+    ghost Value = { Feeding };
+
+    ghost view = { λ f. feeding f.stand.seat.table_id f.program f.snap f.stand.seat.me.0.profile f.stand.seat.me.0.feeds
+        f.stand.seat.me.0.feed_steps f.stand.store.messages };
+
+    ghost invariant = { λ f. IsFeeder f.stand.seat.me f.stand.store false × InRange f.snap f.stand.store.capacity
+        × (f.stand.seat.me.0.profile.mode ≡ f.mode) × Counted f.counts f.stand.seat.me.0.feeds };
+}
+
+/// A feeder that has ended.
+///
+/// Contracts see what they saw of the feeder, but for its filter.
+#[derive(Drop)]
+pub struct FeedEnd {
+    pub(crate) stand: Stand,
+    pub(crate) counts: Counts,
+}
+
+impl Model for FeedEnd {
+    ghost use Rattle.std.specs.Prelude.{true};
+    ghost use Rattle.handover.specs.Ends.{FeedingEnded, feeding_ended};
+    ghost use Rattle.handover.specs.Ends.{Counted};
+    ghost use Rattle.handover.specs.Seated.{IsFeeder};
+
+    ghost Value = { FeedingEnded };
+
+    ghost view = { λ f. feeding_ended f.stand.seat.table_id f.stand.seat.me.0.profile f.stand.seat.me.0.feeds f.stand.seat.me.0.feed_steps
+        f.stand.store.messages };
+
+    ghost invariant = { λ f. IsFeeder f.stand.seat.me f.stand.store true × Counted f.counts f.stand.seat.me.0.feeds };
+}
+
+/// Counts an arrival with this answer, and tells the answer.
+fn count(counts: &mut Counts, fed: Fed) -> Fed
+    requires room { counts.old.received < 2 ^ 64 - 1 }
+    requires ordered { (counts.old.matched ≤ counts.old.received) × (counts.old.dropped ≤ counts.old.matched) }
+    ensures answer { result ≡ fed }
+    ensures counts { (fs : List Feed) (m : Option Message) → Counted counts.old fs → Counted counts.new (fs ++ Arrive m fed ∷ []) }
+{
+    match fed {
+        Fed::Closed => return fed,
+        Fed::Passed => {}
+        Fed::Stored | Fed::Held | Fed::Rotated => counts.matched += 1,
+        Fed::Dropped => {
+            counts.matched += 1;
+            counts.dropped += 1;
+        }
+    }
+    counts.received += 1;
+    fed
+}
+
+impl Feeder {
+    /// A packet arrives, from a capture and a place there.
+    ///
+    /// Where the program accepts it, the least of the snapshot length, the program's answer and the captured length is
+    /// kept of it. The answer is [`Fed::Closed`] where it found that the drain had closed. It waits for nobody, takes no
+    /// memory, and copies the bytes once where it stores them.
+    pub fn arrive(&mut self, link: &Link, capture: u32, place: u64, packet: &PacketRef<'_>) -> Fed
+        requires pair { self.old.pair ≡ link.now }
+        requires room { arrivals self.old.feeds < 2 ^ 64 - 1 }
+        ensures same { IsSameFeeder self.old self.new }
+        ensures call { self.new.feeds ≡ self.old.feeds ++ Arrive (kept_by self.old.program self.old.snap (arrival capture place packet.now)) result ∷ [] }
+        ensures steps { self.new.steps ≡ self.old.steps ++ arrive_steps self.old.profile.mode result }
+        ensures own { HasOwnRun self.new }
+    {
+        let Some(kept) = kept_of(&self.program, self.snap, packet) else {
+            return count(&mut self.counts, self.stand.pass(link));
+        };
+        let accepted = Accepted {
+            capture,
+            place,
+            packet,
+            kept,
+        };
+        count(
+            &mut self.counts,
+            self.stand.take(link, self.mode, &accepted),
+        )
+    }
+
+    /// Makes a nonempty store the hold where the hold is empty, and tells whether it did: what the read timeout of bpf(4)
+    /// does. It answers false where it found that the drain had closed.
+    pub fn flush(&mut self, link: &Link) -> bool
+        requires { self.old.pair ≡ link.now }
+        ensures same { IsSameFeeder self.old self.new }
+        ensures call { Flushed result self.old self.new }
+        ensures own { HasOwnRun self.new }
+    {
+        if self.stand.store.is_empty() {
+            self.stand.flush_nothing(link)
+        } else {
+            self.stand.flush_store(link)
+        }
+    }
+
+    /// The counts, of the packets that arrived before one was found closed.
+    pub fn counts(&self) -> Counts
+        ensures received { result.received ≡ arrivals self.now.feeds }
+        ensures matched { result.matched ≡ matches self.now.feeds }
+        ensures dropped { result.dropped ≡ drops self.now.feeds }
+        ensures own { AreCountsOf result (own_list self.now.feeds) }
+    {
+        self.counts
+    }
+
+    /// Ends the feeder: a read that finds this and an empty hold is answered with [`Read::Ended`](crate::Read::Ended).
+    pub fn end(self, link: &Link) -> FeedEnd
+        requires { self.pair ≡ link.now }
+        ensures { result ≡ feeding_ended self.pair self.profile self.feeds (self.steps ++ Store word.Ended 1 ∷ []) self.store }
+    {
+        let Feeder {
+            mut stand,
+            program: _,
+            snap: _,
+            mode: _,
+            counts,
+        } = self;
+        link.table
+            .shared
+            .store::<SetEnded>(&mut stand.seat, ENDED, 1);
+        FeedEnd { stand, counts }
+    }
+}

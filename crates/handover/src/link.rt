@@ -1,0 +1,163 @@
+//! What the two ends share, how they are made and what is left of them.
+
+ghost use Rattle.std.specs.Prelude.{◌≡◌, [], IfOk, IfErr, OnOk};
+ghost use Rattle.listener.specs.Buffers.{filled};
+ghost use Rattle.listener.specs.Laws.{hold_of};
+ghost use Rattle.listener.specs.Listening.{InRange, RefusesOpen};
+ghost use Rattle.listener.specs.PlainList.{stored};
+ghost use Rattle.listener.specs.declared.mode.Mode.TheVariants.{Buffered};
+ghost use Rattle.handover.specs.declared.view.Profile.{Profile};
+ghost use Rattle.handover.specs.Ends.{feeding, draining, AreCountsOf, Counted};
+ghost use Rattle.handover.specs.History.{LegalHistory, merge};
+ghost use Rattle.handover.specs.Rule.{first, last, profile_of, terms_of};
+ghost use Rattle.handover.specs.Settling.{IsWhole};
+
+use crate::drain::{Drain, DrainEnd};
+use crate::feeder::{FeedEnd, Feeder};
+use crate::rule::{Ends, PairTable, Place, SLOT};
+use crate::stand::Stand;
+use crate::view::Profile;
+use atomic_table::{Refused, Table};
+use bpfvm::Program;
+use listener::{Buffer, Counts, Mode, OpenFault, check_range};
+use std::alloc::Global;
+use std::marker::Model;
+
+/// What the threads of a pair share, by a `&`. Contracts see which pair it is.
+#[derive(Drop)]
+pub struct Link {
+    pub(crate) table: PairTable,
+}
+
+impl Model for Link {
+    ghost use Rattle.std.specs.Prelude.{◌≡◌};
+    ghost use Rattle.atomic_table.specs.Seated.{TableId, table_id_coded};
+
+    ghost Value = { TableId };
+
+    ghost coded = { table_id_coded };
+
+    ghost view = { λ l. l.table.shared.table_id };
+
+    ghost invariant = { λ l. (l.table.shared.table_id.words ≡ 3) × (l.table.shared.table_id.slots ≡ 1) };
+}
+
+/// What is left of a pair.
+#[derive(Drop)]
+pub struct Settled {
+    /// What was held and not read.
+    pub hold: Buffer,
+    /// What the feeder still had in its store.
+    pub rest: Buffer,
+    /// The counts, of the packets that arrived before one was found closed.
+    pub counts: Counts,
+}
+
+/// Makes a pair in the mode [`Mode::Buffered`], as [`pair_as`].
+pub fn pair(
+    alloc: Global,
+    program: Program,
+    snap: u32,
+    capacity: usize,
+) -> Result<(Link, Feeder, Drain), OpenFault>
+    ensures ok { IfOk result (λ p. p.1 ≡ feeding p.0 program snap (profile_of capacity Buffered) [] [] []) }
+    ensures drain { IfOk result (λ p. p.2 ≡ draining p.0 (profile_of capacity Buffered) [] []) }
+    ensures in_range { OnOk result (InRange snap capacity) }
+    ensures only { IfErr result (RefusesOpen snap capacity) }
+{
+    pair_as(alloc, program, snap, capacity, Mode::Buffered)
+}
+
+/// Makes a feeder and a drain, and what they share: a filter program, at most so many bytes of a packet, so many bytes of
+/// records in each of the buffers, and when the store becomes the hold.
+///
+/// [`OpenFault::BadSnap`] and [`OpenFault::BadCapacity`] come exactly where [`check_range`] answers them. No other call of
+/// this crate takes memory.
+pub fn pair_as(
+    alloc: Global,
+    program: Program,
+    snap: u32,
+    capacity: usize,
+    mode: Mode,
+) -> Result<(Link, Feeder, Drain), OpenFault>
+    ensures ok { IfOk result (λ p. p.1 ≡ feeding p.0 program snap (profile_of capacity mode) [] [] []) }
+    ensures drain { IfOk result (λ p. p.2 ≡ draining p.0 (profile_of capacity mode) [] []) }
+    ensures in_range { OnOk result (InRange snap capacity) }
+    ensures only { IfErr result (RefusesOpen snap capacity) }
+{
+    check_range(snap, capacity)?;
+    let store = Buffer::new(alloc, capacity)?;
+    let hold = Buffer::new(alloc, capacity)?;
+    let mut slots = Vec::with_capacity(alloc, 1)?;
+    slots.push_reserved(hold);
+    match Table::new(alloc, &[0, 0, 0], slots, &Profile { capacity, mode }) {
+        Ok((table, seat)) => Ok(parted(table, seat, store, program, snap, mode)),
+        Err(Refused { slots: _ }) => Err(OpenFault::NoMemory),
+    }
+}
+
+/// The two ends of a table that nobody has stepped on.
+fn parted(
+    table: PairTable,
+    mut seat: Place,
+    store: Buffer,
+    program: Program,
+    snap: u32,
+    mode: Mode,
+) -> (Link, Feeder, Drain)
+    requires table { (table.shared.table_id.words ≡ 3) × (table.shared.table_id.slots ≡ 1) × (seat.table_id ≡ table.shared.table_id) }
+    requires seat { seat.me ≡ (first (profile_of store.capacity mode), []) }
+    requires store { store ≡ filled store.capacity [] }
+    requires in_range { InRange snap store.capacity }
+    ensures feeder { result.1 ≡ feeding result.0 program snap (profile_of store.capacity mode) [] [] [] }
+    ensures drain { result.2 ≡ draining result.0 (profile_of store.capacity mode) [] [] }
+{
+    let capacity = store.capacity();
+    let other = table.shared.split_seat::<Ends>(&mut seat);
+    let counts = Counts {
+        received: 0,
+        matched: 0,
+        dropped: 0,
+    };
+    let feeder = Feeder {
+        stand: Stand { seat, store },
+        program,
+        snap,
+        mode,
+        counts,
+    };
+    let drain = Drain {
+        seat: other,
+        capacity,
+    };
+    (Link { table }, feeder, drain)
+}
+
+/// Takes a pair apart, once both ends have ended.
+///
+/// The feeder's calls and the drain's reads make one legal history of the plain list, and the buffers have what then
+/// pends: what was read, then the hold, then the rest is exactly what was kept.
+pub fn settle(link: Link, feeder: FeedEnd, drain: DrainEnd) -> Settled
+    requires { (feeder.pair ≡ link) × (drain.pair ≡ link) }
+    ensures history { LegalHistory (terms_of feeder.profile) feeder.feeds drain.takes (merge feeder.feeds drain.takes) }
+    ensures hold { result.hold ≡ filled feeder.profile.capacity (hold_of (last feeder.feeds drain.takes)) }
+    ensures rest { result.rest ≡ filled feeder.profile.capacity (stored (last feeder.feeds drain.takes)) }
+    ensures counts { AreCountsOf result.counts (last feeder.feeds drain.takes) × Counted result.counts feeder.feeds }
+    ensures whole { IsWhole feeder.profile feeder.feeds drain.takes result.hold.messages result.rest.messages result.counts }
+{
+    let Link { table } = link;
+    let FeedEnd {
+        stand: Stand { mut seat, store },
+        counts,
+    } = feeder;
+    let DrainEnd { seat: other } = drain;
+    table.shared.join_seat::<Ends>(&mut seat, other);
+    let mut closed = table.close_with(seat);
+    let hold = closed.take(SLOT);
+    closed.free();
+    Settled {
+        hold,
+        rest: store,
+        counts,
+    }
+}
