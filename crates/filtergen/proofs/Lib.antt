@@ -8,3 +8,5 @@ pub mod Sharing
 pub mod Nets
 pub mod Six
 pub mod Verdicts
+pub mod Computing
+pub mod Bounds

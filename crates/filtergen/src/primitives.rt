@@ -96,7 +96,7 @@ pub(crate) fn cost(primitive: Primitive) -> usize
 
 impl Code {
     /// The Ethernet type.
-    fn ether_type(&mut self, number: u32, exits: Exits) -> usize
+    pub fn ether_type(&mut self, number: u32, exits: Exits) -> usize
         requires room { length self.old + 4 ≤ 512 }
         requires exits { AreExits self.old exits }
         ensures { Decides 4 (is_type number) exits result self.old self.new }
@@ -128,7 +128,7 @@ impl Code {
     }
 
     /// IPv4 with this protocol number, and no later fragment.
-    fn first_fragment(&mut self, number: u32, exits: Exits) -> usize
+    pub fn first_fragment(&mut self, number: u32, exits: Exits) -> usize
         requires room { length self.old + 12 ≤ 512 }
         requires exits { AreExits self.old exits }
         ensures { Decides 12 (is_first number) exits result self.old self.new }
