@@ -10,3 +10,4 @@ pub mod Six
 pub mod Verdicts
 pub mod Computing
 pub mod Bounds
+pub mod Knowing

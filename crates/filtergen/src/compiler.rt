@@ -2,11 +2,12 @@
 
 ghost use Rattle.std.specs.Prelude.{◌≡◌, ◌≢◌, ◌↔◌, ℕ, ◌<◌, ◌≤◌, Err, IfOk, MatchResult};
 ghost use Rattle.filterlang.specs.Trees.{tree_of};
-ghost use Rattle.filtergen.specs.Meaning.{meaning};
+ghost use Rattle.filtergen.specs.Knowing.{rest_of_tree};
 ghost use Rattle.filtergen.specs.Compiling.{weight, need, StandsFor, IsBadSnap};
 ghost use Rattle.filtergen.specs.Emission.{OrFull, AreExits, Decides, Renews};
 
 use crate::code::{Code, Exits, Full};
+use crate::known::Known;
 use crate::primitives::cost;
 use crate::refusal::Refusal;
 use crate::weighing::{MAX_NEED, need};
@@ -26,13 +27,13 @@ struct Emitted {
 }
 
 impl Code {
-    /// An expression, from whose entry a run goes to an exit. The right operand is there before the left one.
+    /// What is left of an expression, from whose entry a run goes to an exit. The right operand is there before the left one.
     #[tactic(auto, using(crate::proofs::Bounds::relation_bound))]
-    fn expression(&mut self, expr: &Expr, exits: Exits) -> Result<Emitted, Full>
+    fn expression(&mut self, known: Known, expr: &Expr, exits: Exits) -> Result<Emitted, Full>
         requires need { need (tree_of expr.now) ≤ 16 }
         requires exits { AreExits self.old exits }
         ensures { OrFull (weight (tree_of expr.now)) self.old result (λ emitted.
-            Decides (weight (tree_of expr.now)) (meaning (tree_of expr.now)) exits emitted.entry self.old self.new
+            Decides (weight (tree_of expr.now)) (rest_of_tree known (tree_of expr.now)) exits emitted.entry self.old self.new
             × Renews exits emitted.exits self.old self.new) }
     {
         match expr {
@@ -49,26 +50,26 @@ impl Code {
             Expr::Relation(comparison, left, right) => {
                 self.room(2)?;
                 let exits = self.renew(exits);
-                let entry = self.relation(*comparison, left, right, exits)?;
+                let entry = self.relation(known, *comparison, left, right, exits)?;
                 Ok(Emitted { entry, exits })
             }
             Expr::Not(operand) => {
-                let inner = self.expression(operand, exits.swapped())?;
+                let inner = self.expression(known, operand, exits.swapped())?;
                 let (entry, exits) = (inner.entry, inner.exits.swapped());
                 Ok(Emitted { entry, exits })
             }
             Expr::And(left, right) => {
-                let second = self.expression(right, exits)?;
+                let second = self.expression(known.behind(left), right, exits)?;
                 let (yes, no) = (second.entry, second.exits.no);
-                let first = self.expression(left, Exits { yes, no })?;
+                let first = self.expression(known, left, Exits { yes, no })?;
                 let (yes, no) = (second.exits.yes, first.exits.no);
                 let (entry, exits) = (first.entry, Exits { yes, no });
                 Ok(Emitted { entry, exits })
             }
             Expr::Or(left, right) => {
-                let second = self.expression(right, exits)?;
+                let second = self.expression(known, right, exits)?;
                 let (yes, no) = (second.exits.yes, second.entry);
-                let first = self.expression(left, Exits { yes, no })?;
+                let first = self.expression(known, left, Exits { yes, no })?;
                 let (yes, no) = (first.exits.yes, second.exits.no);
                 let (entry, exits) = (first.entry, Exits { yes, no });
                 Ok(Emitted { entry, exits })
@@ -84,7 +85,7 @@ fn program_of(expr: &Expr, snap: u32) -> Result<Program, Full>
         (λ program. StandsFor program (tree_of expr.now) snap) (λ _. 500 < weight (tree_of expr.now)) }
 {
     let mut code = Code::new(snap);
-    let emitted = code.expression(expr, Exits { yes: 2, no: 1 })?;
+    let emitted = code.expression(Known::Nothing, expr, Exits { yes: 2, no: 1 })?;
     code.room(1)?;
     code.near(emitted.entry, 0);
     Ok(code.into_program())

@@ -9,6 +9,7 @@ mod code;
 mod compiler;
 mod evaluator;
 mod insns;
+mod known;
 mod primitives;
 mod refusal;
 mod relations;
@@ -26,5 +27,9 @@ pub use weighing::{MAX_NEED, MAX_WEIGHT, need, weight};
 mod caller_tests;
 #[cfg(test)]
 mod comparison_tests;
+#[cfg(test)]
+mod random_relation_tests;
+#[cfg(test)]
+mod relation_tests;
 #[cfg(test)]
 mod tests;

@@ -2,61 +2,107 @@
 
 ghost use Rattle.std.specs.Prelude.{◌≡◌, ◌+◌, ◌≤◌, length, max};
 ghost use Rattle.filterlang.specs.Trees.{amount_of};
-ghost use Rattle.filtergen.specs.Meaning.{value, in_layer, in_layers, compared, check_both, relation_test};
+ghost use Rattle.filtergen.specs.Meaning.{value, compared, check_both};
 ghost use Rattle.filtergen.specs.Compiling.{value_need};
+ghost use Rattle.filtergen.specs.Knowing.{rest_of_type, rest_of_number, rest_of_first, rest_of, rest_of_layers, rest_of_relation};
 ghost use Rattle.filtergen.specs.Parts.{layers_cost, compare_cost, relation_cost};
 ghost use Rattle.filtergen.specs.Emission.{AreExits, value_of, Chooses, Decides, OrFull};
 
 use crate::code::{Code, Exits, Full};
 use crate::insns::{Jump, Operand};
-use crate::primitives::{ARP, IP, RARP};
+use crate::known::Known;
+use crate::primitives::IP;
 use crate::values::literal;
-use filterlang::{Comparison, Layer, Value};
+use filterlang::{Comparison, Value};
 
 impl Code {
-    /// The layer that an accessor reads.
-    fn layer(&mut self, layer: Layer, exits: Exits) -> usize
+    /// What is left of a test of the Ethernet type.
+    fn rest_of_type(&mut self, known: Known, number: u32, exits: Exits) -> usize
+        requires room { length self.old + 4 ≤ 512 }
+        requires exits { AreExits self.old exits }
+        ensures { Decides 4 (rest_of_type known number) exits result self.old self.new }
+    {
+        if known.has_type(number) {
+            return exits.yes;
+        }
+        self.ether_type(number, exits)
+    }
+
+    /// What is left of a test of IPv4 with this protocol number.
+    fn rest_of_number(&mut self, known: Known, number: u32, exits: Exits) -> usize
+        requires room { length self.old + 8 ≤ 512 }
+        requires exits { AreExits self.old exits }
+        ensures { Decides 8 (rest_of_number known number) exits result self.old self.new }
+    {
+        if known.has_number(number) {
+            return exits.yes;
+        }
+        let inner = self.protocol_number(number, exits);
+        let exits = Exits {
+            yes: inner,
+            ..exits
+        };
+        self.rest_of_type(known, IP, exits)
+    }
+
+    /// What is left of a test of the same, and of no later fragment.
+    fn rest_of_first(&mut self, known: Known, number: u32, exits: Exits) -> usize
         requires room { length self.old + 12 ≤ 512 }
         requires exits { AreExits self.old exits }
-        ensures { Decides 12 (in_layer layer) exits result self.old self.new }
+        ensures { Decides 12 (rest_of_first known number) exits result self.old self.new }
     {
-        match layer {
-            Layer::Ether => exits.yes,
-            Layer::Ip => self.ether_type(IP, exits),
-            Layer::Arp => self.ether_type(ARP, exits),
-            Layer::Rarp => self.ether_type(RARP, exits),
-            Layer::Tcp => self.first_fragment(6, exits),
-            Layer::Udp => self.first_fragment(17, exits),
-            Layer::Icmp => self.first_fragment(1, exits),
+        if known.has_first(number) {
+            return exits.yes;
+        }
+        let inner = self.unfragmented(exits);
+        let exits = Exits {
+            yes: inner,
+            ..exits
+        };
+        self.rest_of_number(known, number, exits)
+    }
+
+    /// What is left of a test, behind what is known.
+    fn rest_of(&mut self, known: Known, fact: Known, exits: Exits) -> usize
+        requires room { length self.old + 12 ≤ 512 }
+        requires exits { AreExits self.old exits }
+        ensures { Decides 12 (rest_of known fact) exits result self.old self.new }
+    {
+        match fact {
+            Known::Nothing => exits.yes,
+            Known::Type(number) => self.rest_of_type(known, number, exits),
+            Known::Number(number) => self.rest_of_number(known, number, exits),
+            Known::First(number) => self.rest_of_first(known, number, exits),
         }
     }
 
-    /// The layers of a value's accessors.
-    fn layers(&mut self, value: &Value, exits: Exits) -> Result<usize, Full>
+    /// What is left of the layers of a value's accessors.
+    fn layers(&mut self, known: Known, value: &Value, exits: Exits) -> Result<usize, Full>
         requires { AreExits self.old exits }
         ensures { OrFull (layers_cost (amount_of value.now)) self.old result
-            (λ entry. Decides (layers_cost (amount_of value.now)) (in_layers (amount_of value.now)) exits entry
+            (λ entry. Decides (layers_cost (amount_of value.now)) (rest_of_layers known (amount_of value.now)) exits entry
             self.old self.new) }
     {
         match value {
             Value::Number(_) | Value::Length => Ok(exits.yes),
-            Value::Negation(operand) => self.layers(operand, exits),
+            Value::Negation(operand) => self.layers(known, operand, exits),
             Value::Binary(_, left, right) => {
-                let second = self.layers(right, exits)?;
+                let second = self.layers(known.behind_layers(left), right, exits)?;
                 let exits = Exits {
                     yes: second,
                     ..exits
                 };
-                self.layers(left, exits)
+                self.layers(known, left, exits)
             }
             Value::Accessor(layer, index, _) => {
-                let second = self.layers(index, exits)?;
+                let fact = Known::of_layer(*layer);
+                let second = self.layers(known.narrowed(fact), index, exits)?;
                 self.room(12)?;
                 let exits = Exits {
                     yes: second,
                     ..exits
                 };
-                Ok(self.layer(*layer, exits))
+                Ok(self.rest_of(known, fact, exits))
             }
         }
     }
@@ -103,9 +149,10 @@ impl Code {
         Ok(self.len())
     }
 
-    /// A relation: the layers of its accessors come first, and then the values.
+    /// A relation: what is left of the layers of its accessors comes first, and then the values.
     pub fn relation(
         &mut self,
+        known: Known,
         comparison: Comparison,
         left: &Value,
         right: &Value,
@@ -115,18 +162,18 @@ impl Code {
         requires exits { AreExits self.old exits }
         ensures { OrFull (relation_cost (amount_of left.now) (amount_of right.now)) self.old result
             (λ entry. Decides (relation_cost (amount_of left.now) (amount_of right.now))
-            (relation_test comparison (amount_of left.now) (amount_of right.now)) exits entry self.old self.new) }
+            (rest_of_relation known comparison (amount_of left.now) (amount_of right.now)) exits entry self.old self.new) }
     {
         let compared = self.compare(comparison, left, right, exits)?;
         let exits = Exits {
             yes: compared,
             ..exits
         };
-        let second = self.layers(right, exits)?;
+        let second = self.layers(known.behind_layers(left), right, exits)?;
         let exits = Exits {
             yes: second,
             ..exits
         };
-        self.layers(left, exits)
+        self.layers(known, left, exits)
     }
 }

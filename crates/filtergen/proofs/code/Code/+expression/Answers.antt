@@ -11,8 +11,8 @@ returns-in_ok-inner-in-Not t c =
 
 pub returns-in_ok-first-in-And : goal.returns-in_ok-first-in-And
 returns-in_ok-first-in-And t c =
-    let right = rw c.deref-in-And.ensures at c.in_ok-second-in-And.ensures in
-    let left = rw c.deref-in-And-2.ensures at c.in_ok-first-in-And.ensures in
+    let right = rw (c.behind.ensures, c.deref-in-And.ensures, c.deref-in-And-2.ensures) at c.in_ok-second-in-And.ensures in
+    let left = rw c.deref-in-And-3.ensures at c.in_ok-first-in-And.ensures in
     rw c.in-And.is (decides-more _ (omega arith) (decides-both-renewed right.1 right.0 left.0), renews-both left.0.extends right.1 left.1)
 
 pub returns-in_ok-first-in-Or : goal.returns-in_ok-first-in-Or

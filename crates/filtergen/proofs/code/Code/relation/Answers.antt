@@ -7,7 +7,7 @@ pub returns : goal.returns
 returns c =
     let compared = c.in_ok-compared.ensures in
     let are = yes-exits c.requires.exits compared in
-    let right = c.in_ok-second.ensures in
+    let right = rw c.behind_layers.ensures at c.in_ok-second.ensures in
     MatchResult-weaker c.layers-2.result c.layers-2.ensures
     (λ entry done. decides-both c.requires.exits compared (decides-both are right done))
     (λ e full. omega (arith, full, right.extends.within, compared.extends.within))
