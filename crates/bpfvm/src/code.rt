@@ -65,6 +65,14 @@ pub const LSH_X: u16 = 0x6c;
 pub const RSH_K: u16 = 0x74;
 /// A ← A >> X
 pub const RSH_X: u16 = 0x7c;
+/// A ← A % k
+pub const MOD_K: u16 = 0x94;
+/// A ← A % X
+pub const MOD_X: u16 = 0x9c;
+/// A ← A ^ k
+pub const XOR_K: u16 = 0xa4;
+/// A ← A ^ X
+pub const XOR_X: u16 = 0xac;
 /// A ← -A
 pub const NEG: u16 = 0x84;
 /// pc += k

@@ -17,8 +17,8 @@ fn answer_of(listing: &str, packet: &[u8], wire: u32) -> Option<u32> {
     Some(run(&program, packet, wire))
 }
 
-/// A program for each of the 45 codes, and what it answers on the frame, 1,500 bytes long on the wire.
-const EACH_CODE: [(&str, u32); 45] = [
+/// A program for each of the 49 codes, and what it answers on the frame, 1,500 bytes long on the wire.
+const EACH_CODE: [(&str, u32); 49] = [
     ("2\n32 0 0 26\n22 0 0 0", 0x0a00_0001),
     ("2\n40 0 0 12\n22 0 0 0", 0x0800),
     ("2\n48 0 0 23\n22 0 0 0", 17),
@@ -53,6 +53,10 @@ const EACH_CODE: [(&str, u32); 45] = [
     ("4\n0 0 0 1\n1 0 0 31\n108 0 0 0\n22 0 0 0", 0x8000_0000),
     ("3\n0 0 0 40\n116 0 0 3\n22 0 0 0", 5),
     ("4\n0 0 0 2147483648\n1 0 0 31\n124 0 0 0\n22 0 0 0", 1),
+    ("3\n0 0 0 17\n148 0 0 5\n22 0 0 0", 2),
+    ("4\n0 0 0 17\n1 0 0 6\n156 0 0 0\n22 0 0 0", 5),
+    ("3\n0 0 0 12\n164 0 0 10\n22 0 0 0", 6),
+    ("4\n0 0 0 12\n1 0 0 7\n172 0 0 0\n22 0 0 0", 11),
     ("3\n0 0 0 1\n132 0 0 0\n22 0 0 0", 4_294_967_295),
     ("4\n0 0 0 1\n5 0 0 1\n0 0 0 2\n22 0 0 0", 1),
     ("4\n0 0 0 5\n21 0 1 5\n6 0 0 1\n6 0 0 2", 1),
@@ -104,8 +108,23 @@ fn numbers_wrap_and_loads_do_not(rt: HostRuntime) {
         ("2\n32 0 0 34\n6 0 0 9", 9),
         ("2\n32 0 0 35\n6 0 0 9", 0),
         ("2\n177 0 0 38\n6 0 0 9", 0),
-        // X begins as 0, and a division by it ends the run
+        // X begins as 0, and a division or modulo by it ends the run
         ("2\n60 0 0 0\n6 0 0 9", 0),
+        ("2\n156 0 0 0\n6 0 0 9", 0),
+        ("3\n0 0 0 7\n156 0 0 0\n22 0 0 0", 0),
+        // a remainder of the greatest number, and by it
+        ("3\n0 0 0 4294967295\n148 0 0 2\n22 0 0 0", 1),
+        ("3\n0 0 0 7\n148 0 0 4294967295\n22 0 0 0", 7),
+        (
+            "4\n0 0 0 4294967295\n1 0 0 4294967295\n156 0 0 0\n22 0 0 0",
+            0,
+        ),
+        // an exclusive or of equal numbers, and with all ones
+        (
+            "4\n0 0 0 4294967295\n1 0 0 4294967295\n172 0 0 0\n22 0 0 0",
+            0,
+        ),
+        ("3\n0 0 0 1\n164 0 0 4294967295\n22 0 0 0", 4_294_967_294),
         // comparisons are unsigned
         ("4\n0 0 0 4294967295\n37 0 1 1\n6 0 0 1\n6 0 0 2", 1),
     ];
@@ -152,6 +171,11 @@ fn the_validator_names_the_first_fault(rt: HostRuntime) -> Result<(), Fail> {
         ),
         ("2\n52 0 0 0\n6 0 0 0", "Program ZeroDivisor 0"),
         ("2\n60 0 0 0\n6 0 0 0", "none"),
+        ("2\n148 0 0 0\n6 0 0 0", "Program ZeroDivisor 0"),
+        ("2\n148 0 0 1\n6 0 0 0", "none"),
+        ("2\n156 0 0 0\n6 0 0 0", "none"),
+        ("2\n164 0 0 0\n6 0 0 0", "none"),
+        ("2\n172 0 0 0\n6 0 0 0", "none"),
         ("2\n96 0 0 16\n6 0 0 0", "Program Cell 0"),
         ("2\n97 0 0 16\n6 0 0 0", "Program Cell 0"),
         ("2\n2 0 0 16\n6 0 0 0", "Program Cell 0"),
@@ -161,7 +185,8 @@ fn the_validator_names_the_first_fault(rt: HostRuntime) -> Result<(), Fail> {
         ("2\n6 0 0 1\n0 0 0 1", "Program NoReturn"),
         ("0", "Program Empty"),
         // codes beside the known ones
-        ("2\n148 0 0 5\n6 0 0 0", "Program UnknownCode 0"),
+        ("2\n180 0 0 5\n6 0 0 0", "Program UnknownCode 0"),
+        ("2\n149 0 0 5\n6 0 0 0", "Program UnknownCode 0"),
         ("2\n0 0 0 1\n14 0 0 0", "Program UnknownCode 1"),
         ("2\n256 0 0 0\n6 0 0 0", "Program UnknownCode 0"),
         ("2\n160 0 0 0\n6 0 0 0", "Program UnknownCode 0"),

@@ -66,6 +66,14 @@ decides-either-renewed {k} {l} {e} {f} {t} {u} {exits} {renewed} {a} {b} {c} ren
       (first.decides p m (outcome (u p) m n) bytes (answers-renewed-yes m p renews yes') (second.decides p m n bytes yes' no'));
 }
 
+-- renewed exits lead on as they did, behind what is put in front
+pub renews-later : {k : ℕ} {exits renewed : Exits} {a b c : List Insn} → Renews exits renewed a b → Extends k b c → Renews exits renewed a c
+renews-later {k} {exits} {renewed} before extends = record {
+  here = ((before.here.0.0, omega (arith, before.here.0.1, extends.longer)), (before.here.1.0, omega (arith, before.here.1.1, extends.longer)));
+  yes_leads = λ p r. extends.same renewed.yes p r before.here.0.1 ∙ before.yes_leads p r;
+  no_leads = λ p r. extends.same renewed.no p r before.here.1.1 ∙ before.no_leads p r;
+}
+
 -- both renew the exits, the one after the other
 pub renews-both : {l : ℕ} {e : ℕ} {exits second first : Exits} {a b c : List Insn} → Extends l b c → Renews exits second a b → Renews (record { yes = e; no = second.no }) first b c
     → Renews exits (record { yes = second.yes; no = first.no }) a c

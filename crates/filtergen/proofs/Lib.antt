@@ -8,3 +8,6 @@ pub mod Sharing
 pub mod Nets
 pub mod Six
 pub mod Verdicts
+pub mod Computing
+pub mod Bounds
+pub mod Knowing

@@ -1,5 +1,5 @@
 -- What code that is written from its end does. Private clauses alone say this.
-use Rattle.std.specs.Prelude.{◌≡◌, ℕ, ◌+◌, ◌-◌, ◌<◌, ◌≤◌, List, ◌∷◌, length, Bool, Option, Some, None, if◌then◌else◌, Result, MatchResult}
+use Rattle.std.specs.Prelude.{◌≡◌, ℕ, ◌+◌, ◌-◌, ◌<◌, ◌≤◌, List, ◌∷◌, length, Bool, Option, Some, None, if◌then◌else◌, slice_index, Result, MatchResult}
 use Rattle.bpfvm.specs.declared.insn.Insn.{Insn}
 use Rattle.bpfvm.specs.Codes.{Register, Comparison, Equal, Greater, GreaterOrEqual, AnyBit}
 use Rattle.bpfvm.specs.Machine.{Registers, with_value, Goes, effect, answer, holds}
@@ -123,3 +123,42 @@ pub record Decides (most : ℕ) (test : Test) (exits : Exits) (entry : ℕ) (old
 -- a call is refused only where its code has no room
 abbrev pub OrFull : {X : Type 0} → ℕ → List Insn → Result X Full → (X → Type 0) → Type 0
 OrFull cost old result P = MatchResult result P (λ _. 512 < length old + cost)
+
+-- the answer of the run from the front on
+abbrev pub front : List Insn → Packet → Registers → ℕ
+front code p r = answer code p.captured p.wire 0 r
+
+-- the front of new loads a number into a register, and goes on over old
+pub record Loads (to : Register) (n : Packet → ℕ) (old new : List Insn) : Type 0 where
+  pub extends : Extends 1 old new
+  pub loads : (p : Packet) (r : Registers) → front new p r ≡ front old p (with_value to (n p) r)
+
+-- the cells below a number are what they were
+pub record Keeps (cell : ℕ) (r s : Registers) : Type 0 where
+  pub cells : HasCells s
+  pub same : (k : ℕ) → k < cell → slice_index s.memory k ≡ slice_index r.memory k
+
+-- the run over new ends with 0 where there is no value, and else goes on over old with the value in the accumulator
+abbrev pub Computed : Option ℕ → ℕ → Packet → Registers → List Insn → List Insn → Type 0
+Computed None cell p r old new = front new p r ≡ 0
+Computed (Some n) cell p r old new = (s : Registers) × (front new p r ≡ front old p s) × (s.accumulator ≡ n) × Keeps cell r s
+
+pub record Computes (most : ℕ) (value : Packet → Option ℕ) (cell : ℕ) (old new : List Insn) : Type 0 where
+  pub extends : Extends most old new
+  pub computes : (p : Packet) (r : Registers) → HasCells r → Computed (value p) cell p r old new
+
+-- the same of a value that is made of what is in the accumulator
+pub record Applies (most : ℕ) (f : Packet → ℕ → Option ℕ) (old new : List Insn) : Type 0 where
+  pub extends : Extends most old new
+  pub applies : (p : Packet) (r : Registers) (cell : ℕ) → HasCells r → Computed (f p r.accumulator) cell p r old new
+
+-- the same of two values, the second one in the index register
+abbrev pub Paired : Option ℕ → Option ℕ → ℕ → Packet → Registers → List Insn → List Insn → Type 0
+Paired None w cell p r old new = front new p r ≡ 0
+Paired (Some m) None cell p r old new = front new p r ≡ 0
+Paired (Some m) (Some n) cell p r old new =
+    (s : Registers) × (front new p r ≡ front old p s) × (s.accumulator ≡ m) × (s.index ≡ n) × Keeps cell r s
+
+pub record Pairs (most : ℕ) (v w : Packet → Option ℕ) (cell : ℕ) (old new : List Insn) : Type 0 where
+  pub extends : Extends most old new
+  pub pairs : (p : Packet) (r : Registers) → HasCells r → Paired (v p) (w p) cell p r old new

@@ -3,3 +3,4 @@ pub mod Compiling
 pub mod Insns
 pub mod Emission
 pub mod Parts
+pub mod Knowing

@@ -1,11 +1,18 @@
 -- What filter expressions mean, after pcap-filter(7). Nothing here knows of instructions.
-use Rattle.std.specs.Prelude.{ℕ, ◌+◌, ◌*◌, ◌^◌, ◌<◌, ◌==◌, ◌&&◌, Bool, true, false, not, List, Option, Some, None, nat_le, bit_and, option_and_then, slice_index}
+use Rattle.std.specs.Prelude.{ℕ, ◌+◌, ◌*◌, ◌%◌, ◌^◌, ◌<◌, ◌==◌, ◌&&◌, Bool, true, false, not, List, Option, Some, None, nat_lt, nat_le, bit_and, option_and_then, slice_index}
 use Rattle.std.specs.List.{AllByRecursion}
-use Rattle.bpfvm.specs.Machine.{number_at}
-use Rattle.filterlang.specs.Trees.{Tree}
+use Rattle.bpfvm.specs.Codes.{Arithmetic, Add, Subtract, Multiply, Divide, Modulo, Or, And, ExclusiveOr, ShiftLeft, ShiftRight}
+use Rattle.bpfvm.specs.Machine.{number_at, calculated}
+use Rattle.filterlang.specs.Trees.{Amount, Tree}
 use Rattle.filterlang.specs.Trees as trees
+use Rattle.filterlang.specs.declared.token.Comparison.{Comparison}
+use Rattle.filterlang.specs.declared.token.Comparison.TheVariants as comparisons
+use Rattle.filterlang.specs.declared.token.Operator.{Operator}
+use Rattle.filterlang.specs.declared.token.Operator.TheVariants as operators
 use Rattle.filterlang.specs.declared.tree.Direction.{Direction}
 use Rattle.filterlang.specs.declared.tree.Direction.TheVariants.{Src, Dst, SrcOrDst, SrcAndDst}
+use Rattle.filterlang.specs.declared.tree.Layer.{Layer}
+use Rattle.filterlang.specs.declared.tree.Layer.TheVariants as layers
 use Rattle.filterlang.specs.declared.tree.Network.{Network}
 use Rattle.filterlang.specs.declared.tree.Network.TheVariants as networks
 use Rattle.filterlang.specs.declared.tree.Transport.{Transport}
@@ -14,6 +21,8 @@ use Rattle.filterlang.specs.declared.tree.Plain.{Plain}
 use Rattle.filterlang.specs.declared.tree.Plain.TheVariants as words
 use Rattle.filterlang.specs.declared.tree.Primitive.{Primitive}
 use Rattle.filterlang.specs.declared.tree.Primitive.TheVariants.{Protocol, Net, EtherHost, Ports, IpProto, EtherProto, EtherBroadcast, EtherMulticast, IpMulticast, Less, Greater}
+use Rattle.filterlang.specs.declared.tree.Size.{Size}
+use Rattle.filterlang.specs.declared.tree.Size.TheVariants as sizes
 use Rattle.filtergen.specs.declared.verdict.Verdict.{Verdict}
 use Rattle.filtergen.specs.declared.verdict.Verdict.TheVariants.{Yes, No, Abort}
 
@@ -182,10 +191,98 @@ primitive_test IpMulticast = both (is_type 0x0800) (λ p. check (λ b. nat_le 22
 primitive_test (Less n) = (λ p. decided (nat_le p.wire n))
 primitive_test (Greater n) = (λ p. decided (nat_le n p.wire))
 
+-- The binary operators calculate as the filter machine does: modulo 2 ^ 32; nothing where the divisor of `/` or `%` is 0;
+-- a shift by 32 or more gives 0.
+abbrev pub arithmetic_of : Operator → Arithmetic
+arithmetic_of operators.Plus = Add
+arithmetic_of operators.Minus = Subtract
+arithmetic_of operators.Times = Multiply
+arithmetic_of operators.Divide = Divide
+arithmetic_of operators.Modulo = Modulo
+arithmetic_of operators.BitAnd = And
+arithmetic_of operators.BitXor = ExclusiveOr
+arithmetic_of operators.BitOr = Or
+arithmetic_of operators.ShiftLeft = ShiftLeft
+arithmetic_of operators.ShiftRight = ShiftRight
+
+-- how many bytes an accessor reads
+abbrev pub bytes_of : Size → ℕ
+bytes_of sizes.One = 1
+bytes_of sizes.Two = 2
+bytes_of sizes.Four = 4
+
+-- so many captured bytes at an index of the frame
+abbrev pub in_frame : ℕ → Packet → ℕ → Option ℕ
+in_frame size p i = number_at p.captured i size
+
+-- at an index of what stands behind the Ethernet header, without wrapping
+abbrev pub behind_ethernet : ℕ → Packet → ℕ → Option ℕ
+behind_ethernet size p i = number_at p.captured (14 + i) size
+
+-- at an index of what stands behind the IPv4 header; the sum of index and header length is modulo 2 ^ 32
+abbrev pub behind_header : ℕ → Packet → ℕ → Option ℕ
+behind_header size p i = option_and_then (λ b. number_at p.captured (14 + (i + 4 * bit_and b 15) % 2 ^ 32) size) (byte 14 p)
+
+-- proto[i:size]
+abbrev pub accessed : Layer → ℕ → Packet → ℕ → Option ℕ
+accessed layers.Ether = in_frame
+accessed layers.Ip = behind_ethernet
+accessed layers.Arp = behind_ethernet
+accessed layers.Rarp = behind_ethernet
+accessed layers.Tcp = behind_header
+accessed layers.Udp = behind_header
+accessed layers.Icmp = behind_header
+
+-- The value of arithmetic, below 2 ^ 32: nothing where a divisor is 0, or a byte past the captured ones is wanted.
+abbrev pub value : Amount → Packet → Option ℕ
+value (trees.number n) p = Some n
+value trees.wire_length p = Some p.wire
+value (trees.minus v) p = option_and_then (calculated Subtract 0) (value v p)
+value (trees.binary o v w) p = option_and_then (λ a. option_and_then (λ b. calculated (arithmetic_of o) a b) (value w p)) (value v p)
+value (trees.accessor layer v size) p = option_and_then (accessed layer (bytes_of size) p) (value v p)
+
+-- the packet has the layer that an accessor reads
+abbrev pub in_layer : Layer → Test
+in_layer layers.Ether = (λ p. Yes)
+in_layer layers.Ip = is_type 0x0800
+in_layer layers.Arp = is_type 0x0806
+in_layer layers.Rarp = is_type 0x8035
+in_layer layers.Tcp = is_first 6
+in_layer layers.Udp = is_first 17
+in_layer layers.Icmp = is_first 1
+
+-- and the layers of all accessors, in the order of their words
+abbrev pub in_layers : Amount → Test
+in_layers (trees.number n) = (λ p. Yes)
+in_layers trees.wire_length = (λ p. Yes)
+in_layers (trees.minus v) = in_layers v
+in_layers (trees.binary o v w) = both (in_layers v) (in_layers w)
+in_layers (trees.accessor layer v size) = both (in_layer layer) (in_layers v)
+
+-- the comparisons are of numbers without sign
+abbrev pub compared : Comparison → ℕ → ℕ → Bool
+compared comparisons.Equal a b = a == b
+compared comparisons.NotEqual a b = not (a == b)
+compared comparisons.Less a b = nat_lt a b
+compared comparisons.Greater a b = nat_lt b a
+compared comparisons.LessOrEqual a b = nat_le a b
+compared comparisons.GreaterOrEqual a b = nat_le b a
+
+-- a condition on two values, either of which may be missing
+abbrev pub check_both : (ℕ → ℕ → Bool) → Option ℕ → Option ℕ → Verdict
+check_both condition None b = Abort
+check_both condition (Some a) None = Abort
+check_both condition (Some a) (Some b) = decided (condition a b)
+
+-- a relation: first the layers of its accessors, then the left value and the right one
+abbrev pub relation_test : Comparison → Amount → Amount → Test
+relation_test c v w = both (both (in_layers v) (in_layers w)) (λ p. check_both (compared c) (value v p) (value w p))
+
 -- an expression's test; the empty expression is always Yes
 abbrev pub meaning : Tree → Test
 meaning trees.everything = (λ p. Yes)
 meaning (trees.test primitive) = primitive_test primitive
+meaning (trees.relation c v w) = relation_test c v w
 meaning (trees.negation t) = negation (meaning t)
 meaning (trees.both t u) = both (meaning t) (meaning u)
 meaning (trees.either t u) = either (meaning t) (meaning u)

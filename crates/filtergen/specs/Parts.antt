@@ -1,5 +1,10 @@
--- The parts of the primitives' code, and how many instructions it has at most. Private clauses alone say this.
-use Rattle.std.specs.Prelude.{ℕ, ◌==◌, ◌+◌, Option, Some, None, bit_and}
+-- The parts of the code of primitives and relations, and how many instructions it has at most. Private clauses alone say this.
+use Rattle.std.specs.Prelude.{ℕ, ◌==◌, ◌+◌, ◌<◌, Option, Some, None, bit_and}
+use Rattle.filterlang.specs.Trees.{Amount, number, wire_length, minus, binary, accessor}
+use Rattle.filterlang.specs.declared.token.Operator.{Operator}
+use Rattle.filterlang.specs.declared.token.Operator.TheVariants as operators
+use Rattle.filterlang.specs.declared.tree.Layer.{Layer}
+use Rattle.filterlang.specs.declared.tree.Layer.TheVariants as layers
 use Rattle.filterlang.specs.declared.tree.Plain.{Plain}
 use Rattle.filterlang.specs.declared.tree.Plain.TheVariants as words
 use Rattle.filterlang.specs.declared.tree.Primitive.{Primitive}
@@ -9,7 +14,13 @@ use Rattle.filterlang.specs.declared.tree.Direction.TheVariants.{Src, Dst, SrcOr
 use Rattle.filtergen.specs.declared.verdict.Verdict.{Verdict}
 use Rattle.filtergen.specs.declared.primitives.Side.{Side}
 use Rattle.filtergen.specs.declared.primitives.Side.TheVariants as sides
-use Rattle.filtergen.specs.Meaning.{Test, and_then, or_else, both, either, check, byte, half, is_type, has_address, is_address, within}
+use Rattle.filtergen.specs.declared.insns.Operand.{Operand}
+use Rattle.filtergen.specs.declared.insns.Operand.TheVariants as operands
+use Rattle.filtergen.specs.declared.values.Leaf.{Leaf}
+use Rattle.filtergen.specs.declared.values.Leaf.TheVariants as leaves
+use Rattle.filtergen.specs.declared.values.Base.{Base}
+use Rattle.filtergen.specs.declared.values.Base.TheVariants as bases
+use Rattle.filtergen.specs.Meaning.{Packet, in_frame, behind_ethernet, behind_header, Test, and_then, or_else, both, either, check, byte, half, is_type, has_address, is_address, within}
 
 -- the verdict of the source, that of the destination, or that of both
 abbrev pub directed : Direction → Verdict → Verdict → Verdict
@@ -73,3 +84,69 @@ cost EtherMulticast = 4
 cost IpMulticast = 8
 cost (Less n) = 4
 cost (Greater n) = 4
+
+-- the value that a leaf is
+abbrev pub amount_of_leaf : Leaf → Amount
+amount_of_leaf (leaves.Number n) = number n
+amount_of_leaf leaves.Length = wire_length
+
+-- what it is of a packet
+abbrev pub leaf_value : Leaf → Packet → ℕ
+leaf_value (leaves.Number n) p = n
+leaf_value leaves.Length p = p.wire
+
+-- an instruction may have this constant behind this operator: none divides by 0
+abbrev pub MayStandBehind : Operator → ℕ → Type 0
+MayStandBehind operators.Divide n = 0 < n
+MayStandBehind operators.Modulo n = 0 < n
+MayStandBehind other n = Unit {0}
+
+abbrev pub MayBeOperand : Operator → Operand → Type 0
+MayBeOperand operator (operands.Constant n) = MayStandBehind operator n
+MayBeOperand operator operands.Index = Unit {0}
+
+abbrev pub base_of : Layer → Base
+base_of layers.Ether = bases.Frame
+base_of layers.Ip = bases.Network
+base_of layers.Arp = bases.Network
+base_of layers.Rarp = bases.Network
+base_of layers.Tcp = bases.Transport
+base_of layers.Udp = bases.Transport
+base_of layers.Icmp = bases.Transport
+
+-- so many bytes at an index that is counted from a base
+abbrev pub read_from : Base → ℕ → Packet → ℕ → Option ℕ
+read_from bases.Frame = in_frame
+read_from bases.Network = behind_ethernet
+read_from bases.Transport = behind_header
+
+-- how far behind the frame's first byte a base can be
+abbrev pub farthest : Base → ℕ
+farthest bases.Frame = 0
+farthest bases.Network = 14
+farthest bases.Transport = 74
+
+-- how many instructions compute a value, and how many test its layers, at most
+abbrev pub value_cost : Amount → ℕ
+value_cost (number n) = 1
+value_cost wire_length = 1
+value_cost (minus v) = 1 + value_cost v
+value_cost (binary o v w) = 1 + (2 + value_cost w + 1 + value_cost v)
+value_cost (accessor layer v size) = 4 + value_cost v
+
+abbrev pub layers_cost : Amount → ℕ
+layers_cost (number n) = 0
+layers_cost wire_length = 0
+layers_cost (minus v) = layers_cost v
+layers_cost (binary o v w) = layers_cost w + layers_cost v
+layers_cost (accessor layer v size) = layers_cost v + 12
+
+-- two values, one after the other
+abbrev pub pair_cost : Amount → Amount → ℕ
+pair_cost v w = 2 + value_cost w + 1 + value_cost v
+
+abbrev pub compare_cost : Amount → Amount → ℕ
+compare_cost v w = 3 + pair_cost v w
+
+abbrev pub relation_cost : Amount → Amount → ℕ
+relation_cost v w = compare_cost v w + (layers_cost w + layers_cost v)

@@ -98,6 +98,15 @@ impl Code {
         self.insns.push(insn);
     }
 
+    /// Puts an instruction in front that is sound wherever it stands.
+    pub fn put(&mut self, code: u16, k: u32)
+        requires room { length self.old < 512 }
+        requires sound { fault_of 1 0 (plain_insn code k) ≡ None }
+        ensures { self.new ≡ plain_insn code k ∷ self.old }
+    {
+        self.push(plain_insn(code, k));
+    }
+
     /// The place, or one that goes on there, where the place is farther than reach.
     pub fn near(&mut self, place: usize, reach: usize) -> usize
         requires room { length self.old < 512 }

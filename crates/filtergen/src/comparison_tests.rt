@@ -3,6 +3,7 @@
 ghost use Rattle.std.specs.Prelude.{◌<◌};
 
 use super::*;
+use crate::random_relation_tests::random_relation;
 use bpfvm::{Program, run};
 use filterlang::{Direction, EthernetAddress, Expr, Network, Plain, Primitive, Transport};
 use std::alloc::{AllocError, Global};
@@ -55,7 +56,7 @@ fn bytes_of(alloc: Global, hex: &str) -> Result<Vec<u8>, AllocError> {
     Ok(bytes)
 }
 
-fn frames(rt: &(impl Abort + AllocGlobal)) -> Vec<Vec<u8>> {
+pub(crate) fn frames(rt: &(impl Abort + AllocGlobal)) -> Vec<Vec<u8>> {
     let mut frames = Vec::new(rt.alloc());
     for hex in FRAMES {
         let frame = bytes_of(rt.alloc(), hex).expect(rt, "there is memory");
@@ -133,7 +134,7 @@ const UNDIRECTED: [Primitive; 14] = [
 ];
 
 // The program, and that it is refused as too long only where it is heavy.
-fn program_of(rt: &impl Abort, expr: &Expr) -> Option<Program> {
+pub(crate) fn program_of(rt: &impl Abort, expr: &Expr) -> Option<Program> {
     match compile(expr, 96) {
         Ok(program) => Some(program),
         Err(refusal) => {
@@ -145,11 +146,11 @@ fn program_of(rt: &impl Abort, expr: &Expr) -> Option<Program> {
 }
 
 // A frame's own length.
-fn wire_of(frame: &[u8]) -> u32 {
+pub(crate) fn wire_of(frame: &[u8]) -> u32 {
     frame.len().min(65_535) as u32
 }
 
-fn compare(rt: &impl Abort, expr: &Expr, program: &Program, packet: &[u8], wire: u32) {
+pub(crate) fn compare(rt: &impl Abort, expr: &Expr, program: &Program, packet: &[u8], wire: u32) {
     let verdict = evaluate(expr, packet, wire);
     let expected = if verdict == Verdict::Yes { 96 } else { 0 };
     assert_eq!(rt;
@@ -228,12 +229,12 @@ fn every_port_on_frames_cut_at_each_byte(rt: HostRuntime) {
 
 /// Numbers that look random, the same in each run (Marsaglia's xorshift of 64 bits).
 #[derive(Drop)]
-struct Random {
-    state: u64,
+pub(crate) struct Random {
+    pub state: u64,
 }
 
 impl Random {
-    fn next(&mut self) -> u64 {
+    pub fn next(&mut self) -> u64 {
         self.state ^= self.state << 13;
         self.state ^= self.state >> 7;
         self.state ^= self.state << 17;
@@ -241,7 +242,7 @@ impl Random {
     }
 
     // A number below `end`.
-    fn below(&mut self, end: usize) -> usize
+    pub fn below(&mut self, end: usize) -> usize
         requires { 0 < end }
         ensures { result < end }
     {
@@ -308,12 +309,12 @@ fn joined_trees(
     Ok(tree)
 }
 
-// A primitive, or now and then the empty expression.
-fn random_leaf(random: &mut Random) -> Expr {
-    if random.below(12) == 0 {
-        Expr::Everything
-    } else {
-        Expr::Test(random_primitive(random))
+// A primitive or a relation, or now and then the empty expression.
+fn random_leaf(alloc: Global, random: &mut Random) -> Result<Expr, AllocError> {
+    match random.below(12) {
+        0 => Ok(Expr::Everything),
+        1 | 2 | 3 => random_relation(alloc, random),
+        _ => Ok(Expr::Test(random_primitive(random))),
     }
 }
 
@@ -321,9 +322,9 @@ fn random_leaf(random: &mut Random) -> Expr {
 fn random_branch(alloc: Global, random: &mut Random) -> Result<Expr, AllocError> {
     let mut leaves = Vec::new(alloc);
     for _ in 0..random.below(4) {
-        leaves.push(random_leaf(random))?;
+        leaves.push(random_leaf(alloc, random)?)?;
     }
-    let first = random_leaf(random);
+    let first = random_leaf(alloc, random)?;
     joined_trees(alloc, random, first, leaves)
 }
 

@@ -1,16 +1,19 @@
 //! The compiler from filter expressions to programs of the filter machine.
 //!
 //! [`compile`] makes the program that stands for an expression: on every packet it answers the snapshot length where
-//! the expression accepts it, and else 0. [`evaluate`] answers an expression without compiling it, and [`weight`] tells
-//! how much room an expression may take: up to [`MAX_WEIGHT`] it compiles. Nothing here takes memory.
+//! the expression accepts it, and else 0. [`evaluate`] answers an expression without compiling it, and [`need`] and
+//! [`weight`] tell how much it may take: up to [`MAX_NEED`] and [`MAX_WEIGHT`] it compiles. Nothing here takes memory.
 #![tactic(auto)]
 
 mod code;
 mod compiler;
 mod evaluator;
 mod insns;
+mod known;
 mod primitives;
 mod refusal;
+mod relations;
+mod values;
 mod verdict;
 mod weighing;
 
@@ -18,11 +21,15 @@ pub use compiler::{MAX_SNAP, compile};
 pub use evaluator::evaluate;
 pub use refusal::Refusal;
 pub use verdict::Verdict;
-pub use weighing::{MAX_WEIGHT, weight};
+pub use weighing::{MAX_NEED, MAX_WEIGHT, need, weight};
 
 #[cfg(test)]
 mod caller_tests;
 #[cfg(test)]
 mod comparison_tests;
+#[cfg(test)]
+mod random_relation_tests;
+#[cfg(test)]
+mod relation_tests;
 #[cfg(test)]
 mod tests;

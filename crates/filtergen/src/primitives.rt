@@ -1,8 +1,8 @@
 //! The primitives. Code is written from its end: of two tests that follow each other, the second one comes first here.
 
-ghost use Rattle.std.specs.Prelude.{◌≡◌, ℕ, ◌+◌, ◌≤◌, None, length};
+ghost use Rattle.std.specs.Prelude.{◌≡◌, ℕ, ◌+◌, ◌≤◌, ◌==◌, None, length};
 ghost use Rattle.filterlang.specs.declared.tree.Primitive.TheVariants.{Ports, IpMulticast, Less};
-ghost use Rattle.filtergen.specs.Meaning.{both, is_type, is_protocol, is_first, plain_test, by_direction, has_address, in_net, in_any_net, is_address, within, has_port, has_any_ports, protocol_number, primitive_test};
+ghost use Rattle.filtergen.specs.Meaning.{check, byte, both, is_type, is_protocol, is_first, plain_test, by_direction, has_address, in_net, in_any_net, is_address, within, has_port, has_any_ports, protocol_number, primitive_test};
 ghost use Rattle.filtergen.specs.Insns.{plain_insn};
 ghost use Rattle.filtergen.specs.Emission.{AreExits, ChoosesBehind, Follows, Decides};
 ghost use Rattle.filtergen.specs.Parts.{side_cost, side_offset, side_test, port_behind, is_unfragmented, has_port_number, is_any_first, plain_cost, cost};
@@ -96,12 +96,21 @@ pub(crate) fn cost(primitive: Primitive) -> usize
 
 impl Code {
     /// The Ethernet type.
-    fn ether_type(&mut self, number: u32, exits: Exits) -> usize
+    pub fn ether_type(&mut self, number: u32, exits: Exits) -> usize
         requires room { length self.old + 4 ≤ 512 }
         requires exits { AreExits self.old exits }
         ensures { Decides 4 (is_type number) exits result self.old self.new }
     {
         self.test(Field::Half(12), Jump::Equal, number, exits)
+    }
+
+    /// The protocol number of IPv4.
+    pub fn protocol_number(&mut self, number: u32, exits: Exits) -> usize
+        requires room { length self.old + 4 ≤ 512 }
+        requires exits { AreExits self.old exits }
+        ensures { Decides 4 (λ p. check (λ b. b == number) (byte 23 p)) exits result self.old self.new }
+    {
+        self.test(Field::Byte(23), Jump::Equal, number, exits)
     }
 
     /// IPv4 with this protocol number.
@@ -110,7 +119,7 @@ impl Code {
         requires exits { AreExits self.old exits }
         ensures { Decides 8 (is_protocol number) exits result self.old self.new }
     {
-        let inner = self.test(Field::Byte(23), Jump::Equal, number, exits);
+        let inner = self.protocol_number(number, exits);
         let exits = Exits {
             yes: inner,
             ..exits
@@ -119,7 +128,7 @@ impl Code {
     }
 
     /// No later fragment of IPv4.
-    fn unfragmented(&mut self, exits: Exits) -> usize
+    pub fn unfragmented(&mut self, exits: Exits) -> usize
         requires room { length self.old + 4 ≤ 512 }
         requires exits { AreExits self.old exits }
         ensures { Decides 4 is_unfragmented exits result self.old self.new }

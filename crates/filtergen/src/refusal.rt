@@ -2,13 +2,13 @@
 
 use thiserror::Error;
 
-/// Why an expression is not compiled. `BadSnap` is looked for first.
+/// Why an expression is not compiled. `BadSnap` is looked for first, and `TooDeep` second.
 #[derive(Clone, Copy, Debug, PartialEq, Eq, Error)]
 pub enum Refusal {
     /// The program would not fit into 512 instructions. It comes only where the expression's weight is above 500.
     #[error("TooLong")]
     TooLong,
-    /// A relation takes more than 16 cells of the scratch memory. It does not come, since there are no relations yet.
+    /// A relation needs more than 16 cells of the scratch memory.
     #[error("TooDeep")]
     TooDeep,
     /// The snapshot length is not from 1 to 262,144.

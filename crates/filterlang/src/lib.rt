@@ -24,7 +24,7 @@ pub use token::{
     Comparison, EthernetAddress, Joint, Kind, Operator, Parts, Protocol, Side, Span, Token,
     TypeWord,
 };
-pub use tree::{Direction, Expr, Network, Plain, Primitive, Transport};
+pub use tree::{Direction, Expr, Layer, Network, Plain, Primitive, Size, Transport, Value};
 
 #[cfg(test)]
 mod length_tests;

@@ -5,7 +5,7 @@ ghost use Rattle.filterlang.specs.Trees.{tree_of, negation};
 ghost use Rattle.filterlang.specs.Reading.{Gives, joined_by};
 
 use crate::fault::Fault;
-use crate::token::{EthernetAddress, Joint};
+use crate::token::{Comparison, EthernetAddress, Joint, Operator};
 use std::alloc::Global;
 
 /// Which side of a packet an identifier is for.
@@ -82,12 +82,45 @@ pub enum Primitive {
     Greater(u32),
 }
 
+/// The layer whose bytes an accessor reads.
+#[derive(Clone, Copy, Debug, PartialEq, Eq)]
+pub enum Layer {
+    Ether,
+    Ip,
+    Arp,
+    Rarp,
+    Tcp,
+    Udp,
+    Icmp,
+}
+
+/// How many bytes an accessor reads.
+#[derive(Clone, Copy, Debug, PartialEq, Eq)]
+pub enum Size {
+    One,
+    Two,
+    Four,
+}
+
+/// A value of arithmetic, of 32 bits. Parentheses leave no node.
+#[derive(Debug, PartialEq, Eq, Drop)]
+pub enum Value {
+    Number(u32),
+    /// The length on the wire.
+    Length,
+    Negation(Box<Value>),
+    Binary(Operator, Box<Value>, Box<Value>),
+    /// The bytes of a layer, at an index.
+    Accessor(Layer, Box<Value>, Size),
+}
+
 /// A filter expression as a tree. Parentheses leave no node.
 #[derive(Debug, PartialEq, Eq, Drop)]
 pub enum Expr {
     /// The empty text, which accepts every packet.
     Everything,
     Test(Primitive),
+    Relation(Comparison, Value, Value),
     Not(Box<Expr>),
     And(Box<Expr>, Box<Expr>),
     Or(Box<Expr>, Box<Expr>),

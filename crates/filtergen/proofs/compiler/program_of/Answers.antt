@@ -1,10 +1,16 @@
-use Rattle.std.proofs.Common.{◌≡◌, sym, ap}
+use Rattle.std.proofs.Common.{◌≡◌, sym, ap, refl}
 use Rattle.filterlang.specs.Trees.{tree_of}
+use Rattle.filtergen.specs.declared.known.Known.TheVariants as known
+use Rattle.filtergen.specs.Meaning.{meaning}
 use Rattle.filtergen.specs.Compiling.{StandsFor}
+use Rattle.filtergen.proofs.Deciding.{decides-same}
+use Rattle.filtergen.proofs.Knowing.{rest-tree}
 use Rattle.filtergen.proofs.Verdicts.{stands}
 use Rattle.filtergen.proofs.compiler.program_of.Goals as goal
 
 pub returns : goal.returns
 returns c =
+    let t = tree_of c.args.expr.now in
+    let whole = decides-same _ (meaning t) (λ p bytes. rest-tree known.Nothing t p refl) c.in_ok-emitted.ensures.0 in
     rw c.into_program.ensures
-    (stands (tree_of c.args.expr.now) c.args.snap _ c.in_ok-emitted.emitted.entry c.near.result c.new-code.result c.expression.new.self c.near.new.self c.new-code.ensures c.in_ok-emitted.ensures.0 c.near.ensures)
+    (stands t c.args.snap _ c.in_ok-emitted.emitted.entry c.near.result c.new-code.result c.expression.new.self c.near.new.self c.new-code.ensures whole c.near.ensures)

@@ -1,0 +1,179 @@
+-- What is left of a test behind what is known answers as the whole test does.
+use Rattle.std.proofs.Common.{◌≡◌, ℕ, ◌==◌, Bool, true, false, Option, Some, None, refl, sym, ap, subst, ◌∙◌, arith, if◌then◌else◌, bit_and}
+use Rattle.std.proofs.lemmas.Bool.Decides.{nat_tests}
+use Rattle.filterlang.specs.Trees.{Amount, Tree}
+use Rattle.filterlang.specs.Trees as trees
+use Rattle.filterlang.specs.declared.token.Comparison.{Comparison}
+use Rattle.filterlang.specs.declared.tree.Layer.{Layer}
+use Rattle.filterlang.specs.declared.tree.Layer.TheVariants as layers
+use Rattle.filterlang.specs.declared.tree.Network.{Network}
+use Rattle.filterlang.specs.declared.tree.Network.TheVariants as networks
+use Rattle.filterlang.specs.declared.tree.Plain.{Plain}
+use Rattle.filterlang.specs.declared.tree.Plain.TheVariants as words
+use Rattle.filterlang.specs.declared.tree.Primitive.{Primitive}
+use Rattle.filterlang.specs.declared.tree.Primitive.TheVariants.{Protocol, Net, EtherHost, Ports, IpProto, EtherProto, EtherBroadcast, EtherMulticast, IpMulticast, Less, Greater}
+use Rattle.filtergen.specs.declared.known.Known.{Known}
+use Rattle.filtergen.specs.declared.known.Known.TheVariants as known
+use Rattle.filtergen.specs.declared.verdict.Verdict.{Verdict}
+use Rattle.filtergen.specs.declared.verdict.Verdict.TheVariants.{Yes, No, Abort}
+use Rattle.filtergen.specs.Meaning.{Packet, Test, and_then, or_else, opposite, check, check_both, compared, byte, half, is_type, is_protocol, is_first, value, in_layer, in_layers, relation_test, primitive_test, meaning}
+use Rattle.filtergen.specs.Knowing.{shows, has_type, has_number, has_first, implies, narrowed, unless_known, rest_of_type, rest_of_number, rest_of_first, rest_of, of_layer, behind_layers, rest_of_layers, rest_of_relation, of_primitive, behind, rest_of_tree}
+
+-- where both are Yes, each is
+and-left : (v w : Verdict) → and_then v w ≡ Yes → v ≡ Yes
+and-left Yes w is = refl
+and-left No w is = absurd cc
+and-left Abort w is = absurd cc
+
+and-right : (v w : Verdict) → and_then v w ≡ Yes → w ≡ Yes
+and-right Yes w is = is
+and-right No w is = absurd cc
+and-right Abort w is = absurd cc
+
+-- the second answer counts only behind a Yes
+and-same : (v v' w w' : Verdict) → v ≡ v' → (v' ≡ Yes → w ≡ w') → and_then v w ≡ and_then v' w'
+and-same v v' w w' first second = ap (λ x. and_then x w) first ∙ by_first v' second
+  where
+    by_first : (x : Verdict) → (x ≡ Yes → w ≡ w') → and_then x w ≡ and_then x w'
+    by_first Yes second = second refl
+    by_first No second = refl
+    by_first Abort second = refl
+
+equal-true : (m n : ℕ) → (m == n) ≡ true → m ≡ n
+equal-true m n is = grind (arith, nat_tests)
+
+-- what is known holds
+type-from : (k : Known) (n : ℕ) (p : Packet) → shows k p ≡ Yes → has_type k n ≡ true → is_type n p ≡ Yes
+type-from known.Nothing n p holds is = absurd cc
+type-from (known.Type m) n p holds is = subst (λ x. is_type x p ≡ Yes) (sym (equal-true n m is)) holds
+type-from (known.Number m) n p holds is = subst (λ x. is_type x p ≡ Yes) (sym (equal-true n 0x0800 is)) (and-left _ _ holds)
+type-from (known.First m) n p holds is = subst (λ x. is_type x p ≡ Yes) (sym (equal-true n 0x0800 is)) (and-left _ _ (and-left (is_protocol m p) _ holds))
+
+number-from : (k : Known) (n : ℕ) (p : Packet) → shows k p ≡ Yes → has_number k n ≡ true → is_protocol n p ≡ Yes
+number-from known.Nothing n p holds is = absurd cc
+number-from (known.Type m) n p holds is = absurd cc
+number-from (known.Number m) n p holds is = subst (λ x. is_protocol x p ≡ Yes) (sym (equal-true n m is)) holds
+number-from (known.First m) n p holds is = subst (λ x. is_protocol x p ≡ Yes) (sym (equal-true n m is)) (and-left (is_protocol m p) _ holds)
+
+first-from : (k : Known) (n : ℕ) (p : Packet) → shows k p ≡ Yes → has_first k n ≡ true → is_first n p ≡ Yes
+first-from known.Nothing n p holds is = absurd cc
+first-from (known.Type m) n p holds is = absurd cc
+first-from (known.Number m) n p holds is = absurd cc
+first-from (known.First m) n p holds is = subst (λ x. is_first x p ≡ Yes) (sym (equal-true n m is)) holds
+
+-- and so does what is known behind one more test
+narrowed-holds : (k fact : Known) (p : Packet) → shows k p ≡ Yes → shows fact p ≡ Yes → shows (narrowed k fact) p ≡ Yes
+narrowed-holds k fact p holds passed = by_test (implies k fact)
+  where
+    by_test : (b : Bool) → shows (if b then k else fact) p ≡ Yes
+    by_test true = holds
+    by_test false = passed
+
+-- a test is passed over only where it is known to hold
+unless-same : (b : Bool) (t u : Test) (p : Packet) → (b ≡ true → u p ≡ Yes) → t p ≡ u p → unless_known b t p ≡ u p
+unless-same true t u p holds same = sym (holds refl)
+unless-same false t u p holds same = same
+
+rest-type : (k : Known) (n : ℕ) (p : Packet) → shows k p ≡ Yes → rest_of_type k n p ≡ is_type n p
+rest-type k n p holds = unless-same (has_type k n) (is_type n) (is_type n) p (type-from k n p holds) refl
+
+rest-number : (k : Known) (n : ℕ) (p : Packet) → shows k p ≡ Yes → rest_of_number k n p ≡ is_protocol n p
+rest-number k n p holds =
+    unless-same (has_number k n) _ (is_protocol n) p (number-from k n p holds)
+    (ap (λ v. and_then v (check (λ b. b == n) (byte 23 p))) (rest-type k 0x0800 p holds))
+
+rest-first : (k : Known) (n : ℕ) (p : Packet) → shows k p ≡ Yes → rest_of_first k n p ≡ is_first n p
+rest-first k n p holds =
+    unless-same (has_first k n) _ (is_first n) p (first-from k n p holds)
+    (ap (λ v. and_then v (check (λ b. bit_and b 0x1fff == 0) (half 20 p))) (rest-number k n p holds))
+
+rest-same : (k fact : Known) (p : Packet) → shows k p ≡ Yes → rest_of k fact p ≡ shows fact p
+rest-same k known.Nothing p holds = refl
+rest-same k (known.Type n) p holds = rest-type k n p holds
+rest-same k (known.Number n) p holds = rest-number k n p holds
+rest-same k (known.First n) p holds = rest-first k n p holds
+
+layer-shown : (l : Layer) (p : Packet) → shows (of_layer l) p ≡ in_layer l p
+layer-shown layers.Ether p = refl
+layer-shown layers.Ip p = refl
+layer-shown layers.Arp p = refl
+layer-shown layers.Rarp p = refl
+layer-shown layers.Tcp p = refl
+layer-shown layers.Udp p = refl
+layer-shown layers.Icmp p = refl
+
+-- the layers of a value
+layers-known : (k : Known) (v : Amount) (p : Packet) → shows k p ≡ Yes → in_layers v p ≡ Yes → shows (behind_layers k v) p ≡ Yes
+layers-known k (trees.number n) p holds passed = holds
+layers-known k trees.wire_length p holds passed = holds
+layers-known k (trees.minus v) p holds passed = layers-known k v p holds passed
+layers-known k (trees.binary o v w) p holds passed =
+    layers-known (behind_layers k v) w p (layers-known k v p holds (and-left _ (in_layers w p) passed)) (and-right (in_layers v p) _ passed)
+layers-known k (trees.accessor l v size) p holds passed =
+    layers-known (narrowed k (of_layer l)) v p (narrowed-holds k (of_layer l) p holds (layer-shown l p ∙ and-left _ (in_layers v p) passed)) (and-right (in_layer l p) _ passed)
+
+rest-layers : (k : Known) (v : Amount) (p : Packet) → shows k p ≡ Yes → rest_of_layers k v p ≡ in_layers v p
+rest-layers k (trees.number n) p holds = refl
+rest-layers k trees.wire_length p holds = refl
+rest-layers k (trees.minus v) p holds = rest-layers k v p holds
+rest-layers k (trees.binary o v w) p holds =
+    and-same _ (in_layers v p) _ (in_layers w p) (rest-layers k v p holds) (λ passed. rest-layers (behind_layers k v) w p (layers-known k v p holds passed))
+rest-layers k (trees.accessor l v size) p holds =
+    and-same _ (in_layer l p) _ (in_layers v p) (rest-same k (of_layer l) p holds ∙ layer-shown l p)
+    (λ passed. rest-layers (narrowed k (of_layer l)) v p (narrowed-holds k (of_layer l) p holds (layer-shown l p ∙ passed)))
+
+-- a relation
+relation-known : (k : Known) (c : Comparison) (v w : Amount) (p : Packet) → shows k p ≡ Yes → relation_test c v w p ≡ Yes → shows (behind_layers (behind_layers k v) w) p ≡ Yes
+relation-known k c v w p holds passed =
+    let both = and-left (and_then (in_layers v p) (in_layers w p)) (check_both (compared c) (value v p) (value w p)) passed in
+    layers-known (behind_layers k v) w p (layers-known k v p holds (and-left _ (in_layers w p) both)) (and-right (in_layers v p) _ both)
+
+rest-relation : (k : Known) (c : Comparison) (v w : Amount) (p : Packet) → shows k p ≡ Yes → rest_of_relation k c v w p ≡ relation_test c v w p
+rest-relation k c v w p holds =
+    ap (λ x. and_then x (check_both (compared c) (value v p) (value w p)))
+    (and-same _ (in_layers v p) _ (in_layers w p) (rest-layers k v p holds) (λ passed. rest-layers (behind_layers k v) w p (layers-known k v p holds passed)))
+
+-- a primitive that is passed
+primitive-known : (t : Primitive) (p : Packet) → primitive_test t p ≡ Yes → shows (of_primitive t) p ≡ Yes
+primitive-known (Protocol words.Ip) p passed = passed
+primitive-known (Protocol words.Arp) p passed = passed
+primitive-known (Protocol words.Rarp) p passed = passed
+primitive-known (Protocol words.Icmp) p passed = passed
+primitive-known (Protocol words.Tcp) p passed = passed
+primitive-known (Protocol words.Udp) p passed = passed
+primitive-known (Protocol words.Sctp) p passed = passed
+primitive-known (Net (Some networks.Ip) direction address mask) p passed = and-left _ _ passed
+primitive-known (Net (Some networks.Arp) direction address mask) p passed = and-left _ _ passed
+primitive-known (Net (Some networks.Rarp) direction address mask) p passed = and-left _ _ passed
+primitive-known (Net None direction address mask) p passed = refl
+primitive-known (EtherHost direction address) p passed = refl
+primitive-known (Ports (Some transport) direction low high) p passed = and-left _ _ passed
+primitive-known (Ports None direction low high) p passed = refl
+primitive-known (IpProto n) p passed = passed
+primitive-known (EtherProto n) p passed = passed
+primitive-known EtherBroadcast p passed = refl
+primitive-known EtherMulticast p passed = refl
+primitive-known IpMulticast p passed = and-left _ _ passed
+primitive-known (Less n) p passed = refl
+primitive-known (Greater n) p passed = refl
+
+-- an expression that is Yes
+tree-known : (k : Known) (t : Tree) (p : Packet) → shows k p ≡ Yes → meaning t p ≡ Yes → shows (behind k t) p ≡ Yes
+tree-known k trees.everything p holds passed = holds
+tree-known k (trees.test primitive) p holds passed = narrowed-holds k (of_primitive primitive) p holds (primitive-known primitive p passed)
+tree-known k (trees.relation c v w) p holds passed = relation-known k c v w p holds passed
+tree-known k (trees.negation t) p holds passed = holds
+tree-known k (trees.both t u) p holds passed =
+    tree-known (behind k t) u p (tree-known k t p holds (and-left _ (meaning u p) passed)) (and-right (meaning t p) _ passed)
+tree-known k (trees.either t u) p holds passed = holds
+
+-- what is left of an expression is the whole, where what is known holds
+pub rest-tree : (k : Known) (t : Tree) (p : Packet) → shows k p ≡ Yes → rest_of_tree k t p ≡ meaning t p
+rest-tree k trees.everything p holds = refl
+rest-tree k (trees.test primitive) p holds = refl
+rest-tree k (trees.relation c v w) p holds = rest-relation k c v w p holds
+rest-tree k (trees.negation t) p holds = ap opposite (rest-tree k t p holds)
+rest-tree k (trees.both t u) p holds =
+    and-same _ (meaning t p) _ (meaning u p) (rest-tree k t p holds) (λ passed. rest-tree (behind k t) u p (tree-known k t p holds passed))
+rest-tree k (trees.either t u) p holds =
+    ap (λ x. or_else x (rest_of_tree k u p)) (rest-tree k t p holds) ∙ ap (or_else (meaning t p)) (rest-tree k u p holds)

@@ -1,0 +1,156 @@
+-- What tests that were passed have shown of a packet, and what is left to be tested behind them. Private clauses alone say this.
+use Rattle.std.specs.Prelude.{ℕ, ◌==◌, Bool, true, false, Option, Some, None, if◌then◌else◌}
+use Rattle.filterlang.specs.Trees.{Amount, Tree}
+use Rattle.filterlang.specs.Trees as trees
+use Rattle.filterlang.specs.declared.token.Comparison.{Comparison}
+use Rattle.filterlang.specs.declared.tree.Layer.{Layer}
+use Rattle.filterlang.specs.declared.tree.Layer.TheVariants as layers
+use Rattle.filterlang.specs.declared.tree.Network.{Network}
+use Rattle.filterlang.specs.declared.tree.Network.TheVariants as networks
+use Rattle.filterlang.specs.declared.tree.Plain.{Plain}
+use Rattle.filterlang.specs.declared.tree.Plain.TheVariants as words
+use Rattle.filterlang.specs.declared.tree.Primitive.{Primitive}
+use Rattle.filterlang.specs.declared.tree.Primitive.TheVariants.{Protocol, Net, EtherHost, Ports, IpProto, EtherProto, EtherBroadcast, EtherMulticast, IpMulticast, Less, Greater}
+use Rattle.filtergen.specs.declared.known.Known.{Known}
+use Rattle.filtergen.specs.declared.known.Known.TheVariants as known
+use Rattle.filtergen.specs.declared.verdict.Verdict.TheVariants.{Yes}
+use Rattle.filtergen.specs.Meaning.{Test, both, either, negation, check, check_both, compared, byte, is_type, is_protocol, is_first, protocol_number, value, primitive_test}
+use Rattle.filtergen.specs.Parts.{is_unfragmented}
+
+abbrev pub always : Test
+always p = Yes
+
+-- the test that was passed
+abbrev pub shows : Known → Test
+shows known.Nothing = always
+shows (known.Type n) = is_type n
+shows (known.Number n) = is_protocol n
+shows (known.First n) = is_first n
+
+-- the type field is known to be this
+abbrev pub has_type : Known → ℕ → Bool
+has_type known.Nothing n = false
+has_type (known.Type m) n = n == m
+has_type (known.Number m) n = n == 0x0800
+has_type (known.First m) n = n == 0x0800
+
+-- IPv4 with this protocol number
+abbrev pub has_number : Known → ℕ → Bool
+has_number known.Nothing n = false
+has_number (known.Type m) n = false
+has_number (known.Number m) n = n == m
+has_number (known.First m) n = n == m
+
+-- and no later fragment
+abbrev pub has_first : Known → ℕ → Bool
+has_first known.Nothing n = false
+has_first (known.Type m) n = false
+has_first (known.Number m) n = false
+has_first (known.First m) n = n == m
+
+abbrev pub implies : Known → Known → Bool
+implies k known.Nothing = true
+implies k (known.Type n) = has_type k n
+implies k (known.Number n) = has_number k n
+implies k (known.First n) = has_first k n
+
+-- what is known behind one more test
+abbrev pub narrowed : Known → Known → Known
+narrowed k fact = if implies k fact then k else fact
+
+abbrev pub unless_known : Bool → Test → Test
+unless_known b t = if b then always else t
+
+-- what is left of a test
+abbrev pub rest_of_type : Known → ℕ → Test
+rest_of_type k n = unless_known (has_type k n) (is_type n)
+
+abbrev pub rest_of_number : Known → ℕ → Test
+rest_of_number k n = unless_known (has_number k n) (both (rest_of_type k 0x0800) (λ p. check (λ b. b == n) (byte 23 p)))
+
+abbrev pub rest_of_first : Known → ℕ → Test
+rest_of_first k n = unless_known (has_first k n) (both (rest_of_number k n) is_unfragmented)
+
+abbrev pub rest_of : Known → Known → Test
+rest_of k known.Nothing = always
+rest_of k (known.Type n) = rest_of_type k n
+rest_of k (known.Number n) = rest_of_number k n
+rest_of k (known.First n) = rest_of_first k n
+
+-- what an accessor's layer shows
+abbrev pub of_layer : Layer → Known
+of_layer layers.Ether = known.Nothing
+of_layer layers.Ip = known.Type 0x0800
+of_layer layers.Arp = known.Type 0x0806
+of_layer layers.Rarp = known.Type 0x8035
+of_layer layers.Tcp = known.First 6
+of_layer layers.Udp = known.First 17
+of_layer layers.Icmp = known.First 1
+
+-- what is known behind the layers of a value
+abbrev pub behind_layers : Known → Amount → Known
+behind_layers k (trees.number n) = k
+behind_layers k trees.wire_length = k
+behind_layers k (trees.minus v) = behind_layers k v
+behind_layers k (trees.binary o v w) = behind_layers (behind_layers k v) w
+behind_layers k (trees.accessor layer v size) = behind_layers (narrowed k (of_layer layer)) v
+
+-- what is left of the layers of a value
+abbrev pub rest_of_layers : Known → Amount → Test
+rest_of_layers k (trees.number n) = always
+rest_of_layers k trees.wire_length = always
+rest_of_layers k (trees.minus v) = rest_of_layers k v
+rest_of_layers k (trees.binary o v w) = both (rest_of_layers k v) (rest_of_layers (behind_layers k v) w)
+rest_of_layers k (trees.accessor layer v size) = both (rest_of k (of_layer layer)) (rest_of_layers (narrowed k (of_layer layer)) v)
+
+abbrev pub rest_of_relation : Known → Comparison → Amount → Amount → Test
+rest_of_relation k c v w =
+    both (both (rest_of_layers k v) (rest_of_layers (behind_layers k v) w)) (λ p. check_both (compared c) (value v p) (value w p))
+
+-- what a primitive shows where it is passed
+abbrev pub of_plain : Plain → Known
+of_plain words.Ip = known.Type 0x0800
+of_plain words.Arp = known.Type 0x0806
+of_plain words.Rarp = known.Type 0x8035
+of_plain words.Icmp = known.Number 1
+of_plain words.Tcp = known.Number 6
+of_plain words.Udp = known.Number 17
+of_plain words.Sctp = known.Number 132
+
+abbrev pub of_network : Network → Known
+of_network networks.Ip = known.Type 0x0800
+of_network networks.Arp = known.Type 0x0806
+of_network networks.Rarp = known.Type 0x8035
+
+abbrev pub of_primitive : Primitive → Known
+of_primitive (Protocol word) = of_plain word
+of_primitive (Net (Some network) direction address mask) = of_network network
+of_primitive (Net None direction address mask) = known.Nothing
+of_primitive (EtherHost direction address) = known.Nothing
+of_primitive (Ports (Some transport) direction low high) = known.First (protocol_number transport)
+of_primitive (Ports None direction low high) = known.Nothing
+of_primitive (IpProto n) = known.Number n
+of_primitive (EtherProto n) = known.Type n
+of_primitive EtherBroadcast = known.Nothing
+of_primitive EtherMulticast = known.Nothing
+of_primitive IpMulticast = known.Type 0x0800
+of_primitive (Less n) = known.Nothing
+of_primitive (Greater n) = known.Nothing
+
+-- what is known where an expression is Yes
+abbrev pub behind : Known → Tree → Known
+behind k trees.everything = k
+behind k (trees.test primitive) = narrowed k (of_primitive primitive)
+behind k (trees.relation c v w) = behind_layers (behind_layers k v) w
+behind k (trees.negation t) = k
+behind k (trees.both t u) = behind (behind k t) u
+behind k (trees.either t u) = k
+
+-- what is left of an expression
+abbrev pub rest_of_tree : Known → Tree → Test
+rest_of_tree k trees.everything = always
+rest_of_tree k (trees.test primitive) = primitive_test primitive
+rest_of_tree k (trees.relation c v w) = rest_of_relation k c v w
+rest_of_tree k (trees.negation t) = negation (rest_of_tree k t)
+rest_of_tree k (trees.both t u) = both (rest_of_tree k t) (rest_of_tree (behind k t) u)
+rest_of_tree k (trees.either t u) = either (rest_of_tree k t) (rest_of_tree k u)

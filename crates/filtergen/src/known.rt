@@ -1,0 +1,159 @@
+//! What tests that were passed have shown of a packet, so that they need not be made again.
+
+ghost use Rattle.std.specs.Prelude.{◌≡◌};
+ghost use Rattle.filterlang.specs.Trees.{amount_of, tree_of};
+ghost use Rattle.filtergen.specs.Knowing.{has_type, has_number, has_first, implies, narrowed, of_layer, of_plain, of_network, of_primitive, behind_layers, behind};
+
+use crate::primitives::{ARP, IP, RARP, protocol_number};
+use filterlang::{Expr, Layer, Network, Plain, Primitive, Value};
+
+/// What is known of a packet.
+#[derive(Clone, Copy)]
+pub(crate) enum Known {
+    Nothing,
+    /// The Ethernet type.
+    Type(u32),
+    /// That it is IPv4 with this protocol number.
+    Number(u32),
+    /// The same, and that it is no later fragment.
+    First(u32),
+}
+
+impl Known {
+    /// Whether the Ethernet type is known to be this.
+    pub fn has_type(self, number: u32) -> bool
+        ensures { result ≡ has_type self number }
+    {
+        match self {
+            Known::Nothing => false,
+            Known::Type(own) => number == own,
+            Known::Number(_) | Known::First(_) => number == IP,
+        }
+    }
+
+    /// Whether it is known to be IPv4 with this protocol number.
+    pub fn has_number(self, number: u32) -> bool
+        ensures { result ≡ has_number self number }
+    {
+        match self {
+            Known::Nothing | Known::Type(_) => false,
+            Known::Number(own) | Known::First(own) => number == own,
+        }
+    }
+
+    /// The same, and that it is no later fragment.
+    pub fn has_first(self, number: u32) -> bool
+        ensures { result ≡ has_first self number }
+    {
+        match self {
+            Known::Nothing | Known::Type(_) | Known::Number(_) => false,
+            Known::First(own) => number == own,
+        }
+    }
+
+    fn implies(self, fact: Known) -> bool
+        ensures { result ≡ implies self fact }
+    {
+        match fact {
+            Known::Nothing => true,
+            Known::Type(number) => self.has_type(number),
+            Known::Number(number) => self.has_number(number),
+            Known::First(number) => self.has_first(number),
+        }
+    }
+
+    /// What is known behind one more test.
+    pub fn narrowed(self, fact: Known) -> Known
+        ensures { result ≡ narrowed self fact }
+    {
+        if self.implies(fact) { self } else { fact }
+    }
+
+    /// What an accessor's layer shows.
+    pub fn of_layer(layer: Layer) -> Known
+        ensures { result ≡ of_layer layer }
+    {
+        match layer {
+            Layer::Ether => Known::Nothing,
+            Layer::Ip => Known::Type(IP),
+            Layer::Arp => Known::Type(ARP),
+            Layer::Rarp => Known::Type(RARP),
+            Layer::Tcp => Known::First(6),
+            Layer::Udp => Known::First(17),
+            Layer::Icmp => Known::First(1),
+        }
+    }
+
+    fn of_plain(word: Plain) -> Known
+        ensures { result ≡ of_plain word }
+    {
+        match word {
+            Plain::Ip => Known::Type(IP),
+            Plain::Arp => Known::Type(ARP),
+            Plain::Rarp => Known::Type(RARP),
+            Plain::Icmp => Known::Number(1),
+            Plain::Tcp => Known::Number(6),
+            Plain::Udp => Known::Number(17),
+            Plain::Sctp => Known::Number(132),
+        }
+    }
+
+    fn of_network(network: Network) -> Known
+        ensures { result ≡ of_network network }
+    {
+        match network {
+            Network::Ip => Known::Type(IP),
+            Network::Arp => Known::Type(ARP),
+            Network::Rarp => Known::Type(RARP),
+        }
+    }
+
+    /// What a primitive shows where it is passed.
+    fn of_primitive(primitive: Primitive) -> Known
+        ensures { result ≡ of_primitive primitive }
+    {
+        match primitive {
+            Primitive::Protocol(word) => Known::of_plain(word),
+            Primitive::Net { network, .. } => match network {
+                Some(network) => Known::of_network(network),
+                None => Known::Nothing,
+            },
+            Primitive::Ports { transport, .. } => match transport {
+                Some(transport) => Known::First(protocol_number(transport)),
+                None => Known::Nothing,
+            },
+            Primitive::IpProto(number) => Known::Number(u32::from(number)),
+            Primitive::EtherProto(number) => Known::Type(u32::from(number)),
+            Primitive::IpMulticast => Known::Type(IP),
+            Primitive::EtherHost { .. } | Primitive::EtherBroadcast => Known::Nothing,
+            Primitive::EtherMulticast | Primitive::Less(_) | Primitive::Greater(_) =>
+                Known::Nothing,
+        }
+    }
+
+    /// What is known behind the layers of a value's accessors.
+    pub fn behind_layers(self, value: &Value) -> Known
+        ensures { result ≡ behind_layers self (amount_of value.now) }
+    {
+        match value {
+            Value::Number(_) | Value::Length => self,
+            Value::Negation(operand) => self.behind_layers(operand),
+            Value::Binary(_, left, right) => self.behind_layers(left).behind_layers(right),
+            Value::Accessor(layer, index, _) => {
+                self.narrowed(Known::of_layer(*layer)).behind_layers(index)
+            }
+        }
+    }
+
+    /// What is known where an expression is Yes.
+    pub fn behind(self, expr: &Expr) -> Known
+        ensures { result ≡ behind self (tree_of expr.now) }
+    {
+        match expr {
+            Expr::Everything | Expr::Not(_) | Expr::Or(_, _) => self,
+            Expr::Test(primitive) => self.narrowed(Known::of_primitive(*primitive)),
+            Expr::Relation(_, left, right) => self.behind_layers(left).behind_layers(right),
+            Expr::And(left, right) => self.behind(left).behind(right),
+        }
+    }
+}
