@@ -365,7 +365,7 @@ const UNLEXED: [(&str, Fault); 10] = [
     ("tcp # udp", Fault::BadByte(4)),
     ("tcp é", Fault::BadByte(4)),
     (") #", Fault::BadByte(2)),
-    ("tcp host %", Fault::BadByte(9)),
+    ("tcp host $", Fault::BadByte(9)),
     ("port http", Fault::BadWord(5)),
     ("tcp udp TCP", Fault::BadWord(8)),
     ("proto \\sctp", Fault::BadWord(6)),

@@ -195,7 +195,7 @@ fn texts_have_these_tokens(rt: HostRuntime) -> Result<(), Fail> {
     Ok(())
 }
 
-const SINGLE: [(&str, Kind); 82] = [
+const SINGLE: [(&str, Kind); 84] = [
     ("ether", Kind::Protocol(Protocol::Ether)),
     ("ip", Kind::Protocol(Protocol::Ip)),
     ("arp", Kind::Protocol(Protocol::Arp)),
@@ -249,7 +249,9 @@ const SINGLE: [(&str, Kind); 82] = [
     ("-", Kind::Operator(Operator::Minus)),
     ("*", Kind::Operator(Operator::Times)),
     ("/", Kind::Operator(Operator::Divide)),
+    ("%", Kind::Operator(Operator::Modulo)),
     ("&", Kind::Operator(Operator::BitAnd)),
+    ("^", Kind::Operator(Operator::BitXor)),
     ("|", Kind::Operator(Operator::BitOr)),
     ("<<", Kind::Operator(Operator::ShiftLeft)),
     (">>", Kind::Operator(Operator::ShiftRight)),
@@ -328,7 +330,7 @@ const FAILING: [(&str, Fault); 34] = [
     ("tcép", Fault::BadWord(0)),
     ("tcp # udp", Fault::BadByte(4)),
     ("tcp \u{c} udp", Fault::BadByte(4)),
-    ("len % 2", Fault::BadByte(4)),
+    ("len $ 2", Fault::BadByte(4)),
     ("1:2:3:4:5:6.", Fault::BadByte(11)),
     (".5", Fault::BadByte(0)),
     ("TCP", Fault::BadWord(0)),

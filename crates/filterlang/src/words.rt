@@ -59,7 +59,7 @@ pub(crate) const NAMES: [(&[u8], Kind); 6] = [
 ];
 
 /// The signs, the longer ones first: the first that stands at a place is the longest there.
-pub(crate) const SIGNS: [(&[u8], Kind); 23] = [
+pub(crate) const SIGNS: [(&[u8], Kind); 25] = [
     (b"<<", Kind::Operator(Operator::ShiftLeft)),
     (b">>", Kind::Operator(Operator::ShiftRight)),
     (b"&&", Kind::Joint(Joint::And)),
@@ -77,7 +77,9 @@ pub(crate) const SIGNS: [(&[u8], Kind); 23] = [
     (b"-", Kind::Operator(Operator::Minus)),
     (b"*", Kind::Operator(Operator::Times)),
     (b"/", Kind::Operator(Operator::Divide)),
+    (b"%", Kind::Operator(Operator::Modulo)),
     (b"&", Kind::Operator(Operator::BitAnd)),
+    (b"^", Kind::Operator(Operator::BitXor)),
     (b"|", Kind::Operator(Operator::BitOr)),
     (b"!", Kind::Not),
     (b"=", Kind::Comparison(Comparison::Equal)),
