@@ -2,7 +2,8 @@
 
 ghost use Rattle.filterlang.specs.Phrases.{kinds};
 ghost use Rattle.filterlang.specs.Trees.{tree_of};
-ghost use Rattle.filterlang.specs.Reading.{Gives, group_at, group_term_at};
+ghost use Rattle.filterlang.specs.Readers.{Gives};
+ghost use Rattle.filterlang.specs.Reading.{group_at, group_term_at};
 
 use crate::cursor::Cursor;
 use crate::fault::Fault;

@@ -9,12 +9,14 @@ pub mod laws;
 pub mod lexer;
 mod lookahead;
 mod numbers;
+mod operators;
 pub mod parser;
 mod phrases;
 mod primitives;
 mod qualifiers;
 pub mod token;
 pub mod tree;
+mod values;
 mod words;
 
 pub use fault::Fault;
