@@ -124,6 +124,12 @@ relation_sound n ts =
     each_step (λ t. IsRelation n ts t.0 t.1) (arith_at n loosest tt ts) _
     (λ v e. each_step (λ t. IsRelation n ts t.0 t.1) (comparison_at v.2) _
     (λ c f. each_step (λ t. IsRelation n ts t.0 t.1) (arith_at n loosest tt c.1) _
-    (λ w g. (c.0, c.1, v.0, w.0, refl,
-    subst (λ x. Arith n loosest ts v.0 x) (comparison_is c.0 c.1 v.2 f) (at_some (λ u. Arith n loosest ts u.0 u.2) (arith_at n loosest tt ts) v e (arith_reads n loosest tt ts)),
-    at_some (λ u. Arith n loosest c.1 u.0 u.2) (arith_at n loosest tt c.1) w g (arith_reads n loosest tt c.1)))))
+    (λ w g. (
+      c.0,
+      c.1,
+      v.0,
+      w.0,
+      refl,
+      subst (λ x. Arith n loosest ts v.0 x) (comparison_is c.0 c.1 v.2 f) (at_some (λ u. Arith n loosest ts u.0 u.2) (arith_at n loosest tt ts) v e (arith_reads n loosest tt ts)),
+      at_some (λ u. Arith n loosest c.1 u.0 u.2) (arith_at n loosest tt c.1) w g (arith_reads n loosest tt c.1),
+    ))))

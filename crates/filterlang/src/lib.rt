@@ -37,4 +37,8 @@ mod parser_fault_tests;
 #[cfg(test)]
 mod parser_tests;
 #[cfg(test)]
+mod relation_fault_tests;
+#[cfg(test)]
+mod relation_tests;
+#[cfg(test)]
 mod tests;

@@ -320,46 +320,6 @@ fn numbers_and_nets_out_of_their_bounds_are_named(rt: HostRuntime) {
     refused(&rt, OUT_OF_RANGE.as_slice());
 }
 
-/// What would begin a relation, which the language has not yet, is read as what it is without one.
-const RELATIONS: [(&str, Fault); 31] = [
-    ("len = 1", Fault::Syntax(0)),
-    ("not len > 60", Fault::Syntax(4)),
-    ("-1 = 1", Fault::Syntax(0)),
-    ("-1", Fault::Syntax(0)),
-    ("tcpflags", Fault::Syntax(0)),
-    ("port tcpflags", Fault::Syntax(5)),
-    ("tcp and icmp-echo = 8", Fault::Syntax(8)),
-    ("80 = 1", Fault::NoQualifier(0)),
-    ("not 80 = 1", Fault::NoQualifier(4)),
-    ("(80) = 1", Fault::NoQualifier(1)),
-    ("tcp or 1 + 1 = 2", Fault::NoQualifier(7)),
-    ("port 80 = 1", Fault::Syntax(8)),
-    ("port 80 or 443 = 1", Fault::Syntax(15)),
-    ("port 80 or (443 = 1)", Fault::Syntax(16)),
-    ("port 80 or (443) = 1", Fault::Syntax(17)),
-    ("port 80 or -443", Fault::Syntax(11)),
-    ("port 80 - 443", Fault::Syntax(8)),
-    ("port (80 = 1)", Fault::Syntax(9)),
-    ("(tcp) & 1 = 1", Fault::Syntax(6)),
-    ("(len) = 1", Fault::Syntax(1)),
-    ("not (tcp) != 1", Fault::Syntax(10)),
-    ("tcp = 1", Fault::Syntax(4)),
-    ("tcp & udp", Fault::Syntax(4)),
-    ("tcp | udp", Fault::Syntax(4)),
-    ("tcp-udp", Fault::Syntax(3)),
-    ("tcp == udp", Fault::Syntax(4)),
-    ("ip[0] = 5", Fault::Syntax(2)),
-    ("ether[0] = 5", Fault::Syntax(5)),
-    ("tcp[13] = 2", Fault::BadQualifier(0)),
-    ("sctp[0] = 1", Fault::BadQualifier(0)),
-    ("tcp and icmp[icmptype] = 8", Fault::BadQualifier(8)),
-];
-
-#[test]
-fn relations_are_not_read(rt: HostRuntime) {
-    refused(&rt, RELATIONS.as_slice());
-}
-
 /// The whole text has to be tokens first.
 const UNLEXED: [(&str, Fault); 10] = [
     ("tcp # udp", Fault::BadByte(4)),
