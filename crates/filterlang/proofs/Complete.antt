@@ -7,8 +7,8 @@ use Rattle.filterlang.specs.declared.token.Kind.TheVariants as kind
 use Rattle.filterlang.specs.declared.token.Joint.{Joint}
 use Rattle.filterlang.specs.declared.token.Joint.TheVariants.{And, Or}
 use Rattle.filterlang.specs.declared.tree.Primitive.{Primitive}
-use Rattle.filterlang.specs.declared.qualifiers.Qualifiers.{Qualifiers}
-use Rattle.filterlang.specs.declared.qualifiers.Identifier.{Identifier}
+use Rattle.filterlang.specs.declared.phrases.qualifiers.Qualifiers.{Qualifiers}
+use Rattle.filterlang.specs.declared.phrases.qualifiers.Identifier.{Identifier}
 use Rattle.filterlang.specs.declared.parser.Start.{Start}
 use Rattle.filterlang.specs.declared.parser.Start.TheVariants as starts
 use Rattle.filterlang.specs.Phrases.{identifier_at}

@@ -44,10 +44,10 @@ pub use Rattle.filterlang.specs.declared.lookahead.Beginning.{Beginning}
 pub use Rattle.filterlang.specs.declared.lookahead.Beginning.TheVariants as beginnings
 pub use Rattle.filterlang.specs.declared.lookahead.Opening.{Opening}
 pub use Rattle.filterlang.specs.declared.lookahead.Opening.TheVariants as openings
-pub use Rattle.filterlang.specs.declared.qualifiers.Identifier.{Identifier}
-pub use Rattle.filterlang.specs.declared.qualifiers.Identifier.TheVariants as ids
-pub use Rattle.filterlang.specs.declared.qualifiers.Phrase.{Phrase}
-pub use Rattle.filterlang.specs.declared.qualifiers.Qualifiers.{Qualifiers}
-pub use Rattle.filterlang.specs.declared.qualifiers.Qualifiers.TheVariants.{EtherHost, EtherProto, Host, IpProto, Net, Port}
+pub use Rattle.filterlang.specs.declared.phrases.qualifiers.Identifier.{Identifier}
+pub use Rattle.filterlang.specs.declared.phrases.qualifiers.Identifier.TheVariants as ids
+pub use Rattle.filterlang.specs.declared.phrases.qualifiers.Phrase.{Phrase}
+pub use Rattle.filterlang.specs.declared.phrases.qualifiers.Qualifiers.{Qualifiers}
+pub use Rattle.filterlang.specs.declared.phrases.qualifiers.Qualifiers.TheVariants.{EtherHost, EtherProto, Host, IpProto, Net, Port}
 pub use Rattle.filterlang.specs.declared.parser.Start.{Start}
 pub use Rattle.filterlang.specs.declared.parser.Start.TheVariants as starts

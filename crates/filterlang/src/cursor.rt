@@ -9,10 +9,10 @@ ghost use Rattle.filterlang.specs.Readers.{Gives, deeper, close_at};
 ghost use Rattle.filterlang.specs.Reading.{port_at, portrange_at, identified_at};
 
 use crate::fault::Fault;
-use crate::phrases::{bare_number_at, begins_identifier, close_at, identifier_at, minus_at, next};
-use crate::qualifiers::{
+use crate::phrases::qualifiers::{
     Identifier, Misfit, Phrase, Qualifiers, identified, port_of, transport_of,
 };
+use crate::phrases::{bare_number_at, begins_identifier, close_at, identifier_at, minus_at, next};
 use crate::token::{Kind, Token};
 use crate::tree::{Direction, Primitive};
 

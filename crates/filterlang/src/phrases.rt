@@ -8,7 +8,11 @@ ghost use Rattle.filterlang.specs.Grammar.{is_written};
 ghost use Rattle.filterlang.specs.Readers.{next_of, bare_number_at, close_at};
 ghost use Rattle.filterlang.specs.Reading.{joined_at, address_at, joint_at, minus_at, range_at};
 
-use crate::qualifiers::{Identifier, Phrase};
+mod group;
+pub(crate) mod primitives;
+pub(crate) mod qualifiers;
+
+use crate::phrases::qualifiers::{Identifier, Phrase};
 use crate::token::{Joint, Kind, Operator, Parts, Protocol, Side, Token, TypeWord};
 use crate::tree::Direction;
 

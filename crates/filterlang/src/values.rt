@@ -8,13 +8,15 @@ ghost use Rattle.filterlang.specs.Texts.{is_misreading};
 ghost use Rattle.filterlang.specs.Readers.{Gives};
 ghost use Rattle.filterlang.specs.ValueReading.{comparison_at, close_bracket_at, leaf_at, layer_at, size_at, factor_at, arith_at, relation_at, accessor_at};
 
+mod operators;
+
 use crate::cursor::Cursor;
 use crate::fault::Fault;
 use crate::lookahead::{Opening, bracket_follows, look_into};
-use crate::operators::{LOOSEST, layer_of, operated, operator_at, size_of};
 use crate::phrases::{bare_number_at, next};
 use crate::token::{Comparison, Kind, Token};
 use crate::tree::{Expr, Layer, Size, Value};
+use crate::values::operators::{LOOSEST, layer_of, operated, operator_at, size_of};
 use std::alloc::Global;
 
 /// The comparison at the front and what follows, or the place where there is none.

@@ -2,7 +2,7 @@ use Rattle.std.proofs.Common.{ap}
 use Rattle.filterlang.specs.Words.{names, stands_whole, entries_of}
 use Rattle.filterlang.proofs.Entries.{found_in}
 use Rattle.filterlang.proofs.Within.{name_within}
-use Rattle.filterlang.proofs.words.name_at.Goals as goal
+use Rattle.filterlang.proofs.lexer.words.name_at.Goals as goal
 
 pub returns-clause-value : goal.returns-clause-value
 unfolding names

@@ -2,7 +2,7 @@ use Rattle.std.proofs.Common.{ap}
 use Rattle.filterlang.specs.Words.{signs, stands, entries_of}
 use Rattle.filterlang.proofs.Entries.{found_in}
 use Rattle.filterlang.proofs.Within.{sign_within}
-use Rattle.filterlang.proofs.words.sign_at.Goals as goal
+use Rattle.filterlang.proofs.lexer.words.sign_at.Goals as goal
 
 pub returns-clause-value : goal.returns-clause-value
 unfolding signs

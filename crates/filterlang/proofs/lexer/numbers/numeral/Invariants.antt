@@ -1,6 +1,6 @@
 use Rattle.std.proofs.Common.{◌≡◌, ◌≤◌, drop}
 use Rattle.filterlang.specs.Numbers.{number_behind}
-use Rattle.filterlang.proofs.numbers.numeral.Given as goal
+use Rattle.filterlang.proofs.lexer.numbers.numeral.Given as goal
 
 -- the digits that are left spell the number behind the one so far, which fits
 abbrev pub invariant-loop-byte : goal.invariant-loop-byte

@@ -1,6 +1,6 @@
 use Rattle.std.proofs.Common.{◌∙◌, sym}
 use Rattle.filterlang.proofs.Octets.{no_dotted}
-use Rattle.filterlang.proofs.numbers.dotted_of.Goals as goal
+use Rattle.filterlang.proofs.lexer.numbers.dotted_of.Goals as goal
 
 -- parts that are no numbers, or too many
 pub returns-in_err-numbers : goal.returns-in_err-numbers

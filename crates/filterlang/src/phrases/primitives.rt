@@ -6,8 +6,8 @@ ghost use Rattle.filterlang.specs.Phrases.{kinds};
 ghost use Rattle.filterlang.specs.Primitives.{plain_of, stands_alone};
 ghost use Rattle.filterlang.specs.Reading.{plain_at, unqualified_at, broadcast_at};
 
+use crate::phrases::qualifiers::Phrase;
 use crate::phrases::{bare_number_at, begins_identifier};
-use crate::qualifiers::Phrase;
 use crate::token::{Kind, Protocol, Token};
 use crate::tree::{Plain, Primitive};
 

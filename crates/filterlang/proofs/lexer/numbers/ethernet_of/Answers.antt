@@ -1,6 +1,6 @@
 use Rattle.std.proofs.Common.{◌∙◌, sym}
 use Rattle.filterlang.proofs.Octets.{no_ethernet}
-use Rattle.filterlang.proofs.numbers.ethernet_of.Goals as goal
+use Rattle.filterlang.proofs.lexer.numbers.ethernet_of.Goals as goal
 
 -- parts that are no numbers, or too many
 pub returns-in_err-octets : goal.returns-in_err-octets

@@ -4,7 +4,7 @@ use Rattle.std.proofs.lemmas.Iterator.Consumers.{YieldsList-turn, YieldsList-end
 use Rattle.std.proofs.lemmas.List.{length_push}
 use Rattle.std.specs.Slice.Iter.{split_callee}
 use Rattle.filterlang.proofs.Octets.{read_more, read_none, read_too_many, read_all}
-use Rattle.filterlang.proofs.numbers.octets.Goals as goal
+use Rattle.filterlang.proofs.lexer.numbers.octets.Goals as goal
 
 pub returns-then-count-eq6-clause-none : goal.returns-then-count-eq6-clause-none
 returns-then-count-eq6-clause-none c = λ ns e.

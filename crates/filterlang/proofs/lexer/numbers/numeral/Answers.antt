@@ -1,6 +1,6 @@
 use Rattle.std.proofs.Common.{arith, ◌∙◌, sym, false-eqb}
 use Rattle.filterlang.proofs.Numerals.{overflows, numeral_read}
-use Rattle.filterlang.proofs.numbers.numeral.Goals as goal
+use Rattle.filterlang.proofs.lexer.numbers.numeral.Goals as goal
 
 -- the number is too great
 pub returns-in_err-checked_mul : goal.returns-in_err-checked_mul

@@ -9,7 +9,7 @@ use crate::cursor::Cursor;
 use crate::fault::Fault;
 use crate::lookahead::{Beginning, look_ahead};
 use crate::phrases::joint_at;
-use crate::qualifiers::Qualifiers;
+use crate::phrases::qualifiers::Qualifiers;
 use crate::tree::{Expr, joined_by, negated};
 use std::alloc::Global;
 

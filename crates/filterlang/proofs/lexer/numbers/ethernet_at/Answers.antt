@@ -1,7 +1,7 @@
 use Rattle.std.proofs.Common.{ap, ◌∙◌, arith}
 use Rattle.std.specs.Prelude.{option_map}
 use Rattle.filterlang.proofs.Runs.{ethernet_at-long, ethernet_at-short}
-use Rattle.filterlang.proofs.numbers.ethernet_at.Goals as goal
+use Rattle.filterlang.proofs.lexer.numbers.ethernet_at.Goals as goal
 
 -- a run of more than 17 bytes
 pub returns-then-length-gt-MAX_ETHERNET-clause-value : goal.returns-then-length-gt-MAX_ETHERNET-clause-value

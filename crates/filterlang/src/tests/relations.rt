@@ -197,7 +197,10 @@ const READINGS: [(&str, &str); 66] = [
     ("port 80 or 443 = 1", "(port 80) or ((443) = 1)"),
     ("port 80 or (443) = 1", "(port 80) or (443 = 1)"),
     ("port 80 or (443 = 1)", "(port 80) or (443 = 1)"),
-    ("len = 1 or port 80 or 443", "(len = 1 or port 80) or port 443"),
+    (
+        "len = 1 or port 80 or 443",
+        "(len = 1 or port 80) or port 443",
+    ),
     ("(tcp) and (len) = 1", "tcp and len = 1"),
     ("!ip[0] = 5", "not (ip[0] = 5)"),
     ("80 = 1 || not 80 != 1", "(80 = 1) or (not (80 != 1))"),
