@@ -225,6 +225,14 @@ def hostile():
     yield "64 levels that an operator follows", deep + "ip" + "||ip" * 2013 + ")" * 64 + "&1=1", 1
     yield "a group", "port (" + ors + ")", 1
     yield "64 levels of a group", "port " + deep + ors + ")" * 64, 1
+    yield "64 levels round a value", deep + "len" + ")" * 64 + "=1", 0
+    yield "a chain of additions", "len" + "+len" * 2046 + "=1", 1
+    yield "64 levels round a chain of additions", "1=" + deep + "len" + "+len" * 2014 + ")" * 64, 1
+    yield "64 levels round values that are not closed", "1=" + deep + "1" + "+1" * 4060, 1
+    yield "a chain of values of 64 levels", "1=" + "+".join([deep + "len" + ")" * 64] * 48), 0
+    yield "indices that are not closed", "ip[" * 2730, 1
+    yield "signs before a value", "1=" + "-" * 8190, 1
+    yield "a divisor of 0 behind all else", "1" + "+1" * 4094 + "/0", 1
     yield "blanks", "ip" + " " * 8190, 0
 
 

@@ -10,7 +10,8 @@ use Rattle.filterlang.specs.Tokens.{Lexes}
 use Rattle.std.proofs.lemmas.Option.{same_Some}
 use Rattle.filterlang.specs.Phrases.{kinds}
 use Rattle.filterlang.specs.Trees.{Tree, tree_of}
-use Rattle.filterlang.specs.Reading.{Gives, text_at}
+use Rattle.filterlang.specs.Readers.{Gives}
+use Rattle.filterlang.specs.Reading.{text_at}
 use Rattle.filterlang.specs.Texts.{is_misreading, ReadsAs, IsRefusalOf, HasNoTree}
 use Rattle.filterlang.proofs.Sound.{text_sound}
 use Rattle.filterlang.proofs.Complete.{text_complete}
@@ -49,7 +50,6 @@ refused faults.TextTooLong text le given = absurd (⊎_elim (λ memory. cc) (λ 
 refused (faults.BadByte p) text le given = absurd (⊎_elim (λ memory. cc) (λ none. let e = none.0 in cc) given)
 refused (faults.BadWord p) text le given = absurd (⊎_elim (λ memory. cc) (λ none. let e = none.0 in cc) given)
 refused (faults.BadNumber p) text le given = absurd (⊎_elim (λ memory. cc) (λ none. let e = none.0 in cc) given)
-refused (faults.DivideByZero p) text le given = absurd (⊎_elim (λ memory. cc) (λ none. let e = none.0 in cc) given)
 refused misreading text le given = ⊎_elim (λ memory. absurd cc) (λ none. none.1) given
 
 -- a refusal is one of the text

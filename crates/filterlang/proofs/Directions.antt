@@ -6,7 +6,8 @@ use Rattle.filterlang.specs.declared.token.Joint.{Joint}
 use Rattle.filterlang.specs.declared.token.Side.{Side}
 use Rattle.filterlang.specs.declared.tree.Direction.{Direction}
 use Rattle.filterlang.specs.Phrases.{joined, longest, one_side, direction_at}
-use Rattle.filterlang.specs.Reading.{◌>>=◌, joined_at}
+use Rattle.filterlang.specs.Readers.{◌>>=◌}
+use Rattle.filterlang.specs.Reading.{joined_at}
 
 -- the three words that were found, or the first alone
 abbrev longer : Side → List Kind → Option (Direction × List Kind) → Option Direction × List Kind

@@ -1,5 +1,6 @@
 -- The grammar at worked examples.
-use Rattle.std.proofs.Common.{[], ◌∷◌, Some, None, refl}
+use Rattle.std.proofs.Common.{ℕ, zero, suc, List, [], ◌∷◌, Some, None, refl}
+use Rattle.filterlang.specs.declared.token.Kind.{Kind}
 use Rattle.filterlang.specs.declared.token.Kind.TheVariants as kind
 use Rattle.filterlang.specs.declared.token.Protocol.TheVariants as protocols
 use Rattle.filterlang.specs.declared.token.TypeWord.TheVariants as types
@@ -9,8 +10,11 @@ use Rattle.filterlang.specs.declared.token.Joint.TheVariants.{And, Or}
 use Rattle.filterlang.specs.declared.tree.Primitive.TheVariants as primitives
 use Rattle.filterlang.specs.declared.tree.Transport.TheVariants as transports
 use Rattle.filterlang.specs.declared.tree.Direction.TheVariants.{Dst, SrcOrDst}
-use Rattle.filterlang.specs.Trees.{test, negation, both, either}
-use Rattle.filterlang.specs.Grammar.{Reads, reads_expr, expr_one, expr_and, expr_or, term_not, term_prim, term_group, group_one, group_or, group_not, group_id, prim_phrase, prim_inherited}
+use Rattle.filterlang.specs.declared.token.Comparison.TheVariants.{Equal}
+use Rattle.filterlang.specs.declared.token.Operator.TheVariants.{BitAnd, BitXor}
+use Rattle.filterlang.specs.Trees.{test, relation, number, binary, negation, both, either}
+use Rattle.filterlang.specs.Values.{Arith, arith_number, arith_tighter, arith_binary}
+use Rattle.filterlang.specs.Grammar.{Reads, reads_expr, expr_one, expr_and, expr_or, term_not, term_prim, term_group, term_relation, group_one, group_or, group_not, group_id, prim_phrase, prim_inherited}
 
 -- tcp dst port 20 or 21
 inherits : Reads (kind.Protocol protocols.Tcp ∷ kind.Side side.Dst ∷ kind.Type types.Port ∷ kind.Number 20 ∷ kind.Joint Or ∷ kind.Number 21 ∷ [])
@@ -26,3 +30,13 @@ negates = reads_expr (expr_and (expr_one (term_not (term_prim refl (prim_phrase 
 groups : Reads (kind.Type types.Port ∷ kind.Open ∷ kind.Number 80 ∷ kind.Joint Or ∷ kind.Not ∷ kind.Number 443 ∷ kind.Close ∷ [])
     (either (test (primitives.Ports None SrcOrDst 80 80)) (negation (test (primitives.Ports None SrcOrDst 443 443))))
 groups = reads_expr (expr_one (term_group refl refl refl refl (group_or (group_one (group_id refl refl)) (group_not (group_id refl refl)))))
+
+-- a number is a value at each precedence
+number_up_to : (p : ℕ) {n k : ℕ} {rest : List Kind} → Arith n p (kind.Number k ∷ rest) (number k) rest
+number_up_to zero = arith_number
+number_up_to (suc p) = arith_tighter (number_up_to p)
+
+-- 6 ^ 3 & 1 = 7
+binds : Reads (kind.Number 6 ∷ kind.Operator BitXor ∷ kind.Number 3 ∷ kind.Operator BitAnd ∷ kind.Number 1 ∷ kind.Comparison Equal ∷ kind.Number 7 ∷ [])
+    (relation Equal (binary BitXor (number 6) (binary BitAnd (number 3) (number 1))) (number 7))
+binds = reads_expr (expr_one (term_relation refl (arith_tighter (arith_binary refl (number_up_to 5) (arith_binary refl (number_up_to 4) (number_up_to 3) refl) refl)) (number_up_to 6)))

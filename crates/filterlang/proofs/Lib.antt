@@ -7,10 +7,14 @@ pub mod Lexing
 pub mod Longest
 pub mod GrammarExamples
 pub mod Steps
+pub mod Chains
+pub mod ValueSound
+pub mod ValueShorter
+pub mod ValueComplete
+pub mod ValueTurns
 pub mod Starts
 pub mod Sound
 pub mod Shorter
-pub mod Chains
 pub mod Complete
 pub mod Turns
 pub mod Answered

@@ -8,14 +8,16 @@ use Rattle.filterlang.specs.declared.token.Side.{Side}
 use Rattle.filterlang.specs.declared.token.Operator.TheVariants.{Divide, Minus}
 use Rattle.filterlang.specs.declared.tree.Direction.{Direction}
 use Rattle.filterlang.specs.declared.tree.Primitive.{Primitive}
-use Rattle.filterlang.specs.declared.qualifiers.Phrase.{Phrase}
-use Rattle.filterlang.specs.declared.qualifiers.Qualifiers.{Qualifiers}
+use Rattle.filterlang.specs.declared.phrases.qualifiers.Phrase.{Phrase}
+use Rattle.filterlang.specs.declared.phrases.qualifiers.Qualifiers.{Qualifiers}
 use Rattle.filterlang.specs.Phrases.{protocol_at, type_at, longest, joined, direction_at, phrase_at, dotted_at, identifier_at}
 use Rattle.filterlang.specs.Trees.{Tree}
-use Rattle.filterlang.specs.Grammar.{only_protocol, Prim, prim_plain, prim_broadcast, prim_ether_broadcast, prim_multicast, prim_ether_multicast, prim_ip_multicast, prim_less, prim_greater, prim_portrange, prim_phrase, prim_inherited, Group, group_one, group_and, group_or, GroupTerm, group_not, group_open, group_id, Expr, expr_one, expr_and, expr_or, Term, term_not, term_open, term_prim, term_group}
-use Rattle.filterlang.specs.Reading.{Reader, group_term_at, term_at}
-use Rattle.filterlang.specs.declared.qualifiers.Identifier.{Identifier}
+use Rattle.filterlang.specs.Grammar.{only_protocol, Prim, prim_plain, prim_broadcast, prim_ether_broadcast, prim_multicast, prim_ether_multicast, prim_ip_multicast, prim_less, prim_greater, prim_portrange, prim_phrase, prim_inherited, Group, group_one, group_and, group_or, GroupTerm, group_not, group_open, group_id, Expr, expr_one, expr_and, expr_or, Term, term_not, term_open, term_prim, term_group, term_relation}
+use Rattle.filterlang.specs.Reading.{group_term_at, joints, term_at}
+use Rattle.filterlang.specs.declared.phrases.qualifiers.Identifier.{Identifier}
 use Rattle.filterlang.proofs.Steps.{weaken, at_some}
+use Rattle.filterlang.proofs.Chains.{Shortens, AreShorter}
+use Rattle.filterlang.proofs.ValueShorter.{Arith-shorter}
 use Rattle.filterlang.proofs.Sound.{IsGroupTerm, group_term_reads, group_term_sound, terms_read, term_sound}
 
 -- a protocol word leaves no more tokens than there were
@@ -105,6 +107,7 @@ mutual
   Term-shorter (term_not h) = omega (arith, Term-shorter h)
   Term-shorter (term_open e h) = omega (arith, Expr-shorter h)
   Term-shorter (term_prim e h) = Prim-shorter h
+  Term-shorter (term_relation e h k) = omega (arith, Arith-shorter h, Arith-shorter k)
   Term-shorter (term_group {ts = ts} {mid = mid} {phrase = phrase} e a w f h) = omega (arith, behind_phrase ts (kind.Open ∷ mid) phrase a, Group-shorter h)
 
 -- and so for what the reading function leaves
@@ -115,11 +118,12 @@ group_term_shorter n g ts t r rest e = GroupTerm-shorter (group_term_sound n g t
 pub term_shorter : (n : ℕ) (q : Option Qualifiers) (ts : List Kind) (t : Tree) (r : Option Qualifiers) (rest : List Kind) → term_at n q ts ≡ Some (t, r, rest) → length rest ≤ length ts
 term_shorter n q ts t r rest e = Term-shorter (term_sound n q ts t r rest e)
 
--- a reader that leaves no more than it was given
-abbrev pub Shortens : {Q : Type 0} → Reader Q → Type 0
-Shortens {Q} next = (q : Q) (ts : List Kind) → IfSome (next q ts) (λ t. length t.2 ≤ length ts)
+-- `and` and `or` leave less than they were given
+pub joints_shorter : AreShorter joints
+joints_shorter (kind.Joint j ∷ ts) = omega arith
+joints_shorter ts = tt
 
--- the readers of terms are such
+-- the readers of terms leave no more
 pub group_term_shortens : (n : ℕ) → Shortens (group_term_at n)
 group_term_shortens n g ts = weaken (λ u. IsGroupTerm n g ts u.0 u.1 u.2) (λ u. length u.2 ≤ length ts) (group_term_at n g ts) (group_term_reads n g ts) (λ u h. GroupTerm-shorter h.1)
 

@@ -5,29 +5,30 @@ use Rattle.filterlang.specs.declared.token.Kind.{Kind}
 use Rattle.filterlang.specs.declared.token.Kind.TheVariants as kind
 use Rattle.filterlang.specs.declared.token.Joint.{Joint}
 use Rattle.filterlang.specs.declared.token.Joint.TheVariants.{And, Or}
-use Rattle.filterlang.specs.declared.qualifiers.Qualifiers.{Qualifiers}
-use Rattle.filterlang.specs.declared.qualifiers.Identifier.{Identifier}
+use Rattle.filterlang.specs.declared.phrases.qualifiers.Qualifiers.{Qualifiers}
+use Rattle.filterlang.specs.declared.phrases.qualifiers.Identifier.{Identifier}
 use Rattle.filterlang.specs.declared.parser.Start.{Start}
 use Rattle.filterlang.specs.declared.parser.Start.TheVariants as starts
 use Rattle.filterlang.specs.Phrases.{identifier_at}
 use Rattle.filterlang.specs.Qualifiers.{identified}
 use Rattle.filterlang.specs.Trees.{Tree, test, negation}
-use Rattle.filterlang.specs.Grammar.{begins_relation, Group, group_one, group_and, group_or, GroupTerm, group_not, group_open, group_id, Expr, expr_one, expr_and, expr_or, Term, term_not, term_open, term_prim, term_group, Reads, reads_nothing, reads_expr}
-use Rattle.filterlang.specs.Reading.{◌>>=◌, nothing, joined_by, negated, closed, identified_at, start_at, started, group_term_by, group_term_at, group_at, logical_by, term_at, expr_at, whole, text_at, close_at}
-use Rattle.filterlang.proofs.Steps.{step, at_some, chained_keeps}
+use Rattle.filterlang.specs.Grammar.{begins_relation, Group, group_one, group_and, group_or, GroupTerm, group_not, group_open, group_id, Expr, expr_one, expr_and, expr_or, Term, term_not, term_open, term_prim, term_group, term_relation, Reads, reads_nothing, reads_expr}
+use Rattle.filterlang.specs.Readers.{◌>>=◌, nothing, closed}
+use Rattle.filterlang.specs.ValueReading.{relation_at}
+use Rattle.filterlang.specs.Reading.{joint_at, joints, joined_by, negated, identified_at, start_at, started, group_term_by, group_term_at, group_at, logical_by, without_inheritance, term_at, expr_at, whole, text_at}
+use Rattle.std.proofs.lemmas.Option.{same_Some}
+use Rattle.filterlang.proofs.Steps.{step, at_some, chained_keeps, closed_sound}
+use Rattle.filterlang.proofs.ValueSound.{IsRelation, relation_sound}
 use Rattle.filterlang.proofs.Starts.{Begun, start_begun, identified_sound}
-
--- what a `)` follows, from what was read before it
-closed_sound : {Q : Type 0} (P R : Tree → Q → List Kind → Type 0) (read : Option (Tree × Q × List Kind)) → IfSome read (λ u. P u.0 u.1 u.2) → ((t : Tree) (q : Q) (rest : List Kind) → P t q (kind.Close ∷ rest) → R t q rest) → IfSome (closed read) (λ u. R u.0 u.1 u.2)
-closed_sound {Q} P R read h next = step (λ u. P u.0 u.1 u.2) (λ u. R u.0 u.1 u.2) read (λ t. close_at t.2 >>= λ behind. Some (t.0, t.1, behind.1)) h (λ u k. at_close u.0 u.1 u.2 k)
-  where
-    at_close : (t : Tree) (q : Q) (ts : List Kind) → P t q ts → IfSome {T = Tree × Q × List Kind} (close_at ts >>= λ behind. Some (t, q, behind.1)) (λ u. R u.0 u.1 u.2)
-    at_close t q (kind.Close ∷ rest) k = next t q rest k
-    at_close t q ts k = tt
 
 -- the negation of what was read
 negated_sound : {Q : Type 0} (P R : Tree → Q → List Kind → Type 0) (read : Option (Tree × Q × List Kind)) → IfSome read (λ u. P u.0 u.1 u.2) → ((t : Tree) (q : Q) (rest : List Kind) → P t q rest → R (negation t) q rest) → IfSome (negated read) (λ u. R u.0 u.1 u.2)
 negated_sound P R read h next = step (λ u. P u.0 u.1 u.2) (λ u. R u.0 u.1 u.2) read (λ t. Some (negation t.0, t.1, t.2)) h (λ u k. next u.0 u.1 u.2 k)
+
+-- a joint that is found is the first token
+pub joint_is : (j : Joint) (mid ts : List Kind) → joint_at ts ≡ Some (j, mid) → ts ≡ kind.Joint j ∷ mid
+joint_is j mid (kind.Joint i ∷ rest) e = ap (λ (p : Joint × List Kind). kind.Joint p.0 ∷ p.1) (same_Some (i, rest) (j, mid) e)
+joint_is j mid ts e = absurd cc
 
 -- a term of a group, whose qualifiers stay
 abbrev pub IsGroupTerm : ℕ → Qualifiers → List Kind → Tree → Qualifiers → List Kind → Type 0
@@ -45,9 +46,10 @@ group_joined n Or g h ts mid rest t u a b = (b.0, group_or a b.1)
 -- what is found of a group is the grammar's, where its terms are
 group_from_terms : (n : ℕ) → ((g : Qualifiers) (ts : List Kind) → IfSome (group_term_at n g ts) (λ u. IsGroupTerm n g ts u.0 u.1 u.2)) → (g : Qualifiers) (ts : List Kind) → IfSome (group_at n g ts) (λ u. IsGroup n g ts u.0 u.1 u.2)
 group_from_terms n terms g ts =
-    chained_keeps (group_term_at n) (IsGroup n g ts) g ts
-    (λ u e. let first = at_some (λ u. IsGroupTerm n g ts u.0 u.1 u.2) (group_term_at n g ts) u e (terms g ts) in (first.0, group_one first.1))
-    (λ j t h mid u k e. group_joined n j g u.1 ts mid u.2 t u.0 k.1 (at_some (λ v. IsGroupTerm n g mid v.0 v.1 v.2) (group_term_at n g mid) u (ap (λ x. group_term_at n x mid) (sym k.0) ∙ e) (terms g mid)))
+    chained_keeps joints (group_term_at n) (IsGroup n g ts)
+    (λ j t v h behind mid u k e f join. subst (λ x. IsGroup n g ts x u.1 u.2) (same_Some (joined_by j t u.0) v join)
+    (group_joined n j g u.1 ts mid u.2 t u.0 (subst (λ x. Group n g ts t x) (joint_is j mid behind e) k.1) (at_some (λ v. IsGroupTerm n g mid v.0 v.1 v.2) (group_term_at n g mid) u (ap (λ x. group_term_at n x mid) (sym k.0) ∙ f) (terms g mid))))
+    g ts (λ u e. let first = at_some (λ u. IsGroupTerm n g ts u.0 u.1 u.2) (group_term_at n g ts) u e (terms g ts) in (first.0, group_one first.1))
 
 -- an identifier of a group
 identifier_sound : (n : ℕ) (g : Qualifiers) (ts : List Kind) → IfSome {T = Tree × Qualifiers × List Kind} (identified_at g ts >>= λ p. Some (test p.0, g, p.1)) (λ u. IsGroupTerm n g ts u.0 u.1 u.2)
@@ -81,9 +83,10 @@ expr_joined n Or q r s ts mid rest t u a b = expr_or a b
 -- what is found of an expression is the grammar's, where its terms are
 expr_from_terms : (n : ℕ) → TermsRead n → (q : Option Qualifiers) (ts : List Kind) → IfSome (expr_at n q ts) (λ u. Expr n q ts u.0 u.1 u.2)
 expr_from_terms n terms q ts =
-    chained_keeps (term_at n) (Expr n q ts) q ts
-    (λ u e. expr_one (at_some (λ v. Term n q ts v.0 v.1 v.2) (term_at n q ts) u e (terms q ts)))
-    (λ j t r mid u k e. expr_joined n j q r u.1 ts mid u.2 t u.0 k (at_some (λ v. Term n r mid v.0 v.1 v.2) (term_at n r mid) u e (terms r mid)))
+    chained_keeps joints (term_at n) (Expr n q ts)
+    (λ j t v r behind mid u k e f join. subst (λ x. Expr n q ts x u.1 u.2) (same_Some (joined_by j t u.0) v join)
+    (expr_joined n j q r u.1 ts mid u.2 t u.0 (subst (λ x. Expr n q ts t r x) (joint_is j mid behind e) k) (at_some (λ v. Term n r mid v.0 v.1 v.2) (term_at n r mid) u f (terms r mid))))
+    q ts (λ u e. expr_one (at_some (λ v. Term n q ts v.0 v.1 v.2) (term_at n q ts) u e (terms q ts)))
 
 -- a term that begins with no sign, at the innermost level, where no group may stand
 start_zero : (q : Option Qualifiers) (ts : List Kind) → begins_relation ts ≡ false → IfSome (start_at q ts >>= λ s. started nothing s.0 s.1 s.2) (λ u. Term zero q ts u.0 u.1 u.2)
@@ -125,16 +128,22 @@ logical_within n terms q (kind.Not ∷ ts) e = negated_sound (Term n q ts) (Term
 logical_within n terms q (kind.Open ∷ ts) e = closed_sound (Expr n q ts) (Term (suc n) q (kind.Open ∷ ts)) (expr_at n q ts) (expr_from_terms n terms q ts) (λ t r rest k. term_open e k)
 logical_within n terms q ts e = start_within n q ts e
 
--- what begins a relation is not read, so that nothing is to be shown
-no_relation : {Q : Type 0} (R : Tree × Q × List Kind → Type 0) (b : Bool) (read : Option (Tree × Q × List Kind)) → (b ≡ false → IfSome read R) → IfSome (if b then None else read) R
-no_relation R true read h = tt
-no_relation R false read h = h refl
+-- a relation, where one begins, and else the logical form
+either_way : {Q : Type 0} (R : Tree × Q × List Kind → Type 0) (b : Bool) (related read : Option (Tree × Q × List Kind)) → (b ≡ true → IfSome related R) → (b ≡ false → IfSome read R) → IfSome (if b then related else read) R
+either_way R true related read g h = g refl
+either_way R false related read g h = h refl
+
+-- a relation that is found
+related : (n : ℕ) (q : Option Qualifiers) (ts : List Kind) → begins_relation ts ≡ true → IfSome (without_inheritance (relation_at n ts)) (λ u. Term n q ts u.0 u.1 u.2)
+related n q ts e =
+    step (λ t. IsRelation n ts t.0 t.1) (λ u. Term n q ts u.0 u.1 u.2) (relation_at n ts) (λ t. Some (t.0, None, t.1)) (relation_sound n ts)
+    (λ t h. subst (λ x. Term n q ts x None t.1) (sym h.4) (term_relation e h.5 h.6))
 
 -- what is found of a term is the grammar's, at each nesting
 pub terms_read : (n : ℕ) → TermsRead n
 unfolding term_at
-terms_read zero q ts = no_relation (λ u. Term zero q ts u.0 u.1 u.2) (begins_relation ts) (logical_by nothing nothing q ts) (logical_zero q ts)
-terms_read (suc n) q ts = no_relation (λ u. Term (suc n) q ts u.0 u.1 u.2) (begins_relation ts) (logical_by (term_at n) (group_term_at n) q ts) (logical_within n (terms_read n) q ts)
+terms_read zero q ts = either_way (λ u. Term zero q ts u.0 u.1 u.2) (begins_relation ts) _ (logical_by nothing nothing q ts) (related zero q ts) (logical_zero q ts)
+terms_read (suc n) q ts = either_way (λ u. Term (suc n) q ts u.0 u.1 u.2) (begins_relation ts) _ (logical_by (term_at n) (group_term_at n) q ts) (related (suc n) q ts) (logical_within n (terms_read n) q ts)
 
 -- the same, of what was found
 pub group_term_sound : (n : ℕ) (g : Qualifiers) (ts : List Kind) (t : Tree) (h : Qualifiers) (rest : List Kind) → group_term_at n g ts ≡ Some (t, h, rest) → (h ≡ g) × GroupTerm n g ts t rest

@@ -16,16 +16,17 @@ use Rattle.filterlang.specs.declared.tree.Transport.{Transport}
 use Rattle.filterlang.specs.declared.tree.Plain.{Plain}
 use Rattle.filterlang.specs.declared.tree.Primitive.{Primitive}
 use Rattle.filterlang.specs.declared.tree.Primitive.TheVariants as primitives
-use Rattle.filterlang.specs.declared.qualifiers.Phrase.{Phrase}
-use Rattle.filterlang.specs.declared.qualifiers.Qualifiers.{Qualifiers}
-use Rattle.filterlang.specs.declared.qualifiers.Identifier.{Identifier}
+use Rattle.filterlang.specs.declared.phrases.qualifiers.Phrase.{Phrase}
+use Rattle.filterlang.specs.declared.phrases.qualifiers.Qualifiers.{Qualifiers}
+use Rattle.filterlang.specs.declared.phrases.qualifiers.Identifier.{Identifier}
 use Rattle.filterlang.specs.declared.parser.Start.{Start}
 use Rattle.filterlang.specs.declared.parser.Start.TheVariants as starts
 use Rattle.filterlang.specs.Phrases.{phrase_at, identifier_at}
 use Rattle.filterlang.specs.Primitives.{plain_of, stands_alone, ports_between}
 use Rattle.filterlang.specs.Qualifiers.{qualifiers_of, identified, transport_of, port_of}
 use Rattle.filterlang.specs.Grammar.{only_protocol, is_written, Prim, prim_plain, prim_broadcast, prim_ether_broadcast, prim_multicast, prim_ether_multicast, prim_ip_multicast, prim_less, prim_greater, prim_portrange, prim_phrase, prim_inherited}
-use Rattle.filterlang.specs.Reading.{◌>>=◌, identified_at, port_at, portrange_at, under, without_qualifiers, qualified_at, inherited_at, phrased_by, phrased_at, start_at, bare_number_at, minus_at, range_at, plain_at, broadcast_at, unqualified_at}
+use Rattle.filterlang.specs.Readers.{◌>>=◌, bare_number_at}
+use Rattle.filterlang.specs.Reading.{identified_at, port_at, portrange_at, under, without_qualifiers, qualified_at, inherited_at, phrased_by, phrased_at, start_at, minus_at, range_at, plain_at, broadcast_at, unqualified_at}
 use Rattle.filterlang.proofs.Steps.{step, each_step, weaken, at_some}
 
 -- what was found is itself

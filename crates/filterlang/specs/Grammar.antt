@@ -5,12 +5,14 @@
 -- are open within one another, and that q and r are the qualifiers that the nearest primitive to the left has
 -- to give, before the expression and behind it.
 use Rattle.std.specs.Prelude.{◌≡◌, ℕ, zero, suc, Bool, ◌||◌, is_some, true, false, List, [], ◌∷◌, Option, Some, None, unwrap_or}
-use Rattle.filterlang.specs.Types.{Kind, Protocol, And, Or, Minus, Primitive, Plain, Transport, SrcOrDst, Phrase, Qualifiers, Identifier}
+use Rattle.filterlang.specs.Types.{Kind, Comparison, Protocol, And, Or, Minus, Primitive, Plain, Transport, SrcOrDst, Phrase, Qualifiers, Identifier}
 use Rattle.filterlang.specs.Types.kind
 use Rattle.filterlang.specs.Types.protocols
 use Rattle.filterlang.specs.Types.primitives
-use Rattle.filterlang.specs.Trees.{Tree, everything, test, negation, both, either}
+use Rattle.filterlang.specs.Trees.{Tree, Amount, everything, test, relation, negation, both, either}
 use Rattle.filterlang.specs.Phrases.{phrase_at, identifier_at}
+use Rattle.filterlang.specs.Operators.{loosest}
+use Rattle.filterlang.specs.Values.{Arith}
 use Rattle.filterlang.specs.Primitives.{plain_of, stands_alone, ports_between}
 use Rattle.filterlang.specs.Qualifiers.{qualifiers_of, identified, transport_of}
 
@@ -131,6 +133,9 @@ mutual
         → begins_relation ts ≡ false → phrase_at ts ≡ (phrase, kind.Open ∷ mid) → is_written phrase ≡ true
         → qualifiers_of phrase ≡ Some g → Group n g mid t (kind.Close ∷ rest)
         → Term (suc n) q ts t (Some g) rest
+    term_relation : {n : ℕ} {q : Option Qualifiers} {ts mid rest : List Kind} {c : Comparison} {v w : Amount}
+        → begins_relation ts ≡ true → Arith n loosest ts v (kind.Comparison c ∷ mid) → Arith n loosest mid w rest
+        → Term n q ts (relation c v w) None rest
 
 -- The tokens of a text read as this tree: nothing accepts all, else they are one expression.
 pub data Reads : List Kind → Tree → Type 0 where

@@ -6,6 +6,10 @@ pub mod Qualifiers
 pub mod Phrases
 pub mod Primitives
 pub mod Trees
+pub mod Operators
+pub mod Values
 pub mod Grammar
+pub mod Readers
+pub mod ValueReading
 pub mod Reading
 pub mod Texts

@@ -2,9 +2,8 @@
 --
 -- A reading is what was read, what can be inherited behind it, and the tokens that follow. There is none where
 -- nothing can be read.
-use Rattle.std.specs.Prelude.{◌≡◌, ◌⊎◌, ℕ, zero, suc, true, if◌then◌else◌, List, [], ◌∷◌, length, Option, Some, None, Result, Ok, Err, unwrap_or, min, max, is_none, is_some, ◌||◌, option_map, option_and_then}
-use Rattle.filterlang.specs.Types.{Fault, Kind, Protocol, Parts, Side, Direction, Joint, And, Or, Minus, Plain, Primitive, SrcOrDst, Beginning, Phrase, Qualifiers, Start}
-use Rattle.filterlang.specs.Types.faults
+use Rattle.std.specs.Prelude.{ℕ, zero, suc, if◌then◌else◌, List, [], ◌∷◌, Option, Some, None, unwrap_or, min, max, is_none, is_some, ◌||◌, option_map, option_and_then}
+use Rattle.filterlang.specs.Types.{Kind, Protocol, Parts, Side, Direction, Joint, And, Or, Minus, Plain, Primitive, SrcOrDst, Beginning, Phrase, Qualifiers, Start}
 use Rattle.filterlang.specs.Types.kind
 use Rattle.filterlang.specs.Types.protocols
 use Rattle.filterlang.specs.Types.primitives
@@ -15,21 +14,8 @@ use Rattle.filterlang.specs.Primitives.{plain_of, stands_alone}
 use Rattle.filterlang.specs.Qualifiers.{qualifiers_of, identified, transport_of, port_of}
 use Rattle.filterlang.specs.Trees.{Tree, everything, test, negation, both, either}
 use Rattle.filterlang.specs.Grammar.{begins_relation, is_written}
-use Rattle.filterlang.specs.Texts.{is_misreading}
-
-infixl 10 ◌>>=◌
-abbrev pub ◌>>=◌ : {A B : Type 0} → Option A → (A → Option B) → Option B
-(Some x) >>= f = f x
-None >>= f = None
-
--- what the first token is, and those behind it
-abbrev pub next_of : List Kind → Option (Kind × List Kind)
-next_of [] = None
-next_of (token ∷ rest) = Some (token, rest)
-
-abbrev pub bare_number_at : List Kind → Option (ℕ × List Kind)
-bare_number_at (kind.Number n ∷ rest) = Some (n, rest)
-bare_number_at rest = None
+use Rattle.filterlang.specs.Readers.{◌>>=◌, Reader, nothing, Joining, chained, closed, bare_number_at}
+use Rattle.filterlang.specs.ValueReading.{relation_at}
 
 abbrev pub address_at : List Kind → Option (ℕ × Parts × List Kind)
 address_at (kind.Dotted address parts ∷ rest) = Some (address, parts, rest)
@@ -47,10 +33,6 @@ joined_at first rest = None
 abbrev pub minus_at : List Kind → Option (Unit {0} × List Kind)
 minus_at (kind.Operator Minus ∷ rest) = Some (tt, rest)
 minus_at rest = None
-
-abbrev pub close_at : List Kind → Option (Unit {0} × List Kind)
-close_at (kind.Close ∷ rest) = Some (tt, rest)
-close_at rest = None
 
 -- what follows portrange, where that stands behind a phrase without a type
 abbrev pub range_at : Phrase → List Kind → Option (List Kind)
@@ -80,44 +62,17 @@ unqualified_at (kind.Greater ∷ rest) = option_map (λ n. Some (primitives.Grea
 unqualified_at (kind.Protocol protocol ∷ rest) = Some (broadcast_at protocol rest)
 unqualified_at rest = Some None
 
--- What a call answered is what a reading gives: a value, seen by view, or none, unless memory was refused.
-abbrev pub Gives : {X Y : Type 0} → (X → Y) → Result X Fault → Option Y → Type 0
-Gives view (Ok x) read = read ≡ Some (view x)
-Gives view (Err e) read = (e ≡ faults.NoMemory) ⊎ ((is_misreading e ≡ true) × (read ≡ None))
-
--- reads a tree, from what can be inherited before it
-abbrev pub Reader : Type 0 → Type 0
-Reader Q = Q → List Kind → Option (Tree × Q × List Kind)
-
-abbrev pub nothing : {Q : Type 0} → Reader Q
-nothing q tokens = None
-
 -- two trees and the word between them
 abbrev pub joined_by : Joint → Tree → Tree → Tree
 joined_by And t u = both t u
 joined_by Or t u = either t u
 
--- Behind a first tree: as long as `and` or `or` follows, what is read there is joined to it from the left, at
--- most so many times.
-abbrev pub chain : {Q : Type 0} → Reader Q → ℕ → Tree → Q → List Kind → Option (Tree × Q × List Kind)
-chain next (suc n) t q (kind.Joint joint ∷ tokens) = next q tokens >>= λ u. chain next n (joined_by joint t u.0) u.1 u.2
-chain next n t q tokens = Some (t, q, tokens)
-
--- a first one, and all that are joined to it
-abbrev pub chained : {Q : Type 0} → Reader Q → Reader Q
-chained next q tokens = next q tokens >>= λ t. chain next (length t.2) t.0 t.1 t.2
+-- `and` and `or` between trees
+abbrev pub joints : Joining Joint Tree
+joints = record { sign = joint_at; join = λ joint t u. Some (joined_by joint t u) }
 
 abbrev pub negated : {Q : Type 0} → Option (Tree × Q × List Kind) → Option (Tree × Q × List Kind)
 negated read = read >>= λ t. Some (negation t.0, t.1, t.2)
-
--- what a `)` follows, and what is behind that
-abbrev pub closed : {Q : Type 0} → Option (Tree × Q × List Kind) → Option (Tree × Q × List Kind)
-closed read = read >>= λ t. close_at t.2 >>= λ behind. Some (t.0, t.1, behind.1)
-
--- behind the sign at the front, one level less is left
-abbrev pub deeper : ℕ → List Kind → Option (ℕ × List Kind)
-deeper (suc n) (sign ∷ tokens) = Some (n, tokens)
-deeper n tokens = None
 
 abbrev pub beginning : List Kind → Beginning
 beginning (kind.Not ∷ tokens) = beginnings.Not
@@ -183,45 +138,50 @@ unfoldable pub start_at : Option Qualifiers → List Kind → Starting
 start_at q tokens = unqualified_at tokens >>= λ found. elim found [ Some p ↦ without_qualifiers (Some p) | None ↦ phrased_at q tokens ]
 
 -- a term of a group, by a reader of what lies a level deeper
-abbrev pub group_term_by : Reader Qualifiers → Reader Qualifiers
+abbrev pub group_term_by : Reader Tree Qualifiers → Reader Tree Qualifiers
 group_term_by inner g (kind.Not ∷ tokens) = negated (inner g tokens)
-group_term_by inner g (kind.Open ∷ tokens) = closed (chained inner g tokens)
+group_term_by inner g (kind.Open ∷ tokens) = closed (chained joints inner g tokens)
 group_term_by inner g tokens = identified_at g tokens >>= λ p. Some (test p.0, g, p.1)
 
-unfoldable pub group_term_at : ℕ → Reader Qualifiers
+unfoldable pub group_term_at : ℕ → Reader Tree Qualifiers
 group_term_at zero = group_term_by nothing
 group_term_at (suc n) = group_term_by (group_term_at n)
 
 -- identifiers under one phrase
-abbrev pub group_at : ℕ → Reader Qualifiers
-group_at n = chained (group_term_at n)
+abbrev pub group_at : ℕ → Reader Tree Qualifiers
+group_at n = chained joints (group_term_at n)
 
 -- a primitive, or the group behind its phrase
-abbrev pub started : Reader Qualifiers → Start → Reader (Option Qualifiers)
+abbrev pub started : Reader Tree Qualifiers → Start → Reader Tree (Option Qualifiers)
 started group (starts.Primitive p) q tokens = Some (test p, q, tokens)
-started group (starts.Group g) q (sign ∷ tokens) = closed (chained group g tokens) >>= λ t. Some (t.0, q, t.2)
+started group (starts.Group g) q (sign ∷ tokens) = closed (chained joints group g tokens) >>= λ t. Some (t.0, q, t.2)
 started group (starts.Group g) q [] = None
 
 -- a term that is no relation, by readers of what lies a level deeper
-abbrev pub logical_by : Reader (Option Qualifiers) → Reader Qualifiers → Reader (Option Qualifiers)
+abbrev pub logical_by : Reader Tree (Option Qualifiers) → Reader Tree Qualifiers → Reader Tree (Option Qualifiers)
 logical_by inner group q (kind.Not ∷ tokens) = negated (inner q tokens)
-logical_by inner group q (kind.Open ∷ tokens) = closed (chained inner q tokens)
+logical_by inner group q (kind.Open ∷ tokens) = closed (chained joints inner q tokens)
 logical_by inner group q tokens = start_at q tokens >>= λ s. started group s.0 s.1 s.2
 
-abbrev pub term_by : Reader (Option Qualifiers) → Reader Qualifiers → Reader (Option Qualifiers)
-term_by inner group q tokens = if begins_relation tokens then None else logical_by inner group q tokens
+-- a relation, which has no qualifiers to give
+abbrev pub without_inheritance : Option (Tree × List Kind) → Option (Tree × Option Qualifiers × List Kind)
+without_inheritance read = read >>= λ t. Some (t.0, None, t.1)
 
-unfoldable pub term_at : ℕ → Reader (Option Qualifiers)
-term_at zero = term_by nothing nothing
-term_at (suc n) = term_by (term_at n) (group_term_at n)
+-- a term, by what it is as a relation and by readers of what lies a level deeper
+abbrev pub term_by : (List Kind → Option (Tree × List Kind)) → Reader Tree (Option Qualifiers) → Reader Tree Qualifiers → Reader Tree (Option Qualifiers)
+term_by related inner group q tokens = if begins_relation tokens then without_inheritance (related tokens) else logical_by inner group q tokens
 
-unfoldable pub logical_at : ℕ → Reader (Option Qualifiers)
+unfoldable pub term_at : ℕ → Reader Tree (Option Qualifiers)
+term_at zero = term_by (relation_at zero) nothing nothing
+term_at (suc n) = term_by (relation_at (suc n)) (term_at n) (group_term_at n)
+
+unfoldable pub logical_at : ℕ → Reader Tree (Option Qualifiers)
 logical_at zero = logical_by nothing nothing
 logical_at (suc n) = logical_by (term_at n) (group_term_at n)
 
 -- terms joined by `and` and `or`
-abbrev pub expr_at : ℕ → Reader (Option Qualifiers)
-expr_at n = chained (term_at n)
+abbrev pub expr_at : ℕ → Reader Tree (Option Qualifiers)
+expr_at n = chained joints (term_at n)
 
 -- all of the tokens
 abbrev pub whole : Option (Tree × Option Qualifiers × List Kind) → Option Tree

@@ -23,6 +23,7 @@ is_misreading (faults.BadQualifier place) = true
 is_misreading (faults.BadIdentifier place) = true
 is_misreading (faults.NetBits place) = true
 is_misreading (faults.OutOfRange place) = true
+is_misreading (faults.DivideByZero place) = true
 is_misreading (faults.TooNested place) = true
 is_misreading _ = false
 

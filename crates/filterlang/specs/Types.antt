@@ -1,12 +1,14 @@
 -- The names of the crate's own types and of their variants, for the other files of definitions.
 pub use Rattle.filterlang.specs.declared.fault.Fault.{Fault}
 pub use Rattle.filterlang.specs.declared.fault.Fault.TheVariants as faults
+pub use Rattle.filterlang.specs.declared.token.Comparison.{Comparison}
 pub use Rattle.filterlang.specs.declared.token.Comparison.TheVariants as comparison
 pub use Rattle.filterlang.specs.declared.token.Joint.{Joint}
 pub use Rattle.filterlang.specs.declared.token.Joint.TheVariants.{And, Or}
 pub use Rattle.filterlang.specs.declared.token.Joint.TheVariants as joint
 pub use Rattle.filterlang.specs.declared.token.Kind.{Kind}
 pub use Rattle.filterlang.specs.declared.token.Kind.TheVariants as kind
+pub use Rattle.filterlang.specs.declared.token.Operator.{Operator}
 pub use Rattle.filterlang.specs.declared.token.Operator.TheVariants.{Divide, Minus}
 pub use Rattle.filterlang.specs.declared.token.Operator.TheVariants as operator
 pub use Rattle.filterlang.specs.declared.token.Parts.{Parts}
@@ -20,12 +22,17 @@ pub use Rattle.filterlang.specs.declared.token.TypeWord.{TypeWord}
 pub use Rattle.filterlang.specs.declared.token.TypeWord.TheVariants as type_word
 pub use Rattle.filterlang.specs.declared.tree.Direction.{Direction}
 pub use Rattle.filterlang.specs.declared.tree.Direction.TheVariants.{Dst, Src, SrcAndDst, SrcOrDst}
+pub use Rattle.filterlang.specs.declared.tree.Layer.{Layer}
+pub use Rattle.filterlang.specs.declared.tree.Layer.TheVariants as layers
 pub use Rattle.filterlang.specs.declared.tree.Network.{Network}
 pub use Rattle.filterlang.specs.declared.tree.Network.TheVariants as networks
 pub use Rattle.filterlang.specs.declared.tree.Plain.{Plain}
 pub use Rattle.filterlang.specs.declared.tree.Plain.TheVariants as plain
 pub use Rattle.filterlang.specs.declared.tree.Primitive.{Primitive}
 pub use Rattle.filterlang.specs.declared.tree.Primitive.TheVariants as primitives
+pub use Rattle.filterlang.specs.declared.tree.Size.{Size}
+pub use Rattle.filterlang.specs.declared.tree.Size.TheVariants.{One}
+pub use Rattle.filterlang.specs.declared.tree.Size.TheVariants as sizes
 pub use Rattle.filterlang.specs.declared.tree.Transport.{Transport}
 pub use Rattle.filterlang.specs.declared.tree.Transport.TheVariants as transports
 pub use Rattle.filterlang.specs.declared.lexer.Cause.{Cause}
@@ -35,10 +42,12 @@ pub use Rattle.filterlang.specs.declared.lexer.Front.TheVariants as fronts
 pub use Rattle.filterlang.specs.declared.lexer.TheConstants.{MAX_TEXT}
 pub use Rattle.filterlang.specs.declared.lookahead.Beginning.{Beginning}
 pub use Rattle.filterlang.specs.declared.lookahead.Beginning.TheVariants as beginnings
-pub use Rattle.filterlang.specs.declared.qualifiers.Identifier.{Identifier}
-pub use Rattle.filterlang.specs.declared.qualifiers.Identifier.TheVariants as ids
-pub use Rattle.filterlang.specs.declared.qualifiers.Phrase.{Phrase}
-pub use Rattle.filterlang.specs.declared.qualifiers.Qualifiers.{Qualifiers}
-pub use Rattle.filterlang.specs.declared.qualifiers.Qualifiers.TheVariants.{EtherHost, EtherProto, Host, IpProto, Net, Port}
+pub use Rattle.filterlang.specs.declared.lookahead.Opening.{Opening}
+pub use Rattle.filterlang.specs.declared.lookahead.Opening.TheVariants as openings
+pub use Rattle.filterlang.specs.declared.phrases.qualifiers.Identifier.{Identifier}
+pub use Rattle.filterlang.specs.declared.phrases.qualifiers.Identifier.TheVariants as ids
+pub use Rattle.filterlang.specs.declared.phrases.qualifiers.Phrase.{Phrase}
+pub use Rattle.filterlang.specs.declared.phrases.qualifiers.Qualifiers.{Qualifiers}
+pub use Rattle.filterlang.specs.declared.phrases.qualifiers.Qualifiers.TheVariants.{EtherHost, EtherProto, Host, IpProto, Net, Port}
 pub use Rattle.filterlang.specs.declared.parser.Start.{Start}
 pub use Rattle.filterlang.specs.declared.parser.Start.TheVariants as starts

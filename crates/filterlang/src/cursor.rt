@@ -5,13 +5,14 @@ ghost use Rattle.std.specs.Result.{result_ok};
 ghost use Rattle.filterlang.specs.declared.token.Kind.{Kind};
 ghost use Rattle.filterlang.specs.Phrases.{kinds};
 ghost use Rattle.filterlang.specs.Texts.{is_misreading};
-ghost use Rattle.filterlang.specs.Reading.{Gives, port_at, portrange_at, deeper, identified_at, close_at};
+ghost use Rattle.filterlang.specs.Readers.{Gives, deeper, close_at};
+ghost use Rattle.filterlang.specs.Reading.{port_at, portrange_at, identified_at};
 
 use crate::fault::Fault;
-use crate::phrases::{bare_number_at, begins_identifier, close_at, identifier_at, minus_at, next};
-use crate::qualifiers::{
+use crate::phrases::qualifiers::{
     Identifier, Misfit, Phrase, Qualifiers, identified, port_of, transport_of,
 };
+use crate::phrases::{bare_number_at, begins_identifier, close_at, identifier_at, minus_at, next};
 use crate::token::{Kind, Token};
 use crate::tree::{Direction, Primitive};
 
@@ -113,7 +114,8 @@ impl<'a> Cursor<'a> {
         })
     }
 
-    /// Goes past the `not` or `(` at the front: so many levels are left for what it holds open.
+    /// Goes past the sign at the front, which is `not`, `(`, `[` or a unary `-`: so many levels are left for what it
+    /// holds open.
     pub fn deeper(&mut self, levels: usize) -> Result<usize, Fault>
         ensures { Gives (λ left. (left, kinds self.new.rest.now)) result
             (deeper levels (kinds self.old.rest.now)) }

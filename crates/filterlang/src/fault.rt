@@ -37,14 +37,13 @@ pub enum Fault {
     /// A net with bits outside its mask, at its address.
     #[error("NetBits {0}")]
     NetBits(usize),
-    /// A number out of its range, at the number.
+    /// A number out of its range, at the number: of an identifier, or the size of an accessor.
     #[error("OutOfRange {0}")]
     OutOfRange(usize),
-    /// A divisor that is the literal 0 or a named value 0, in parentheses or not. Does not come yet, since relations
-    /// are not in the language.
+    /// A divisor that is the literal 0 or a named value 0, in parentheses or not, at its first token.
     #[error("DivideByZero {0}")]
     DivideByZero(usize),
-    /// The `(` or `not` that would be the 65th open one.
+    /// The `(`, `[`, `not` or unary `-` that would be the 65th open one.
     #[error("TooNested {0}")]
     TooNested(usize),
     /// Memory was refused.

@@ -8,10 +8,13 @@ ghost use Rattle.filterlang.specs.declared.lexer.TheConstants.{MAX_TEXT};
 ghost use Rattle.filterlang.specs.Words.{names, whole_word};
 ghost use Rattle.filterlang.specs.Tokens.{is_blank, token_at, front, fault_at, Lexes, Stuck, AreInOrder, IsFaultOf, IsWithin};
 
+mod numbers;
+mod words;
+
 use crate::fault::Fault;
-use crate::numbers::{ethernet_at, number_or_dotted_at};
+use crate::lexer::numbers::{ethernet_at, number_or_dotted_at};
+use crate::lexer::words::{name_at, sign_at, word_at};
 use crate::token::{Kind, Span, Token};
-use crate::words::{name_at, sign_at, word_at};
 use std::alloc::Global;
 
 /// The most bytes that a text may have.

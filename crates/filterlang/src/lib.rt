@@ -4,18 +4,14 @@
 
 mod cursor;
 pub mod fault;
-mod group;
 pub mod laws;
 pub mod lexer;
 mod lookahead;
-mod numbers;
 pub mod parser;
 mod phrases;
-mod primitives;
-mod qualifiers;
 pub mod token;
 pub mod tree;
-mod words;
+mod values;
 
 pub use fault::Fault;
 pub use lexer::{Cause, MAX_TEXT, lex};
@@ -26,13 +22,5 @@ pub use token::{
 };
 pub use tree::{Direction, Expr, Layer, Network, Plain, Primitive, Size, Transport, Value};
 
-#[cfg(test)]
-mod length_tests;
-#[cfg(test)]
-mod page_tests;
-#[cfg(test)]
-mod parser_fault_tests;
-#[cfg(test)]
-mod parser_tests;
 #[cfg(test)]
 mod tests;

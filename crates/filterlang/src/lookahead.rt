@@ -4,6 +4,7 @@ ghost use Rattle.std.specs.Prelude.{◌≡◌};
 ghost use Rattle.filterlang.specs.Phrases.{kinds};
 ghost use Rattle.filterlang.specs.Grammar.{operator_follows, bracket_follows, after_matching, begins_relation};
 ghost use Rattle.filterlang.specs.Reading.{beginning};
+ghost use Rattle.filterlang.specs.ValueReading.{opening};
 
 use crate::phrases::next;
 use crate::token::{Kind, Operator, Token};
@@ -24,6 +25,28 @@ pub(crate) fn look_ahead(tokens: &[Token]) -> Beginning
         Some((Kind::Not, _)) => Beginning::Not,
         Some((Kind::Open, _)) => Beginning::Parenthesis,
         _ => Beginning::Primitive,
+    }
+}
+
+/// What the first token of a value says of it, where it has no operators but within parentheses and brackets.
+#[derive(Clone, Copy)]
+pub(crate) enum Opening {
+    Minus,
+    Parenthesis,
+    Accessor,
+    /// A value of one token, or none.
+    Leaf,
+}
+
+/// The same, of the value at the front.
+pub(crate) fn look_into(tokens: &[Token]) -> Opening
+    ensures { result ≡ opening (kinds tokens.now) }
+{
+    match next(tokens) {
+        Some((Kind::Operator(Operator::Minus), _)) => Opening::Minus,
+        Some((Kind::Open, _)) => Opening::Parenthesis,
+        Some((Kind::Protocol(_), _)) => Opening::Accessor,
+        _ => Opening::Leaf,
     }
 }
 
@@ -76,7 +99,7 @@ pub(crate) fn begins_relation(tokens: &[Token]) -> bool
 }
 
 /// Whether a `[` is the next token.
-fn bracket_follows(tokens: &[Token]) -> bool
+pub(crate) fn bracket_follows(tokens: &[Token]) -> bool
     ensures { result ≡ bracket_follows (kinds tokens.now) }
 {
     matches!(next(tokens), Some((Kind::OpenBracket, _)))

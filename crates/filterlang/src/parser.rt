@@ -4,7 +4,8 @@ ghost use Rattle.std.specs.Prelude.{◌≡◌, ◌≤◌, ◌<◌, ◌↔◌, �
 ghost use Rattle.filterlang.specs.Phrases.{kinds};
 ghost use Rattle.filterlang.specs.Tokens.{fault_at, Stuck};
 ghost use Rattle.filterlang.specs.Trees.{Tree, tree_of};
-ghost use Rattle.filterlang.specs.Reading.{Gives, start_at, phrased_at, qualified_at, inherited_at, logical_at, term_at, expr_at, text_at};
+ghost use Rattle.filterlang.specs.Readers.{Gives};
+ghost use Rattle.filterlang.specs.Reading.{start_at, phrased_at, qualified_at, inherited_at, logical_at, term_at, expr_at, text_at};
 ghost use Rattle.filterlang.specs.Texts.{ReadsAs, IsRefusalOf};
 ghost use Rattle.filterlang.specs.declared.fault.Fault.TheVariants as Fault;
 ghost use Rattle.filterlang.specs.declared.lexer.Cause.{Cause};
@@ -15,14 +16,15 @@ use crate::cursor::Cursor;
 use crate::fault::Fault;
 use crate::lexer::lex;
 use crate::lookahead::{Beginning, begins_relation, look_ahead};
+use crate::phrases::primitives::{plain_at, unqualified_at};
+use crate::phrases::qualifiers::{Phrase, Qualifiers, qualifiers_of};
 use crate::phrases::{is_written, joint_at, phrase_at, range_at};
-use crate::primitives::{plain_at, unqualified_at};
-use crate::qualifiers::{Phrase, Qualifiers, qualifiers_of};
 use crate::token::Token;
 use crate::tree::{Expr, Primitive, joined_by, negated};
 use std::alloc::Global;
 
-/// The most signs of a text that may be open within one another: `(`, and `not` until its operand is complete.
+/// The most signs of a text that may be open within one another: `(` and `[`, and `not` and a unary `-` until the
+/// operand is complete.
 const MAX_NESTING: usize = 64;
 
 /// What stands at the front of a term that is neither negated nor in parentheses: a whole primitive, or the
@@ -57,20 +59,19 @@ impl<'a> Parser<'a> {
         Ok(expr)
     }
 
-    /// A term. What begins a relation is read as if it began none, and refused behind that at the latest, since
-    /// relations are not in the language yet.
-    #[tactic(auto, using(crate::proofs::Turns::term_logical))]
+    /// A term: a relation, where its first tokens show one.
+    #[tactic(auto, using(crate::proofs::Turns::term_related))]
     #[cycle(expr)]
     fn term(&mut self, alloc: Global, levels: usize) -> Result<Expr, Fault>
         ensures { Gives (λ e. (tree_of e, self.new.nearest, kinds self.new.cursor.rest.now)) result
             (term_at levels self.old.nearest (kinds self.old.cursor.rest.now)) }
     {
-        let relation = begins_relation(self.cursor.rest);
-        let expr = self.logical(alloc, levels)?;
-        if relation {
-            return Err(self.cursor.syntax());
+        if !begins_relation(self.cursor.rest) {
+            return self.logical(alloc, levels);
         }
-        Ok(expr)
+        let relation = self.cursor.relation(alloc, levels)?;
+        self.forget_qualifiers();
+        Ok(relation)
     }
 
     /// A negated term, an expression in parentheses, a primitive, or a group behind its phrase.
@@ -126,8 +127,16 @@ impl<'a> Parser<'a> {
         ensures nearest { self.new.nearest ≡ None }
         ensures rest { kinds self.new.cursor.rest.now ≡ kinds self.old.cursor.rest.now }
     {
-        self.nearest = None;
+        self.forget_qualifiers();
         Start::Primitive(primitive)
+    }
+
+    /// What was read has no qualifiers to give.
+    fn forget_qualifiers(&mut self)
+        ensures nearest { self.new.nearest ≡ None }
+        ensures rest { kinds self.new.cursor.rest.now ≡ kinds self.old.cursor.rest.now }
+    {
+        self.nearest = None;
     }
 
     /// What begins with a phrase, or with an identifier without one.
@@ -200,13 +209,14 @@ fn tree(alloc: Global, tokens: &[Token], end: usize) -> Result<Expr, Fault>
 
 /// The tree of a filter expression, as pcap-filter(7) reads it, in the profile of this project: `and` and `or`
 /// bind alike, from the left, and an identifier without a phrase takes the qualifiers of the nearest primitive
-/// to its left. The empty text is the tree that accepts every packet. Relations are not in the language yet.
+/// to its left. The operators of arithmetic bind as in C, and no divisor is written as 0. The empty text is the tree
+/// that accepts every packet.
 ///
 /// The tree reads the text and no other one does. `TextTooLong`, `BadByte`, `BadWord` and `BadNumber` come as
 /// from [`lex`](crate::lexer::lex). Any other fault comes only where no tree reads the text, but for want of
 /// memory (`NoMemory`). It has the byte of its place. Of several the one with the least place is named, at one
-/// place the first of `Syntax`, `NoQualifier`, `BadQualifier`, `BadIdentifier`, `NetBits`, `OutOfRange` and
-/// `TooNested`; that is tested and not proved.
+/// place the first of `Syntax`, `NoQualifier`, `BadQualifier`, `BadIdentifier`, `NetBits`, `OutOfRange`,
+/// `DivideByZero` and `TooNested`; that is tested and not proved.
 pub fn parse(alloc: Global, text: &str) -> Result<Expr, Fault>
     // The tree reads the text, and no other tree does.
     ensures reads { IfOk result (λ expr. ReadsAs text.now (tree_of expr)) }

@@ -5,9 +5,14 @@ ghost use Rattle.std.specs.Result.{result_ok};
 ghost use Rattle.filterlang.specs.Phrases.{kinds, protocol_at, direction_at, one_side, type_at, joined, phrase_at, dotted_at, identifier_at};
 ghost use Rattle.filterlang.specs.Primitives.{begins_identifier};
 ghost use Rattle.filterlang.specs.Grammar.{is_written};
-ghost use Rattle.filterlang.specs.Reading.{next_of, joined_at, bare_number_at, address_at, joint_at, minus_at, close_at, range_at};
+ghost use Rattle.filterlang.specs.Readers.{next_of, bare_number_at, close_at};
+ghost use Rattle.filterlang.specs.Reading.{joined_at, address_at, joint_at, minus_at, range_at};
 
-use crate::qualifiers::{Identifier, Phrase};
+mod group;
+pub(crate) mod primitives;
+pub(crate) mod qualifiers;
+
+use crate::phrases::qualifiers::{Identifier, Phrase};
 use crate::token::{Joint, Kind, Operator, Parts, Protocol, Side, Token, TypeWord};
 use crate::tree::Direction;
 

@@ -2,7 +2,8 @@
 
 ghost use Rattle.std.specs.Prelude.{Some};
 ghost use Rattle.filterlang.specs.Trees.{tree_of, negation};
-ghost use Rattle.filterlang.specs.Reading.{Gives, joined_by};
+ghost use Rattle.filterlang.specs.Readers.{Gives};
+ghost use Rattle.filterlang.specs.Reading.{joined_by};
 
 use crate::fault::Fault;
 use crate::token::{Comparison, EthernetAddress, Joint, Operator};

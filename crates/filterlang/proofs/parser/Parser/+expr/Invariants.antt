@@ -1,7 +1,8 @@
 use Rattle.std.proofs.Common.{◌≡◌, ◌+◌, ◌*◌, length}
 use Rattle.filterlang.specs.Phrases.{kinds}
 use Rattle.filterlang.specs.Trees.{tree_of}
-use Rattle.filterlang.specs.Reading.{chain, expr_at, term_at}
+use Rattle.filterlang.specs.Readers.{chain}
+use Rattle.filterlang.specs.Reading.{joints, expr_at, term_at}
 use Rattle.filterlang.proofs.parser.Parser.+expr.Given as goal
 
 abbrev pub decreases-expr : goal.decreases-expr
@@ -16,7 +17,7 @@ decreases-logical l = 3 * l.levels
 -- What is left, joined to what was read, is all.
 abbrev pub invariant-expr-loop-joint : goal.invariant-expr-loop-joint
 invariant-expr-loop-joint l =
-    chain (term_at l.levels) (length (kinds l.self.cursor.rest.now)) (tree_of l.expr) l.self.nearest (kinds l.self.cursor.rest.now)
+    chain joints (term_at l.levels) (length (kinds l.self.cursor.rest.now)) (tree_of l.expr) l.self.nearest (kinds l.self.cursor.rest.now)
     ≡ expr_at l.levels l.fn.self.nearest (kinds l.fn.self.cursor.rest.now)
 
 abbrev pub decreases-expr-loop-joint : goal.decreases-expr-loop-joint

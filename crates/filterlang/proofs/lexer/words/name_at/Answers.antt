@@ -1,0 +1,13 @@
+use Rattle.std.proofs.Common.{ap}
+use Rattle.filterlang.specs.Words.{names, stands_whole, entries_of}
+use Rattle.filterlang.proofs.Entries.{found_in}
+use Rattle.filterlang.proofs.Within.{name_within}
+use Rattle.filterlang.proofs.lexer.words.name_at.Goals as goal
+
+pub returns-clause-value : goal.returns-clause-value
+unfolding names
+returns-clause-value c = found_in (stands_whole c.args.text.now) c.as_slice.result.now names _ c.whole_word.ensures (ap entries_of c.as_slice.ensures)
+
+pub returns-clause-within : goal.returns-clause-within
+unfolding names
+returns-clause-within c = rw (found_in (stands_whole c.args.text.now) c.as_slice.result.now names _ c.whole_word.ensures (ap entries_of c.as_slice.ensures)) (name_within c.args.text.now)

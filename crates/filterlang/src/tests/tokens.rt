@@ -1,0 +1,413 @@
+//! Which tokens a text has, and how faults are printed.
+
+use crate::fault::Fault;
+use crate::lexer::lex;
+use crate::token::{
+    Comparison, EthernetAddress, Joint, Kind, Operator, Parts, Protocol, Side, TypeWord,
+};
+use std::test::Fail;
+
+const HOST: Kind = Kind::Type(TypeWord::Host);
+
+const EQUAL: Kind = Kind::Comparison(Comparison::Equal);
+
+const ZERO_TO_FIVE: EthernetAddress = EthernetAddress {
+    octets: [0, 1, 2, 3, 4, 5],
+};
+
+const TEXTS: [(&str, &[(Kind, usize, usize)]); 18] = [
+    ("", &[]),
+    (" \t\r\n", &[]),
+    (
+        "len-60",
+        &[
+            (Kind::Len, 0, 3),
+            (Kind::Operator(Operator::Minus), 3, 4),
+            (Kind::Number(60), 4, 6),
+        ],
+    ),
+    (
+        "ip[0:2]",
+        &[
+            (Kind::Protocol(Protocol::Ip), 0, 2),
+            (Kind::OpenBracket, 2, 3),
+            (Kind::Number(0), 3, 4),
+            (Kind::Colon, 4, 5),
+            (Kind::Number(2), 5, 6),
+            (Kind::CloseBracket, 6, 7),
+        ],
+    ),
+    (
+        " tcp\tdst\r\nport 20",
+        &[
+            (Kind::Protocol(Protocol::Tcp), 1, 4),
+            (Kind::Side(Side::Dst), 5, 8),
+            (Kind::Type(TypeWord::Port), 10, 14),
+            (Kind::Number(20), 15, 17),
+        ],
+    ),
+    ("0:1:2:3:4:5", &[(Kind::Ethernet(ZERO_TO_FIVE), 0, 11)]),
+    (
+        "a:b:c:d:e:f",
+        &[(
+            Kind::Ethernet(EthernetAddress {
+                octets: [0x0a, 0x0b, 0x0c, 0x0d, 0x0e, 0x0f],
+            }),
+            0,
+            11,
+        )],
+    ),
+    (
+        "00:1A:2b:3C:4d:fF",
+        &[(
+            Kind::Ethernet(EthernetAddress {
+                octets: [0, 0x1a, 0x2b, 0x3c, 0x4d, 0xff],
+            }),
+            0,
+            17,
+        )],
+    ),
+    (
+        "0:1:2:3:4:5:6",
+        &[
+            (Kind::Number(0), 0, 1),
+            (Kind::Colon, 1, 2),
+            (
+                Kind::Ethernet(EthernetAddress {
+                    octets: [1, 2, 3, 4, 5, 6],
+                }),
+                2,
+                13,
+            ),
+        ],
+    ),
+    (
+        "0:1:2:3:4:567",
+        &[
+            (Kind::Number(0), 0, 1),
+            (Kind::Colon, 1, 2),
+            (Kind::Number(1), 2, 3),
+            (Kind::Colon, 3, 4),
+            (Kind::Number(2), 4, 5),
+            (Kind::Colon, 5, 6),
+            (Kind::Number(3), 6, 7),
+            (Kind::Colon, 7, 8),
+            (Kind::Number(4), 8, 9),
+            (Kind::Colon, 9, 10),
+            (Kind::Number(567), 10, 13),
+        ],
+    ),
+    (
+        "1:2]",
+        &[
+            (Kind::Number(1), 0, 1),
+            (Kind::Colon, 1, 2),
+            (Kind::Number(2), 2, 3),
+            (Kind::CloseBracket, 3, 4),
+        ],
+    ),
+    (
+        "ether host 0:1:2:3:4:5)",
+        &[
+            (Kind::Protocol(Protocol::Ether), 0, 5),
+            (HOST, 6, 10),
+            (Kind::Ethernet(ZERO_TO_FIVE), 11, 22),
+            (Kind::Close, 22, 23),
+        ],
+    ),
+    (
+        "tcp-syn-1 icmp-echoreply icmp-echo-",
+        &[
+            (Kind::Named(2), 0, 7),
+            (Kind::Operator(Operator::Minus), 7, 8),
+            (Kind::Number(1), 8, 9),
+            (Kind::Named(0), 10, 24),
+            (Kind::Named(8), 25, 34),
+            (Kind::Operator(Operator::Minus), 34, 35),
+        ],
+    ),
+    (
+        "icmp-",
+        &[
+            (Kind::Protocol(Protocol::Icmp), 0, 4),
+            (Kind::Operator(Operator::Minus), 4, 5),
+        ],
+    ),
+    (
+        "tcp-ip",
+        &[
+            (Kind::Protocol(Protocol::Tcp), 0, 3),
+            (Kind::Operator(Operator::Minus), 3, 4),
+            (Kind::Protocol(Protocol::Ip), 4, 6),
+        ],
+    ),
+    (
+        "<<=>>=!==",
+        &[
+            (Kind::Operator(Operator::ShiftLeft), 0, 2),
+            (EQUAL, 2, 3),
+            (Kind::Operator(Operator::ShiftRight), 3, 5),
+            (EQUAL, 5, 6),
+            (Kind::Comparison(Comparison::NotEqual), 6, 8),
+            (EQUAL, 8, 9),
+        ],
+    ),
+    (
+        "&&&|||!tcp",
+        &[
+            (Kind::Joint(Joint::And), 0, 2),
+            (Kind::Operator(Operator::BitAnd), 2, 3),
+            (Kind::Joint(Joint::Or), 3, 5),
+            (Kind::Operator(Operator::BitOr), 5, 6),
+            (Kind::Not, 6, 7),
+            (Kind::Protocol(Protocol::Tcp), 7, 10),
+        ],
+    ),
+    (
+        "net 10.0.0.0/8",
+        &[
+            (Kind::Type(TypeWord::Net), 0, 3),
+            (
+                Kind::Dotted {
+                    address: 0x0a00_0000,
+                    parts: Parts::Four,
+                },
+                4,
+                12,
+            ),
+            (Kind::Operator(Operator::Divide), 12, 13),
+            (Kind::Number(8), 13, 14),
+        ],
+    ),
+];
+
+#[test]
+fn texts_have_these_tokens(rt: HostRuntime) -> Result<(), Fail> {
+    for (text, wanted) in TEXTS {
+        let tokens = lex(rt.alloc(), text)?;
+        assert_eq!(rt; tokens.len(), wanted.len(), "tokens of {text:?}");
+        for (token, (kind, start, end)) in tokens.iter().zip(wanted) {
+            assert_eq!(rt; token.kind, *kind, "a kind of {text:?}");
+            assert_eq!(rt; token.span.start, *start, "a start of {text:?}");
+            assert_eq!(rt; token.span.end, *end, "an end of {text:?}");
+        }
+    }
+    Ok(())
+}
+
+const SINGLE: [(&str, Kind); 84] = [
+    ("ether", Kind::Protocol(Protocol::Ether)),
+    ("ip", Kind::Protocol(Protocol::Ip)),
+    ("arp", Kind::Protocol(Protocol::Arp)),
+    ("rarp", Kind::Protocol(Protocol::Rarp)),
+    ("tcp", Kind::Protocol(Protocol::Tcp)),
+    ("udp", Kind::Protocol(Protocol::Udp)),
+    ("icmp", Kind::Protocol(Protocol::Icmp)),
+    ("sctp", Kind::Protocol(Protocol::Sctp)),
+    ("host", HOST),
+    ("net", Kind::Type(TypeWord::Net)),
+    ("port", Kind::Type(TypeWord::Port)),
+    ("portrange", Kind::PortRange),
+    ("proto", Kind::Type(TypeWord::Proto)),
+    ("src", Kind::Side(Side::Src)),
+    ("dst", Kind::Side(Side::Dst)),
+    ("and", Kind::Joint(Joint::And)),
+    ("or", Kind::Joint(Joint::Or)),
+    ("not", Kind::Not),
+    ("mask", Kind::Mask),
+    ("less", Kind::Less),
+    ("greater", Kind::Greater),
+    ("len", Kind::Len),
+    ("broadcast", Kind::Broadcast),
+    ("multicast", Kind::Multicast),
+    ("tcpflags", Kind::Named(13)),
+    ("tcp-fin", Kind::Named(1)),
+    ("tcp-syn", Kind::Named(2)),
+    ("tcp-rst", Kind::Named(4)),
+    ("tcp-push", Kind::Named(8)),
+    ("tcp-ack", Kind::Named(16)),
+    ("tcp-urg", Kind::Named(32)),
+    ("icmptype", Kind::Named(0)),
+    ("icmpcode", Kind::Named(1)),
+    ("icmp-echoreply", Kind::Named(0)),
+    ("icmp-unreach", Kind::Named(3)),
+    ("icmp-redirect", Kind::Named(5)),
+    ("icmp-echo", Kind::Named(8)),
+    ("icmp-timxceed", Kind::Named(11)),
+    ("\\tcp", Kind::Name(Protocol::Tcp)),
+    ("\\udp", Kind::Name(Protocol::Udp)),
+    ("\\icmp", Kind::Name(Protocol::Icmp)),
+    ("\\ip", Kind::Name(Protocol::Ip)),
+    ("\\arp", Kind::Name(Protocol::Arp)),
+    ("\\rarp", Kind::Name(Protocol::Rarp)),
+    ("(", Kind::Open),
+    (")", Kind::Close),
+    ("[", Kind::OpenBracket),
+    ("]", Kind::CloseBracket),
+    (":", Kind::Colon),
+    ("+", Kind::Operator(Operator::Plus)),
+    ("-", Kind::Operator(Operator::Minus)),
+    ("*", Kind::Operator(Operator::Times)),
+    ("/", Kind::Operator(Operator::Divide)),
+    ("%", Kind::Operator(Operator::Modulo)),
+    ("&", Kind::Operator(Operator::BitAnd)),
+    ("^", Kind::Operator(Operator::BitXor)),
+    ("|", Kind::Operator(Operator::BitOr)),
+    ("<<", Kind::Operator(Operator::ShiftLeft)),
+    (">>", Kind::Operator(Operator::ShiftRight)),
+    ("!", Kind::Not),
+    ("&&", Kind::Joint(Joint::And)),
+    ("||", Kind::Joint(Joint::Or)),
+    ("=", EQUAL),
+    ("==", EQUAL),
+    ("!=", Kind::Comparison(Comparison::NotEqual)),
+    ("<", Kind::Comparison(Comparison::Less)),
+    (">", Kind::Comparison(Comparison::Greater)),
+    ("<=", Kind::Comparison(Comparison::LessOrEqual)),
+    (">=", Kind::Comparison(Comparison::GreaterOrEqual)),
+    ("0", Kind::Number(0)),
+    ("10", Kind::Number(10)),
+    ("4294967295", Kind::Number(4_294_967_295)),
+    ("017", Kind::Number(15)),
+    ("00", Kind::Number(0)),
+    ("037777777777", Kind::Number(4_294_967_295)),
+    ("0x800", Kind::Number(0x800)),
+    ("0XfF", Kind::Number(255)),
+    ("0xffffffff", Kind::Number(4_294_967_295)),
+    ("0x0000000000001", Kind::Number(1)),
+    (
+        "10.1",
+        Kind::Dotted {
+            address: 0x0a01_0000,
+            parts: Parts::Two,
+        },
+    ),
+    (
+        "10.1.2",
+        Kind::Dotted {
+            address: 0x0a01_0200,
+            parts: Parts::Three,
+        },
+    ),
+    (
+        "10.1.2.3",
+        Kind::Dotted {
+            address: 0x0a01_0203,
+            parts: Parts::Four,
+        },
+    ),
+    (
+        "255.255.255.255",
+        Kind::Dotted {
+            address: 0xffff_ffff,
+            parts: Parts::Four,
+        },
+    ),
+    (
+        "010.08.000.1",
+        Kind::Dotted {
+            address: 0x0a08_0001,
+            parts: Parts::Four,
+        },
+    ),
+];
+
+#[test]
+fn each_word_and_sign_is_one_token(rt: HostRuntime) -> Result<(), Fail> {
+    for (text, kind) in SINGLE {
+        let tokens = lex(rt.alloc(), text)?;
+        assert_eq!(rt; tokens.len(), 1, "tokens of {text:?}");
+        assert_eq!(rt; tokens[0].kind, kind, "the kind of {text:?}");
+        assert_eq!(rt; tokens[0].span.end, text.len(), "the end of {text:?}");
+    }
+    Ok(())
+}
+
+const FAILING: [(&str, Fault); 34] = [
+    ("tcp é", Fault::BadByte(4)),
+    ("tcpé", Fault::BadByte(3)),
+    ("tcé", Fault::BadWord(0)),
+    ("tcép", Fault::BadWord(0)),
+    ("tcp # udp", Fault::BadByte(4)),
+    ("tcp \u{c} udp", Fault::BadByte(4)),
+    ("len $ 2", Fault::BadByte(4)),
+    ("1:2:3:4:5:6.", Fault::BadByte(11)),
+    (".5", Fault::BadByte(0)),
+    ("TCP", Fault::BadWord(0)),
+    ("tcp length", Fault::BadWord(4)),
+    ("tcp2", Fault::BadWord(0)),
+    ("tcp-synx", Fault::BadWord(4)),
+    ("\\", Fault::BadWord(0)),
+    ("tcp \\sctp", Fault::BadWord(4)),
+    ("\\tcpx", Fault::BadWord(0)),
+    ("\\ tcp", Fault::BadWord(0)),
+    ("0:1:2:3:4:5g", Fault::BadNumber(10)),
+    ("a:b:c:d:e", Fault::BadWord(0)),
+    ("08 = 8", Fault::BadNumber(0)),
+    ("4294967296", Fault::BadNumber(0)),
+    ("040000000000", Fault::BadNumber(0)),
+    ("0x", Fault::BadNumber(0)),
+    ("0x1g", Fault::BadNumber(0)),
+    ("0x100000000", Fault::BadNumber(0)),
+    ("12a", Fault::BadNumber(0)),
+    ("tcp 1.2.3.256", Fault::BadNumber(4)),
+    ("1.2.3.4.5", Fault::BadNumber(0)),
+    ("1.2.", Fault::BadNumber(0)),
+    ("1..2", Fault::BadNumber(0)),
+    ("1.0002", Fault::BadNumber(0)),
+    ("1.0xa", Fault::BadNumber(0)),
+    ("# 08 xyz", Fault::BadByte(0)),
+    ("08 #", Fault::BadNumber(0)),
+];
+
+#[test]
+fn the_first_failing_place_is_named(rt: HostRuntime) {
+    for (text, fault) in FAILING {
+        let found = lex(rt.alloc(), text).err();
+        assert_eq!(rt; found, Some(fault), "{text:?}");
+    }
+}
+
+#[test]
+fn a_text_has_8192_bytes_at_most(rt: HostRuntime) -> Result<(), Fail> {
+    let alloc = rt.alloc();
+    for sign in ["(", "1 "] {
+        let text = sign.repeat(alloc, 8192 / sign.len())?;
+        assert_eq!(rt; text.len(), 8192);
+        assert_eq!(rt;
+            lex(alloc, text.as_str())?.len(),
+            8192 / sign.len(),
+            "{sign:?}"
+        );
+    }
+    for sign in ["(", " ", "#"] {
+        let text = sign.repeat(alloc, 8193)?;
+        let found = lex(alloc, text.as_str()).err();
+        assert_eq!(rt; found, Some(Fault::TextTooLong), "{sign:?}");
+    }
+    Ok(())
+}
+
+#[test]
+fn faults_print_their_name_and_place(rt: HostRuntime) -> Result<(), Fail> {
+    let cases = [
+        (Fault::TextTooLong, "TextTooLong"),
+        (Fault::BadByte(4), "BadByte 4"),
+        (Fault::BadWord(0), "BadWord 0"),
+        (Fault::BadNumber(10), "BadNumber 10"),
+        (Fault::Syntax(6), "Syntax 6"),
+        (Fault::NoQualifier(8), "NoQualifier 8"),
+        (Fault::BadQualifier(1), "BadQualifier 1"),
+        (Fault::BadIdentifier(5), "BadIdentifier 5"),
+        (Fault::NetBits(4), "NetBits 4"),
+        (Fault::OutOfRange(12), "OutOfRange 12"),
+        (Fault::DivideByZero(3), "DivideByZero 3"),
+        (Fault::TooNested(64), "TooNested 64"),
+        (Fault::NoMemory, "NoMemory"),
+    ];
+    for (fault, text) in cases {
+        let printed = format!(in rt.alloc(); "{fault}")?;
+        assert_eq!(rt; printed.as_str(), text);
+    }
+    Ok(())
+}
