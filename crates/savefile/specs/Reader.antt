@@ -84,7 +84,7 @@ pub record WasRefused (start : Option (List ℕ)) (fault : Fault) : Type 0 where
 abbrev pub IsCause : {R : Type 0} → Option (List ℕ) → Header → List Packet → Reader R → Fault → Type 0
 IsCause start header packets r fault =
     WasRead start header packets (Some fault)
-    ⊎ ((fault ≡ Device) × NoRecord (number_in header.order) header.unit (taken_ahead r))
+    ⊎ ((fault ≡ Device) × NoRecord header.order header.unit (taken_ahead r))
     ⊎ ((fault ≡ CountFull) × (length packets ≡ 2 ^ 64 - 1))
 
 -- How a call leaves a reader, by its answer.

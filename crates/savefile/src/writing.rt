@@ -29,7 +29,7 @@ fn fill_u32<B: ByteOrder>(text: &mut [u8], at: usize, n: u32)
 
 /// The header of a savefile, with zeros in both reserved fields.
 fn file_header_in<B: ByteOrder>(unit: Unit, snap: u32) -> [u8; 24]
-    ensures { result ≡ header_text B.bytes_of unit snap }
+    ensures { (order : Order) → B.bytes_of ≡ bytes_in order → result ≡ header_text order unit snap }
 {
     let mut text = [0; 24];
     fill_u32::<B>(&mut text, 0, unit.magic());
@@ -43,7 +43,7 @@ fn file_header_in<B: ByteOrder>(unit: Unit, snap: u32) -> [u8; 24]
 }
 
 fn file_header(order: Order, unit: Unit, snap: u32) -> [u8; 24]
-    ensures { result ≡ header_text (bytes_in order) unit snap }
+    ensures { result ≡ header_text order unit snap }
 {
     match order {
         Order::Little => file_header_in::<LittleEndian>(unit, snap),
@@ -53,7 +53,7 @@ fn file_header(order: Order, unit: Unit, snap: u32) -> [u8; 24]
 
 /// The header of a record.
 fn record_header_in<B: ByteOrder>(sec: u32, fraction: u32, captured: u32, len: u32) -> [u8; 16]
-    ensures { result ≡ record_header_text B.bytes_of sec fraction captured len }
+    ensures { (order : Order) → B.bytes_of ≡ bytes_in order → result ≡ record_header_text order sec fraction captured len }
 {
     let mut text = [0; 16];
     fill_u32::<B>(&mut text, 0, sec);
@@ -64,7 +64,7 @@ fn record_header_in<B: ByteOrder>(sec: u32, fraction: u32, captured: u32, len: u
 }
 
 fn record_header(order: Order, sec: u32, fraction: u32, captured: u32, len: u32) -> [u8; 16]
-    ensures { result ≡ record_header_text (bytes_in order) sec fraction captured len }
+    ensures { result ≡ record_header_text order sec fraction captured len }
 {
     match order {
         Order::Little => record_header_in::<LittleEndian>(sec, fraction, captured, len),

@@ -23,5 +23,5 @@ returns-clause-ok g c =
       take 24 text,
       subst (λ (s : g.row.R.Denot). Consumes (g.R.Source.left c.args.ahead.now.source) (g.R.Source.left s) grows.0) (sym c.pass.ensures.source) grows.2,
       sym grows.1 ∙ sym (take-append-drop 24 text) ∙ ap (λ (t : List ℕ). take 24 text ++ t) (sym c.pass.ensures.held),
-      IsSavefile-header text h.order h.unit h.snap (subst (λ (t : List ℕ). IsHeader (number_in h.order) t h.unit h.snap) c.held.ensures.value c.in_ok-header.ensures.ok),
+      IsSavefile-header text h.order h.unit h.snap (subst (λ (t : List ℕ). IsHeader h.order t h.unit h.snap) c.held.ensures.value c.in_ok-header.ensures.ok),
     )
