@@ -6,7 +6,7 @@ use Rattle.savefile.specs.declared.fault.Fault.{Fault}
 use Rattle.savefile.specs.declared.header.Order.{Order}
 use Rattle.savefile.specs.declared.header.Unit.{Unit as TimeUnit}
 use Rattle.savefile.specs.declared.packet.Packet.{Packet}
-use Rattle.savefile.specs.Savefile.{field, first_fault, number_in, Holds, IsSavefile, IsText}
+use Rattle.savefile.specs.Savefile.{field, first_fault, Holds, IsSavefile, IsText}
 use Rattle.savefile.proofs.Headers.{one_order, one_unit, AreBytes}
 use Rattle.savefile.proofs.Records.{one_list, record_or_fault, AreRecords-push}
 

@@ -7,7 +7,7 @@ use Rattle.std.specs.List.{flat_map}
 use Rattle.savefile.specs.declared.header.Order.{Order}
 use Rattle.savefile.specs.declared.header.Unit.{Unit as TimeUnit}
 use Rattle.savefile.specs.declared.packet.Packet.{Packet}
-use Rattle.savefile.specs.Savefile.{bytes_in, encoded, header_text, record_text}
+use Rattle.savefile.specs.Savefile.{encoded, header_text, record_text}
 use Rattle.savefile.specs.Writer.{IsBeginning}
 
 -- the text of no packet is the header

@@ -8,7 +8,7 @@ use Rattle.savefile.specs.declared.header.Order.TheVariants.{Little, Big}
 use Rattle.savefile.specs.declared.header.Unit.{Unit as TimeUnit}
 use Rattle.savefile.specs.declared.header.Unit.TheVariants.{Micro, Nano}
 use Rattle.savefile.specs.declared.packet.Packet.{Packet}
-use Rattle.savefile.specs.Savefile.{captured, field, first_fault, magic_of, number_in, AreRecords, HasMagic, Holds, IsHeader, NoRecord, RefusesHeader}
+use Rattle.savefile.specs.Savefile.{captured, field, first_fault, magic_of, AreRecords, HasMagic, Holds, IsHeader, NoRecord, RefusesHeader}
 use Rattle.savefile.proofs.Records.{longest_records, record_or_fault, NoRecord-fault, NoRecord-nil}
 
 -- ---- The header

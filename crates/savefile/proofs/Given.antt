@@ -1,18 +1,17 @@
 -- What a reader has given, call after call.
-use Rattle.std.proofs.Common.{◌≡◌, ℕ, ◌+◌, ◌-◌, ◌^◌, ◌<◌, ◌≤◌, ◌⊎◌, inl, inr, List, [], ◌∷◌, ◌++◌, length, drop, Option, Some, None, IfSome, refl, sym, ap, subst, ◌∙◌, append_assoc, unwrap_or, arith, length-append}
-use Rattle.std.proofs.lemmas.List.{append-nil, nil_from_length}
+use Rattle.std.proofs.Common.{◌≡◌, ℕ, ◌+◌, inl, inr, List, [], ◌∷◌, ◌++◌, length, drop, Option, Some, None, IfSome, refl, sym, ap, subst, ◌∙◌, append_assoc, unwrap_or, arith, length-append}
+use Rattle.std.proofs.lemmas.List.{append-nil}
 use Rattle.std.specs.Io.KnownBytes.{Consumes, IsAtEnd, prepend_known}
 use Rattle.savefile.specs.declared.fault.Fault.{Fault}
-use Rattle.savefile.specs.declared.fault.Fault.TheVariants.{CountFull, Device}
 use Rattle.savefile.specs.declared.header.Header.{Header}
 use Rattle.savefile.specs.declared.header.Order.{Order}
 use Rattle.savefile.specs.declared.header.Unit.{Unit as TimeUnit}
 use Rattle.savefile.specs.declared.packet.Packet.{Packet}
 use Rattle.savefile.specs.declared.reader.Reader.{Reader}
-use Rattle.savefile.specs.declared.reader.State.TheVariants.{Reading, Broken}
+use Rattle.savefile.specs.declared.reader.State.TheVariants.{Broken}
 use Rattle.savefile.specs.Reader.{packet_lent, source_of, taken_ahead, HasGiven, IsCause, WasRead}
 use Rattle.savefile.specs.Reading.{MeetsEnd, MeetsFault, Passes, StaysAt}
-use Rattle.savefile.specs.Savefile.{first_fault, number_in, AreRecords, Holds, IsRecord, IsSavefile, NoRecord}
+use Rattle.savefile.specs.Savefile.{first_fault, AreRecords, Holds, IsRecord, IsSavefile, NoRecord}
 use Rattle.savefile.proofs.EveryText.{all_records}
 use Rattle.savefile.proofs.Pieces.{IsRecord-alone, IsSavefile-front, IsSavefile-push}
 use Rattle.savefile.proofs.Records.{longest_records, NoRecord-fault, NoRecord-nil}

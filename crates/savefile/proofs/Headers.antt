@@ -7,7 +7,7 @@ use Rattle.savefile.specs.declared.header.Order.{Order}
 use Rattle.savefile.specs.declared.header.Order.TheVariants.{Little, Big}
 use Rattle.savefile.specs.declared.header.Unit.{Unit as TimeUnit}
 use Rattle.savefile.specs.declared.header.Unit.TheVariants.{Micro, Nano}
-use Rattle.savefile.specs.Savefile.{field, magic_of, number_in, HasMagic, HasVersion, IsHeader, RefusesHeader}
+use Rattle.savefile.specs.Savefile.{field, magic_of, HasMagic, HasVersion, IsHeader, RefusesHeader}
 
 -- each item is a byte, past the end too
 abbrev pub AreBytes : List ℕ → Type 0

@@ -7,7 +7,7 @@ use Rattle.savefile.specs.declared.header.Order.{Order}
 use Rattle.savefile.specs.declared.header.Order.TheVariants.{Little, Big}
 use Rattle.savefile.specs.declared.header.Unit.{Unit as TimeUnit}
 use Rattle.savefile.specs.declared.packet.Packet.{Packet}
-use Rattle.savefile.specs.Savefile.{captured, encoded, header_text, magic_of, record_text, bytes_in, nanos_in, number_in, AreRecords, IsSavefile}
+use Rattle.savefile.specs.Savefile.{captured, encoded, header_text, magic_of, record_text, bytes_in, nanos_in, AreRecords, IsSavefile}
 use Rattle.savefile.proofs.Encoding.{encoded-push}
 
 -- a number of n bytes has n bytes

@@ -7,8 +7,9 @@ use Rattle.savefile.specs.declared.header.Order.{Order}
 use Rattle.savefile.specs.declared.header.Unit.{Unit as TimeUnit}
 use Rattle.savefile.specs.declared.packet.Packet.{Packet}
 use Rattle.savefile.specs.declared.writing.Writer.{Writer}
-use Rattle.savefile.specs.Savefile.{bytes_in, encoded, header_text, record_text}
-use Rattle.savefile.specs.Writer.{BrokeOff, HasWritten, IsBeginning, Sends, Sent}
+use Rattle.savefile.specs.Savefile.{encoded, header_text, record_text}
+use Rattle.savefile.specs.Sending.{Sends}
+use Rattle.savefile.specs.Writer.{BrokeOff, HasWritten, IsBeginning, Sent}
 use Rattle.savefile.proofs.Encoding.{encoded-nil, encoded-push, IsBeginning-front}
 
 -- nothing was sent

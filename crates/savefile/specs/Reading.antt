@@ -8,7 +8,7 @@ use Rattle.savefile.specs.declared.header.Header.{Header}
 use Rattle.savefile.specs.declared.reader.Reader.{Reader}
 use Rattle.savefile.specs.Ahead.{held_by, Grows}
 use Rattle.savefile.specs.Reader.{packet_lent, source_of, taken_ahead}
-use Rattle.savefile.specs.Savefile.{first_fault, number_in, IsRecord, IsSavefile, NoRecord}
+use Rattle.savefile.specs.Savefile.{first_fault, IsRecord, IsSavefile, NoRecord}
 
 -- a file header was passed
 abbrev pub PassesHeader : {R : Type 0} → (R → Option (List ℕ)) → Ahead R → Ahead R → Header → Type 0

@@ -20,8 +20,8 @@ pub(crate) struct RecordHeader {
 /// The bytes of a record's header.
 pub(crate) const RECORD_HEADER_LEN: usize = 16;
 
-/// The most bytes of a packet that a record may have, a bar of this project.
-pub(crate) const MOST_CAPTURED: u32 = 262_144;
+/// The most bytes of a packet that a record may have, read or written: a bar of this project.
+pub const MOST_CAPTURED: u32 = 262_144;
 
 impl RecordHeader {
     /// That of no packet.

@@ -1,8 +1,8 @@
-use Rattle.std.proofs.Common.{◌≡◌, ◌++◌, List, ℕ, inl, inr, drop, take, sym, ap, subst, ◌∙◌, take-append-drop}
+use Rattle.std.proofs.Common.{◌++◌, List, ℕ, inr, take, sym, ap, subst, ◌∙◌, take-append-drop}
 use Rattle.std.proofs.lemmas.Result.{err_from_is_err_and}
 use Rattle.std.specs.Io.KnownBytes.{Consumes}
 use Rattle.savefile.specs.Ahead.{held_by}
-use Rattle.savefile.specs.Savefile.{number_in, IsHeader}
+use Rattle.savefile.specs.Savefile.{IsHeader}
 use Rattle.savefile.proofs.Pieces.{refused_whole, IsSavefile-header}
 use Rattle.savefile.proofs.reader.read_header.Goals as goal
 

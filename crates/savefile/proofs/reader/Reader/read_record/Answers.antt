@@ -1,10 +1,8 @@
-use Rattle.std.proofs.Common.{◌≡◌, ◌++◌, ◌+◌, ◌<◌, ◌≤◌, List, ℕ, [], Some, inl, inr, length, drop, take, sym, ap, subst, ◌∙◌, arith}
-use Rattle.std.proofs.lemmas.List.{append-nil}
+use Rattle.std.proofs.Common.{◌+◌, ◌<◌, ◌≤◌, List, ℕ, inl, inr, length, sym, subst, ◌∙◌}
 use Rattle.std.proofs.lemmas.Result.{err_from_is_err_and}
 use Rattle.std.specs.Io.KnownBytes.{Consumes}
 use Rattle.savefile.specs.Ahead.{held_by, lent_by}
-use Rattle.savefile.specs.RecordHeader.{IsRecordHeader}
-use Rattle.savefile.specs.Savefile.{number_in, packet, IsRecord}
+use Rattle.savefile.specs.Savefile.{packet, IsRecord}
 use Rattle.savefile.proofs.Steps.{fault_stands, no_device_failed, record_stands, stands-no_device, torn_rest, torn_stands, Grows-trans, IsRecordHeader-grown, NoRecord-short}
 use Rattle.savefile.proofs.reader.Reader.read_record.Goals as goal
 

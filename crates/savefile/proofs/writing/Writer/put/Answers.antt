@@ -1,5 +1,5 @@
 use Rattle.std.proofs.Common.{◌≡◌, ◌++◌, refl}
-use Rattle.savefile.specs.Savefile.{bytes_in, packet, record_text}
+use Rattle.savefile.specs.Savefile.{packet, record_text}
 use Rattle.savefile.proofs.Sending.{at_err, breaks_off, on_ok, writes_packet}
 use Rattle.savefile.proofs.writing.Writer.put.Goals as goal
 
