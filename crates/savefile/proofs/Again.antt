@@ -20,7 +20,7 @@ reads_back Little n x rest h = little_number-reads_back n x rest h
 reads_back Big n x rest h = big_number-reads_back n x rest h
 
 -- a number that stands behind a front
-field_again : (order : Order) (n x k : ℕ) (front tail text : List ℕ) → text ≡ front ++ (bytes_in order n x ++ tail) → length front ≡ k → x < 256 ^ n → field (number_in order) text k n ≡ x
+field_again : (order : Order) (n x k : ℕ) (front tail text : List ℕ) → text ≡ front ++ (bytes_in order n x ++ tail) → length front ≡ k → x < 256 ^ n → field order text k n ≡ x
 field_again order n x k front tail text e len lt =
     let there : drop k text ≡ bytes_in order n x ++ tail = ap (drop k) e ∙ drop_at front (bytes_in order n x ++ tail) k len in
     ap (number_in order n) there ∙ reads_back order n x tail lt
@@ -48,7 +48,7 @@ in_units-packet Nano p =
     ap (λ (n : ℕ). packet p.sec n p.len p.bytes) e
 
 -- a record is read again, whatever follows it
-record_again : (order : Order) (unit : TimeUnit) (p : Packet) (rest : List ℕ) → IsWritable p → IsRecord (number_in order) unit (record_text (bytes_in order) unit p ++ rest) (in_units unit p) rest
+record_again : (order : Order) (unit : TimeUnit) (p : Packet) (rest : List ℕ) → IsWritable p → IsRecord order unit (record_text order unit p ++ rest) (in_units unit p) rest
 unfolding record_text
 record_again order unit p rest w =
     let x1 = p.nanos / nanos_in unit in
@@ -70,14 +70,14 @@ record_again order unit p rest w =
     let e3 : text ≡ (b0 ++ b1 ++ b2) ++ (b3 ++ (p.bytes ++ rest)) = simp append_assoc in
     let e4 : text ≡ (b0 ++ b1 ++ b2 ++ b3) ++ (p.bytes ++ rest) = simp append_assoc in
     let below : x1 < per_second unit = fraction_below unit p.nanos w.nanos in
-    let f0 : field (number_in order) text 0 4 ≡ p.sec = field_again order 4 p.sec 0 [] _ text e0 refl w.seconds in
-    let f1 : field (number_in order) text 4 4 ≡ x1 = field_again order 4 x1 4 b0 _ text e1 l0 (omega (arith, below, per_second_fits unit)) in
-    let f2 : field (number_in order) text 8 4 ≡ length p.bytes = field_again order 4 (length p.bytes) 8 (b0 ++ b1) _ text e2 s1 (omega (arith, w.bytes)) in
-    let f3 : field (number_in order) text 12 4 ≡ p.len = field_again order 4 p.len 12 (b0 ++ b1 ++ b2) _ text e3 s2 w.on_the_wire in
+    let f0 : field order text 0 4 ≡ p.sec = field_again order 4 p.sec 0 [] _ text e0 refl w.seconds in
+    let f1 : field order text 4 4 ≡ x1 = field_again order 4 x1 4 b0 _ text e1 l0 (omega (arith, below, per_second_fits unit)) in
+    let f2 : field order text 8 4 ≡ length p.bytes = field_again order 4 (length p.bytes) 8 (b0 ++ b1) _ text e2 s1 (omega (arith, w.bytes)) in
+    let f3 : field order text 12 4 ≡ p.len = field_again order 4 p.len 12 (b0 ++ b1 ++ b2) _ text e3 s2 w.on_the_wire in
     let d : drop 16 text ≡ p.bytes ++ rest = ap (drop 16) e4 ∙ drop_at (b0 ++ b1 ++ b2 ++ b3) (p.bytes ++ rest) 16 s3 in
     let size : length text ≡ 16 + (length p.bytes + length rest) = omega (arith, ap length e4, length-append (b0 ++ b1 ++ b2 ++ b3) (p.bytes ++ rest), length-append p.bytes rest) in
     let whole : length (b0 ++ b1 ++ b2 ++ b3 ++ p.bytes) ≡ 16 + length p.bytes = omega (arith, length-append (b0 ++ b1 ++ b2 ++ b3) p.bytes) in
-    let r : IsRecord (number_in order) unit text (packet p.sec (x1 * nanos_in unit) p.len p.bytes) rest = record {
+    let r : IsRecord order unit text (packet p.sec (x1 * nanos_in unit) p.len p.bytes) rest = record {
       size = omega (arith, size);
       seconds = f0;
       below_a_second = rw f1 below;
@@ -88,21 +88,21 @@ record_again order unit p rest w =
       bytes = rw (f2, d) (take_at p.bytes rest (length p.bytes) refl);
       follows = rw f2 (drop_at (b0 ++ b1 ++ b2 ++ b3 ++ p.bytes) rest (16 + length p.bytes) whole);
     } in
-    subst (λ (q : Packet). IsRecord (number_in order) unit text q rest) (in_units-packet unit p) r
+    subst (λ (q : Packet). IsRecord order unit text q rest) (in_units-packet unit p) r
 
 -- records are read again, one behind the other
 records_again : (order : Order) (unit : TimeUnit) (ps : List Packet) (rest : List ℕ) → AllByRecursion IsWritable ps
-    → AreRecords (number_in order) unit (flat_map (record_text (bytes_in order) unit) ps ++ rest) (map (in_units unit) ps) rest
+    → AreRecords order unit (flat_map (record_text order unit) ps ++ rest) (map (in_units unit) ps) rest
 records_again order unit [] rest w = refl
 records_again order unit (p ∷ ps) rest w =
-    let f = record_text (bytes_in order) unit in
+    let f = record_text order unit in
     let e : flat_map f (p ∷ ps) ++ rest ≡ f p ++ (flat_map f ps ++ rest) = ap (λ (t : List ℕ). t ++ rest) (flat_map-cons f p ps) ∙ append_assoc (f p) (flat_map f ps) rest in
     let after = flat_map f ps ++ rest in
-    (after, subst (λ (t : List ℕ). IsRecord (number_in order) unit t (in_units unit p) after) (sym e) (record_again order unit p after w.0), records_again order unit ps rest w.1)
+    (after, subst (λ (t : List ℕ). IsRecord order unit t (in_units unit p) after) (sym e) (record_again order unit p after w.0), records_again order unit ps rest w.1)
 
 -- the header is read again
 header_again : (order : Order) (unit : TimeUnit) (snap : ℕ) (rest : List ℕ) → snap < 2 ^ 32
-    → IsHeader (number_in order) (header_text (bytes_in order) unit snap ++ rest) unit snap × (drop 24 (header_text (bytes_in order) unit snap ++ rest) ≡ rest)
+    → IsHeader order (header_text order unit snap ++ rest) unit snap × (drop 24 (header_text order unit snap ++ rest) ≡ rest)
 unfolding header_text
 header_again order unit snap rest h =
     let b0 = bytes_in order 4 (magic_of unit) in
@@ -146,14 +146,14 @@ pub held_again : (order : Order) (unit : TimeUnit) (snap : ℕ) (ps : List Packe
     → Holds (encoded order unit snap ps) order unit snap (map (in_units unit) ps) None
 unfolding encoded
 held_again order unit snap ps h w =
-    let body = flat_map (record_text (bytes_in order) unit) ps in
+    let body = flat_map (record_text order unit) ps in
     let header = header_again order unit snap body h in
     let again = rw append-nil at (records_again order unit ps [] (recursion_from_All IsWritable ps w)) in
-    let records : AreRecords (number_in order) unit (drop 24 (header_text (bytes_in order) unit snap ++ body)) (map (in_units unit) ps) [] =
-    subst (λ (t : List ℕ). AreRecords (number_in order) unit t (map (in_units unit) ps) []) (sym header.1) again in
+    let records : AreRecords order unit (drop 24 (header_text order unit snap ++ body)) (map (in_units unit) ps) [] =
+    subst (λ (t : List ℕ). AreRecords order unit t (map (in_units unit) ps) []) (sym header.1) again in
     record {
       rest = [];
       reads = record { header = header.0; records = records };
-      longest = λ others after s. longest_records (number_in order) unit _ (map (in_units unit) ps) others [] after records (NoRecord-nil (number_in order) unit [] refl) s.records;
+      longest = λ others after s. longest_records order unit _ (map (in_units unit) ps) others [] after records (NoRecord-nil order unit [] refl) s.records;
       ends = refl;
     }

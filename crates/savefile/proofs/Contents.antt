@@ -6,7 +6,7 @@ use Rattle.savefile.specs.declared.fault.Fault.{Fault}
 use Rattle.savefile.specs.declared.header.Order.{Order}
 use Rattle.savefile.specs.declared.header.Unit.{Unit as TimeUnit}
 use Rattle.savefile.specs.declared.packet.Packet.{Packet}
-use Rattle.savefile.specs.Savefile.{field, first_fault, number_in, Holds, IsSavefile, IsText}
+use Rattle.savefile.specs.Savefile.{field, first_fault, Holds, IsSavefile, IsText}
 use Rattle.savefile.proofs.Headers.{one_order, one_unit, AreBytes}
 use Rattle.savefile.proofs.Records.{one_list, record_or_fault, AreRecords-push}
 
@@ -32,7 +32,7 @@ one_header text order order' unit unit' snap snap' ps qs rest rest' fits r s =
     record {
       order_is = o;
       unit_is = one_unit text order order' unit unit' bytes r.header.magic s.header.magic;
-      snap_is = sym r.header.snapshot ∙ ap (λ (x : Order). field (number_in x) text 16 4) o ∙ s.header.snapshot;
+      snap_is = sym r.header.snapshot ∙ ap (λ (x : Order). field x text 16 4) o ∙ s.header.snapshot;
     }
 
 -- a reading under the other names of its header
@@ -64,11 +64,11 @@ one_content text order order' unit unit' snap snap' ps qs f g fits h k =
     let h' = renamed text order' order unit' unit snap' snap ps h.rest back h.reads in
     let len : length ps ≡ length qs = omega (arith, h.longest qs k.rest k', k.longest ps h.rest h') in
     let same = one_list _ _ _ ps qs h.rest k.rest h.reads.records k'.records len in
-    let fault : first_fault (number_in order) unit (length ps) h.rest ≡ first_fault (number_in order') unit' (length qs) k.rest =
-    ap (λ (x : List ℕ). first_fault (number_in order) unit (length ps) x) same.1
-    ∙ ap (λ (x : ℕ). first_fault (number_in order) unit x k.rest) len
-    ∙ ap (λ (x : Order). first_fault (number_in x) unit (length qs) k.rest) e.order_is
-    ∙ ap (λ (x : TimeUnit). first_fault (number_in order') x (length qs) k.rest) e.unit_is in
+    let fault : first_fault order unit (length ps) h.rest ≡ first_fault order' unit' (length qs) k.rest =
+    ap (λ (x : List ℕ). first_fault order unit (length ps) x) same.1
+    ∙ ap (λ (x : ℕ). first_fault order unit x k.rest) len
+    ∙ ap (λ (x : Order). first_fault x unit (length qs) k.rest) e.order_is
+    ∙ ap (λ (x : TimeUnit). first_fault order' x (length qs) k.rest) e.unit_is in
     (e.order_is, e.unit_is, e.snap_is, same.0, h.ends ∙ fault ∙ sym k.ends)
 
 -- Where a savefile has no fault, nothing is left of it, and the other way about.
@@ -76,21 +76,18 @@ pub clean_end : (text : List ℕ) (order : Order) (unit : TimeUnit) (snap : ℕ)
     → Holds text order unit snap ps f → (f ≡ None) ↔ IsSavefile text order unit snap ps []
 clean_end text order unit snap ps f h = (to_the_end, no_fault)
   where
-    number : ℕ → List ℕ → ℕ
-    number = number_in order
-
     to_the_end : f ≡ None → IsSavefile text order unit snap ps []
-    to_the_end e = elim (record_or_fault number unit (length ps) h.rest) [
+    to_the_end e = elim (record_or_fault order unit (length ps) h.rest) [
       | inl nothing ↦ subst (λ (t : List ℕ). IsSavefile text order unit snap ps t) (nil_from_length h.rest nothing) h.reads
       | inr some ↦ elim some [
         | inl g ↦ let none : None ≡ Some g.0 = sym e ∙ h.ends ∙ g.1 in absurd cc
         | inr r ↦
-            let more : IsSavefile text order unit snap (ps ++ r.0 ∷ []) r.1 = record { header = h.reads.header; records = AreRecords-push number unit (drop 24 text) ps r.0 h.rest r.1 h.reads.records r.2 } in
+            let more : IsSavefile text order unit snap (ps ++ r.0 ∷ []) r.1 = record { header = h.reads.header; records = AreRecords-push order unit (drop 24 text) ps r.0 h.rest r.1 h.reads.records r.2 } in
             absurd (omega (arith, h.longest (ps ++ r.0 ∷ []) r.1 more, length-append ps (r.0 ∷ [])))
       ]
     ]
 
     no_fault : IsSavefile text order unit snap ps [] → f ≡ None
     no_fault s =
-        let left = (one_list number unit (drop 24 text) ps ps h.rest [] h.reads.records s.records refl).1 in
-        h.ends ∙ ap (λ (t : List ℕ). first_fault number unit (length ps) t) left
+        let left = (one_list order unit (drop 24 text) ps ps h.rest [] h.reads.records s.records refl).1 in
+        h.ends ∙ ap (λ (t : List ℕ). first_fault order unit (length ps) t) left

@@ -7,31 +7,31 @@ use Rattle.std.specs.List.{flat_map}
 use Rattle.savefile.specs.declared.header.Order.{Order}
 use Rattle.savefile.specs.declared.header.Unit.{Unit as TimeUnit}
 use Rattle.savefile.specs.declared.packet.Packet.{Packet}
-use Rattle.savefile.specs.Savefile.{bytes_in, encoded, header_text, record_text}
+use Rattle.savefile.specs.Savefile.{encoded, header_text, record_text}
 use Rattle.savefile.specs.Writer.{IsBeginning}
 
 -- the text of no packet is the header
-pub encoded-nil : (order : Order) (unit : TimeUnit) (snap : ℕ) → encoded order unit snap [] ≡ header_text (bytes_in order) unit snap
+pub encoded-nil : (order : Order) (unit : TimeUnit) (snap : ℕ) → encoded order unit snap [] ≡ header_text order unit snap
 unfolding encoded
-encoded-nil order unit snap = append-nil (header_text (bytes_in order) unit snap)
+encoded-nil order unit snap = append-nil (header_text order unit snap)
 
 -- the text of more packets goes on with their records
-pub encoded-append : (order : Order) (unit : TimeUnit) (snap : ℕ) (ps qs : List Packet) → encoded order unit snap (ps ++ qs) ≡ encoded order unit snap ps ++ flat_map (record_text (bytes_in order) unit) qs
+pub encoded-append : (order : Order) (unit : TimeUnit) (snap : ℕ) (ps qs : List Packet) → encoded order unit snap (ps ++ qs) ≡ encoded order unit snap ps ++ flat_map (record_text order unit) qs
 unfolding encoded
 encoded-append order unit snap ps qs =
-    let f = record_text (bytes_in order) unit in
-    let h = header_text (bytes_in order) unit snap in
+    let f = record_text order unit in
+    let h = header_text order unit snap in
     ap (λ (t : List ℕ). h ++ t) (flat_map-append f ps qs) ∙ sym (append_assoc h (flat_map f ps) (flat_map f qs))
 
 -- one packet more
-pub encoded-push : (order : Order) (unit : TimeUnit) (snap : ℕ) (ps : List Packet) (p : Packet) → encoded order unit snap (ps ++ p ∷ []) ≡ encoded order unit snap ps ++ record_text (bytes_in order) unit p
+pub encoded-push : (order : Order) (unit : TimeUnit) (snap : ℕ) (ps : List Packet) (p : Packet) → encoded order unit snap (ps ++ p ∷ []) ≡ encoded order unit snap ps ++ record_text order unit p
 encoded-push order unit snap ps p =
-    let f = record_text (bytes_in order) unit in
+    let f = record_text order unit in
     encoded-append order unit snap ps (p ∷ []) ∙ ap (λ (t : List ℕ). encoded order unit snap ps ++ t) (flat_map-cons f p [] ∙ append-nil (f p))
 
 -- the text of the first packets is the beginning of the text of all
 pub encoded-begins : (order : Order) (unit : TimeUnit) (snap : ℕ) (ps qs : List Packet) → IsBeginning (encoded order unit snap ps) (encoded order unit snap (ps ++ qs))
-encoded-begins order unit snap ps qs = (flat_map (record_text (bytes_in order) unit) qs, encoded-append order unit snap ps qs)
+encoded-begins order unit snap ps qs = (flat_map (record_text order unit) qs, encoded-append order unit snap ps qs)
 
 -- the beginning of a beginning
 pub IsBeginning-trans : (a b c : List ℕ) → IsBeginning a b → IsBeginning b c → IsBeginning a c

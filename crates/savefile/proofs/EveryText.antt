@@ -8,7 +8,7 @@ use Rattle.savefile.specs.declared.header.Order.TheVariants.{Little, Big}
 use Rattle.savefile.specs.declared.header.Unit.{Unit as TimeUnit}
 use Rattle.savefile.specs.declared.header.Unit.TheVariants.{Micro, Nano}
 use Rattle.savefile.specs.declared.packet.Packet.{Packet}
-use Rattle.savefile.specs.Savefile.{captured, field, first_fault, magic_of, number_in, AreRecords, HasMagic, Holds, IsHeader, NoRecord, RefusesHeader}
+use Rattle.savefile.specs.Savefile.{captured, field, first_fault, magic_of, AreRecords, HasMagic, Holds, IsHeader, NoRecord, RefusesHeader}
 use Rattle.savefile.proofs.Records.{longest_records, record_or_fault, NoRecord-fault, NoRecord-nil}
 
 -- ---- The header
@@ -24,8 +24,8 @@ none_of_four text a b c d Big Nano = d
 -- a text has a magic number or none
 magic_or_none : (text : List ℕ) → ((order : Order) × (unit : TimeUnit) × HasMagic text order unit) ⊎ ((order : Order) (unit : TimeUnit) → HasMagic text order unit → ⊥)
 magic_or_none text =
-    let little = field (number_in Little) text 0 4 in
-    let big = field (number_in Big) text 0 4 in
+    let little = field Little text 0 4 in
+    let big = field Big text 0 4 in
     elim (cases_eq little (magic_of Micro)) [
       | inl is ↦ inl (Little, Micro, is)
       | inr a ↦ elim (cases_eq little (magic_of Nano)) [
@@ -42,7 +42,7 @@ magic_or_none text =
 
 -- the header that a text begins with
 abbrev HasHeader : List ℕ → Type 0
-HasHeader text = (order : Order) × (unit : TimeUnit) × IsHeader (number_in order) text unit (field (number_in order) text 16 4)
+HasHeader text = (order : Order) × (unit : TimeUnit) × IsHeader order text unit (field order text 16 4)
 
 -- the fault for which its header is refused
 abbrev IsRefused : List ℕ → Type 0
@@ -50,11 +50,11 @@ IsRefused text = (fault : Fault) × RefusesHeader text fault
 
 -- behind a magic number there is a header, or a fault
 behind_magic : (text : List ℕ) (order : Order) (unit : TimeUnit) → 24 ≤ length text → HasMagic text order unit → IsRefused text ⊎ HasHeader text
-behind_magic text order unit size magic = elim (cases_eq (field (number_in order) text 4 2) 2) [
+behind_magic text order unit size magic = elim (cases_eq (field order text 4 2) 2) [
   | inr wrong ↦ inl (Version, (size, order, unit, magic, λ version. wrong version.0))
-  | inl major ↦ elim (cases_eq (field (number_in order) text 6 2) 4) [
+  | inl major ↦ elim (cases_eq (field order text 6 2) 4) [
     | inr wrong ↦ inl (Version, (size, order, unit, magic, λ version. wrong version.1))
-    | inl minor ↦ elim (cases_eq (field (number_in order) text 20 4) 1) [
+    | inl minor ↦ elim (cases_eq (field order text 20 4) 1) [
       | inr wrong ↦ inl (LinkType, (size, order, unit, magic, (major, minor), wrong))
       | inl link ↦ inr (order, unit, record { size = size; magic = magic; major = major; minor = minor; snapshot = refl; link_type = link })
     ]
@@ -74,33 +74,32 @@ header_or_refusal text = elim (cases_lt (length text) 24) [
 -- ---- The records
 
 -- a text of at most n bytes is records up to a rest that begins with none
-pub all_records : (number : ℕ → List ℕ → ℕ) (unit : TimeUnit) (n : ℕ) (text : List ℕ) → length text ≤ n
-    → (ps : List Packet) × (rest : List ℕ) × AreRecords number unit text ps rest × NoRecord number unit rest
-all_records number unit zero text le = ([], text, refl, NoRecord-nil number unit text (omega (arith, le)))
-all_records number unit (suc n) text le = elim (record_or_fault number unit 0 text) [
-  | inl nothing ↦ ([], text, refl, NoRecord-nil number unit text nothing)
+pub all_records : (order : Order) (unit : TimeUnit) (n : ℕ) (text : List ℕ) → length text ≤ n
+    → (ps : List Packet) × (rest : List ℕ) × AreRecords order unit text ps rest × NoRecord order unit rest
+all_records order unit zero text le = ([], text, refl, NoRecord-nil order unit text (omega (arith, le)))
+all_records order unit (suc n) text le = elim (record_or_fault order unit 0 text) [
+  | inl nothing ↦ ([], text, refl, NoRecord-nil order unit text nothing)
   | inr some ↦ elim some [
-    | inl f ↦ ([], text, refl, NoRecord-fault number unit 0 text f.0 f.1)
+    | inl f ↦ ([], text, refl, NoRecord-fault order unit 0 text f.0 f.1)
     | inr r ↦
         let size : 16 ≤ length text = r.2.size in
-        let shorter : length r.1 ≤ n = omega (arith, ap length r.2.follows, length-drop (16 + captured number text) text, size, le) in
-        let more = all_records number unit n r.1 shorter in
+        let shorter : length r.1 ≤ n = omega (arith, ap length r.2.follows, length-drop (16 + captured order text) text, size, le) in
+        let more = all_records order unit n r.1 shorter in
         (r.0 ∷ more.0, more.1, (r.1, r.2, more.2), more.3)
   ]
 ]
 
 -- behind a header there is what the savefile holds
-held : (text : List ℕ) (order : Order) (unit : TimeUnit) (snap : ℕ) → IsHeader (number_in order) text unit snap
+held : (text : List ℕ) (order : Order) (unit : TimeUnit) (snap : ℕ) → IsHeader order text unit snap
     → (packets : List Packet) × (end : Option Fault) × Holds text order unit snap packets end
 held text order unit snap header =
-    let number = number_in order in
-    let all = all_records number unit (length (drop 24 text)) (drop 24 text) (omega arith) in (
+    let all = all_records order unit (length (drop 24 text)) (drop 24 text) (omega arith) in (
       all.0,
-      first_fault number unit (length all.0) all.1,
+      first_fault order unit (length all.0) all.1,
       record {
         rest = all.1;
         reads = record { header = header; records = all.2 };
-        longest = λ others after s. longest_records number unit (drop 24 text) all.0 others all.1 after all.2 all.3 s.records;
+        longest = λ others after s. longest_records order unit (drop 24 text) all.0 others all.1 after all.2 all.3 s.records;
         ends = refl;
       },
     )
@@ -111,7 +110,7 @@ pub refused_or_held : (text : List ℕ) → ((fault : Fault) × RefusesHeader te
 refused_or_held text = elim (header_or_refusal text) [
   | inl refused ↦ inl refused
   | inr h ↦
-      let snap = field (number_in h.0) text 16 4 in
+      let snap = field h.0 text 16 4 in
       let all = held text h.0 h.1 snap h.2 in
       inr (h.0, h.1, snap, all.0, all.1, all.2)
 ]

@@ -1,20 +1,19 @@
 -- What a reader has given, call after call.
-use Rattle.std.proofs.Common.{◌≡◌, ℕ, ◌+◌, ◌-◌, ◌^◌, ◌<◌, ◌≤◌, ◌⊎◌, inl, inr, List, [], ◌∷◌, ◌++◌, length, drop, Option, Some, None, IfSome, refl, sym, ap, subst, ◌∙◌, append_assoc, unwrap_or, arith, length-append}
-use Rattle.std.proofs.lemmas.List.{append-nil, nil_from_length}
+use Rattle.std.proofs.Common.{◌≡◌, ℕ, ◌+◌, inl, inr, List, [], ◌∷◌, ◌++◌, length, drop, Option, Some, None, IfSome, refl, sym, ap, subst, ◌∙◌, append_assoc, unwrap_or, arith, length-append}
+use Rattle.std.proofs.lemmas.List.{append-nil}
 use Rattle.std.specs.Io.KnownBytes.{Consumes, IsAtEnd, prepend_known}
 use Rattle.savefile.specs.declared.fault.Fault.{Fault}
-use Rattle.savefile.specs.declared.fault.Fault.TheVariants.{CountFull, Device}
 use Rattle.savefile.specs.declared.header.Header.{Header}
 use Rattle.savefile.specs.declared.header.Order.{Order}
 use Rattle.savefile.specs.declared.header.Unit.{Unit as TimeUnit}
 use Rattle.savefile.specs.declared.packet.Packet.{Packet}
 use Rattle.savefile.specs.declared.reader.Reader.{Reader}
-use Rattle.savefile.specs.declared.reader.State.TheVariants.{Reading, Broken}
+use Rattle.savefile.specs.declared.reader.State.TheVariants.{Broken}
 use Rattle.savefile.specs.Reader.{packet_lent, source_of, taken_ahead, HasGiven, IsCause, WasRead}
 use Rattle.savefile.specs.Reading.{MeetsEnd, MeetsFault, Passes, StaysAt}
-use Rattle.savefile.specs.Savefile.{first_fault, number_in, AreRecords, Holds, IsRecord, IsSavefile, NoRecord}
+use Rattle.savefile.specs.Savefile.{first_fault, AreRecords, Holds, IsRecord, IsSavefile, NoRecord}
 use Rattle.savefile.proofs.EveryText.{all_records}
-use Rattle.savefile.proofs.Pieces.{number_in-first, IsRecord-alone, IsSavefile-front, IsSavefile-push}
+use Rattle.savefile.proofs.Pieces.{IsRecord-alone, IsSavefile-front, IsSavefile-push}
 use Rattle.savefile.proofs.Records.{longest_records, NoRecord-fault, NoRecord-nil}
 
 -- what was passed, and then more of it
@@ -42,13 +41,13 @@ at_end (Some bytes) e = e
 
 -- a savefile of these packets, and behind it no record
 holds_before : (text rest : List ℕ) (h : Header) (ps : List Packet) (fault : Option Fault) → IsSavefile text h.order h.unit h.snap ps []
-    → NoRecord (number_in h.order) h.unit rest → fault ≡ first_fault (number_in h.order) h.unit (length ps) rest → Holds (text ++ rest) h.order h.unit h.snap ps fault
+    → NoRecord h.order h.unit rest → fault ≡ first_fault h.order h.unit (length ps) rest → Holds (text ++ rest) h.order h.unit h.snap ps fault
 holds_before text rest h ps fault s none ends =
     let whole = IsSavefile-front text rest h.order h.unit h.snap ps [] s in
     record {
       rest = rest;
       reads = whole;
-      longest = λ others after o. longest_records (number_in h.order) h.unit (drop 24 (text ++ rest)) ps others rest after whole.records none o.records;
+      longest = λ others after o. longest_records h.order h.unit (drop 24 (text ++ rest)) ps others rest after whole.records none o.records;
       ends = ends;
     }
 
@@ -57,8 +56,8 @@ pub gives_packet : {R : Type 0} (left : R → Option (List ℕ)) (start : Option
     → HasGiven left start h ps a → StaysAt a b → Passes left a b → HasGiven left start h (ps ++ packet_lent b ∷ []) (record b { given = b.given + 1 })
 gives_packet left start h ps a b g stays passes =
     let header : a.header ≡ h = g.told in
-    let r = subst (λ (x : Header). IsRecord (number_in x.order) x.unit (taken_ahead a ++ passes.0) (packet_lent b) (taken_ahead b)) header passes.2 in
-    let alone = IsRecord-alone (number_in h.order) (number_in-first h.order) h.unit (taken_ahead a ++ passes.0) (packet_lent b) (taken_ahead b) r in
+    let r = subst (λ (x : Header). IsRecord x.order x.unit (taken_ahead a ++ passes.0) (packet_lent b) (taken_ahead b)) header passes.2 in
+    let alone = IsRecord-alone h.order h.unit (taken_ahead a ++ passes.0) (packet_lent b) (taken_ahead b) r in
     record {
       text = g.text ++ alone.0;
       reads = IsSavefile-push g.text alone.0 [] h.order h.unit h.snap ps (packet_lent b) g.reads alone.2;
@@ -79,7 +78,7 @@ gives_all left start h ps a b g (grows, nothing, end) =
     record {
       text = g.text ++ rest;
       told = whole_text start (left (source_of b)) (taken_ahead b) g.text [] all (at_end (left (source_of b)) end);
-      holds = holds_before g.text rest h ps None g.reads (NoRecord-nil (number_in h.order) h.unit rest (ap length none)) (ap (first_fault (number_in h.order) h.unit (length ps)) (sym none));
+      holds = holds_before g.text rest h ps None g.reads (NoRecord-nil h.order h.unit rest (ap length none)) (ap (first_fault h.order h.unit (length ps)) (sym none));
     }
 
 -- a fault, and why
@@ -88,17 +87,17 @@ pub gives_fault : {R : Type 0} (left : R → Option (List ℕ)) (start : Option 
 gives_fault left start h ps a b fault g (grows, why) =
     let header : a.header ≡ h = g.told in
     elim why [
-      | inl broke ↦ inr (inl (broke.0, subst (λ (x : Header). NoRecord (number_in x.order) x.unit (taken_ahead b)) header broke.1))
+      | inl broke ↦ inr (inl (broke.0, subst (λ (x : Header). NoRecord x.order x.unit (taken_ahead b)) header broke.1))
       | inr stands ↦
           let rest = taken_ahead b ++ stands.0 in
           let passed = passed_more start (left (source_of a)) (left (source_of b)) (taken_ahead a) (taken_ahead b) g.text grows.0 [] g.passed grows.2 (sym grows.1) in
           let all = rw append-nil at passed in
-          let ends : first_fault (number_in h.order) h.unit (length ps) rest ≡ Some fault =
-          ap (λ (n : ℕ). first_fault (number_in h.order) h.unit n rest) (sym g.counts) ∙ subst (λ (x : Header). first_fault (number_in x.order) x.unit a.given rest ≡ Some fault) header stands.2 in
+          let ends : first_fault h.order h.unit (length ps) rest ≡ Some fault =
+          ap (λ (n : ℕ). first_fault h.order h.unit n rest) (sym g.counts) ∙ subst (λ (x : Header). first_fault x.order x.unit a.given rest ≡ Some fault) header stands.2 in
           inl (record {
             text = g.text ++ rest;
             told = whole_text start (left (source_of b)) (taken_ahead b) g.text stands.0 all stands.1;
-            holds = holds_before g.text rest h ps (Some fault) g.reads (NoRecord-fault (number_in h.order) h.unit (length ps) rest fault ends) (sym ends);
+            holds = holds_before g.text rest h ps (Some fault) g.reads (NoRecord-fault h.order h.unit (length ps) rest fault ends) (sym ends);
           })
     ]
 
@@ -124,28 +123,28 @@ left_told None = tt
 left_told (Some bytes) = refl
 
 -- records, and records behind them
-AreRecords-append : (number : ℕ → List ℕ → ℕ) (unit : TimeUnit) (text mid rest : List ℕ) (ps qs : List Packet) → AreRecords number unit text ps mid → AreRecords number unit mid qs rest → AreRecords number unit text (ps ++ qs) rest
-AreRecords-append number unit text mid rest [] qs e f = subst (λ (t : List ℕ). AreRecords number unit t qs rest) (sym e) f
-AreRecords-append number unit text mid rest (p ∷ ps) qs e f = (e.0, e.1, AreRecords-append number unit e.0 mid rest ps qs e.2 f)
+AreRecords-append : (order : Order) (unit : TimeUnit) (text mid rest : List ℕ) (ps qs : List Packet) → AreRecords order unit text ps mid → AreRecords order unit mid qs rest → AreRecords order unit text (ps ++ qs) rest
+AreRecords-append order unit text mid rest [] qs e f = subst (λ (t : List ℕ). AreRecords order unit t qs rest) (sym e) f
+AreRecords-append order unit text mid rest (p ∷ ps) qs e f = (e.0, e.1, AreRecords-append order unit e.0 mid rest ps qs e.2 f)
 
 -- what was given so far begins what the text holds
 pub begins_all : {R : Type 0} (left : R → Option (List ℕ)) (start : Option (List ℕ)) (h : Header) (ps : List Packet) (r : Reader R)
     → HasGiven left start h ps r → (more : List Packet) × (fault : Option Fault) × WasRead start h (ps ++ more) fault
 begins_all left start h ps r g =
-    let number = number_in h.order in
+    let order = h.order in
     let rest = taken_ahead r ++ unwrap_or (left (source_of r)) [] in
-    let all = all_records number h.unit (length rest) rest (omega arith) in
+    let all = all_records order h.unit (length rest) rest (omega arith) in
     let front = IsSavefile-front g.text rest h.order h.unit h.snap ps [] g.reads in
-    let records = AreRecords-append number h.unit (drop 24 (g.text ++ rest)) rest all.1 ps all.0 front.records all.2 in (
+    let records = AreRecords-append order h.unit (drop 24 (g.text ++ rest)) rest all.1 ps all.0 front.records all.2 in (
       all.0,
-      first_fault number h.unit (length (ps ++ all.0)) all.1,
+      first_fault order h.unit (length (ps ++ all.0)) all.1,
       record {
         text = g.text ++ rest;
         told = whole_text start (left (source_of r)) (taken_ahead r) g.text (unwrap_or (left (source_of r)) []) g.passed (left_told (left (source_of r)));
         holds = record {
           rest = all.1;
           reads = record { header = front.header; records = records };
-          longest = λ others after o. longest_records number h.unit (drop 24 (g.text ++ rest)) (ps ++ all.0) others all.1 after records all.3 o.records;
+          longest = λ others after o. longest_records order h.unit (drop 24 (g.text ++ rest)) (ps ++ all.0) others all.1 after records all.3 o.records;
           ends = refl;
         };
       },

@@ -7,7 +7,7 @@ use Rattle.savefile.specs.declared.header.Order.{Order}
 use Rattle.savefile.specs.declared.header.Order.TheVariants.{Little, Big}
 use Rattle.savefile.specs.declared.header.Unit.{Unit as TimeUnit}
 use Rattle.savefile.specs.declared.header.Unit.TheVariants.{Micro, Nano}
-use Rattle.savefile.specs.Savefile.{field, magic_of, number_in, HasMagic, HasVersion, IsHeader, RefusesHeader}
+use Rattle.savefile.specs.Savefile.{field, magic_of, HasMagic, HasVersion, IsHeader, RefusesHeader}
 
 -- each item is a byte, past the end too
 abbrev pub AreBytes : List ℕ → Type 0
@@ -40,21 +40,21 @@ one_magic Nano Micro e = absurd (omega (arith, e))
 -- and the unit
 pub one_unit : (text : List ℕ) (o p : Order) (u v : TimeUnit) → AreBytes text → HasMagic text o u → HasMagic text p v → u ≡ v
 one_unit text o p u v fits e f =
-    one_magic u v (sym e ∙ ap (λ (x : Order). field (number_in x) text 0 4) (one_order text o p u v fits e f) ∙ f)
+    one_magic u v (sym e ∙ ap (λ (x : Order). field x text 0 4) (one_order text o p u v fits e f) ∙ f)
 
 -- what a header is not refused for
-not_refused_by_version : (text : List ℕ) (o : Order) (u : TimeUnit) → AreBytes text → HasMagic text o u → HasVersion (number_in o) text
-    → (p : Order) (v : TimeUnit) → HasMagic text p v → (HasVersion (number_in p) text → ⊥) → ⊥
+not_refused_by_version : (text : List ℕ) (o : Order) (u : TimeUnit) → AreBytes text → HasMagic text o u → HasVersion o text
+    → (p : Order) (v : TimeUnit) → HasMagic text p v → (HasVersion p text → ⊥) → ⊥
 not_refused_by_version text o u fits magic version p v m never =
-    never (subst (λ (x : Order). HasVersion (number_in x) text) (one_order text o p u v fits magic m) version)
+    never (subst (λ (x : Order). HasVersion x text) (one_order text o p u v fits magic m) version)
 
 -- a refused header is none
-pub refused_is_none : (text : List ℕ) (fault : Fault) (o : Order) (u : TimeUnit) (snap : ℕ) → AreBytes text → RefusesHeader text fault → IsHeader (number_in o) text u snap → ⊥
+pub refused_is_none : (text : List ℕ) (fault : Fault) (o : Order) (u : TimeUnit) (snap : ℕ) → AreBytes text → RefusesHeader text fault → IsHeader o text u snap → ⊥
 refused_is_none text ShortHeader o u snap fits r h = let size : 24 ≤ length text = h.size in omega (arith, r, size)
 refused_is_none text NotSavefile o u snap fits r h = r.1 o u h.magic
 refused_is_none text Version o u snap fits r h = not_refused_by_version text o u fits h.magic (h.major, h.minor) r.1 r.2 r.3 r.4
 refused_is_none text LinkType o u snap fits r h =
-    r.5 (ap (λ (x : Order). field (number_in x) text 20 4) (one_order text r.1 o r.2 u fits r.3 h.magic) ∙ h.link_type)
+    r.5 (ap (λ (x : Order). field x text 20 4) (one_order text r.1 o r.2 u fits r.3 h.magic) ∙ h.link_type)
 refused_is_none text _ o u snap fits r h = r
 
 -- ---- One fault
@@ -76,7 +76,7 @@ only_not_savefile text LinkType le never r = absurd (never r.1 r.2 r.3)
 only_not_savefile text _ le never r = absurd r
 
 -- one of another version for that alone
-only_version : (text : List ℕ) (fault : Fault) (o : Order) (u : TimeUnit) → AreBytes text → 24 ≤ length text → HasMagic text o u → (HasVersion (number_in o) text → ⊥) → RefusesHeader text fault → fault ≡ Version
+only_version : (text : List ℕ) (fault : Fault) (o : Order) (u : TimeUnit) → AreBytes text → 24 ≤ length text → HasMagic text o u → (HasVersion o text → ⊥) → RefusesHeader text fault → fault ≡ Version
 only_version text ShortHeader o u fits le m never r = absurd (omega (arith, le, r))
 only_version text NotSavefile o u fits le m never r = absurd (r.1 o u m)
 only_version text Version o u fits le m never r = refl
@@ -84,7 +84,7 @@ only_version text LinkType o u fits le m never r = absurd (not_refused_by_versio
 only_version text _ o u fits le m never r = absurd r
 
 -- and one of another link type for that alone
-only_link_type : (text : List ℕ) (fault : Fault) (o : Order) (u : TimeUnit) → AreBytes text → 24 ≤ length text → HasMagic text o u → HasVersion (number_in o) text → RefusesHeader text fault → fault ≡ LinkType
+only_link_type : (text : List ℕ) (fault : Fault) (o : Order) (u : TimeUnit) → AreBytes text → 24 ≤ length text → HasMagic text o u → HasVersion o text → RefusesHeader text fault → fault ≡ LinkType
 only_link_type text ShortHeader o u fits le m ver r = absurd (omega (arith, le, r))
 only_link_type text NotSavefile o u fits le m ver r = absurd (r.1 o u m)
 only_link_type text Version o u fits le m ver r = absurd (not_refused_by_version text o u fits m ver r.1 r.2 r.3 r.4)

@@ -37,31 +37,27 @@ known_rest (Some xs) P (inr e) = ([], e, inr refl)
 -- ---- A text and what follows it
 
 -- the number in the first bytes of a text is the same whatever follows it
-abbrev pub ReadsFirst : (ℕ → List ℕ → ℕ) → Type 0
-ReadsFirst number = (n : ℕ) (xs ys : List ℕ) → n ≤ length xs → number n (xs ++ ys) ≡ number n xs
-
--- both orders read so
-pub number_in-first : (order : Order) → ReadsFirst (number_in order)
+number_in-first : (order : Order) (n : ℕ) (xs ys : List ℕ) → n ≤ length xs → number_in order n (xs ++ ys) ≡ number_in order n xs
 number_in-first Little n xs ys h = little_from-append n xs ys h
 number_in-first Big n xs ys h = big_from-append n xs ys h
 
 -- a field inside a text is the same whatever follows it
-pub field-front : (number : ℕ → List ℕ → ℕ) → ReadsFirst number → (xs ys : List ℕ) (offset n : ℕ) → offset + n ≤ length xs → field number (xs ++ ys) offset n ≡ field number xs offset n
-field-front number first xs ys offset n h =
-    ap (number n) (drop-append-le offset xs ys (omega arith)) ∙ first n (drop offset xs) ys (omega (arith, length-drop offset xs))
+pub field-front : (order : Order) → (xs ys : List ℕ) (offset n : ℕ) → offset + n ≤ length xs → field order (xs ++ ys) offset n ≡ field order xs offset n
+field-front order xs ys offset n h =
+    ap (number_in order n) (drop-append-le offset xs ys (omega arith)) ∙ number_in-first order n (drop offset xs) ys (omega (arith, length-drop offset xs))
 
 -- a record stands in a text whatever follows it
-pub IsRecord-front : (number : ℕ → List ℕ → ℕ) → ReadsFirst number → (unit : TimeUnit) (xs ys : List ℕ) (p : Packet) (after : List ℕ)
-    → IsRecord number unit xs p after → IsRecord number unit (xs ++ ys) p (after ++ ys)
-IsRecord-front number first unit xs ys p after r =
+pub IsRecord-front : (order : Order) → (unit : TimeUnit) (xs ys : List ℕ) (p : Packet) (after : List ℕ)
+    → IsRecord order unit xs p after → IsRecord order unit (xs ++ ys) p (after ++ ys)
+IsRecord-front order unit xs ys p after r =
     let size : 16 ≤ length xs = r.size in
-    let whole : 16 + captured number xs ≤ length xs = r.whole in
+    let whole : 16 + captured order xs ≤ length xs = r.whole in
     let all : length (xs ++ ys) ≡ length xs + length ys = length-append xs ys in
-    let sec : field number (xs ++ ys) 0 4 ≡ field number xs 0 4 = field-front number first xs ys 0 4 (omega arith) in
-    let part : field number (xs ++ ys) 4 4 ≡ field number xs 4 4 = field-front number first xs ys 4 4 (omega arith) in
-    let many : field number (xs ++ ys) 8 4 ≡ field number xs 8 4 = field-front number first xs ys 8 4 (omega arith) in
-    let wire : field number (xs ++ ys) 12 4 ≡ field number xs 12 4 = field-front number first xs ys 12 4 (omega arith) in
-    let c = captured number xs in
+    let sec : field order (xs ++ ys) 0 4 ≡ field order xs 0 4 = field-front order xs ys 0 4 (omega arith) in
+    let part : field order (xs ++ ys) 4 4 ≡ field order xs 4 4 = field-front order xs ys 4 4 (omega arith) in
+    let many : field order (xs ++ ys) 8 4 ≡ field order xs 8 4 = field-front order xs ys 8 4 (omega arith) in
+    let wire : field order (xs ++ ys) 12 4 ≡ field order xs 12 4 = field-front order xs ys 12 4 (omega arith) in
+    let c = captured order xs in
     let inside : c ≤ length (drop 16 xs) = omega (arith, length-drop 16 xs) in
     record {
       size = omega arith;
@@ -76,19 +72,19 @@ IsRecord-front number first unit xs ys p after r =
     }
 
 -- and without what follows it
-pub IsRecord-alone : (number : ℕ → List ℕ → ℕ) → ReadsFirst number → (unit : TimeUnit) (text : List ℕ) (p : Packet) (after : List ℕ)
-    → IsRecord number unit text p after → (alone : List ℕ) × (text ≡ alone ++ after) × IsRecord number unit alone p []
-IsRecord-alone number first unit text p after r =
+pub IsRecord-alone : (order : Order) → (unit : TimeUnit) (text : List ℕ) (p : Packet) (after : List ℕ)
+    → IsRecord order unit text p after → (alone : List ℕ) × (text ≡ alone ++ after) × IsRecord order unit alone p []
+IsRecord-alone order unit text p after r =
     let size : 16 ≤ length text = r.size in
-    let whole : 16 + captured number text ≤ length text = r.whole in
-    let c = captured number text in
+    let whole : 16 + captured order text ≤ length text = r.whole in
+    let c = captured order text in
     let xs = take (16 + c) text in
     let ys = drop (16 + c) text in
     let is : xs ++ ys ≡ text = take-append-drop (16 + c) text in
     let len : length xs ≡ 16 + c = length-take-le (16 + c) text whole in
-    let same : (offset : ℕ) → offset + 4 ≤ 16 → field number xs offset 4 ≡ field number text offset 4 =
-    λ offset h. sym (field-front number first xs ys offset 4 (omega (arith, len, h))) ∙ ap (λ (t : List ℕ). field number t offset 4) is in
-    let many : captured number xs ≡ c = same 8 (omega arith) in
+    let same : (offset : ℕ) → offset + 4 ≤ 16 → field order xs offset 4 ≡ field order text offset 4 =
+    λ offset h. sym (field-front order xs ys offset 4 (omega (arith, len, h))) ∙ ap (λ (t : List ℕ). field order t offset 4) is in
+    let many : captured order xs ≡ c = same 8 (omega arith) in
     let inside : drop 16 xs ≡ take c (drop 16 text) = drop-take 16 c text in (
       xs,
       sym is ∙ ap (λ (t : List ℕ). xs ++ t) r.follows,
@@ -101,22 +97,22 @@ IsRecord-alone number first unit text p after r =
         on_the_wire = same 12 (omega arith) ∙ r.on_the_wire;
         whole = omega (arith, len, many);
         bytes = ap (λ (n : ℕ). take n (drop 16 xs)) many ∙ ap (take c) inside ∙ take-take c c (drop 16 text) (omega arith) ∙ r.bytes;
-        follows = nil_from_length (drop (16 + captured number xs) xs) (omega (arith, length-drop (16 + captured number xs) xs, len, many));
+        follows = nil_from_length (drop (16 + captured order xs) xs) (omega (arith, length-drop (16 + captured order xs) xs, len, many));
       },
     )
 
 -- records stand in a text whatever follows it
-pub AreRecords-front : (number : ℕ → List ℕ → ℕ) → ReadsFirst number → (unit : TimeUnit) (xs ys : List ℕ) (ps : List Packet) (rest : List ℕ)
-    → AreRecords number unit xs ps rest → AreRecords number unit (xs ++ ys) ps (rest ++ ys)
-AreRecords-front number first unit xs ys [] rest e = ap (λ (t : List ℕ). t ++ ys) e
-AreRecords-front number first unit xs ys (p ∷ ps) rest e =
-    (e.0 ++ ys, IsRecord-front number first unit xs ys p e.0 e.1, AreRecords-front number first unit e.0 ys ps rest e.2)
+pub AreRecords-front : (order : Order) → (unit : TimeUnit) (xs ys : List ℕ) (ps : List Packet) (rest : List ℕ)
+    → AreRecords order unit xs ps rest → AreRecords order unit (xs ++ ys) ps (rest ++ ys)
+AreRecords-front order unit xs ys [] rest e = ap (λ (t : List ℕ). t ++ ys) e
+AreRecords-front order unit xs ys (p ∷ ps) rest e =
+    (e.0 ++ ys, IsRecord-front order unit xs ys p e.0 e.1, AreRecords-front order unit e.0 ys ps rest e.2)
 
 -- a file header stands in a text whatever follows it
-pub IsHeader-front : (number : ℕ → List ℕ → ℕ) → ReadsFirst number → (xs ys : List ℕ) (unit : TimeUnit) (snap : ℕ) → IsHeader number xs unit snap → IsHeader number (xs ++ ys) unit snap
-IsHeader-front number first xs ys unit snap h =
+pub IsHeader-front : (order : Order) → (xs ys : List ℕ) (unit : TimeUnit) (snap : ℕ) → IsHeader order xs unit snap → IsHeader order (xs ++ ys) unit snap
+IsHeader-front order xs ys unit snap h =
     let size : 24 ≤ length xs = h.size in
-    let same : (offset n : ℕ) → offset + n ≤ 24 → field number (xs ++ ys) offset n ≡ field number xs offset n = λ offset n k. field-front number first xs ys offset n (omega (arith, size, k)) in
+    let same : (offset n : ℕ) → offset + n ≤ 24 → field order (xs ++ ys) offset n ≡ field order xs offset n = λ offset n k. field-front order xs ys offset n (omega (arith, size, k)) in
     record {
       size = omega (arith, length-append xs ys);
       magic = same 0 4 (omega arith) ∙ h.magic;
@@ -130,26 +126,26 @@ IsHeader-front number first xs ys unit snap h =
 pub IsSavefile-front : (xs ys : List ℕ) (order : Order) (unit : TimeUnit) (snap : ℕ) (ps : List Packet) (rest : List ℕ)
     → IsSavefile xs order unit snap ps rest → IsSavefile (xs ++ ys) order unit snap ps (rest ++ ys)
 IsSavefile-front xs ys order unit snap ps rest s = record {
-  header = IsHeader-front (number_in order) (number_in-first order) xs ys unit snap s.header;
-  records = subst (λ (t : List ℕ). AreRecords (number_in order) unit t ps (rest ++ ys)) (sym (drop-append-le 24 xs ys s.header.size))
-      (AreRecords-front (number_in order) (number_in-first order) unit (drop 24 xs) ys ps rest s.records);
+  header = IsHeader-front order xs ys unit snap s.header;
+  records = subst (λ (t : List ℕ). AreRecords order unit t ps (rest ++ ys)) (sym (drop-append-le 24 xs ys s.header.size))
+      (AreRecords-front order unit (drop 24 xs) ys ps rest s.records);
 }
 
 -- one record more
 pub IsSavefile-push : (text more after : List ℕ) (order : Order) (unit : TimeUnit) (snap : ℕ) (ps : List Packet) (p : Packet)
-    → IsSavefile text order unit snap ps [] → IsRecord (number_in order) unit more p after → IsSavefile (text ++ more) order unit snap (ps ++ p ∷ []) after
+    → IsSavefile text order unit snap ps [] → IsRecord order unit more p after → IsSavefile (text ++ more) order unit snap (ps ++ p ∷ []) after
 IsSavefile-push text more after order unit snap ps p s r =
     let before = IsSavefile-front text more order unit snap ps [] s in
-    record { header = before.header; records = AreRecords-push (number_in order) unit (drop 24 (text ++ more)) ps p more after before.records r }
+    record { header = before.header; records = AreRecords-push order unit (drop 24 (text ++ more)) ps p more after before.records r }
 
 -- a file header stands in its 24 bytes alone
-pub IsHeader-alone : (number : ℕ → List ℕ → ℕ) → ReadsFirst number → (text : List ℕ) (unit : TimeUnit) (snap : ℕ) → IsHeader number text unit snap → IsHeader number (take 24 text) unit snap
-IsHeader-alone number first text unit snap h =
+pub IsHeader-alone : (order : Order) → (text : List ℕ) (unit : TimeUnit) (snap : ℕ) → IsHeader order text unit snap → IsHeader order (take 24 text) unit snap
+IsHeader-alone order text unit snap h =
     let size : 24 ≤ length text = h.size in
     let len : length (take 24 text) ≡ 24 = length-take-le 24 text size in
     let is : take 24 text ++ drop 24 text ≡ text = take-append-drop 24 text in
-    let same : (offset n : ℕ) → offset + n ≤ 24 → field number (take 24 text) offset n ≡ field number text offset n =
-    λ offset n k. sym (field-front number first (take 24 text) (drop 24 text) offset n (omega (arith, len, k))) ∙ ap (λ (t : List ℕ). field number t offset n) is in
+    let same : (offset n : ℕ) → offset + n ≤ 24 → field order (take 24 text) offset n ≡ field order text offset n =
+    λ offset n k. sym (field-front order (take 24 text) (drop 24 text) offset n (omega (arith, len, k))) ∙ ap (λ (t : List ℕ). field order t offset n) is in
     record {
       size = omega (arith, len);
       magic = same 0 4 (omega arith) ∙ h.magic;
@@ -160,9 +156,9 @@ IsHeader-alone number first text unit snap h =
     }
 
 -- and is a savefile without packets
-pub IsSavefile-header : (text : List ℕ) (order : Order) (unit : TimeUnit) (snap : ℕ) → IsHeader (number_in order) text unit snap → IsSavefile (take 24 text) order unit snap [] []
+pub IsSavefile-header : (text : List ℕ) (order : Order) (unit : TimeUnit) (snap : ℕ) → IsHeader order text unit snap → IsSavefile (take 24 text) order unit snap [] []
 IsSavefile-header text order unit snap h = record {
-  header = IsHeader-alone (number_in order) (number_in-first order) text unit snap h;
+  header = IsHeader-alone order text unit snap h;
   records = nil_from_length (drop 24 (take 24 text)) (omega (arith, length-drop 24 (take 24 text), length-take 24 text));
 }
 
@@ -171,13 +167,13 @@ refused_front : (text rest : List ℕ) (fault : Fault) → 24 ≤ length text �
 refused_front text rest ShortHeader size r = absurd (omega (arith, r, size))
 refused_front text rest NotSavefile size r = (
   omega (arith, size, length-append text rest),
-  λ order unit magic. r.1 order unit (sym (field-front (number_in order) (number_in-first order) text rest 0 4 (omega (arith, size))) ∙ magic),
+  λ order unit magic. r.1 order unit (sym (field-front order text rest 0 4 (omega (arith, size))) ∙ magic),
 )
 refused_front text rest Version size (long, order, unit, magic, wrong) =
-    let same : (offset n : ℕ) → offset + n ≤ 24 → field (number_in order) (text ++ rest) offset n ≡ field (number_in order) text offset n = λ offset n k. field-front (number_in order) (number_in-first order) text rest offset n (omega (arith, size, k)) in
+    let same : (offset n : ℕ) → offset + n ≤ 24 → field order (text ++ rest) offset n ≡ field order text offset n = λ offset n k. field-front order text rest offset n (omega (arith, size, k)) in
     (omega (arith, size, length-append text rest), order, unit, same 0 4 (omega arith) ∙ magic, λ v. wrong (sym (same 4 2 (omega arith)) ∙ v.0, sym (same 6 2 (omega arith)) ∙ v.1))
 refused_front text rest LinkType size (long, order, unit, magic, version, wrong) =
-    let same : (offset n : ℕ) → offset + n ≤ 24 → field (number_in order) (text ++ rest) offset n ≡ field (number_in order) text offset n = λ offset n k. field-front (number_in order) (number_in-first order) text rest offset n (omega (arith, size, k)) in
+    let same : (offset n : ℕ) → offset + n ≤ 24 → field order (text ++ rest) offset n ≡ field order text offset n = λ offset n k. field-front order text rest offset n (omega (arith, size, k)) in
     (omega (arith, size, length-append text rest), order, unit, same 0 4 (omega arith) ∙ magic, (same 4 2 (omega arith) ∙ version.0, same 6 2 (omega arith) ∙ version.1), λ e. wrong (sym (same 20 4 (omega arith)) ∙ e))
 refused_front text rest (TornRecord place) size r = absurd r
 refused_front text rest (BadFraction place) size r = absurd r

@@ -7,8 +7,9 @@ use Rattle.savefile.specs.declared.header.Order.{Order}
 use Rattle.savefile.specs.declared.header.Unit.{Unit as TimeUnit}
 use Rattle.savefile.specs.declared.packet.Packet.{Packet}
 use Rattle.savefile.specs.declared.writing.Writer.{Writer}
-use Rattle.savefile.specs.Savefile.{bytes_in, encoded, header_text, record_text}
-use Rattle.savefile.specs.Writer.{BrokeOff, HasWritten, IsBeginning, Sends, Sent}
+use Rattle.savefile.specs.Savefile.{encoded, header_text, record_text}
+use Rattle.savefile.specs.Sending.{Sends}
+use Rattle.savefile.specs.Writer.{BrokeOff, HasWritten, IsBeginning, Sent}
 use Rattle.savefile.proofs.Encoding.{encoded-nil, encoded-push, IsBeginning-front}
 
 -- nothing was sent
@@ -43,14 +44,14 @@ Sent-Sends taken start text more old new p q = record {
 }
 
 -- the record of a packet in the form that a writer has
-same_record : {W : Type 0} (w : Writer W) (order : Order) (unit : TimeUnit) (p : Packet) → w.order ≡ order → w.unit ≡ unit → record_text (bytes_in w.order) w.unit p ≡ record_text (bytes_in order) unit p
-same_record w order unit p o u = ap (λ (x : Order). record_text (bytes_in x) w.unit p) o ∙ ap (λ (x : TimeUnit). record_text (bytes_in order) x p) u
+same_record : {W : Type 0} (w : Writer W) (order : Order) (unit : TimeUnit) (p : Packet) → w.order ≡ order → w.unit ≡ unit → record_text w.order w.unit p ≡ record_text order unit p
+same_record w order unit p o u = ap (λ (x : Order). record_text x w.unit p) o ∙ ap (λ (x : TimeUnit). record_text order x p) u
 
 -- a packet was written whole
 pub writes_packet : {W : Type 0} (taken : W → Option (List ℕ)) (start : Option (List ℕ)) (order : Order) (unit : TimeUnit) (snap : ℕ) (ps : List Packet) (p : Packet) (old new : Writer W)
-    → HasWritten taken start order unit snap ps old → Sends taken old new (record_text (bytes_in old.order) old.unit p) → new.failed ≡ old.failed → HasWritten taken start order unit snap (ps ++ p ∷ []) new
+    → HasWritten taken start order unit snap ps old → Sends taken old new (record_text old.order old.unit p) → new.failed ≡ old.failed → HasWritten taken start order unit snap (ps ++ p ∷ []) new
 writes_packet taken start order unit snap ps p old new h s f = record {
-  sent = rw encoded-push (Sent-Sends taken start (encoded order unit snap ps) (record_text (bytes_in order) unit p) old new h.sent (subst (λ (t : List ℕ). Sends taken old new t) (same_record old order unit p h.in_order h.in_unit) s));
+  sent = rw encoded-push (Sent-Sends taken start (encoded order unit snap ps) (record_text order unit p) old new h.sent (subst (λ (t : List ℕ). Sends taken old new t) (same_record old order unit p h.in_order h.in_unit) s));
   works = f ∙ h.works;
   in_order = s.in_order ∙ h.in_order;
   in_unit = s.in_unit ∙ h.in_unit;
@@ -58,17 +59,17 @@ writes_packet taken start order unit snap ps p old new h s f = record {
 
 -- a packet was written in part
 pub breaks_off : {W : Type 0} (taken : W → Option (List ℕ)) (start : Option (List ℕ)) (order : Order) (unit : TimeUnit) (snap : ℕ) (ps : List Packet) (p : Packet) (part : List ℕ) (old new : Writer W)
-    → HasWritten taken start order unit snap ps old → IsBeginning part (record_text (bytes_in old.order) old.unit p) → Sends taken old new part → new.failed ≡ true → BrokeOff taken start order unit snap (ps ++ p ∷ []) new
+    → HasWritten taken start order unit snap ps old → IsBeginning part (record_text old.order old.unit p) → Sends taken old new part → new.failed ≡ true → BrokeOff taken start order unit snap (ps ++ p ∷ []) new
 breaks_off taken start order unit snap ps p part old new h b s f = record {
   text = encoded order unit snap ps ++ part;
-  begins = rw encoded-push (IsBeginning-front (encoded order unit snap ps) part (record_text (bytes_in order) unit p) (subst (λ (t : List ℕ). IsBeginning part t) (same_record old order unit p h.in_order h.in_unit) b));
+  begins = rw encoded-push (IsBeginning-front (encoded order unit snap ps) part (record_text order unit p) (subst (λ (t : List ℕ). IsBeginning part t) (same_record old order unit p h.in_order h.in_unit) b));
   sent = Sent-Sends taken start (encoded order unit snap ps) part old new h.sent s;
   failed = f;
 }
 
 -- the header was written whole, or in part
 pub opened : {W : Type 0} (taken : W → Option (List ℕ)) (order : Order) (unit : TimeUnit) (snap : ℕ) (old new : Writer W)
-    → old.sent ≡ 0 → old.failed ≡ false → old.order ≡ order → old.unit ≡ unit → Sends taken old new (header_text (bytes_in order) unit snap) → new.failed ≡ old.failed
+    → old.sent ≡ 0 → old.failed ≡ false → old.order ≡ order → old.unit ≡ unit → Sends taken old new (header_text order unit snap) → new.failed ≡ old.failed
     → HasWritten taken (taken old.sink) order unit snap [] new
 opened taken order unit snap old new z f o u s g = record {
   sent = rw encoded-nil (record { bytes = s.bytes; count = omega (arith, s.count) });
@@ -79,7 +80,7 @@ opened taken order unit snap old new z f o u s g = record {
 
 -- the same, where a beginning of it went out
 pub opens_in_part : {W : Type 0} (taken : W → Option (List ℕ)) (order : Order) (unit : TimeUnit) (snap : ℕ) (part : List ℕ) (old new : Writer W)
-    → old.sent ≡ 0 → IsBeginning part (header_text (bytes_in order) unit snap) → Sends taken old new part → new.failed ≡ true
+    → old.sent ≡ 0 → IsBeginning part (header_text order unit snap) → Sends taken old new part → new.failed ≡ true
     → BrokeOff taken (taken old.sink) order unit snap [] new
 opens_in_part taken order unit snap part old new z b s f = record {
   text = part;

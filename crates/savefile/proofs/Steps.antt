@@ -1,9 +1,10 @@
 -- The steps of a reader.
-use Rattle.std.proofs.Common.{◌≡◌, ◌≢◌, ◌↔◌, ℕ, ◌+◌, ◌*◌, ◌<◌, ◌≤◌, ◌⊎◌, inl, inr, Bool, true, false, cond, List, [], ◌∷◌, ◌++◌, length, take, drop, Option, Some, None, IfSome, Result, Ok, Err, nat_lt, nat_le, ◌==◌, refl, sym, ap, subst, ◌∙◌, append_assoc, arith, length-append}
+use Rattle.std.proofs.Common.{◌≡◌, ◌≢◌, ◌↔◌, ℕ, ◌+◌, ◌*◌, ◌<◌, ◌≤◌, ◌⊎◌, inl, inr, Bool, true, false, cond, List, [], ◌++◌, length, take, drop, Option, Some, None, IfSome, Result, Err, nat_lt, nat_le, ◌==◌, refl, sym, ap, subst, ◌∙◌, append_assoc, arith, length-append}
 use Rattle.std.proofs.KnownBytes.{Consumes-trans}
 use Rattle.std.proofs.lemmas.Bool.{le-ltb, lt-leb, lt-ltb, ne_eqb}
 use Rattle.std.proofs.lemmas.List.{append-nil}
 use Rattle.std.specs.Io.KnownBytes.{IsAtEnd}
+use Rattle.savefile.specs.declared.header.Order.{Order}
 use Rattle.savefile.specs.declared.ahead.Ahead.{Ahead}
 use Rattle.savefile.specs.declared.fault.Fault.{Fault}
 use Rattle.savefile.specs.declared.fault.Fault.TheVariants.{TornRecord, BadFraction, TooLong, Device}
@@ -12,7 +13,7 @@ use Rattle.savefile.specs.declared.record.RecordHeader.{RecordHeader}
 use Rattle.savefile.specs.Ahead.{held_by, Grows}
 use Rattle.savefile.specs.RecordHeader.{IsRecordHeader}
 use Rattle.savefile.specs.Savefile.{captured, field, first_fault, fraction, nanos_in, packet, per_second, IsRecord, NoRecord}
-use Rattle.savefile.proofs.Pieces.{field-front, known_rest, ReadsFirst}
+use Rattle.savefile.proofs.Pieces.{field-front, known_rest}
 
 -- more bytes were taken, and then more again
 pub Grows-trans : {R : Type 0} (left : R → Option (List ℕ)) (a b c : Ahead R) → Grows left a b → Grows left b c → Grows left a c
@@ -23,12 +24,12 @@ Grows-trans left a b c p q = (
 )
 
 -- a fault in what was read stands in the whole text
-pub fault_stands : (number : ℕ → List ℕ → ℕ) (unit : TimeUnit) (place : ℕ) (text held : List ℕ) (left : Option (List ℕ)) (fault : Fault) → text ≡ held
-    → (16 ≤ length held) ⊎ IsAtEnd left → ((more : List ℕ) → (16 ≤ length text) ⊎ (more ≡ []) → first_fault number unit place (text ++ more) ≡ Some fault)
-    → (rest : List ℕ) × IfSome left (λ bytes. bytes ≡ rest) × (first_fault number unit place (held ++ rest) ≡ Some fault)
-fault_stands number unit place text held left fault is enough h =
+pub fault_stands : (order : Order) (unit : TimeUnit) (place : ℕ) (text held : List ℕ) (left : Option (List ℕ)) (fault : Fault) → text ≡ held
+    → (16 ≤ length held) ⊎ IsAtEnd left → ((more : List ℕ) → (16 ≤ length text) ⊎ (more ≡ []) → first_fault order unit place (text ++ more) ≡ Some fault)
+    → (rest : List ℕ) × IfSome left (λ bytes. bytes ≡ rest) × (first_fault order unit place (held ++ rest) ≡ Some fault)
+fault_stands order unit place text held left fault is enough h =
     let known = known_rest left (16 ≤ length held) enough in
-    (known.0, known.1, subst (λ (t : List ℕ). first_fault number unit place (t ++ known.0) ≡ Some fault) is (h known.0 (subst (λ (t : List ℕ). (16 ≤ length t) ⊎ (known.0 ≡ [])) (sym is) known.2)))
+    (known.0, known.1, subst (λ (t : List ℕ). first_fault order unit place (t ++ known.0) ≡ Some fault) is (h known.0 (subst (λ (t : List ℕ). (16 ≤ length t) ⊎ (known.0 ≡ [])) (sym is) known.2)))
 
 -- ---- Faults of a text are no faults of a device
 
@@ -43,15 +44,15 @@ no_device false false false false true place e = cc
 no_device false false false false false place e = cc
 
 -- the first fault of a rest is none of a device
-first_fault-no_device : (number : ℕ → List ℕ → ℕ) (unit : TimeUnit) (place : ℕ) (rest : List ℕ) → first_fault number unit place rest ≡ Some Device → ⊥
-first_fault-no_device number unit place rest =
-    no_device (length rest == 0) (nat_lt (length rest) 16) (nat_le (per_second unit) (fraction number rest)) (nat_lt 262144 (captured number rest))
-    (nat_lt (length rest) (16 + captured number rest)) place
+first_fault-no_device : (order : Order) (unit : TimeUnit) (place : ℕ) (rest : List ℕ) → first_fault order unit place rest ≡ Some Device → ⊥
+first_fault-no_device order unit place rest =
+    no_device (length rest == 0) (nat_lt (length rest) 16) (nat_le (per_second unit) (fraction order rest)) (nat_lt 262144 (captured order rest))
+    (nat_lt (length rest) (16 + captured order rest)) place
 
 -- a fault that stands in a text is none
-pub stands-no_device : (number : ℕ → List ℕ → ℕ) (unit : TimeUnit) (place : ℕ) (held : List ℕ) (left : Option (List ℕ)) (fault : Fault)
-    → ((rest : List ℕ) × IfSome left (λ bytes. bytes ≡ rest) × (first_fault number unit place (held ++ rest) ≡ Some fault)) → fault ≡ Device → ⊥
-stands-no_device number unit place held left fault s device = first_fault-no_device number unit place (held ++ s.0) (s.2 ∙ ap Some device)
+pub stands-no_device : (order : Order) (unit : TimeUnit) (place : ℕ) (held : List ℕ) (left : Option (List ℕ)) (fault : Fault)
+    → ((rest : List ℕ) × IfSome left (λ bytes. bytes ≡ rest) × (first_fault order unit place (held ++ rest) ≡ Some fault)) → fault ≡ Device → ⊥
+stands-no_device order unit place held left fault s device = first_fault-no_device order unit place (held ++ s.0) (s.2 ∙ ap Some device)
 
 -- an answer that is no fault of a device, where none failed
 pub no_device_failed : {T : Type 0} (result : Result T Fault) (fault : Fault) (old new : ℕ) → result ≡ Err fault → (fault ≡ Device → ⊥) → new ≡ old → (result ≡ Err Device) ↔ (new ≢ old)
@@ -60,10 +61,10 @@ no_device_failed result fault old new is other same = (λ e. let device : fault 
 -- ---- The header of a record
 
 -- it stands in a text whatever follows it
-pub IsRecordHeader-front : (number : ℕ → List ℕ → ℕ) → ReadsFirst number → (unit : TimeUnit) (text more : List ℕ) (h : RecordHeader) → IsRecordHeader number unit text h → IsRecordHeader number unit (text ++ more) h
-IsRecordHeader-front number first unit text more h r =
+pub IsRecordHeader-front : (order : Order) → (unit : TimeUnit) (text more : List ℕ) (h : RecordHeader) → IsRecordHeader order unit text h → IsRecordHeader order unit (text ++ more) h
+IsRecordHeader-front order unit text more h r =
     let size : 16 ≤ length text = r.size in
-    let same : (offset : ℕ) → offset + 4 ≤ 16 → field number (text ++ more) offset 4 ≡ field number text offset 4 = λ offset k. field-front number first text more offset 4 (omega (arith, size, k)) in
+    let same : (offset : ℕ) → offset + 4 ≤ 16 → field order (text ++ more) offset 4 ≡ field order text offset 4 = λ offset k. field-front order text more offset 4 (omega (arith, size, k)) in
     record {
       size = omega (arith, length-append text more);
       seconds = same 0 (omega arith) ∙ r.seconds;
@@ -78,44 +79,44 @@ IsRecordHeader-front number first unit text more h r =
     }
 
 -- it stands in what is held after more was read
-pub IsRecordHeader-grown : {R : Type 0} (left : R → Option (List ℕ)) (number : ℕ → List ℕ → ℕ) → ReadsFirst number → (unit : TimeUnit) (text : List ℕ) (h : RecordHeader) (old new : Ahead R)
-    → IsRecordHeader number unit text h → text ≡ held_by old → Grows left old new → IsRecordHeader number unit (held_by new) h
-IsRecordHeader-grown left number first unit text h old new r is grows =
-    subst (λ (t : List ℕ). IsRecordHeader number unit t h) (ap (λ (t : List ℕ). t ++ grows.0) is ∙ sym grows.1) (IsRecordHeader-front number first unit text grows.0 h r)
+pub IsRecordHeader-grown : {R : Type 0} (left : R → Option (List ℕ)) (order : Order) → (unit : TimeUnit) (text : List ℕ) (h : RecordHeader) (old new : Ahead R)
+    → IsRecordHeader order unit text h → text ≡ held_by old → Grows left old new → IsRecordHeader order unit (held_by new) h
+IsRecordHeader-grown left order unit text h old new r is grows =
+    subst (λ (t : List ℕ). IsRecordHeader order unit t h) (ap (λ (t : List ℕ). t ++ grows.0) is ∙ sym grows.1) (IsRecordHeader-front order unit text grows.0 h r)
 
 -- where its bytes do not follow there is no record
-pub NoRecord-short : (number : ℕ → List ℕ → ℕ) (unit : TimeUnit) (text : List ℕ) (h : RecordHeader) → IsRecordHeader number unit text h → length text < 16 + h.captured → NoRecord number unit text
-NoRecord-short number unit text h r short = λ p after s. let whole : 16 + captured number text ≤ length text = s.whole in let is : captured number text ≡ h.captured = r.captured_is in omega arith
+pub NoRecord-short : (order : Order) (unit : TimeUnit) (text : List ℕ) (h : RecordHeader) → IsRecordHeader order unit text h → length text < 16 + h.captured → NoRecord order unit text
+NoRecord-short order unit text h r short = λ p after s. let whole : 16 + captured order text ≤ length text = s.whole in let is : captured order text ≡ h.captured = r.captured_is in omega arith
 
 -- and no record stands where there is no whole header
-pub NoRecord-no_header : (number : ℕ → List ℕ → ℕ) (unit : TimeUnit) (text : List ℕ) → length text < 16 → NoRecord number unit text
-NoRecord-no_header number unit text short = λ p after s. let size : 16 ≤ length text = s.size in omega arith
+pub NoRecord-no_header : (order : Order) (unit : TimeUnit) (text : List ℕ) → length text < 16 → NoRecord order unit text
+NoRecord-no_header order unit text short = λ p after s. let size : 16 ≤ length text = s.size in omega arith
 
 -- the record is torn
-pub torn_stands : (number : ℕ → List ℕ → ℕ) (unit : TimeUnit) (place : ℕ) (text : List ℕ) (h : RecordHeader) → IsRecordHeader number unit text h → length text < 16 + h.captured
-    → first_fault number unit place text ≡ Some (TornRecord place)
-torn_stands number unit place text h r short =
-    let many : captured number text ≡ h.captured = r.captured_is in
+pub torn_stands : (order : Order) (unit : TimeUnit) (place : ℕ) (text : List ℕ) (h : RecordHeader) → IsRecordHeader order unit text h → length text < 16 + h.captured
+    → first_fault order unit place text ≡ Some (TornRecord place)
+torn_stands order unit place text h r short =
+    let many : captured order text ≡ h.captured = r.captured_is in
     let some : (length text == 0) ≡ false = let size : 16 ≤ length text = r.size in ne_eqb (length text) 0 (λ z. omega arith) in
     let header : nat_lt (length text) 16 ≡ false = le-ltb (length text) 16 r.size in
-    let below : nat_le (per_second unit) (fraction number text) ≡ false = lt-leb (per_second unit) (fraction number text) r.below_a_second in
-    let fits : nat_lt 262144 (captured number text) ≡ false = le-ltb 262144 (captured number text) (subst (λ (n : ℕ). n ≤ 262144) (sym many) r.short) in
-    let torn : nat_lt (length text) (16 + captured number text) ≡ true = lt-ltb (length text) (16 + captured number text) (subst (λ (n : ℕ). length text < 16 + n) (sym many) short) in
+    let below : nat_le (per_second unit) (fraction order text) ≡ false = lt-leb (per_second unit) (fraction order text) r.below_a_second in
+    let fits : nat_lt 262144 (captured order text) ≡ false = le-ltb 262144 (captured order text) (subst (λ (n : ℕ). n ≤ 262144) (sym many) r.short) in
+    let torn : nat_lt (length text) (16 + captured order text) ≡ true = lt-ltb (length text) (16 + captured order text) (subst (λ (n : ℕ). length text < 16 + n) (sym many) short) in
     rw (some, header, below, fits, torn) refl
 
 -- and nothing is left behind it
-pub torn_rest : (number : ℕ → List ℕ → ℕ) (unit : TimeUnit) (place : ℕ) (text : List ℕ) (left : Option (List ℕ)) (want : ℕ) → (want ≤ length text) ⊎ IsAtEnd left → length text < want
-    → first_fault number unit place text ≡ Some (TornRecord place) → (rest : List ℕ) × IfSome left (λ bytes. bytes ≡ rest) × (first_fault number unit place (text ++ rest) ≡ Some (TornRecord place))
-torn_rest number unit place text left want enough short torn =
+pub torn_rest : (order : Order) (unit : TimeUnit) (place : ℕ) (text : List ℕ) (left : Option (List ℕ)) (want : ℕ) → (want ≤ length text) ⊎ IsAtEnd left → length text < want
+    → first_fault order unit place text ≡ Some (TornRecord place) → (rest : List ℕ) × IfSome left (λ bytes. bytes ≡ rest) × (first_fault order unit place (text ++ rest) ≡ Some (TornRecord place))
+torn_rest order unit place text left want enough short torn =
     let known = known_rest left (want ≤ length text) enough in
     let nothing : known.0 ≡ [] = elim known.2 [ inl h ↦ absurd (omega (arith, h, short)) | inr e ↦ e ] in
     (known.0, known.1, rw (nothing, append-nil) torn)
 
 -- where its bytes follow the record stands
-pub record_stands : (number : ℕ → List ℕ → ℕ) (unit : TimeUnit) (text lent after : List ℕ) (h : RecordHeader) → IsRecordHeader number unit text h → 16 + h.captured ≤ length text
-    → lent ≡ take h.captured (drop 16 text) → after ≡ drop (16 + h.captured) text → IsRecord number unit text (packet h.sec h.nanos h.len lent) after
-record_stands number unit text lent after h r whole is follows =
-    let many : captured number text ≡ h.captured = r.captured_is in
+pub record_stands : (order : Order) (unit : TimeUnit) (text lent after : List ℕ) (h : RecordHeader) → IsRecordHeader order unit text h → 16 + h.captured ≤ length text
+    → lent ≡ take h.captured (drop 16 text) → after ≡ drop (16 + h.captured) text → IsRecord order unit text (packet h.sec h.nanos h.len lent) after
+record_stands order unit text lent after h r whole is follows =
+    let many : captured order text ≡ h.captured = r.captured_is in
     record {
       size = r.size;
       seconds = r.seconds;

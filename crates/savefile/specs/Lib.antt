@@ -1,7 +1,9 @@
 pub mod Ahead
 pub mod Device
+pub mod Laws
 pub mod Reader
 pub mod Reading
 pub mod RecordHeader
 pub mod Savefile
+pub mod Sending
 pub mod Writer

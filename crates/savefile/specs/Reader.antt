@@ -1,15 +1,14 @@
 -- What a reader has read of its source.
-use Rattle.std.specs.Prelude.{◌≡◌, ℕ, ◌+◌, ◌-◌, ◌^◌, ◌<◌, ◌⊎◌, Bool, true, false, List, [], ◌∷◌, ◌++◌, length, Option, Some, None, IfSome, MatchOption, Result, Ok, Err}
+use Rattle.std.specs.Prelude.{◌≡◌, ℕ, ◌+◌, ◌-◌, ◌^◌, ◌<◌, ◌⊎◌, Bool, true, false, List, [], ◌++◌, length, Option, Some, IfSome, MatchOption, Result, Ok, Err}
 use Rattle.std.specs.Io.KnownBytes.{Consumes, prepend_known}
 use Rattle.savefile.specs.declared.fault.Fault.{Fault}
 use Rattle.savefile.specs.declared.fault.Fault.TheVariants.{CountFull, Device, Failed}
 use Rattle.savefile.specs.declared.header.Header.{Header}
 use Rattle.savefile.specs.declared.packet.Packet.{Packet}
 use Rattle.savefile.specs.declared.reader.Reader.{Reader}
-use Rattle.savefile.specs.declared.reader.State.{State}
 use Rattle.savefile.specs.declared.reader.State.TheVariants.{Reading, Ended, Broken}
 use Rattle.savefile.specs.Ahead.{held_by, lent_by}
-use Rattle.savefile.specs.Savefile.{number_in, packet, Holds, IsSavefile, NoRecord, RefusesHeader}
+use Rattle.savefile.specs.Savefile.{packet, Holds, IsSavefile, NoRecord, RefusesHeader}
 
 -- ---- A reader as its caller sees it
 
@@ -84,7 +83,7 @@ pub record WasRefused (start : Option (List ℕ)) (fault : Fault) : Type 0 where
 abbrev pub IsCause : {R : Type 0} → Option (List ℕ) → Header → List Packet → Reader R → Fault → Type 0
 IsCause start header packets r fault =
     WasRead start header packets (Some fault)
-    ⊎ ((fault ≡ Device) × NoRecord (number_in header.order) header.unit (taken_ahead r))
+    ⊎ ((fault ≡ Device) × NoRecord header.order header.unit (taken_ahead r))
     ⊎ ((fault ≡ CountFull) × (length packets ≡ 2 ^ 64 - 1))
 
 -- How a call leaves a reader, by its answer.

@@ -8,7 +8,7 @@ use Rattle.savefile.specs.declared.header.Header.{Header}
 use Rattle.savefile.specs.declared.reader.Reader.{Reader}
 use Rattle.savefile.specs.Ahead.{held_by, Grows}
 use Rattle.savefile.specs.Reader.{packet_lent, source_of, taken_ahead}
-use Rattle.savefile.specs.Savefile.{first_fault, number_in, IsRecord, IsSavefile, NoRecord}
+use Rattle.savefile.specs.Savefile.{first_fault, IsRecord, IsSavefile, NoRecord}
 
 -- a file header was passed
 abbrev pub PassesHeader : {R : Type 0} → (R → Option (List ℕ)) → Ahead R → Ahead R → Header → Type 0
@@ -20,7 +20,7 @@ PassesHeader left old new header =
 abbrev pub Passes : {R : Type 0} → (R → Option (List ℕ)) → Reader R → Reader R → Type 0
 Passes left old new =
     (more : List ℕ) × Consumes (left (source_of old)) (left (source_of new)) more
-    × IsRecord (number_in old.header.order) old.header.unit (taken_ahead old ++ more) (packet_lent new) (taken_ahead new)
+    × IsRecord old.header.order old.header.unit (taken_ahead old ++ more) (packet_lent new) (taken_ahead new)
 
 -- nothing is left
 abbrev pub MeetsEnd : {R : Type 0} → (R → Option (List ℕ)) → Reader R → Reader R → Type 0
@@ -30,9 +30,9 @@ MeetsEnd left old new = Grows left old.ahead new.ahead × (taken_ahead new ≡ [
 abbrev pub MeetsFault : {R : Type 0} → (R → Option (List ℕ)) → Reader R → Reader R → Fault → Type 0
 MeetsFault left old new fault =
     Grows left old.ahead new.ahead
-    × (((fault ≡ Device) × NoRecord (number_in old.header.order) old.header.unit (taken_ahead new))
+    × (((fault ≡ Device) × NoRecord old.header.order old.header.unit (taken_ahead new))
     ⊎ ((rest : List ℕ) × IfSome (left (source_of new)) (λ bytes. bytes ≡ rest)
-    × (first_fault (number_in old.header.order) old.header.unit old.given (taken_ahead new ++ rest) ≡ Some fault)))
+    × (first_fault old.header.order old.header.unit old.given (taken_ahead new ++ rest) ≡ Some fault)))
 
 -- the header and the count are as they were
 abbrev pub StaysAt : {R : Type 0} → Reader R → Reader R → Type 0

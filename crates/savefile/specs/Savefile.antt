@@ -31,8 +31,8 @@ bytes_in Little n x = little_bytes n x
 bytes_in Big n x = big_bytes n x
 
 -- the number of n bytes that stands in a text at an offset
-abbrev pub field : (ℕ → List ℕ → ℕ) → List ℕ → ℕ → ℕ → ℕ
-field number text offset n = number n (drop offset text)
+abbrev pub field : Order → List ℕ → ℕ → ℕ → ℕ
+field order text offset n = number_in order n (drop offset text)
 
 -- ---- Time
 
@@ -55,83 +55,76 @@ nanos_in Nano = 1
 
 -- The header of 24 bytes: the magic number, the version 2.4, two reserved fields of any content,
 -- the snapshot length, and the link type of Ethernet.
-pub record IsHeader (number : ℕ → List ℕ → ℕ) (text : List ℕ) (unit : TimeUnit) (snap : ℕ) : Type 0 where
+pub record IsHeader (order : Order) (text : List ℕ) (unit : TimeUnit) (snap : ℕ) : Type 0 where
   pub size : 24 ≤ length text
-  pub magic : field number text 0 4 ≡ magic_of unit
-  pub major : field number text 4 2 ≡ 2
-  pub minor : field number text 6 2 ≡ 4
-  pub snapshot : field number text 16 4 ≡ snap
-  pub link_type : field number text 20 4 ≡ 1
+  pub magic : field order text 0 4 ≡ magic_of unit
+  pub major : field order text 4 2 ≡ 2
+  pub minor : field order text 6 2 ≡ 4
+  pub snapshot : field order text 16 4 ≡ snap
+  pub link_type : field order text 20 4 ≡ 1
 
 -- the fraction of a second, and how many bytes were captured, in the record that a text begins with
-abbrev pub fraction : (ℕ → List ℕ → ℕ) → List ℕ → ℕ
-fraction number text = field number text 4 4
+abbrev pub fraction : Order → List ℕ → ℕ
+fraction order text = field order text 4 4
 
-abbrev pub captured : (ℕ → List ℕ → ℕ) → List ℕ → ℕ
-captured number text = field number text 8 4
+abbrev pub captured : Order → List ℕ → ℕ
+captured order text = field order text 8 4
 
 -- A text begins with the record of a packet, and `after` is what follows the record: 16 bytes with
 -- the seconds, the fraction, the captured length and the length on the wire, and then the captured bytes.
-pub record IsRecord (number : ℕ → List ℕ → ℕ) (unit : TimeUnit) (text : List ℕ) (p : Packet) (after : List ℕ) : Type 0 where
+pub record IsRecord (order : Order) (unit : TimeUnit) (text : List ℕ) (p : Packet) (after : List ℕ) : Type 0 where
   pub size : 16 ≤ length text
-  pub seconds : field number text 0 4 ≡ p.sec
-  pub below_a_second : fraction number text < per_second unit
-  pub nanos : fraction number text * nanos_in unit ≡ p.nanos
-  pub short : captured number text ≤ 262144
-  pub on_the_wire : field number text 12 4 ≡ p.len
-  pub whole : 16 + captured number text ≤ length text
-  pub bytes : take (captured number text) (drop 16 text) ≡ p.bytes
-  pub follows : drop (16 + captured number text) text ≡ after
+  pub seconds : field order text 0 4 ≡ p.sec
+  pub below_a_second : fraction order text < per_second unit
+  pub nanos : fraction order text * nanos_in unit ≡ p.nanos
+  pub short : captured order text ≤ 262144
+  pub on_the_wire : field order text 12 4 ≡ p.len
+  pub whole : 16 + captured order text ≤ length text
+  pub bytes : take (captured order text) (drop 16 text) ≡ p.bytes
+  pub follows : drop (16 + captured order text) text ≡ after
 
 -- a text is the records of these packets, one behind the other, and then the rest
-abbrev pub AreRecords : (ℕ → List ℕ → ℕ) → TimeUnit → List ℕ → List Packet → List ℕ → Type 0
-AreRecords number unit text [] rest = text ≡ rest
-AreRecords number unit text (p ∷ ps) rest = (after : List ℕ) × IsRecord number unit text p after × AreRecords number unit after ps rest
+abbrev pub AreRecords : Order → TimeUnit → List ℕ → List Packet → List ℕ → Type 0
+AreRecords order unit text [] rest = text ≡ rest
+AreRecords order unit text (p ∷ ps) rest = (after : List ℕ) × IsRecord order unit text p after × AreRecords order unit after ps rest
 
 -- a text begins with no record
-abbrev pub NoRecord : (ℕ → List ℕ → ℕ) → TimeUnit → List ℕ → Type 0
-NoRecord number unit text = (p : Packet) (after : List ℕ) → IsRecord number unit text p after → ⊥
+abbrev pub NoRecord : Order → TimeUnit → List ℕ → Type 0
+NoRecord order unit text = (p : Packet) (after : List ℕ) → IsRecord order unit text p after → ⊥
 
 -- A text is a savefile of this order, unit and snapshot length with these packets, and then the rest.
 pub record IsSavefile (text : List ℕ) (order : Order) (unit : TimeUnit) (snap : ℕ) (packets : List Packet) (rest : List ℕ) : Type 0 where
-  pub header : IsHeader (number_in order) text unit snap
-  pub records : AreRecords (number_in order) unit (drop 24 text) packets rest
+  pub header : IsHeader order text unit snap
+  pub records : AreRecords order unit (drop 24 text) packets rest
 
 -- ---- What a savefile holds
 
 -- The first fault of a rest that begins with no whole record, with the record's place.
 -- There is none where nothing is left.
-abbrev pub first_fault : (ℕ → List ℕ → ℕ) → TimeUnit → ℕ → List ℕ → Option Fault
-first_fault number unit place rest =
+abbrev pub first_fault : Order → TimeUnit → ℕ → List ℕ → Option Fault
+first_fault order unit place rest =
     if length rest == 0 then None
     else if nat_lt (length rest) 16 then Some (TornRecord place)
-    else if nat_le (per_second unit) (fraction number rest) then Some (BadFraction place)
-    else if nat_lt 262144 (captured number rest) then Some (TooLong place)
-    else if nat_lt (length rest) (16 + captured number rest) then Some (TornRecord place)
+    else if nat_le (per_second unit) (fraction order rest) then Some (BadFraction place)
+    else if nat_lt 262144 (captured order rest) then Some (TooLong place)
+    else if nat_lt (length rest) (16 + captured order rest) then Some (TornRecord place)
     else None
-
--- What the records hold that a text is: packets up to a rest that begins with no record, and its first fault.
-pub record HoldsRecords (number : ℕ → List ℕ → ℕ) (unit : TimeUnit) (text : List ℕ) (packets : List Packet) (fault : Option Fault) : Type 0 where
-  pub rest : List ℕ
-  pub records : AreRecords number unit text packets rest
-  pub no_more : NoRecord number unit rest
-  pub ends : fault ≡ first_fault number unit (length packets) rest
 
 -- What a savefile holds: the longest list of packets that the grammar reads, and the first fault of the rest.
 pub record Holds (text : List ℕ) (order : Order) (unit : TimeUnit) (snap : ℕ) (packets : List Packet) (fault : Option Fault) : Type 0 where
   pub rest : List ℕ
   pub reads : IsSavefile text order unit snap packets rest
   pub longest : (others : List Packet) (after : List ℕ) → IsSavefile text order unit snap others after → length others ≤ length packets
-  pub ends : fault ≡ first_fault (number_in order) unit (length packets) rest
+  pub ends : fault ≡ first_fault order unit (length packets) rest
 
 -- ---- What is refused
 
 -- the first four bytes are the magic number of this order and unit
 abbrev pub HasMagic : List ℕ → Order → TimeUnit → Type 0
-HasMagic text order unit = field (number_in order) text 0 4 ≡ magic_of unit
+HasMagic text order unit = field order text 0 4 ≡ magic_of unit
 
-abbrev pub HasVersion : (ℕ → List ℕ → ℕ) → List ℕ → Type 0
-HasVersion number text = (field number text 4 2 ≡ 2) × (field number text 6 2 ≡ 4)
+abbrev pub HasVersion : Order → List ℕ → Type 0
+HasVersion order text = (field order text 4 2 ≡ 2) × (field order text 6 2 ≡ 4)
 
 -- The first check of the file header that fails, by its fault. Each check supposes the ones before.
 abbrev pub RefusesHeader : List ℕ → Fault → Type 0
@@ -139,30 +132,32 @@ RefusesHeader text ShortHeader = length text < 24
 RefusesHeader text NotSavefile = (24 ≤ length text) × ((order : Order) (unit : TimeUnit) → HasMagic text order unit → ⊥)
 RefusesHeader text Version =
     (24 ≤ length text) × (order : Order) × (unit : TimeUnit) × HasMagic text order unit
-    × (HasVersion (number_in order) text → ⊥)
+    × (HasVersion order text → ⊥)
 RefusesHeader text LinkType =
     (24 ≤ length text) × (order : Order) × (unit : TimeUnit) × HasMagic text order unit
-    × HasVersion (number_in order) text × (field (number_in order) text 20 4 ≢ 1)
+    × HasVersion order text × (field order text 20 4 ≢ 1)
 RefusesHeader text _ = ⊥
 
 -- ---- What is written
 
 -- the file header, with zeros in both reserved fields
-unfoldable pub header_text : (ℕ → ℕ → List ℕ) → TimeUnit → ℕ → List ℕ
-header_text bytes unit snap =
-    bytes 4 (magic_of unit) ++ bytes 2 2 ++ bytes 2 4 ++ bytes 4 0 ++ bytes 4 0 ++ bytes 4 snap ++ bytes 4 1
+unfoldable pub header_text : Order → TimeUnit → ℕ → List ℕ
+header_text order unit snap =
+    bytes_in order 4 (magic_of unit) ++ bytes_in order 2 2 ++ bytes_in order 2 4 ++ bytes_in order 4 0
+    ++ bytes_in order 4 0 ++ bytes_in order 4 snap ++ bytes_in order 4 1
 
 -- the header of a record
-abbrev pub record_header_text : (ℕ → ℕ → List ℕ) → ℕ → ℕ → ℕ → ℕ → List ℕ
-record_header_text bytes sec fraction captured len = bytes 4 sec ++ bytes 4 fraction ++ bytes 4 captured ++ bytes 4 len
+abbrev pub record_header_text : Order → ℕ → ℕ → ℕ → ℕ → List ℕ
+record_header_text order sec fraction captured len =
+    bytes_in order 4 sec ++ bytes_in order 4 fraction ++ bytes_in order 4 captured ++ bytes_in order 4 len
 
 -- a packet's record; in microseconds what is below one is dropped
-unfoldable pub record_text : (ℕ → ℕ → List ℕ) → TimeUnit → Packet → List ℕ
-record_text bytes unit p = record_header_text bytes p.sec (p.nanos / nanos_in unit) (length p.bytes) p.len ++ p.bytes
+unfoldable pub record_text : Order → TimeUnit → Packet → List ℕ
+record_text order unit p = record_header_text order p.sec (p.nanos / nanos_in unit) (length p.bytes) p.len ++ p.bytes
 
 -- the written text of a list of packets
 unfoldable pub encoded : Order → TimeUnit → ℕ → List Packet → List ℕ
-encoded order unit snap packets = header_text (bytes_in order) unit snap ++ flat_map (record_text (bytes_in order) unit) packets
+encoded order unit snap packets = header_text order unit snap ++ flat_map (record_text order unit) packets
 
 -- what may be written: numbers of 32 bits, less than a second of nanoseconds, and at most 262,144 bytes
 pub record IsWritable (p : Packet) : Type 0 where

@@ -1,5 +1,5 @@
 -- What a writer has sent to its sink.
-use Rattle.std.specs.Prelude.{◌≡◌, ℕ, Bool, true, false, ◌+◌, List, ◌++◌, length, drop, Option}
+use Rattle.std.specs.Prelude.{◌≡◌, ℕ, Bool, true, false, List, ◌++◌, length, Option}
 use Rattle.std.specs.Io.KnownBytes.{Appends}
 use Rattle.savefile.specs.declared.header.Order.{Order}
 use Rattle.savefile.specs.declared.header.Unit.{Unit as TimeUnit}
@@ -43,17 +43,3 @@ pub record BrokeOff {W : Type 0} (taken : W → Option (List ℕ)) (start : Opti
   pub begins : IsBeginning text (encoded order unit snap packets)
   pub sent : Sent taken start text w
   pub failed : has_failed w ≡ true
-
--- ---- Steps inside a call
-
--- Between two states of a writer these bytes were sent, and no others.
-pub record Sends {W : Type 0} (taken : W → Option (List ℕ)) (old new : Writer W) (text : List ℕ) : Type 0 where
-  pub bytes : Appends (taken old.sink) (taken new.sink) text
-  pub count : new.sent ≡ old.sent + length text
-  pub in_order : new.order ≡ old.order
-  pub in_unit : new.unit ≡ old.unit
-
--- a number's bytes stand behind the first bytes of a text, as many as `at`, and the rest is as it was
-abbrev pub Fills : ℕ → List ℕ → List ℕ → List ℕ → Type 0
-Fills at old bytes new =
-    (front rest : List ℕ) → old ≡ front ++ rest → length front ≡ at → new ≡ (front ++ bytes) ++ drop (length bytes) rest

@@ -5,10 +5,11 @@ ghost use Rattle.std.specs.Io.KnownBytes.{Keeps, Consumes, IsAtEnd};
 ghost use Rattle.savefile.specs.Device.{CountsFailure};
 
 use crate::device::{Broken, Source};
+use crate::record::{MOST_CAPTURED, RECORD_HEADER_LEN};
 use std::alloc::{AllocError, Global};
 
 /// The most bytes that can be asked for: those of the longest record.
-pub(crate) const MOST_AHEAD: usize = 16 + 262_144;
+pub(crate) const MOST_AHEAD: usize = RECORD_HEADER_LEN + MOST_CAPTURED as usize;
 
 /// How many bytes the memory has: room for the longest record, and for large reads.
 const MEMORY: usize = 1 << 19;

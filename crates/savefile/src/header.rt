@@ -1,7 +1,7 @@
 //! The header of a savefile.
 
-ghost use Rattle.std.specs.Prelude.{◌≡◌, ◌≢◌, ◌≤◌, ◌⊎◌, length, IfOk, IfErr, IfSome, IfNone};
-ghost use Rattle.savefile.specs.Savefile.{field, magic_of, nanos_in, number_in, per_second, HasVersion, IsHeader, RefusesHeader};
+ghost use Rattle.std.specs.Prelude.{◌≡◌, ◌≢◌, ◌≤◌, ◌+◌, ◌⊎◌, length, IfOk, IfErr, IfSome, IfNone};
+ghost use Rattle.savefile.specs.Savefile.{field, magic_of, nanos_in, number_in, per_second, HasMagic, HasVersion, IsHeader, RefusesHeader};
 
 use crate::fault::Fault;
 use byteorder::{BigEndian, ByteOrder, LittleEndian};
@@ -80,13 +80,35 @@ impl Unit {
     }
 }
 
-/// The unit whose magic number a text begins with in this byte order.
-fn unit_of<B: ByteOrder>(text: &[u8]) -> Option<Unit>
-    requires { 4 ≤ length text.now }
-    ensures some { IfSome result (λ unit. field B.number_of text.now 0 4 ≡ magic_of unit) }
-    ensures none { IfNone result ((unit : Unit) → field B.number_of text.now 0 4 ≢ magic_of unit) }
+/// The number of two bytes that stands in a text at an offset.
+fn u16_at(order: Order, text: &[u8], at: usize) -> u16
+    requires { at + 2 ≤ length text.now }
+    ensures { result ≡ field order text.now at 2 }
 {
-    match B::read_u32(text) {
+    match order {
+        Order::Little => LittleEndian::read_u16(&text[at..]),
+        Order::Big => BigEndian::read_u16(&text[at..]),
+    }
+}
+
+/// The number of four bytes that stands in a text at an offset.
+fn u32_at(order: Order, text: &[u8], at: usize) -> u32
+    requires { at + 4 ≤ length text.now }
+    ensures { result ≡ field order text.now at 4 }
+{
+    match order {
+        Order::Little => LittleEndian::read_u32(&text[at..]),
+        Order::Big => BigEndian::read_u32(&text[at..]),
+    }
+}
+
+/// The unit whose magic number a text begins with in this byte order.
+fn unit_of(order: Order, text: &[u8]) -> Option<Unit>
+    requires { 4 ≤ length text.now }
+    ensures some { IfSome result (HasMagic text.now order) }
+    ensures none { IfNone result ((unit : Unit) → HasMagic text.now order unit → ⊥) }
+{
+    match u32_at(order, text, 0) {
         MAGIC_MICRO => Some(Unit::Micro),
         MAGIC_NANO => Some(Unit::Nano),
         _ => None,
@@ -94,38 +116,38 @@ fn unit_of<B: ByteOrder>(text: &[u8]) -> Option<Unit>
 }
 
 /// The snapshot length, where the version and the link type are right.
-fn snap_of<B: ByteOrder>(text: &[u8]) -> Result<u32, Fault>
+fn snap_of(order: Order, text: &[u8]) -> Result<u32, Fault>
     requires { 24 ≤ length text.now }
-    ensures ok { IfOk result (λ snap. HasVersion B.number_of text.now × (field B.number_of text.now 20 4 ≡ 1)
-        × (field B.number_of text.now 16 4 ≡ snap)) }
-    ensures err { IfErr result (λ fault. ((fault ≡ Fault.Version) × (HasVersion B.number_of text.now → ⊥))
-        ⊎ ((fault ≡ Fault.LinkType) × HasVersion B.number_of text.now × (field B.number_of text.now 20 4 ≢ 1))) }
+    ensures ok { IfOk result (λ snap. HasVersion order text.now × (field order text.now 20 4 ≡ 1)
+        × (field order text.now 16 4 ≡ snap)) }
+    ensures err { IfErr result (λ fault. ((fault ≡ Fault.Version) × (HasVersion order text.now → ⊥))
+        ⊎ ((fault ≡ Fault.LinkType) × HasVersion order text.now × (field order text.now 20 4 ≢ 1))) }
 {
-    if B::read_u16(&text[4..]) != MAJOR || B::read_u16(&text[6..]) != MINOR {
+    if u16_at(order, text, 4) != MAJOR || u16_at(order, text, 6) != MINOR {
         return Err(Fault::Version);
     }
-    if B::read_u32(&text[20..]) != ETHERNET {
+    if u32_at(order, text, 20) != ETHERNET {
         return Err(Fault::LinkType);
     }
-    Ok(B::read_u32(&text[16..]))
+    Ok(u32_at(order, text, 16))
 }
 
 /// The header that a text begins with, or the first check that fails.
 pub(crate) fn header_of(text: &[u8]) -> Result<Header, Fault>
-    ensures ok { IfOk result (λ header. IsHeader (number_in header.order) text.now header.unit header.snap) }
+    ensures ok { IfOk result (λ header. IsHeader header.order text.now header.unit header.snap) }
     ensures err { IfErr result (RefusesHeader text.now) }
 {
     if text.len() < HEADER_LEN {
         return Err(Fault::ShortHeader);
     }
-    if let Some(unit) = unit_of::<LittleEndian>(text) {
-        let snap = snap_of::<LittleEndian>(text)?;
-        let order = Order::Little;
+    let order = Order::Little;
+    if let Some(unit) = unit_of(order, text) {
+        let snap = snap_of(order, text)?;
         return Ok(Header { order, unit, snap });
     }
-    if let Some(unit) = unit_of::<BigEndian>(text) {
-        let snap = snap_of::<BigEndian>(text)?;
-        let order = Order::Big;
+    let order = Order::Big;
+    if let Some(unit) = unit_of(order, text) {
+        let snap = snap_of(order, text)?;
         return Ok(Header { order, unit, snap });
     }
     Err(Fault::NotSavefile)

@@ -33,6 +33,7 @@ pub use header::{Header, Order, Unit};
 pub use packet::{Data, Packet, PacketRef};
 pub use reader::Reader;
 pub use reading::read_all;
+pub use record::MOST_CAPTURED;
 pub use writing::Writer;
 
 #[cfg(test)]

@@ -130,7 +130,7 @@ impl<R: Source> Reader<R> {
 
         // The source is not asked where the next record was taken whole already.
         ensures idle { (p : Packet) (after : List ℕ) →
-            IsRecord (number_in (header_told self.old).order) (header_told self.old).unit (taken_ahead self.old) p after →
+            IsRecord (header_told self.old).order (header_told self.old).unit (taken_ahead self.old) p after →
             source_of self.new ≡ source_of self.old }
     {
         match self.state {
@@ -227,7 +227,7 @@ impl<R: Source> Reader<R> {
         ensures writable { result ≡ Ok true → IsWritable (packet_lent self.new) }
         ensures end { result ≡ Ok false → MeetsEnd R.left self.old self.new }
         ensures fault { IfErr result (MeetsFault R.left self.old self.new) }
-        ensures idle { (p : Packet) (after : List ℕ) → IsRecord (number_in self.old.header.order) self.old.header.unit (taken_ahead self.old) p after →
+        ensures idle { (p : Packet) (after : List ℕ) → IsRecord self.old.header.order self.old.header.unit (taken_ahead self.old) p after →
             source_of self.new ≡ source_of self.old }
         ensures device { (result ≡ Err Fault.Device) ↔ (R.failures (source_of self.new) ≢ R.failures (source_of self.old)) }
     {

@@ -20,8 +20,8 @@ pub(crate) struct RecordHeader {
 /// The bytes of a record's header.
 pub(crate) const RECORD_HEADER_LEN: usize = 16;
 
-/// The most bytes of a packet that a record may have, a bar of this project.
-pub(crate) const MOST_CAPTURED: u32 = 262_144;
+/// The most bytes of a packet that a record may have, read or written: a bar of this project.
+pub const MOST_CAPTURED: u32 = 262_144;
 
 impl RecordHeader {
     /// That of no packet.
@@ -43,10 +43,10 @@ impl RecordHeader {
         text: &[u8],
     ) -> Result<(), Fault>
         requires { 0 < length text.now }
-        ensures ok { OnOk result (IsRecordHeader (number_in order) unit text.now self.new) }
+        ensures ok { OnOk result (IsRecordHeader order unit text.now self.new) }
         // Whatever follows the text; where it ends inside the header, nothing does.
         ensures err { IfErr result (λ fault. (more : List _) → (16 ≤ length text.now) ⊎ (more ≡ []) →
-            first_fault (number_in order) unit place (text.now ++ more) ≡ Some fault) }
+            first_fault order unit place (text.now ++ more) ≡ Some fault) }
     {
         match order {
             Order::Little => self.read_in::<LittleEndian>(unit, place, text),
@@ -57,9 +57,10 @@ impl RecordHeader {
     #[inline]
     fn read_in<B: ByteOrder>(&mut self, unit: Unit, place: u64, text: &[u8]) -> Result<(), Fault>
         requires { 0 < length text.now }
-        ensures ok { OnOk result (IsRecordHeader B.number_of unit text.now self.new) }
-        ensures err { IfErr result (λ fault. (more : List _) → (16 ≤ length text.now) ⊎ (more ≡ []) →
-            first_fault B.number_of unit place (text.now ++ more) ≡ Some fault) }
+        ensures ok { (order : Order) → B.number_of ≡ number_in order → OnOk result (IsRecordHeader order unit text.now self.new) }
+        ensures err { (order : Order) → B.number_of ≡ number_in order →
+            IfErr result (λ fault. (more : List _) → (16 ≤ length text.now) ⊎ (more ≡ []) →
+            first_fault order unit place (text.now ++ more) ≡ Some fault) }
     {
         if text.len() < RECORD_HEADER_LEN {
             return Err(Fault::TornRecord(place));

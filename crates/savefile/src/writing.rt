@@ -4,11 +4,13 @@ ghost use Rattle.std.specs.Prelude.{◌≡◌, ◌≢◌, ℕ, List, [], ◌∷�
 ghost use Rattle.savefile.specs.declared.packet.Packet.{Packet};
 ghost use Rattle.savefile.specs.Device.{CountsFailure};
 ghost use Rattle.savefile.specs.Savefile.{bytes_in, header_text, packet, record_header_text};
-ghost use Rattle.savefile.specs.Writer.{Fills, IsBeginning, Sends, sink_of, sent_by, has_failed, HasWritten, BrokeOff};
+ghost use Rattle.savefile.specs.Sending.{Fills, Sends};
+ghost use Rattle.savefile.specs.Writer.{IsBeginning, sink_of, sent_by, has_failed, HasWritten, BrokeOff};
 
 use crate::device::{Broken, Sink};
 use crate::fault::Fault;
-use crate::header::{ETHERNET, MAJOR, MINOR, Order, Unit};
+use crate::header::{ETHERNET, HEADER_LEN, MAJOR, MINOR, Order, Unit};
+use crate::record::RECORD_HEADER_LEN;
 use byteorder::{BigEndian, ByteOrder, LittleEndian};
 
 /// Writes a number of two bytes behind the front of a text.
@@ -28,10 +30,10 @@ fn fill_u32<B: ByteOrder>(text: &mut [u8], at: usize, n: u32)
 }
 
 /// The header of a savefile, with zeros in both reserved fields.
-fn file_header_in<B: ByteOrder>(unit: Unit, snap: u32) -> [u8; 24]
-    ensures { result ≡ header_text B.bytes_of unit snap }
+fn file_header_in<B: ByteOrder>(unit: Unit, snap: u32) -> [u8; HEADER_LEN]
+    ensures { (order : Order) → B.bytes_of ≡ bytes_in order → result ≡ header_text order unit snap }
 {
-    let mut text = [0; 24];
+    let mut text = [0; HEADER_LEN];
     fill_u32::<B>(&mut text, 0, unit.magic());
     fill_u16::<B>(&mut text, 4, MAJOR);
     fill_u16::<B>(&mut text, 6, MINOR);
@@ -42,8 +44,8 @@ fn file_header_in<B: ByteOrder>(unit: Unit, snap: u32) -> [u8; 24]
     text
 }
 
-fn file_header(order: Order, unit: Unit, snap: u32) -> [u8; 24]
-    ensures { result ≡ header_text (bytes_in order) unit snap }
+fn file_header(order: Order, unit: Unit, snap: u32) -> [u8; HEADER_LEN]
+    ensures { result ≡ header_text order unit snap }
 {
     match order {
         Order::Little => file_header_in::<LittleEndian>(unit, snap),
@@ -52,10 +54,15 @@ fn file_header(order: Order, unit: Unit, snap: u32) -> [u8; 24]
 }
 
 /// The header of a record.
-fn record_header_in<B: ByteOrder>(sec: u32, fraction: u32, captured: u32, len: u32) -> [u8; 16]
-    ensures { result ≡ record_header_text B.bytes_of sec fraction captured len }
+fn record_header_in<B: ByteOrder>(
+    sec: u32,
+    fraction: u32,
+    captured: u32,
+    len: u32,
+) -> [u8; RECORD_HEADER_LEN]
+    ensures { (order : Order) → B.bytes_of ≡ bytes_in order → result ≡ record_header_text order sec fraction captured len }
 {
-    let mut text = [0; 16];
+    let mut text = [0; RECORD_HEADER_LEN];
     fill_u32::<B>(&mut text, 0, sec);
     fill_u32::<B>(&mut text, 4, fraction);
     fill_u32::<B>(&mut text, 8, captured);
@@ -63,8 +70,14 @@ fn record_header_in<B: ByteOrder>(sec: u32, fraction: u32, captured: u32, len: u
     text
 }
 
-fn record_header(order: Order, sec: u32, fraction: u32, captured: u32, len: u32) -> [u8; 16]
-    ensures { result ≡ record_header_text (bytes_in order) sec fraction captured len }
+fn record_header(
+    order: Order,
+    sec: u32,
+    fraction: u32,
+    captured: u32,
+    len: u32,
+) -> [u8; RECORD_HEADER_LEN]
+    ensures { result ≡ record_header_text order sec fraction captured len }
 {
     match order {
         Order::Little => record_header_in::<LittleEndian>(sec, fraction, captured, len),
@@ -178,7 +191,7 @@ impl<W: Sink> Writer<W> {
 
     /// Writes one packet: its time, its length on the wire, and the bytes that were captured of it.
     ///
-    /// `nanos` is below 1,000,000,000, and `bytes` has at most 262,144 bytes.
+    /// `nanos` is below 1,000,000,000, and `bytes` has at most [`MOST_CAPTURED`](crate::MOST_CAPTURED) bytes, 262,144.
     /// With microseconds the nanoseconds are divided by 1,000 and the rest is dropped.
     /// [`Fault::Device`] comes exactly where the sink failed in this call; from then on the writer has
     /// failed, and every `put` answers [`Fault::Failed`] and does nothing. [`Fault::CountFull`] comes
@@ -204,13 +217,17 @@ impl<W: Sink> Writer<W> {
             ((has_failed self.old ≡ false) × (2 ^ 64 ≤ sent_by self.old + 16 + length bytes.now)) }
         ensures only { IfErr result (λ fault. (fault ≡ Fault.Device) ⊎ (fault ≡ Fault.Failed) ⊎ (fault ≡ Fault.CountFull)) }
 
+        // After Device the writer has failed, and after Ok it has not.
+        ensures fails { result ≡ Err Fault.Device → has_failed self.new ≡ true }
+        ensures works { OnOk result (has_failed self.new ≡ false) }
+
         // Without a device fault, an error changed nothing.
         ensures unchanged { result ≡ Err Fault.Failed ⊎ result ≡ Err Fault.CountFull → self.new ≡ self.old }
     {
         if self.failed {
             return Err(Fault::Failed);
         }
-        if u64::MAX - self.sent < 16 + bytes.len() as u64 {
+        if u64::MAX - self.sent < (RECORD_HEADER_LEN + bytes.len()) as u64 {
             return Err(Fault::CountFull);
         }
         let fraction = nanos / self.unit.nanos();

@@ -1,8 +1,8 @@
-use Rattle.std.proofs.Common.{◌≡◌, ◌++◌, List, ℕ, inl, inr, drop, take, sym, ap, subst, ◌∙◌, take-append-drop}
+use Rattle.std.proofs.Common.{◌++◌, List, ℕ, inr, take, sym, ap, subst, ◌∙◌, take-append-drop}
 use Rattle.std.proofs.lemmas.Result.{err_from_is_err_and}
 use Rattle.std.specs.Io.KnownBytes.{Consumes}
 use Rattle.savefile.specs.Ahead.{held_by}
-use Rattle.savefile.specs.Savefile.{number_in, IsHeader}
+use Rattle.savefile.specs.Savefile.{IsHeader}
 use Rattle.savefile.proofs.Pieces.{refused_whole, IsSavefile-header}
 use Rattle.savefile.proofs.reader.read_header.Goals as goal
 
@@ -23,5 +23,5 @@ returns-clause-ok g c =
       take 24 text,
       subst (λ (s : g.row.R.Denot). Consumes (g.R.Source.left c.args.ahead.now.source) (g.R.Source.left s) grows.0) (sym c.pass.ensures.source) grows.2,
       sym grows.1 ∙ sym (take-append-drop 24 text) ∙ ap (λ (t : List ℕ). take 24 text ++ t) (sym c.pass.ensures.held),
-      IsSavefile-header text h.order h.unit h.snap (subst (λ (t : List ℕ). IsHeader (number_in h.order) t h.unit h.snap) c.held.ensures.value c.in_ok-header.ensures.ok),
+      IsSavefile-header text h.order h.unit h.snap (subst (λ (t : List ℕ). IsHeader h.order t h.unit h.snap) c.held.ensures.value c.in_ok-header.ensures.ok),
     )

@@ -1,4 +1,4 @@
-use Rattle.std.proofs.Common.{◌≡◌, ◌-◌, ◌^◌, All, Some, vec_len}
+use Rattle.std.proofs.Common.{◌-◌, ◌^◌, All, Some, vec_len}
 use Rattle.savefile.specs.Reader.{HasGiven}
 use Rattle.savefile.specs.Savefile.{IsWritable}
 use Rattle.savefile.proofs.reading.read_all.Given as goal

@@ -5,8 +5,8 @@ use Rattle.savefile.proofs.writing.file_header_in.Goals as goal
 
 pub returns : goal.returns
 unfolding header_text
-returns g c =
+returns g c = λ order is.
     let long = g.met.B.ByteOrder.length_bytes in
-    rw (← c.magic.ensures)
+    rw (← is, ← c.magic.ensures)
     (filled_24 _ _ _ _ _ _ _ _ _ _ _ _ _ _ _ refl (long 4 _) (long 2 _) (long 2 _) (long 4 _) (long 4 _) (long 4 _) (long 4 _)
     c.fill_u32.ensures c.fill_u16.ensures c.fill_u16-2.ensures c.fill_u32-2.ensures c.fill_u32-3.ensures c.fill_u32-4.ensures c.fill_u32-5.ensures)

@@ -1,4 +1,4 @@
-use Rattle.std.proofs.Common.{◌≡◌, ◌+◌, ◌-◌, ◌≤◌, length, take, drop, slice_range, sym, ap, ◌∙◌, arith}
+use Rattle.std.proofs.Common.{◌≡◌, ◌+◌, ◌-◌, drop, sym, arith}
 use Rattle.std.proofs.lemmas.List.{take-take}
 use Rattle.savefile.proofs.Pieces.{length-slice_range, slice_range-further}
 use Rattle.savefile.proofs.ahead.Ahead.pass.Goals as goal

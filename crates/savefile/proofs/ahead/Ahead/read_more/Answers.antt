@@ -1,4 +1,4 @@
-use Rattle.std.proofs.Common.{rules, ◌≡◌, ◌++◌, ◌+◌, [], take, drop, sym, ap, ◌∙◌}
+use Rattle.std.proofs.Common.{rules, ◌++◌, ◌+◌, [], take, drop, ap, ◌∙◌}
 use Rattle.std.proofs.KnownBytes.{Consumes-kept, Consumes-nil}
 use Rattle.std.proofs.Math.Seq.{take-add}
 use Rattle.std.proofs.lemmas.List.{append-nil, with_items_is, places}

@@ -1,11 +1,8 @@
-use Rattle.std.proofs.Common.{◌≡◌, ◌++◌, ◌+◌, ◌<◌, ◌≤◌, List, ℕ, [], Some, inl, inr, length, drop, take, sym, ap, subst, ◌∙◌, arith}
-use Rattle.std.proofs.lemmas.List.{append-nil}
+use Rattle.std.proofs.Common.{◌+◌, ◌<◌, ◌≤◌, List, ℕ, inl, inr, length, sym, subst, ◌∙◌}
 use Rattle.std.proofs.lemmas.Result.{err_from_is_err_and}
 use Rattle.std.specs.Io.KnownBytes.{Consumes}
 use Rattle.savefile.specs.Ahead.{held_by, lent_by}
-use Rattle.savefile.specs.RecordHeader.{IsRecordHeader}
-use Rattle.savefile.specs.Savefile.{number_in, packet, IsRecord}
-use Rattle.savefile.proofs.Pieces.{number_in-first}
+use Rattle.savefile.specs.Savefile.{packet, IsRecord}
 use Rattle.savefile.proofs.Steps.{fault_stands, no_device_failed, record_stands, stands-no_device, torn_rest, torn_stands, Grows-trans, IsRecordHeader-grown, NoRecord-short}
 use Rattle.savefile.proofs.reader.Reader.read_record.Goals as goal
 
@@ -15,54 +12,54 @@ returns-in_err-read-clause-fault g c =
     let told = err_from_is_err_and c.from_residual-in_err-read.result c.from_residual-in_err-read.ensures.1 in
     rw (told.1, told.2) (
       c.in_ok-fill.ensures.grows,
-      inr (fault_stands (number_in r.header.order) r.header.unit r.given c.held-text.result.now (held_by c.fill.new.self) (g.R.Source.left c.fill.new.self.source) _ c.held-text.ensures.value c.in_ok-fill.ensures.enough c.in_err-read.ensures.err),
+      inr (fault_stands r.header.order r.header.unit r.given c.held-text.result.now (held_by c.fill.new.self) (g.R.Source.left c.fill.new.self.source) _ c.held-text.ensures.value c.in_ok-fill.ensures.enough c.in_err-read.ensures.err),
     )
 
 pub returns-in_err-read-clause-device : goal.returns-in_err-read-clause-device
 returns-in_err-read-clause-device g c =
     let r = c.args.self.now in
     let told = err_from_is_err_and c.from_residual-in_err-read.result c.from_residual-in_err-read.ensures.1 in
-    let stands = fault_stands (number_in r.header.order) r.header.unit r.given c.held-text.result.now (held_by c.fill.new.self) (g.R.Source.left c.fill.new.self.source) _ c.held-text.ensures.value c.in_ok-fill.ensures.enough c.in_err-read.ensures.err in
+    let stands = fault_stands r.header.order r.header.unit r.given c.held-text.result.now (held_by c.fill.new.self) (g.R.Source.left c.fill.new.self.source) _ c.held-text.ensures.value c.in_ok-fill.ensures.enough c.in_err-read.ensures.err in
     no_device_failed c.from_residual-in_err-read.result told.0 _ _ told.1
-    (λ device. stands-no_device (number_in r.header.order) r.header.unit r.given (held_by c.fill.new.self) (g.R.Source.left c.fill.new.self.source) _ stands (sym told.2 ∙ device))
+    (λ device. stands-no_device r.header.order r.header.unit r.given (held_by c.fill.new.self) (g.R.Source.left c.fill.new.self.source) _ stands (sym told.2 ∙ device))
     c.in_ok-fill.ensures.failures
 
 pub returns-in_err-fill-2-clause-fault : goal.returns-in_err-fill-2-clause-fault
 returns-in_err-fill-2-clause-fault g c =
     let r = c.args.self.now in
-    let number = number_in r.header.order in
+    let order = r.header.order in
     let told = err_from_is_err_and c.from_residual-in_err-fill-2.result c.from_residual-in_err-fill-2.ensures.1 in
     let more = c.in_err-fill-2.ensures.grows in
-    let header = IsRecordHeader-grown g.R.Source.left number (number_in-first r.header.order) r.header.unit c.held-text.result.now c.read.new.self c.fill.new.self c.fill-2.new.self c.in_ok-read.ensures.ok c.held-text.ensures.value more in
+    let header = IsRecordHeader-grown g.R.Source.left order r.header.unit c.held-text.result.now c.read.new.self c.fill.new.self c.fill-2.new.self c.in_ok-read.ensures.ok c.held-text.ensures.value more in
     rw told.1 (
       Grows-trans g.R.Source.left r.ahead c.fill.new.self c.fill-2.new.self c.in_ok-fill.ensures.grows more,
-      inl (told.2, NoRecord-short number r.header.unit (held_by c.fill-2.new.self) c.read.new.self header c.in_err-fill-2.ensures.short),
+      inl (told.2, NoRecord-short order r.header.unit (held_by c.fill-2.new.self) c.read.new.self header c.in_err-fill-2.ensures.short),
     )
 
 pub returns-then-held-size-clause-fault : goal.returns-then-held-size-clause-fault
 returns-then-held-size-clause-fault g c =
     let r = c.args.self.now in
-    let number = number_in r.header.order in
+    let order = r.header.order in
     let text = held_by c.fill-2.new.self in
     let more = c.in_ok-fill-2.ensures.grows in
-    let header = IsRecordHeader-grown g.R.Source.left number (number_in-first r.header.order) r.header.unit c.held-text.result.now c.read.new.self c.fill.new.self c.fill-2.new.self c.in_ok-read.ensures.ok c.held-text.ensures.value more in
+    let header = IsRecordHeader-grown g.R.Source.left order r.header.unit c.held-text.result.now c.read.new.self c.fill.new.self c.fill-2.new.self c.in_ok-read.ensures.ok c.held-text.ensures.value more in
     let short : length text < 16 + c.read.new.self.captured = subst (λ (t : List ℕ). length t < 16 + c.read.new.self.captured) c.held.ensures.value c.if-held-size.true in
-    let torn = torn_stands number r.header.unit r.given text c.read.new.self header short in (
+    let torn = torn_stands order r.header.unit r.given text c.read.new.self header short in (
       Grows-trans g.R.Source.left r.ahead c.fill.new.self c.fill-2.new.self c.in_ok-fill.ensures.grows more,
-      inr (torn_rest number r.header.unit r.given text (g.R.Source.left c.fill-2.new.self.source) (16 + c.read.new.self.captured) c.in_ok-fill-2.ensures.enough short torn),
+      inr (torn_rest order r.header.unit r.given text (g.R.Source.left c.fill-2.new.self.source) (16 + c.read.new.self.captured) c.in_ok-fill-2.ensures.enough short torn),
     )
 
 pub returns-clause-packet : goal.returns-clause-packet
 returns-clause-packet g c = λ _.
     let r = c.args.self.now in
-    let number = number_in r.header.order in
+    let order = r.header.order in
     let text = held_by c.fill-2.new.self in
     let more = c.in_ok-fill-2.ensures.grows in
-    let header = IsRecordHeader-grown g.R.Source.left number (number_in-first r.header.order) r.header.unit c.held-text.result.now c.read.new.self c.fill.new.self c.fill-2.new.self c.in_ok-read.ensures.ok c.held-text.ensures.value more in
+    let header = IsRecordHeader-grown g.R.Source.left order r.header.unit c.held-text.result.now c.read.new.self c.fill.new.self c.fill-2.new.self c.in_ok-read.ensures.ok c.held-text.ensures.value more in
     let whole : 16 + c.read.new.self.captured ≤ length text = subst (λ (t : List ℕ). 16 + c.read.new.self.captured ≤ length t) c.held.ensures.value c.if-held-size.false in
     let all = Grows-trans g.R.Source.left r.ahead c.fill.new.self c.fill-2.new.self c.in_ok-fill.ensures.grows more in (
       all.0,
       subst (λ (s : g.row.R.Denot). Consumes (g.R.Source.left r.ahead.source) (g.R.Source.left s) all.0) (sym c.pass.ensures.source) all.2,
-      subst (λ (t : List ℕ). IsRecord number r.header.unit t (packet c.read.new.self.sec c.read.new.self.nanos c.read.new.self.len (lent_by c.pass.new.self)) (held_by c.pass.new.self)) all.1
-          (record_stands number r.header.unit text (lent_by c.pass.new.self) (held_by c.pass.new.self) c.read.new.self header whole c.pass.ensures.lent c.pass.ensures.held),
+      subst (λ (t : List ℕ). IsRecord order r.header.unit t (packet c.read.new.self.sec c.read.new.self.nanos c.read.new.self.len (lent_by c.pass.new.self)) (held_by c.pass.new.self)) all.1
+          (record_stands order r.header.unit text (lent_by c.pass.new.self) (held_by c.pass.new.self) c.read.new.self header whole c.pass.ensures.lent c.pass.ensures.held),
     )

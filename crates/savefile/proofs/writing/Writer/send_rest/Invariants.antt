@@ -1,5 +1,5 @@
 use Rattle.std.proofs.Common.{◌≡◌, List, ◌++◌, length}
-use Rattle.savefile.specs.Writer.{Sends}
+use Rattle.savefile.specs.Sending.{Sends}
 use Rattle.savefile.proofs.writing.Writer.send_rest.Given as goal
 
 -- what was sent so far is the front of the bytes

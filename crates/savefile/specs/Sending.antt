@@ -1,0 +1,16 @@
+-- The steps inside a call that writes.
+use Rattle.std.specs.Prelude.{◌≡◌, ℕ, ◌+◌, List, ◌++◌, length, drop, Option}
+use Rattle.std.specs.Io.KnownBytes.{Appends}
+use Rattle.savefile.specs.declared.writing.Writer.{Writer}
+
+-- Between two states of a writer these bytes were sent, and no others.
+pub record Sends {W : Type 0} (taken : W → Option (List ℕ)) (old new : Writer W) (text : List ℕ) : Type 0 where
+  pub bytes : Appends (taken old.sink) (taken new.sink) text
+  pub count : new.sent ≡ old.sent + length text
+  pub in_order : new.order ≡ old.order
+  pub in_unit : new.unit ≡ old.unit
+
+-- a number's bytes stand behind the first bytes of a text, as many as `at`, and the rest is as it was
+abbrev pub Fills : ℕ → List ℕ → List ℕ → List ℕ → Type 0
+Fills at old bytes new =
+    (front rest : List ℕ) → old ≡ front ++ rest → length front ≡ at → new ≡ (front ++ bytes) ++ drop (length bytes) rest
