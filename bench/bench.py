@@ -5,6 +5,7 @@
   bench/bench.py --instructions    user instructions for each packet, by valgrind's callgrind, on a small capture
   bench/bench.py --listener        user instructions for each arrival of 660 bytes at a listener, by callgrind; proves and builds
                                    bench/listener in a copy first, which takes some minutes
+  bench/bench.py --steps           the same for each packet of a replay by `bpftap steps`, one listener and 64, read at each full hold
   bench/bench.py --expressions     wall time of `check` on expressions of some 8,192 bytes, interleaved runs, on a small stack
 
 Machines are noisy, so the ratios of one run are what to compare. Instructions are repeatable. The captures that
@@ -208,6 +209,30 @@ def arrivals(folder):
     print(f"user instructions for each arrival of 660 bytes, by callgrind: {count / 100000:.0f}")
 
 
+def steps(folder):
+    """Instructions for each packet of a replay, reports included, with reads at each full hold: what 64 listeners cost
+    beside one. An expression that rejects all has no reports."""
+    captures = {packets: folder / f"{packets}.pcap" for packets in (1000, 11000)}
+    for packets, path in captures.items():
+        generate(path, packets)
+    print("user instructions for each packet (660 bytes on average) of `bpftap steps`, by callgrind")
+    for name, listeners, expression in [
+        ("one listener, all packets", 1, ""),
+        ("64 listeners, all packets", 64, ""),
+        ("one listener, none", 1, "less 1"),
+        ("64 listeners, none", 64, "less 1"),
+    ]:
+        (folder / "listeners.txt").write_text(f"0 1048576 {expression}\n" * listeners)
+        reads = "".join(f"read {l}\n" for l in range(listeners))
+        counts = []
+        for packets, path in captures.items():
+            # A buffer of 1,048,576 bytes has room for some 1,400 packets.
+            (folder / "script.txt").write_text(("arrive\n" * 1000 + reads) * (packets // 1000))
+            words = [str(PROGRAM), "steps", *(str(folder / f) for f in ("listeners.txt", "script.txt")), str(path)]
+            counts.append(instructions_of(words, folder))
+        print(f"{name:40} {(counts[1] - counts[0]) / 10000:8.0f}")
+
+
 def hostile():
     """Name, text and exit status of expressions near the limit of 8,192 bytes, each meant to be slow or deep."""
     deep = "(" * 64
@@ -257,6 +282,7 @@ def main():
     parser.add_argument("--instructions", action="store_true")
     parser.add_argument("--expressions", action="store_true")
     parser.add_argument("--listener", action="store_true")
+    parser.add_argument("--steps", action="store_true")
     parser.add_argument("--packets", type=int, default=150000)
     parser.add_argument("--rounds", type=int, default=5)
     words = parser.parse_args()
@@ -270,6 +296,8 @@ def main():
         folder = pathlib.Path(name)
         if words.instructions:
             instructions(folder)
+        elif words.steps:
+            steps(folder)
         elif words.expressions:
             expressions(20 * words.rounds)
         else:

@@ -17,6 +17,8 @@ pub mod filter;
 mod lines;
 mod listeners_file;
 mod program;
+#[cfg(test)]
+mod relation_tests;
 mod reports;
 mod script;
 pub mod steps;

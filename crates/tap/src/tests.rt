@@ -28,6 +28,9 @@ const UDP: [u8; 38] = [
     0x11, 0, 0, 10, 0, 0, 1, 10, 0, 0, 2, 0, 0x35, 0, 0x35,
 ];
 
+/// Seventeen sums, each the right side of another: one more than the scratch memory has words.
+const DEEP: &str = "1+(1+(1+(1+(1+(1+(1+(1+(1+(1+(1+(1+(1+(1+(1+(1+(1+1)))))))))))))))) = 17";
+
 /// Appends a record at a second, of a packet of these bytes, as many as `len`.
 fn put_record(text: &mut Vec<u8>, sec: u8, len: u8, data: &[u8]) -> Result<(), AllocError> {
     text.extend_from_slice(&[sec, 0, 0, 0, 0, 0, 0, 0, len, 0, 0, 0, len, 0, 0, 0])?;
@@ -352,6 +355,10 @@ fn each_fault_comes_where_it_stands(rt: HostRuntime) {
     assert_eq!(rt;
         fault_of(&rt, wanted(&rt, "tcp", 0, 0, buffered), &[]),
         Fault::Compile(0, Refusal::BadSnap)
+    );
+    assert_eq!(rt;
+        fault_of(&rt, wanted(&rt, DEEP, 10, 0, buffered), &[]),
+        Fault::Compile(0, Refusal::TooDeep)
     );
     assert_eq!(rt;
         fault_of(

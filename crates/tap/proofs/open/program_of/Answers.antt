@@ -4,7 +4,7 @@ use Rattle.filterlang.specs.Texts.{ReadsAs, IsRefusalOf}
 use Rattle.tap.specs.declared.fault.Fault.TheVariants.{NoMemory, Compile}
 use Rattle.tap.specs.Refusals.{FilterStands, RefusesFilter}
 use Rattle.tap.specs.Watching.{ProgramOf}
-use Rattle.tap.proofs.Refusing.{misread_refuses, refuses_compile, is_expression}
+use Rattle.tap.proofs.Refusing.{misread_refuses, not_deep, refuses_compile, is_expression}
 use Rattle.tap.proofs.open.program_of.Goals as goal
 
 pub returns-in-Err : goal.returns-in-Err
@@ -29,7 +29,8 @@ pub returns-in-Ok-compile-clause-stands : goal.returns-in-Ok-compile-clause-stan
 returns-in-Ok-compile-clause-stands c =
     subst (λ f. FilterStands f c.args.spec.now.snap) (sym c.in-Text.is) (
       is_expression c.in-Text.text _ _ c.as_str.ensures.value (λ h. let e = c.in-Ok.ensures.too_long.1 h in absurd (cc)) c.in-Ok.ensures.reads,
-      λ bad. let e = c.in-Ok-compile.ensures.bad_snap.1 bad in absurd (cc),
+      (λ bad. let e = c.in-Ok-compile.ensures.bad_snap.1 bad in absurd (cc)),
+      not_deep c.args.spec.now.snap _ _ (λ bad. let e = c.in-Ok-compile.ensures.bad_snap.1 bad in absurd (cc)) (λ d. absurd (cc)) c.in-Ok-compile.ensures.too_deep,
     )
 
 pub returns : goal.returns
@@ -39,5 +40,5 @@ returns c = record {
   err = inr (subst (λ f. RefusesFilter c.args.l f c.args.spec.now.snap (Compile c.args.l c.in-Err-compile.refusal)) (sym c.in-Text.is)
       (refuses_compile c.args.l c.args.spec.now.snap c.in-Text.text
       (is_expression c.in-Text.text _ _ c.as_str.ensures.value (λ h. let e = c.in-Ok.ensures.too_long.1 h in absurd (cc)) c.in-Ok.ensures.reads)
-      _ c.in-Err-compile.refusal refl c.in-Err-compile.ensures.bad_snap c.in-Err-compile.ensures.too_long c.in-Err-compile.ensures.too_deep c.in-Err-compile.ensures.no_memory));
+      _ c.in-Err-compile.refusal refl c.in-Err-compile.ensures.bad_snap c.in-Err-compile.ensures.too_deep c.in-Err-compile.ensures.too_long c.in-Err-compile.ensures.no_memory));
 }
