@@ -37,7 +37,8 @@ pub record FeedingEnded : Type 0 where
   pub store : List Message
 
 abbrev pub feeding_ended : TableId → Profile → List Feed → List Step → List Message → FeedingEnded
-feeding_ended pair profile feeds steps store = record { pair = pair; profile = profile; feeds = feeds; steps = steps; store = store }
+feeding_ended pair profile feeds steps store =
+    record { pair = pair; profile = profile; feeds = feeds; steps = steps; store = store }
 
 -- A drain, before and after its close: its pair, its reads with their answers, and the steps of its seat.
 pub record Draining : Type 0 where

@@ -64,8 +64,8 @@ impl Model for FeedEnd {
 
     ghost Value = { FeedingEnded };
 
-    ghost view = { λ f. feeding_ended f.stand.seat.table_id f.stand.seat.me.0.profile f.stand.seat.me.0.feeds f.stand.seat.me.0.feed_steps
-        f.stand.store.messages };
+    ghost view = { λ f. feeding_ended f.stand.seat.table_id f.stand.seat.me.0.profile f.stand.seat.me.0.feeds
+        f.stand.seat.me.0.feed_steps f.stand.store.messages };
 
     ghost invariant = { λ f. IsFeeder f.stand.seat.me f.stand.store true × Counted f.counts f.stand.seat.me.0.feeds };
 }
@@ -75,7 +75,8 @@ fn count(counts: &mut Counts, fed: Fed) -> Fed
     requires room { counts.old.received < 2 ^ 64 - 1 }
     requires ordered { (counts.old.matched ≤ counts.old.received) × (counts.old.dropped ≤ counts.old.matched) }
     ensures answer { result ≡ fed }
-    ensures counts { (fs : List Feed) (m : Option Message) → Counted counts.old fs → Counted counts.new (fs ++ Arrive m fed ∷ []) }
+    ensures counts { (fs : List Feed) (m : Option Message) → Counted counts.old fs →
+        Counted counts.new (fs ++ Arrive m fed ∷ []) }
 {
     match fed {
         Fed::Closed => return fed,
@@ -100,7 +101,8 @@ impl Feeder {
         requires pair { self.old.pair ≡ link.now }
         requires room { arrivals self.old.feeds < 2 ^ 64 - 1 }
         ensures same { IsSameFeeder self.old self.new }
-        ensures call { self.new.feeds ≡ self.old.feeds ++ Arrive (kept_by self.old.program self.old.snap (arrival capture place packet.now)) result ∷ [] }
+        ensures call { self.new.feeds ≡ self.old.feeds ++
+            Arrive (kept_by self.old.program self.old.snap (arrival capture place packet.now)) result ∷ [] }
         ensures steps { self.new.steps ≡ self.old.steps ++ arrive_steps self.old.profile.mode result }
         ensures own { HasOwnRun self.new }
     {

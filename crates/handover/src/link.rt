@@ -105,7 +105,8 @@ fn parted(
     snap: u32,
     mode: Mode,
 ) -> (Link, Feeder, Drain)
-    requires table { (table.shared.table_id.words ≡ 3) × (table.shared.table_id.slots ≡ 1) × (seat.table_id ≡ table.shared.table_id) }
+    requires table { (table.shared.table_id.words ≡ 3) × (table.shared.table_id.slots ≡ 1)
+        × (seat.table_id ≡ table.shared.table_id) }
     requires seat { seat.me ≡ (first (profile_of store.capacity mode), []) }
     requires store { store ≡ filled store.capacity [] }
     requires in_range { InRange snap store.capacity }

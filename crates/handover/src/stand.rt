@@ -69,7 +69,8 @@ fn see_turn<C: Call>(link: &Link, seat: &mut Place) -> u64
 /// Stores 1 to `turn`, which hands the slot over and ends the call C.
 fn give_turn<C: Call>(link: &Link, seat: &mut Place)
     requires pair { seat.old.table_id ≡ link.now }
-    requires giving { IsGiving seat.old.me (filled seat.old.me.0.profile.capacity (handed (store_of seat.old.me.0.feeds) C.call)) }
+    requires giving { IsGiving seat.old.me
+        (filled seat.old.me.0.profile.capacity (handed (store_of seat.old.me.0.feeds) C.call)) }
     requires loud { Loud (terms_of seat.old.me.0.profile) (store_of seat.old.me.0.feeds) C.call }
     requires fits { AllFit seat.old.me.0.profile.capacity (C.call ∷ []) }
     ensures pair { seat.new.table_id ≡ seat.old.table_id }
@@ -99,7 +100,8 @@ impl Stand {
         requires pair { self.old.seat.table_id ≡ link.now }
         requires feeder { IsFeeder self.old.seat.me self.old.store false }
         ensures pair { self.new.seat.table_id ≡ self.old.seat.table_id }
-        ensures went { Went self.old.seat.me self.new.seat.me self.new.store (Arrive None result) (arrive_steps self.old.seat.me.0.profile.mode result) }
+        ensures went { Went self.old.seat.me self.new.seat.me self.new.store (Arrive None result)
+            (arrive_steps self.old.seat.me.0.profile.mode result) }
     {
         if see_closed::<Brand>(link, &mut self.seat) == 0 {
             Fed::Passed
@@ -111,12 +113,14 @@ impl Stand {
     /// A packet for which the store has room, where the store becomes the hold only for want of room.
     fn keep(&mut self, link: &Link, packet: &Accepted<'_>) -> Fed
         ghost message: { Message }
-        requires offers { Offers self.old.seat.me self.old.store message (arrival packet.now.capture packet.now.place packet.now.packet.now) packet.now.kept }
+        requires offers { Offers self.old.seat.me self.old.store message
+            (arrival packet.now.capture packet.now.place packet.now.packet.now) packet.now.kept }
         requires fits { room self.old.store.messages + size_of message ≤ self.old.seat.me.0.profile.capacity }
         requires mode { self.old.seat.me.0.profile.mode ≡ mode.Buffered }
         requires pair { self.old.seat.table_id ≡ link.now }
         ensures pair { self.new.seat.table_id ≡ self.old.seat.table_id }
-        ensures went { Went self.old.seat.me self.new.seat.me self.new.store (Arrive (Some message) result) (arrive_steps mode.Buffered result) }
+        ensures went { Went self.old.seat.me self.new.seat.me self.new.store (Arrive (Some message) result)
+            (arrive_steps mode.Buffered result) }
     {
         if see_closed::<Brand>(link, &mut self.seat) != 0 {
             return Fed::Closed;
@@ -130,12 +134,14 @@ impl Stand {
     /// A packet for which the store has room, where the store becomes the hold at once.
     fn hand_over(&mut self, link: &Link, packet: &Accepted<'_>) -> Fed
         ghost message: { Message }
-        requires offers { Offers self.old.seat.me self.old.store message (arrival packet.now.capture packet.now.place packet.now.packet.now) packet.now.kept }
+        requires offers { Offers self.old.seat.me self.old.store message
+            (arrival packet.now.capture packet.now.place packet.now.packet.now) packet.now.kept }
         requires fits { room self.old.store.messages + size_of message ≤ self.old.seat.me.0.profile.capacity }
         requires mode { self.old.seat.me.0.profile.mode ≡ mode.Immediate }
         requires pair { self.old.seat.table_id ≡ link.now }
         ensures pair { self.new.seat.table_id ≡ self.old.seat.table_id }
-        ensures went { Went self.old.seat.me self.new.seat.me self.new.store (Arrive (Some message) result) (arrive_steps mode.Immediate result) }
+        ensures went { Went self.old.seat.me self.new.seat.me self.new.store (Arrive (Some message) result)
+            (arrive_steps mode.Immediate result) }
     {
         if see_closed::<Brand>(link, &mut self.seat) != 0 {
             return Fed::Closed;
@@ -155,11 +161,13 @@ impl Stand {
     /// A packet for which the store has no room.
     fn rotate(&mut self, link: &Link, packet: &Accepted<'_>) -> Fed
         ghost message: { Message }
-        requires offers { Offers self.old.seat.me self.old.store message (arrival packet.now.capture packet.now.place packet.now.packet.now) packet.now.kept }
+        requires offers { Offers self.old.seat.me self.old.store message
+            (arrival packet.now.capture packet.now.place packet.now.packet.now) packet.now.kept }
         requires over { self.old.seat.me.0.profile.capacity < room self.old.store.messages + size_of message }
         requires pair { self.old.seat.table_id ≡ link.now }
         ensures pair { self.new.seat.table_id ≡ self.old.seat.table_id }
-        ensures went { Went self.old.seat.me self.new.seat.me self.new.store (Arrive (Some message) result) (arrive_steps self.old.seat.me.0.profile.mode result) }
+        ensures went { Went self.old.seat.me self.new.seat.me self.new.store (Arrive (Some message) result)
+            (arrive_steps self.old.seat.me.0.profile.mode result) }
     {
         if see_closed::<Brand>(link, &mut self.seat) != 0 {
             return Fed::Closed;
@@ -178,11 +186,13 @@ impl Stand {
     /// A packet that the filter accepts.
     pub(crate) fn take(&mut self, link: &Link, mode: Mode, packet: &Accepted<'_>) -> Fed
         ghost message: { Message }
-        requires offers { Offers self.old.seat.me self.old.store message (arrival packet.now.capture packet.now.place packet.now.packet.now) packet.now.kept }
+        requires offers { Offers self.old.seat.me self.old.store message
+            (arrival packet.now.capture packet.now.place packet.now.packet.now) packet.now.kept }
         requires mode { self.old.seat.me.0.profile.mode ≡ mode }
         requires pair { self.old.seat.table_id ≡ link.now }
         ensures pair { self.new.seat.table_id ≡ self.old.seat.table_id }
-        ensures went { Went self.old.seat.me self.new.seat.me self.new.store (Arrive (Some message) result) (arrive_steps mode result) }
+        ensures went { Went self.old.seat.me self.new.seat.me self.new.store (Arrive (Some message) result)
+            (arrive_steps mode result) }
     {
         if !self.store.fits(packet.kept) {
             return self.rotate(link, packet);

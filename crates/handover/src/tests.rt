@@ -306,6 +306,40 @@ fn capacities_and_snapshot_lengths_have_their_ranges(rt: HostRuntime) -> Result<
     Ok(())
 }
 
+/// One arrival.
+fn arrive(link: &Link, feeder: &mut Feeder, place: u64) -> Option<Fed>
+    requires { feeder.old.pair ≡ link.now }
+    ensures { feeder.new.pair ≡ feeder.old.pair }
+{
+    if feeder.counts().received == u64::MAX {
+        return None;
+    }
+    Some(feeder.arrive(link, 0, place, &packet()))
+}
+
+// By hand: with `rt try --test --fail-alloc N` this tells NoMemory for N of 1 to 5, what the pair takes (two buffers, the row of
+// slots that the table is given, its words and its slot), and of 6, the buffer that is brought; for every other N it passes,
+// since nothing else takes memory.
+#[test]
+fn only_the_pair_takes_memory(rt: HostRuntime) -> Result<(), Fail> {
+    let Ok((link, mut feeder, mut drain)) = pair(rt.alloc(), keeping(64)?, 32, 64) else {
+        panic!(rt; "NoMemory")
+    };
+    let Ok(empty) = Buffer::new(rt.alloc(), drain.capacity()) else {
+        panic!(rt; "NoMemory")
+    };
+    assert_eq!(rt; arrive(&link, &mut feeder, 0), Some(Fed::Stored));
+    assert_eq!(rt; arrive(&link, &mut feeder, 1), Some(Fed::Rotated));
+    assert_eq!(rt; arrive(&link, &mut feeder, 2), Some(Fed::Dropped));
+    drain.read(&link, empty);
+    assert!(rt; feeder.flush(&link));
+    let drain = drain.close(&link);
+    let feeder = feeder.end(&link);
+    let settled = settle(link, feeder, drain);
+    assert_eq!(rt; settled.counts.dropped, 1);
+    Ok(())
+}
+
 /// Takes what may be sent to another thread and dropped there.
 fn takes_what_is_sent<T: Send + Drop>(_value: T) {}
 
