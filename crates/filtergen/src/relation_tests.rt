@@ -248,7 +248,8 @@ fn a_divisor_of_zero_aborts_under_a_negation_too(rt: HostRuntime) {
 
 #[test]
 fn arithmetic_is_modulo_two_to_the_32(rt: HostRuntime) {
-    // (len - 8) / 10 = 3
+    // len = 38, (len - 8) / 10 = 3
+    answers(&rt, equal(Value::Length, 38), Verdict::Yes);
     let less = binary(&rt, Value::Length, Operator::Minus, Value::Number(8));
     let tenth = binary(&rt, less, Operator::Divide, Value::Number(10));
     answers(&rt, equal(tenth, 3), Verdict::Yes);
@@ -310,7 +311,7 @@ fn made(operator: Operator, a: u32, b: u32) -> Option<u32> {
         Operator::Divide => x.checked_div(y)?,
         Operator::Modulo => x.checked_rem(y)?,
         Operator::BitAnd => x & y,
-        Operator::BitXor => (x | y) - (x & y),
+        Operator::BitXor => (x | y).wrapping_sub(x & y),
         Operator::BitOr => x + y - (x & y),
         Operator::ShiftLeft => if b < 32 { x << b } else { 0 },
         Operator::ShiftRight => if b < 32 { x >> b } else { 0 },
@@ -556,7 +557,11 @@ fn a_layer_that_was_tested_is_not_tested_again(rt: HostRuntime) {
     // ip[0] = 0 and tcp[0] = 0: the type alone is known
     let ip: &[u16] = &[code::LD_H_ABS, code::JEQ_K, code::LD_B_ABS, code::JEQ_K];
     let narrower = both(&rt, equal(byte_of(&rt, Layer::Ip, 0), 0), tcp(0));
-    has_codes(&rt, &narrower, joined(&rt, &[ip, &first[2..], byte]).as_slice());
+    has_codes(
+        &rt,
+        &narrower,
+        joined(&rt, &[ip, &first[2..], byte]).as_slice(),
+    );
     // tcp and tcp[0] = 0: later fragments are not left out yet
     let word = parse(rt.alloc(), "tcp").expect(&rt, "the text is an expression");
     let behind = both(&rt, word, tcp(0));
@@ -577,9 +582,17 @@ fn a_layer_that_was_tested_is_not_tested_again(rt: HostRuntime) {
     has_codes(&rt, &relation, &codes);
     // not tcp[0] = 0 and tcp[0] = 0, tcp[0] = 0 or tcp[0] = 0: nothing is known
     let after_not = both(&rt, negated(&rt, tcp(0)), tcp(0));
-    has_codes(&rt, &after_not, joined(&rt, &[first, byte, first, byte]).as_slice());
+    has_codes(
+        &rt,
+        &after_not,
+        joined(&rt, &[first, byte, first, byte]).as_slice(),
+    );
     let after_or = either(&rt, tcp(0), tcp(0));
-    has_codes(&rt, &after_or, joined(&rt, &[first, byte, first, byte]).as_slice());
+    has_codes(
+        &rt,
+        &after_or,
+        joined(&rt, &[first, byte, first, byte]).as_slice(),
+    );
 }
 
 #[test]
