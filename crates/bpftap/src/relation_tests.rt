@@ -53,7 +53,11 @@ fn relations_decide_as_worked_out(rt: HostRuntime) -> Result<(), Fail> {
     for (expr, wire, accepted) in ROWS {
         let program = compile_text(rt.alloc(), expr, 96).expect(&rt, "it compiles");
         let wanted = if accepted { 96 } else { 0 };
-        assert_eq!(rt; run(&program, frame.as_slice(), wire), wanted, "{expr} at {wire}");
+        assert_eq!(rt;
+            run(&program, frame.as_slice(), wire),
+            wanted,
+            "{expr} at {wire}"
+        );
     }
     Ok(())
 }
@@ -62,7 +66,8 @@ fn relations_decide_as_worked_out(rt: HostRuntime) -> Result<(), Fail> {
 fn nested(rt: &(impl Abort + AllocGlobal), signs: usize) -> String {
     let mut text = String::new(rt.alloc());
     for sign in 0..signs {
-        text.push_str(if sign == 0 { "1+" } else { "(1+" }).expect(rt, "there is memory");
+        text.push_str(if sign == 0 { "1+" } else { "(1+" })
+            .expect(rt, "there is memory");
     }
     text.push_str("1").expect(rt, "there is memory");
     for _ in 1..signs {
@@ -85,7 +90,8 @@ fn right_sides_are_nested_as_deep_as_the_scratch_memory(rt: HostRuntime) -> Resu
 #[test]
 fn what_weighs_500_compiles(rt: HostRuntime) -> Result<(), Fail> {
     let frame = bytes_of(rt.alloc(), UDP)?;
-    let heaviest = "port (1 or 2 or 3 or 4 or 5 or 6 or 7 or 8 or 9 or 10 or 11 or 12) or len + 1 = 0";
+    let heaviest =
+        "port (1 or 2 or 3 or 4 or 5 or 6 or 7 or 8 or 9 or 10 or 11 or 12) or len + 1 = 0";
     let program = compile_text(rt.alloc(), heaviest, 96).expect(&rt, "it compiles");
     assert_eq!(rt; run(&program, frame.as_slice(), 38), 0);
     assert_eq!(rt; run(&program, frame.as_slice(), 4_294_967_295), 96);
@@ -94,7 +100,10 @@ fn what_weighs_500_compiles(rt: HostRuntime) -> Result<(), Fail> {
 
 #[test]
 fn a_relation_jumps_by_its_own_offsets(rt: HostRuntime) {
-    let program = compile_text(rt.alloc(), "tcp[tcpflags] & tcp-syn != 0", 96).expect(&rt, "it compiles");
+    let program = compile_text(rt.alloc(), "tcp[tcpflags] & tcp-syn != 0", 96).expect(
+        &rt,
+        "it compiles",
+    );
     let listing = write_listing(rt.alloc(), &program).expect(&rt, "there is memory");
     for line in listing.as_slice().split(|byte| *byte == b'\n') {
         assert!(rt; !line.starts_with(b"5 "));
