@@ -27,7 +27,7 @@ pub fn check<O: Write, E: Write>(alloc: Global, expr: &str, out: &mut O, err: &m
     }
 }
 
-// Prints the listing of a program, and answers the exit status.
+/// Prints the listing of a program, and answers the exit status.
 fn print<O: Write, E: Write>(alloc: Global, program: &Program, out: &mut O, err: &mut E) -> u8
     ensures printed { result ≡ 0 → Appends (O.contents out.old) (O.contents out.new) (listing_of program.now) }
     ensures nothing { result ≡ REFUSED → Keeps (O.contents out.old) (O.contents out.new) }

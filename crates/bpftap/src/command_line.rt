@@ -157,7 +157,7 @@ fn program<'a>(alloc: Global) -> Result<Command<'a>, AllocError> {
         .subcommand(steps_command(alloc)?)
 }
 
-// A number is decimal digits alone: a sign, a blank or nothing is none.
+/// A number is decimal digits alone: a sign, a blank or nothing is none.
 fn snapshot_length(text: &str) -> Option<u32> {
     if !text.bytes().all(|b| b.is_ascii_digit()) {
         return None;
@@ -203,7 +203,7 @@ pub fn read_words<'a, S: AsStr>(alloc: Global, words: &'a [S]) -> Result<Request
     }
 }
 
-// The error of a snapshot length that is not digits alone, with the usage of `cut`.
+/// The error of a snapshot length that is not digits alone, with the usage of `cut`.
 fn bad_snap(alloc: Global) -> Result<Error, AllocError> {
     cut_command(alloc)?.bin_name("bpftap cut")?.error(
         ErrorKind::ValueValidation,

@@ -9,7 +9,7 @@ use std::rt::Env;
 use std::test::Fail;
 use std::{env, fs, process};
 
-// Runs a command, and checks its status and all that it prints.
+/// Runs a command, and checks its status and all that it prints.
 fn command(
     rt: &(impl Abort + Files + AllocGlobal),
     words: &[&str],
@@ -25,7 +25,7 @@ fn command(
     assert_eq!(rt; told, status, "{words:?}");
 }
 
-// Makes a folder of this process's own and goes into it. Its path.
+/// Makes a folder of this process's own and goes into it. Its path.
 fn enter_scratch<R: Files + Env + AllocGlobal>(rt: &R, id: u32) -> Result<String, Fail> {
     let scratch = format!(in rt.alloc(); "/tmp/bpftap-tests-{id}")?;
     // A folder of the same name is left where a process of the same number was stopped.
@@ -35,7 +35,7 @@ fn enter_scratch<R: Files + Env + AllocGlobal>(rt: &R, id: u32) -> Result<String
     Ok(scratch)
 }
 
-// `bpftap cut -s 0 -f LISTING IN OUT`: the line on standard error, and the status.
+/// `bpftap cut -s 0 -f LISTING IN OUT`: the line on standard error, and the status.
 fn cuts(rt: &(impl Abort + Files + AllocGlobal), paths: [&str; 3], err: &str, status: u8) {
     let [listing, input, output] = paths;
     let words = ["bpftap", "cut", "-s", "0", "-f", listing, input, output];

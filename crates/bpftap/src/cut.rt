@@ -99,7 +99,7 @@ pub fn cut<R: Source, W: Sink>(
     }
 }
 
-// The header, and then each accepted packet.
+/// The header, and then each accepted packet.
 fn write_accepted<R: Source, W: Sink>(
     reader: &mut Reader<R>,
     program: &Program,
@@ -127,7 +127,7 @@ fn write_accepted<R: Source, W: Sink>(
     (sink, sent, end)
 }
 
-// Each accepted packet, written before the next one is read.
+/// Each accepted packet, written before the next one is read.
 fn copy_accepted<R: Source, W: Sink>(
     reader: &mut Reader<R>,
     program: &Program,
@@ -156,7 +156,7 @@ fn copy_accepted<R: Source, W: Sink>(
     }
 }
 
-// A packet, cut, where the program accepts it.
+/// A packet, cut, where the program accepts it.
 #[inline]
 fn put_one<W: Sink>(
     writer: &mut Writer<W>,

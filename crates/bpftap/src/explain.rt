@@ -8,14 +8,14 @@ use std::io::Write;
 use std::slice::Iter;
 use tap::{Answer, Answered, Placed, Spec, Step, Trace};
 
-// The bytes of the record that a listener keeps of a packet.
+/// The bytes of the record that a listener keeps of a packet.
 fn size_kept(spec: &Spec, placed: &Placed) -> usize {
     let kept = placed.packet.bytes.as_slice().len().min(spec.snap as usize);
     // The length of a slice is below half the address space.
     32usize.saturating_add(kept.saturating_add(7) / 8 * 8)
 }
 
-// The answer to an arrival, and why it was that.
+/// The answer to an arrival, and why it was that.
 fn write_arrival<O: Write>(
     spec: &Spec,
     placed: &Placed,
@@ -46,7 +46,7 @@ fn write_arrival<O: Write>(
     }
 }
 
-// The answer to a flush, a read or a close, and why it was that.
+/// The answer to a flush, a read or a close, and why it was that.
 fn write_other<O: Write>(before: &Answered, out: &mut O) -> io::Result<()> {
     let (load, held) = (before.load, before.held);
     match before.answer {
@@ -62,7 +62,7 @@ fn write_other<O: Write>(before: &Answered, out: &mut O) -> io::Result<()> {
     }
 }
 
-// What is left of each listener's answers.
+/// What is left of each listener's answers.
 #[derive(Drop)]
 struct Cursor<'a> {
     answers: Vec<Iter<'a, Answered>>,
@@ -77,13 +77,13 @@ impl<'a> Cursor<'a> {
         Ok(Cursor { answers })
     }
 
-    // The next answer of the l-th listener.
+    /// The next answer of the l-th listener.
     fn next_of(&mut self, l: usize) -> Option<&'a Answered> {
         self.answers.get_mut(l)?.next()
     }
 }
 
-// The answers to an arrival, a line for each listener.
+/// The answers to an arrival, a line for each listener.
 fn write_arrivals<O: Write>(
     line: usize,
     specs: &[Spec],
@@ -111,7 +111,7 @@ fn write_arrivals<O: Write>(
     Ok(())
 }
 
-// The answer to a step of one listener.
+/// The answer to a step of one listener.
 fn write_own<O: Write>(
     line: usize,
     word: &str,

@@ -72,7 +72,7 @@ fn each_printed_listing_is_the_program(rt: HostRuntime) {
     }
 }
 
-// `ip`, and 2,047 times `||ip`: an expression that is accepted, whose program would be too long.
+/// `ip`, and 2,047 times `||ip`: an expression that is accepted, whose program would be too long.
 fn long_text(rt: &(impl Abort + AllocGlobal)) -> String {
     let mut text = String::new(rt.alloc());
     text.push_str("ip").expect(rt, "there is memory");

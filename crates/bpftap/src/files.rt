@@ -78,7 +78,7 @@ struct FileId {
     inode: u64,
 }
 
-// The regular file at a path, where the system tells.
+/// The regular file at a path, where the system tells.
 fn file_at<R: Files>(rt: &R, path: &str) -> Option<FileId> {
     let metadata = fs::metadata(rt, path).ok()?;
     if !metadata.is_file() {

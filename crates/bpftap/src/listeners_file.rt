@@ -7,7 +7,7 @@ use std::alloc::{AllocError, Global};
 use std::str;
 use tap::{Filter, Spec};
 
-// What a line says, but for its expression.
+/// What a line says, but for its expression.
 #[derive(Clone, Copy)]
 struct Terms {
     snap: u32,
@@ -15,7 +15,7 @@ struct Terms {
     mode: Mode,
 }
 
-// A snapshot length, where 0 stands for the largest.
+/// A snapshot length, where 0 stands for the largest.
 fn snapshot_length(text: &str) -> Option<u32> {
     let snap = number(text)?;
     if snap > u64::from(MAX_SNAP) {
@@ -24,8 +24,8 @@ fn snapshot_length(text: &str) -> Option<u32> {
     Some(meant(snap as u32))
 }
 
-// The terms and the expression of a line `SNAP CAPACITY EXPRESSION`. Behind the digits of CAPACITY an `i` stands for the
-// mode Immediate. Where the expression is empty the space before it may be missing.
+/// The terms and the expression of a line `SNAP CAPACITY EXPRESSION`. Behind the digits of CAPACITY an `i` stands for the
+/// mode Immediate. Where the expression is empty the space before it may be missing.
 fn fields(line: &str) -> Option<(Terms, &str)> {
     let (snap, rest) = line.split_once(' ')?;
     let (capacity, expression) = rest.split_once(' ').unwrap_or((rest, ""));
@@ -41,7 +41,7 @@ fn fields(line: &str) -> Option<(Terms, &str)> {
     Some((terms, expression))
 }
 
-// The listener of a line, nothing where the line has not its form.
+/// The listener of a line, nothing where the line has not its form.
 fn spec_of(alloc: Global, line: &[u8]) -> Result<Option<Spec>, AllocError> {
     let Ok(line) = str::from_utf8(line) else {
         return Ok(None);

@@ -37,7 +37,7 @@ mod veth_frames;
 use std::process::ExitCode;
 use std::{env, io};
 
-// The words that the program was called with.
+/// The words that the program was called with.
 fn words(rt: &HostRuntime) -> io::Result<Vec<String>> {
     Ok(env::args(rt)?.collect(rt.alloc())?)
 }

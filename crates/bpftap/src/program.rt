@@ -40,7 +40,7 @@ pub fn run<R: Files + AllocGlobal, S: AsStr, O: Write, E: Write>(
     }
 }
 
-// Help goes to `out` with status 0, what is wrong with the words to `err` with status 1.
+/// Help goes to `out` with status 0, what is wrong with the words to `err` with status 1.
 fn tell_clap<O: Write, E: Write>(error: &Error, out: &mut O, err: &mut E) -> u8 {
     if error.kind() == clap::error::ErrorKind::OutOfMemory {
         tell_fault(Fault::NoMemory, REFUSED, err)
@@ -64,7 +64,7 @@ pub fn tell_io<E: Write>(error: &io::Error, path: &str, err: &mut E) -> u8 {
     }
 }
 
-// The filter that the words give: a listing's file is read, unless there is an expression too.
+/// The filter that the words give: a listing's file is read, unless there is an expression too.
 fn filter_of<R: Files + AllocGlobal, E: Write>(
     rt: &R,
     words: &CutWords<'_>,
@@ -81,13 +81,13 @@ fn filter_of<R: Files + AllocGlobal, E: Write>(
     }
 }
 
-// Whether OUT is one of the files that are read.
+/// Whether OUT is one of the files that are read.
 fn loses_a_file<R: Files + AllocGlobal>(rt: &R, words: &CutWords<'_>) -> bool {
     let listing = words.listing.unwrap_or(words.input);
     is_same_file(rt, words.input, words.output) || is_same_file(rt, listing, words.output)
 }
 
-// `bpftap cut`: the filter is accepted before IN is opened, and OUT is made at its first write.
+/// `bpftap cut`: the filter is accepted before IN is opened, and OUT is made at its first write.
 fn cut_files<R: Files + AllocGlobal, E: Write>(rt: &R, words: &CutWords<'_>, err: &mut E) -> u8 {
     let program = match filter_of(rt, words, err) {
         Ok(program) => program,
@@ -124,7 +124,7 @@ fn cut_files<R: Files + AllocGlobal, E: Write>(rt: &R, words: &CutWords<'_>, err
     }
 }
 
-// Empties the buffer before OUT. What fails only now is a fault of OUT too, and goes before a torn record.
+/// Empties the buffer before OUT. What fails only now is a fault of OUT too, and goes before a torn record.
 fn flushed<R, W: Write>(mut end: CutEnd<R, Counted<W>>) -> CutEnd<R, Counted<W>> {
     if end.sink.inner.flush().is_err() {
         end.end = End::Output(Fault::Device);

@@ -5,7 +5,7 @@ use std::io;
 use std::io::Write;
 use tap::Report;
 
-// A message, on a line of its own.
+/// A message, on a line of its own.
 fn write_message<O: Write>(message: &Message, out: &mut O) -> io::Result<()> {
     writeln!(
         out,
@@ -26,7 +26,7 @@ fn write_messages<O: Write>(messages: &[Message], out: &mut O) -> io::Result<()>
     Ok(())
 }
 
-// The l-th listener's counts, its batches, and what it holds.
+/// The l-th listener's counts, its batches, and what it holds.
 fn write_report<O: Write>(l: usize, report: &Report, out: &mut O) -> io::Result<()> {
     writeln!(
         out,

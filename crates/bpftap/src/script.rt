@@ -5,7 +5,7 @@ use std::alloc::Global;
 use std::str;
 use tap::Step;
 
-// The number of a listener, up to 4,294,967,295.
+/// The number of a listener, up to 4,294,967,295.
 fn listener_of(text: &str) -> Option<u32> {
     let l = number(text)?;
     if l > u64::from(u32::MAX) {
@@ -14,7 +14,7 @@ fn listener_of(text: &str) -> Option<u32> {
     Some(l as u32)
 }
 
-// The step of a line, nothing where the line has not its form.
+/// The step of a line, nothing where the line has not its form.
 fn step_of(line: &[u8]) -> Option<Step> {
     let line = str::from_utf8(line).ok()?;
     if line == "arrive" {

@@ -27,7 +27,7 @@ pub fn read_asked(alloc: Global, listeners: &[u8], script: &[u8]) -> Result<Aske
     Ok(Asked { specs, steps })
 }
 
-// Tells the capture that ended with a record fault, if any, and answers the exit status.
+/// Tells the capture that ended with a record fault, if any, and answers the exit status.
 fn tell_torn<E: Write>(torn: Option<(u32, savefile::Fault)>, err: &mut E) -> u8
     ensures { result ≤ 3 }
 {
@@ -37,7 +37,7 @@ fn tell_torn<E: Write>(torn: Option<(u32, savefile::Fault)>, err: &mut E) -> u8
     }
 }
 
-// Tells that `out` failed, or that memory was refused, and answers the exit status.
+/// Tells that `out` failed, or that memory was refused, and answers the exit status.
 fn tell_written<E: Write>(written: io::Result<()>, err: &mut E) -> u8
     ensures { result ≤ 3 }
 {
@@ -50,7 +50,7 @@ fn tell_written<E: Write>(written: io::Result<()>, err: &mut E) -> u8
     }
 }
 
-// Prints the reports, tells a torn capture, and answers the exit status: the greatest that stands.
+/// Prints the reports, tells a torn capture, and answers the exit status: the greatest that stands.
 fn tell_reports<O: Write, E: Write>(
     reports: &[Report],
     torn: Option<(u32, savefile::Fault)>,
@@ -67,7 +67,7 @@ fn tell_reports<O: Write, E: Write>(
     status.max(tell_torn(torn, err))
 }
 
-// Prints the answers, and then what is printed of reports.
+/// Prints the answers, and then what is printed of reports.
 fn tell_trace<O: Write, E: Write>(
     alloc: Global,
     asked: &Asked,

@@ -13,7 +13,7 @@ use std::io::{BufWriter, Write};
 /// How many bytes of output are gathered before they are written.
 const OUTPUT_BUFFER: usize = 1 << 16;
 
-// The bytes of a file, or, told on `err`, why there are none, and the exit status.
+/// The bytes of a file, or, told on `err`, why there are none, and the exit status.
 fn read_file<R: Files + AllocGlobal, E: Write>(
     rt: &R,
     path: &str,
@@ -25,7 +25,7 @@ fn read_file<R: Files + AllocGlobal, E: Write>(
     }
 }
 
-// The bytes of all captures.
+/// The bytes of all captures.
 fn read_captures<R: Files + AllocGlobal, E: Write>(
     rt: &R,
     paths: &[&str],

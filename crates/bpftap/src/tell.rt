@@ -30,7 +30,7 @@ pub fn tell_fault<E: Write, D: Display + Drop>(fault: D, status: u8, err: &mut E
     status
 }
 
-// The line, in one write where it is not too long. It takes no memory, which may be the fault that is told.
+/// The line, in one write where it is not too long. It takes no memory, which may be the fault that is told.
 fn write_line<E: Write, D: Display + Drop>(fault: D, err: &mut E) -> io::Result<()> {
     let mut line = Cursor::new([0; LINE]);
     let put = writeln!(line, "bpftap: {fault}");
@@ -80,7 +80,7 @@ pub fn tell_device<E: Write>(path: &str, err: &mut E) -> u8
     tell_fault(format_args!("Device {}", Path(path)), DEVICE, err)
 }
 
-// A fault of the file or device at a path.
+/// A fault of the file or device at a path.
 fn tell_of<E: Write>(fault: Fault, path: &str, err: &mut E) -> u8
     ensures { result ≡ fault_status fault }
 {

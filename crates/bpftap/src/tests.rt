@@ -27,7 +27,7 @@ pub(crate) const ALL: &[u8] = b"1\n6 0 0 262144\n";
 
 pub(crate) const ETHERTYPE: &[u8] = b"4\n40 0 0 12\n21 0 1 2048\n6 0 0 262144\n6 0 0 0\n";
 
-// The bytes that a text of hexadecimal digits stands for; what is no digit is passed over.
+/// The bytes that a text of hexadecimal digits stands for; what is no digit is passed over.
 pub(crate) fn bytes_of(alloc: Global, hex: &str) -> Result<Vec<u8>, AllocError> {
     let mut bytes = Vec::new(alloc);
     let mut high = None;
@@ -111,7 +111,7 @@ fn cut_in(
     seen
 }
 
-// What was written, that its length was told, and the fault's line and status.
+/// What was written, that its length was told, and the fault's line and status.
 fn check(rt: &impl Abort, what: &str, seen: &Seen, written: &[u8], err: &str, status: u8) {
     assert_eq!(rt; seen.written.as_slice(), written, "written: {what}");
     assert_eq!(rt; seen.sent, written.len() as u64, "sent: {what}");

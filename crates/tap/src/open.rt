@@ -15,7 +15,7 @@ use filtergen::{Refusal, compile};
 use listener::{Listener, OpenFault};
 use std::alloc::Global;
 
-// Why the text of the l-th listener is no expression.
+/// Why the text of the l-th listener is no expression.
 fn misread(l: u32, fault: filterlang::Fault) -> Fault
     ensures { (result ≡ NoMemory) ⊎ ((fault ≢ misread.NoMemory) × (result ≡ Expression l fault)) }
 {
@@ -25,7 +25,7 @@ fn misread(l: u32, fault: filterlang::Fault) -> Fault
     }
 }
 
-// The program of the l-th listener.
+/// The program of the l-th listener.
 fn program_of(alloc: Global, l: u32, spec: &Spec) -> Result<Program, Fault>
     ensures ok { IfOk result (ProgramOf spec.now.filter spec.now.snap) }
     ensures stands { OnOk result (FilterStands spec.now.filter spec.now.snap) }
@@ -47,7 +47,7 @@ fn program_of(alloc: Global, l: u32, spec: &Spec) -> Result<Program, Fault>
     }
 }
 
-// The l-th listener.
+/// The l-th listener.
 fn open_one(alloc: Global, l: u32, spec: &Spec, traced: bool) -> Result<Watched, Fault>
     ensures ok { IfOk result (Opened traced spec.now) }
     ensures err { IfErr result (λ f. (f ≡ NoMemory) ⊎ RefusesListener l spec.now f) }

@@ -35,7 +35,7 @@ pub fn first_missing(steps: &[Step], listeners: usize) -> Option<usize>
     None
 }
 
-// A packet arrives at each listener.
+/// A packet arrives at each listener.
 fn arrive_all(watched: &mut Vec<Watched>, placed: &Placed) -> Result<(), Fault>
     requires { CountsFit 1 watched.old.items }
     ensures ok { OnOk result (watched.new.items ≡ map (arrived_at placed.now) watched.old.items) }
@@ -74,7 +74,7 @@ fn close_one(watched: &mut Vec<Watched>, l: usize) -> Result<(), Fault>
     one.close()
 }
 
-// One step. What is left of the playlist behind it.
+/// One step. What is left of the playlist behind it.
 fn play_step<'a>(
     alloc: Global,
     watched: &mut Vec<Watched>,

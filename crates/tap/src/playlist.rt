@@ -28,7 +28,7 @@ pub struct Playlist {
 }
 
 impl Playlist {
-    // The packets of the next capture, where none before is torn.
+    /// The packets of the next capture, where none before is torn.
     fn add(
         &mut self,
         n: u32,
@@ -57,7 +57,7 @@ fn torn_at(n: u32, fault: Option<savefile::Fault>) -> Option<(u32, savefile::Fau
     }
 }
 
-// Packets with their places, behind what is there.
+/// Packets with their places, behind what is there.
 fn place(to: &mut Vec<Placed>, capture: u32, packets: Vec<Packet>) -> Result<(), AllocError>
     ensures items { OnOk result (to.new.items ≡ to.old.items ++ placed capture 0 packets.items) }
     ensures packets { OnOk result (AllPackets to.old.items → AllPackets to.new.items) }
@@ -75,12 +75,12 @@ fn place(to: &mut Vec<Placed>, capture: u32, packets: Vec<Packet>) -> Result<(),
     Ok(())
 }
 
-// What the type says of bytes.
+/// What the type says of bytes.
 fn are_bytes(bytes: &[u8])
     ensures { AllByRecursion (λ b. b < 256) bytes.now }
 {}
 
-// The packets of a capture.
+/// The packets of a capture.
 fn read_one(
     alloc: Global,
     n: u32,

@@ -25,14 +25,14 @@ pub const MOST_LISTENERS: usize = 64;
 /// The most captures of a replay.
 pub const MOST_CAPTURES: usize = 65_536;
 
-// What a replay came to.
+/// What a replay came to.
 #[derive(Drop)]
 struct Outcome {
     playlist: Playlist,
     watched: Vec<Watched>,
 }
 
-// Plays steps over the packets of captures.
+/// Plays steps over the packets of captures.
 fn play_all(
     alloc: Global,
     captures: &[&[u8]],
@@ -56,7 +56,7 @@ fn play_all(
     Ok(Outcome { playlist, watched })
 }
 
-// The reports.
+/// The reports.
 fn report_all(alloc: Global, watched: Vec<Watched>) -> Result<Vec<Report>, Fault>
     ensures ok { IfOk result (λ rs. AllZip Tells watched.items rs.items) }
     ensures err { IfErr result (λ f. f ≡ NoMemory) }
@@ -69,7 +69,7 @@ fn report_all(alloc: Global, watched: Vec<Watched>) -> Result<Vec<Report>, Fault
     Ok(reports)
 }
 
-// The reports, and the answers that were followed.
+/// The reports, and the answers that were followed.
 fn trace_all(
     alloc: Global,
     watched: Vec<Watched>,

@@ -38,7 +38,7 @@ impl Model for Watched {
     ghost invariant = { λ w. ForSome w.spare (λ b. b ≡ filled w.listener.terms.capacity []) };
 }
 
-// How a listener stands before a step.
+/// How a listener stands before a step.
 #[derive(Clone, Copy)]
 struct Standing {
     load: usize,
@@ -68,7 +68,7 @@ impl Standing {
     }
 }
 
-// Adds an answer, where answers are followed.
+/// Adds an answer, where answers are followed.
 fn follow(answers: &mut Option<Vec<Answered>>, answered: Answered) -> Result<(), AllocError>
     ensures { OnOk result (option_map (λ a. a.items) answers.new ≡ with_answer answered (option_map (λ a. a.items) answers.old)) }
 {
@@ -126,7 +126,7 @@ impl Watched {
         Ok(())
     }
 
-    // An empty buffer to bring to a read.
+    /// An empty buffer to bring to a read.
     fn empty_buffer(&mut self, alloc: Global) -> Result<Buffer, Fault>
         ensures ok { IfOk result (λ buffer. buffer ≡ filled self.old.listener.terms.capacity []) }
         ensures same { self.new ≡ self.old }
@@ -195,7 +195,7 @@ impl Watched {
     }
 }
 
-// Copies the messages of a buffer behind those that are there.
+/// Copies the messages of a buffer behind those that are there.
 fn copy(alloc: Global, buffer: &Buffer, to: &mut Vec<Message>) -> Result<(), AllocError>
     ensures { OnOk result (to.new.items ≡ to.old.items ++ buffer.now.messages) }
 {

@@ -41,7 +41,7 @@ impl Table {
         }
     }
 
-    // Counts a call, and refuses it where one is to be refused still.
+    /// Counts a call, and refuses it where one is to be refused still.
     fn call(&self) -> io::Result<()> {
         self.calls.set(self.calls.get().wrapping_add(1));
         let Some(refused) = self.refused.get().checked_sub(1) else {
@@ -189,7 +189,7 @@ impl<'a> Files for System<'a> {
     }
 }
 
-// Cuts the torn capture with these of the standard streams open, and looks where OUT went.
+/// Cuts the torn capture with these of the standard streams open, and looks where OUT went.
 fn cut_with(rt: &(impl Abort + AllocGlobal), open: [bool; 3]) {
     let mut taken = [false; DESCRIPTORS];
     for (number, is_open) in open.iter().enumerate() {
@@ -220,7 +220,7 @@ fn no_file_takes_the_place_of_a_closed_stream(rt: HostRuntime) {
     }
 }
 
-// Writes a file of which the next call to be made is refused, and looks that no further one is.
+/// Writes a file of which the next call to be made is refused, and looks that no further one is.
 fn fail_once<R: Files>(rt: &impl Abort, system: &R, table: &Table, is_made: bool) {
     let mut file = LateFile::new(system, "out.pcap");
     if is_made {
