@@ -473,3 +473,37 @@ fn faults_are_told_with_their_places(rt: HostRuntime) {
         assert_eq!(rt; told.as_str(), line);
     }
 }
+
+/// A capture of one TCP frame and a listener of an expression, or nothing where memory was refused.
+fn prepared(alloc: Global) -> Result<(Vec<u8>, Spec), AllocError> {
+    let mut text = String::new(alloc);
+    text.push_str("tcp")?;
+    let spec = Spec {
+        filter: Filter::Text(text),
+        snap: 10,
+        capacity: 48,
+        mode: Mode::Buffered,
+    };
+    Ok((one_tcp(alloc)?, spec))
+}
+
+/// This one passes too where any one request for memory is refused.
+#[test]
+fn want_of_memory_gives_no_report(rt: HostRuntime) {
+    let Ok((text, spec)) = prepared(rt.alloc()) else {
+        return;
+    };
+    let (captures, specs) = ([text.as_slice()], [spec]);
+    let steps = [Step::Arrive, Step::Flush(0), Step::Read(0)];
+    match replay(rt.alloc(), &captures, &specs, &steps) {
+        Ok((reports, torn)) => {
+            assert_eq!(rt; counts(at(&rt, reports.as_slice(), 0)), (1, 1, 0));
+            assert!(rt; torn.is_none());
+        }
+        Err(fault) => assert_eq!(rt; fault, Fault::NoMemory),
+    }
+    match trace(rt.alloc(), &captures, &specs, &steps) {
+        Ok(trace) => assert_eq!(rt; at(&rt, trace.answers.as_slice(), 0).as_slice().len(), 3),
+        Err(fault) => assert_eq!(rt; fault, Fault::NoMemory),
+    }
+}
