@@ -6,6 +6,8 @@
   bench/bench.py --listener        user instructions for each arrival of 660 bytes at a listener, by callgrind; proves and builds
                                    bench/listener in a copy first, which takes some minutes
   bench/bench.py --steps           the same for each packet of a replay by `bpftap steps`, one listener and 64, read at each full hold
+  bench/bench.py --handover        arrivals per second at a listener, at a pair in one thread and in two, and at a listener under
+                                   a lock in two threads; proves and builds bench/handover in a copy first
   bench/bench.py --expressions     wall time of `check` on expressions of some 8,192 bytes, interleaved runs, on a small stack
 
 Machines are noisy, so the ratios of one run are what to compare. Instructions are repeatable. The captures that
@@ -183,28 +185,38 @@ def instructions(folder):
     compare(folder)
 
 
-def listener_program(folder):
-    """Builds bench/listener over copies of the crates that it stands on, and tells where the program is."""
-    below = ["savefile", "bpfvm", "listener"]
+def built(folder, name, below, files, words):
+    """Builds bench/NAME over copies of the crates that it stands on, and tells where the program is."""
     for crate in below:
         shutil.copytree(ROOT / "crates" / crate, folder / "crates" / crate, symlinks=True)
+    crate = folder / "crates" / f"{name}_bench"
     # The gate reads .rt and .antt files only in crates, so here they have other names.
-    for name, place in [("main.txt", "src/main.rt"), ("Invariants.txt", "proofs/feed/Invariants.antt")]:
-        target = folder / "crates" / "listener_bench" / place
-        target.parent.mkdir(parents=True)
-        shutil.copyfile(ROOT / "bench" / "listener" / name, target)
+    for file, place in files.items():
+        (crate / place).parent.mkdir(parents=True)
+        shutil.copyfile(ROOT / "bench" / name / file, crate / place)
     shutil.copy(ROOT / "HANDLES", folder)
-    lines = [line for line in (ROOT / "crates.txt").read_text().splitlines() if line.split(":")[0] in below]
-    (folder / "crates.txt").write_text("\n".join([*lines, f"listener_bench: {' '.join(below)}"]) + "\n")
+    lines = [line for line in (ROOT / "crates.txt").read_text().splitlines() if re.match(rf"({'|'.join(below)})[ :]", line)]
+    (folder / "crates.txt").write_text("\n".join([*lines, f"{name}_bench: {' '.join(below)}"]) + "\n")
     subprocess.run(["git", "init", "-q"], cwd=folder, check=True)
-    crate = folder / "crates" / "listener_bench"
-    subprocess.run(["rt", "run", "--", "1"], cwd=crate, check=True, stdout=subprocess.DEVNULL, stderr=subprocess.DEVNULL)
-    return crate / "out" / "listener_bench"
+    subprocess.run(["rt", "run", "--", *words], cwd=crate, check=True, stdout=subprocess.DEVNULL, stderr=subprocess.DEVNULL)
+    return str(crate / "out" / crate.name)
+
+
+def listener_program(folder):
+    files = {"main.txt": "src/main.rt", "Invariants.txt": "proofs/feed/Invariants.antt"}
+    return built(folder, "listener", ["savefile", "bpfvm", "listener"], files, ["1"])
+
+
+def handover_program(folder):
+    loops = {"listener": "through_listener", "pair": "through_pair", "feed": "feed", "drain": "drain_out"}
+    files = {f"{file}.txt": f"proofs/{function}/Invariants.antt" for file, function in loops.items()}
+    below = ["savefile", "bpfvm", "listener", "handover"]
+    return built(folder, "handover", below, {"main.txt": "src/main.rt", **files}, ["listener", "1"])
 
 
 def arrivals(folder):
     """Instructions for each arrival that is stored, with a read behind each rotation."""
-    program = str(listener_program(folder))
+    program = listener_program(folder)
     count = instructions_of([program, "101000"], folder) - instructions_of([program, "1000"], folder)
     print(f"user instructions for each arrival of 660 bytes, by callgrind: {count / 100000:.0f}")
 
@@ -231,6 +243,28 @@ def steps(folder):
             words = [str(PROGRAM), "steps", *(str(folder / f) for f in ("listeners.txt", "script.txt")), str(path)]
             counts.append(instructions_of(words, folder))
         print(f"{name:40} {(counts[1] - counts[0]) / 10000:8.0f}")
+
+
+def handing_over(folder, rounds):
+    """Arrivals per second at a listener, at a pair in one thread and in two, and at a listener under a lock in two."""
+    program = handover_program(folder)
+    many = 5_000_000
+    if shutil.which("valgrind"):
+        for way in ["listener", "pair"]:
+            count = instructions_of([program, way, "101000"], folder) - instructions_of([program, way, "1000"], folder)
+            print(f"user instructions for each arrival of 660 bytes, {way}: {count / 100000:.0f}")
+    ways = ["listener", "pair", "threads", "lock"]
+    seen = {way: [] for way in ways}
+    for _ in range(rounds):
+        for way in ways:
+            start = time.perf_counter()
+            done = subprocess.run([program, way, str(many)], check=True, capture_output=True, text=True)
+            seen[way].append((time.perf_counter() - start, int(done.stdout)))
+    print(f"{many} arrivals of 660 bytes, median of {rounds} interleaved rounds, {os.cpu_count()} processors")
+    for way, runs in seen.items():
+        seconds = statistics.median(s for s, _ in runs)
+        dropped = statistics.median(d for _, d in runs)
+        print(f"{way:10} {many / seconds / 1e6:8.2f} million a second, {100 * dropped / many:5.1f} % dropped")
 
 
 def hostile():
@@ -283,12 +317,16 @@ def main():
     parser.add_argument("--expressions", action="store_true")
     parser.add_argument("--listener", action="store_true")
     parser.add_argument("--steps", action="store_true")
+    parser.add_argument("--handover", action="store_true")
     parser.add_argument("--packets", type=int, default=150000)
     parser.add_argument("--rounds", type=int, default=5)
     words = parser.parse_args()
     if words.listener:
         with tempfile.TemporaryDirectory() as name:
             return arrivals(pathlib.Path(name))
+    if words.handover:
+        with tempfile.TemporaryDirectory() as name:
+            return handing_over(pathlib.Path(name), words.rounds)
     subprocess.run([str(ROOT / "bpftap"), "--help"], check=True, stdout=subprocess.DEVNULL)
     if not words.expressions and shutil.which("tcpdump") is None:
         print("tcpdump is not there: only bpftap is measured")

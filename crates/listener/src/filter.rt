@@ -8,6 +8,7 @@ use savefile::PacketRef;
 
 /// How many bytes are kept of a packet: the least of the snapshot length, the program's answer and the captured length;
 /// nothing where the program rejects it.
+#[inline(always)]
 pub fn kept_of(program: &Program, snap: u32, packet: &PacketRef<'_>) -> Option<u32>
     ensures rejected { IfNone result ((capture place : ℕ) → kept_by program.now snap (arrival capture place packet.now) ≡ None) }
     ensures kept { IfSome result (λ kept. (capture place : ℕ) → Keeps program.now snap (arrival capture place packet.now) kept) }
