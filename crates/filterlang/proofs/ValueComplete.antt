@@ -1,6 +1,6 @@
 -- What the grammar has of a value is what the reading function finds, where no operator follows that would go on.
-use Rattle.std.proofs.Common.{◌≡◌, ℕ, zero, suc, Bool, true, false, ◌<◌, List, ◌∷◌, length, Option, Some, None, refl, sym, ap, ◌∙◌, arith}
-use Rattle.std.specs.Prelude.{◌==◌, if◌then◌else◌}
+use Rattle.std.proofs.Common.{◌≡◌, ℕ, zero, suc, false, ◌<◌, List, ◌∷◌, length, Option, Some, None, refl, sym, ap, ◌∙◌, arith}
+use Rattle.std.specs.Prelude.{if◌then◌else◌}
 use Rattle.std.proofs.lemmas.Bool.{eq-eqb, ne_eqb}
 use Rattle.filterlang.specs.declared.token.Kind.{Kind}
 use Rattle.filterlang.specs.declared.token.Kind.TheVariants as kind
@@ -8,13 +8,12 @@ use Rattle.filterlang.specs.declared.token.Comparison.{Comparison}
 use Rattle.filterlang.specs.declared.token.Operator.{Operator}
 use Rattle.filterlang.specs.declared.token.Operator.TheVariants.{Minus}
 use Rattle.filterlang.specs.declared.token.Protocol.{Protocol}
-use Rattle.filterlang.specs.declared.tree.Layer.{Layer}
 use Rattle.filterlang.specs.declared.tree.Size.{Size}
-use Rattle.filterlang.specs.Trees.{Tree, Amount, number, wire_length, relation, binary, accessor}
-use Rattle.filterlang.specs.Operators.{precedence_of, loosest, is_barred, layer_of, size_of}
+use Rattle.filterlang.specs.Trees.{Amount, number, wire_length, relation, binary, accessor}
+use Rattle.filterlang.specs.Operators.{precedence_of, loosest, is_barred}
 use Rattle.filterlang.specs.Values.{Arith, arith_number, arith_named, arith_length, arith_minus, arith_open, arith_byte, arith_bytes, arith_tighter, arith_binary}
 use Rattle.filterlang.specs.Readers.{◌>>=◌, chain, closed}
-use Rattle.filterlang.specs.ValueReading.{operator_at, operated, operators, comparison_at, close_bracket_at, size_at, negative, bracketed, arith_by, factor_by, factor_at, arith_at, relation_at}
+use Rattle.filterlang.specs.ValueReading.{operator_at, operated, operators, comparison_at, close_bracket_at, negative, bracketed, arith_by, factor_at, arith_at, relation_at}
 use Rattle.filterlang.proofs.Chains.{chain_turn, chain_end}
 use Rattle.filterlang.proofs.ValueShorter.{arith_shortens, operators_shorter}
 

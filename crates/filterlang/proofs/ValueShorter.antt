@@ -1,5 +1,5 @@
 -- What a value leaves is no longer than what it was read from.
-use Rattle.std.proofs.Common.{◌≡◌, ℕ, Bool, true, false, ◌<◌, ◌≤◌, List, ◌∷◌, length, Option, Some, None, arith}
+use Rattle.std.proofs.Common.{ℕ, Bool, true, false, ◌<◌, ◌≤◌, List, ◌∷◌, length, Some, None, arith}
 use Rattle.std.specs.Prelude.{◌==◌, IfSome, if◌then◌else◌}
 use Rattle.filterlang.specs.declared.token.Kind.{Kind}
 use Rattle.filterlang.specs.declared.token.Kind.TheVariants as kind

@@ -1,5 +1,5 @@
 -- The reading of values as the parser goes: by what a value begins with.
-use Rattle.std.proofs.Common.{◌≡◌, ℕ, zero, suc, List, [], ◌∷◌, length, Option, Some, None, refl, sym, ap, subst, ◌∙◌, ◌<◌, ◌-◌, arith}
+use Rattle.std.proofs.Common.{◌≡◌, ℕ, zero, suc, List, ◌∷◌, length, Option, Some, None, refl, sym, ap, subst, ◌<◌, ◌-◌, arith}
 use Rattle.filterlang.specs.declared.token.Kind.{Kind}
 use Rattle.filterlang.specs.declared.token.Kind.TheVariants as kind
 use Rattle.filterlang.specs.declared.token.Operator.TheVariants.{Minus}
@@ -9,7 +9,7 @@ use Rattle.filterlang.specs.declared.lookahead.Opening.TheVariants as openings
 use Rattle.filterlang.specs.Trees.{Amount}
 use Rattle.filterlang.specs.Operators.{loosest, layer_of}
 use Rattle.filterlang.specs.Readers.{◌>>=◌, nothing, chain, chained, closed, deeper}
-use Rattle.filterlang.specs.ValueReading.{operators, opening, leaf_at, layer_at, bracketed, negative, arith_by, factor_by, factor_at, arith_at, accessor_at}
+use Rattle.filterlang.specs.ValueReading.{operators, opening, leaf_at, bracketed, negative, arith_by, factor_at, arith_at, accessor_at}
 use Rattle.filterlang.proofs.ValueSound.{arith_nothing}
 
 -- no operator is up to none

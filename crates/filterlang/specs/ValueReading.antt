@@ -1,6 +1,6 @@
 -- Reading a value from the front of a list of tokens, by a function: it finds the grammar's value. A value inherits
 -- nothing and has nothing to give.
-use Rattle.std.specs.Prelude.{ℕ, zero, suc, ◌==◌, if◌then◌else◌, List, [], ◌∷◌, Option, Some, None}
+use Rattle.std.specs.Prelude.{ℕ, zero, suc, ◌==◌, if◌then◌else◌, List, ◌∷◌, Option, Some, None}
 use Rattle.filterlang.specs.Types.{Kind, Operator, Minus, Comparison, Layer, Size, One, Opening}
 use Rattle.filterlang.specs.Types.kind
 use Rattle.filterlang.specs.Types.openings

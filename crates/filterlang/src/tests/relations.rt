@@ -6,7 +6,6 @@ use crate::token::Comparison::{Equal, Greater, GreaterOrEqual, Less, LessOrEqual
 use crate::token::{Comparison, Operator};
 use crate::tree::{Expr, Layer, Size, Value};
 use std::alloc::Global;
-use std::process::Abort;
 use std::test::Fail;
 
 fn binary(alloc: Global, operator: Operator, left: Value, right: Value) -> Result<Value, Fault> {

@@ -5,6 +5,7 @@ use crate::lexer::lex;
 use crate::token::{
     Comparison, EthernetAddress, Joint, Kind, Operator, Parts, Protocol, Side, TypeWord,
 };
+use std::process::Abort;
 use std::test::Fail;
 
 const HOST: Kind = Kind::Type(TypeWord::Host);
@@ -195,7 +196,7 @@ fn texts_have_these_tokens(rt: HostRuntime) -> Result<(), Fail> {
     Ok(())
 }
 
-const SINGLE: [(&str, Kind); 84] = [
+const WORDS: [(&str, Kind); 44] = [
     ("ether", Kind::Protocol(Protocol::Ether)),
     ("ip", Kind::Protocol(Protocol::Ip)),
     ("arp", Kind::Protocol(Protocol::Arp)),
@@ -240,6 +241,9 @@ const SINGLE: [(&str, Kind); 84] = [
     ("\\ip", Kind::Name(Protocol::Ip)),
     ("\\arp", Kind::Name(Protocol::Arp)),
     ("\\rarp", Kind::Name(Protocol::Rarp)),
+];
+
+const SIGNS: [(&str, Kind); 25] = [
     ("(", Kind::Open),
     (")", Kind::Close),
     ("[", Kind::OpenBracket),
@@ -265,6 +269,9 @@ const SINGLE: [(&str, Kind); 84] = [
     (">", Kind::Comparison(Comparison::Greater)),
     ("<=", Kind::Comparison(Comparison::LessOrEqual)),
     (">=", Kind::Comparison(Comparison::GreaterOrEqual)),
+];
+
+const NUMBERS: [(&str, Kind); 15] = [
     ("0", Kind::Number(0)),
     ("10", Kind::Number(10)),
     ("4294967295", Kind::Number(4_294_967_295)),
@@ -312,15 +319,30 @@ const SINGLE: [(&str, Kind); 84] = [
     ),
 ];
 
-#[test]
-fn each_word_and_sign_is_one_token(rt: HostRuntime) -> Result<(), Fail> {
-    for (text, kind) in SINGLE {
+/// Each of these texts is one token.
+fn each_is_one_token(rt: &(impl Abort + AllocGlobal), rows: &[(&str, Kind)]) -> Result<(), Fail> {
+    for (text, kind) in rows {
         let tokens = lex(rt.alloc(), text)?;
         assert_eq!(rt; tokens.len(), 1, "tokens of {text:?}");
-        assert_eq!(rt; tokens[0].kind, kind, "the kind of {text:?}");
+        assert_eq!(rt; tokens[0].kind, *kind, "the kind of {text:?}");
         assert_eq!(rt; tokens[0].span.end, text.len(), "the end of {text:?}");
     }
     Ok(())
+}
+
+#[test]
+fn each_word_is_one_token(rt: HostRuntime) -> Result<(), Fail> {
+    each_is_one_token(&rt, WORDS.as_slice())
+}
+
+#[test]
+fn each_sign_is_one_token(rt: HostRuntime) -> Result<(), Fail> {
+    each_is_one_token(&rt, SIGNS.as_slice())
+}
+
+#[test]
+fn each_number_and_address_is_one_token(rt: HostRuntime) -> Result<(), Fail> {
+    each_is_one_token(&rt, NUMBERS.as_slice())
 }
 
 const FAILING: [(&str, Fault); 34] = [

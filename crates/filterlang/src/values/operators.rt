@@ -1,8 +1,8 @@
 //! The operators of arithmetic, and the layers and sizes of accessors.
 
-ghost use Rattle.std.specs.Prelude.{◌≡◌, ◌≤◌, option_map};
+ghost use Rattle.std.specs.Prelude.{◌≡◌, option_map};
 ghost use Rattle.filterlang.specs.Phrases.{kinds};
-ghost use Rattle.filterlang.specs.Trees.{amount_of, minus};
+ghost use Rattle.filterlang.specs.Trees.{amount_of};
 ghost use Rattle.filterlang.specs.Operators.{precedence_of, divides, is_zero, layer_of, size_of};
 ghost use Rattle.filterlang.specs.Readers.{Gives};
 ghost use Rattle.filterlang.specs.ValueReading.{operator_at, operated};
