@@ -8,7 +8,7 @@ use Rattle.filterlang.specs.declared.fault.Fault.{Fault}
 use Rattle.filterlang.specs.Texts.{ReadsAs, IsRefusalOf}
 use Rattle.filterlang.specs.Trees.{Tree}
 use Rattle.filtergen.specs.declared.refusal.Refusal.TheVariants.{TooLong, TooDeep, BadSnap, NoMemory}
-use Rattle.filtergen.specs.Compiling.{weight, StandsFor, IsBadSnap}
+use Rattle.filtergen.specs.Compiling.{weight, need, StandsFor, IsBadSnap}
 use Rattle.bpftap.specs.declared.expression.ExpressionFault.{ExpressionFault}
 use Rattle.bpftap.specs.declared.expression.ExpressionFault.TheVariants as faults
 use Rattle.bpftap.specs.Cut.{meant}
@@ -17,13 +17,13 @@ use Rattle.bpftap.specs.Cut.{meant}
 abbrev pub IsProgramOf : List ℕ → ℕ → List Insn → Type 0
 IsProgramOf text snap program = (tree : Tree) × ReadsAs text tree × StandsFor program tree snap
 
--- Why a text has no program: it is no expression, or memory was wanting; its tree weighs too much; the snapshot length
--- is out of range.
+-- Why a text has no program: it is no expression, or memory was wanting; its tree weighs too much, or needs too many
+-- cells; the snapshot length is out of range.
 abbrev pub IsUncompiled : List ℕ → ℕ → ExpressionFault → Type 0
 IsUncompiled text snap (faults.Text fault) = IsRefusalOf text fault
 IsUncompiled text snap (faults.Tree TooLong) = (tree : Tree) × ReadsAs text tree × (500 < weight tree)
 IsUncompiled text snap (faults.Tree BadSnap) = IsBadSnap snap
-IsUncompiled text snap (faults.Tree TooDeep) = ⊥
+IsUncompiled text snap (faults.Tree TooDeep) = (tree : Tree) × ReadsAs text tree × (16 < need tree)
 IsUncompiled text snap (faults.Tree NoMemory) = ⊥
 
 -- without an expression the empty one is meant

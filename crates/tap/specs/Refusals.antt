@@ -6,7 +6,7 @@ use Rattle.filterlang.specs.declared.lexer.TheConstants.{MAX_TEXT}
 use Rattle.filterlang.specs.Trees.{Tree}
 use Rattle.filterlang.specs.Texts.{ReadsAs, IsRefusalOf}
 use Rattle.filtergen.specs.declared.refusal.Refusal.TheVariants as uncompiled
-use Rattle.filtergen.specs.Compiling.{weight, IsBadSnap}
+use Rattle.filtergen.specs.Compiling.{weight, need, IsBadSnap}
 use Rattle.listener.specs.declared.fault.OpenFault.TheVariants as unopened
 use Rattle.listener.specs.Listening.{RefusesOpen, InRange}
 use Rattle.tap.specs.declared.fault.Fault.{Fault}
@@ -53,19 +53,23 @@ pub record IsExpression (text : List ℕ) : Type 0 where
   pub reads : ReadsAs text tree
 
 -- Nothing stands against a filter at this snapshot length: a program, or an expression, which wants a snapshot length
--- that can be compiled.
+-- that can be compiled, and needs no more cells of the scratch memory than there are.
 abbrev pub FilterStands : Filter → ℕ → Type 0
 FilterStands (Program program) snap = Unit {0}
-FilterStands (Text text) snap = IsExpression (string_bytes text) × (IsBadSnap snap → ⊥)
+FilterStands (Text text) snap =
+    (expression : IsExpression (string_bytes text)) × (IsBadSnap snap → ⊥) × (need expression.tree ≤ 16)
 
--- Why a filter is refused: a text that is no expression, or one that isn't compiled. That an expression is too long for
--- a program comes only where its weight is above 500.
+-- Why a filter is refused: a text that is no expression, or one that isn't compiled, for the first reason that stands. That
+-- an expression is too long for a program comes only where its weight is above 500.
 abbrev pub RefusesFilter : ℕ → Filter → ℕ → Fault → Type 0
 RefusesFilter l (Text text) snap (Expression k misread.NoMemory) = ⊥
 RefusesFilter l (Text text) snap (Expression k fault) = (k ≡ l) × IsRefusalOf (string_bytes text) fault
 RefusesFilter l (Text text) snap (Compile k uncompiled.BadSnap) = (k ≡ l) × IsExpression (string_bytes text) × IsBadSnap snap
+RefusesFilter l (Text text) snap (Compile k uncompiled.TooDeep) =
+    (k ≡ l) × (IsBadSnap snap → ⊥) × (expression : IsExpression (string_bytes text)) × (16 < need expression.tree)
 RefusesFilter l (Text text) snap (Compile k uncompiled.TooLong) =
-    (k ≡ l) × (IsBadSnap snap → ⊥) × (expression : IsExpression (string_bytes text)) × (500 < weight expression.tree)
+    (k ≡ l) × (IsBadSnap snap → ⊥) × (expression : IsExpression (string_bytes text)) × (need expression.tree ≤ 16)
+    × (500 < weight expression.tree)
 RefusesFilter l filter snap other = ⊥
 
 -- why the l-th listener is refused: its filter, or else its snapshot length or capacity

@@ -1,10 +1,11 @@
 use Rattle.std.proofs.Common.{◌≡◌, inr, refl, sym, subst, ◌⊎◌}
 use Rattle.filterlang.specs.Trees.{Tree, tree_of}
 use Rattle.filterlang.specs.Texts.{ReadsAs, IsRefusalOf}
+use Rattle.filtergen.specs.Compiling.{need, IsBadSnap}
 use Rattle.tap.specs.declared.fault.Fault.TheVariants.{NoMemory, Compile}
 use Rattle.tap.specs.Refusals.{FilterStands, RefusesFilter}
 use Rattle.tap.specs.Watching.{ProgramOf}
-use Rattle.tap.proofs.Refusing.{misread_refuses, refuses_compile, is_expression}
+use Rattle.tap.proofs.Refusing.{misread_refuses, shallow, refuses_compile, is_expression}
 use Rattle.tap.proofs.open.program_of.Goals as goal
 
 pub returns-in-Err : goal.returns-in-Err
@@ -27,9 +28,11 @@ returns-in-Ok-compile-clause-ok c =
 
 pub returns-in-Ok-compile-clause-stands : goal.returns-in-Ok-compile-clause-stands
 returns-in-Ok-compile-clause-stands c =
+    let good : IsBadSnap c.args.spec.now.snap → ⊥ = λ bad. let e = c.in-Ok-compile.ensures.bad_snap.1 bad in absurd (cc) in
     subst (λ f. FilterStands f c.args.spec.now.snap) (sym c.in-Text.is) (
       is_expression c.in-Text.text _ _ c.as_str.ensures.value (λ h. let e = c.in-Ok.ensures.too_long.1 h in absurd (cc)) c.in-Ok.ensures.reads,
-      λ bad. let e = c.in-Ok-compile.ensures.bad_snap.1 bad in absurd (cc),
+      good,
+      shallow (need (tree_of c.in-Ok.expr)) c.args.spec.now.snap good (λ deep. let e = c.in-Ok-compile.ensures.too_deep.1 deep in absurd (cc)),
     )
 
 pub returns : goal.returns
