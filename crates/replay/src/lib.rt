@@ -1,0 +1,15 @@
+//! Replays captures to listeners in threads: packets arrive at each listener, and what it keeps is written as a savefile.
+//!
+//! What stands here is what the threads of one listener do.
+#![tactic(auto)]
+
+mod crew;
+mod gate;
+mod reading;
+mod task;
+mod threads;
+mod writer;
+mod writing;
+
+pub use gate::{Gate, Open};
+pub use task::{Interface, Task};
