@@ -1,2 +1,4 @@
 mod Writes
 mod Batches
+mod Settles
+mod Asked

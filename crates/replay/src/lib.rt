@@ -5,11 +5,16 @@
 
 mod crew;
 mod gate;
+mod inlet;
+mod player;
 mod reading;
+mod report;
+mod settling;
 mod task;
 mod threads;
 mod writer;
 mod writing;
 
 pub use gate::{Gate, Open};
+pub use report::{InterfaceEnd, ListenerReport, TaskEnd};
 pub use task::{Interface, Task};

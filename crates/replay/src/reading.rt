@@ -1,6 +1,6 @@
 //! The thread that reads a listener.
 
-ghost use Rattle.std.specs.Prelude.{◌≡◌, [], ◌∷◌, ◌++◌, true, false, IfSome};
+ghost use Rattle.std.specs.Prelude.{◌≡◌, ◌≢◌, [], ◌∷◌, ◌++◌, true, IfOk, IfErr};
 ghost use Rattle.rtrb.specs.Ring.{sent, SameProducer};
 ghost use Rattle.listener.specs.Buffers.{filled};
 ghost use Rattle.handover.specs.Ends.{IsSameDrain};
@@ -29,8 +29,18 @@ pub(crate) struct ReadEnd {
     pub(crate) drain: DrainEnd,
     /// Shows what was pushed.
     pub(crate) finished: Option<Finished<Buffer>>,
+    pub(crate) stop: Stop,
+}
+
+/// Why a reading thread reads no further.
+#[derive(Clone, Copy)]
+pub(crate) enum Stop {
     /// The end was found.
-    pub(crate) whole: bool,
+    Ended,
+    /// Nobody gives buffers back any more.
+    Abandoned,
+    /// A buffer of another capacity was given back.
+    Foreign,
 }
 
 /// A reading thread hands back what it read of this drain, and pushed into this ring.
@@ -108,22 +118,27 @@ fn read_once<G: Gate, R: Wait>(
     }
 }
 
-/// The next empty buffer, cleared; nothing where none comes any more, or one of another capacity.
-fn next_empty(rt: &impl Wait, empty: &mut Consumer<Buffer>, capacity: usize) -> Option<Buffer>
-    ensures { IfSome result (λ buffer. buffer ≡ filled capacity []) }
+/// The next empty buffer, cleared.
+fn next_empty(
+    rt: &impl Wait,
+    empty: &mut Consumer<Buffer>,
+    capacity: usize,
+) -> Result<Buffer, Stop>
+    ensures ok { IfOk result (λ buffer. buffer ≡ filled capacity []) }
+    ensures err { IfErr result (λ stop. stop ≢ Stop.Ended) }
 {
     for _ in rt.forever() {
         match empty.pop() {
             Ok(mut buffer) => {
                 if buffer.capacity() != capacity {
-                    return None;
+                    return Err(Stop::Foreign);
                 }
                 buffer.clear();
-                return Some(buffer);
+                return Ok(buffer);
             }
             Err(_) => {
                 if empty.is_abandoned() {
-                    return None;
+                    return Err(Stop::Abandoned);
                 }
                 thread::yield_now();
             }
@@ -148,13 +163,16 @@ pub(crate) fn read_out<G: Gate, R: Wait>(
 {
     let capacity = drain.capacity();
     let mut spare: Option<Buffer> = None;
-    let mut whole = false;
+    let mut stop = Stop::Abandoned;
     for _ in rt.forever() {
         let buffer = match spare.take() {
             Some(buffer) => buffer,
             None => match next_empty(rt, &mut empty, capacity) {
-                Some(buffer) => buffer,
-                None => break,
+                Ok(buffer) => buffer,
+                Err(why) => {
+                    stop = why;
+                    break;
+                }
             },
         };
         match read_once(rt, gate, link, &mut drain, &mut full, buffer, seat) {
@@ -164,7 +182,7 @@ pub(crate) fn read_out<G: Gate, R: Wait>(
                 thread::yield_now();
             }
             Once::Ended => {
-                whole = true;
+                stop = Stop::Ended;
                 break;
             }
         }
@@ -172,6 +190,6 @@ pub(crate) fn read_out<G: Gate, R: Wait>(
     ReadEnd {
         drain: drain.close(link),
         finished: full.finish(),
-        whole,
+        stop,
     }
 }

@@ -1,9 +1,10 @@
-use Rattle.std.proofs.Common.{◌≡◌, [], false, IfSome}
+use Rattle.std.proofs.Common.{◌≡◌, ◌≢◌, [], IfSome}
 use Rattle.rtrb.specs.Ring.{sent, SameProducer}
 use Rattle.listener.specs.Buffers.{filled}
 use Rattle.handover.specs.Ends.{IsSameDrain}
 use Rattle.handover.specs.History.{batches_of}
 use Rattle.replay.specs.Reading.{messages_of}
+use Rattle.replay.specs.declared.reading.Stop.TheVariants.{Ended}
 use Rattle.replay.proofs.reading.read_out.Given as goal
 
 -- what was pushed is what was read
@@ -14,4 +15,4 @@ invariant-loop g l =
     × (messages_of (sent l.full) ≡ batches_of l.drain.takes)
     × IfSome l.spare (λ b. b ≡ filled l.fn.drain.profile.capacity [])
     × (l.capacity ≡ l.fn.drain.profile.capacity)
-    × (l.whole ≡ false)
+    × (l.stop ≢ Ended)
