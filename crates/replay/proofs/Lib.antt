@@ -2,3 +2,4 @@ mod Writes
 mod Batches
 mod Settles
 mod Asked
+mod Captured

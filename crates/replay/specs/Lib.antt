@@ -1,3 +1,4 @@
+pub mod Captures
 pub mod Crews
 pub mod Lines
 pub mod Playing

@@ -3,6 +3,7 @@
 //! What stands here is what the threads of one listener do.
 #![tactic(auto)]
 
+mod captures;
 mod crew;
 mod gate;
 mod inlet;
