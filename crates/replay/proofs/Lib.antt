@@ -1,0 +1,5 @@
+mod Writes
+mod Batches
+mod Settles
+mod Asked
+mod Captured

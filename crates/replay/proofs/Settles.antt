@@ -1,0 +1,118 @@
+-- What is told of a task once its ends are settled.
+use Rattle.std.proofs.Common.{◌≡◌, ◌≢◌, ℕ, ◌+◌, ◌^◌, ◌⊎◌, Bool, true, false, List, [], ◌∷◌, ◌++◌, length, map, refl, ap, sym, ◌∙◌, subst, Option, inl, inr}
+use Rattle.std.specs.Io.KnownBytes.{Appends}
+use Rattle.listener.specs.Buffers.{Filled}
+use Rattle.listener.specs.Laws.{joined}
+use Rattle.listener.specs.declared.answer.Counts.{Counts}
+use Rattle.listener.specs.declared.message.Message.{Message}
+use Rattle.savefile.specs.Writer.{Sent, sent_by, sink_of}
+use Rattle.handover.specs.Ends.{AreCountsOf, Counted}
+use Rattle.handover.specs.History.{LegalHistory, finds, merge}
+use Rattle.handover.specs.Rule.{last, profile_of, terms_of}
+use Rattle.handover.specs.Settling.{IsWhole}
+use Rattle.handover.specs.declared.calls.Feed.{Feed}
+use Rattle.handover.specs.declared.calls.Take.{Take}
+use Rattle.replay.specs.Reading.{messages_of}
+use Rattle.replay.specs.Reports.{IsReported, kept_for}
+use Rattle.replay.specs.Tasks.{output_of}
+use Rattle.replay.specs.Writing.{IsFull, Writes}
+use Rattle.replay.specs.declared.report.ListenerReport.{ListenerReport}
+use Rattle.replay.specs.declared.report.TaskEnd.TheVariants.{Clean, Write, Unfinished}
+use Rattle.replay.specs.declared.task.Task.{Task}
+use Rattle.replay.specs.declared.writing.Written.{Written}
+use Rattle.replay.proofs.Batches.{joins_buffers}
+
+-- the messages that were popped, those left in the ring, the hold and the rest are what was kept
+pub chain : (before now known sent : List Filled) (batches : List (List Message)) (hold rest all : List Message) → (joined batches ++ hold) ++ rest ≡ all
+    → messages_of sent ≡ batches → now ++ known ≡ sent → now ≡ before
+    → ((joined (messages_of before) ++ joined (messages_of known)) ++ hold) ++ rest ≡ all
+chain before now known sent batches hold rest all whole pushed fifo same =
+    ap (λ xs. (xs ++ hold) ++ rest)
+        (ap (λ bs. joined (messages_of bs) ++ joined (messages_of known)) (sym same) ∙ sym (joins_buffers now known)
+        ∙ ap (λ bs. joined (messages_of bs)) fifo ∙ ap joined pushed)
+    ∙ whole
+
+module _ {W : Type 0} (taken : W → Option (List ℕ)) (failures : W → ℕ) (task : Task W) (feeds : List Feed) (takes : List Take) (r : ListenerReport W)
+    (counts : Counts) (hold rest : List Message)
+    (history : LegalHistory (terms_of (profile_of task.capacity task.mode)) feeds takes (merge feeds takes))
+    (are : AreCountsOf counts (last feeds takes)) (counted : Counted counts feeds)
+    (whole : IsWhole (profile_of task.capacity task.mode) feeds takes hold rest counts)
+    (told : (r.received ≡ counts.received) × (r.matched ≡ counts.matched) × (r.dropped ≡ counts.dropped))
+    (w : Written W) (back : (r.sink ≡ sink_of w.writer) × (r.sent ≡ sent_by w.writer) × (r.written ≡ w.count)) where
+  -- what the sink took
+  abbrev Took : Type 0
+  Took = (text : List ℕ) × Appends (taken task.sink) (taken r.sink) text × (r.sent ≡ length text)
+
+  took-of-sent : (text : List ℕ) → Sent taken (taken task.sink) text w.writer → Took
+  took-of-sent text s = (text, subst (λ (x : W). Appends (taken task.sink) (taken x) text) (sym back.0) s.bytes, back.1 ∙ s.count)
+
+  took-by : (works : Bool) → w.works ≡ works → (messages : List Message) → Writes taken failures (output_of task) messages w → Took
+  took-by true is messages t = took-of-sent _ (t.whole is).1.sent
+  took-by false is messages t = let b = t.broke is in took-of-sent b.0 b.2
+
+  -- the ring did not hand over its end
+  pub unfinished : (messages : List Message) → Writes taken failures (output_of task) messages w → r.end ≡ Unfinished → IsReported taken failures task feeds takes r
+  unfinished messages t end =
+      let s = took-by w.works refl messages t in record {
+        history = history;
+        all_received = (told.0 ∙ counted.all_received, told.0 ∙ are.all_received);
+        all_matched = (told.1 ∙ counted.all_matched, told.1 ∙ are.all_matched);
+        all_dropped = (told.2 ∙ counted.all_dropped, told.2 ∙ are.all_dropped);
+        balance = told.1 ∙ whole.balance ∙ ap (λ d. length (kept_for task feeds takes) + d) (sym told.2);
+        text = s.0;
+        took = s.1;
+        all_sent = s.2;
+        done = t.done;
+        all_written = back.2 ∙ t.counts;
+        clean = λ e. let bad = sym end ∙ e in absurd cc;
+        broke = λ n e. let bad = sym end ∙ e in absurd cc;
+      }
+
+  -- all that was kept was written, or a beginning of it
+  finished-by : (works : Bool) → w.works ≡ works → Writes taken failures (output_of task) (kept_for task feeds takes) w
+      → (r.end ≡ Clean → (w.works ≡ true) × (finds feeds ≡ false)) → ((n : ℕ) → r.end ≡ Write n → (w.works ≡ false) × (n ≡ sent_by w.writer))
+      → IsReported taken failures task feeds takes r
+  unfolding took-of-sent
+  finished-by true is t ends breaks =
+      let all = t.whole is in let s = took-of-sent _ all.1.sent in record {
+        history = history;
+        all_received = (told.0 ∙ counted.all_received, told.0 ∙ are.all_received);
+        all_matched = (told.1 ∙ counted.all_matched, told.1 ∙ are.all_matched);
+        all_dropped = (told.2 ∙ counted.all_dropped, told.2 ∙ are.all_dropped);
+        balance = told.1 ∙ whole.balance ∙ ap (λ d. length (kept_for task feeds takes) + d) (sym told.2);
+        text = s.0;
+        took = s.1;
+        all_sent = s.2;
+        done = t.done;
+        all_written = back.2 ∙ t.counts;
+        clean = λ e. ((ends e).1, all.0, refl);
+        broke = λ n e. let bad = sym is ∙ (breaks n e).0 in absurd cc;
+      }
+  finished-by false is t ends breaks =
+      let off = t.broke is in let s = took-of-sent off.0 off.2 in record {
+        history = history;
+        all_received = (told.0 ∙ counted.all_received, told.0 ∙ are.all_received);
+        all_matched = (told.1 ∙ counted.all_matched, told.1 ∙ are.all_matched);
+        all_dropped = (told.2 ∙ counted.all_dropped, told.2 ∙ are.all_dropped);
+        balance = told.1 ∙ whole.balance ∙ ap (λ d. length (kept_for task feeds takes) + d) (sym told.2);
+        text = s.0;
+        took = s.1;
+        all_sent = s.2;
+        done = t.done;
+        all_written = back.2 ∙ t.counts;
+        clean = λ e. let bad = sym is ∙ (ends e).0 in absurd cc;
+        broke = λ n e. (
+          (breaks n e).1 ∙ sym back.1,
+          t.begins,
+          off.1,
+          elim off.3 [
+            inl differs ↦ inl (λ same. differs (ap failures (sym back.0) ∙ same))
+            | inr full ↦ inr (subst (λ (n : ℕ). IsFull n (kept_for task feeds takes)) (sym back.1) full)
+          ],
+        );
+      }
+
+  pub finished : Writes taken failures (output_of task) (kept_for task feeds takes) w
+      → (r.end ≡ Clean → (w.works ≡ true) × (finds feeds ≡ false)) → ((n : ℕ) → r.end ≡ Write n → (w.works ≡ false) × (n ≡ sent_by w.writer))
+      → IsReported taken failures task feeds takes r
+  finished = finished-by w.works refl

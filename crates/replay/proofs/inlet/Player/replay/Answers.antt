@@ -1,0 +1,26 @@
+use Rattle.std.proofs.Common.{◌≡◌, ◌≢◌, ℕ, List, [], ◌++◌, sym, refl, subst}
+use Rattle.std.proofs.lemmas.List.{append-nil}
+use Rattle.listener.specs.Messages.{Arrival}
+use Rattle.savefile.specs.Reader.{header_told, source_of}
+use Rattle.replay.specs.Captures.{HasPlayed}
+use Rattle.replay.specs.Lines.{HasArrived}
+use Rattle.replay.proofs.Captured.{none-writable, not-opened}
+use Rattle.replay.proofs.inlet.Player.replay.Goals as goal
+
+pub returns-in-Ok-clause-played : goal.returns-in-Ok-clause-played
+returns-in-Ok-clause-played g c =
+    let start = g.S.Source.left c.args.source in
+    let F = g.S.Source.failures in
+    subst (λ (n : ℕ). HasPlayed start (F c.close.result ≢ n) c.args.capture c.args.self.now c.play-end.new.self c.play-end.result) c.in-Ok.ensures.device
+    (subst (λ x. HasPlayed start (F x ≢ F (source_of c.in-Ok.reader)) c.args.capture c.args.self.now c.play-end.new.self c.play-end.result) (sym c.close.ensures)
+    (c.play-end.ensures.played start (header_told c.in-Ok.reader) c.in-Ok.ensures.ok))
+
+pub returns-in-Err-clause-played : goal.returns-in-Err-clause-played
+returns-in-Err-clause-played g c =
+    let why = not-opened (g.S.Source.left c.args.source) (g.S.Source.failures c.in-Err.source ≢ g.S.Source.failures c.args.source) c.in-Err.fault
+        c.in-Err.ensures.refused c.in-Err.ensures.device.0 in record {
+      packets = [];
+      writable = none-writable;
+      arrive = λ starts playlist h. subst (λ (as' : List Arrival). HasArrived starts as' c.args.self.now) (sym (append-nil playlist)) h;
+      ends = (refl, why.0, why.1, why.2);
+    }

@@ -1,0 +1,42 @@
+-- What a capture gave to the listeners of an interface, and how it ended.
+use Rattle.std.specs.Prelude.{◌≡◌, ◌≢◌, ℕ, ◌+◌, ◌-◌, ◌^◌, ◌⊎◌, List, [], ◌∷◌, ◌++◌, All, Option, Some, None}
+use Rattle.listener.specs.Messages.{Arrival, arrival}
+use Rattle.savefile.specs.Reader.{WasBegun, WasRead, WasRefused}
+use Rattle.savefile.specs.Savefile.{IsWritable}
+use Rattle.savefile.specs.declared.fault.Fault.{Fault}
+use Rattle.savefile.specs.declared.fault.Fault.TheVariants as fault
+use Rattle.savefile.specs.declared.header.Header.{Header}
+use Rattle.savefile.specs.declared.packet.Packet.{Packet}
+use Rattle.replay.specs.Lines.{Line, HasArrived}
+use Rattle.replay.specs.declared.inlet.Player.{Player}
+use Rattle.replay.specs.declared.report.InterfaceEnd.{InterfaceEnd}
+use Rattle.replay.specs.declared.report.InterfaceEnd.TheVariants.{Clean, Capture, CountFull}
+
+-- the packets of a capture as they arrive, of which the first has this place
+abbrev pub numbered : ℕ → ℕ → List Packet → List Arrival
+numbered capture place [] = []
+numbered capture place (p ∷ ps) = arrival capture place p ∷ numbered capture (place + 1) ps
+
+-- Why a capture ended before its end, behind these packets: its header is refused; a record's fault stands behind them; its
+-- source failed, and they begin what it holds; or memory was refused, and nothing was read.
+abbrev pub IsStopped : Option (List ℕ) → Type 0 → List Packet → Fault → Type 0
+IsStopped start broke packets why =
+    (WasRefused start why × (packets ≡ []))
+    ⊎ ((header : Header) × WasRead start header packets (Some why))
+    ⊎ ((why ≡ fault.Device) × broke × ((packets ≡ []) ⊎ ((header : Header) × WasBegun start header packets)))
+    ⊎ ((why ≡ fault.NoMemory) × (packets ≡ []))
+
+-- How a capture ended, of which these packets arrived: it was read whole; it has a fault; or no more arrivals can be counted.
+abbrev pub EndsSo : Option (List ℕ) → Type 0 → ℕ → ℕ → List Packet → Option InterfaceEnd → Type 0
+EndsSo start broke capture arrived packets None = (header : Header) × WasRead start header packets None
+EndsSo start broke capture arrived packets (Some Clean) = ⊥
+EndsSo start broke capture arrived packets (Some (Capture n why)) =
+    (n ≡ capture) × (why ≢ fault.Failed) × (why ≢ fault.CountFull) × IsStopped start broke packets why
+EndsSo start broke capture arrived packets (Some CountFull) = (arrived ≡ 2 ^ 64 - 2) × (header : Header) × WasBegun start header packets
+
+-- Packets of a capture arrived at the listeners, each writable, numbered from 0; and that is how it ended.
+pub record HasPlayed (start : Option (List ℕ)) (broke : Type 0) (capture : ℕ) (old new : Player) (end : Option InterfaceEnd) : Type 0 where
+  pub packets : List Packet
+  pub writable : All IsWritable packets
+  pub arrive : (starts : List Line) (playlist : List Arrival) → HasArrived starts playlist old → HasArrived starts (playlist ++ numbered capture 0 packets) new
+  pub ends : EndsSo start broke capture new.arrived packets end

@@ -1,0 +1,40 @@
+-- What the feeders of an interface were asked so far.
+use Rattle.std.specs.Prelude.{◌≡◌, ℕ, List, ◌++◌, length, map}
+use Rattle.atomic_table.specs.Seated.{TableId}
+use Rattle.listener.specs.Messages.{Arrival}
+use Rattle.listener.specs.PlainList.{Request}
+use Rattle.handover.specs.Asks.{asks}
+use Rattle.handover.specs.declared.view.Profile.{Profile}
+use Rattle.replay.specs.Playing.{Asking, asked, asked_at}
+use Rattle.replay.specs.declared.inlet.Inlet.{Inlet}
+use Rattle.replay.specs.declared.inlet.Player.{Player}
+
+-- A feeder: its pair, its buffers and mode, what it is asked by, and what it was asked.
+pub record Line : Type 0 where
+  pub pair : TableId
+  pub profile : Profile
+  pub asking : Asking
+  pub asks : List Request
+
+abbrev pub line_of : Inlet → Line
+line_of i = record {
+  pair = i.feeder.pair;
+  profile = i.feeder.profile;
+  asking = record { program = i.feeder.program; snap = i.feeder.snap; flush_every = i.flush_every };
+  asks = asks i.feeder.feeds;
+}
+
+abbrev pub with_asks : Line → List Request → Line
+with_asks l rs = record { pair = l.pair; profile = l.profile; asking = l.asking; asks = rs }
+
+-- the feeder behind arrival n
+abbrev pub fed_with : ℕ → Arrival → Line → Line
+fed_with n a l = with_asks l (l.asks ++ asked_at l.asking n a)
+
+-- the feeder behind a playlist, before which nothing was asked
+abbrev pub fed_all : List Arrival → Line → Line
+fed_all playlist l = with_asks l (asked l.asking playlist)
+
+-- this playlist arrived at the feeders, which began as `starts`
+abbrev pub HasArrived : List Line → List Arrival → Player → Type 0
+HasArrived starts playlist p = (p.arrived ≡ length playlist) × (map line_of p.inlets.items ≡ map (fed_all playlist) starts)

@@ -1,0 +1,18 @@
+-- What a thread has written of the buffers that came through a ring.
+use Rattle.std.specs.Prelude.{ℕ, List, Option}
+use Rattle.std.specs.declared.alloc.Global.{Global}
+use Rattle.rtrb.specs.Ring.{received, SameConsumer}
+use Rattle.rtrb.specs.declared.AnyItems.{AnyItems}
+use Rattle.rtrb.specs.declared.consumer.Consumer.{Consumer}
+use Rattle.listener.specs.Buffers.{Filled}
+use Rattle.listener.specs.Laws.{joined}
+use Rattle.replay.specs.Reading.{messages_of}
+use Rattle.replay.specs.Writing.{Writes}
+use Rattle.replay.specs.declared.writing.Output.{Output}
+use Rattle.replay.specs.declared.writer.WriteEnd.{WriteEnd}
+
+-- what the buffers popped contain was written
+pub record HasWrittenOut {W : Type 0} (taken : W → Option (List ℕ)) (failures : W → ℕ) (o : Output W)
+    (full : Consumer Filled Global AnyItems) (r : WriteEnd W) : Type 0 where
+  pub ring : SameConsumer full r.full
+  pub writes : Writes taken failures o (joined (messages_of (received r.full))) r.written

@@ -1,0 +1,22 @@
+//! The feeders of an interface.
+
+ghost use Rattle.std.specs.Prelude.{◌≡◌};
+
+use handover::{Feeder, Link};
+
+/// Where packets go into one listener, and after how many arrivals it is flushed.
+#[derive(Drop)]
+pub(crate) struct Inlet<'a> {
+    pub(crate) link: &'a Link,
+    pub(crate) feeder: Feeder,
+    pub(crate) flush_every: u32,
+    ghost pair: { feeder.pair ≡ link.now },
+}
+
+/// The feeders of an interface, and how many packets arrived there.
+#[derive(Drop)]
+pub(crate) struct Player<'a> {
+    pub(crate) interface: u32,
+    pub(crate) inlets: Vec<Inlet<'a>>,
+    pub(crate) arrived: u64,
+}

@@ -1,0 +1,195 @@
+//! The thread that reads a listener.
+
+ghost use Rattle.std.specs.Prelude.{◌≡◌, ◌≢◌, [], ◌∷◌, ◌++◌, true, IfOk, IfErr};
+ghost use Rattle.rtrb.specs.Ring.{sent, SameProducer};
+ghost use Rattle.listener.specs.Buffers.{filled};
+ghost use Rattle.handover.specs.Ends.{IsSameDrain};
+ghost use Rattle.handover.specs.History.{batches_of, ended_in};
+ghost use Rattle.replay.specs.Reading.{HasRead, messages_of};
+
+use crate::gate::Gate;
+use handover::{Drain, DrainEnd, Link, Read};
+use listener::Buffer;
+use rtrb::{Consumer, Finished, Producer, PushError};
+use std::snapshot::Snapshot;
+use std::sync::Wait;
+use std::thread;
+use std::thread::Promise;
+
+/// Which listener of which interface a thread works for.
+#[derive(Clone, Copy)]
+pub(crate) struct Seat {
+    pub(crate) interface: u32,
+    pub(crate) listener: u32,
+}
+
+/// What a reading thread hands back.
+#[derive(Drop)]
+pub(crate) struct ReadEnd {
+    pub(crate) drain: DrainEnd,
+    /// Shows what was pushed.
+    pub(crate) finished: Option<Finished<Buffer>>,
+    pub(crate) stop: Stop,
+}
+
+/// Why a reading thread reads no further.
+#[derive(Clone, Copy)]
+pub(crate) enum Stop {
+    /// The end was found.
+    Ended,
+    /// Nobody gives buffers back any more.
+    Abandoned,
+    /// A buffer of another capacity was given back.
+    Foreign,
+}
+
+/// A reading thread hands back what it read of this drain, and pushed into this ring.
+#[derive(Drop)]
+pub(crate) struct ReadsOut {
+    pub(crate) drain: Snapshot<Drain>,
+    pub(crate) full: Snapshot<Producer<Buffer>>,
+}
+
+impl Promise<ReadEnd> for ReadsOut {
+    ghost kept_by = { λ p r. HasRead p.drain.value p.full.value r };
+}
+
+/// What came of one read.
+#[derive(Drop)]
+enum Once {
+    /// A batch was pushed.
+    Pushed,
+    /// Nothing was there, and the buffer is still empty.
+    Kept(Buffer),
+    Ended,
+}
+
+/// Pushes a buffer as soon as there is room for it.
+fn push_waiting(rt: &impl Wait, producer: &mut Producer<Buffer>, buffer: Buffer)
+    ensures ring { SameProducer producer.old producer.new }
+    ensures sent { sent producer.new ≡ sent producer.old ++ buffer ∷ [] }
+{
+    let mut buffer = buffer;
+    for _ in rt.forever() {
+        match producer.push(buffer) {
+            Ok(()) => return,
+            Err(PushError::Full(back)) => buffer = back,
+        }
+        thread::yield_now();
+    }
+    unreachable!()
+}
+
+#[tactic(auto, using(crate::proofs::Batches::pushes_batch, crate::proofs::Batches::batches_nothing, crate::proofs::Batches::batches_ended, crate::proofs::Batches::ended_found))]
+/// Reads once, and pushes the batch that was read.
+fn read_once<G: Gate, R: Wait>(
+    rt: &R,
+    gate: &G,
+    link: &Link,
+    drain: &mut Drain,
+    full: &mut Producer<Buffer>,
+    empty: Buffer,
+    seat: Seat,
+) -> Once
+    requires pair { drain.old.pair ≡ link.now }
+    requires empty { empty ≡ filled drain.old.profile.capacity [] }
+    requires pushed { messages_of (sent full.old) ≡ batches_of drain.old.takes }
+    ensures same { IsSameDrain drain.old drain.new }
+    ensures ring { SameProducer full.old full.new }
+    ensures pushed { messages_of (sent full.new) ≡ batches_of drain.new.takes }
+    ensures kept { (b : _) → result ≡ Once.Kept b → b ≡ filled drain.old.profile.capacity [] }
+    ensures ended { result ≡ Once.Ended → ended_in drain.new.takes ≡ true }
+{
+    gate.before_read(seat.interface, seat.listener);
+    match drain.read(link, empty) {
+        Read::Full(buffer) => {
+            gate.after_read(seat.interface, seat.listener, buffer.len() as u32);
+            push_waiting(rt, full, buffer);
+            Once::Pushed
+        }
+        Read::Nothing(buffer) => {
+            gate.after_read(seat.interface, seat.listener, 0);
+            Once::Kept(buffer)
+        }
+        Read::Ended(_) => {
+            gate.after_read(seat.interface, seat.listener, 0);
+            Once::Ended
+        }
+    }
+}
+
+/// The next empty buffer, cleared.
+fn next_empty(
+    rt: &impl Wait,
+    empty: &mut Consumer<Buffer>,
+    capacity: usize,
+) -> Result<Buffer, Stop>
+    ensures ok { IfOk result (λ buffer. buffer ≡ filled capacity []) }
+    ensures err { IfErr result (λ stop. stop ≢ Stop.Ended) }
+{
+    for _ in rt.forever() {
+        match empty.pop() {
+            Ok(mut buffer) => {
+                if buffer.capacity() != capacity {
+                    return Err(Stop::Foreign);
+                }
+                buffer.clear();
+                return Ok(buffer);
+            }
+            Err(_) => {
+                if empty.is_abandoned() {
+                    return Err(Stop::Abandoned);
+                }
+                thread::yield_now();
+            }
+        }
+    }
+    unreachable!()
+}
+
+/// Reads until the end is found, or until nobody gives buffers back any more. Then it closes the drain.
+pub(crate) fn read_out<G: Gate, R: Wait>(
+    rt: &R,
+    gate: &G,
+    link: &Link,
+    mut drain: Drain,
+    mut full: Producer<Buffer>,
+    mut empty: Consumer<Buffer>,
+    seat: Seat,
+) -> ReadEnd
+    requires pair { drain.pair ≡ link.now }
+    requires new { (drain.takes ≡ []) × (sent full ≡ []) }
+    ensures { HasRead drain full result }
+{
+    let capacity = drain.capacity();
+    let mut spare: Option<Buffer> = None;
+    let mut stop = Stop::Abandoned;
+    for _ in rt.forever() {
+        let buffer = match spare.take() {
+            Some(buffer) => buffer,
+            None => match next_empty(rt, &mut empty, capacity) {
+                Ok(buffer) => buffer,
+                Err(why) => {
+                    stop = why;
+                    break;
+                }
+            },
+        };
+        match read_once(rt, gate, link, &mut drain, &mut full, buffer, seat) {
+            Once::Pushed => {}
+            Once::Kept(buffer) => {
+                spare = Some(buffer);
+                thread::yield_now();
+            }
+            Once::Ended => {
+                stop = Stop::Ended;
+                break;
+            }
+        }
+    }
+    ReadEnd {
+        drain: drain.close(link),
+        finished: full.finish(),
+        stop,
+    }
+}

@@ -1,0 +1,42 @@
+//! What is told of a replay.
+
+use savefile::Fault;
+
+/// How the writing of a task ended.
+#[derive(Clone, Copy, Debug, PartialEq, Eq)]
+pub enum TaskEnd {
+    /// All that the listener kept was written.
+    Clean,
+    /// The sink failed, or the savefile would have 2^64 bytes or more, behind so many bytes.
+    Write(u64),
+    /// A ring between the threads did not hand over its end, or handed back a buffer of another capacity.
+    Unfinished,
+}
+
+/// What became of a task.
+#[derive(Debug, Drop)]
+pub struct ListenerReport<W> {
+    pub sink: W,
+    /// How many bytes the sink took.
+    pub sent: u64,
+    /// How many packets arrived at the listener.
+    pub received: u64,
+    /// How many of these its filter accepted.
+    pub matched: u64,
+    /// How many of these found no room.
+    pub dropped: u64,
+    /// How many packets were written whole.
+    pub written: u64,
+    pub end: TaskEnd,
+}
+
+/// How the captures of an interface ended.
+#[derive(Clone, Copy, Debug, PartialEq, Eq)]
+pub enum InterfaceEnd {
+    /// All captures were read to their end.
+    Clean,
+    /// This capture has this fault, behind all packets of the captures before it and those of its own before the fault.
+    Capture(u32, Fault),
+    /// 2^64 - 2 packets arrived, and more would come.
+    CountFull,
+}

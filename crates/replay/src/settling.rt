@@ -1,0 +1,102 @@
+//! What is left once the threads of a task have ended.
+
+ghost use Rattle.std.specs.Prelude.{◌≡◌, List, ◌++◌, length, true, false};
+ghost use Rattle.rtrb.specs.Ring.{known_items};
+ghost use Rattle.listener.specs.Laws.{joined};
+ghost use Rattle.listener.specs.declared.message.Message.{Message};
+ghost use Rattle.savefile.specs.Writer.{sent_by, sink_of};
+ghost use Rattle.replay.specs.Crews.{IsDone};
+ghost use Rattle.replay.specs.Reading.{messages_of};
+ghost use Rattle.replay.specs.Reports.{IsReported};
+ghost use Rattle.replay.specs.Writing.{Writes};
+ghost use Rattle.replay.specs.declared.writing.Output.{Output};
+
+use crate::crew::Done;
+use crate::reading::{ReadEnd, Stop};
+use crate::report::{ListenerReport, TaskEnd};
+use crate::writer::WriteEnd;
+use crate::writing::Written;
+use handover::{Link, Settled, settle};
+use listener::{Buffer, Counts};
+use rtrb::Consumer;
+use savefile::Sink;
+
+/// Writes the buffers that are left in the ring.
+fn write_left<W: Sink>(written: &mut Written<W>, full: &mut Consumer<Buffer>, left: usize)
+    requires { left ≡ length (known_items full.old) }
+    ensures { (output : Output W) (messages : List Message) → Writes W.taken W.failures output messages written.old →
+        Writes W.taken W.failures output (messages ++ joined (messages_of (known_items full.old))) written.new }
+{
+    for _ in 0..left {
+        written.put_all(&full.pop_known());
+    }
+}
+
+/// How a task ended, by why its reading stopped and whether its savefile works, of which so many bytes were sent.
+fn end_of(stop: Stop, works: bool, sent: u64) -> TaskEnd
+    ensures clean { result ≡ TaskEnd.Clean → (stop ≡ Stop.Ended) × (works ≡ true) }
+    ensures broke { (n : _) → result ≡ TaskEnd.Write n → (works ≡ false) × (n ≡ sent) }
+{
+    match stop {
+        Stop::Foreign => TaskEnd::Unfinished,
+        _ if !works => TaskEnd::Write(sent),
+        Stop::Ended => TaskEnd::Clean,
+        Stop::Abandoned => TaskEnd::Unfinished,
+    }
+}
+
+fn report<W: Sink>(written: Written<W>, counts: Counts, end: TaskEnd) -> ListenerReport<W>
+    ensures sink { (result.sink ≡ sink_of written.writer) × (result.sent ≡ sent_by written.writer) × (result.written ≡ written.count) }
+    ensures counts { (result.received ≡ counts.received) × (result.matched ≡ counts.matched) × (result.dropped ≡ counts.dropped) }
+    ensures end { result.end ≡ end }
+{
+    let Written {
+        writer,
+        count,
+        works: _,
+    } = written;
+    let (sink, sent) = writer.close();
+    ListenerReport {
+        sink,
+        sent,
+        received: counts.received,
+        matched: counts.matched,
+        dropped: counts.dropped,
+        written: count,
+        end,
+    }
+}
+
+/// Settles the two ends, and writes what the writer thread left: the buffers in the ring, the hold and the rest.
+pub(crate) fn settled<W: Sink + Drop>(link: Link, done: Done<W>) -> ListenerReport<W>
+    requires pair { done.feed.pair ≡ link }
+    requires done { IsDone W.taken W.failures done }
+    ensures { IsReported W.taken W.failures done.task.value done.feed.feeds done.read.drain.takes result }
+{
+    let Done {
+        task: _,
+        feed,
+        read,
+        write,
+    } = done;
+    let ReadEnd {
+        drain,
+        finished,
+        stop,
+    } = read;
+    let WriteEnd {
+        mut written,
+        mut full,
+    } = write;
+    let Settled { hold, rest, counts } = settle(link, feed, drain);
+    let Some(mut finished) = finished else {
+        return report(written, counts, TaskEnd::Unfinished);
+    };
+    let left = full.slots_after(&mut finished);
+    // Behind a fault nothing more is written.
+    write_left(&mut written, &mut full, left);
+    written.put_all(&hold);
+    written.put_all(&rest);
+    let end = end_of(stop, written.works, written.writer.sent());
+    report(written, counts, end)
+}

@@ -1,0 +1,72 @@
+//! The thread that writes what was read.
+
+ghost use Rattle.std.specs.Prelude.{◌≡◌, []};
+ghost use Rattle.rtrb.specs.Ring.{received};
+ghost use Rattle.replay.specs.WrittenOut.{HasWrittenOut};
+
+use crate::writing::{Output, Written};
+use listener::Buffer;
+use rtrb::{Consumer, Producer};
+use savefile::Sink;
+use std::snapshot::Snapshot;
+use std::sync::Wait;
+use std::thread;
+use std::thread::Promise;
+
+/// What a writer thread hands back.
+#[derive(Drop)]
+pub(crate) struct WriteEnd<W> {
+    pub(crate) written: Written<W>,
+    /// May have buffers that were not written.
+    pub(crate) full: Consumer<Buffer>,
+}
+
+/// A writer thread hands back what it wrote into this savefile, out of this ring.
+#[derive(Drop)]
+pub(crate) struct WritesOut<W> {
+    pub(crate) output: Snapshot<Output<W>>,
+    pub(crate) full: Snapshot<Consumer<Buffer>>,
+}
+
+impl<W: Sink> Promise<WriteEnd<W>> for WritesOut<W> {
+    ghost kept_by = { λ p r. HasWrittenOut W.taken W.failures p.output.value p.full.value r };
+}
+
+/// Gives an empty buffer back. Where nobody takes it, it is let go.
+fn give_back(empty: &mut Producer<Buffer>, buffer: Buffer) {
+    let _ = empty.push(buffer);
+}
+
+/// Writes what comes through the ring, until its other end is dropped and nothing is in it, or a fault came.
+pub(crate) fn write_out<W: Sink, R: Wait>(
+    rt: &R,
+    output: Output<W>,
+    mut full: Consumer<Buffer>,
+    mut empty: Producer<Buffer>,
+) -> WriteEnd<W>
+    requires { received full ≡ [] }
+    ensures { HasWrittenOut W.taken W.failures output full result }
+{
+    let mut written = Written::open(output);
+    let mut last = false;
+    for _ in rt.forever() {
+        if !written.works {
+            break;
+        }
+        match full.pop() {
+            Ok(buffer) => {
+                written.put_all(&buffer);
+                give_back(&mut empty, buffer);
+            }
+            Err(_) => {
+                if last {
+                    break;
+                }
+                // Something may have come before the other end was dropped: look once more.
+                last = full.is_abandoned();
+                thread::yield_now();
+            }
+        }
+    }
+    WriteEnd { written, full }
+}
