@@ -9,7 +9,7 @@ use Rattle.savefile.specs.declared.header.Unit.{Unit as TimeUnit}
 use Rattle.savefile.specs.declared.packet.Packet.{Packet}
 use Rattle.savefile.specs.declared.reader.Reader.{Reader}
 use Rattle.savefile.specs.declared.reader.State.TheVariants.{Broken}
-use Rattle.savefile.specs.Reader.{packet_lent, source_of, taken_ahead, HasGiven, IsCause, WasRead}
+use Rattle.savefile.specs.Reader.{packet_lent, source_of, taken_ahead, HasGiven, IsCause, WasRead, WasTaken}
 use Rattle.savefile.specs.Reading.{MeetsEnd, MeetsFault, Passes, StaysAt}
 use Rattle.savefile.specs.Savefile.{first_fault, AreRecords, Holds, IsRecord, IsSavefile, NoRecord}
 use Rattle.savefile.proofs.EveryText.{all_records}
@@ -81,17 +81,29 @@ gives_all left start h ps a b g (grows, nothing, end) =
       holds = holds_before g.text rest h ps None g.reads (NoRecord-nil h.order h.unit rest (ap length none)) (ap (first_fault h.order h.unit (length ps)) (sym none));
     }
 
+-- what was passed and what is held is what was taken
+taken_whole : (start left : Option (List ℕ)) (held text : List ℕ) → Consumes start (prepend_known held left) text → Consumes start left (text ++ held)
+taken_whole None left held text p = tt
+taken_whole (Some s) None held text p = absurd p
+taken_whole (Some s) (Some l) held text p = p ∙ sym (append_assoc text held l)
+
 -- a fault, and why
 pub gives_fault : {R : Type 0} (left : R → Option (List ℕ)) (start : Option (List ℕ)) (h : Header) (ps : List Packet) (a b : Reader R) (fault : Fault)
-    → HasGiven left start h ps a → MeetsFault left a b fault → IsCause start h ps (record b { state = Broken }) fault
+    → HasGiven left start h ps a → MeetsFault left a b fault → IsCause left start h ps (record b { state = Broken }) fault
 gives_fault left start h ps a b fault g (grows, why) =
     let header : a.header ≡ h = g.told in
+    let passed = passed_more start (left (source_of a)) (left (source_of b)) (taken_ahead a) (taken_ahead b) g.text grows.0 [] g.passed grows.2 (sym grows.1) in
+    let all = rw append-nil at passed in
     elim why [
-      | inl broke ↦ inr (inl (broke.0, subst (λ (x : Header). NoRecord x.order x.unit (taken_ahead b)) header broke.1))
+      | inl broke ↦ inr (inl (broke.0, record {
+        text = g.text ++ taken_ahead b;
+        rest = taken_ahead b;
+        taken = taken_whole start (left (source_of b)) (taken_ahead b) g.text all;
+        reads = IsSavefile-front g.text (taken_ahead b) h.order h.unit h.snap ps [] g.reads;
+        no_more = subst (λ (x : Header). NoRecord x.order x.unit (taken_ahead b)) header broke.1;
+      }))
       | inr stands ↦
           let rest = taken_ahead b ++ stands.0 in
-          let passed = passed_more start (left (source_of a)) (left (source_of b)) (taken_ahead a) (taken_ahead b) g.text grows.0 [] g.passed grows.2 (sym grows.1) in
-          let all = rw append-nil at passed in
           let ends : first_fault h.order h.unit (length ps) rest ≡ Some fault =
           ap (λ (n : ℕ). first_fault h.order h.unit n rest) (sym g.counts) ∙ subst (λ (x : Header). first_fault x.order x.unit a.given rest ≡ Some fault) header stands.2 in
           inl (record {

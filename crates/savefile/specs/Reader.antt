@@ -76,14 +76,24 @@ pub record WasRefused (start : Option (List ℕ)) (fault : Fault) : Type 0 where
   pub told : IfSome start (λ bytes. bytes ≡ text)
   pub refused : RefusesHeader text fault
 
+-- All that was taken from a source is a savefile of exactly these packets, and then a rest with no whole record. The
+-- source had `start` left before and has `left` left now.
+pub record WasTaken (start left : Option (List ℕ)) (header : Header) (packets : List Packet) : Type 0 where
+  pub text : List ℕ
+  pub rest : List ℕ
+  pub taken : Consumes start left text
+  pub reads : IsSavefile text header.order header.unit header.snap packets rest
+  pub no_more : NoRecord header.order header.unit rest
+
 -- ---- One call
 
 -- Why a reader that has given these packets gives no further one: they are all, and the fault stands behind them; or
--- the source failed, and what was taken from it has no whole record; or no more can be counted.
-abbrev pub IsCause : {R : Type 0} → Option (List ℕ) → Header → List Packet → Reader R → Fault → Type 0
-IsCause start header packets r fault =
+-- the source failed, and all that was taken from it is these packets and no whole record more; or no more can be
+-- counted.
+abbrev pub IsCause : {R : Type 0} → (R → Option (List ℕ)) → Option (List ℕ) → Header → List Packet → Reader R → Fault → Type 0
+IsCause left start header packets r fault =
     WasRead start header packets (Some fault)
-    ⊎ ((fault ≡ Device) × NoRecord header.order header.unit (taken_ahead r))
+    ⊎ ((fault ≡ Device) × WasTaken start (left (source_of r)) header packets)
     ⊎ ((fault ≡ CountFull) × (length packets ≡ 2 ^ 64 - 1))
 
 -- How a call leaves a reader, by its answer.

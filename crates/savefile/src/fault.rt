@@ -39,10 +39,12 @@ pub enum Fault {
     /// The device failed in this very call.
     #[error("Device")]
     Device,
-    /// The device failed in an earlier call; nothing was done.
+    /// An earlier call ended the reading or writing, by a device that failed, and in a reader also by a torn or bad
+    /// record or for want of memory; nothing was done.
     #[error("Failed")]
     Failed,
-    /// The number of bytes sent would pass 2^64 - 1; nothing was done.
+    /// A count is full: a reader has given 2^64 - 1 packets, or what a writer sent would pass 2^64 - 1 bytes; nothing
+    /// was done.
     #[error("CountFull")]
     CountFull,
 }

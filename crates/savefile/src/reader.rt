@@ -48,8 +48,9 @@ pub struct Reader<R> {
 /// Passes the header of a savefile.
 fn read_header<R: Source>(ahead: &mut Ahead<R>) -> Result<Header, Fault>
     ensures ok { IfOk result (λ header. PassesHeader R.left ahead.old ahead.new header) }
-    ensures err { IfErr result (λ fault. Grows R.left ahead.old ahead.new × ((fault ≡ Fault.Device) ⊎ ((rest : List ℕ)
-        × IfSome (R.left ahead.new.source) (λ bytes. bytes ≡ rest) × RefusesHeader (held_by ahead.new ++ rest) fault))) }
+    ensures err { IfErr result (λ fault. Grows R.left ahead.old ahead.new
+        × (((fault ≡ Fault.Device) × (length (held_by ahead.new) < 24))
+        ⊎ ((rest : List ℕ) × IfSome (R.left ahead.new.source) (λ bytes. bytes ≡ rest) × RefusesHeader (held_by ahead.new ++ rest) fault))) }
     ensures device { (result ≡ Err Fault.Device) ↔ (R.failures ahead.new.source ≢ R.failures ahead.old.source) }
 {
     ahead.fill(HEADER_LEN)?;
@@ -74,9 +75,11 @@ impl<R: Source> Reader<R> {
         ensures device { MatchResult result (λ reader. R.failures (source_of reader) ≡ R.failures source)
             (λ back. (back.1 ≡ Fault.Device) ↔ (R.failures back.0 ≢ R.failures source)) }
 
-        // What an error leaves of the source.
+        // The next bytes of the source are taken: none without memory, and no whole header where the source failed.
         ensures unread { IfErr result (λ back. back.1 ≡ Fault.NoMemory → back.0 ≡ source) }
-        ensures taken { IfErr result (λ back. (bytes : List ℕ) × Consumes (R.left source) (R.left back.0) bytes) }
+        ensures taken { MatchResult result
+            (λ reader. (bytes : List ℕ) × Consumes (R.left source) (R.left (source_of reader)) bytes)
+            (λ back. (bytes : List ℕ) × Consumes (R.left source) (R.left back.0) bytes × (back.1 ≡ Fault.Device → length bytes < 24)) }
     {
         let mut ahead = match Ahead::new(alloc, source) {
             Ok(ahead) => ahead,
@@ -116,7 +119,7 @@ impl<R: Source> Reader<R> {
         ensures end { (start : Option (List ℕ)) (header : Header) (packets : List Packet) → HasGiven R.left start header packets self.old →
             result ≡ Ok false → WasRead start header packets None }
         ensures cause { (start : Option (List ℕ)) (header : Header) (packets : List Packet) → HasGiven R.left start header packets self.old →
-            IfErr result (IsCause start header packets self.new) }
+            IfErr result (IsCause R.left start header packets self.new) }
         ensures so_far { (start : Option (List ℕ)) (header : Header) (packets : List Packet) → HasGiven R.left start header packets self.old →
             WasBegun start header packets }
         ensures writable { result ≡ Ok true → IsWritable (packet_lent self.new) }
@@ -128,7 +131,8 @@ impl<R: Source> Reader<R> {
         ensures ended { HasEnded self.old → (result ≡ Ok false) × (self.new ≡ self.old) }
         ensures leaves { Leaves self.old self.new result }
 
-        // The source is not asked where the next record was taken whole already.
+        // The next bytes of the source are taken, and none where the next record was taken whole already.
+        ensures taken { (bytes : List ℕ) × Consumes (R.left (source_of self.old)) (R.left (source_of self.new)) bytes }
         ensures idle { (p : Packet) (after : List ℕ) →
             IsRecord (header_told self.old).order (header_told self.old).unit (taken_ahead self.old) p after →
             source_of self.new ≡ source_of self.old }
@@ -181,7 +185,7 @@ impl<R: Source> Reader<R> {
         ensures packet { (start : Option (List ℕ)) (header : Header) (packets : List Packet) → HasGiven R.left start header packets self.old →
             IfOk result (λ next. MatchOption next (WasRead start header packets None) (λ p. HasGiven R.left start header (packets ++ p ∷ []) self.new)) }
         ensures cause { (start : Option (List ℕ)) (header : Header) (packets : List Packet) → HasGiven R.left start header packets self.old →
-            IfErr result (λ fault. IsCause start header packets self.new fault ⊎ (fault ≡ Fault.NoMemory)) }
+            IfErr result (λ fault. IsCause R.left start header packets self.new fault ⊎ (fault ≡ Fault.NoMemory)) }
         ensures so_far { (start : Option (List ℕ)) (header : Header) (packets : List Packet) → HasGiven R.left start header packets self.old →
             WasBegun start header packets }
         ensures writable { IfOk result (λ next. IfSome next IsWritable) }
@@ -192,6 +196,12 @@ impl<R: Source> Reader<R> {
         ensures count_full { (result ≡ Err Fault.CountFull) ↔ (GoesOn self.old × (count_given self.old ≡ 2 ^ 64 - 1)) }
         ensures ended { HasEnded self.old → (result ≡ Ok None) × (self.new ≡ self.old) }
         ensures leaves { LeavesNext self.old self.new result }
+
+        // The next bytes of the source are taken, and none where the next record was taken whole already.
+        ensures taken { (bytes : List ℕ) × Consumes (R.left (source_of self.old)) (R.left (source_of self.new)) bytes }
+        ensures idle { (p : Packet) (after : List ℕ) →
+            IsRecord (header_told self.old).order (header_told self.old).unit (taken_ahead self.old) p after →
+            source_of self.new ≡ source_of self.old }
     {
         if !self.advance()? {
             return Ok(None);

@@ -1,3 +1,5 @@
+use Rattle.std.proofs.Common.{[]}
+use Rattle.std.proofs.KnownBytes.{Consumes-nil}
 use Rattle.savefile.proofs.Given.{begins_all, gives_packet, gives_all, gives_fault}
 use Rattle.savefile.proofs.reader.Reader.advance.Goals as goal
 
@@ -31,3 +33,27 @@ returns-in-Ok-false-clause-so_far g c = λ start header packets given. begins_al
 
 pub returns-in-Err-clause-so_far : goal.returns-in-Err-clause-so_far
 returns-in-Err-clause-so_far g c = λ start header packets given. begins_all g.R.Source.left start header packets c.args.self.now given
+
+pub returns-in-Ended-clause-taken : goal.returns-in-Ended-clause-taken
+returns-in-Ended-clause-taken g c = ([], Consumes-nil _)
+
+pub returns-in-Broken-clause-taken : goal.returns-in-Broken-clause-taken
+returns-in-Broken-clause-taken g c = ([], Consumes-nil _)
+
+pub returns-then-self-clause-taken : goal.returns-then-self-clause-taken
+returns-then-self-clause-taken g c = ([], Consumes-nil _)
+
+pub returns-in-Ok-true-clause-taken : goal.returns-in-Ok-true-clause-taken
+returns-in-Ok-true-clause-taken g c =
+    let passes = c.in-Ok-true.ensures.packet (cc) in
+    (passes.0, passes.1)
+
+pub returns-in-Ok-false-clause-taken : goal.returns-in-Ok-false-clause-taken
+returns-in-Ok-false-clause-taken g c =
+    let grows = (c.in-Ok-false.ensures.end (cc)).0 in
+    (grows.0, grows.2)
+
+pub returns-in-Err-clause-taken : goal.returns-in-Err-clause-taken
+returns-in-Err-clause-taken g c =
+    let grows = c.in-Err.ensures.fault.0 in
+    (grows.0, grows.2)
