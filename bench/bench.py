@@ -291,6 +291,7 @@ def hostile():
     yield "a chain of values of 64 levels", "1=" + "+".join([deep + "len" + ")" * 64] * 48), 0
     yield "indices that are not closed", "ip[" * 2730, 1
     yield "signs before a value", "1=" + "-" * 8190, 1
+    yield "the longest chain of additions", "1=1" + "+1" * 4094, 1
     yield "a divisor of 0 behind all else", "1" + "+1" * 4094 + "/0", 1
     yield "blanks", "ip" + " " * 8190, 0
 

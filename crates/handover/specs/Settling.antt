@@ -1,4 +1,4 @@
--- What is left of a pair, in words that need no merge but in what is kept.
+-- What is left of a pair: batches, hold and rest as a whole, and the counts.
 use Rattle.std.specs.Prelude.{◌≡◌, ◌+◌, true, false, List, ◌++◌, length, Contains}
 use Rattle.listener.specs.declared.answer.Counts.{Counts}
 use Rattle.listener.specs.declared.message.Message.{Message}

@@ -322,14 +322,11 @@ fn capacities_and_snapshot_lengths_have_their_ranges(rt: HostRuntime) -> Result<
 
 #[test]
 fn a_filter_keeps_the_least_of_three_lengths(rt: HostRuntime) -> Result<(), Fail> {
-    let captured = numbered(rt.alloc(), 60)?;
-    assert_eq!(rt; kept_of(&keeping(40)?, 32, &packet(&captured)), Some(32));
-    assert_eq!(rt; kept_of(&keeping(20)?, 32, &packet(&captured)), Some(20));
-    assert_eq!(rt;
-        kept_of(&keeping(40)?, 32, &packet(&captured[..10])),
-        Some(10)
-    );
-    assert_eq!(rt; kept_of(&keeping(0)?, 32, &packet(&captured)), None);
+    let (long, short) = ([7; 60], [7; 10]);
+    assert_eq!(rt; kept_of(&keeping(40)?, 32, &packet(&long)), Some(32));
+    assert_eq!(rt; kept_of(&keeping(20)?, 32, &packet(&long)), Some(20));
+    assert_eq!(rt; kept_of(&keeping(40)?, 32, &packet(&short)), Some(10));
+    assert_eq!(rt; kept_of(&keeping(0)?, 32, &packet(&long)), None);
     Ok(())
 }
 
