@@ -69,8 +69,8 @@ pub all-fed : (playlist : List Arrival) (a : Arrival) (starts : List Line) → m
 all-fed playlist a [] = refl
 all-fed playlist a (l ∷ ls) =
     let one : fed_with (length playlist) a (fed_all playlist l) ≡ fed_all (playlist ++ a ∷ []) l =
-        ap (λ rs. record { pair = l.pair; profile = l.profile; asking = l.asking; asks = rs })
-        (sym (asked-more l.asking 0 playlist a ∙ ap (λ k. asked l.asking playlist ++ asked_at l.asking k a) (omega arith))) in
+    ap (λ rs. record { pair = l.pair; profile = l.profile; asking = l.asking; asks = rs })
+    (sym (asked-more l.asking 0 playlist a ∙ ap (λ k. asked l.asking playlist ++ asked_at l.asking k a) (omega arith))) in
     ap (λ x. x ∷ map (fed_with (length playlist) a) (map (fed_all playlist) ls)) one ∙ ap (λ xs. fed_all (playlist ++ a ∷ []) l ∷ xs) (all-fed playlist a ls)
 
 -- a list of what stands in the places of another

@@ -1,5 +1,5 @@
 -- What is told of a task once its ends are settled.
-use Rattle.std.proofs.Common.{◌≡◌, ◌≢◌, ℕ, ◌+◌, ◌^◌, ◌⊎◌, Bool, true, false, List, [], ◌∷◌, ◌++◌, length, map, refl, ap, sym, ◌∙◌, subst, Option, inl, inr}
+use Rattle.std.proofs.Common.{◌≡◌, ℕ, ◌+◌, Bool, true, false, List, ◌++◌, length, refl, ap, sym, ◌∙◌, subst, Option, inl, inr}
 use Rattle.std.specs.Io.KnownBytes.{Appends}
 use Rattle.listener.specs.Buffers.{Filled}
 use Rattle.listener.specs.Laws.{joined}
@@ -28,8 +28,8 @@ pub chain : (before now known sent : List Filled) (batches : List (List Message)
     → ((joined (messages_of before) ++ joined (messages_of known)) ++ hold) ++ rest ≡ all
 chain before now known sent batches hold rest all whole pushed fifo same =
     ap (λ xs. (xs ++ hold) ++ rest)
-        (ap (λ bs. joined (messages_of bs) ++ joined (messages_of known)) (sym same) ∙ sym (joins_buffers now known)
-        ∙ ap (λ bs. joined (messages_of bs)) fifo ∙ ap joined pushed)
+    (ap (λ bs. joined (messages_of bs) ++ joined (messages_of known)) (sym same) ∙ sym (joins_buffers now known)
+    ∙ ap (λ bs. joined (messages_of bs)) fifo ∙ ap joined pushed)
     ∙ whole
 
 module _ {W : Type 0} (taken : W → Option (List ℕ)) (failures : W → ℕ) (task : Task W) (feeds : List Feed) (takes : List Take) (r : ListenerReport W)
@@ -106,7 +106,7 @@ module _ {W : Type 0} (taken : W → Option (List ℕ)) (failures : W → ℕ) (
           t.begins,
           off.1,
           elim off.3 [
-            inl differs ↦ inl (λ same. differs (ap failures (sym back.0) ∙ same))
+            | inl differs ↦ inl (λ same. differs (ap failures (sym back.0) ∙ same))
             | inr full ↦ inr (subst (λ (n : ℕ). IsFull n (kept_for task feeds takes)) (sym back.1) full)
           ],
         );

@@ -1,5 +1,5 @@
 -- How a savefile goes on that is written.
-use Rattle.std.proofs.Common.{◌≡◌, ◌≢◌, ℕ, ◌+◌, ◌*◌, ◌<◌, ◌≤◌, ◌^◌, ◌⊎◌, ◌↔◌, inl, inr, true, false, List, [], ◌∷◌, ◌++◌, length, map, min, refl, ap, sym, ◌∙◌, arith, subst, Option, Result, Ok, Err, OnOk, IfErr, Contains, length-append, lit<}
+use Rattle.std.proofs.Common.{◌≡◌, ◌≢◌, ℕ, ◌+◌, ◌*◌, ◌<◌, ◌≤◌, ◌^◌, ◌⊎◌, inl, inr, true, false, List, [], ◌∷◌, ◌++◌, length, map, refl, ap, sym, ◌∙◌, arith, subst, Option, Contains, length-append, lit<}
 use Rattle.std.proofs.lemmas.List.{append-nil, append_assoc, map-append, length-map}
 use Rattle.std.proofs.lemmas.List.Elements.{Contains-append_left, Contains-append_right}
 use Rattle.std.proofs.lemmas.Bool.{cases_eq}
@@ -12,7 +12,7 @@ use Rattle.savefile.specs.Savefile.{encoded}
 use Rattle.savefile.specs.Writer.{IsBeginning, HasWritten, BrokeOff, Sent, has_failed, sent_by, sink_of}
 use Rattle.replay.specs.declared.writing.Output.{Output}
 use Rattle.replay.specs.declared.writing.Written.{Written}
-use Rattle.replay.specs.Writing.{as_written, Begins, IsFull, Writes}
+use Rattle.replay.specs.Writing.{as_written, Writes}
 
 -- two numbers that do not differ are one
 pub same-unless-different : (a b : ℕ) → (a ≢ b → ⊥) → a ≡ b
@@ -123,13 +123,13 @@ module _ {W : Type 0} (taken : W → Option (List ℕ)) (failures : W → ℕ) (
         begins = (t.begins.0 ++ m ∷ [], ap (λ xs. xs ++ m ∷ []) t.begins.1 ∙ append_assoc t.done t.begins.0 (m ∷ []));
         whole = λ e. let bad : false ≡ true = sym broken ∙ e in absurd cc;
         broke = λ _. elim which [
-          inl device ↦ (
-            let b = broke device in (
-              b.text,
-              subst (λ (ps : List Packet). IsBeginning b.text (encoded o.order o.unit o.snap ps)) (sym (map-append as_written messages (m ∷ []))) b.begins,
-              b.sent,
-              inl (λ is. differs device (is ∙ sym was.2)),
-            ))
+          | inl device ↦ (
+              let b = broke device in (
+                b.text,
+                subst (λ (ps : List Packet). IsBeginning b.text (encoded o.order o.unit o.snap ps)) (sym (map-append as_written messages (m ∷ []))) b.begins,
+                b.sent,
+                inl (λ is. differs device (is ∙ sym was.2)),
+              ))
           | inr (inl again) ↦ (let bad : false ≡ true = sym was.1.works ∙ failed again in absurd cc)
           | inr (inr many) ↦ (
             encoded o.order o.unit o.snap (map as_written messages),

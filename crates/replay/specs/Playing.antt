@@ -1,5 +1,5 @@
 -- What is asked of a listener while the packets of a playlist arrive.
-use Rattle.std.specs.Prelude.{◌≡◌, ℕ, ◌+◌, ◌%◌, Bool, List, [], ◌∷◌, ◌++◌, ◌==◌, ◌&&◌, not, if◌then◌else◌}
+use Rattle.std.specs.Prelude.{ℕ, ◌+◌, ◌%◌, Bool, List, [], ◌∷◌, ◌++◌, ◌==◌, ◌&&◌, not, if◌then◌else◌}
 use Rattle.listener.specs.Messages.{Arrival, kept_by}
 use Rattle.listener.specs.PlainList.{Request, Arrive, Flush}
 use Rattle.bpfvm.specs.declared.insn.Insn.{Insn}

@@ -1,5 +1,5 @@
 -- What a task asks for.
-use Rattle.std.specs.Prelude.{◌≡◌, ℕ}
+use Rattle.std.specs.Prelude.{◌≡◌}
 use Rattle.handover.specs.Ends.{Feeding}
 use Rattle.handover.specs.Rule.{profile_of}
 use Rattle.replay.specs.declared.task.Task.{Task}

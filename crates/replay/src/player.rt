@@ -55,7 +55,13 @@ fn give_all(inlets: &mut Vec<Inlet<'_>>, placed: &Placed<'_>)
 
 impl Player<'_> {
     /// The next packet arrives, of a capture and a place there.
-    pub(crate) fn arrive<G: Gate>(&mut self, gate: &G, capture: u32, place: u64, packet: &PacketRef<'_>)
+    pub(crate) fn arrive<G: Gate>(
+        &mut self,
+        gate: &G,
+        capture: u32,
+        place: u64,
+        packet: &PacketRef<'_>,
+    )
         requires room { self.old.arrived < 2 ^ 64 - 2 }
         requires so_far { (starts : List Line) × (playlist : List Arrival) × HasArrived starts playlist self.old }
         ensures { (starts : List Line) (playlist : List Arrival) → HasArrived starts playlist self.old →

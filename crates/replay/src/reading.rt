@@ -119,11 +119,7 @@ fn read_once<G: Gate, R: Wait>(
 }
 
 /// The next empty buffer, cleared.
-fn next_empty(
-    rt: &impl Wait,
-    empty: &mut Consumer<Buffer>,
-    capacity: usize,
-) -> Result<Buffer, Stop>
+fn next_empty(rt: &impl Wait, empty: &mut Consumer<Buffer>, capacity: usize) -> Result<Buffer, Stop>
     ensures ok { IfOk result (λ buffer. buffer ≡ filled capacity []) }
     ensures err { IfErr result (λ stop. stop ≢ Stop.Ended) }
 {

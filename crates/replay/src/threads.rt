@@ -14,7 +14,14 @@ use std::sync::Wait;
 use std::thread::{Scope, Threads};
 
 /// Starts the threads of a task. Where one is refused, none is left running.
-pub(crate) fn start<'s, 'a: 's, E, W: Sink + Send + Drop + 's, G: Gate + Sync + 's, R: Threads + Wait + Sync + 's>(
+pub(crate) fn start<
+    's,
+    'a: 's,
+    E,
+    W: Sink + Send + Drop + 's,
+    G: Gate + Sync + 's,
+    R: Threads + Wait + Sync + 's,
+>(
     rt: &'s R,
     scope: &Scope<'s, E>,
     gate: &'s G,
@@ -44,10 +51,14 @@ pub(crate) fn start<'s, 'a: 's, E, W: Sink + Send + Drop + 's, G: Gate + Sync + 
         output: Snapshot::of(&output),
         full: Snapshot::of(&full_out),
     };
-    let Ok(reader) = scope.spawn_with(reads, move || read_out(rt, gate, link, drain, full_in, empty_out, seat)) else {
+    let Ok(reader) = scope.spawn_with(
+        reads,
+        move || read_out(rt, gate, link, drain, full_in, empty_out, seat),
+    ) else {
         return Err(NoStart);
     };
-    let Ok(writer) = scope.spawn_with(writes, move || write_out(rt, output, full_out, empty_in)) else {
+    let Ok(writer) = scope.spawn_with(writes, move || write_out(rt, output, full_out, empty_in))
+    else {
         // The end of the feeder ends the reading thread.
         drop(feeder.end(link));
         drop(reader.join(rt));

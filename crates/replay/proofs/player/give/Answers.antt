@@ -1,4 +1,4 @@
-use Rattle.std.proofs.Common.{◌≡◌, ◌<◌, sym, ◌∙◌, arith}
+use Rattle.std.proofs.Common.{sym, ◌∙◌, arith}
 use Rattle.listener.specs.Messages.{arrival}
 use Rattle.replay.specs.Lines.{line_of}
 use Rattle.replay.proofs.Asked.{arrivals-asked, flushed-more, not-flushed, same-line}
@@ -16,7 +16,7 @@ returns-then-is_due c =
     same-line c.args.inlet.now.flush_every _ _ _ _ _ _ _ _ _ _ (f.same.pair ∙ a.same.pair) (f.same.profile ∙ a.same.profile)
     (f.same.program ∙ a.same.program) (f.same.snap ∙ a.same.snap)
     (flushed-more (line_of c.args.inlet.now).asking p.n (arrival p.capture p.place p.packet.now) old.feeds c.arrive.new.self.feeds c.flush.new.self.feeds c.arrive.result c.flush.result
-        f.call.call a.call f.call.feeds f.call.answer (sym c.is_due.ensures ∙ c.if-is_due.true))
+    f.call.call a.call f.call.feeds f.call.answer (sym c.is_due.ensures ∙ c.if-is_due.true))
 
 pub returns-else-is_due : goal.returns-else-is_due
 returns-else-is_due c =
@@ -25,4 +25,4 @@ returns-else-is_due c =
     let a = c.arrive.ensures in
     same-line c.args.inlet.now.flush_every _ _ _ _ _ _ _ _ _ _ a.same.pair a.same.profile a.same.program a.same.snap
     (not-flushed (line_of c.args.inlet.now).asking p.n (arrival p.capture p.place p.packet.now) old.feeds c.arrive.new.self.feeds c.arrive.result
-        a.call (sym c.is_due.ensures ∙ c.if-is_due.false))
+    a.call (sym c.is_due.ensures ∙ c.if-is_due.false))

@@ -16,7 +16,7 @@ give-requires-clause-room c =
     let i = c.loop-inlet.inlet-index in
     let h : i < length ls = omega (arith, c.loop-inlet-test.true, c.deref_mut-inlet-items.ensures.len, length-map c.args.inlets.now.items line_of) in
     let here : get_or ls i (line_of x) ≡ line_of (get_or c.loop-inlet.inlet-items i x) =
-        rest-here f ls i (line_of x) h ∙ ap (λ (vs : List Line). get_or vs i (line_of x)) (sym c.loop-inlet.invariant) ∙ get-map line_of c.loop-inlet.inlet-items i x in
+    rest-here f ls i (line_of x) h ∙ ap (λ (vs : List Line). get_or vs i (line_of x)) (sym c.loop-inlet.invariant) ∙ get-map line_of c.loop-inlet.inlet-items i x in
     subst (λ (l : Line). count is_arrival l.asks < 2 ^ 64 - 1) here (c.requires.room i (line_of x) h)
 
 pub loop-inlet-preserved : goal.loop-inlet-preserved
@@ -29,4 +29,4 @@ loop-inlet-preserved c =
     map-set line_of c.loop-inlet.inlet-items i c.give.new.inlet
     ∙ ap (λ (l : Line). set (map line_of c.loop-inlet.inlet-items) i l) (c.give.ensures ∙ ap (λ v. f (line_of v)) (sym c.inlet-item.is))
     ∙ map_over_more f ls (map line_of c.loop-inlet.inlet-items) i (line_of x) h c.loop-inlet.invariant
-        (ap line_of c.inlet-item.is ∙ sym (get-map line_of c.loop-inlet.inlet-items i x))
+    (ap line_of c.inlet-item.is ∙ sym (get-map line_of c.loop-inlet.inlet-items i x))

@@ -1,6 +1,5 @@
-use Rattle.std.proofs.Common.{◌≡◌, true, List, [], ◌∷◌, ◌++◌, refl, ap, sym, ◌∙◌, subst, Some, IfSome, Option}
+use Rattle.std.proofs.Common.{◌≡◌, List, sym, ◌∙◌, subst, IfSome}
 use Rattle.rtrb.specs.Ring.{all_sent, known_items, received, IsFinishedOf}
-use Rattle.listener.specs.Laws.{joined}
 use Rattle.listener.specs.declared.message.Message.{Message}
 use Rattle.handover.specs.History.{LegalHistory, batches_of, merge}
 use Rattle.handover.specs.Rule.{terms_of}
@@ -37,7 +36,7 @@ returns g c =
     let pushed = subst (λ o. IfSome o (λ f. IsFinishedOf f d.write.full × (messages_of (all_sent f) ≡ batches_of d.read.drain.takes))) c.in-Some.is c.requires.done.pushed in
     let known = known_items c.slots_after-left.new.self in
     let all = chain (received d.write.full) (received c.slots_after-left.new.self) known (all_sent c.in-Some.finished) (batches_of d.read.drain.takes) hold rest
-        (kept_for d.task.value d.feed.feeds d.read.drain.takes) whole.whole pushed.1 c.slots_after-left.ensures.fifo c.slots_after-left.ensures.looked.1 in
+    (kept_for d.task.value d.feed.feeds d.read.drain.takes) whole.whole pushed.1 c.slots_after-left.ensures.fifo c.slots_after-left.ensures.looked.1 in
     let o = output_of d.task.value in
     let one = c.write_left.ensures o _ c.requires.done.writes in
     let two = c.put_all.ensures o _ one in

@@ -15,4 +15,4 @@ invariant-loop g l =
     × (known_items l.fn.full ≡ gone ++ known_items l.full)
     × (l.left ≡ l.counter + length (known_items l.full))
     × ((output : Output _) (messages : List Message) → Writes g.W.Sink.taken g.W.Sink.failures output messages l.fn.written
-        → Writes g.W.Sink.taken g.W.Sink.failures output (messages ++ joined (messages_of gone)) l.written)
+    → Writes g.W.Sink.taken g.W.Sink.failures output (messages ++ joined (messages_of gone)) l.written)

@@ -1,7 +1,7 @@
-use Rattle.std.proofs.Common.{◌≡◌, ◌<◌, ◌+◌, ◌^◌, ◌-◌, ◌∷◌, [], All, List, length, map, ap, sym, ◌∙◌, arith, subst, length-append}
+use Rattle.std.proofs.Common.{◌<◌, ◌^◌, ◌-◌, ◌∷◌, [], All, List, map, ap, sym, ◌∙◌, arith, subst, length-append}
 use Rattle.listener.specs.LookingBack.{count, is_arrival}
 use Rattle.listener.specs.Messages.{arrival}
-use Rattle.replay.specs.Lines.{Line, fed_all, fed_with, line_of}
+use Rattle.replay.specs.Lines.{Line, fed_all, fed_with}
 use Rattle.replay.proofs.Asked.{all-fed, few-asked}
 use Rattle.replay.proofs.inlet.Player.arrive.Goals as goal
 
@@ -16,5 +16,5 @@ returns g c = λ starts playlist h.
     let a = arrival c.args.capture c.args.place c.args.packet.now in (
       omega (arith, h.0, length-append playlist (a ∷ [])),
       c.give_all.ensures ∙ ap (λ (ls : List Line). map (fed_with c.args.self.now.arrived a) ls) h.1
-      ∙ ap (λ n. map (fed_with n a) (map (fed_all playlist) starts)) h.0 ∙ all-fed playlist a starts,
+          ∙ ap (λ n. map (fed_with n a) (map (fed_all playlist) starts)) h.0 ∙ all-fed playlist a starts,
     )

@@ -1,7 +1,6 @@
-use Rattle.std.proofs.Common.{◌≡◌, ◌+◌, ◌∷◌, [], ◌++◌, All, List, length, ap, sym, refl, ◌∙◌, arith, subst, Ok, Err, inl, inr, length-append}
+use Rattle.std.proofs.Common.{◌∷◌, [], ◌++◌, List, ap, sym, refl, ◌∙◌, arith, subst, Ok, Err, inl, inr, length-append}
 use Rattle.listener.specs.Messages.{Arrival, arrival}
 use Rattle.savefile.specs.Reader.{packet_lent, source_of}
-use Rattle.savefile.specs.Savefile.{IsWritable}
 use Rattle.savefile.specs.declared.packet.Packet.{Packet}
 use Rattle.replay.specs.Captures.{numbered}
 use Rattle.replay.specs.Lines.{HasArrived}
@@ -32,7 +31,7 @@ returns-in-Err-clause-played g c = λ start header h.
         (λ e. let bad = sym given.goes_on ∙ a.failed.0 (c.in-Err.is ∙ ap Err e) in cc),
         (λ e. let full = a.count_full.0 (c.in-Err.is ∙ ap Err e) in omega (arith, full.1, given.counts, so_many, most, sum)),
         elim (c.in-Err.ensures.cause start header packets given) [
-          inl read ↦ inr (inl (header, read))
+          | inl read ↦ inr (inl (header, read))
           | inr (inl device) ↦ inr (inr (inl (
             device.0,
             (λ same. a.device.0 (c.in-Err.is ∙ ap Err device.0) (same ∙ sym c.loop-place.invariant.3)),
@@ -66,7 +65,7 @@ loop-place-preserved g c =
       (starts, _, grown),
       same-unless-different (g.S.Source.failures (source_of c.advance.new.self)) (g.S.Source.failures (source_of c.loop-place.reader))
           (λ differs. let bad = sym is ∙ c.advance.ensures.device.1 differs in cc)
-      ∙ c.loop-place.invariant.3,
+          ∙ c.loop-place.invariant.3,
       (λ start header h.
           let (packets, so_many, writable, given, arrives) = c.loop-place.invariant.4 start header h in (
             packets ++ p ∷ [],

@@ -16,5 +16,5 @@ invariant-loop-place g l =
     × ((starts : List Line) × (playlist : List Arrival) × HasArrived starts playlist l.self)
     × (g.S.Source.failures (source_of l.reader) ≡ g.S.Source.failures (source_of l.fn.reader))
     × ((start : Option (List ℕ)) (header : Header) → HasGiven g.S.Source.left start header [] l.fn.reader →
-        (packets : List Packet) × (length packets ≡ l.place) × All IsWritable packets × HasGiven g.S.Source.left start header packets l.reader
-        × ((starts : List Line) (playlist : List Arrival) → HasArrived starts playlist l.fn.self → HasArrived starts (playlist ++ numbered l.capture 0 packets) l.self))
+    (packets : List Packet) × (length packets ≡ l.place) × All IsWritable packets × HasGiven g.S.Source.left start header packets l.reader
+    × ((starts : List Line) (playlist : List Arrival) → HasArrived starts playlist l.fn.self → HasArrived starts (playlist ++ numbered l.capture 0 packets) l.self))

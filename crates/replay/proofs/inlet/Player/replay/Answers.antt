@@ -1,4 +1,4 @@
-use Rattle.std.proofs.Common.{◌≡◌, ◌≢◌, ℕ, List, [], ◌++◌, sym, refl, subst}
+use Rattle.std.proofs.Common.{◌≢◌, ℕ, List, [], sym, refl, subst}
 use Rattle.std.proofs.lemmas.List.{append-nil}
 use Rattle.listener.specs.Messages.{Arrival}
 use Rattle.savefile.specs.Reader.{header_told, source_of}
@@ -18,7 +18,7 @@ returns-in-Ok-clause-played g c =
 pub returns-in-Err-clause-played : goal.returns-in-Err-clause-played
 returns-in-Err-clause-played g c =
     let why = not-opened (g.S.Source.left c.args.source) (g.S.Source.failures c.in-Err.source ≢ g.S.Source.failures c.args.source) c.in-Err.fault
-        c.in-Err.ensures.refused c.in-Err.ensures.device.0 in record {
+    c.in-Err.ensures.refused c.in-Err.ensures.device.0 in record {
       packets = [];
       writable = none-writable;
       arrive = λ starts playlist h. subst (λ (as' : List Arrival). HasArrived starts as' c.args.self.now) (sym (append-nil playlist)) h;

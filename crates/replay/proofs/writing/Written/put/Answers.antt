@@ -1,9 +1,7 @@
-use Rattle.std.proofs.Common.{◌≡◌, ◌<◌, ◌+◌, ◌^◌, List, ◌∷◌, ◌++◌, [], map, refl, sym, subst, ap, ◌∙◌, min, inr, Ok, Err, OnOk, arith, Result}
+use Rattle.std.proofs.Common.{◌∷◌, ◌++◌, [], map, refl, sym, subst, ap, ◌∙◌, inr, Err, arith}
 use Rattle.listener.specs.Buffers.{message_in}
 use Rattle.savefile.specs.Writer.{sink_of, BrokeOff, HasWritten}
 use Rattle.savefile.specs.Savefile.{packet}
-use Rattle.savefile.specs.declared.packet.Packet.{Packet}
-use Rattle.savefile.specs.declared.fault.Fault.TheVariants.{Device, CountFull, Failed}
 use Rattle.replay.specs.Writing.{as_written}
 use Rattle.replay.proofs.Writes.{stays-broken, writes-more, put-fails, count-below, same-unless-different}
 use Rattle.replay.proofs.writing.Written.put.Goals as goal
@@ -22,8 +20,8 @@ returns-in-Err g c = λ output messages t.
     put-fails g.W.Sink.taken g.W.Sink.failures output messages (message_in m) c.args.self.now _ fault
     (c.growing_text.ensures.begins output.order output.unit output.snap) c.if-not-self.false t refl refl
     (λ is. subst (λ (n : _). BrokeOff g.W.Sink.taken (g.W.Sink.taken output.sink) output.order output.unit output.snap
-        (map as_written messages ++ packet m.sec n m.len m.bytes.now ∷ []) c.put.new.self) c.min-nanos.ensures
-        (put.broke_off _ output.order output.unit output.snap (map as_written messages) written (c.in-Err.is ∙ ap Err is)))
+    (map as_written messages ++ packet m.sec n m.len m.bytes.now ∷ []) c.put.new.self) c.min-nanos.ensures
+    (put.broke_off _ output.order output.unit output.snap (map as_written messages) written (c.in-Err.is ∙ ap Err is)))
     (λ is. put.device.0 (c.in-Err.is ∙ ap Err is))
     (λ is. put.failed.0 (c.in-Err.is ∙ ap Err is))
     (λ is. (put.count_full.0 (c.in-Err.is ∙ ap Err is)).1)
@@ -36,12 +34,12 @@ returns-in-Ok g c = λ output messages t.
     let T = g.W.Sink.taken in
     let was = t.whole c.if-not-self.false in
     let written = subst (λ (n : _). HasWritten T (T output.sink) output.order output.unit output.snap
-        (map as_written messages ++ packet m.sec n m.len m.bytes.now ∷ []) c.put.new.self) c.min-nanos.ensures
-        (c.in-Ok.ensures.ok _ output.order output.unit output.snap (map as_written messages) was.1) in
+    (map as_written messages ++ packet m.sec n m.len m.bytes.now ∷ []) c.put.new.self) c.min-nanos.ensures
+    (c.in-Ok.ensures.ok _ output.order output.unit output.snap (map as_written messages) was.1) in
     let room = count-below T g.W.Sink.failures output messages c.args.self.now c.put.new.self (message_in m) c.if-not-self.false t
-        (c.packets_take_room.ensures.written output.order output.unit output.snap) written
-        (omega (arith, c.sent-sent.type_inv, c.sent-sent.ensures)) in
+    (c.packets_take_room.ensures.written output.order output.unit output.snap) written
+    (omega (arith, c.sent-sent.type_inv, c.sent-sent.ensures)) in
     writes-more T g.W.Sink.failures output messages (message_in m) c.args.self.now _ c.if-not-self.false t c.if-not-self.false
     (c.saturating_add-self.ensures ∙ omega (arith, room)) written
     (same-unless-different (g.W.Sink.failures (sink_of c.put.new.self)) (g.W.Sink.failures (sink_of c.args.self.now.writer))
-        (λ differs. let bad = sym c.in-Ok.is ∙ c.put.ensures.device.1 differs in absurd cc))
+    (λ differs. let bad = sym c.in-Ok.is ∙ c.put.ensures.device.1 differs in absurd cc))

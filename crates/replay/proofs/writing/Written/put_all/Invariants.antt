@@ -1,4 +1,4 @@
-use Rattle.std.proofs.Common.{◌≡◌, List, ◌++◌, map}
+use Rattle.std.proofs.Common.{List, ◌++◌, map}
 use Rattle.listener.specs.Buffers.{message_in}
 use Rattle.listener.specs.declared.message.Message.{Message}
 use Rattle.replay.specs.declared.writing.Output.{Output}
