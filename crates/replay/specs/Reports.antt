@@ -7,7 +7,7 @@ use Rattle.savefile.specs.Writer.{IsBeginning}
 use Rattle.handover.specs.History.{LegalHistory, finds, merge}
 use Rattle.handover.specs.Own.{arrivals, matches, drops}
 use Rattle.handover.specs.Rule.{last, profile_of, terms_of}
-use Rattle.handover.specs.Settling.{kept_of}
+use Rattle.handover.specs.Settling.{kept_of_both}
 use Rattle.handover.specs.declared.calls.Feed.{Feed}
 use Rattle.handover.specs.declared.calls.Take.{Take}
 use Rattle.replay.specs.Writing.{as_written, Begins, IsFull}
@@ -17,7 +17,7 @@ use Rattle.replay.specs.declared.task.Task.{Task}
 
 -- the messages that the listener kept
 abbrev pub kept_for : {W : Type 0} → Task W → List Feed → List Take → List Message
-kept_for task feeds takes = kept_of (profile_of task.capacity task.mode) feeds takes
+kept_for task feeds takes = kept_of_both (profile_of task.capacity task.mode) feeds takes
 
 -- the text of what it kept
 abbrev pub text_for : {W : Type 0} → Task W → List Feed → List Take → List ℕ
