@@ -8,7 +8,7 @@ use Rattle.savefile.specs.declared.header.Unit.{Unit as TimeUnit}
 use Rattle.savefile.specs.declared.packet.Packet.{Packet}
 use Rattle.savefile.specs.declared.reader.Reader.{Reader}
 use Rattle.savefile.specs.declared.writing.Writer.{Writer}
-use Rattle.savefile.specs.Reader.{HasGiven, WasBegun, WasRead}
+use Rattle.savefile.specs.Reader.{HasGiven, WasBegun, WasRead, WasTaken}
 use Rattle.savefile.specs.Savefile.{encoded}
 use Rattle.savefile.specs.Writer.{HasWritten, IsBeginning, Sent}
 use Rattle.bpfvm.specs.declared.insn.Insn.{Insn}
@@ -29,14 +29,15 @@ abbrev pub Copies : {R W : Type 0} → (R → Option (List ℕ)) → (W → Opti
 Copies left taken from header to order unit head program snap reader writer =
     (packets : List Packet) × HasGiven left from header packets reader × HasWritten taken to order unit head (accepted program snap packets) writer
 
--- and so copying came to this end
-abbrev pub Copied : {W : Type 0} → (W → Option (List ℕ)) → Option (List ℕ) → Header → Option (List ℕ) → Order → TimeUnit → ℕ → List Insn → ℕ → End → Writer W → Type 0
-Copied taken from header to order unit head program snap Clean writer =
+-- and so copying came to this end, with `left` left in the source
+abbrev pub Copied : {W : Type 0} → (W → Option (List ℕ)) → Option (List ℕ) → Option (List ℕ) → Header → Option (List ℕ) → Order → TimeUnit → ℕ → List Insn → ℕ → End → Writer W → Type 0
+Copied taken from left header to order unit head program snap Clean writer =
     (packets : List Packet) × WasRead from header packets None × HasWritten taken to order unit head (accepted program snap packets) writer
-Copied taken from header to order unit head program snap (Input fault) writer =
+Copied taken from left header to order unit head program snap (Input fault) writer =
     (packets : List Packet) × HasWritten taken to order unit head (accepted program snap packets) writer
     × (WasRead from header packets (Some fault)
-    ⊎ (WasBegun from header packets × ((fault ≡ Device) ⊎ ((fault ≡ CountFull) × (length packets ≡ 2 ^ 64 - 1)))))
-Copied taken from header to order unit head program snap (Output fault) writer =
+    ⊎ (WasBegun from header packets
+    × (((fault ≡ Device) × WasTaken from left header packets) ⊎ ((fault ≡ CountFull) × (length packets ≡ 2 ^ 64 - 1)))))
+Copied taken from left header to order unit head program snap (Output fault) writer =
     (packets : List Packet) × WasBegun from header packets
     × Wrote taken to order unit head (accepted program snap packets) (Result.Err fault) writer

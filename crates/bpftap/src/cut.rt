@@ -1,6 +1,7 @@
 //! A capture cut by a filter: the function under `bpftap cut`.
 
 ghost use Rattle.std.specs.Prelude.{◌≡◌, ◌≢◌, ℕ, List, [], ◌∷◌, ◌++◌, Option, Err, ◌↔◌};
+ghost use Rattle.std.specs.Io.KnownBytes.{Consumes};
 ghost use Rattle.savefile.specs.Savefile.{IsWritable};
 ghost use Rattle.savefile.specs.declared.header.Header.{Header};
 ghost use Rattle.savefile.specs.declared.packet.Packet.{Packet};
@@ -56,11 +57,11 @@ pub struct CutEnd<R, W> {
 ///
 /// The end is [`End::Clean`] where the whole capture was read and written. It is [`End::Input`] with the header's fault,
 /// and nothing is written; with the fault of the first torn or bad record, behind all packets before it; with
-/// [`Fault::Device`] exactly where the source failed, behind all packets before that, and without a header where the
-/// capture's was not known; with [`Fault::NoMemory`], and nothing is written; or with [`Fault::CountFull`] after
-/// 2^64 - 1 packets. It is [`End::Output`] with [`Fault::Device`] exactly where the sink failed, or
-/// [`Fault::CountFull`] where the text has 2^64 bytes or more. In every case the sink took exactly `sent` bytes, a
-/// beginning of the text that was to be written.
+/// [`Fault::Device`] exactly where the source failed: behind all packets that came whole in what the source gave, or
+/// with nothing written where that was fewer than the 24 bytes of a header; with [`Fault::NoMemory`], and nothing is
+/// written; or with [`Fault::CountFull`] after 2^64 - 1 packets. It is [`End::Output`] with [`Fault::Device`] exactly
+/// where the sink failed, or [`Fault::CountFull`] where the text has 2^64 bytes or more. In every case the sink took
+/// exactly `sent` bytes, a beginning of the text that was to be written.
 pub fn cut<R: Source, W: Sink>(
     alloc: Global,
     from: R,
@@ -70,7 +71,7 @@ pub fn cut<R: Source, W: Sink>(
     unit: Unit,
     to: W,
 ) -> CutEnd<R, W>
-    // What stood in the source, what the sink took of it, and how that ended.
+    // What stood in the source, what it gave of it, what the sink took, and how that ended.
     ensures cuts { Cuts R.left W.taken from to program.now snap order unit result }
 
     // A device's fault is told exactly where the device failed.
@@ -110,7 +111,8 @@ fn write_accepted<R: Source, W: Sink>(
 ) -> (W, u64, End)
     ensures writes { (from : Option (List ℕ)) (header : Header) → HasGiven R.left from header [] reader.old →
         (writer : Writer W) × (result.0 ≡ sink_of writer) × (result.1 ≡ sent_by writer)
-        × Copied W.taken from header (W.taken to) order unit (meant snap) program.now (meant snap) result.2 writer }
+        × Copied W.taken from (R.left (source_of reader.new)) header (W.taken to) order unit (meant snap) program.now (meant snap) result.2 writer }
+    ensures taken { (bytes : List ℕ) × Consumes (R.left (source_of reader.old)) (R.left (source_of reader.new)) bytes }
     ensures source_broke { (result.2 ≡ End.Input Fault.Device) ↔ (R.failures (source_of reader.new) ≢ R.failures (source_of reader.old)) }
     ensures sink_broke { (result.2 ≡ End.Output Fault.Device) ↔ (W.failures result.0 ≢ W.failures to) }
 {
@@ -136,7 +138,8 @@ fn copy_accepted<R: Source, W: Sink>(
 ) -> End
     ensures copies { (from : Option (List ℕ)) (header : Header) (to : Option (List ℕ)) (order : Order) (unit : Unit) (head : ℕ) →
         HasGiven R.left from header [] reader.old → HasWritten W.taken to order unit head [] writer.old →
-        Copied W.taken from header to order unit head program.now snap result writer.new }
+        Copied W.taken from (R.left (source_of reader.new)) header to order unit head program.now snap result writer.new }
+    ensures taken { (bytes : List ℕ) × Consumes (R.left (source_of reader.old)) (R.left (source_of reader.new)) bytes }
     ensures source_broke { (result ≡ End.Input Fault.Device) ↔ (R.failures (source_of reader.new) ≢ R.failures (source_of reader.old)) }
     ensures sink_broke { (result ≡ End.Output Fault.Device) ↔ (W.failures (sink_of writer.new) ≢ W.failures (sink_of writer.old)) }
 {

@@ -9,7 +9,7 @@ use Rattle.savefile.specs.declared.header.Unit.{Unit as TimeUnit}
 use Rattle.savefile.specs.declared.packet.Packet.{Packet}
 use Rattle.savefile.specs.declared.reader.Reader.{Reader}
 use Rattle.savefile.specs.declared.reader.State.TheVariants.{Broken}
-use Rattle.savefile.specs.Reader.{packet_lent, source_of, taken_ahead, HasGiven, IsCause, WasRead, WasTaken}
+use Rattle.savefile.specs.Reader.{packet_lent, source_of, taken_ahead, HasGiven, IsCause, WasRead}
 use Rattle.savefile.specs.Reading.{MeetsEnd, MeetsFault, Passes, StaysAt}
 use Rattle.savefile.specs.Savefile.{first_fault, AreRecords, Holds, IsRecord, IsSavefile, NoRecord}
 use Rattle.savefile.proofs.EveryText.{all_records}
@@ -95,13 +95,16 @@ gives_fault left start h ps a b fault g (grows, why) =
     let passed = passed_more start (left (source_of a)) (left (source_of b)) (taken_ahead a) (taken_ahead b) g.text grows.0 [] g.passed grows.2 (sym grows.1) in
     let all = rw append-nil at passed in
     elim why [
-      | inl broke ↦ inr (inl (broke.0, record {
-        text = g.text ++ taken_ahead b;
-        rest = taken_ahead b;
-        taken = taken_whole start (left (source_of b)) (taken_ahead b) g.text all;
-        reads = IsSavefile-front g.text (taken_ahead b) h.order h.unit h.snap ps [] g.reads;
-        no_more = subst (λ (x : Header). NoRecord x.order x.unit (taken_ahead b)) header broke.1;
-      }))
+      | inl broke ↦ inr (inl (
+        broke.0,
+        record {
+          text = g.text ++ taken_ahead b;
+          rest = taken_ahead b;
+          taken = taken_whole start (left (source_of b)) (taken_ahead b) g.text all;
+          reads = IsSavefile-front g.text (taken_ahead b) h.order h.unit h.snap ps [] g.reads;
+          no_more = subst (λ (x : Header). NoRecord x.order x.unit (taken_ahead b)) header broke.1;
+        },
+      ))
       | inr stands ↦
           let rest = taken_ahead b ++ stands.0 in
           let ends : first_fault h.order h.unit (length ps) rest ≡ Some fault =

@@ -65,7 +65,7 @@ impl<R: Source> Reader<R> {
     /// The error is [`Fault::ShortHeader`], [`Fault::NotSavefile`], [`Fault::Version`] or [`Fault::LinkType`] where
     /// that is the first check of the header to fail; [`Fault::Device`] exactly where the source failed in this call;
     /// or [`Fault::NoMemory`], and then the source was not read. The source comes back with it; bytes that were read
-    /// are lost.
+    /// are lost, and after [`Fault::Device`] these are fewer than the header's 24.
     pub fn open(alloc: Global, source: R) -> Result<Reader<R>, (R, Fault)>
         // The reader has given nothing yet.
         ensures ok { IfOk result (λ reader. HasGiven R.left (R.left source) (header_told reader) [] reader) }
@@ -108,8 +108,9 @@ impl<R: Source> Reader<R> {
     ///
     /// A torn or bad record ends the packets: [`Fault::TornRecord`], [`Fault::BadFraction`] or [`Fault::TooLong`], with
     /// its place, comes behind all packets before it. [`Fault::Device`] comes exactly where the source failed in this
-    /// call. After each of these every call answers [`Fault::Failed`], which comes nowhere else, and reads nothing.
-    /// [`Fault::CountFull`] comes exactly after 2^64 - 1 packets, reads nothing, and repeats. No memory is taken.
+    /// call, and behind all packets that came whole in what was taken from the source. After each of these every call
+    /// answers [`Fault::Failed`], which comes nowhere else, and reads nothing. [`Fault::CountFull`] comes exactly after
+    /// 2^64 - 1 packets, reads nothing, and repeats. No memory is taken.
     #[inline]
     pub fn advance(&mut self) -> Result<bool, Fault>
         // One packet more, the end, or why there is none. What was given so far begins what the text holds, whatever

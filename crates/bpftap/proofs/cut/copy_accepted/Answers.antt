@@ -1,4 +1,5 @@
 use Rattle.std.proofs.Common.{◌≡◌, ◌∙◌, ◌++◌, ◌∷◌, [], inl, inr, sym, ap, subst, refl, List, Err}
+use Rattle.std.proofs.KnownBytes.{Consumes-nil, Consumes-trans}
 use Rattle.savefile.specs.declared.packet.Packet.{Packet}
 use Rattle.savefile.specs.Reader.{packet_lent}
 use Rattle.savefile.specs.Writer.{HasWritten}
@@ -15,6 +16,7 @@ loop-reader-init g c = record {
     given,
     subst (λ (ps : List Packet). HasWritten g.W.Sink.taken to order unit head ps c.args.writer.now) (sym (accepted-nil c.args.program.now c.args.snap)) written,
   );
+  taken = ([], Consumes-nil _);
   source_works = refl;
   sink_works = refl;
 }
@@ -31,6 +33,10 @@ loop-reader-preserved g c = record {
             (ap (λ (q : Packet). accepted program c.args.snap packets ++ accepted program c.args.snap (q ∷ [])) c.packet.ensures ∙ sym (accepted-append program c.args.snap packets (p ∷ [])))
             (c.in-Ok.ensures.writes to order unit head (accepted program c.args.snap packets) wrote),
       );
+  taken =
+      let (before, took) = c.loop-reader.invariant.taken in
+      let (more, goes) = c.in-Ok-true.ensures.taken in
+      (before ++ more, Consumes-trans _ _ _ before more took goes);
   source_works = same-unless-different _ _ (λ different. let broke = c.in-Ok-true.ensures.device.1 different in cc) ∙ c.loop-reader.invariant.source_works;
   sink_works = same-unless-different _ _ (λ different. let broke = c.in-Ok.ensures.sink_broke.1 different in cc) ∙ c.loop-reader.invariant.sink_works;
 }
@@ -60,6 +66,24 @@ returns-in-Err-clause-copies g c = λ from header to order unit head given writt
       wrote,
       elim (told.cause from header packets gives) [
         | inl read ↦ inl read
-        | inr other ↦ inr (told.so_far from header packets gives, elim other [ inl device ↦ inl device.0 | inr full ↦ inr full ])
+        | inr other ↦ inr (told.so_far from header packets gives, other)
       ],
     )
+
+pub returns-in-Err-put_one-clause-taken : goal.returns-in-Err-put_one-clause-taken
+returns-in-Err-put_one-clause-taken g c =
+    let (before, took) = c.loop-reader.invariant.taken in
+    let (more, goes) = c.in-Ok-true.ensures.taken in
+    (before ++ more, Consumes-trans _ _ _ before more took goes)
+
+pub returns-in-Ok-false-clause-taken : goal.returns-in-Ok-false-clause-taken
+returns-in-Ok-false-clause-taken g c =
+    let (before, took) = c.loop-reader.invariant.taken in
+    let (more, goes) = c.in-Ok-false.ensures.taken in
+    (before ++ more, Consumes-trans _ _ _ before more took goes)
+
+pub returns-in-Err-clause-taken : goal.returns-in-Err-clause-taken
+returns-in-Err-clause-taken g c =
+    let (before, took) = c.loop-reader.invariant.taken in
+    let (more, goes) = c.in-Err.ensures.taken in
+    (before ++ more, Consumes-trans _ _ _ before more took goes)

@@ -1,4 +1,5 @@
 use Rattle.std.proofs.Common.{◌≡◌, ℕ, ◌-◌, ◌^◌, List, [], Option}
+use Rattle.std.specs.Io.KnownBytes.{Consumes}
 use Rattle.savefile.specs.declared.header.Header.{Header}
 use Rattle.savefile.specs.declared.header.Order.{Order}
 use Rattle.savefile.specs.declared.header.Unit.{Unit as TimeUnit}
@@ -14,6 +15,7 @@ invariant-loop-reader g l =
       copies : (from : Option (List ℕ)) (header : Header) (to : Option (List ℕ)) (order : Order) (unit : TimeUnit) (head : ℕ) →
           HasGiven g.R.Source.left from header [] l.fn.reader → HasWritten g.W.Sink.taken to order unit head [] l.fn.writer →
           Copies g.R.Source.left g.W.Sink.taken from header to order unit head l.program l.snap l.reader l.writer;
+      taken : (bytes : List ℕ) × Consumes (g.R.Source.left (source_of l.fn.reader)) (g.R.Source.left (source_of l.reader)) bytes;
       source_works : g.R.Source.failures (source_of l.reader) ≡ g.R.Source.failures (source_of l.fn.reader);
       sink_works : g.W.Sink.failures (sink_of l.writer) ≡ g.W.Sink.failures (sink_of l.fn.writer);
     }

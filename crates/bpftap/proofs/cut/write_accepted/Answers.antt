@@ -1,4 +1,5 @@
 use Rattle.std.proofs.Common.{[], sym, subst, List, Err}
+use Rattle.std.proofs.KnownBytes.{Consumes-nil}
 use Rattle.savefile.specs.declared.packet.Packet.{Packet}
 use Rattle.bpftap.specs.Copying.{Wrote}
 use Rattle.bpftap.proofs.Accepted.{accepted-nil}
@@ -30,3 +31,6 @@ returns-clause-writes g c = λ from header given.
       c.copy_accepted-end.ensures.copies from header (g.W.Sink.taken c.args.to) c.args.order c.args.unit snap given
           (opened c.open-writer.result.1 c.in_default.field-0 _ c.in_default.is c.open-writer.ensures.ok),
     )
+
+pub returns-in-Err-clause-taken : goal.returns-in-Err-clause-taken
+returns-in-Err-clause-taken g c = ([], Consumes-nil _)

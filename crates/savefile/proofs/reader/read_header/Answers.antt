@@ -1,6 +1,6 @@
-use Rattle.std.proofs.Common.{◌++◌, List, ℕ, inr, take, sym, ap, subst, ◌∙◌, take-append-drop}
+use Rattle.std.proofs.Common.{◌++◌, ◌≤◌, ◌⊎◌, List, ℕ, arith, inl, inr, length, take, sym, ap, subst, ◌∙◌, take-append-drop}
 use Rattle.std.proofs.lemmas.Result.{err_from_is_err_and}
-use Rattle.std.specs.Io.KnownBytes.{Consumes}
+use Rattle.std.specs.Io.KnownBytes.{Consumes, IsAtEnd}
 use Rattle.savefile.specs.Ahead.{held_by}
 use Rattle.savefile.specs.Savefile.{IsHeader}
 use Rattle.savefile.proofs.Pieces.{refused_whole, IsSavefile-header}
@@ -9,9 +9,12 @@ use Rattle.savefile.proofs.reader.read_header.Goals as goal
 pub returns-in_err-header-clause-err : goal.returns-in_err-header-clause-err
 returns-in_err-header-clause-err g c =
     let told = err_from_is_err_and c.from_residual-in_err-header.result c.from_residual-in_err-header.ensures.1 in
+    let held = held_by c.fill.new.self in
+    let left = g.R.Source.left c.fill.new.self.source in
+    let enough : (24 ≤ length held) ⊎ IsAtEnd left = elim c.in_ok-fill.ensures.enough [ inl many ↦ inl (omega (arith, many)) | inr end ↦ inr end ] in
     rw (told.1, told.2) (
       c.in_ok-fill.ensures.grows,
-      inr (refused_whole c.held.result.now (held_by c.fill.new.self) (g.R.Source.left c.fill.new.self.source) _ c.held.ensures.value c.in_ok-fill.ensures.enough c.in_err-header.ensures.err),
+      inr (refused_whole c.held.result.now held left _ c.held.ensures.value enough c.in_err-header.ensures.err),
     )
 
 pub returns-clause-ok : goal.returns-clause-ok
