@@ -27,7 +27,7 @@ use Rattle.handover.specs.Rule.{Home, IsHeld, last, terms_of, Stands, Facts, Sea
 use Rattle.handover.specs.Settling.{kept_of_both, IsWhole}
 use Rattle.handover.proofs.Keeps.{store_is}
 use Rattle.handover.proofs.Merges.{feeds_in-merge}
-use Rattle.handover.proofs.Settling.{merges_have_both, histories_are_kept, histories_are_settled}
+use Rattle.handover.proofs.Settling.{merges_have_both, histories_are_kept, histories_are_settled, stored_are_read_or_pend}
 
 -- the last state, once the ends are joined
 joined_at : (f d u : View) (vs : List View) (id : ℕ) → Seats f d vs → get_elem? vs id ≡ some u → u.role ≡ Joined → (f ≡ u) × (d ≡ u)
@@ -121,8 +121,11 @@ ends_whole p fs ts hold rest counts e r c =
     let steps = requests (events (merge fs ts)) in
     let same : all_accepted steps ≡ all_accepted (asks fs) = accepted_is (merge fs ts) ∙ ap (λ (x : List Feed). all_accepted (asks x)) (feeds_in-merge false fs ts) in
     let k = kept_counts p fs ts hold e in
+    let all : (read ++ hold.messages) ++ rest.messages ≡ read ++ l.pending =
+    append_assoc read hold.messages rest.messages ∙ ap (λ (x : List Message). read ++ x) left in
     record {
-      whole = append_assoc read hold.messages rest.messages ∙ (ap (λ (x : List Message). read ++ x) left ∙ s.whole);
+      whole = all ∙ s.whole;
+      stored = all ∙ stored_are_read_or_pend t fs ts (merge fs ts) (ends_legally p fs ts hold e);
       accepted = λ m has. subst (λ (x : List Message). Contains x m) same (kept_are_accepted t steps m has);
       balance = omega (arith, c.all_matched, c.all_dropped, k);
       unclosed = e.unclosed;

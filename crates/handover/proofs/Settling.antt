@@ -1,5 +1,5 @@
 -- What a merged list that is legal tells: where the close stands, what is kept, and the counts.
-use Rattle.std.proofs.Common.{◌≡◌, ◌+◌, Bool, true, false, List, [], ◌∷◌, ◌++◌, map, Some, None, refl, sym, ap, ◌∙◌, subst, arith}
+use Rattle.std.proofs.Common.{◌≡◌, ◌+◌, Bool, true, false, List, [], ◌∷◌, ◌++◌, map, Some, None, drop, refl, sym, ap, ◌∙◌, subst, arith, append_assoc, append-nil, take-append-drop}
 use Rattle.listener.specs.declared.answer.Fed.TheVariants.{Passed, Stored, Held, Rotated, Dropped, Closed}
 use Rattle.listener.specs.declared.message.Message.{Message}
 use Rattle.listener.specs.PlainList.{Terms, PlainList, empty, Fair, Legal, next, run, requests, batches}
@@ -13,7 +13,8 @@ use Rattle.handover.specs.History.{Happening, fed, got, shut, event_of, events, 
 use Rattle.handover.specs.Own.{own, arrivals, matches, drops}
 use Rattle.handover.specs.Allowed.{AllFit}
 use Rattle.handover.specs.Rule.{last}
-use Rattle.handover.specs.Laws.{MergesHaveBoth, HistoriesAreSettled, OwnRunsAreRight}
+use Rattle.handover.specs.Settling.{stored_in}
+use Rattle.handover.specs.Laws.{MergesHaveBoth, HistoriesAreSettled, StoredAreReadOrPend, OwnRunsAreRight}
 use Rattle.handover.proofs.Keeps.{store_is}
 use Rattle.handover.proofs.Owns.{own_legal, feeds_in-own, own_store}
 use Rattle.handover.proofs.Merges.{feeds_in-merge, takes_in-merge}
@@ -124,6 +125,44 @@ histories_are_settled t fs ts fits legal =
       all_matched = omega (arith, c.matched, m);
       all_dropped = omega (arith, c.dropped, d);
     }
+
+-- ---- What was stored
+
+-- from each state on: what is read and what then pends is what pends there and what is stored
+read_or_pend : (t : Terms) (s : PlainList) (hs : List Happening) → Legal t s (events hs)
+    → joined (batches_of (takes_in hs)) ++ (run s (events hs)).pending ≡ s.pending ++ stored_in (feeds_in hs)
+read_or_pend t s [] legal = sym (append-nil s.pending)
+read_or_pend t s (fed (Arrive None Passed) ∷ hs) legal = read_or_pend t (next s (event_of (fed (Arrive None Passed)))) hs legal.1
+read_or_pend t s (fed (Arrive None Stored) ∷ hs) legal = absurd legal.0
+read_or_pend t s (fed (Arrive None Held) ∷ hs) legal = absurd legal.0
+read_or_pend t s (fed (Arrive None Rotated) ∷ hs) legal = absurd legal.0
+read_or_pend t s (fed (Arrive None Dropped) ∷ hs) legal = absurd legal.0
+read_or_pend t s (fed (Arrive None Closed) ∷ hs) legal = read_or_pend t s hs legal.1
+read_or_pend t s (fed (Arrive (Some m) Passed) ∷ hs) legal = absurd legal.0
+read_or_pend t s (fed (Arrive (Some m) Stored) ∷ hs) legal =
+    read_or_pend t (next s (event_of (fed (Arrive (Some m) Stored)))) hs legal.1 ∙ append_assoc s.pending (m ∷ []) (stored_in (feeds_in hs))
+read_or_pend t s (fed (Arrive (Some m) Held) ∷ hs) legal =
+    read_or_pend t (next s (event_of (fed (Arrive (Some m) Held)))) hs legal.1 ∙ append_assoc s.pending (m ∷ []) (stored_in (feeds_in hs))
+read_or_pend t s (fed (Arrive (Some m) Rotated) ∷ hs) legal =
+    read_or_pend t (next s (event_of (fed (Arrive (Some m) Rotated)))) hs legal.1 ∙ append_assoc s.pending (m ∷ []) (stored_in (feeds_in hs))
+read_or_pend t s (fed (Arrive (Some m) Dropped) ∷ hs) legal = read_or_pend t (next s (event_of (fed (Arrive (Some m) Dropped)))) hs legal.1
+read_or_pend t s (fed (Arrive (Some m) Closed) ∷ hs) legal = read_or_pend t s hs legal.1
+read_or_pend t s (fed (Flush true) ∷ hs) legal = read_or_pend t (next s (event_of (fed (Flush true)))) hs legal.1
+read_or_pend t s (fed (Flush false) ∷ hs) legal = read_or_pend t s hs legal.1
+read_or_pend t s (fed FlushClosed ∷ hs) legal = read_or_pend t s hs legal.1
+read_or_pend t s (got (Full batch) ∷ hs) legal =
+    let u = next s (event_of (got (Full batch))) in
+    let k : List Message = stored_in (feeds_in hs) in
+    append_assoc batch (joined (batches_of (takes_in hs))) ((run u (events hs)).pending)
+    ∙ ap (λ (l : List Message). batch ++ l) (read_or_pend t u hs legal.1) ∙ sym (append_assoc batch (drop s.held s.pending) k)
+    ∙ ap (λ (l : List Message). (l ++ drop s.held s.pending) ++ k) legal.0.2 ∙ ap (λ (l : List Message). l ++ k) (take-append-drop s.held s.pending)
+read_or_pend t s (got Nothing ∷ hs) legal = read_or_pend t s hs legal.1
+read_or_pend t s (got Ended ∷ hs) legal = read_or_pend t s hs legal.1
+read_or_pend t s (shut ∷ hs) legal = read_or_pend t (next s (event_of shut)) hs legal.1
+
+pub stored_are_read_or_pend : StoredAreReadOrPend
+stored_are_read_or_pend t fs ts hs h =
+    ap (λ (l : List Take). joined (batches_of l) ++ (run empty (events hs)).pending) (sym h.takes) ∙ read_or_pend t empty hs h.answers ∙ ap stored_in h.feeds
 
 -- ---- The feeder's own run
 

@@ -12,9 +12,10 @@ use Rattle.handover.specs.declared.calls.Take.{Take}
 use Rattle.handover.specs.declared.view.Role.TheVariants.{Whole, Feeds, Drains}
 use Rattle.handover.specs.declared.view.Profile.{Profile}
 use Rattle.handover.specs.declared.view.View.{View}
-use Rattle.handover.specs.History.{events, feeds_in, takes_in, merge, CloseIsPlaced, batches_of, finds, kind, finds_closed}
+use Rattle.handover.specs.History.{Happening, LegalHistory, events, feeds_in, takes_in, merge, CloseIsPlaced, batches_of, finds, kind, finds_closed}
 use Rattle.handover.specs.Own.{own, store_of, arrivals, matches, drops}
 use Rattle.handover.specs.Allowed.{AllFit, IsQuiet, Busy, Loud, handed}
+use Rattle.handover.specs.Settling.{stored_in}
 use Rattle.handover.specs.Rule.{last, terms_of, Kept, first, for_feeder, for_drain, joint, spent, Owned, Sat, saw_closed, saw_turn, set_turn, set_ended, looked_ended, looked_turn, cleared, set_closed}
 
 -- Each call of both lists stands in the merged list once, in its order, and the close is in its place.
@@ -36,6 +37,11 @@ pub record IsSettled (t : Terms) (fs : List Feed) (ts : List Take) : Type 0 wher
 
 abbrev pub HistoriesAreSettled : Type 0
 HistoriesAreSettled = (t : Terms) (fs : List Feed) (ts : List Take) → AllFit t.capacity fs → Legal t empty (events (merge fs ts)) → IsSettled t fs ts
+
+-- In each legal history what was read and then what pends are the messages that were stored.
+abbrev pub StoredAreReadOrPend : Type 0
+StoredAreReadOrPend = (t : Terms) (fs : List Feed) (ts : List Take) (hs : List Happening) → LegalHistory t fs ts hs
+    → joined (batches_of ts) ++ (run empty (events hs)).pending ≡ stored_in fs
 
 -- Where the merged list is legal, the feeder's own calls are right by themselves, with one read directly before each that stores 1
 -- to `turn` but the first, and the close directly before the first that found it. Both runs have one store and the same counts.

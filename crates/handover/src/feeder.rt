@@ -142,6 +142,7 @@ impl Feeder {
         ensures matched { result.matched ≡ matches self.now.feeds }
         ensures dropped { result.dropped ≡ drops self.now.feeds }
         ensures own { AreCountsOf result (own_list self.now.feeds) }
+        ensures run { HasOwnRun self.now }
     {
         self.counts
     }
@@ -149,7 +150,8 @@ impl Feeder {
     /// Ends the feeder: a read that finds this and an empty hold is answered with [`Read::Ended`](crate::Read::Ended).
     pub fn end(self, link: &Link) -> FeedEnd
         requires { self.pair ≡ link.now }
-        ensures { result ≡ feeding_ended self.pair self.profile self.feeds (self.steps ++ Store word.Ended 1 ∷ []) self.store }
+        ensures ended { result ≡ feeding_ended self.pair self.profile self.feeds (self.steps ++ Store word.Ended 1 ∷ []) self.store }
+        ensures own { HasOwnRun self }
     {
         let Feeder {
             mut stand,

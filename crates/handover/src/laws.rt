@@ -1,7 +1,7 @@
 //! Laws of the two lists of calls, of the history that they make, and of the steps. Each function is empty, and its contract is the
 //! law.
 
-ghost use Rattle.handover.specs.Laws.{MergesHaveBoth, HistoriesAreSettled, OwnRunsAreRight, SeatsKeepTheRule, FeederLooksAtClosed, FeederLooksAtTurn, FeederGives, FeederEnds, DrainLooksAtEnded, DrainLooksAtTurn, DrainClears, DrainCloses};
+ghost use Rattle.handover.specs.Laws.{MergesHaveBoth, HistoriesAreSettled, StoredAreReadOrPend, OwnRunsAreRight, SeatsKeepTheRule, FeederLooksAtClosed, FeederLooksAtTurn, FeederGives, FeederEnds, DrainLooksAtEnded, DrainLooksAtTurn, DrainClears, DrainCloses};
 
 /// Each call of the feeder and each read of the drain stands in the merged list once, in its order, and the close in its
 /// place.
@@ -9,9 +9,11 @@ pub fn merges()
     ensures { MergesHaveBoth }
 {}
 
-/// What the reads took and then what pends is what looking back keeps, and the counts are those of the feeder's calls.
+/// What the reads took and then what pends is what looking back keeps, and the counts are those of the feeder's calls. In each
+/// legal history, however its reads stand, it is the messages of the arrivals that were stored.
 pub fn histories()
-    ensures { HistoriesAreSettled }
+    ensures settled { HistoriesAreSettled }
+    ensures stored { StoredAreReadOrPend }
 {}
 
 /// What the feeder knows by its own calls alone: they are right by themselves, and tell its store and its counts.

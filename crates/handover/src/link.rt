@@ -137,7 +137,8 @@ fn parted(
 /// Takes a pair apart, once both ends have ended.
 ///
 /// The feeder's calls and the drain's reads make one legal history of the plain list, and the buffers have what then
-/// pends: what was read, then the hold, then the rest is exactly what was kept.
+/// pends: what was read, then the hold, then the rest is exactly what was kept, and this is the messages of the arrivals
+/// that were answered Stored, Held or Rotated, in order.
 pub fn settle(link: Link, feeder: FeedEnd, drain: DrainEnd) -> Settled
     requires { (feeder.pair ≡ link) × (drain.pair ≡ link) }
     ensures history { LegalHistory (terms_of feeder.profile) feeder.feeds drain.takes (merge feeder.feeds drain.takes) }

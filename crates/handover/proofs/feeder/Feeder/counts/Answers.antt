@@ -1,7 +1,7 @@
-use Rattle.std.proofs.Common.{ap, subst, ◌∙◌}
-use Rattle.handover.specs.Ends.{Feeding, AreCountsOf, own_list}
+use Rattle.std.proofs.Common.{false, ap, subst, ◌∙◌}
+use Rattle.handover.specs.Ends.{Feeding, HasOwnRun, AreCountsOf, own_list}
 use Rattle.handover.specs.Own.{arrivals, matches, drops}
-use Rattle.handover.proofs.Feeders.{own_counts}
+use Rattle.handover.proofs.Feeders.{own_counts, own_run}
 use Rattle.handover.proofs.feeder.Feeder.counts.Goals as goal
 
 pub returns-clause-own : goal.returns-clause-own
@@ -17,3 +17,8 @@ returns-clause-matched c = c.self.invariant.3.all_matched ∙ ap (λ f. matches 
 
 pub returns-clause-dropped : goal.returns-clause-dropped
 returns-clause-dropped c = c.self.invariant.3.all_dropped ∙ ap (λ f. drops f.feeds) c.self.view_is
+
+pub returns-clause-run : goal.returns-clause-run
+returns-clause-run c =
+    let f = c.self.inside in
+    subst HasOwnRun c.self.view_is (own_run f.stand.seat.table_id f.program f.snap f.stand.seat.me f.stand.store false c.self.invariant.0)
