@@ -23,22 +23,32 @@ fn keeping(most: u32) -> Result<Program, bpfvm::Invalid> {
     }])
 }
 
+/// The bytes of a packet, no two of them alike.
+const BYTES: [u8; 60] = [
+    0, 1, 2, 3, 4, 5, 6, 7, 8, 9, 10, 11, 12, 13, 14, 15, 16, 17, 18, 19, 20, 21, 22, 23, 24, 25,
+    26, 27, 28, 29, 30, 31, 32, 33, 34, 35, 36, 37, 38, 39, 40, 41, 42, 43, 44, 45, 46, 47, 48, 49,
+    50, 51, 52, 53, 54, 55, 56, 57, 58, 59,
+];
+
 /// A packet of one second, with 60 bytes.
 fn packet() -> PacketRef<'static> {
     PacketRef {
         sec: 1,
         nanos: 0,
         len: 60,
-        bytes: &[7; 60],
+        bytes: &BYTES,
     }
 }
 
-/// The places of a buffer's messages.
+/// The places of a buffer's messages, each with a `?` where its bytes aren't the first 32 of the packet.
 fn places(alloc: Global, buffer: &Buffer) -> Result<String, AllocError> {
     let mut out = String::new(alloc);
     for record in buffer.records() {
         let place = format!(in alloc; " {}", record.place)?;
         out.push_str(place.as_str())?;
+        if record.bytes.len() != 32 || !BYTES.starts_with(record.bytes) {
+            out.push('?')?;
+        }
     }
     Ok(out)
 }
@@ -172,7 +182,7 @@ fn ended(
     want: &str,
 ) -> Result<(), Fail> {
     let alloc = rt.alloc();
-    let (link, mut feeder, mut drain) = pair_as(alloc, keeping(262_144)?, 32, 64, mode)?;
+    let (link, mut feeder, mut drain) = pair_as(alloc, keeping(32)?, 32, 64, mode)?;
     let mut out = String::new(alloc);
     together(alloc, &link, &mut feeder, &mut drain, script, &mut out)?;
     let feeder = feeder.end(&link);

@@ -7,6 +7,8 @@ use super::{keeping, packet};
 use crate::{Drain, DrainEnd, FeedEnd, Feeder, Link, Read, Settled, pair, settle};
 use listener::{Buffer, Fed};
 use std::process::Abort;
+use std::sync::atomic::AtomicBool;
+use std::sync::atomic::Ordering::SeqCst;
 use std::test::Fail;
 use std::thread::{Threads, join, yield_now};
 
@@ -36,12 +38,32 @@ impl Fates {
     }
 }
 
-/// Gives so many packets, and ends.
-fn feed(link: &Link, mut feeder: Feeder, packets: u64, mut fates: Fates) -> (FeedEnd, Fates)
+/// Waits until the drain has closed, but not for ever.
+fn await_close(is_closed: &AtomicBool) {
+    for _ in 0..10_000_000u64 {
+        if is_closed.load(SeqCst) {
+            return;
+        }
+        yield_now();
+    }
+}
+
+/// Gives so many packets, the `late` last of them once the drain has closed, and ends.
+fn feed(
+    link: &Link,
+    mut feeder: Feeder,
+    packets: u64,
+    late: u64,
+    is_closed: &AtomicBool,
+    mut fates: Fates,
+) -> (FeedEnd, Fates)
     requires { feeder.pair ≡ link.now }
     ensures { result.0.pair ≡ feeder.pair }
 {
     for place in 0..packets {
+        if packets.wrapping_sub(place) == late {
+            await_close(is_closed);
+        }
         if feeder.counts().received != u64::MAX {
             let fed = feeder.arrive(link, 0, place, &packet());
             fates.tell(place, fed);
@@ -97,11 +119,13 @@ fn read_all(
     (drain.close(link), places, false)
 }
 
-/// A pair of snapshot length 32 in two threads: so many packets are given, and so many reads are made at most.
+/// A pair of snapshot length 32 in two threads: so many packets are given, the `late` last of them behind the close, and so
+/// many reads are made at most.
 fn run(
     rt: &(impl Abort + AllocGlobal + Threads + Sync),
     capacity: usize,
     packets: u64,
+    late: u64,
     reads: u64,
 ) -> Result<bool, Fail> {
     let alloc = rt.alloc();
@@ -115,22 +139,29 @@ fn run(
     };
     let places = Vec::new(alloc);
     let shared = &link;
+    let flag = AtomicBool::new(false);
+    let is_closed = &flag;
     let ((feed_end, fates), (drain_end, mut places, ended)) = join(
         rt,
         move || -> (FeedEnd, Fates)
             requires { feeder.pair ≡ shared.now }
             ensures { result.0.pair ≡ feeder.pair }
-        { feed(shared, feeder, packets, fates) },
+        { feed(shared, feeder, packets, late, is_closed, fates) },
         move || -> (DrainEnd, Vec<u64>, bool)
             requires { (drain.pair ≡ shared.now) × (spare ≡ filled drain.profile.capacity []) }
             ensures { result.0.pair ≡ drain.pair }
-        { read_all(shared, drain, spare, reads, places) },
+        {
+            let read = read_all(shared, drain, spare, reads, places);
+            is_closed.store(true, SeqCst);
+            read
+        },
     );
     let Settled { hold, rest, counts } = settle(link, feed_end, drain_end);
     note(&hold, &mut places);
     note(&rest, &mut places);
     assert!(rt; places.as_slice() == fates.stored.as_slice());
     assert!(rt; !fates.opened);
+    assert!(rt; fates.closed >= late);
     assert_eq!(rt; counts.received, packets.wrapping_sub(fates.closed));
     assert_eq!(rt; counts.matched, counts.received);
     assert_eq!(rt; counts.dropped, fates.dropped);
@@ -139,7 +170,7 @@ fn run(
 
 #[test]
 fn what_is_not_dropped_is_read_or_left(rt: HostRuntime) -> Result<(), Fail> {
-    let ended = run(&rt, 256, 10_000, u64::MAX)?;
+    let ended = run(&rt, 256, 10_000, 0, u64::MAX)?;
     assert!(rt; ended);
     Ok(())
 }
@@ -147,7 +178,7 @@ fn what_is_not_dropped_is_read_or_left(rt: HostRuntime) -> Result<(), Fail> {
 #[test]
 fn a_close_in_the_middle_ends_the_arrivals(rt: HostRuntime) -> Result<(), Fail> {
     for reads in [0, 1, 10, 100, 1_000] {
-        run(&rt, 256, 10_000, reads)?;
+        run(&rt, 256, 10_000, 3, reads)?;
     }
     Ok(())
 }
@@ -155,8 +186,8 @@ fn a_close_in_the_middle_ends_the_arrivals(rt: HostRuntime) -> Result<(), Fail> 
 #[test]
 fn many_short_runs_meet_many_orders(rt: HostRuntime) -> Result<(), Fail> {
     for round in 0..400u64 {
-        run(&rt, 64, 1 + round % 7, round % 5)?;
-        run(&rt, 64, 1 + round % 7, u64::MAX)?;
+        run(&rt, 64, 1 + round % 7, round % 2, round % 5)?;
+        run(&rt, 64, 1 + round % 7, 0, u64::MAX)?;
     }
     Ok(())
 }
