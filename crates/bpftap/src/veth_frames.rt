@@ -306,7 +306,8 @@ pub fn capture(alloc: Global) -> Result<Vec<u8>, AllocError> {
     let mut text = bytes_of(alloc, HEADER)?;
     for (place, (wire, hex)) in VETH.iter().enumerate() {
         let frame = bytes_of(alloc, hex)?;
-        for field in [place as u32, 0, frame.len() as u32, *wire] {
+        let captured = frame.len().min(46) as u32;
+        for field in [place as u32, 0, captured, *wire] {
             text.extend_from_slice(&field.to_le_bytes())?;
         }
         text.extend_from_slice(frame.as_slice())?;
