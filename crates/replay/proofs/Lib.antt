@@ -1,5 +1,8 @@
-mod Writes
-mod Batches
-mod Settles
 mod Asked
+mod Batches
 mod Captured
+mod Lists
+mod Played
+mod Settles
+mod Timely
+mod Writes

@@ -1,11 +1,12 @@
 -- What is told of a task once its ends are settled.
-use Rattle.std.proofs.Common.{◌≡◌, ℕ, ◌+◌, Bool, true, false, List, ◌++◌, length, refl, ap, sym, ◌∙◌, subst, Option, inl, inr}
+use Rattle.std.proofs.Common.{◌≡◌, ℕ, ◌+◌, Bool, true, false, List, ◌++◌, length, map, refl, ap, sym, ◌∙◌, subst, Option, inl, inr}
 use Rattle.std.specs.Io.KnownBytes.{Appends}
 use Rattle.listener.specs.Buffers.{Filled}
 use Rattle.listener.specs.Laws.{joined}
 use Rattle.listener.specs.declared.answer.Counts.{Counts}
 use Rattle.listener.specs.declared.message.Message.{Message}
-use Rattle.savefile.specs.Writer.{Sent, sent_by, sink_of}
+use Rattle.savefile.specs.Savefile.{encoded}
+use Rattle.savefile.specs.Writer.{IsBeginning, Sent, sent_by, sink_of}
 use Rattle.handover.specs.Ends.{AreCountsOf, Counted}
 use Rattle.handover.specs.History.{LegalHistory, finds, merge}
 use Rattle.handover.specs.Rule.{last, profile_of, terms_of}
@@ -13,9 +14,9 @@ use Rattle.handover.specs.Settling.{IsWhole}
 use Rattle.handover.specs.declared.calls.Feed.{Feed}
 use Rattle.handover.specs.declared.calls.Take.{Take}
 use Rattle.replay.specs.Reading.{messages_of}
-use Rattle.replay.specs.Reports.{IsReported, kept_for}
+use Rattle.replay.specs.Reports.{IsReported, kept_for, packet_of}
 use Rattle.replay.specs.Tasks.{output_of}
-use Rattle.replay.specs.Writing.{IsFull, Writes}
+use Rattle.replay.specs.Writing.{IsFull, Writes, as_written}
 use Rattle.replay.specs.declared.report.ListenerReport.{ListenerReport}
 use Rattle.replay.specs.declared.report.TaskEnd.TheVariants.{Clean, Write, Unfinished}
 use Rattle.replay.specs.declared.task.Task.{Task}
@@ -38,7 +39,8 @@ module _ {W : Type 0} (taken : W → Option (List ℕ)) (failures : W → ℕ) (
     (are : AreCountsOf counts (last feeds takes)) (counted : Counted counts feeds)
     (whole : IsWhole (profile_of task.capacity task.mode) feeds takes hold rest counts)
     (told : (r.received ≡ counts.received) × (r.matched ≡ counts.matched) × (r.dropped ≡ counts.dropped))
-    (w : Written W) (back : (r.sink ≡ sink_of w.writer) × (r.sent ≡ sent_by w.writer) × (r.written ≡ w.count)) where
+    (w : Written W) (back : (r.sink ≡ sink_of w.writer) × (r.sent ≡ sent_by w.writer) × (r.written ≡ w.count))
+    (as-they-are : map as_written (kept_for task feeds takes) ≡ map packet_of (kept_for task feeds takes)) where
   -- what the sink took
   abbrev Took : Type 0
   Took = (text : List ℕ) × Appends (taken task.sink) (taken r.sink) text × (r.sent ≡ length text)
@@ -85,7 +87,7 @@ module _ {W : Type 0} (taken : W → Option (List ℕ)) (failures : W → ℕ) (
         all_sent = s.2;
         done = t.done;
         all_written = back.2 ∙ t.counts;
-        clean = λ e. ((ends e).1, all.0, refl);
+        clean = λ e. ((ends e).1, all.0, ap (encoded task.order task.unit task.snap) as-they-are);
         broke = λ n e. let bad = sym is ∙ (breaks n e).0 in absurd cc;
       }
   finished-by false is t ends breaks =
@@ -104,7 +106,7 @@ module _ {W : Type 0} (taken : W → Option (List ℕ)) (failures : W → ℕ) (
         broke = λ n e. (
           (breaks n e).1 ∙ sym back.1,
           t.begins,
-          off.1,
+          subst (λ ps. IsBeginning off.0 (encoded task.order task.unit task.snap ps)) as-they-are off.1,
           elim off.3 [
             | inl differs ↦ inl (λ same. differs (ap failures (sym back.0) ∙ same))
             | inr full ↦ inr (subst (λ (n : ℕ). IsFull n (kept_for task feeds takes)) (sym back.1) full)

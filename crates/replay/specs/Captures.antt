@@ -1,5 +1,5 @@
 -- What a capture gave to the listeners of an interface, and how it ended.
-use Rattle.std.specs.Prelude.{◌≡◌, ◌≢◌, ℕ, ◌+◌, ◌-◌, ◌^◌, ◌⊎◌, List, [], ◌∷◌, ◌++◌, All, Option, Some, None}
+use Rattle.std.specs.Prelude.{◌≡◌, ◌≢◌, ◌<◌, ℕ, ◌+◌, ◌-◌, ◌^◌, ◌⊎◌, List, [], ◌∷◌, ◌++◌, All, Option, Some, None}
 use Rattle.listener.specs.Messages.{Arrival, arrival}
 use Rattle.savefile.specs.Reader.{WasBegun, WasRead, WasRefused}
 use Rattle.savefile.specs.Savefile.{IsWritable}
@@ -40,3 +40,18 @@ pub record HasPlayed (start : Option (List ℕ)) (broke : Type 0) (capture : ℕ
   pub writable : All IsWritable packets
   pub arrive : (starts : List Line) (playlist : List Arrival) → HasArrived starts playlist old → HasArrived starts (playlist ++ numbered capture 0 packets) new
   pub ends : EndsSo start broke capture new.arrived packets end
+
+-- A list of captures was read, of which the first has this number: so the playlist arrived, of `total` packets in all, and so it
+-- ended. Each capture was read whole, or it ended the playlist, and no capture behind it was read.
+abbrev pub Plays : {R : Type 0} → (R → Option (List ℕ)) → (R → ℕ) → ℕ → ℕ → List R → List R → List Arrival → InterfaceEnd → Type 0
+Plays left failures total capture [] [] playlist end = (playlist ≡ []) × (end ≡ Clean)
+Plays left failures total capture [] (t ∷ ts) playlist end = ⊥
+Plays left failures total capture (s ∷ ss) [] playlist end = ⊥
+Plays left failures total capture (s ∷ ss) (t ∷ ts) playlist end =
+    (packets : List Packet) × (more : List Arrival) × (playlist ≡ numbered capture 0 packets ++ more)
+    × ((EndsSo (left s) (failures t ≢ failures s) capture total packets None × Plays left failures total (capture + 1) ss ts more end)
+        ⊎ (EndsSo (left s) (failures t ≢ failures s) capture total packets (Some end) × (more ≡ []) × (ts ≡ ss)))
+
+-- its time has less than a second of nanoseconds
+abbrev pub IsTimely : Arrival → Type 0
+IsTimely a = a.packet.nanos < 1000000000

@@ -1,9 +1,16 @@
 pub mod Captures
 pub mod Crews
 pub mod Lines
+pub mod PlayedOut
 pub mod Playing
 pub mod Reading
+pub mod Refusals
+pub mod Replayed
 pub mod Reports
+pub mod Rooms
+pub mod Runs
+pub mod RunsEnded
+pub mod Setups
 pub mod Tasks
 pub mod Writing
 pub mod WrittenOut

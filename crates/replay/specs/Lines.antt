@@ -1,11 +1,13 @@
 -- What the feeders of an interface were asked so far.
-use Rattle.std.specs.Prelude.{◌≡◌, ℕ, List, ◌++◌, length, map}
+use Rattle.std.specs.Prelude.{◌≡◌, ℕ, List, [], ◌++◌, length, map}
 use Rattle.atomic_table.specs.Seated.{TableId}
 use Rattle.listener.specs.Messages.{Arrival}
 use Rattle.listener.specs.PlainList.{Request}
 use Rattle.handover.specs.Asks.{asks}
+use Rattle.handover.specs.Ends.{FeedingEnded}
 use Rattle.handover.specs.declared.view.Profile.{Profile}
 use Rattle.replay.specs.Playing.{Asking, asked, asked_at}
+use Rattle.replay.specs.declared.inlet.Entry.{Entry}
 use Rattle.replay.specs.declared.inlet.Inlet.{Inlet}
 use Rattle.replay.specs.declared.inlet.Player.{Player}
 
@@ -24,6 +26,19 @@ line_of i = record {
   asks = asks i.feeder.feeds;
 }
 
+-- the same of a feeder that stands apart from its link
+abbrev pub entry_line : Entry → Line
+entry_line e = record {
+  pair = e.feeder.pair;
+  profile = e.feeder.profile;
+  asking = record { program = e.feeder.program; snap = e.feeder.snap; flush_every = e.flush_every };
+  asks = asks e.feeder.feeds;
+}
+
+-- nothing was asked of it yet
+abbrev pub IsFresh : Line → Type 0
+IsFresh l = l.asks ≡ []
+
 abbrev pub with_asks : Line → List Request → Line
 with_asks l rs = record { pair = l.pair; profile = l.profile; asking = l.asking; asks = rs }
 
@@ -34,6 +49,21 @@ fed_with n a l = with_asks l (l.asks ++ asked_at l.asking n a)
 -- the feeder behind a playlist, before which nothing was asked
 abbrev pub fed_all : List Arrival → Line → Line
 fed_all playlist l = with_asks l (asked l.asking playlist)
+
+-- A feeder that has ended: its pair, its buffers and mode, and what it was asked.
+pub record EndedLine : Type 0 where
+  pub pair : TableId
+  pub profile : Profile
+  pub asks : List Request
+
+abbrev pub ended_of : FeedingEnded → EndedLine
+ended_of f = record { pair = f.pair; profile = f.profile; asks = asks f.feeds }
+
+abbrev pub ended_line : Line → EndedLine
+ended_line l = record { pair = l.pair; profile = l.profile; asks = l.asks }
+
+abbrev pub ended_all : List Line → List EndedLine
+ended_all ls = map ended_line ls
 
 -- this playlist arrived at the feeders, which began as `starts`
 abbrev pub HasArrived : List Line → List Arrival → Player → Type 0

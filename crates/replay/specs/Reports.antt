@@ -1,8 +1,9 @@
 -- What is told of a task, of its feeder's and its drain's lists of calls.
-use Rattle.std.specs.Prelude.{◌≡◌, ◌≢◌, ℕ, ◌+◌, ◌⊎◌, false, List, length, map, Option}
+use Rattle.std.specs.Prelude.{◌≡◌, ◌≢◌, ◌<◌, ℕ, ◌+◌, ◌⊎◌, false, List, length, map, Option}
 use Rattle.std.specs.Io.KnownBytes.{Appends}
 use Rattle.listener.specs.declared.message.Message.{Message}
-use Rattle.savefile.specs.Savefile.{encoded}
+use Rattle.savefile.specs.Savefile.{packet, encoded}
+use Rattle.savefile.specs.declared.packet.Packet.{Packet}
 use Rattle.savefile.specs.Writer.{IsBeginning}
 use Rattle.handover.specs.History.{LegalHistory, finds, merge}
 use Rattle.handover.specs.Own.{arrivals, matches, drops}
@@ -10,7 +11,7 @@ use Rattle.handover.specs.Rule.{last, profile_of, terms_of}
 use Rattle.handover.specs.Settling.{kept_of_both}
 use Rattle.handover.specs.declared.calls.Feed.{Feed}
 use Rattle.handover.specs.declared.calls.Take.{Take}
-use Rattle.replay.specs.Writing.{as_written, Begins, IsFull}
+use Rattle.replay.specs.Writing.{Begins, IsFull}
 use Rattle.replay.specs.declared.report.ListenerReport.{ListenerReport}
 use Rattle.replay.specs.declared.report.TaskEnd.TheVariants.{Clean, Write}
 use Rattle.replay.specs.declared.task.Task.{Task}
@@ -19,9 +20,17 @@ use Rattle.replay.specs.declared.task.Task.{Task}
 abbrev pub kept_for : {W : Type 0} → Task W → List Feed → List Take → List Message
 kept_for task feeds takes = kept_of_both (profile_of task.capacity task.mode) feeds takes
 
+-- a message as a packet of a savefile
+abbrev pub packet_of : Message → Packet
+packet_of m = packet m.sec m.nanos m.len m.bytes
+
+-- its time has less than a second of nanoseconds
+abbrev pub IsPrompt : Message → Type 0
+IsPrompt m = m.nanos < 1000000000
+
 -- the text of what it kept
 abbrev pub text_for : {W : Type 0} → Task W → List Feed → List Take → List ℕ
-text_for task feeds takes = encoded task.order task.unit task.snap (map as_written (kept_for task feeds takes))
+text_for task feeds takes = encoded task.order task.unit task.snap (map packet_of (kept_for task feeds takes))
 
 -- The two lists make a legal history, and the counts are its counts. The sink took exactly `sent` bytes: where the end is Clean,
 -- the text of all that was kept; after Write a beginning of it, and the sink failed or the text became too long.

@@ -1,7 +1,9 @@
 -- What a task asks for.
-use Rattle.std.specs.Prelude.{◌≡◌}
-use Rattle.handover.specs.Ends.{Feeding}
+use Rattle.std.specs.Prelude.{[]}
+use Rattle.atomic_table.specs.Seated.{TableId}
 use Rattle.handover.specs.Rule.{profile_of}
+use Rattle.replay.specs.Lines.{Line}
+use Rattle.replay.specs.Playing.{Asking}
 use Rattle.replay.specs.declared.task.Task.{Task}
 use Rattle.replay.specs.declared.writing.Output.{Output}
 
@@ -9,6 +11,10 @@ use Rattle.replay.specs.declared.writing.Output.{Output}
 abbrev pub output_of : {W : Type 0} → Task W → Output W
 output_of t = record { sink = t.sink; order = t.order; unit = t.unit; snap = t.snap }
 
--- a feeder has a task's filter, buffers and mode
-abbrev pub FeedsFor : {W : Type 0} → Task W → Feeding → Type 0
-FeedsFor t f = (f.program ≡ t.program) × (f.snap ≡ t.snap) × (f.profile ≡ profile_of t.capacity t.mode)
+-- what its listener is asked by
+abbrev pub asking_of : {W : Type 0} → Task W → Asking
+asking_of t = record { program = t.program; snap = t.snap; flush_every = t.flush_every }
+
+-- the feeder of a pair that was made for a task, of which nothing was asked yet
+abbrev pub line_for : {W : Type 0} → TableId → Task W → Line
+line_for pair t = record { pair = pair; profile = profile_of t.capacity t.mode; asking = asking_of t; asks = [] }

@@ -1,21 +1,32 @@
 //! Replays captures to listeners in threads: packets arrive at each listener, and what it keeps is written as a savefile.
-//!
-//! What stands here is what the threads of one listener do.
 #![tactic(auto)]
 
 mod captures;
+mod check;
 mod crew;
+mod fault;
 mod gate;
 mod inlet;
+mod interface;
+mod laid;
 mod player;
+mod playing;
 mod reading;
+mod ready;
 mod report;
+mod reporting;
+mod room;
+mod running;
 mod settling;
+mod setup;
 mod task;
 mod threads;
 mod writer;
 mod writing;
 
+pub use check::{MOST_CAPTURES, MOST_INTERFACES, MOST_SPARES, MOST_TASKS};
+pub use fault::RunFault;
 pub use gate::{Gate, Open};
-pub use report::{InterfaceEnd, ListenerReport, TaskEnd};
+pub use report::{InterfaceEnd, InterfaceReport, ListenerReport, TaskEnd};
+pub use running::run;
 pub use task::{Interface, Task};

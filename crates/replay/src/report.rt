@@ -40,3 +40,13 @@ pub enum InterfaceEnd {
     /// 2^64 - 2 packets arrived, and more would come.
     CountFull,
 }
+
+/// What became of an interface.
+#[derive(Debug, Drop)]
+pub struct InterfaceReport<S, W> {
+    pub end: InterfaceEnd,
+    /// The captures that were handed in, in order.
+    pub sources: Vec<S>,
+    /// What became of its tasks, in order.
+    pub listeners: Vec<ListenerReport<W>>,
+}

@@ -1,13 +1,16 @@
 //! What is left once the threads of a task have ended.
 
-ghost use Rattle.std.specs.Prelude.{◌≡◌, List, ◌++◌, length, true, false};
+ghost use Rattle.std.specs.Prelude.{◌≡◌, List, ◌++◌, length, true, false, All};
+ghost use Rattle.handover.specs.Asks.{asks};
+ghost use Rattle.handover.specs.Rule.{profile_of};
+ghost use Rattle.listener.specs.LookingBack.{all_accepted};
 ghost use Rattle.rtrb.specs.Ring.{known_items};
 ghost use Rattle.listener.specs.Laws.{joined};
 ghost use Rattle.listener.specs.declared.message.Message.{Message};
 ghost use Rattle.savefile.specs.Writer.{sent_by, sink_of};
 ghost use Rattle.replay.specs.Crews.{IsDone};
 ghost use Rattle.replay.specs.Reading.{messages_of};
-ghost use Rattle.replay.specs.Reports.{IsReported};
+ghost use Rattle.replay.specs.Reports.{IsPrompt, IsReported};
 ghost use Rattle.replay.specs.Writing.{Writes};
 ghost use Rattle.replay.specs.declared.writing.Output.{Output};
 
@@ -16,7 +19,7 @@ use crate::reading::{ReadEnd, Stop};
 use crate::report::{ListenerReport, TaskEnd};
 use crate::writer::WriteEnd;
 use crate::writing::Written;
-use handover::{Link, Settled, settle};
+use handover::{FeedEnd, Link, Settled, settle};
 use listener::{Buffer, Counts};
 use rtrb::Consumer;
 use savefile::Sink;
@@ -68,14 +71,19 @@ fn report<W: Sink>(written: Written<W>, counts: Counts, end: TaskEnd) -> Listene
 }
 
 /// Settles the two ends, and writes what the writer thread left: the buffers in the ring, the hold and the rest.
-pub(crate) fn settled<W: Sink + Drop>(link: Link, done: Done<W>) -> ListenerReport<W>
-    requires pair { done.feed.pair ≡ link }
+pub(crate) fn settled<W: Sink + Drop>(
+    link: Link,
+    feed: FeedEnd,
+    done: Done<W>,
+) -> ListenerReport<W>
+    requires pair { (feed.pair ≡ link) × (done.read.drain.pair ≡ link) }
+    requires profile { feed.profile ≡ profile_of done.task.value.capacity done.task.value.mode }
+    requires prompt { All IsPrompt (all_accepted (asks feed.feeds)) }
     requires done { IsDone W.taken W.failures done }
-    ensures { IsReported W.taken W.failures done.task.value done.feed.feeds done.read.drain.takes result }
+    ensures { IsReported W.taken W.failures done.task.value feed.feeds done.read.drain.takes result }
 {
     let Done {
         task: _,
-        feed,
         read,
         write,
     } = done;

@@ -1,9 +1,11 @@
-//! Starting and ending the threads of one task.
+//! Starting the two threads of a task, and waiting for them.
 
-ghost use Rattle.std.specs.Prelude.{◌≡◌, [], IfOk};
-ghost use Rattle.replay.specs.Crews.{IsDone};
+ghost use Rattle.std.specs.Prelude.{◌≡◌, IfOk, IfErr};
+ghost use Rattle.replay.specs.Crews.{IsDone, crew_pair};
+ghost use Rattle.replay.specs.declared.fault.RunFault.TheVariants.{NoStart};
 
-use crate::crew::{Crew, Done, NoStart, Stage};
+use crate::crew::{Crew, Done, Stage};
+use crate::fault::RunFault;
 use crate::gate::Gate;
 use crate::reading::{ReadsOut, Seat, read_out};
 use crate::writer::{WritesOut, write_out};
@@ -13,7 +15,7 @@ use std::snapshot::Snapshot;
 use std::sync::Wait;
 use std::thread::{Scope, Threads};
 
-/// Starts the threads of a task. Where one is refused, none is left running.
+/// Starts the threads of a task. Where the writer is refused, the reading thread ends as soon as it has no buffer left.
 pub(crate) fn start<
     's,
     'a: 's,
@@ -28,19 +30,18 @@ pub(crate) fn start<
     link: &'a Link,
     stage: Stage<W>,
     seat: Seat,
-) -> Result<Crew<'a, W>, NoStart>
-    requires { stage.feeder.pair ≡ link.now }
-    ensures { IfOk result (λ c. (c.task.value ≡ stage.task.value) × (c.link.now ≡ link.now) × (c.feeder.feeds ≡ [])) }
+) -> Result<Crew<W>, RunFault>
+    requires { stage.drain.pair ≡ link.now }
+    ensures crew { IfOk result (λ c. (c.task.value ≡ stage.task.value) × (crew_pair c ≡ link.now)) }
+    ensures refused { IfErr result (λ fault. fault ≡ NoStart) }
 {
     let Stage {
         task,
-        feeder,
         drain,
         full_in,
         full_out,
         empty_in,
         empty_out,
-        flush_every,
         output,
     } = stage;
     let reads = ReadsOut {
@@ -55,46 +56,31 @@ pub(crate) fn start<
         reads,
         move || read_out(rt, gate, link, drain, full_in, empty_out, seat),
     ) else {
-        return Err(NoStart);
+        return Err(RunFault::NoStart);
     };
     let Ok(writer) = scope.spawn_with(writes, move || write_out(rt, output, full_out, empty_in))
     else {
-        // The end of the feeder ends the reading thread.
-        drop(feeder.end(link));
-        drop(reader.join(rt));
-        return Err(NoStart);
+        return Err(RunFault::NoStart);
     };
     Ok(Crew {
         task,
-        link,
-        feeder,
-        flush_every,
         reader,
         writer,
     })
 }
 
-/// Ends the feeder, and waits for the threads.
-pub(crate) fn finish<W: Sink + Drop, R: Threads + Wait>(rt: &R, crew: Crew<'_, W>) -> Done<W>
-    ensures task { result.task.value ≡ crew.entry.task.value }
+/// Waits for the threads of a task.
+pub(crate) fn finish<W: Sink + Drop, R: Threads>(rt: &R, crew: Crew<W>) -> Done<W>
+    ensures task { result.task.value ≡ crew.task.value }
+    ensures pair { result.read.drain.pair ≡ crew_pair crew }
     ensures done { IsDone W.taken W.failures result }
-    ensures feed { (result.feed.pair ≡ crew.entry.link.now) × (result.feed.feeds ≡ crew.entry.feeder.feeds) }
 {
     let Crew {
         task,
-        link,
-        feeder,
-        flush_every: _,
         reader,
         writer,
     } = crew;
-    let feed = feeder.end(link);
     let read = reader.join(rt);
     let write = writer.join(rt);
-    Done {
-        task,
-        feed,
-        read,
-        write,
-    }
+    Done { task, read, write }
 }

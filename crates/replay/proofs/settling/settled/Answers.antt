@@ -5,10 +5,12 @@ use Rattle.handover.specs.History.{LegalHistory, batches_of, merge}
 use Rattle.handover.specs.Rule.{terms_of}
 use Rattle.handover.specs.Settling.{IsWhole}
 use Rattle.replay.specs.Reading.{messages_of}
-use Rattle.replay.specs.Reports.{kept_for}
+use Rattle.replay.specs.Reports.{IsPrompt, kept_for}
 use Rattle.replay.specs.Tasks.{output_of}
 use Rattle.replay.specs.Writing.{Writes}
 use Rattle.replay.proofs.Settles.{chain, unfinished, finished}
+use Rattle.replay.proofs.Timely.{all-of-contained, as-they-are}
+use Rattle.std.proofs.lemmas.List.Elements.{All-contains}
 use Rattle.replay.proofs.settling.settled.Goals as goal
 
 pub returns-in_default : goal.returns-in_default
@@ -16,12 +18,14 @@ returns-in_default g c =
     let d = c.args.done in
     let s = c.settle-hold.ensures in
     let told = c.report.ensures in
-    unfinished g.W.Sink.taken g.W.Sink.failures d.task.value d.feed.feeds d.read.drain.takes c.report.result c.settle-hold.result.counts
+    let whole = subst (λ p. IsWhole p c.args.feed.feeds d.read.drain.takes c.settle-hold.result.hold.messages c.settle-hold.result.rest.messages c.settle-hold.result.counts) c.requires.profile s.whole in
+    unfinished g.W.Sink.taken g.W.Sink.failures d.task.value c.args.feed.feeds d.read.drain.takes c.report.result c.settle-hold.result.counts
     c.settle-hold.result.hold.messages c.settle-hold.result.rest.messages
-    (subst (λ p. LegalHistory (terms_of p) d.feed.feeds d.read.drain.takes (merge d.feed.feeds d.read.drain.takes)) c.requires.done.profile s.history)
+    (subst (λ p. LegalHistory (terms_of p) c.args.feed.feeds d.read.drain.takes (merge c.args.feed.feeds d.read.drain.takes)) c.requires.profile s.history)
     s.counts.0 s.counts.1
-    (subst (λ p. IsWhole p d.feed.feeds d.read.drain.takes c.settle-hold.result.hold.messages c.settle-hold.result.rest.messages c.settle-hold.result.counts) c.requires.done.profile s.whole)
-    told.counts d.write.written told.sink _ c.requires.done.writes told.end
+    whole
+    told.counts d.write.written told.sink
+    (as-they-are _ (all-of-contained IsPrompt _ (λ m here. All-contains IsPrompt _ m c.requires.prompt (whole.accepted m here)))) _ c.requires.done.writes told.end
 
 pub returns : goal.returns
 returns g c =
@@ -32,19 +36,20 @@ returns g c =
     let told = c.report-2.ensures in
     let hold = c.settle-hold.result.hold.messages in
     let rest = c.settle-hold.result.rest.messages in
-    let whole = subst (λ p. IsWhole p d.feed.feeds d.read.drain.takes hold rest c.settle-hold.result.counts) c.requires.done.profile s.whole in
+    let whole = subst (λ p. IsWhole p c.args.feed.feeds d.read.drain.takes hold rest c.settle-hold.result.counts) c.requires.profile s.whole in
     let pushed = subst (λ o. IfSome o (λ f. IsFinishedOf f d.write.full × (messages_of (all_sent f) ≡ batches_of d.read.drain.takes))) c.in-Some.is c.requires.done.pushed in
     let known = known_items c.slots_after-left.new.self in
     let all = chain (received d.write.full) (received c.slots_after-left.new.self) known (all_sent c.in-Some.finished) (batches_of d.read.drain.takes) hold rest
-    (kept_for d.task.value d.feed.feeds d.read.drain.takes) whole.whole pushed.1 c.slots_after-left.ensures.fifo c.slots_after-left.ensures.looked.1 in
+    (kept_for d.task.value c.args.feed.feeds d.read.drain.takes) whole.whole pushed.1 c.slots_after-left.ensures.fifo c.slots_after-left.ensures.looked.1 in
     let o = output_of d.task.value in
     let one = c.write_left.ensures o _ c.requires.done.writes in
     let two = c.put_all.ensures o _ one in
     let three = c.put_all-2.ensures o _ two in
     let w = c.put_all-2.new.self in
-    finished T F d.task.value d.feed.feeds d.read.drain.takes c.report-2.result c.settle-hold.result.counts hold rest
-    (subst (λ p. LegalHistory (terms_of p) d.feed.feeds d.read.drain.takes (merge d.feed.feeds d.read.drain.takes)) c.requires.done.profile s.history)
+    finished T F d.task.value c.args.feed.feeds d.read.drain.takes c.report-2.result c.settle-hold.result.counts hold rest
+    (subst (λ p. LegalHistory (terms_of p) c.args.feed.feeds d.read.drain.takes (merge c.args.feed.feeds d.read.drain.takes)) c.requires.profile s.history)
     s.counts.0 s.counts.1 whole told.counts w told.sink
+    (as-they-are _ (all-of-contained IsPrompt _ (λ m here. All-contains IsPrompt _ m c.requires.prompt (whole.accepted m here))))
     (subst (λ (ms : List Message). Writes T F o ms w) all three)
     (λ e. let ends = c.end_of-end.ensures.clean (sym told.end ∙ e) in (ends.1, whole.unclosed (c.requires.done.ended ends.0)))
     (λ n e. let breaks = c.end_of-end.ensures.broke n (sym told.end ∙ e) in (breaks.0, breaks.1 ∙ c.sent.ensures))

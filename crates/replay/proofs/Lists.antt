@@ -1,0 +1,62 @@
+-- Lists that a loop takes from, and lists that it makes of them.
+use Rattle.std.proofs.Common.{◌≡◌, ◌<◌, ◌≤◌, ◌+◌, ℕ, zero, suc, List, [], ◌∷◌, ◌++◌, drop, get_or, length, map, refl, ap, sym, ◌∙◌, arith, subst, All}
+use Rattle.std.proofs.lemmas.List.{append-nil, append_assoc}
+use Rattle.std.specs.List.{AllZip}
+
+-- what is at the front once some items are gone is the next of them
+pub next-there : {X : Type 0} (xs : List X) (k : ℕ) (y : X) (ys : List X) → drop k xs ≡ y ∷ ys → (k < length xs) × ((d : X) → get_or xs k d ≡ y) × (drop (suc k) xs ≡ ys)
+next-there [] zero y ys e = absurd cc
+next-there [] (suc k) y ys e = absurd cc
+next-there (x ∷ xs) zero y ys e = (omega arith, (λ d. cc), cc)
+next-there (x ∷ xs) (suc k) y ys e = let r = next-there xs k y ys e in ((let l = r.0 in omega (arith, l)), r.1, r.2)
+
+-- the images of two lists, of which the one grows by what the other loses
+pub moved : {X Y Z : Type 0} (f : X → Z) (g : Y → Z) (xs : List X) (x : X) (y : Y) (ys : List Y) (all : List Z) → map f xs ++ map g (y ∷ ys) ≡ all → f x ≡ g y
+    → map f (xs ++ x ∷ []) ++ map g ys ≡ all
+moved f g [] x y ys all e h = ap (λ z. z ∷ map g ys) h ∙ e
+moved f g (w ∷ ws) x y ys all e h = ap (λ zs. f w ∷ zs) (moved f g ws x y ys (map f ws ++ map g (y ∷ ys)) refl h) ∙ e
+
+pub all-moved : {X Y Z : Type 0} (f : X → Z) (g : Y → Z) (xs : List X) (ys : List Y) (all : List Z) → map f xs ++ map g ys ≡ all → length ys ≡ 0 → map f xs ≡ all
+all-moved f g xs [] all e none = sym (append-nil (map f xs)) ∙ e
+all-moved f g xs (y ∷ ys) all e none = absurd (omega (arith, none))
+
+-- the same, where the other list stands as it is
+pub moved-itself : {X Z : Type 0} (f : X → Z) (xs : List X) (x : X) (z : Z) (zs : List Z) (all : List Z) → map f xs ++ (z ∷ zs) ≡ all → f x ≡ z
+    → map f (xs ++ x ∷ []) ++ zs ≡ all
+moved-itself f [] x z zs all e h = ap (λ w. w ∷ zs) h ∙ e
+moved-itself f (w ∷ ws) x z zs all e h = ap (λ vs. f w ∷ vs) (moved-itself f ws x z zs (map f ws ++ (z ∷ zs)) refl h) ∙ e
+
+pub all-moved-itself : {X Z : Type 0} (f : X → Z) (xs : List X) (zs all : List Z) → map f xs ++ zs ≡ all → length zs ≡ 0 → map f xs ≡ all
+all-moved-itself f xs [] all e none = sym (append-nil (map f xs)) ∙ e
+all-moved-itself f xs (z ∷ zs) all e none = absurd (omega (arith, none))
+
+-- two lists with the same images, each one item longer
+pub both-longer : {X Y Z : Type 0} (f : X → Z) (g : Y → Z) (xs : List X) (x : X) (ys : List Y) (y : Y) → map f xs ≡ map g ys → f x ≡ g y
+    → map f (xs ++ x ∷ []) ≡ map g (ys ++ y ∷ [])
+both-longer f g [] x [] y e h = ap (λ z. z ∷ []) h
+both-longer f g [] x (y' ∷ ys) y e h = absurd cc
+both-longer f g (x' ∷ xs) x [] y e h = absurd cc
+both-longer f g (x' ∷ xs) x (y' ∷ ys) y e h =
+    let first : f x' ≡ g y' = cc in let rest : map f xs ≡ map g ys = cc in
+    ap (λ z. z ∷ map f (xs ++ x ∷ [])) first ∙ ap (λ zs. g y' ∷ zs) (both-longer f g xs x ys y rest h)
+
+-- the images of a list one item longer
+pub image-longer : {X Z : Type 0} (f : X → Z) (xs : List X) (x : X) (zs : List Z) (z : Z) → map f xs ≡ zs → f x ≡ z → map f (xs ++ x ∷ []) ≡ zs ++ z ∷ []
+image-longer f [] x [] z e h = ap (λ w. w ∷ []) h
+image-longer f [] x (z' ∷ zs) z e h = absurd cc
+image-longer f (x' ∷ xs) x [] z e h = absurd cc
+image-longer f (x' ∷ xs) x (z' ∷ zs) z e h =
+    let first : f x' ≡ z' = cc in let rest : map f xs ≡ zs = cc in
+    ap (λ w. w ∷ map f (xs ++ x ∷ [])) first ∙ ap (λ ws. z' ∷ ws) (image-longer f xs x zs z rest h)
+
+-- What was made so far completes with what is made of the rest to what is made of all.
+abbrev pub Completes : {X Y : Type 0} → (X → Y → Type 0) → List X → List Y → List X → Type 0
+Completes {X} {Y} R all made rest = (more : List Y) → AllZip R rest more → AllZip R all (made ++ more)
+
+pub completes-more : {X Y : Type 0} (R : X → Y → Type 0) (all : List X) (made : List Y) (x : X) (rest : List X) (y : Y) → Completes R all made (x ∷ rest) → R x y
+    → Completes R all (made ++ y ∷ []) rest
+completes-more R all made x rest y c r = λ more z. subst (λ ys. AllZip R all ys) (sym (append_assoc made (y ∷ []) more)) (c (y ∷ more) (r, z))
+
+pub completed : {X Y : Type 0} (R : X → Y → Type 0) (all : List X) (made : List Y) (rest : List X) → Completes R all made rest → length rest ≡ 0 → AllZip R all made
+completed R all made [] c none = subst (λ ys. AllZip R all ys) (append-nil made) (c [] unit)
+completed R all made (x ∷ rest) c none = absurd (omega (arith, none))

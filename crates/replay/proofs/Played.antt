@@ -1,0 +1,56 @@
+-- Captures that are read one behind the other.
+use Rattle.std.proofs.Common.{◌≡◌, ◌≢◌, ◌+◌, ◌-◌, ◌^◌, ℕ, List, [], ◌∷◌, ◌++◌, length, refl, ap, sym, ◌∙◌, arith, subst, Option, Some, None, inl, inr}
+use Rattle.std.proofs.lemmas.List.{append-nil, append_assoc}
+use Rattle.listener.specs.Messages.{Arrival}
+use Rattle.savefile.specs.declared.packet.Packet.{Packet}
+use Rattle.replay.specs.Captures.{EndsSo, Plays, numbered}
+use Rattle.replay.specs.declared.report.InterfaceEnd.{InterfaceEnd}
+use Rattle.replay.specs.declared.report.InterfaceEnd.TheVariants.{Clean, Capture, CountFull}
+
+module _ {S : Type 0} (left : S → Option (List ℕ)) (broken : S → ℕ) where
+  -- Some captures were read, and `n` is the number of the next. Where none has ended the playlist, what the rest brings makes it
+  -- whole; else the rest comes back as it is.
+  abbrev pub PlaysSoFar : List S → List S → ℕ → List S → List Arrival → Option InterfaceEnd → Type 0
+  PlaysSoFar all sources n rest playlist None =
+      (total : ℕ) (others : List S) (more : List Arrival) (end : InterfaceEnd) → Plays left broken total n rest others more end
+      → Plays left broken total 0 all (sources ++ others) (playlist ++ more) end
+  PlaysSoFar all sources n rest playlist (Some end) = Plays left broken (length playlist) 0 all (sources ++ rest) playlist end
+
+  -- one capture more was read whole
+  pub one-whole : (all sources : List S) (n : ℕ) (s t : S) (rest : List S) (playlist : List Arrival) (packets : List Packet)
+      → PlaysSoFar all sources n (s ∷ rest) playlist None → EndsSo (left s) (broken t ≢ broken s) n 0 packets None
+      → PlaysSoFar all (sources ++ t ∷ []) (n + 1) rest (playlist ++ numbered n 0 packets) None
+  one-whole all sources n s t rest playlist packets so ends = λ total others more end plays.
+      subst (λ ts. Plays left broken total 0 all ts ((playlist ++ numbered n 0 packets) ++ more) end) (sym (append_assoc sources (t ∷ []) others))
+      (subst (λ as'. Plays left broken total 0 all (sources ++ t ∷ others) as' end) (sym (append_assoc playlist (numbered n 0 packets) more))
+      (so total (t ∷ others) (numbered n 0 packets ++ more) end (packets, more, refl, inl (ends, plays))))
+
+  -- one capture more was read, and ended the playlist
+  pub one-ending : (all sources : List S) (n : ℕ) (s t : S) (rest : List S) (playlist : List Arrival) (packets : List Packet) (end : InterfaceEnd)
+      → PlaysSoFar all sources n (s ∷ rest) playlist None
+      → EndsSo (left s) (broken t ≢ broken s) n (length (playlist ++ numbered n 0 packets)) packets (Some end)
+      → PlaysSoFar all (sources ++ t ∷ []) (n + 1) rest (playlist ++ numbered n 0 packets) (Some end)
+  one-ending all sources n s t rest playlist packets end so ends =
+      subst (λ ts. Plays left broken (length (playlist ++ numbered n 0 packets)) 0 all ts (playlist ++ numbered n 0 packets) end) (sym (append_assoc sources (t ∷ []) rest))
+      (so (length (playlist ++ numbered n 0 packets)) (t ∷ rest) (numbered n 0 packets) end
+      (packets, [], sym (append-nil (numbered n 0 packets)), inr (ends, refl, refl)))
+
+  -- a capture behind the end came back as it is
+  pub one-unread : (all sources : List S) (n m : ℕ) (s : S) (rest : List S) (playlist : List Arrival) (end : InterfaceEnd)
+      → PlaysSoFar all sources n (s ∷ rest) playlist (Some end) → PlaysSoFar all (sources ++ s ∷ []) m rest playlist (Some end)
+  one-unread all sources n m s rest playlist end so =
+      subst (λ ts. Plays left broken (length playlist) 0 all ts playlist end) (sym (append_assoc sources (s ∷ []) rest)) so
+
+  -- all were read
+  pub plays-whole : (all sources : List S) (n : ℕ) (rest : List S) (playlist : List Arrival) → PlaysSoFar all sources n rest playlist None → length rest ≡ 0
+      → Plays left broken (length playlist) 0 all sources playlist Clean
+  plays-whole all sources n [] playlist so none =
+      subst (λ ts. Plays left broken (length playlist) 0 all ts playlist Clean) (append-nil sources)
+      (subst (λ as'. Plays left broken (length playlist) 0 all (sources ++ []) as' Clean) (append-nil playlist)
+      (so (length playlist) [] [] Clean (refl, refl)))
+  plays-whole all sources n (s ∷ rest) playlist so none = absurd (omega (arith, none))
+
+  pub plays-ended : (all sources : List S) (n : ℕ) (rest : List S) (playlist : List Arrival) (end : InterfaceEnd) → PlaysSoFar all sources n rest playlist (Some end)
+      → length rest ≡ 0 → Plays left broken (length playlist) 0 all sources playlist end
+  plays-ended all sources n [] playlist end so none = subst (λ ts. Plays left broken (length playlist) 0 all ts playlist end) (append-nil sources) so
+  plays-ended all sources n (s ∷ rest) playlist end so none = absurd (omega (arith, none))

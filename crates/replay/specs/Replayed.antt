@@ -1,0 +1,32 @@
+-- What is told of a replay.
+use Rattle.std.specs.Prelude.{◌≡◌, ℕ, ◌+◌, List, length, Option}
+use Rattle.std.specs.List.{AllZip}
+use Rattle.listener.specs.Messages.{Arrival}
+use Rattle.handover.specs.Asks.{asks}
+use Rattle.handover.specs.declared.calls.Feed.{Feed}
+use Rattle.handover.specs.declared.calls.Take.{Take}
+use Rattle.replay.specs.Captures.{Plays}
+use Rattle.replay.specs.Playing.{asked}
+use Rattle.replay.specs.Reports.{IsReported}
+use Rattle.replay.specs.Tasks.{asking_of}
+use Rattle.replay.specs.declared.report.InterfaceReport.{InterfaceReport}
+use Rattle.replay.specs.declared.report.ListenerReport.{ListenerReport}
+use Rattle.replay.specs.declared.report.TaskEnd.TheVariants.{Clean}
+use Rattle.replay.specs.declared.task.Interface.{Interface}
+use Rattle.replay.specs.declared.task.Task.{Task}
+
+-- A task's feeder was asked for the playlist and the flushes that are due; its calls and the drain's reads make the history that
+-- the report tells. Where the task ends Clean, the whole playlist was received, and what matched was written or dropped.
+pub record IsServed {W : Type 0} (taken : W → Option (List ℕ)) (failures : W → ℕ) (playlist : List Arrival) (task : Task W) (r : ListenerReport W) : Type 0 where
+  pub feeds : List Feed
+  pub takes : List Take
+  pub asked_for : asks feeds ≡ asked (asking_of task) playlist
+  pub reported : IsReported taken failures task feeds takes r
+  pub whole : r.end ≡ Clean → (r.received ≡ length playlist) × (r.matched ≡ r.written + r.dropped)
+
+-- What became of an interface: the captures give the playlist and the end, and each task was served with it.
+pub record IsReplayed {S W : Type 0} (left : S → Option (List ℕ)) (broken : S → ℕ) (taken : W → Option (List ℕ)) (failures : W → ℕ)
+    (interface : Interface S W) (r : InterfaceReport S W) : Type 0 where
+  pub playlist : List Arrival
+  pub plays : Plays left broken (length playlist) 0 interface.captures.items r.sources.items playlist r.end
+  pub served : AllZip (IsServed taken failures playlist) interface.tasks.items r.listeners.items

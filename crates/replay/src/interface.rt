@@ -1,0 +1,216 @@
+//! Starting the threads of interfaces.
+
+ghost use Rattle.std.specs.Prelude.{◌≡◌, ◌≤◌, length, map, IfErr, IfOk, vec_capacity};
+ghost use Rattle.std.specs.List.{AllZip};
+ghost use Rattle.replay.specs.Crews.{crew_line, crew_pair, crew_task, stage_line, stage_pair, stage_task};
+ghost use Rattle.replay.specs.Lines.{entry_line, line_of};
+ghost use Rattle.replay.specs.Runs.{IsReadyFor, IsRunningOf};
+ghost use Rattle.replay.specs.Setups.{HasLinks};
+ghost use Rattle.replay.specs.declared.fault.RunFault.TheVariants.{NoStart};
+
+use crate::crew::{Crew, Stage};
+use crate::fault::RunFault;
+use crate::gate::Gate;
+use crate::inlet::{Entry, Inlet};
+use crate::laid::Laid;
+use crate::playing::{PlaysOut, play_out};
+use crate::reading::Seat;
+use crate::ready::{Ready, Running};
+use crate::room::Room;
+use crate::threads::start;
+use handover::Link;
+use savefile::{Sink, Source};
+use std::alloc::Global;
+use std::snapshot::Snapshot;
+use std::sync::{Mutex, Wait};
+use std::thread::{Scope, Threads};
+
+/// Each feeder beside its link.
+fn join_links<'a>(
+    alloc: Global,
+    links: &'a [Link],
+    entries: Vec<Entry>,
+) -> Result<Vec<Inlet<'a>>, RunFault>
+    requires { map (λ e. e.feeder.pair) entries.items ≡ links.now }
+    ensures lines { IfOk result (λ inlets. map line_of inlets.items ≡ map entry_line entries.items) }
+    ensures refused { IfErr result (λ fault. fault ≡ NoStart) }
+{
+    let mut inlets = Vec::with_capacity(alloc, entries.len())?;
+    for (k, entry) in entries.into_iter().enumerate() {
+        let Entry {
+            feeder,
+            flush_every,
+        } = entry;
+        inlets.push_reserved(Inlet {
+            link: &links[k],
+            feeder,
+            flush_every,
+        });
+    }
+    Ok(inlets)
+}
+
+/// Gives an interface its links.
+fn link_one<'a, R: Drop, W: Sink + Drop>(
+    alloc: Global,
+    links: &'a [Link],
+    laid: Laid<R, W>,
+) -> Result<Ready<'a, R, W>, RunFault>
+    requires { map stage_pair laid.stages.items ≡ links.now }
+    ensures ready { IfOk result (λ ready. IsReadyFor laid ready) }
+    ensures refused { IfErr result (λ fault. fault ≡ NoStart) }
+{
+    let Laid {
+        captures,
+        entries,
+        stages,
+        room,
+    } = laid;
+    let were = Snapshot::of(&entries);
+    let inlets = join_links(alloc, links, entries)?;
+    Ok(Ready {
+        links,
+        entries: were,
+        inlets,
+        captures,
+        stages,
+        room,
+    })
+}
+
+/// Gives all interfaces their links.
+pub(crate) fn link_all<'a, R: Drop, W: Sink + Drop>(
+    alloc: Global,
+    links: &'a [Vec<Link>],
+    laid: Vec<Laid<R, W>>,
+) -> Result<Vec<Ready<'a, R, W>>, RunFault>
+    requires { AllZip HasLinks links.now laid.items }
+    ensures ready { IfOk result (λ all. AllZip IsReadyFor laid.items all.items) }
+    ensures refused { IfErr result (λ fault. fault ≡ NoStart) }
+{
+    let mut all = Vec::with_capacity(alloc, laid.len())?;
+    for (i, one) in laid.into_iter().enumerate() {
+        all.push_reserved(link_one(alloc, links[i].as_slice(), one)?);
+    }
+    Ok(all)
+}
+
+/// Starts the threads of all tasks of an interface.
+fn start_all<
+    's,
+    'a: 's,
+    E,
+    W: Sink + Send + Drop + 's,
+    G: Gate + Sync + 's,
+    R: Threads + Wait + Sync + 's,
+>(
+    rt: &'s R,
+    scope: &Scope<'s, E>,
+    gate: &'s G,
+    interface: u32,
+    links: &'a [Link],
+    stages: Vec<Stage<W>>,
+    mut crews: Vec<Crew<W>>,
+) -> Result<Vec<Crew<W>>, RunFault>
+    requires pairs { map stage_pair stages.items ≡ links.now }
+    requires few { length stages.items ≤ 64 }
+    requires room { (length crews.items ≡ 0) × (length stages.items ≤ vec_capacity crews) }
+    ensures lines { IfOk result (λ crews. map crew_line crews.items ≡ map stage_line stages.items) }
+    ensures pairs { IfOk result (λ crews. map crew_pair crews.items ≡ map stage_pair stages.items) }
+    ensures tasks { IfOk result (λ crews. map crew_task crews.items ≡ map stage_task stages.items) }
+    ensures refused { IfErr result (λ fault. fault ≡ NoStart) }
+{
+    for (k, stage) in stages.into_iter().enumerate() {
+        let seat = Seat {
+            interface,
+            listener: k as u32,
+        };
+        crews.push_reserved(start(rt, scope, gate, &links[k], stage, seat)?);
+    }
+    Ok(crews)
+}
+
+/// Starts the threads of an interface. The replaying thread comes first, so that no task waits for packets where it is refused;
+/// it waits until `started` can be locked.
+fn launch<
+    's,
+    'a: 's,
+    E,
+    S: Source + Send + Drop + 's,
+    W: Sink + Send + Drop + 's,
+    G: Gate + Sync + 's,
+    R: Threads + Wait + Sync + 's,
+>(
+    rt: &'s R,
+    scope: &Scope<'s, E>,
+    alloc: Global,
+    gate: &'s G,
+    started: &'s Mutex<()>,
+    interface: u32,
+    ready: Ready<'a, S, W>,
+) -> Result<Running<S, W>, RunFault>
+    ensures running { IfOk result (λ running. IsRunningOf ready.entry running) }
+    ensures refused { IfErr result (λ fault. fault ≡ NoStart) }
+{
+    let Ready {
+        links,
+        entries,
+        inlets,
+        captures,
+        stages,
+        room,
+    } = ready;
+    let Room {
+        sources,
+        ends,
+        crews,
+        reports,
+    } = room;
+    let plays = PlaysOut {
+        entries,
+        captures: Snapshot::of(&captures),
+    };
+    let Ok(player) = scope.spawn_with(
+        plays,
+        move || play_out(rt, started, alloc, gate, interface, inlets, captures, ends, sources),
+    ) else {
+        return Err(RunFault::NoStart);
+    };
+    let crews = start_all(rt, scope, gate, interface, links, stages, crews)?;
+    Ok(Running {
+        player,
+        crews,
+        reports,
+    })
+}
+
+/// Starts the threads of all interfaces.
+pub(crate) fn launch_all<
+    's,
+    'a: 's,
+    E,
+    S: Source + Send + Drop + 's,
+    W: Sink + Send + Drop + 's,
+    G: Gate + Sync + 's,
+    R: Threads + Wait + Sync + 's,
+>(
+    rt: &'s R,
+    scope: &Scope<'s, E>,
+    alloc: Global,
+    gate: &'s G,
+    started: &'s Mutex<()>,
+    ready: Vec<Ready<'a, S, W>>,
+    mut running: Vec<Running<S, W>>,
+) -> Result<Vec<Running<S, W>>, RunFault>
+    requires few { length ready.items ≤ 16 }
+    requires room { (length running.items ≡ 0) × (length ready.items ≤ vec_capacity running) }
+    ensures running { IfOk result (λ all. AllZip IsRunningOf ready.entry.items all.items) }
+    ensures refused { IfErr result (λ fault. fault ≡ NoStart) }
+{
+    // Held until all threads were started, or one was refused.
+    let _starting = started.lock(rt);
+    for (i, one) in ready.into_iter().enumerate() {
+        running.push_reserved(launch(rt, scope, alloc, gate, started, i as u32, one)?);
+    }
+    Ok(running)
+}

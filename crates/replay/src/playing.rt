@@ -1,0 +1,109 @@
+//! The thread that reads the captures of an interface.
+
+ghost use Rattle.std.specs.Prelude.{◌≡◌, ◌≤◌, ◌-◌, ◌^◌, All, List, [], map, length, vec_capacity};
+ghost use Rattle.listener.specs.Messages.{Arrival};
+ghost use Rattle.replay.specs.Lines.{HasArrived, IsFresh, Line, entry_line, ended_all, ended_of, line_of};
+ghost use Rattle.replay.specs.Captures.{IsTimely, Plays};
+ghost use Rattle.replay.specs.PlayedOut.{HasPlayedOut};
+
+use crate::gate::Gate;
+use crate::inlet::{Entry, Inlet, Player};
+use crate::report::InterfaceEnd;
+use handover::FeedEnd;
+use savefile::Source;
+use std::alloc::Global;
+use std::snapshot::Snapshot;
+use std::sync::{Mutex, Wait};
+use std::thread::Promise;
+
+/// What the replaying thread of an interface hands back.
+#[derive(Drop)]
+pub(crate) struct Played<R> {
+    pub(crate) ends: Vec<FeedEnd>,
+    pub(crate) sources: Vec<R>,
+    pub(crate) end: InterfaceEnd,
+}
+
+/// A replaying thread hands back these feeders ended, behind the packets of these captures.
+#[derive(Drop)]
+pub(crate) struct PlaysOut<R> {
+    pub(crate) entries: Snapshot<Vec<Entry>>,
+    pub(crate) captures: Snapshot<Vec<R>>,
+}
+
+impl<R: Source> Promise<Played<R>> for PlaysOut<R> {
+    ghost kept_by = { λ p r. HasPlayedOut R.left R.failures (map entry_line p.entries.value.items) p.captures.value.items r };
+}
+
+impl Player<'_> {
+    /// Reads the captures in order, until one ends the interface: the answer tells how. The sources come back, those behind it
+    /// as they were.
+    fn replay_all<S: Source + Drop, G: Gate>(
+        &mut self,
+        alloc: Global,
+        gate: &G,
+        captures: Vec<S>,
+        mut sources: Vec<S>,
+    ) -> (Vec<S>, InterfaceEnd)
+        requires few { length captures.items ≤ 65536 }
+        requires room { (length sources.items ≡ 0) × (length captures.items ≤ vec_capacity sources) }
+        requires arrived { self.old.arrived ≤ 2 ^ 64 - 2 }
+        requires so_far { (starts : List Line) × (playlist : List Arrival) × HasArrived starts playlist self.old }
+        ensures { (starts : List Line) → HasArrived starts [] self.old → (playlist : List Arrival) × All IsTimely playlist × HasArrived starts playlist self.new
+            × Plays S.left S.failures (length playlist) 0 captures.items result.0.items playlist result.1 }
+    {
+        let mut end = None;
+        for (n, source) in captures.into_iter().enumerate() {
+            let source = match end {
+                Some(_) => source,
+                None => {
+                    let (source, ended) = self.replay(alloc, gate, n as u32, source);
+                    end = ended;
+                    source
+                }
+            };
+            sources.push_reserved(source);
+        }
+        (sources, end.unwrap_or(InterfaceEnd::Clean))
+    }
+}
+
+/// Ends all feeders.
+fn end_all(inlets: Vec<Inlet<'_>>, mut ends: Vec<FeedEnd>) -> Vec<FeedEnd>
+    requires room { (length ends.items ≡ 0) × (length inlets.items ≤ vec_capacity ends) }
+    ensures { map ended_of result.items ≡ ended_all (map line_of inlets.entry.items) }
+{
+    for inlet in inlets {
+        ends.push_reserved(inlet.feeder.end(inlet.link));
+    }
+    ends
+}
+
+/// Gives the packets of all captures to the feeders, once `started` can be locked, and ends these.
+pub(crate) fn play_out<S: Source + Drop, G: Gate, R: Wait>(
+    rt: &R,
+    started: &Mutex<()>,
+    alloc: Global,
+    gate: &G,
+    interface: u32,
+    inlets: Vec<Inlet<'_>>,
+    captures: Vec<S>,
+    ends: Vec<FeedEnd>,
+    sources: Vec<S>,
+) -> Played<S>
+    requires fresh { All IsFresh (map line_of inlets.items) }
+    requires few { length captures.items ≤ 65536 }
+    requires room { (length ends.items ≡ 0) × (length inlets.items ≤ vec_capacity ends)
+        × (length sources.items ≡ 0) × (length captures.items ≤ vec_capacity sources) }
+    ensures { HasPlayedOut S.left S.failures (map line_of inlets.entry.items) captures.items result }
+{
+    drop(started.lock(rt));
+    let mut player = Player {
+        interface,
+        inlets,
+        arrived: 0,
+    };
+    let (sources, end) = player.replay_all(alloc, gate, captures, sources);
+    let ends = end_all(player.inlets, ends);
+    Played { ends, sources, end }
+}

@@ -1,0 +1,73 @@
+//! Replaying captures in threads.
+
+ghost use Rattle.std.specs.Prelude.{◌≡◌, ◌≤◌, length, IfErr, IfOk, OnOk, vec_capacity};
+ghost use Rattle.std.specs.List.{AllZip};
+ghost use Rattle.replay.specs.Refusals.{IsFirst, NoneStands};
+ghost use Rattle.replay.specs.Replayed.{IsReplayed};
+ghost use Rattle.replay.specs.Runs.{IsRunningOf};
+ghost use Rattle.replay.specs.declared.fault.RunFault.TheVariants.{NoStart};
+
+use crate::check::check_all;
+use crate::fault::RunFault;
+use crate::gate::Gate;
+use crate::interface::{launch_all, link_all};
+use crate::ready::{Ready, Running};
+use crate::report::InterfaceReport;
+use crate::reporting::report_all;
+use crate::laid::AllLaid;
+use crate::setup::lay_all;
+use crate::task::Interface;
+use savefile::{Sink, Source};
+use std::alloc::Global;
+use std::sync::{Mutex, Wait};
+use std::thread;
+use std::thread::Threads;
+
+/// Starts the threads of all interfaces, and waits until all have ended.
+fn in_threads<'a, S: Source + Send + Drop, W: Sink + Send + Drop, G: Gate + Sync, R: Threads + Wait + Sync>(
+    rt: &R,
+    alloc: Global,
+    gate: &G,
+    ready: Vec<Ready<'a, S, W>>,
+    running: Vec<Running<S, W>>,
+) -> Result<Vec<Running<S, W>>, RunFault>
+    requires few { length ready.items ≤ 16 }
+    requires room { (length running.items ≡ 0) × (length ready.items ≤ vec_capacity running) }
+    ensures running { IfOk result (λ all. AllZip IsRunningOf ready.entry.items all.items) }
+    ensures refused { IfErr result (λ fault. fault ≡ NoStart) }
+{
+    let started = Mutex::new(());
+    let begun = &started;
+    thread::scope(
+        thread::scope_env(),
+        rt,
+        move |scope| -> Result<Vec<Running<S, W>>, RunFault>
+            requires { (length ready.items ≤ 16) × (length running.items ≡ 0) × (length ready.items ≤ vec_capacity running) }
+            ensures { IfOk result (λ all. AllZip IsRunningOf ready.entry.items all.items) × IfErr result (λ fault. fault ≡ NoStart) }
+        {
+            launch_all(rt, scope, alloc, gate, begun, ready, running)
+        },
+    )
+}
+
+/// Replays the captures of each interface to its listeners, in threads, and writes what each listener keeps as a savefile: one
+/// thread for each interface, which reads its captures and gives each packet to all its listeners, and two for each listener,
+/// which read its buffers and write its savefile.
+pub fn run<S: Source + Send + Drop, W: Sink + Send + Drop, G: Gate + Sync, R: Threads + Wait + Sync>(
+    rt: &R,
+    alloc: Global,
+    interfaces: Vec<Interface<S, W>>,
+    gate: &G,
+) -> Result<Vec<InterfaceReport<S, W>>, RunFault>
+    ensures stand { OnOk result (NoneStands interfaces.items) }
+    ensures first { IfErr result (IsFirst interfaces.items) }
+    ensures replayed { IfOk result (λ reports. AllZip (IsReplayed S.left S.failures W.taken W.failures) interfaces.items reports.items) }
+{
+    check_all(interfaces.as_slice())?;
+    let reports = Vec::with_capacity(alloc, interfaces.len())?;
+    let running = Vec::with_capacity(alloc, interfaces.len())?;
+    let AllLaid { links, laid } = lay_all(alloc, interfaces)?;
+    let ready = link_all(alloc, links.as_slice(), laid)?;
+    let running = in_threads(rt, alloc, gate, ready, running)?;
+    Ok(report_all(rt, links, running, reports))
+}
