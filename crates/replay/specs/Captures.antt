@@ -50,7 +50,7 @@ Plays left failures total capture (s ∷ ss) [] playlist end = ⊥
 Plays left failures total capture (s ∷ ss) (t ∷ ts) playlist end =
     (packets : List Packet) × (more : List Arrival) × (playlist ≡ numbered capture 0 packets ++ more)
     × ((EndsSo (left s) (failures t ≢ failures s) capture total packets None × Plays left failures total (capture + 1) ss ts more end)
-        ⊎ (EndsSo (left s) (failures t ≢ failures s) capture total packets (Some end) × (more ≡ []) × (ts ≡ ss)))
+    ⊎ (EndsSo (left s) (failures t ≢ failures s) capture total packets (Some end) × (more ≡ []) × (ts ≡ ss)))
 
 -- its time has less than a second of nanoseconds
 abbrev pub IsTimely : Arrival → Type 0

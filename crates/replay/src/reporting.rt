@@ -10,8 +10,8 @@ ghost use Rattle.replay.specs.Replayed.{IsServed};
 ghost use Rattle.replay.specs.RunsEnded.{HasItsPairs, IsReportOf};
 
 use crate::crew::Crew;
-use crate::ready::Running;
 use crate::playing::Played;
+use crate::ready::Running;
 use crate::report::{InterfaceReport, ListenerReport};
 use crate::settling::settled;
 use crate::threads::finish;
@@ -36,7 +36,10 @@ fn report_tasks<W: Sink + Drop, R: Threads>(
     let mut links = links.into_iter();
     let mut ends = ends.into_iter();
     for crew in crews {
-        let (Some(link), Some(feed)) = (links.next(), ends.next()) else {
+        let Some(link) = links.next() else {
+            unreachable!()
+        };
+        let Some(feed) = ends.next() else {
             unreachable!()
         };
         let done = finish(rt, crew);

@@ -11,10 +11,10 @@ use crate::check::check_all;
 use crate::fault::RunFault;
 use crate::gate::Gate;
 use crate::interface::{launch_all, link_all};
+use crate::laid::AllLaid;
 use crate::ready::{Ready, Running};
 use crate::report::InterfaceReport;
 use crate::reporting::report_all;
-use crate::laid::AllLaid;
 use crate::setup::lay_all;
 use crate::task::Interface;
 use savefile::{Sink, Source};
@@ -24,7 +24,13 @@ use std::thread;
 use std::thread::Threads;
 
 /// Starts the threads of all interfaces, and waits until all have ended.
-fn in_threads<'a, S: Source + Send + Drop, W: Sink + Send + Drop, G: Gate + Sync, R: Threads + Wait + Sync>(
+fn in_threads<
+    'a,
+    S: Source + Send + Drop,
+    W: Sink + Send + Drop,
+    G: Gate + Sync,
+    R: Threads + Wait + Sync,
+>(
     rt: &R,
     alloc: Global,
     gate: &G,
@@ -44,16 +50,19 @@ fn in_threads<'a, S: Source + Send + Drop, W: Sink + Send + Drop, G: Gate + Sync
         move |scope| -> Result<Vec<Running<S, W>>, RunFault>
             requires { (length ready.items ≤ 16) × (length running.items ≡ 0) × (length ready.items ≤ vec_capacity running) }
             ensures { IfOk result (λ all. AllZip IsRunningOf ready.entry.items all.items) × IfErr result (λ fault. fault ≡ NoStart) }
-        {
-            launch_all(rt, scope, alloc, gate, begun, ready, running)
-        },
+        { launch_all(rt, scope, alloc, gate, begun, ready, running) },
     )
 }
 
 /// Replays the captures of each interface to its listeners, in threads, and writes what each listener keeps as a savefile: one
 /// thread for each interface, which reads its captures and gives each packet to all its listeners, and two for each listener,
 /// which read its buffers and write its savefile.
-pub fn run<S: Source + Send + Drop, W: Sink + Send + Drop, G: Gate + Sync, R: Threads + Wait + Sync>(
+pub fn run<
+    S: Source + Send + Drop,
+    W: Sink + Send + Drop,
+    G: Gate + Sync,
+    R: Threads + Wait + Sync,
+>(
     rt: &R,
     alloc: Global,
     interfaces: Vec<Interface<S, W>>,

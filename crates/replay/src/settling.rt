@@ -71,11 +71,7 @@ fn report<W: Sink>(written: Written<W>, counts: Counts, end: TaskEnd) -> Listene
 }
 
 /// Settles the two ends, and writes what the writer thread left: the buffers in the ring, the hold and the rest.
-pub(crate) fn settled<W: Sink + Drop>(
-    link: Link,
-    feed: FeedEnd,
-    done: Done<W>,
-) -> ListenerReport<W>
+pub(crate) fn settled<W: Sink + Drop>(link: Link, feed: FeedEnd, done: Done<W>) -> ListenerReport<W>
     requires pair { (feed.pair ≡ link) × (done.read.drain.pair ≡ link) }
     requires profile { feed.profile ≡ profile_of done.task.value.capacity done.task.value.mode }
     requires prompt { All IsPrompt (all_accepted (asks feed.feeds)) }
