@@ -11,17 +11,17 @@ use Rattle.handover.specs.Own.{arrivals}
 use Rattle.handover.specs.declared.calls.Feed.{Feed}
 use Rattle.handover.specs.declared.calls.Feed.TheVariants as call
 use Rattle.handover.specs.declared.calls.Take.{Take}
-use Rattle.replay.specs.Captures.{IsTimely}
 use Rattle.replay.specs.Crews.{crew_line, crew_pair}
 use Rattle.replay.specs.Lines.{EndedLine, Line, ended_all, ended_line, ended_of, fed_all}
-use Rattle.replay.specs.Playing.{asked}
+use Rattle.replay.specs.Playing.{asked, asking_of}
 use Rattle.replay.specs.Replayed.{IsServed}
-use Rattle.replay.specs.Reports.{IsPrompt, IsReported, kept_for}
-use Rattle.replay.specs.Tasks.{asking_of}
+use Rattle.replay.specs.Reports.{IsReported, kept_for}
 use Rattle.replay.specs.declared.crew.Crew.{Crew}
 use Rattle.replay.specs.declared.report.ListenerReport.{ListenerReport}
 use Rattle.replay.specs.declared.report.TaskEnd.TheVariants.{Clean}
 use Rattle.replay.specs.declared.task.Task.{Task}
+use Rattle.replay.specs.Arrived.{IsTimely}
+use Rattle.replay.specs.Writing.{IsPrompt}
 use Rattle.replay.proofs.Asked.{count-asked}
 use Rattle.replay.proofs.Timely.{asked-prompt}
 

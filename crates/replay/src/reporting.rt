@@ -3,11 +3,11 @@
 ghost use Rattle.std.specs.Prelude.{◌≡◌, ◌≤◌, length, map, vec_capacity, List, All};
 ghost use Rattle.std.specs.List.{AllZip};
 ghost use Rattle.listener.specs.Messages.{Arrival};
-ghost use Rattle.replay.specs.Captures.{IsTimely};
 ghost use Rattle.replay.specs.Crews.{crew_line, crew_pair, crew_task};
 ghost use Rattle.replay.specs.Lines.{ended_all, ended_of, fed_all};
 ghost use Rattle.replay.specs.Replayed.{IsServed};
 ghost use Rattle.replay.specs.RunsEnded.{HasItsPairs, IsReportOf};
+ghost use Rattle.replay.specs.Arrived.{IsTimely};
 
 use crate::crew::Crew;
 use crate::playing::Played;

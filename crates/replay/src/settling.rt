@@ -10,8 +10,8 @@ ghost use Rattle.listener.specs.declared.message.Message.{Message};
 ghost use Rattle.savefile.specs.Writer.{sent_by, sink_of};
 ghost use Rattle.replay.specs.Crews.{IsDone};
 ghost use Rattle.replay.specs.Reading.{messages_of};
-ghost use Rattle.replay.specs.Reports.{IsPrompt, IsReported};
-ghost use Rattle.replay.specs.Writing.{Writes};
+ghost use Rattle.replay.specs.Reports.{IsReported};
+ghost use Rattle.replay.specs.Writing.{IsPrompt, Writes};
 ghost use Rattle.replay.specs.declared.writing.Output.{Output};
 
 use crate::crew::Done;

@@ -1,9 +1,10 @@
 use Rattle.std.proofs.Common.{◌≡◌, ◌++◌, ◌+◌, ℕ, [], List, All, Option, Some, None, refl, ap, sym, ◌∙◌, rules, subst, arith, length, length-append}
 use Rattle.std.proofs.lemmas.List.Elements.{All-append}
 use Rattle.listener.specs.Messages.{Arrival}
-use Rattle.replay.specs.Captures.{IsTimely, Plays, numbered}
+use Rattle.replay.specs.Captures.{Plays, numbered}
 use Rattle.replay.specs.Lines.{HasArrived}
 use Rattle.replay.specs.declared.report.InterfaceEnd.{InterfaceEnd}
+use Rattle.replay.specs.Arrived.{IsTimely}
 use Rattle.replay.proofs.Played.{loop-read, loop-unread, plays-all}
 use Rattle.replay.proofs.Timely.{writable-timely}
 use Rattle.replay.proofs.inlet.Player.replay_all.Goals.{in-Some-end, in-None-end}
