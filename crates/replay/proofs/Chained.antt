@@ -1,11 +1,11 @@
 -- Interfaces from what was asked for to what is told of them.
-use Rattle.std.proofs.Common.{◌≡◌, ℕ, List, [], ◌∷◌, length, map, refl, ap, sym, ◌∙◌, subst, Option}
+use Rattle.std.proofs.Common.{ℕ, List, [], ◌∷◌, length, map, ap, ◌∙◌, subst, Option}
 use Rattle.std.specs.List.{AllZip}
 use Rattle.std.specs.declared.alloc.Global.{Global}
 use Rattle.std.specs.declared.vec.Vec.{Vec}
 use Rattle.atomic_table.specs.Seated.{TableId}
 use Rattle.replay.specs.Captures.{Plays}
-use Rattle.replay.specs.Crews.{crew_pair, crew_task, stage_pair, stage_task}
+use Rattle.replay.specs.Crews.{stage_pair, stage_task}
 use Rattle.replay.specs.Replayed.{IsReplayed, IsServed}
 use Rattle.replay.specs.Runs.{IsReadyFor, IsRunningOf}
 use Rattle.replay.specs.RunsEnded.{HasItsPairs, IsReportOf}
@@ -15,7 +15,6 @@ use Rattle.replay.specs.declared.crew.Stage.{Stage}
 use Rattle.replay.specs.declared.ready.Ready.{Ready}
 use Rattle.replay.specs.declared.ready.Running.{Running}
 use Rattle.replay.specs.declared.report.InterfaceReport.{InterfaceReport}
-use Rattle.replay.specs.declared.report.ListenerReport.{ListenerReport}
 use Rattle.replay.specs.declared.task.Interface.{Interface}
 use Rattle.replay.specs.declared.task.Task.{Task}
 

@@ -1,11 +1,11 @@
 -- Captures that are read one behind the other.
-use Rattle.std.proofs.Common.{◌≡◌, ◌≢◌, ◌+◌, ◌-◌, ◌^◌, ℕ, List, [], ◌∷◌, ◌++◌, length, refl, ap, sym, ◌∙◌, arith, subst, unwrap_or, Option, Some, None, inl, inr}
+use Rattle.std.proofs.Common.{◌≡◌, ◌≢◌, ◌+◌, ℕ, List, [], ◌∷◌, ◌++◌, length, refl, ap, sym, ◌∙◌, arith, subst, unwrap_or, Option, Some, None, inl, inr}
 use Rattle.std.proofs.lemmas.List.{append-nil, append_assoc}
 use Rattle.listener.specs.Messages.{Arrival}
 use Rattle.savefile.specs.declared.packet.Packet.{Packet}
 use Rattle.replay.specs.Captures.{EndsSo, Plays, numbered}
 use Rattle.replay.specs.declared.report.InterfaceEnd.{InterfaceEnd}
-use Rattle.replay.specs.declared.report.InterfaceEnd.TheVariants.{Clean, Capture, CountFull}
+use Rattle.replay.specs.declared.report.InterfaceEnd.TheVariants.{Clean}
 
 module _ {S : Type 0} (left : S → Option (List ℕ)) (broken : S → ℕ) where
   -- Some captures were read, and `n` is the number of the next. Where none has ended the playlist, what the rest brings makes it

@@ -1,5 +1,5 @@
 -- A task that was settled, and what it was asked for.
-use Rattle.std.proofs.Common.{◌≡◌, ◌+◌, ℕ, Bool, true, false, List, [], ◌∷◌, ◌++◌, All, length, map, refl, ap, sym, ◌∙◌, arith, subst, Option}
+use Rattle.std.proofs.Common.{◌≡◌, ℕ, Bool, true, false, List, [], ◌∷◌, All, length, map, refl, ap, sym, ◌∙◌, arith, subst, Option}
 use Rattle.atomic_table.specs.Seated.{TableId}
 use Rattle.listener.specs.LookingBack.{all_accepted, count, is_arrival}
 use Rattle.listener.specs.Messages.{Arrival}
@@ -12,13 +12,12 @@ use Rattle.handover.specs.declared.calls.Feed.{Feed}
 use Rattle.handover.specs.declared.calls.Feed.TheVariants as call
 use Rattle.handover.specs.declared.calls.Take.{Take}
 use Rattle.replay.specs.Crews.{crew_line, crew_pair}
-use Rattle.replay.specs.Lines.{EndedLine, Line, ended_all, ended_line, ended_of, fed_all}
+use Rattle.replay.specs.Lines.{EndedLine, ended_all, ended_line, ended_of, fed_all}
 use Rattle.replay.specs.Playing.{asked, asking_of}
 use Rattle.replay.specs.Replayed.{IsServed}
-use Rattle.replay.specs.Reports.{IsReported, kept_for}
+use Rattle.replay.specs.Reports.{IsReported}
 use Rattle.replay.specs.declared.crew.Crew.{Crew}
 use Rattle.replay.specs.declared.report.ListenerReport.{ListenerReport}
-use Rattle.replay.specs.declared.report.TaskEnd.TheVariants.{Clean}
 use Rattle.replay.specs.declared.task.Task.{Task}
 use Rattle.replay.specs.Arrived.{IsTimely}
 use Rattle.replay.specs.Writing.{IsPrompt}

@@ -1,5 +1,5 @@
 -- Messages whose time has less than a second of nanoseconds.
-use Rattle.std.proofs.Common.{◌≡◌, ◌<◌, ℕ, zero, suc, ◌+◌, Bool, true, false, List, [], ◌∷◌, ◌++◌, All, Contains, Option, Some, None, IfSome, length, map, min, refl, ap, ◌∙◌, arith, if◌then◌else◌}
+use Rattle.std.proofs.Common.{◌≡◌, ℕ, suc, ◌+◌, Bool, true, false, List, [], ◌∷◌, ◌++◌, All, Contains, Some, None, map, min, refl, ap, ◌∙◌, arith, if◌then◌else◌}
 use Rattle.std.proofs.lemmas.List.Elements.{All-append, All-cons, All-head, All-nil, All-tail}
 use Rattle.bpfvm.specs.declared.insn.Insn.{Insn}
 use Rattle.listener.specs.LookingBack.{accepted, all_accepted}
@@ -9,7 +9,7 @@ use Rattle.listener.specs.declared.message.Message.{Message}
 use Rattle.savefile.specs.Savefile.{IsWritable, packet}
 use Rattle.savefile.specs.declared.packet.Packet.{Packet}
 use Rattle.replay.specs.Captures.{numbered}
-use Rattle.replay.specs.Playing.{Asking, asked, asked_at, asked_from, is_due}
+use Rattle.replay.specs.Playing.{Asking, asked, asked_from, is_due}
 use Rattle.replay.specs.Reports.{packet_of}
 use Rattle.replay.specs.Writing.{IsPrompt, as_written}
 use Rattle.replay.specs.Arrived.{IsTimely}

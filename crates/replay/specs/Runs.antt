@@ -1,5 +1,5 @@
 -- Interfaces whose threads run.
-use Rattle.std.specs.Prelude.{◌≡◌, List, map}
+use Rattle.std.specs.Prelude.{◌≡◌, map}
 use Rattle.replay.specs.Crews.{crew_pair, crew_task, stage_pair, stage_task}
 use Rattle.replay.specs.declared.ready.Ready.{Ready}
 use Rattle.replay.specs.declared.ready.Running.{Running}

@@ -1,10 +1,6 @@
-use Rattle.std.proofs.Common.{rules, ◌≡◌, ◌≤◌, length, map, IfErr, IfOk, vec_capacity, ℕ, ◌+◌, ◌-◌, ◌*◌, ◌<◌, ◌/◌, ◌%◌, Bool, true, false, nat_eq, nat_lt, List, [], ◌∷◌, ◌++◌, slice_index_or, slice_set, bit_and, bit_or, Fits, w8, w32, w64, Bor, MutBor}
-use Rattle.std.specs.List.{AllZip}
-use Rattle.replay.specs.Crews.{crew_line, crew_pair, crew_task, stage_line, stage_pair, stage_task}
+use Rattle.std.proofs.Common.{map}
+use Rattle.replay.specs.Crews.{stage_line}
 use Rattle.replay.specs.Lines.{entry_line, line_of}
-use Rattle.replay.specs.Runs.{IsReadyFor, IsRunningOf}
-use Rattle.replay.specs.Setups.{HasLinks}
-use Rattle.replay.specs.declared.fault.RunFault.TheVariants.{NoStart}
 use Rattle.replay.proofs.interface.link_one.Goals as goal
 use Rattle.std.proofs.Common.{map, ap, sym, ◌∙◌}
 use Rattle.replay.specs.Crews.{stage_line}

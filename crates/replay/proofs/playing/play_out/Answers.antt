@@ -1,6 +1,6 @@
-use Rattle.std.proofs.Common.{◌≤◌, List, [], map, length, refl, ap, sym, ◌∙◌, subst, arith}
+use Rattle.std.proofs.Common.{[], map, length, refl, ap, ◌∙◌, arith}
 use Rattle.std.proofs.lemmas.List.{length-map}
-use Rattle.replay.specs.Lines.{EndedLine, Line, HasArrived, ended_all, fed_all, line_of}
+use Rattle.replay.specs.Lines.{ended_all, fed_all, line_of}
 use Rattle.replay.proofs.Fresh.{fresh-fed}
 use Rattle.replay.proofs.playing.play_out.Goals as goal
 

@@ -1,7 +1,6 @@
-use Rattle.std.proofs.Common.{◌≡◌, List, All, map, length, refl, ap, sym, ◌∙◌, subst, arith, rules}
+use Rattle.std.proofs.Common.{◌≡◌, map, length, ap, ◌∙◌, subst, rules}
 use Rattle.std.proofs.lemmas.List.{length-map}
-use Rattle.listener.specs.Messages.{Arrival}
-use Rattle.replay.specs.Crews.{crew_pair, crew_task}
+use Rattle.replay.specs.Crews.{crew_task}
 use Rattle.replay.specs.Lines.{EndedLine}
 use Rattle.replay.specs.Replayed.{IsServed}
 use Rattle.replay.specs.Reports.{IsReported}

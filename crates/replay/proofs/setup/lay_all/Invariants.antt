@@ -1,4 +1,4 @@
-use Rattle.std.proofs.Common.{◌≡◌, ◌+◌, ◌≤◌, ◌++◌, All, List, length, vec_capacity}
+use Rattle.std.proofs.Common.{◌≡◌, ◌+◌, ◌≤◌, All, length, vec_capacity}
 use Rattle.std.specs.List.{AllZip}
 use Rattle.replay.specs.Refusals.{IsInBounds}
 use Rattle.replay.specs.Setups.{HasLinks, IsLaidFor}

@@ -1,6 +1,5 @@
-use Rattle.std.proofs.Common.{◌≡◌, ◌++◌, ◌+◌, ℕ, [], List, All, Option, Some, None, refl, ap, sym, ◌∙◌, rules, subst, arith, length, length-append}
+use Rattle.std.proofs.Common.{◌++◌, sym, rules, subst, length}
 use Rattle.std.proofs.lemmas.List.Elements.{All-append}
-use Rattle.listener.specs.Messages.{Arrival}
 use Rattle.replay.specs.Captures.{Plays, numbered}
 use Rattle.replay.specs.Lines.{HasArrived}
 use Rattle.replay.specs.declared.report.InterfaceEnd.{InterfaceEnd}

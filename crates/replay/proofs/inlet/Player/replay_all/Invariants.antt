@@ -1,4 +1,4 @@
-use Rattle.std.proofs.Common.{◌≡◌, ◌+◌, ◌-◌, ◌≤◌, ◌^◌, ℕ, List, [], ◌++◌, All, length, vec_capacity}
+use Rattle.std.proofs.Common.{◌≡◌, ◌+◌, ◌-◌, ◌≤◌, ◌^◌, List, [], All, length, vec_capacity}
 use Rattle.listener.specs.Messages.{Arrival}
 use Rattle.replay.specs.Lines.{Line, HasArrived}
 use Rattle.replay.specs.Arrived.{IsTimely}
