@@ -35,9 +35,10 @@ pub struct ListenerReport<W> {
 pub enum InterfaceEnd {
     /// All captures were read to their end.
     Clean,
-    /// This capture has this fault, behind all packets of the captures before it and those of its own before the fault.
+    /// This capture has this fault, behind all packets of the captures before it and those of its own before the fault; after
+    /// [`Fault::Device`] a beginning of its own.
     Capture(u32, Fault),
-    /// 2^64 - 2 packets arrived, and more would come.
+    /// 2^64 - 2 packets arrived, the most that are counted.
     CountFull,
 }
 

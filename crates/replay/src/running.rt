@@ -58,7 +58,8 @@ fn in_threads<
 ///
 /// One thread for each interface reads its captures in order, gives each packet to all its listeners, and flushes those that are
 /// due. Two threads for each listener read its buffers and write its savefile. All have ended when the call returns. It answers
-/// a report for each interface, in order, with the sources, and in it one for each listener, in order, with the sinks.
+/// a report for each interface, in order, with the sources, and in it one for each listener, in order, with the sinks. The
+/// sources that were not read come back as they were.
 ///
 /// What is promised, whatever the order of the threads. *Of an interface*: the packets that arrive are those of its captures, one
 /// capture behind the other, each with its capture's number and its place there, from 0; the first capture with a fault ends
@@ -67,7 +68,7 @@ fn in_threads<
 /// list, whose counts are the report's. Its sink took exactly `sent` bytes. Where it ends [`Clean`](crate::TaskEnd::Clean), all
 /// packets were received, and the sink took the text of all that looking back keeps of that history; after
 /// [`Write`](crate::TaskEnd::Write) it took a beginning of that text, and the sink failed or the text would have 2^64 bytes.
-/// Which packets find no room depends on the threads; each that matched is written or dropped.
+/// Which packets find no room depends on the threads; where the end is Clean, each that matched is written or dropped.
 ///
 /// Before anything is read, written or made the numbers are tested, and the first fault is answered: [`RunFault::TooMany`], then
 /// by interface and task [`RunFault::Open`]. [`RunFault::NoStart`] comes only where none stands: memory or a thread was refused,
