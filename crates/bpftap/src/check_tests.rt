@@ -7,7 +7,9 @@ use std::fs::Files;
 use std::io;
 use std::io::{Cursor, ErrorKind, Write};
 use std::process::Abort;
+use std::sync::Wait;
 use std::test::Fail;
+use std::thread::Threads;
 
 /// What `check` says of a refused expression: standard error and the status. Standard output has nothing.
 fn refused(rt: &(impl Abort + AllocGlobal), expr: &str, line: &str) {
@@ -148,7 +150,13 @@ struct Printed {
     status: u8,
 }
 
-fn printed_by(rt: &(impl Abort + Files + AllocGlobal), words: &[&str]) -> Printed {
+fn printed_by<R: Abort + Files + AllocGlobal + Threads + Wait + Sync>(
+    rt: &R,
+    words: &[&str],
+) -> Printed
+where
+    R::File: Send,
+{
     let mut out: Vec<u8> = Vec::new(rt.alloc());
     let mut err: Vec<u8> = Vec::new(rt.alloc());
     let status = run(rt, words, &mut out, &mut err);

@@ -6,17 +6,22 @@ use std::fs::Files;
 use std::os::unix::fs::symlink;
 use std::process::Abort;
 use std::rt::Env;
+use std::sync::Wait;
 use std::test::Fail;
+use std::thread::Threads;
 use std::{env, fs, process};
 
 /// Runs a command, and checks its status and all that it prints.
-fn command(
-    rt: &(impl Abort + Files + AllocGlobal),
+fn command<R: Abort + Files + AllocGlobal + Threads + Wait + Sync>(
+    rt: &R,
     words: &[&str],
     out: &str,
     err: &str,
     status: u8,
-) {
+)
+where
+    R::File: Send,
+{
     let mut told_out: Vec<u8> = Vec::new(rt.alloc());
     let mut told_err: Vec<u8> = Vec::new(rt.alloc());
     let told = run(rt, words, &mut told_out, &mut told_err);
@@ -36,7 +41,15 @@ fn enter_scratch<R: Files + Env + AllocGlobal>(rt: &R, id: u32) -> Result<String
 }
 
 /// `bpftap cut -s 0 -f LISTING IN OUT`: the line on standard error, and the status.
-fn cuts(rt: &(impl Abort + Files + AllocGlobal), paths: [&str; 3], err: &str, status: u8) {
+fn cuts<R: Abort + Files + AllocGlobal + Threads + Wait + Sync>(
+    rt: &R,
+    paths: [&str; 3],
+    err: &str,
+    status: u8,
+)
+where
+    R::File: Send,
+{
     let [listing, input, output] = paths;
     let words = ["bpftap", "cut", "-s", "0", "-f", listing, input, output];
     command(rt, &words, "", err, status);
