@@ -2,6 +2,7 @@
 
 use crate::check::check;
 use crate::program::run;
+use crate::run_files::ReplaysFiles;
 use crate::tell::{REFUSED, tell_device, tell_fault, tell_words};
 use std::fs::Files;
 use std::io;
@@ -150,13 +151,10 @@ struct Printed {
     status: u8,
 }
 
-fn printed_by<R: Abort + Files + AllocGlobal + Threads + Wait + Sync>(
+fn printed_by<R: Abort + Files + AllocGlobal + ReplaysFiles + Threads + Wait + Sync>(
     rt: &R,
     words: &[&str],
-) -> Printed
-where
-    R::File: Send,
-{
+) -> Printed {
     let mut out: Vec<u8> = Vec::new(rt.alloc());
     let mut err: Vec<u8> = Vec::new(rt.alloc());
     let status = run(rt, words, &mut out, &mut err);

@@ -1,6 +1,7 @@
 //! The command line and the files of a command: what is opened in which order, what is kept, and what is printed.
 
 use crate::program::run;
+use crate::run_files::ReplaysFiles;
 use crate::tests::{ALL, ARP_RECORD, BreakingWriter, ETHERTYPE, HEADER, IP_RECORD, concat};
 use std::fs::Files;
 use std::os::unix::fs::symlink;
@@ -12,16 +13,13 @@ use std::thread::Threads;
 use std::{env, fs, process};
 
 /// Runs a command, and checks its status and all that it prints.
-fn command<R: Abort + Files + AllocGlobal + Threads + Wait + Sync>(
+fn command<R: Abort + Files + AllocGlobal + ReplaysFiles + Threads + Wait + Sync>(
     rt: &R,
     words: &[&str],
     out: &str,
     err: &str,
     status: u8,
-)
-where
-    R::File: Send,
-{
+) {
     let mut told_out: Vec<u8> = Vec::new(rt.alloc());
     let mut told_err: Vec<u8> = Vec::new(rt.alloc());
     let told = run(rt, words, &mut told_out, &mut told_err);
@@ -41,15 +39,12 @@ fn enter_scratch<R: Files + Env + AllocGlobal>(rt: &R, id: u32) -> Result<String
 }
 
 /// `bpftap cut -s 0 -f LISTING IN OUT`: the line on standard error, and the status.
-fn cuts<R: Abort + Files + AllocGlobal + Threads + Wait + Sync>(
+fn cuts<R: Abort + Files + AllocGlobal + ReplaysFiles + Threads + Wait + Sync>(
     rt: &R,
     paths: [&str; 3],
     err: &str,
     status: u8,
-)
-where
-    R::File: Send,
-{
+) {
     let [listing, input, output] = paths;
     let words = ["bpftap", "cut", "-s", "0", "-f", listing, input, output];
     command(rt, &words, "", err, status);

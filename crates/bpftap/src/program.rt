@@ -5,7 +5,7 @@ use crate::command_line::{CutWords, Request, read_words};
 use crate::cut::{CutEnd, End, cut};
 use crate::files::{LateFile, hold_stream, is_same_file};
 use crate::filter::filter;
-use crate::run_files::run_files;
+use crate::run_files::ReplaysFiles;
 use crate::steps_files::steps_files;
 use crate::tell::{Path, REFUSED, tell, tell_device, tell_fault};
 use bpfvm::Program;
@@ -23,15 +23,12 @@ const OUTPUT_BUFFER: usize = 1 << 18;
 
 /// Runs the command that the words ask for, the program's name first. What was asked for goes to `out`, faults go to
 /// `err`, and the exit status comes back.
-pub fn run<R: Files + AllocGlobal + Threads + Wait + Sync, S: AsStr, O: Write, E: Write>(
-    rt: &R,
-    words: &[S],
-    out: &mut O,
-    err: &mut E,
-) -> u8
-where
-    R::File: Send,
-{
+pub fn run<
+    R: Files + AllocGlobal + ReplaysFiles + Threads + Wait + Sync,
+    S: AsStr,
+    O: Write,
+    E: Write,
+>(rt: &R, words: &[S], out: &mut O, err: &mut E) -> u8 {
     let _input = hold_stream(rt);
     let _output = hold_stream(rt);
     let _error = hold_stream(rt);
@@ -42,7 +39,7 @@ where
             Ok(status) => status,
             Err(status) => status,
         },
-        Ok(Request::Run(words)) => match run_files(rt, &words, out, err) {
+        Ok(Request::Run(words)) => match rt.run_files(rt, rt.alloc(), &words, out, err) {
             Ok(status) => status,
             Err(status) => status,
         },

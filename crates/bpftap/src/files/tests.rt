@@ -3,7 +3,10 @@
 
 use super::{FileId, LateFile, file_at};
 use crate::program::run;
-use std::alloc::Allocator;
+use crate::run_files::ReplaysFiles;
+use crate::run_words::RunWords;
+use crate::tell::REFUSED;
+use std::alloc::{Allocator, Global};
 use std::fs::{Files, Metadata, OpenFile, OpenOptions};
 use std::io::{ErrorKind, Read, Seek, SeekFrom, Write};
 use std::os::unix::fs::MetadataExt;
@@ -90,6 +93,20 @@ struct System<'a, T> {
 impl<T: Threads> Threads for System<'_, T> {}
 
 impl<T: Wait> Wait for System<'_, T> {}
+
+/// Its captures are not replayed.
+impl<T> ReplaysFiles for (System<'_, T>, Global) {
+    fn run_files<H: Threads + Wait + Sync, O: Write, E: Write>(
+        &self,
+        _rt: &H,
+        _alloc: Global,
+        _words: &RunWords<'_>,
+        _out: &mut O,
+        _err: &mut E,
+    ) -> Result<u8, u8> {
+        Err(REFUSED)
+    }
+}
 
 /// A file of it, whose descriptor is free again when it is let go.
 struct Numbered<'a> {
