@@ -13,7 +13,7 @@ use std::thread::Threads;
 use std::{env, fs, process};
 
 /// Runs a command, and checks its status and all that it prints.
-fn command<R: Abort + Files + AllocGlobal + ReplaysFiles + Threads + Wait + Sync>(
+pub(crate) fn command<R: Abort + Files + AllocGlobal + ReplaysFiles + Threads + Wait + Sync>(
     rt: &R,
     words: &[&str],
     out: &str,
@@ -29,7 +29,7 @@ fn command<R: Abort + Files + AllocGlobal + ReplaysFiles + Threads + Wait + Sync
 }
 
 /// Makes a folder of this process's own and goes into it. Its path.
-fn enter_scratch<R: Files + Env + AllocGlobal>(rt: &R, id: u32) -> Result<String, Fail> {
+pub(crate) fn enter_scratch<R: Files + Env + AllocGlobal>(rt: &R, id: u32) -> Result<String, Fail> {
     let scratch = format!(in rt.alloc(); "/tmp/bpftap-tests-{id}")?;
     // A folder of the same name is left where a process of the same number was stopped.
     let _ = fs::remove_dir_all(rt, scratch.as_str());

@@ -24,6 +24,8 @@ pub mod run;
 #[cfg(test)]
 mod run_device_tests;
 mod run_files;
+#[cfg(test)]
+mod run_files_tests;
 mod run_lines;
 mod run_reports;
 #[cfg(test)]

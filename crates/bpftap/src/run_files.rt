@@ -149,22 +149,22 @@ fn replay_files<'a, T: Threads + Wait + Sync>(
 /// another thread is shown of a type that is known, and not of one that its trait names.
 pub trait ReplaysFiles {
     /// Reads LISTENERS, looks at its lines and compiles its expressions, and replays the captures.
-    fn run_files<T: Threads + Wait + Sync, O: Write, E: Write>(
-        &self,
+    fn run_files<'a, T: Threads + Wait + Sync, O: Write, E: Write>(
+        &'a self,
         rt: &T,
         alloc: Global,
-        words: &RunWords<'_>,
+        words: &RunWords<'a>,
         out: &mut O,
         err: &mut E,
     ) -> Result<u8, u8>;
 }
 
 impl ReplaysFiles for HostRuntime {
-    fn run_files<T: Threads + Wait + Sync, O: Write, E: Write>(
-        &self,
+    fn run_files<'a, T: Threads + Wait + Sync, O: Write, E: Write>(
+        &'a self,
         rt: &T,
         alloc: Global,
-        words: &RunWords<'_>,
+        words: &RunWords<'a>,
         out: &mut O,
         err: &mut E,
     ) -> Result<u8, u8> {
