@@ -145,6 +145,29 @@ fn replay_files<'a, T: Threads + Wait + Sync>(
     replay_plan(rt, alloc, plan, captures, sinks)
 }
 
+/// Looks at the lines of LISTENERS, compiles its expressions, and replays the captures.
+fn run_listed<'a, T: Threads + Wait + Sync, O: Write, E: Write>(
+    rt: &T,
+    files: &'a HostRuntime,
+    alloc: Global,
+    words: &'a RunWords<'a>,
+    listeners: &'a [u8],
+    out: &mut O,
+    err: &mut E,
+) -> Result<u8, u8> {
+    let plan = accepted(files, alloc, words, listeners, err)?;
+    let Ok(mut out) = BufWriter::with_capacity(alloc, OUTPUT_BUFFER, &mut *out) else {
+        return Err(tell_fault(Fault::NoMemory, REFUSED, err));
+    };
+    match replay_files(rt, files, alloc, words, plan) {
+        Ok(mut reports) => {
+            flush_all(reports.as_mut_slice());
+            Ok(tell_run(reports.as_slice(), &mut out, err))
+        }
+        Err(fault) => Err(tell_fault(fault, REFUSED, err)),
+    }
+}
+
 /// Files that are replayed in threads. A type parameter will not do for them: that what such a file does may be done by
 /// another thread is shown of a type that is known, and not of one that its trait names.
 pub trait ReplaysFiles {
@@ -153,7 +176,7 @@ pub trait ReplaysFiles {
         &'a self,
         rt: &T,
         alloc: Global,
-        words: &RunWords<'a>,
+        words: &'a RunWords<'a>,
         out: &mut O,
         err: &mut E,
     ) -> Result<u8, u8>;
@@ -164,21 +187,11 @@ impl ReplaysFiles for HostRuntime {
         &'a self,
         rt: &T,
         alloc: Global,
-        words: &RunWords<'a>,
+        words: &'a RunWords<'a>,
         out: &mut O,
         err: &mut E,
     ) -> Result<u8, u8> {
         let listeners = read_file(self, words.listeners, err)?;
-        let plan = accepted(self, alloc, words, listeners.as_slice(), err)?;
-        let Ok(mut out) = BufWriter::with_capacity(alloc, OUTPUT_BUFFER, &mut *out) else {
-            return Err(tell_fault(Fault::NoMemory, REFUSED, err));
-        };
-        match replay_files(rt, self, alloc, words, plan) {
-            Ok(mut reports) => {
-                flush_all(reports.as_mut_slice());
-                Ok(tell_run(reports.as_slice(), &mut out, err))
-            }
-            Err(fault) => Err(tell_fault(fault, REFUSED, err)),
-        }
+        run_listed(rt, self, alloc, words, listeners.as_slice(), out, err)
     }
 }

@@ -1,7 +1,8 @@
 //! What `bpftap run` prints of each listener, what it tells of each interface, and its exit status.
 
-ghost use Rattle.std.specs.Prelude.{◌≡◌, ◌≤◌};
+ghost use Rattle.std.specs.Prelude.{◌≡◌};
 ghost use Rattle.bpftap.specs.Telling.{interface_status, task_status};
+ghost use Rattle.bpftap.specs.Replaying.{IsStatusOf, listeners_status, report_status, run_status};
 
 use crate::tell::{DEVICE, REFUSED, fault_status, tell_fault, tell_written};
 use replay::{InterfaceEnd, InterfaceReport, ListenerReport, TaskEnd};
@@ -47,7 +48,7 @@ fn write_reports<R, W, O: Write>(reports: &[InterfaceReport<R, W>], out: &mut O)
 }
 
 /// The status of how a listener's capture ended.
-fn status_of(end: TaskEnd) -> u8
+fn task_status(end: TaskEnd) -> u8
     ensures { result ≡ task_status end }
 {
     match end {
@@ -57,32 +58,55 @@ fn status_of(end: TaskEnd) -> u8
     }
 }
 
-/// Tells how the captures of the i-th interface ended, where that was not clean, and answers the exit status.
-fn tell_end<E: Write>(i: usize, end: InterfaceEnd, err: &mut E) -> u8
+/// The status of how an interface's captures ended.
+fn interface_status(end: InterfaceEnd) -> u8
     ensures { result ≡ interface_status end }
 {
     match end {
         InterfaceEnd::Clean => 0,
-        InterfaceEnd::Capture(n, fault) => tell_fault(
-            format_args!("Interface {i} Capture {n} {fault}"),
-            fault_status(fault),
-            err,
-        ),
-        InterfaceEnd::CountFull => {
-            tell_fault(format_args!("Interface {i} CountFull"), REFUSED, err)
-        }
+        InterfaceEnd::Capture(_, fault) => fault_status(fault),
+        InterfaceEnd::CountFull => REFUSED,
     }
 }
 
-/// The greatest status of so many listeners' ends.
+/// The greatest status of these listeners.
 fn listeners_status<W>(reports: &[ListenerReport<W>]) -> u8
-    ensures { result ≤ 3 }
+    ensures { result ≡ listeners_status reports.now }
 {
-    let mut status = 0;
-    for report in reports {
-        status = status.max(status_of(report.end));
+    let statuses = reports.iter().map(|report| task_status(report.end));
+    statuses.max().unwrap_or(0)
+}
+
+/// The greatest status of an interface and its listeners.
+fn report_status<R, W>(report: &InterfaceReport<R, W>) -> u8
+    ensures { result ≡ report_status report.now }
+{
+    interface_status(report.end).max(listeners_status(report.listeners.as_slice()))
+}
+
+/// The greatest status of all interfaces.
+fn run_status<R, W>(reports: &[InterfaceReport<R, W>]) -> u8
+    ensures { result ≡ run_status reports.now }
+{
+    reports.iter().map(report_status).max().unwrap_or(0)
+}
+
+/// Tells how the captures of the i-th interface ended, where that was not clean.
+fn tell_end<E: Write>(i: usize, end: InterfaceEnd, err: &mut E) {
+    let status = interface_status(end);
+    match end {
+        InterfaceEnd::Clean => {}
+        InterfaceEnd::Capture(n, fault) => {
+            tell_fault(
+                format_args!("Interface {i} Capture {n} {fault}"),
+                status,
+                err,
+            );
+        }
+        InterfaceEnd::CountFull => {
+            tell_fault(format_args!("Interface {i} CountFull"), status, err);
+        }
     }
-    status
 }
 
 /// Prints a line for each listener, tells each interface that did not end clean, and answers the exit status: the greatest
@@ -92,13 +116,11 @@ pub fn tell_run<R, W, O: Write, E: Write>(
     out: &mut O,
     err: &mut E,
 ) -> u8
-    ensures { result ≤ 3 }
+    ensures { IsStatusOf (run_status reports.now) result }
 {
-    let mut status = tell_written(write_reports(reports, out), err);
+    let written = tell_written(write_reports(reports, out), err);
     for (i, report) in reports.iter().enumerate() {
-        status = status
-            .max(tell_end(i, report.end, err))
-            .max(listeners_status(report.listeners.as_slice()));
+        tell_end(i, report.end, err);
     }
-    status
+    written.max(run_status(reports))
 }

@@ -84,6 +84,7 @@ pub fn tell_device<E: Write>(path: &str, err: &mut E) -> u8
 pub fn tell_written<E: Write>(written: io::Result<()>, err: &mut E) -> u8
     ensures clean { OnOk written (result ≡ 0) }
     ensures failed { OnErr written ((result ≡ REFUSED) ⊎ (result ≡ DEVICE)) }
+    ensures status { (result ≡ 0) ⊎ (result ≡ REFUSED) ⊎ (result ≡ DEVICE) }
     ensures bound { result ≤ 3 }
 {
     match written {

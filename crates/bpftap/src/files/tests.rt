@@ -100,7 +100,7 @@ impl<T> ReplaysFiles for (System<'_, T>, Global) {
         &'a self,
         _rt: &H,
         _alloc: Global,
-        _words: &RunWords<'a>,
+        _words: &'a RunWords<'a>,
         _out: &mut O,
         _err: &mut E,
     ) -> Result<u8, u8> {
