@@ -50,7 +50,7 @@ flushes-none true = refl
 flushes-none false = refl
 
 -- one arrival is asked for each packet
-count-asked : (t : Asking) (n : ℕ) (ps : List Arrival) → count is_arrival (asked_from t n ps) ≡ length ps
+pub count-asked : (t : Asking) (n : ℕ) (ps : List Arrival) → count is_arrival (asked_from t n ps) ≡ length ps
 count-asked t n [] = refl
 count-asked t n (p ∷ ps) =
     let e = count-append (asked_at t n p) (asked_from t (n + 1) ps) in

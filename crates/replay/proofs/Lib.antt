@@ -1,8 +1,13 @@
 mod Asked
 mod Batches
+mod Beside
 mod Captured
+mod Chained
+mod Fresh
 mod Lists
 mod Played
+mod Refused
+mod Served
 mod Settles
 mod Timely
 mod Writes

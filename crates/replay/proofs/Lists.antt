@@ -1,5 +1,5 @@
 -- Lists that a loop takes from, and lists that it makes of them.
-use Rattle.std.proofs.Common.{◌≡◌, ◌<◌, ◌≤◌, ◌+◌, ℕ, zero, suc, List, [], ◌∷◌, ◌++◌, drop, get_or, length, map, refl, ap, sym, ◌∙◌, arith, subst, All}
+use Rattle.std.proofs.Common.{◌≡◌, ◌<◌, ◌≤◌, ◌+◌, ℕ, zero, suc, List, [], ◌∷◌, ◌++◌, drop, get_or, length, take, map, refl, ap, sym, ◌∙◌, arith, subst, All}
 use Rattle.std.proofs.lemmas.List.{append-nil, append_assoc}
 use Rattle.std.specs.List.{AllZip}
 
@@ -57,6 +57,48 @@ pub completes-more : {X Y : Type 0} (R : X → Y → Type 0) (all : List X) (mad
     → Completes R all (made ++ y ∷ []) rest
 completes-more R all made x rest y c r = λ more z. subst (λ ys. AllZip R all ys) (sym (append_assoc made (y ∷ []) more)) (c (y ∷ more) (r, z))
 
+-- the same, with the lists as a loop has them
+pub completes-next : {X Y : Type 0} (R : X → Y → Type 0) (all : List X) (made made' : List Y) (x : X) (rest rest' : List X) (y : Y) → Completes R all made rest
+    → rest ≡ x ∷ rest' → made' ≡ made ++ y ∷ [] → R x y → Completes R all made' rest'
+completes-next R all made made' x rest rest' y c taken given r =
+    subst (λ ys. Completes R all ys rest') (sym given) (completes-more R all made x rest' y (subst (λ xs. Completes R all made xs) taken c) r)
+
 pub completed : {X Y : Type 0} (R : X → Y → Type 0) (all : List X) (made : List Y) (rest : List X) → Completes R all made rest → length rest ≡ 0 → AllZip R all made
-completed R all made [] c none = subst (λ ys. AllZip R all ys) (append-nil made) (c [] unit)
+completed R all made [] c none = subst (λ ys. AllZip R all ys) (append-nil made) (c [] tt)
 completed R all made (x ∷ rest) c none = absurd (omega (arith, none))
+
+-- all items are those before an index that is none of theirs
+take-whole : {X : Type 0} (xs : List X) (i : ℕ) → length xs ≤ i → take i xs ≡ xs
+take-whole [] zero past = refl
+take-whole [] (suc i) past = refl
+take-whole (x ∷ xs) zero past = absurd (omega (arith, past))
+take-whole (x ∷ xs) (suc i) past = ap (λ ys. x ∷ ys) (take-whole xs i (omega (arith, past)))
+
+pub all-taken : {X : Type 0} (P : X → Type 0) (xs : List X) (i : ℕ) → length xs ≤ i → All P (take i xs) → All P xs
+all-taken P xs i past h = subst (λ ys. All P ys) (take-whole xs i past) h
+
+-- two lists related item by item, of which the first items are taken
+pub zip-taken : {X Y : Type 0} (R : X → Y → Type 0) (xs : List X) (x : X) (xs' : List X) (ys : List Y) (y : Y) (ys' : List Y) → AllZip R xs ys → xs ≡ x ∷ xs' → ys ≡ y ∷ ys'
+    → R x y × AllZip R xs' ys'
+zip-taken R xs x xs' ys y ys' z e f = subst (λ as'. AllZip R as' (y ∷ ys')) e (subst (λ bs. AllZip R xs bs) f z)
+
+-- the same, of the items from an index on
+pub zip-dropped : {X Y : Type 0} (R : X → Y → Type 0) (xs : List X) (k : ℕ) (ys : List Y) (y : Y) (ys' : List Y) → AllZip R (drop k xs) ys → ys ≡ y ∷ ys'
+    → (k < length xs) × ((d : X) → R (get_or xs k d) y) × AllZip R (drop (suc k) xs) ys'
+zip-dropped R [] zero [] y ys' z e = absurd cc
+zip-dropped R [] (suc k) [] y ys' z e = absurd cc
+zip-dropped R [] zero (y'' ∷ ys) y ys' z e = absurd z
+zip-dropped R [] (suc k) (y'' ∷ ys) y ys' z e = absurd z
+zip-dropped R (x ∷ xs) zero ys y ys' z e = let t = subst (λ bs. AllZip R (x ∷ xs) bs) e z in (omega arith, (λ d. t.0), t.1)
+zip-dropped R (x ∷ xs) (suc k) ys y ys' z e = let t = zip-dropped R xs k ys y ys' z e in ((let l = t.0 in omega (arith, l)), t.1, t.2)
+
+-- two lists related item by item, each one item longer
+zip-longer : {X Y : Type 0} (R : X → Y → Type 0) (xs : List X) (ys : List Y) (x : X) (y : Y) → AllZip R xs ys → R x y → AllZip R (xs ++ x ∷ []) (ys ++ y ∷ [])
+zip-longer R [] [] x y z r = (r, tt)
+zip-longer R [] (y' ∷ ys) x y z r = absurd z
+zip-longer R (x' ∷ xs) [] x y z r = absurd z
+zip-longer R (x' ∷ xs) (y' ∷ ys) x y z r = (z.0, zip-longer R xs ys x y z.1 r)
+
+pub zip-pushed : {X Y : Type 0} (R : X → Y → Type 0) (xs xs' : List X) (ys ys' : List Y) (x : X) (y : Y) → AllZip R xs ys → xs' ≡ xs ++ x ∷ [] → ys' ≡ ys ++ y ∷ [] → R x y
+    → AllZip R xs' ys'
+zip-pushed R xs xs' ys ys' x y z e f r = subst (λ as'. AllZip R as' ys') (sym e) (subst (λ bs. AllZip R (xs ++ x ∷ []) bs) (sym f) (zip-longer R xs ys x y z r))

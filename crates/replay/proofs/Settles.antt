@@ -14,9 +14,9 @@ use Rattle.handover.specs.Settling.{IsWhole}
 use Rattle.handover.specs.declared.calls.Feed.{Feed}
 use Rattle.handover.specs.declared.calls.Take.{Take}
 use Rattle.replay.specs.Reading.{messages_of}
-use Rattle.replay.specs.Reports.{IsReported, kept_for, packet_of}
+use Rattle.replay.specs.Reports.{IsFull, IsReported, kept_for, packet_of}
 use Rattle.replay.specs.Tasks.{output_of}
-use Rattle.replay.specs.Writing.{IsFull, Writes, as_written}
+use Rattle.replay.specs.Writing.{Writes, as_written}
 use Rattle.replay.specs.declared.report.ListenerReport.{ListenerReport}
 use Rattle.replay.specs.declared.report.TaskEnd.TheVariants.{Clean, Write, Unfinished}
 use Rattle.replay.specs.declared.task.Task.{Task}

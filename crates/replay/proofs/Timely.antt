@@ -8,10 +8,11 @@ use Rattle.listener.specs.PlainList.{Request, Arrive, Flush}
 use Rattle.listener.specs.declared.message.Message.{Message}
 use Rattle.savefile.specs.Savefile.{IsWritable, packet}
 use Rattle.savefile.specs.declared.packet.Packet.{Packet}
-use Rattle.replay.specs.Captures.{IsTimely, numbered}
+use Rattle.replay.specs.Captures.{numbered}
 use Rattle.replay.specs.Playing.{Asking, asked, asked_at, asked_from, is_due}
-use Rattle.replay.specs.Reports.{IsPrompt, packet_of}
-use Rattle.replay.specs.Writing.{as_written}
+use Rattle.replay.specs.Reports.{packet_of}
+use Rattle.replay.specs.Writing.{IsPrompt, as_written}
+use Rattle.replay.specs.Arrived.{IsTimely}
 
 -- such a message is written as it is
 as-it-is : (m : Message) → IsPrompt m → as_written m ≡ packet_of m

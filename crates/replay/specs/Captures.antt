@@ -1,14 +1,11 @@
--- What a capture gave to the listeners of an interface, and how it ended.
-use Rattle.std.specs.Prelude.{◌≡◌, ◌≢◌, ◌<◌, ℕ, ◌+◌, ◌-◌, ◌^◌, ◌⊎◌, List, [], ◌∷◌, ◌++◌, All, Option, Some, None}
+-- What captures give to the listeners of an interface, and how they end.
+use Rattle.std.specs.Prelude.{◌≡◌, ◌≢◌, ℕ, ◌+◌, ◌-◌, ◌^◌, ◌⊎◌, List, [], ◌∷◌, ◌++◌, Option, Some, None}
 use Rattle.listener.specs.Messages.{Arrival, arrival}
 use Rattle.savefile.specs.Reader.{WasBegun, WasRead, WasRefused}
-use Rattle.savefile.specs.Savefile.{IsWritable}
 use Rattle.savefile.specs.declared.fault.Fault.{Fault}
 use Rattle.savefile.specs.declared.fault.Fault.TheVariants as fault
 use Rattle.savefile.specs.declared.header.Header.{Header}
 use Rattle.savefile.specs.declared.packet.Packet.{Packet}
-use Rattle.replay.specs.Lines.{Line, HasArrived}
-use Rattle.replay.specs.declared.inlet.Player.{Player}
 use Rattle.replay.specs.declared.report.InterfaceEnd.{InterfaceEnd}
 use Rattle.replay.specs.declared.report.InterfaceEnd.TheVariants.{Clean, Capture, CountFull}
 
@@ -34,13 +31,6 @@ EndsSo start broke capture arrived packets (Some (Capture n why)) =
     (n ≡ capture) × (why ≢ fault.Failed) × (why ≢ fault.CountFull) × IsStopped start broke packets why
 EndsSo start broke capture arrived packets (Some CountFull) = (arrived ≡ 2 ^ 64 - 2) × (header : Header) × WasBegun start header packets
 
--- Packets of a capture arrived at the listeners, each writable, numbered from 0; and that is how it ended.
-pub record HasPlayed (start : Option (List ℕ)) (broke : Type 0) (capture : ℕ) (old new : Player) (end : Option InterfaceEnd) : Type 0 where
-  pub packets : List Packet
-  pub writable : All IsWritable packets
-  pub arrive : (starts : List Line) (playlist : List Arrival) → HasArrived starts playlist old → HasArrived starts (playlist ++ numbered capture 0 packets) new
-  pub ends : EndsSo start broke capture new.arrived packets end
-
 -- A list of captures was read, of which the first has this number: so the playlist arrived, of `total` packets in all, and so it
 -- ended. Each capture was read whole, or it ended the playlist, and no capture behind it was read.
 abbrev pub Plays : {R : Type 0} → (R → Option (List ℕ)) → (R → ℕ) → ℕ → ℕ → List R → List R → List Arrival → InterfaceEnd → Type 0
@@ -50,8 +40,4 @@ Plays left failures total capture (s ∷ ss) [] playlist end = ⊥
 Plays left failures total capture (s ∷ ss) (t ∷ ts) playlist end =
     (packets : List Packet) × (more : List Arrival) × (playlist ≡ numbered capture 0 packets ++ more)
     × ((EndsSo (left s) (failures t ≢ failures s) capture total packets None × Plays left failures total (capture + 1) ss ts more end)
-        ⊎ (EndsSo (left s) (failures t ≢ failures s) capture total packets (Some end) × (more ≡ []) × (ts ≡ ss)))
-
--- its time has less than a second of nanoseconds
-abbrev pub IsTimely : Arrival → Type 0
-IsTimely a = a.packet.nanos < 1000000000
+    ⊎ (EndsSo (left s) (failures t ≢ failures s) capture total packets (Some end) × (more ≡ []) × (ts ≡ ss)))

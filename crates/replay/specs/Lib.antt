@@ -1,3 +1,4 @@
+pub mod Arrived
 pub mod Captures
 pub mod Crews
 pub mod Lines

@@ -1,9 +1,10 @@
 -- What a replaying thread did.
 use Rattle.std.specs.Prelude.{◌≡◌, ℕ, List, length, map, All, Option}
 use Rattle.listener.specs.Messages.{Arrival}
-use Rattle.replay.specs.Captures.{Plays, IsTimely}
+use Rattle.replay.specs.Captures.{Plays}
 use Rattle.replay.specs.Lines.{Line, ended_all, ended_of, fed_all}
 use Rattle.replay.specs.declared.playing.Played.{Played}
+use Rattle.replay.specs.Arrived.{IsTimely}
 
 -- The packets of the captures arrived at the feeders, and these have ended.
 pub record HasPlayedOut {R : Type 0} (left : R → Option (List ℕ)) (failures : R → ℕ) (starts : List Line) (captures : List R) (r : Played R) : Type 0 where

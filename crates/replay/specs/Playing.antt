@@ -3,12 +3,17 @@ use Rattle.std.specs.Prelude.{ℕ, ◌+◌, ◌%◌, Bool, List, [], ◌∷◌, 
 use Rattle.listener.specs.Messages.{Arrival, kept_by}
 use Rattle.listener.specs.PlainList.{Request, Arrive, Flush}
 use Rattle.bpfvm.specs.declared.insn.Insn.{Insn}
+use Rattle.replay.specs.declared.task.Task.{Task}
 
 -- What a listener is asked by: its filter, the snapshot length, and after how many arrivals it is flushed.
 pub record Asking : Type 0 where
   pub program : List Insn
   pub snap : ℕ
   pub flush_every : ℕ
+
+-- what a task's listener is asked by
+abbrev pub asking_of : {W : Type 0} → Task W → Asking
+asking_of t = record { program = t.program; snap = t.snap; flush_every = t.flush_every }
 
 -- a flush is due after arrival n where `every` is not 0 and divides n + 1
 abbrev pub is_due : ℕ → ℕ → Bool

@@ -6,9 +6,8 @@ use Rattle.handover.specs.Asks.{asks}
 use Rattle.handover.specs.declared.calls.Feed.{Feed}
 use Rattle.handover.specs.declared.calls.Take.{Take}
 use Rattle.replay.specs.Captures.{Plays}
-use Rattle.replay.specs.Playing.{asked}
+use Rattle.replay.specs.Playing.{asked, asking_of}
 use Rattle.replay.specs.Reports.{IsReported}
-use Rattle.replay.specs.Tasks.{asking_of}
 use Rattle.replay.specs.declared.report.InterfaceReport.{InterfaceReport}
 use Rattle.replay.specs.declared.report.ListenerReport.{ListenerReport}
 use Rattle.replay.specs.declared.report.TaskEnd.TheVariants.{Clean}

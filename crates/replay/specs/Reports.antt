@@ -1,5 +1,5 @@
 -- What is told of a task, of its feeder's and its drain's lists of calls.
-use Rattle.std.specs.Prelude.{◌≡◌, ◌≢◌, ◌<◌, ℕ, ◌+◌, ◌⊎◌, false, List, length, map, Option}
+use Rattle.std.specs.Prelude.{◌≡◌, ◌≢◌, ℕ, ◌+◌, ◌^◌, ◌≤◌, ◌⊎◌, false, List, ◌++◌, length, map, Option, Contains}
 use Rattle.std.specs.Io.KnownBytes.{Appends}
 use Rattle.listener.specs.declared.message.Message.{Message}
 use Rattle.savefile.specs.Savefile.{packet, encoded}
@@ -11,7 +11,6 @@ use Rattle.handover.specs.Rule.{last, profile_of, terms_of}
 use Rattle.handover.specs.Settling.{kept_of_both}
 use Rattle.handover.specs.declared.calls.Feed.{Feed}
 use Rattle.handover.specs.declared.calls.Take.{Take}
-use Rattle.replay.specs.Writing.{Begins, IsFull}
 use Rattle.replay.specs.declared.report.ListenerReport.{ListenerReport}
 use Rattle.replay.specs.declared.report.TaskEnd.TheVariants.{Clean, Write}
 use Rattle.replay.specs.declared.task.Task.{Task}
@@ -24,13 +23,17 @@ kept_for task feeds takes = kept_of_both (profile_of task.capacity task.mode) fe
 abbrev pub packet_of : Message → Packet
 packet_of m = packet m.sec m.nanos m.len m.bytes
 
--- its time has less than a second of nanoseconds
-abbrev pub IsPrompt : Message → Type 0
-IsPrompt m = m.nanos < 1000000000
-
 -- the text of what it kept
 abbrev pub text_for : {W : Type 0} → Task W → List Feed → List Take → List ℕ
 text_for task feeds takes = encoded task.order task.unit task.snap (map packet_of (kept_for task feeds takes))
+
+-- a list is the beginning of another
+abbrev pub Begins : {A : Type 0} → List A → List A → Type 0
+Begins {A} part whole = (more : List A) × (whole ≡ part ++ more)
+
+-- the record of one of the messages would take a savefile past 2^64 - 1 bytes
+abbrev pub IsFull : ℕ → List Message → Type 0
+IsFull sent messages = (m : Message) × Contains messages m × (2 ^ 64 ≤ sent + 16 + length m.bytes)
 
 -- The two lists make a legal history, and the counts are its counts. The sink took exactly `sent` bytes: where the end is Clean,
 -- the text of all that was kept; after Write a beginning of it, and the sink failed or the text became too long.

@@ -3,17 +3,13 @@ use Rattle.std.specs.Prelude.{[]}
 use Rattle.atomic_table.specs.Seated.{TableId}
 use Rattle.handover.specs.Rule.{profile_of}
 use Rattle.replay.specs.Lines.{Line}
-use Rattle.replay.specs.Playing.{Asking}
+use Rattle.replay.specs.Playing.{asking_of}
 use Rattle.replay.specs.declared.task.Task.{Task}
 use Rattle.replay.specs.declared.writing.Output.{Output}
 
 -- the savefile that its packets are written to
 abbrev pub output_of : {W : Type 0} → Task W → Output W
 output_of t = record { sink = t.sink; order = t.order; unit = t.unit; snap = t.snap }
-
--- what its listener is asked by
-abbrev pub asking_of : {W : Type 0} → Task W → Asking
-asking_of t = record { program = t.program; snap = t.snap; flush_every = t.flush_every }
 
 -- the feeder of a pair that was made for a task, of which nothing was asked yet
 abbrev pub line_for : {W : Type 0} → TableId → Task W → Line

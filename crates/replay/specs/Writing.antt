@@ -1,9 +1,10 @@
 -- What a thread has written of the messages that it was handed.
-use Rattle.std.specs.Prelude.{◌≡◌, ◌≢◌, ℕ, ◌+◌, ◌^◌, ◌≤◌, ◌⊎◌, true, false, List, ◌++◌, length, map, min, Option, Contains}
+use Rattle.std.specs.Prelude.{◌≡◌, ◌≢◌, ◌<◌, ℕ, ◌⊎◌, true, false, List, length, map, min, Option}
 use Rattle.listener.specs.declared.message.Message.{Message}
 use Rattle.savefile.specs.declared.packet.Packet.{Packet}
 use Rattle.savefile.specs.Savefile.{packet, encoded}
 use Rattle.savefile.specs.Writer.{HasWritten, IsBeginning, Sent, sent_by, sink_of}
+use Rattle.replay.specs.Reports.{Begins, IsFull}
 use Rattle.replay.specs.declared.writing.Output.{Output}
 use Rattle.replay.specs.declared.writing.Written.{Written}
 
@@ -11,13 +12,9 @@ use Rattle.replay.specs.declared.writing.Written.{Written}
 abbrev pub as_written : Message → Packet
 as_written m = packet m.sec (min m.nanos 999999999) m.len m.bytes
 
--- a list is the beginning of another
-abbrev pub Begins : {A : Type 0} → List A → List A → Type 0
-Begins {A} part whole = (more : List A) × (whole ≡ part ++ more)
-
--- the record of one of the messages would take a savefile past 2^64 - 1 bytes
-abbrev pub IsFull : ℕ → List Message → Type 0
-IsFull sent messages = (m : Message) × Contains messages m × (2 ^ 64 ≤ sent + 16 + length m.bytes)
+-- its time has less than a second of nanoseconds
+abbrev pub IsPrompt : Message → Type 0
+IsPrompt m = m.nanos < 1000000000
 
 -- The messages were written: all while no fault came; else a beginning, behind which the sink failed or the text became too long.
 pub record Writes {W : Type 0} (taken : W → Option (List ℕ)) (failures : W → ℕ) (o : Output W) (messages : List Message) (w : Written W) : Type 0 where

@@ -4,8 +4,8 @@ ghost use Rattle.std.specs.Prelude.{◌≡◌, ◌≢◌, ℕ, ◌-◌, ◌≤�
 ghost use Rattle.listener.specs.Messages.{Arrival};
 ghost use Rattle.savefile.specs.declared.header.Header.{Header};
 ghost use Rattle.savefile.specs.Reader.{HasGiven, source_of};
-ghost use Rattle.replay.specs.Captures.{HasPlayed};
 ghost use Rattle.replay.specs.Lines.{Line, HasArrived};
+ghost use Rattle.replay.specs.Arrived.{HasPlayed};
 
 use crate::gate::Gate;
 use crate::inlet::Player;

@@ -172,7 +172,9 @@ fn launch<
     };
     let Ok(player) = scope.spawn_with(
         plays,
-        move || play_out(rt, started, alloc, gate, interface, inlets, captures, ends, sources),
+        move || play_out(
+            rt, started, alloc, gate, interface, inlets, captures, ends, sources,
+        ),
     ) else {
         return Err(RunFault::NoStart);
     };

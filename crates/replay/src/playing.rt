@@ -3,8 +3,9 @@
 ghost use Rattle.std.specs.Prelude.{◌≡◌, ◌≤◌, ◌-◌, ◌^◌, All, List, [], map, length, vec_capacity};
 ghost use Rattle.listener.specs.Messages.{Arrival};
 ghost use Rattle.replay.specs.Lines.{HasArrived, IsFresh, Line, entry_line, ended_all, ended_of, line_of};
-ghost use Rattle.replay.specs.Captures.{IsTimely, Plays};
+ghost use Rattle.replay.specs.Captures.{Plays};
 ghost use Rattle.replay.specs.PlayedOut.{HasPlayedOut};
+ghost use Rattle.replay.specs.Arrived.{IsTimely};
 
 use crate::gate::Gate;
 use crate::inlet::{Entry, Inlet, Player};

@@ -1,8 +1,8 @@
 //! Interfaces whose threads can be started, and those that run.
 
-ghost use Rattle.std.specs.Prelude.{◌≡◌, ◌≤◌, length, map, vec_capacity};
+ghost use Rattle.std.specs.Prelude.{◌≡◌, ◌≤◌, All, length, map, vec_capacity};
 ghost use Rattle.replay.specs.Crews.{crew_line, stage_line, stage_pair};
-ghost use Rattle.replay.specs.Lines.{entry_line, line_of};
+ghost use Rattle.replay.specs.Lines.{IsFresh, entry_line, line_of};
 ghost use Rattle.replay.specs.Rooms.{HasRoom};
 
 use crate::crew::{Crew, Stage};
@@ -27,6 +27,8 @@ pub(crate) struct Ready<'a, R, W: Sink + Drop> {
     ghost pairs: { map stage_pair stages.items ≡ links.now },
     ghost entered: { map line_of inlets.items ≡ map entry_line entries.value.items },
     ghost lines: { map entry_line entries.value.items ≡ map stage_line stages.items },
+    ghost fresh: { All IsFresh (map line_of inlets.items) },
+    ghost many: { length inlets.items ≡ length stages.items },
     ghost few: { (length captures.items ≤ 65536) × (length stages.items ≤ 64) },
     ghost enough: { HasRoom (length captures.items) (length stages.items) room },
 }

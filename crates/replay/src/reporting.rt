@@ -3,15 +3,15 @@
 ghost use Rattle.std.specs.Prelude.{◌≡◌, ◌≤◌, length, map, vec_capacity, List, All};
 ghost use Rattle.std.specs.List.{AllZip};
 ghost use Rattle.listener.specs.Messages.{Arrival};
-ghost use Rattle.replay.specs.Captures.{IsTimely};
 ghost use Rattle.replay.specs.Crews.{crew_line, crew_pair, crew_task};
 ghost use Rattle.replay.specs.Lines.{ended_all, ended_of, fed_all};
 ghost use Rattle.replay.specs.Replayed.{IsServed};
 ghost use Rattle.replay.specs.RunsEnded.{HasItsPairs, IsReportOf};
+ghost use Rattle.replay.specs.Arrived.{IsTimely};
 
 use crate::crew::Crew;
-use crate::ready::Running;
 use crate::playing::Played;
+use crate::ready::Running;
 use crate::report::{InterfaceReport, ListenerReport};
 use crate::settling::settled;
 use crate::threads::finish;
@@ -36,7 +36,10 @@ fn report_tasks<W: Sink + Drop, R: Threads>(
     let mut links = links.into_iter();
     let mut ends = ends.into_iter();
     for crew in crews {
-        let (Some(link), Some(feed)) = (links.next(), ends.next()) else {
+        let Some(link) = links.next() else {
+            unreachable!()
+        };
+        let Some(feed) = ends.next() else {
             unreachable!()
         };
         let done = finish(rt, crew);

@@ -11,10 +11,10 @@ use crate::check::check_all;
 use crate::fault::RunFault;
 use crate::gate::Gate;
 use crate::interface::{launch_all, link_all};
+use crate::laid::AllLaid;
 use crate::ready::{Ready, Running};
 use crate::report::InterfaceReport;
 use crate::reporting::report_all;
-use crate::laid::AllLaid;
 use crate::setup::lay_all;
 use crate::task::Interface;
 use savefile::{Sink, Source};
@@ -24,7 +24,13 @@ use std::thread;
 use std::thread::Threads;
 
 /// Starts the threads of all interfaces, and waits until all have ended.
-fn in_threads<'a, S: Source + Send + Drop, W: Sink + Send + Drop, G: Gate + Sync, R: Threads + Wait + Sync>(
+fn in_threads<
+    'a,
+    S: Source + Send + Drop,
+    W: Sink + Send + Drop,
+    G: Gate + Sync,
+    R: Threads + Wait + Sync,
+>(
     rt: &R,
     alloc: Global,
     gate: &G,
@@ -44,16 +50,35 @@ fn in_threads<'a, S: Source + Send + Drop, W: Sink + Send + Drop, G: Gate + Sync
         move |scope| -> Result<Vec<Running<S, W>>, RunFault>
             requires { (length ready.items ≤ 16) × (length running.items ≡ 0) × (length ready.items ≤ vec_capacity running) }
             ensures { IfOk result (λ all. AllZip IsRunningOf ready.entry.items all.items) × IfErr result (λ fault. fault ≡ NoStart) }
-        {
-            launch_all(rt, scope, alloc, gate, begun, ready, running)
-        },
+        { launch_all(rt, scope, alloc, gate, begun, ready, running) },
     )
 }
 
-/// Replays the captures of each interface to its listeners, in threads, and writes what each listener keeps as a savefile: one
-/// thread for each interface, which reads its captures and gives each packet to all its listeners, and two for each listener,
-/// which read its buffers and write its savefile.
-pub fn run<S: Source + Send + Drop, W: Sink + Send + Drop, G: Gate + Sync, R: Threads + Wait + Sync>(
+/// Replays the captures of each interface to its listeners, in threads, and writes what each listener keeps as a savefile.
+///
+/// One thread for each interface reads its captures in order, gives each packet to all its listeners, and flushes those that are
+/// due. Two threads for each listener read its buffers and write its savefile. All have ended when the call returns. It answers
+/// a report for each interface, in order, with the sources, and in it one for each listener, in order, with the sinks.
+///
+/// What is promised, whatever the order of the threads. *Of an interface*: the packets that arrive are those of its captures, one
+/// capture behind the other, each with its capture's number and its place there, from 0; the first capture with a fault ends
+/// them, behind its packets before the fault, and the end names it. *Of a listener*: its feeder was asked for each of these
+/// packets and for the flushes that are due, and that with the reads of its other thread makes one legal history of the tap's
+/// list, whose counts are the report's. Its sink took exactly `sent` bytes. Where it ends [`Clean`](crate::TaskEnd::Clean), all
+/// packets were received, and the sink took the text of all that looking back keeps of that history; after
+/// [`Write`](crate::TaskEnd::Write) it took a beginning of that text, and the sink failed or the text would have 2^64 bytes.
+/// Which packets find no room depends on the threads; each that matched is written or dropped.
+///
+/// Before anything is read, written or made the numbers are tested, and the first fault is answered: [`RunFault::TooMany`], then
+/// by interface and task [`RunFault::Open`]. [`RunFault::NoStart`] comes only where none stands: memory or a thread was refused,
+/// and what the sinks hold is not said then. What the call grows it grows before the threads' work, but for the half mebibyte
+/// with which each capture is read; where that is refused it is the capture's fault.
+pub fn run<
+    S: Source + Send + Drop,
+    W: Sink + Send + Drop,
+    G: Gate + Sync,
+    R: Threads + Wait + Sync,
+>(
     rt: &R,
     alloc: Global,
     interfaces: Vec<Interface<S, W>>,

@@ -10,8 +10,8 @@ ghost use Rattle.listener.specs.declared.message.Message.{Message};
 ghost use Rattle.savefile.specs.Writer.{sent_by, sink_of};
 ghost use Rattle.replay.specs.Crews.{IsDone};
 ghost use Rattle.replay.specs.Reading.{messages_of};
-ghost use Rattle.replay.specs.Reports.{IsPrompt, IsReported};
-ghost use Rattle.replay.specs.Writing.{Writes};
+ghost use Rattle.replay.specs.Reports.{IsReported};
+ghost use Rattle.replay.specs.Writing.{IsPrompt, Writes};
 ghost use Rattle.replay.specs.declared.writing.Output.{Output};
 
 use crate::crew::Done;
@@ -71,11 +71,7 @@ fn report<W: Sink>(written: Written<W>, counts: Counts, end: TaskEnd) -> Listene
 }
 
 /// Settles the two ends, and writes what the writer thread left: the buffers in the ring, the hold and the rest.
-pub(crate) fn settled<W: Sink + Drop>(
-    link: Link,
-    feed: FeedEnd,
-    done: Done<W>,
-) -> ListenerReport<W>
+pub(crate) fn settled<W: Sink + Drop>(link: Link, feed: FeedEnd, done: Done<W>) -> ListenerReport<W>
     requires pair { (feed.pair ≡ link) × (done.read.drain.pair ≡ link) }
     requires profile { feed.profile ≡ profile_of done.task.value.capacity done.task.value.mode }
     requires prompt { All IsPrompt (all_accepted (asks feed.feeds)) }

@@ -1,9 +1,9 @@
 use Rattle.std.proofs.Common.{◌≡◌, ◌+◌, ◌≤◌, All, List, length, map, vec_capacity}
 use Rattle.listener.specs.Messages.{Arrival}
-use Rattle.replay.specs.Captures.{IsTimely}
 use Rattle.replay.specs.Crews.{crew_line, crew_pair, crew_task}
 use Rattle.replay.specs.Lines.{ended_all, ended_of, fed_all}
 use Rattle.replay.specs.Replayed.{IsServed}
+use Rattle.replay.specs.Arrived.{IsTimely}
 use Rattle.replay.proofs.Lists.{Completes}
 use Rattle.replay.proofs.reporting.report_tasks.Given as goal
 

@@ -5,9 +5,9 @@ use Rattle.handover.specs.History.{LegalHistory, batches_of, merge}
 use Rattle.handover.specs.Rule.{terms_of}
 use Rattle.handover.specs.Settling.{IsWhole}
 use Rattle.replay.specs.Reading.{messages_of}
-use Rattle.replay.specs.Reports.{IsPrompt, kept_for}
+use Rattle.replay.specs.Reports.{kept_for}
 use Rattle.replay.specs.Tasks.{output_of}
-use Rattle.replay.specs.Writing.{Writes}
+use Rattle.replay.specs.Writing.{IsPrompt, Writes}
 use Rattle.replay.proofs.Settles.{chain, unfinished, finished}
 use Rattle.replay.proofs.Timely.{all-of-contained, as-they-are}
 use Rattle.std.proofs.lemmas.List.Elements.{All-contains}

@@ -2,8 +2,8 @@ use Rattle.std.proofs.Common.{◌≢◌, ℕ, List, [], sym, refl, subst}
 use Rattle.std.proofs.lemmas.List.{append-nil}
 use Rattle.listener.specs.Messages.{Arrival}
 use Rattle.savefile.specs.Reader.{header_told, source_of}
-use Rattle.replay.specs.Captures.{HasPlayed}
 use Rattle.replay.specs.Lines.{HasArrived}
+use Rattle.replay.specs.Arrived.{HasPlayed}
 use Rattle.replay.proofs.Captured.{none-writable, not-opened}
 use Rattle.replay.proofs.inlet.Player.replay.Goals as goal
 

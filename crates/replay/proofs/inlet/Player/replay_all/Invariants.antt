@@ -1,7 +1,7 @@
 use Rattle.std.proofs.Common.{◌≡◌, ◌+◌, ◌-◌, ◌≤◌, ◌^◌, ℕ, List, [], ◌++◌, All, length, vec_capacity}
 use Rattle.listener.specs.Messages.{Arrival}
-use Rattle.replay.specs.Captures.{IsTimely}
 use Rattle.replay.specs.Lines.{Line, HasArrived}
+use Rattle.replay.specs.Arrived.{IsTimely}
 use Rattle.replay.proofs.Played.{PlaysSoFar}
 use Rattle.replay.proofs.inlet.Player.replay_all.Given as goal
 

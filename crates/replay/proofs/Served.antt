@@ -1,0 +1,78 @@
+-- A task that was settled, and what it was asked for.
+use Rattle.std.proofs.Common.{◌≡◌, ◌+◌, ℕ, Bool, true, false, List, [], ◌∷◌, ◌++◌, All, length, map, refl, ap, sym, ◌∙◌, arith, subst, Option}
+use Rattle.atomic_table.specs.Seated.{TableId}
+use Rattle.listener.specs.LookingBack.{all_accepted, count, is_arrival}
+use Rattle.listener.specs.Messages.{Arrival}
+use Rattle.listener.specs.declared.answer.Fed.TheVariants.{Passed, Stored, Held, Rotated, Dropped, Closed}
+use Rattle.handover.specs.Asks.{asks}
+use Rattle.handover.specs.Ends.{FeedingEnded}
+use Rattle.handover.specs.History.{by_kind, finds, kind}
+use Rattle.handover.specs.Own.{arrivals}
+use Rattle.handover.specs.declared.calls.Feed.{Feed}
+use Rattle.handover.specs.declared.calls.Feed.TheVariants as call
+use Rattle.handover.specs.declared.calls.Take.{Take}
+use Rattle.replay.specs.Crews.{crew_line, crew_pair}
+use Rattle.replay.specs.Lines.{EndedLine, Line, ended_all, ended_line, ended_of, fed_all}
+use Rattle.replay.specs.Playing.{asked, asking_of}
+use Rattle.replay.specs.Replayed.{IsServed}
+use Rattle.replay.specs.Reports.{IsReported, kept_for}
+use Rattle.replay.specs.declared.crew.Crew.{Crew}
+use Rattle.replay.specs.declared.report.ListenerReport.{ListenerReport}
+use Rattle.replay.specs.declared.report.TaskEnd.TheVariants.{Clean}
+use Rattle.replay.specs.declared.task.Task.{Task}
+use Rattle.replay.specs.Arrived.{IsTimely}
+use Rattle.replay.specs.Writing.{IsPrompt}
+use Rattle.replay.proofs.Asked.{count-asked}
+use Rattle.replay.proofs.Timely.{asked-prompt}
+
+flush-by : (full : Bool) (b : Bool) → by_kind (kind (call.Flush full)) b b true ≡ false → b ≡ false
+flush-by true b e = e
+flush-by false b e = e
+
+-- where no call found the pair closed, each arrival that was asked for was received
+all-arrived : (fs : List Feed) → finds fs ≡ false → arrivals fs ≡ count is_arrival (asks fs)
+all-arrived [] open' = refl
+all-arrived (call.Arrive m Passed ∷ fs) open' = let r = all-arrived fs open' in omega (arith, r)
+all-arrived (call.Arrive m Stored ∷ fs) open' = let r = all-arrived fs open' in omega (arith, r)
+all-arrived (call.Arrive m Held ∷ fs) open' = let r = all-arrived fs open' in omega (arith, r)
+all-arrived (call.Arrive m Rotated ∷ fs) open' = let r = all-arrived fs open' in omega (arith, r)
+all-arrived (call.Arrive m Dropped ∷ fs) open' = let r = all-arrived fs open' in omega (arith, r)
+all-arrived (call.Arrive m Closed ∷ fs) open' = absurd cc
+all-arrived (call.Flush full ∷ fs) open' = let still : finds fs ≡ false = flush-by full (finds fs) open' in let r = all-arrived fs still in omega (arith, r)
+all-arrived (call.FlushClosed ∷ fs) open' = absurd cc
+
+-- a task that was settled was served with the playlist that its feeder was asked for
+pub served : {W : Type 0} (taken : W → Option (List ℕ)) (failures : W → ℕ) (playlist : List Arrival) (task : Task W) (feeds : List Feed) (takes : List Take)
+    (r : ListenerReport W) → asks feeds ≡ asked (asking_of task) playlist → IsReported taken failures task feeds takes r → IsServed taken failures playlist task r
+served taken failures playlist task feeds takes r fed reported = record {
+  feeds = feeds;
+  takes = takes;
+  asked_for = fed;
+  reported = reported;
+  whole = λ clean.
+      let all = reported.clean clean in let got = all-arrived feeds all.0 in let many = ap (count is_arrival) fed in
+      let one = count-asked (asking_of task) 0 playlist in let so = reported.all_received.0 in
+      let kept = ap length all.1 in let written = reported.all_written in let balance = reported.balance in
+      (omega (arith, got, many, one, so), omega (arith, kept, written, balance));
+}
+
+-- the ended feeders, of which the first is taken, and the tasks that they are of
+pub next-ended : {W : Type 0} (playlist : List Arrival) (ends : List FeedingEnded) (feed : FeedingEnded) (ends' : List FeedingEnded) (crews : List (Crew W)) (crew : Crew W)
+    (crews' : List (Crew W)) → map ended_of ends ≡ ended_all (map (fed_all playlist) (map crew_line crews)) → ends ≡ feed ∷ ends' → crews ≡ crew ∷ crews'
+    → (ended_of feed ≡ ended_line (fed_all playlist (crew_line crew))) × (map ended_of ends' ≡ ended_all (map (fed_all playlist) (map crew_line crews')))
+next-ended {W} playlist ends feed ends' crews crew crews' same e f =
+    let there : map ended_of (feed ∷ ends') ≡ ended_all (map (fed_all playlist) (map crew_line (crew ∷ crews'))) =
+    sym (ap (λ (es : List FeedingEnded). map ended_of es) e) ∙ same ∙ ap (λ (cs : List (Crew W)). ended_all (map (fed_all playlist) (map crew_line cs))) f in
+    (cc, cc)
+
+-- what a feeder's messages are, by what it was asked for
+pub ended-prompt : {W : Type 0} (playlist : List Arrival) (feed : FeedingEnded) (crew : Crew W) → All IsTimely playlist
+    → ended_of feed ≡ ended_line (fed_all playlist (crew_line crew)) → All IsPrompt (all_accepted (asks feed.feeds))
+ended-prompt playlist feed crew timely e =
+    subst (λ rs. All IsPrompt (all_accepted rs)) (sym (ap (λ (l : EndedLine). l.asks) e)) (asked-prompt (asking_of crew.task.value) playlist timely)
+
+-- the links of pairs, of which the first is taken, and the tasks that they are of
+pub next-paired : {W : Type 0} (crews crews' : List (Crew W)) (crew : Crew W) (links links' : List TableId) (link : TableId)
+    → map crew_pair crews ≡ links → crews ≡ crew ∷ crews' → links ≡ link ∷ links' → map crew_pair crews' ≡ links'
+next-paired {W} crews crews' crew links links' link same e f =
+    let there : map crew_pair (crew ∷ crews') ≡ link ∷ links' = sym (ap (λ (cs : List (Crew W)). map crew_pair cs) e) ∙ same ∙ f in cc

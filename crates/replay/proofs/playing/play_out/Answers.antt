@@ -1,0 +1,28 @@
+use Rattle.std.proofs.Common.{◌≤◌, List, [], map, length, refl, ap, sym, ◌∙◌, subst, arith}
+use Rattle.std.proofs.lemmas.List.{length-map}
+use Rattle.replay.specs.Lines.{EndedLine, Line, HasArrived, ended_all, fed_all, line_of}
+use Rattle.replay.proofs.Fresh.{fresh-fed}
+use Rattle.replay.proofs.playing.play_out.Goals as goal
+
+pub replay_all-sources-requires-clause-so_far : goal.replay_all-sources-requires-clause-so_far
+replay_all-sources-requires-clause-so_far g c = (map line_of c.args.inlets.items, [], (refl, fresh-fed (map line_of c.args.inlets.items) c.requires.fresh))
+
+pub end_all-ends-requires : goal.end_all-ends-requires
+end_all-ends-requires g c =
+    let starts = map line_of c.args.inlets.items in
+    let (playlist, timely, arrived, plays) = c.replay_all-sources.ensures starts (refl, fresh-fed starts c.requires.fresh) in
+    let same = ap length arrived.1 in
+    let a = length-map c.replay_all-sources.new.self.inlets.items line_of in
+    let b = length-map starts (fed_all playlist) in
+    let d = length-map c.args.inlets.items line_of in
+    let room = c.requires.room.1 in record { room = (c.requires.room.0, omega (arith, same, a, b, d, room)) }
+
+pub returns : goal.returns
+returns g c =
+    let starts = map line_of c.args.inlets.items in
+    let (playlist, timely, arrived, plays) = c.replay_all-sources.ensures starts (refl, fresh-fed starts c.requires.fresh) in record {
+      playlist = playlist;
+      timely = timely;
+      plays = plays;
+      ends = c.end_all-ends.ensures ∙ ap ended_all arrived.1;
+    }

@@ -1,0 +1,45 @@
+use Rattle.std.proofs.Common.{◌≡◌, List, All, map, length, refl, ap, sym, ◌∙◌, subst, arith, rules}
+use Rattle.std.proofs.lemmas.List.{length-map}
+use Rattle.listener.specs.Messages.{Arrival}
+use Rattle.replay.specs.Crews.{crew_pair, crew_task}
+use Rattle.replay.specs.Lines.{EndedLine}
+use Rattle.replay.specs.Replayed.{IsServed}
+use Rattle.replay.specs.Reports.{IsReported}
+use Rattle.replay.specs.declared.task.Task.{Task}
+use Rattle.replay.proofs.Lists.{completed, completes-next}
+use Rattle.replay.proofs.Served.{ended-prompt, next-ended, next-paired, served}
+use Rattle.replay.proofs.reporting.report_tasks.Goals as goal
+
+pub settled-requires-clause-prompt : goal.settled-requires-clause-prompt
+settled-requires-clause-prompt g c =
+    let (playlist, timely, fed) = c.loop-crew.invariant.3 in
+    let n = next-ended playlist _ c.in-Some-next-2.feed _ _ c.in-Some.crew _ fed c.in-Some-next-2.ensures.items c.in-Some.ensures.steps.0 in
+    ended-prompt playlist c.in-Some-next-2.feed c.in-Some.crew timely n.0
+
+pub loop-crew-preserved : goal.loop-crew-preserved
+loop-crew-preserved g c =
+    let (playlist, timely, fed) = c.loop-crew.invariant.3 in
+    let n = next-ended playlist _ c.in-Some-next-2.feed _ _ c.in-Some.crew _ fed c.in-Some-next-2.ensures.items c.in-Some.ensures.steps.0 in (
+      search rules,
+      search rules,
+      next-paired _ _ c.in-Some.crew _ _ c.in-Some-next.link c.loop-crew.invariant.2 c.in-Some.ensures.steps.0 c.in-Some-next.ensures.items,
+      (playlist, timely, n.1),
+      (λ playlist timely all.
+          let (here, so_far) = c.loop-crew.invariant.4 playlist timely all in
+          let n = next-ended playlist _ c.in-Some-next-2.feed _ _ c.in-Some.crew _ here c.in-Some-next-2.ensures.items c.in-Some.ensures.steps.0 in (
+            n.1,
+            completes-next (IsServed g.W.Sink.taken g.W.Sink.failures playlist) _ _ _ (crew_task c.in-Some.crew) _ _ _ so_far
+                (ap (λ cs. map crew_task cs) c.in-Some.ensures.steps.0) c.push_reserved.ensures.items
+                (served g.W.Sink.taken g.W.Sink.failures playlist (crew_task c.in-Some.crew) c.in-Some-next-2.feed.feeds c.finish-done.result.read.drain.takes c.settled.result
+                (ap (λ (l : EndedLine). l.asks) n.0)
+                (subst (λ (t : Task _). IsReported g.W.Sink.taken g.W.Sink.failures t c.in-Some-next-2.feed.feeds c.finish-done.result.read.drain.takes c.settled.result)
+                c.finish-done.ensures.task c.settled.ensures)),
+          )),
+      search rules,
+      search rules,
+    )
+
+pub returns : goal.returns
+returns g c = λ playlist timely all.
+    completed (IsServed g.W.Sink.taken g.W.Sink.failures playlist) _ _ _ (c.loop-crew.invariant.4 playlist timely all).1
+    (length-map c.loop-crew.crew-iterator.rest.items crew_task ∙ (let none : length c.loop-crew.crew-iterator.rest.items ≡ 0 = search rules in none))

@@ -1,0 +1,24 @@
+use Rattle.std.proofs.Common.{rules}
+use Rattle.std.proofs.lemmas.List.Elements.{All-rest}
+use Rattle.replay.specs.Refusals.{IsInBounds}
+use Rattle.replay.specs.Setups.{HasLinks, IsLaidFor}
+use Rattle.replay.proofs.Lists.{completed, completes-next, zip-pushed}
+use Rattle.replay.proofs.setup.lay_all.Goals as goal
+
+pub loop-interface-preserved : goal.loop-interface-preserved
+loop-interface-preserved g c = (
+  search rules,
+  search rules,
+  All-rest IsInBounds c.in-Some.interface _ _ c.in-Some.ensures.steps.0 c.loop-interface.invariant.2,
+  zip-pushed HasLinks _ _ _ _ c.in_ok-its_links.its_links c.in_ok-its_links.its_own c.loop-interface.invariant.3 c.push_reserved.ensures.items
+      c.push_reserved-in-loop-interface.ensures.items c.in_ok-its_links.ensures.links,
+  completes-next IsLaidFor _ _ _ c.in-Some.interface _ _ _ c.loop-interface.invariant.4 c.in-Some.ensures.steps.0 c.push_reserved-in-loop-interface.ensures.items
+      c.in_ok-its_links.ensures.laid,
+  search rules,
+  search rules,
+  search rules,
+  search rules,
+)
+
+pub returns-clause-laid : goal.returns-clause-laid
+returns-clause-laid g c = completed IsLaidFor _ _ _ c.loop-interface.invariant.4 (search rules)
