@@ -22,17 +22,17 @@ pub fn hold_stream<R: Files>(rt: &R) -> Option<R::File> {
 /// A file that is made at its first write, so that what stood there stays where nothing is written. Once a call has
 /// failed every later one fails too and touches nothing, so that nothing is written behind a fault that was told.
 #[derive(Drop)]
-pub struct LateFile<'a, R: Files> {
-    rt: &'a R,
-    path: &'a str,
+pub struct LateFile<'r, 'p, R: Files> {
+    rt: &'r R,
+    path: &'p str,
     file: Option<R::File>,
     failed: bool,
     /// How many bytes it took, modulo 2^64.
     taken: u64,
 }
 
-impl<'a, R: Files> LateFile<'a, R> {
-    pub fn new(rt: &'a R, path: &'a str) -> Self {
+impl<'r, 'p, R: Files> LateFile<'r, 'p, R> {
+    pub fn new(rt: &'r R, path: &'p str) -> Self {
         LateFile {
             rt,
             path,
@@ -60,7 +60,7 @@ impl<'a, R: Files> LateFile<'a, R> {
     }
 }
 
-impl<R: Files> Write for LateFile<'_, R> {
+impl<R: Files> Write for LateFile<'_, '_, R> {
     fn write(&mut self, bytes: &[u8]) -> io::Result<usize> {
         if self.failed {
             return Err(io::Error::from(ErrorKind::Other));
@@ -86,9 +86,9 @@ impl<R: Files> Write for LateFile<'_, R> {
 
 /// A file that is opened at its first read, and closed at its end. Once a call has failed every later one fails too.
 #[derive(Drop)]
-pub struct LateInput<'a, R: Files> {
-    rt: &'a R,
-    path: &'a str,
+pub struct LateInput<'r, 'p, R: Files> {
+    rt: &'r R,
+    path: &'p str,
     state: Input<R::File>,
 }
 
@@ -101,8 +101,8 @@ enum Input<F> {
     Failed,
 }
 
-impl<'a, R: Files> LateInput<'a, R> {
-    pub fn new(rt: &'a R, path: &'a str) -> Self {
+impl<'r, 'p, R: Files> LateInput<'r, 'p, R> {
+    pub fn new(rt: &'r R, path: &'p str) -> Self {
         LateInput {
             rt,
             path,
@@ -124,7 +124,7 @@ impl<'a, R: Files> LateInput<'a, R> {
     }
 }
 
-impl<R: Files> Read for LateInput<'_, R> {
+impl<R: Files> Read for LateInput<'_, '_, R> {
     fn read(&mut self, to: &mut [u8]) -> io::Result<usize> {
         let read = self.read_opened(to);
         match &read {

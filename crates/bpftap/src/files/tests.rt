@@ -96,11 +96,11 @@ impl<T: Wait> Wait for System<'_, T> {}
 
 /// Its captures are not replayed.
 impl<T> ReplaysFiles for (System<'_, T>, Global) {
-    fn run_files<'a, H: Threads + Wait + Sync, O: Write, E: Write>(
-        &'a self,
+    fn run_files<H: Threads + Wait + Sync, O: Write, E: Write>(
+        &self,
         _rt: &H,
         _alloc: Global,
-        _words: &'a RunWords<'a>,
+        _words: &RunWords<'_>,
         _out: &mut O,
         _err: &mut E,
     ) -> Result<u8, u8> {
