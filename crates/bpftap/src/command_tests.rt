@@ -269,8 +269,10 @@ fn help_that_cannot_be_printed_is_told(rt: HostRuntime) {
 }
 
 /// Words that are no command.
-const WRONG_WORDS: [&[&str]; 12] = [
+const WRONG_WORDS: [&[&str]; 14] = [
     &["bpftap"],
+    &["bpftap", "run"],
+    &["bpftap", "run", "listeners.txt"],
     &["bpftap", "dump"],
     &["bpftap", "cut"],
     &["bpftap", "cut", "-s", "0", "in.pcap"],
@@ -304,12 +306,16 @@ const WRONG_WORDS: [&[&str]; 12] = [
 ];
 
 /// Words that ask for help or the version, and a part of it.
-const HELP: [(&[&str], &str); 5] = [
+const HELP: [(&[&str], &str); 6] = [
     (&["bpftap", "--version"], "proved with rattle-kit-13b logic"),
     (&["bpftap", "-V"], "bpftap 0.1.0, "),
     (&["bpftap", "--help"], "Examples:\n"),
     (&["bpftap", "help", "cut"], "[default: little]"),
     (&["bpftap", "cut", "-h"], "[default: micro]"),
+    (
+        &["bpftap", "run", "-h"],
+        "INTERFACE FLUSH SNAP CAPACITY SPARES OUT EXPRESSION",
+    ),
 ];
 
 #[test]

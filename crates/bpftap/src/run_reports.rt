@@ -1,6 +1,6 @@
 //! What `bpftap run` prints of each listener, what it tells of each interface, and its exit status.
 
-ghost use Rattle.std.specs.Prelude.{◌≡◌};
+ghost use Rattle.std.specs.Prelude.{◌≡◌, ◌≤◌};
 ghost use Rattle.bpftap.specs.Telling.{interface_status, task_status};
 ghost use Rattle.bpftap.specs.Replaying.{IsStatusOf, listeners_status, report_status, run_status};
 
@@ -111,12 +111,14 @@ fn tell_end<E: Write>(i: usize, end: InterfaceEnd, err: &mut E) {
 
 /// Prints a line for each listener, tells each interface that did not end clean, and answers the exit status: the greatest
 /// that stands.
+#[tactic(auto, using(crate::proofs::Statuses::run_bound))]
 pub fn tell_run<R, W, O: Write, E: Write>(
     reports: &[InterfaceReport<R, W>],
     out: &mut O,
     err: &mut E,
 ) -> u8
-    ensures { IsStatusOf (run_status reports.now) result }
+    ensures status { IsStatusOf (run_status reports.now) result }
+    ensures bound { result ≤ 3 }
 {
     let written = tell_written(write_reports(reports, out), err);
     for (i, report) in reports.iter().enumerate() {
