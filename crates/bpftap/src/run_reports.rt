@@ -48,10 +48,10 @@ fn write_reports<R, W, O: Write>(reports: &[InterfaceReport<R, W>], out: &mut O)
 }
 
 /// The status of how a listener's capture ended.
-fn task_status(end: TaskEnd) -> u8
-    ensures { result ≡ task_status end }
+fn listener_status<W>(report: &ListenerReport<W>) -> u8
+    ensures { result ≡ task_status report.now.end }
 {
-    match end {
+    match report.end {
         TaskEnd::Clean => 0,
         TaskEnd::Write(_) => DEVICE,
         TaskEnd::Unfinished => REFUSED,
@@ -73,8 +73,7 @@ fn interface_status(end: InterfaceEnd) -> u8
 fn listeners_status<W>(reports: &[ListenerReport<W>]) -> u8
     ensures { result ≡ listeners_status reports.now }
 {
-    let statuses = reports.iter().map(|report| task_status(report.end));
-    statuses.max().unwrap_or(0)
+    reports.iter().map(listener_status).max().unwrap_or(0)
 }
 
 /// The greatest status of an interface and its listeners.
