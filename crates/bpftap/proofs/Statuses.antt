@@ -1,5 +1,6 @@
 -- An exit status is at most 3.
-use Rattle.std.proofs.Common.{ℕ, ◌≤◌, max, List, [], ◌∷◌, fold, arith}
+use Rattle.std.proofs.Common.{◌≡◌, ℕ, zero, suc, ◌+◌, ◌<◌, ◌≤◌, max, List, [], ◌∷◌, ◌++◌, fold, get_or, length, take, refl, ap, sym, ◌∙◌, arith}
+use Rattle.std.proofs.lemmas.List.{take_more}
 use Rattle.std.proofs.Math.Nat.{max-le}
 use Rattle.savefile.specs.declared.fault.Fault.{Fault}
 use Rattle.savefile.specs.declared.fault.Fault.TheVariants as faults
@@ -48,3 +49,23 @@ report_bound report = max-le (interface_bound report.end) (greatest_bound (λ (l
 -- of a replay
 pub run_bound : {R W : Type 0} (reports : List (InterfaceReport R W)) → run_status reports ≤ 3
 run_bound reports = greatest_bound report_status 3 report_bound 0 reports (omega arith)
+
+fold-pushed : {A B : Type 0} (f : B → A → B) (start : B) (xs : List A) (x : A) → fold f start (xs ++ x ∷ []) ≡ f (fold f start xs) x
+fold-pushed f start [] x = refl
+fold-pushed f start (y ∷ ys) x = fold-pushed f (f start y) ys x
+
+-- one item more is folded
+pub fold-more : {A B : Type 0} (f : B → A → B) (start : B) (xs : List A) (i : ℕ) (x : A) → i < length xs → x ≡ get_or xs i x
+    → fold f start (take (i + 1) xs) ≡ f (fold f start (take i xs)) x
+fold-more f start xs i x inside is =
+    ap (λ ys. fold f start ys) (take_more xs i x inside ∙ ap (λ y. take i xs ++ y ∷ []) (sym is)) ∙ fold-pushed f start (take i xs) x
+
+take-whole : {A : Type 0} (xs : List A) (i : ℕ) → length xs ≤ i → take i xs ≡ xs
+take-whole [] zero past = refl
+take-whole [] (suc i) past = refl
+take-whole (x ∷ xs) zero past = absurd (omega (arith, past))
+take-whole (x ∷ xs) (suc i) past = ap (λ ys. x ∷ ys) (take-whole xs i (omega (arith, past)))
+
+-- all items are folded
+pub fold-whole : {A B : Type 0} (f : B → A → B) (start : B) (xs : List A) (i : ℕ) → length xs ≤ i → fold f start (take i xs) ≡ fold f start xs
+fold-whole f start xs i past = ap (λ ys. fold f start ys) (take-whole xs i past)

@@ -73,7 +73,11 @@ fn interface_status(end: InterfaceEnd) -> u8
 fn listeners_status<W>(reports: &[ListenerReport<W>]) -> u8
     ensures { result ≡ listeners_status reports.now }
 {
-    reports.iter().map(listener_status).max().unwrap_or(0)
+    let mut status = 0;
+    for report in reports {
+        status = status.max(listener_status(report));
+    }
+    status
 }
 
 /// The greatest status of an interface and its listeners.
@@ -87,7 +91,11 @@ fn report_status<R, W>(report: &InterfaceReport<R, W>) -> u8
 fn run_status<R, W>(reports: &[InterfaceReport<R, W>]) -> u8
     ensures { result ≡ run_status reports.now }
 {
-    reports.iter().map(report_status).max().unwrap_or(0)
+    let mut status = 0;
+    for report in reports {
+        status = status.max(report_status(report));
+    }
+    status
 }
 
 /// Tells how the captures of the i-th interface ended, where that was not clean.
