@@ -2,7 +2,7 @@
 
 use crate::check::check;
 use crate::program::run;
-use crate::run_files::ReplaysFiles;
+use crate::run_files::NamesFiles;
 use crate::tell::{REFUSED, tell_device, tell_fault, tell_words};
 use std::fs::Files;
 use std::io;
@@ -151,7 +151,7 @@ struct Printed {
     status: u8,
 }
 
-fn printed_by<R: Abort + Files + AllocGlobal + ReplaysFiles + Threads + Wait + Sync>(
+fn printed_by<R: Abort + Files + AllocGlobal + NamesFiles + Threads + Wait + Sync>(
     rt: &R,
     words: &[&str],
 ) -> Printed {

@@ -1,7 +1,7 @@
 //! The command line and the files of a command: what is opened in which order, what is kept, and what is printed.
 
 use crate::program::run;
-use crate::run_files::ReplaysFiles;
+use crate::run_files::NamesFiles;
 use crate::tests::{ALL, ARP_RECORD, BreakingWriter, ETHERTYPE, HEADER, IP_RECORD, concat};
 use std::fs::Files;
 use std::os::unix::fs::symlink;
@@ -13,7 +13,7 @@ use std::thread::Threads;
 use std::{env, fs, process};
 
 /// Runs a command, and checks its status and all that it prints.
-pub(crate) fn command<R: Abort + Files + AllocGlobal + ReplaysFiles + Threads + Wait + Sync>(
+pub(crate) fn command<R: Abort + Files + AllocGlobal + NamesFiles + Threads + Wait + Sync>(
     rt: &R,
     words: &[&str],
     out: &str,
@@ -39,7 +39,7 @@ pub(crate) fn enter_scratch<R: Files + Env + AllocGlobal>(rt: &R, id: u32) -> Re
 }
 
 /// `bpftap cut -s 0 -f LISTING IN OUT`: the line on standard error, and the status.
-fn cuts<R: Abort + Files + AllocGlobal + ReplaysFiles + Threads + Wait + Sync>(
+fn cuts<R: Abort + Files + AllocGlobal + NamesFiles + Threads + Wait + Sync>(
     rt: &R,
     paths: [&str; 3],
     err: &str,

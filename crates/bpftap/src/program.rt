@@ -5,7 +5,7 @@ use crate::command_line::{CutWords, Request, read_words};
 use crate::cut::{CutEnd, End, cut};
 use crate::files::{LateFile, hold_stream, is_same_file};
 use crate::filter::filter;
-use crate::run_files::ReplaysFiles;
+use crate::run_files::{NamesFiles, run_files};
 use crate::steps_files::steps_files;
 use crate::tell::{Path, REFUSED, tell, tell_device, tell_fault};
 use bpfvm::Program;
@@ -24,7 +24,7 @@ const OUTPUT_BUFFER: usize = 1 << 18;
 /// Runs the command that the words ask for, the program's name first. What was asked for goes to `out`, faults go to
 /// `err`, and the exit status comes back.
 pub fn run<
-    R: Files + AllocGlobal + ReplaysFiles + Threads + Wait + Sync,
+    R: Files + AllocGlobal + NamesFiles + Threads + Wait + Sync,
     S: AsStr,
     O: Write,
     E: Write,
@@ -39,7 +39,7 @@ pub fn run<
             Ok(status) => status,
             Err(status) => status,
         },
-        Ok(Request::Run(words)) => match rt.run_files(rt, rt.alloc(), &words, out, err) {
+        Ok(Request::Run(words)) => match run_files(rt, &words, out, err) {
             Ok(status) => status,
             Err(status) => status,
         },

@@ -9,6 +9,7 @@ use crate::tell::{Path, REFUSED, tell_fault};
 use replay::{InterfaceReport, ListenerReport, RunFault, TaskEnd};
 use savefile::{Counted, Fault};
 use std::alloc::{AllocError, Global};
+use std::fs::Files;
 use std::io;
 use std::io::{BufWriter, Write};
 use std::sync::Wait;
@@ -129,59 +130,84 @@ fn accepted<'p, E: Write>(
     }
 }
 
-/// What is told of a replay over files: those that are read, and those that are written.
-type Reports<'r, 'i, 'o> = Vec<InterfaceReport<Input<'r, 'i>, Output<'r, 'o>>>;
+/// What is replayed over files, each of which is opened when it is first read or written.
+#[derive(Drop)]
+pub struct LateFiles<'r, 'i, 'o> {
+    plan: Plan<'o>,
+    captures: Vec<Vec<Input<'r, 'i>>>,
+    sinks: Vec<Output<'r, 'o>>,
+}
 
-/// Replays what is asked for, each file opened when it is first read or written.
-fn replay_files<'r, 'i, 'o, T: Threads + Wait + Sync>(
-    rt: &T,
+/// The files that are replayed, and those that are written.
+fn late_files<'r, 'i, 'o>(
     files: &'r HostRuntime,
     alloc: Global,
     words: &RunWords<'i>,
     plan: Plan<'o>,
-) -> Result<Reports<'r, 'i, 'o>, RunFault> {
+) -> Result<LateFiles<'r, 'i, 'o>, RunFault> {
     let captures = all_sources(files, alloc, words.inputs.as_slice())?;
     let outputs = written_paths(alloc, &plan)?;
     let Ok(sinks) = sinks(files, alloc, outputs.as_slice()) else {
         return Err(RunFault::NoStart);
     };
-    replay_plan(rt, alloc, plan, captures, sinks)
+    Ok(LateFiles {
+        plan,
+        captures,
+        sinks,
+    })
 }
 
-/// Files that are replayed in threads. A type parameter will not do for them: that what such a file does may be done by
-/// another thread is shown of a type that is known, and not of one that its trait names.
-pub trait ReplaysFiles {
-    /// Reads LISTENERS, looks at its lines and compiles its expressions, and replays the captures.
-    fn run_files<T: Threads + Wait + Sync, O: Write, E: Write>(
-        &self,
-        rt: &T,
+/// Names the files of a replay. A type parameter will not do for them: that what such a file does may be done by another
+/// thread is shown of a type that is known, and not of one that its trait names.
+pub trait NamesFiles {
+    /// Looks at the lines of LISTENERS, and compiles its expressions.
+    fn named_files<'r, 'i, 'o, E: Write>(
+        &'r self,
         alloc: Global,
-        words: &RunWords<'_>,
-        out: &mut O,
+        words: &RunWords<'i>,
+        listeners: &'o [u8],
         err: &mut E,
-    ) -> Result<u8, u8>;
+    ) -> Result<LateFiles<'r, 'i, 'o>, u8>;
 }
 
-impl ReplaysFiles for HostRuntime {
-    fn run_files<T: Threads + Wait + Sync, O: Write, E: Write>(
-        &self,
-        rt: &T,
+impl NamesFiles for HostRuntime {
+    fn named_files<'r, 'i, 'o, E: Write>(
+        &'r self,
         alloc: Global,
-        words: &RunWords<'_>,
-        out: &mut O,
+        words: &RunWords<'i>,
+        listeners: &'o [u8],
         err: &mut E,
-    ) -> Result<u8, u8> {
-        let listeners = read_file(self, words.listeners, err)?;
-        let plan = accepted(self, alloc, words, listeners.as_slice(), err)?;
-        let Ok(mut out) = BufWriter::with_capacity(alloc, OUTPUT_BUFFER, &mut *out) else {
-            return Err(tell_fault(Fault::NoMemory, REFUSED, err));
-        };
-        match replay_files(rt, self, alloc, words, plan) {
-            Ok(mut reports) => {
-                flush_all(reports.as_mut_slice());
-                Ok(tell_run(reports.as_slice(), &mut out, err))
-            }
+    ) -> Result<LateFiles<'r, 'i, 'o>, u8> {
+        let plan = accepted(self, alloc, words, listeners, err)?;
+        match late_files(self, alloc, words, plan) {
+            Ok(late) => Ok(late),
             Err(fault) => Err(tell_fault(fault, REFUSED, err)),
         }
+    }
+}
+
+/// Reads LISTENERS, and replays the captures.
+pub fn run_files<R: Files + AllocGlobal + NamesFiles + Threads + Wait + Sync, O: Write, E: Write>(
+    rt: &R,
+    words: &RunWords<'_>,
+    out: &mut O,
+    err: &mut E,
+) -> Result<u8, u8> {
+    let alloc = rt.alloc();
+    let listeners = read_file(rt, words.listeners, err)?;
+    let LateFiles {
+        plan,
+        captures,
+        sinks,
+    } = rt.named_files(alloc, words, listeners.as_slice(), err)?;
+    let Ok(mut out) = BufWriter::with_capacity(alloc, OUTPUT_BUFFER, &mut *out) else {
+        return Err(tell_fault(Fault::NoMemory, REFUSED, err));
+    };
+    match replay_plan(rt, alloc, plan, captures, sinks) {
+        Ok(mut reports) => {
+            flush_all(reports.as_mut_slice());
+            Ok(tell_run(reports.as_slice(), &mut out, err))
+        }
+        Err(fault) => Err(tell_fault(fault, REFUSED, err)),
     }
 }

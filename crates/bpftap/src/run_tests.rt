@@ -3,7 +3,7 @@
 use crate::run::run;
 use crate::tests::{HEADER, concat};
 use savefile::Counted;
-use std::alloc::AllocError;
+use std::alloc::{AllocError, Global};
 use std::process::Abort;
 use std::sync::Wait;
 use std::test::Fail;
@@ -37,6 +37,16 @@ pub(crate) fn replayed(
     for sources in interfaces {
         captures.push(Vec::from_slice(alloc, sources)?)?;
     }
+    replayed_from(rt, listeners, captures)
+}
+
+/// The same, of the captures of each interface.
+fn replayed_from(
+    rt: &(impl Abort + AllocGlobal + Threads + Wait + Sync),
+    listeners: &[u8],
+    captures: Vec<Vec<&[u8]>>,
+) -> Result<Seen, AllocError> {
+    let alloc = rt.alloc();
     let mut out: Vec<u8> = Vec::new(alloc);
     let mut err: Vec<u8> = Vec::new(alloc);
     let make = |_: &str| Counted::new(Vec::new(alloc));
@@ -225,55 +235,87 @@ fn too_many_are_refused(rt: HostRuntime) -> Result<(), Fail> {
 /// What a listener of one packet prints.
 const ONE: &str = "interface 0 listener 0 received 1 matched 1 dropped 0 written 1 Clean\n";
 
-#[test]
-fn a_fault_of_a_capture_ends_its_interface(rt: HostRuntime) -> Result<(), Fail> {
+/// The same, of two interfaces whose captures are owned.
+fn replayed_owned<'a>(
+    rt: &(impl Abort + AllocGlobal + Threads + Wait + Sync),
+    listeners: &[u8],
+    first: &'a [Vec<u8>],
+    second: &'a [Vec<u8>],
+) -> Result<Seen, AllocError> {
     let alloc = rt.alloc();
-    let whole = concat(alloc, &[HEADER, TCP])?;
-    let torn = concat(alloc, &[HEADER, TCP, "00"])?;
-    let unit = concat(alloc, &[HEADER, TCP, "00000000 40420f00 00000000 00000000"])?;
-    let swapped = concat(alloc, &["00"])?;
-    for (captures, fault, status) in [
-        ([whole.as_slice(), b""], "Capture 1 ShortHeader", 1),
-        (
-            [whole.as_slice(), &HEADER.as_bytes()[..24]],
-            "Capture 1 NotSavefile",
-            1,
-        ),
-        (
-            [torn.as_slice(), whole.as_slice()],
-            "Capture 0 TornRecord 1",
-            2,
-        ),
-        ([unit.as_slice(), b""], "Capture 0 BadFraction 1", 2),
-        (
-            [whole.as_slice(), swapped.as_slice()],
-            "Capture 1 ShortHeader",
-            1,
-        ),
-    ] {
-        let second: [&[u8]; 1] = [whole.as_slice()];
-        let interfaces: [&[&[u8]]; 2] = [captures.as_slice(), second.as_slice()];
-        let seen = replayed(&rt, b"1 0 0 1048576 2 b\n0 0 0 1048576 2 a\n", &interfaces)?;
-        let line = format!(in alloc; "bpftap: Interface 0 {fault}\n")?;
-        assert_eq!(rt; seen.err.as_str(), line.as_str());
-        let other = "interface 1 listener 0 received 1 matched 1 dropped 0 written 1 Clean\n";
-        let lines = format!(in alloc; "{ONE}{other}")?;
-        assert_eq!(rt; seen.out.as_str(), lines.as_str());
-        assert_eq!(rt; seen.status, status);
-        for written in &seen.written {
-            assert_eq!(rt; written.as_slice(), whole.as_slice());
-        }
+    let mut captures: Vec<&'a [u8]> = Vec::new(alloc);
+    for capture in first {
+        captures.push(capture.as_slice())?;
+    }
+    let mut others: Vec<&'a [u8]> = Vec::new(alloc);
+    for capture in second {
+        others.push(capture.as_slice())?;
+    }
+    let mut interfaces = Vec::new(alloc);
+    interfaces.push(captures)?;
+    interfaces.push(others)?;
+    replayed_from(rt, listeners, interfaces)
+}
+
+/// A capture of each text.
+fn captures_of(alloc: Global, texts: &[&str]) -> Result<Vec<Vec<u8>>, Fail> {
+    let mut captures = Vec::new(alloc);
+    for text in texts {
+        captures.push(concat(alloc, &[*text])?)?;
+    }
+    Ok(captures)
+}
+
+/// What is told where the captures of the first of two interfaces are these, each with one listener, and the second has a
+/// whole one.
+fn ends_with(
+    rt: &(impl Abort + AllocGlobal + Threads + Wait + Sync),
+    captures: &[Vec<u8>],
+    fault: &str,
+    status: u8,
+) -> Result<(), Fail> {
+    let alloc = rt.alloc();
+    let text = format!(in alloc; "{HEADER} {TCP}")?;
+    let whole = captures_of(alloc, &[text.as_str()])?;
+    let listeners = b"1 0 0 1048576 2 b\n0 0 0 1048576 2 a\n";
+    let seen = replayed_owned(rt, listeners, captures, whole.as_slice())?;
+    let line = format!(in alloc; "bpftap: Interface 0 {fault}\n")?;
+    assert_eq!(rt; seen.err.as_str(), line.as_str());
+    let other = "interface 1 listener 0 received 1 matched 1 dropped 0 written 1 Clean\n";
+    let lines = format!(in alloc; "{ONE}{other}")?;
+    assert_eq!(rt; seen.out.as_str(), lines.as_str());
+    assert_eq!(rt; seen.status, status);
+    for written in &seen.written {
+        assert_eq!(rt; written.as_slice(), whole[0].as_slice());
     }
     Ok(())
 }
 
 #[test]
+fn a_fault_of_a_capture_ends_its_interface(rt: HostRuntime) -> Result<(), Fail> {
+    let alloc = rt.alloc();
+    let whole = format!(in alloc; "{HEADER} {TCP}")?;
+    let torn = format!(in alloc; "{whole} 00")?;
+    let unit = format!(in alloc; "{whole} 00000000 40420f00 00000000 00000000")?;
+    let empty = captures_of(alloc, &[whole.as_str(), ""])?;
+    ends_with(&rt, empty.as_slice(), "Capture 1 ShortHeader", 1)?;
+    let torn = captures_of(alloc, &[torn.as_str(), whole.as_str()])?;
+    ends_with(&rt, torn.as_slice(), "Capture 0 TornRecord 1", 2)?;
+    let unit = captures_of(alloc, &[unit.as_str(), whole.as_str()])?;
+    ends_with(&rt, unit.as_slice(), "Capture 0 BadFraction 1", 2)?;
+    let short = captures_of(alloc, &[whole.as_str(), "00"])?;
+    ends_with(&rt, short.as_slice(), "Capture 1 ShortHeader", 1)
+}
+
+#[test]
 fn the_greatest_status_stands(rt: HostRuntime) -> Result<(), Fail> {
-    let torn = concat(rt.alloc(), &[HEADER, TCP, "00"])?;
-    let (torn, empty): ([&[u8]; 1], [&[u8]; 1]) = ([torn.as_slice()], [b""]);
+    let alloc = rt.alloc();
+    let text = format!(in alloc; "{HEADER} {TCP} 00")?;
+    let torn = captures_of(alloc, &[text.as_str()])?;
+    let empty = captures_of(alloc, &[""])?;
     let told =
         "bpftap: Interface 0 Capture 0 TornRecord 1\nbpftap: Interface 1 Capture 0 ShortHeader\n";
-    let seen = replayed(&rt, b"", &[torn.as_slice(), empty.as_slice()])?;
+    let seen = replayed_owned(&rt, b"", torn.as_slice(), empty.as_slice())?;
     // Without a listener too, captures are read.
     assert_eq!(rt;
         (seen.out.as_str(), seen.err.as_str(), seen.status),
@@ -281,7 +323,7 @@ fn the_greatest_status_stands(rt: HostRuntime) -> Result<(), Fail> {
     );
     let told =
         "bpftap: Interface 0 Capture 0 ShortHeader\nbpftap: Interface 1 Capture 0 TornRecord 1\n";
-    let seen = replayed(&rt, b"", &[empty.as_slice(), torn.as_slice()])?;
+    let seen = replayed_owned(&rt, b"", empty.as_slice(), torn.as_slice())?;
     assert_eq!(rt;
         (seen.out.as_str(), seen.err.as_str(), seen.status),
         ("", told, 2)

@@ -3,7 +3,7 @@
 
 use super::{FileId, LateFile, file_at};
 use crate::program::run;
-use crate::run_files::ReplaysFiles;
+use crate::run_files::{LateFiles, NamesFiles};
 use crate::run_words::RunWords;
 use crate::tell::REFUSED;
 use std::alloc::{Allocator, Global};
@@ -95,15 +95,14 @@ impl<T: Threads> Threads for System<'_, T> {}
 impl<T: Wait> Wait for System<'_, T> {}
 
 /// Its captures are not replayed.
-impl<T> ReplaysFiles for (System<'_, T>, Global) {
-    fn run_files<H: Threads + Wait + Sync, O: Write, E: Write>(
-        &self,
-        _rt: &H,
+impl<T> NamesFiles for (System<'_, T>, Global) {
+    fn named_files<'r, 'i, 'o, E: Write>(
+        &'r self,
         _alloc: Global,
-        _words: &RunWords<'_>,
-        _out: &mut O,
+        _words: &RunWords<'i>,
+        _listeners: &'o [u8],
         _err: &mut E,
-    ) -> Result<u8, u8> {
+    ) -> Result<LateFiles<'r, 'i, 'o>, u8> {
         Err(REFUSED)
     }
 }
