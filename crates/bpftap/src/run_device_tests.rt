@@ -3,7 +3,7 @@
 use crate::cut::{End, cut};
 use crate::filter::filter;
 use crate::run::run;
-use crate::run_tests::{TCP, UDP, replayed};
+use crate::run_tests::{TCP, UDP, front, item, replayed};
 use crate::tests::{BreakingWriter, HEADER, PiecesReader, concat};
 use crate::veth_frames::{FRAMES, KEPT, capture};
 use savefile::{Counted, Order, Unit};
@@ -160,11 +160,15 @@ fn a_broken_source_is_told_behind_its_packets(rt: HostRuntime) -> Result<(), Fai
     let alloc = rt.alloc();
     let whole = concat(alloc, &[HEADER, TCP])?;
     let more = concat(alloc, &[HEADER, UDP, "000000"])?;
-    for (second, packets) in [
-        (more.as_slice(), 2),
-        (&more[..77], 1),
-        (&more[..23], 1),
-        (b"", 1),
+    let (torn, short) = (
+        front(&rt, more.as_slice(), 77),
+        front(&rt, more.as_slice(), 23),
+    );
+    for (second, packets, length) in [
+        (more.as_slice(), 2, 132),
+        (torn, 1, 78),
+        (short, 1, 78),
+        (front(&rt, more.as_slice(), 0), 1, 78),
     ] {
         let sources = [
             (whole.as_slice(), false),
@@ -175,7 +179,7 @@ fn a_broken_source_is_told_behind_its_packets(rt: HostRuntime) -> Result<(), Fai
         let (told, status, written) = broken(&rt, &sources, &[AMPLE], &mut out)?;
         assert_eq!(rt; told.as_str(), "bpftap: Interface 0 Capture 1 Device\n");
         assert_eq!(rt; status, 3);
-        assert_eq!(rt; written[0].len(), 24 + 54 * packets);
+        assert_eq!(rt; item(&rt, written.as_slice(), 0).len(), length);
         let line = format!(in alloc;
             "interface 0 listener 0 received {packets} matched {packets} dropped 0 written {packets} Clean\n"
         )?;
@@ -215,8 +219,14 @@ fn a_broken_sink_is_told_by_its_bytes(rt: HostRuntime) -> Result<(), Fail> {
             second,
             "interface 0 listener 1 received 3 matched 3 dropped 0 written 3 Clean\n"
         );
-        assert_eq!(rt; written[0].as_slice(), &text[..room]);
-        assert_eq!(rt; written[1].as_slice(), text.as_slice());
+        assert_eq!(rt;
+            item(&rt, written.as_slice(), 0).as_slice(),
+            front(&rt, text.as_slice(), room)
+        );
+        assert_eq!(rt;
+            item(&rt, written.as_slice(), 1).as_slice(),
+            text.as_slice()
+        );
     }
     Ok(())
 }
@@ -237,7 +247,10 @@ fn an_output_that_breaks_is_a_device_fault(rt: HostRuntime) -> Result<(), Fail> 
             "bpftap: Device standard output\nbpftap: Interface 0 Capture 0 TornRecord 1\n"
         );
         assert_eq!(rt; status, 3);
-        assert_eq!(rt; written[0].as_slice(), &torn[..78]);
+        assert_eq!(rt;
+            item(&rt, written.as_slice(), 0).as_slice(),
+            front(&rt, torn.as_slice(), 78)
+        );
     }
     Ok(())
 }

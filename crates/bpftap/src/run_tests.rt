@@ -63,6 +63,16 @@ fn replayed_from(
     })
 }
 
+/// The n-th item, which is there.
+pub(crate) fn item<'a, T>(rt: &'a impl Abort, items: &'a [T], n: usize) -> &'a T {
+    items.get(n).expect(rt, "there is such an item")
+}
+
+/// The first n bytes, of which there are so many.
+pub(crate) fn front<'a>(rt: &'a impl Abort, bytes: &'a [u8], n: usize) -> &'a [u8] {
+    bytes.get(..n).expect(rt, "there are so many bytes")
+}
+
 /// Two listeners of one interface.
 const TWO: &[u8] = b"0 0 64 1048576 2 t.pcap tcp\n0 0 0 1048576 2 all.pcap\n";
 
@@ -92,8 +102,14 @@ fn two_captures_are_replayed_to_two_listeners(rt: HostRuntime) -> Result<(), Fai
         assert_eq!(rt; seen.status, 0);
         assert_eq!(rt; (by_tcp.len(), all.len()), (132, 186));
         assert_eq!(rt; seen.written.len(), 2);
-        assert_eq!(rt; seen.written[0].as_slice(), by_tcp.as_slice());
-        assert_eq!(rt; seen.written[1].as_slice(), all.as_slice());
+        assert_eq!(rt;
+            item(&rt, seen.written.as_slice(), 0).as_slice(),
+            by_tcp.as_slice()
+        );
+        assert_eq!(rt;
+            item(&rt, seen.written.as_slice(), 1).as_slice(),
+            all.as_slice()
+        );
     }
     Ok(())
 }
@@ -286,7 +302,10 @@ fn ends_with(
     assert_eq!(rt; seen.out.as_str(), lines.as_str());
     assert_eq!(rt; seen.status, status);
     for written in &seen.written {
-        assert_eq!(rt; written.as_slice(), whole[0].as_slice());
+        assert_eq!(rt;
+            written.as_slice(),
+            item(rt, whole.as_slice(), 0).as_slice()
+        );
     }
     Ok(())
 }
@@ -341,6 +360,9 @@ fn an_interface_may_have_no_captures(rt: HostRuntime) -> Result<(), Fail> {
     );
     // The header is written also where no packet came.
     let header = concat(rt.alloc(), &[HEADER])?;
-    assert_eq!(rt; seen.written[0].as_slice(), header.as_slice());
+    assert_eq!(rt;
+        item(&rt, seen.written.as_slice(), 0).as_slice(),
+        header.as_slice()
+    );
     Ok(())
 }
