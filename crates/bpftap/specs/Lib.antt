@@ -3,4 +3,3 @@ pub mod Cut
 pub mod Outcome
 pub mod Telling
 pub mod Filter
-pub mod Replaying
