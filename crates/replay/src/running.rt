@@ -72,8 +72,8 @@ fn in_threads<
 ///
 /// Before anything is read, written or made the numbers are tested, and the first fault is answered: [`RunFault::TooMany`], then
 /// by interface and task [`RunFault::Open`]. [`RunFault::NoStart`] comes only where none stands: memory or a thread was refused,
-/// and what the sinks hold is not said then. What the call grows it grows before the threads' work, but for the half mebibyte
-/// with which each capture is read; where that is refused it is the capture's fault.
+/// and what the sinks hold is not said then. What the call grows it grows before the threads' work (tried by hand, not proved), but
+/// for the half mebibyte with which each capture is read; where that is refused it is the capture's fault.
 pub fn run<
     S: Source + Send + Drop,
     W: Sink + Send + Drop,
