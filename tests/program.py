@@ -138,6 +138,124 @@ def files_of_steps(folder):
     check("steps into a full device", shell(folder, "steps l.txt s.txt whole.pcap", ">/dev/full"), full)
 
 
+TCP = "ffffffffffff 000102030405 0800 45000018 00000000 40060000 0a000001 0a000002 00350035"
+UDP = TCP.replace("40060000", "40110000")
+
+
+def record(second, frame):
+    data = bytes.fromhex(frame)
+    return b"".join(field.to_bytes(4, "little") for field in (second, 0, len(data), len(data))) + data
+
+
+T, U = record(1, TCP), record(2, UDP)
+
+
+def files_of_run(folder):
+    """Nothing is opened before all is accepted; each file is opened when it is first read or written."""
+    header = HEADER[:16] + bytes([64, 0, 0, 0]) + HEADER[20:]
+    for name, text in [("tu.pcap", HEADER + T + U), ("t.pcap", HEADER + T), ("kept.pcap", b"kept")]:
+        (folder / name).write_bytes(text)
+    for name, text in [
+        ("two.txt", "0 0 64 1048576 2 tcp.pcap tcp\n0 0 0 1048576 2 all.pcap\n"),
+        ("sides.txt", "1 0 0 1048576 2 right.pcap\n0 0 0 1048576i 1 left.pcap\n"),
+        ("kept.txt", "0 0 0 1048576 2 kept.pcap\n"),
+        ("lines.txt", "0 0 0 1048576 2 kept.pcap\n0 0 0 1048576 2 kept.pcap tcp\n"),
+        ("refused.txt", "0 0 0 1048576 0 kept.pcap tcp and 80\n"),
+        ("open.txt", "0 0 0 1048576 0 kept.pcap tcp\n"),
+        ("same.txt", "0 0 0 1048576 2 new.pcap\n0 0 0 1048576 2 ./tu.pcap\n"),
+        ("twice.txt", "0 0 0 1048576 2 kept.pcap\n0 0 0 1048576 2 ./kept.pcap\n"),
+        ("self.txt", "0 0 0 1048576 2 self.txt\n"),
+        ("nowhere.txt", "0 0 0 1048576 2 no/out.pcap\n0 0 0 1048576 2 all.pcap\n"),
+        ("full.txt", "0 0 0 1048576 2 /dev/full\n"),
+    ]:
+        (folder / name).write_text(text)
+    for words, wanted in [
+        ("two.txt tu.pcap t.pcap", (0, b"")),
+        ("no.txt none.pcap", (3, b"bpftap: Device no.txt\n")),
+        ("lines.txt none.pcap", (1, b"bpftap: Listeners 2\n")),
+        ("sides.txt none.pcap", (1, b"bpftap: Listeners 1\n")),
+        ("refused.txt none.pcap", (1, b"bpftap: Expression 0 NoQualifier 8\n")),
+        ("open.txt none.pcap", (1, b"bpftap: Open 0 0 BadCapacity\n")),
+        ("open.txt " + "+ " * 16, (1, b"bpftap: TooMany\n")),
+        ("same.txt tu.pcap", (1, b"bpftap: SameFile ./tu.pcap\n")),
+        ("twice.txt tu.pcap", (1, b"bpftap: SameFile ./kept.pcap\n")),
+        ("self.txt tu.pcap", (1, b"bpftap: SameFile self.txt\n")),
+        ("two.txt tu.pcap empty.pcap", (1, b"bpftap: Interface 0 Capture 1 ShortHeader\n")),
+        ("two.txt torn.pcap none.pcap", (2, b"bpftap: Interface 0 Capture 0 TornRecord 1\n")),
+        ("two.txt tu.pcap none.pcap", (3, b"bpftap: Interface 0 Capture 1 Device\n")),
+        ("two.txt torn.pcap + .", (3, b"bpftap: Interface 0 Capture 0 TornRecord 1\nbpftap: Interface 1 Capture 0 Device\n")),
+        ("nowhere.txt tu.pcap t.pcap", (3, b"")),
+        ("full.txt tu.pcap", (3, b"")),
+        ("/dev/null tu.pcap", (0, b"")),
+        ("two.txt +", (0, b"")),
+    ]:
+        check(f"run {words}", shell(folder, f"run {words}"), wanted)
+        check(f"kept behind run {words}", (folder / "kept.pcap").read_bytes(), b"kept")
+    check("no file of a refused run", (folder / "new.pcap").exists(), False)
+    for words, lines, files in [
+        (
+            "two.txt tu.pcap t.pcap",
+            "interface 0 listener 0 received 3 matched 2 dropped 0 written 2 Clean\n"
+            "interface 0 listener 1 received 3 matched 3 dropped 0 written 3 Clean\n",
+            [("tcp.pcap", header + T + T), ("all.pcap", HEADER + T + U + T)],
+        ),
+        (
+            "sides.txt t.pcap + tu.pcap t.pcap",
+            "interface 0 listener 0 received 1 matched 1 dropped 0 written 1 Clean\n"
+            "interface 1 listener 0 received 3 matched 3 dropped 0 written 3 Clean\n",
+            [("left.pcap", HEADER + T), ("right.pcap", HEADER + T + U + T)],
+        ),
+        (
+            "nowhere.txt tu.pcap none.pcap",
+            None,
+            [("all.pcap", HEADER + T + U)],
+        ),
+        ("kept.txt tu.pcap", "interface 0 listener 0 received 2 matched 2 dropped 0 written 2 Clean\n", [("kept.pcap", HEADER + T + U)]),
+    ]:
+        done = subprocess.run([PROGRAM, "run", *words.split()], cwd=folder, capture_output=True)
+        if lines is not None:
+            check(f"printed by run {words}", (done.returncode, done.stdout.decode()), (0, lines))
+        for name, wanted in files:
+            check(f"{name} behind run {words}", (folder / name).read_bytes(), wanted)
+    done = subprocess.run([PROGRAM, "run", "full.txt", "tu.pcap"], cwd=folder, capture_output=True)
+    check("a full device", done.stdout.decode().endswith(" Write 0\n"), True)
+    seen = shell(folder, "run two.txt tu.pcap torn.pcap", ">/dev/full")
+    check("run into a full device", seen, (3, b"bpftap: Device standard output\nbpftap: Interface 0 Capture 1 TornRecord 1\n"))
+
+
+def many_at_once(folder):
+    """A file for each expression is what `cut` writes; small buffers lose packets, and count them."""
+    capture = ROOT / "examples" / "veth.pcap"
+    for room, is_ample in [(1048576, True), (2048, False)]:
+        lines = [f"0 3 96 {room} 1 out{n}.pcap {expr}\n" for n, (expr, _) in enumerate(TCPDUMP)]
+        (folder / "many.txt").write_text("".join(lines))
+        done = subprocess.run([PROGRAM, "run", "many.txt", capture], cwd=folder, capture_output=True)
+        check(f"many of {room}", (done.returncode, done.stderr), (0, b""))
+        for n, (line, (expr, kept)) in enumerate(zip(done.stdout.decode().splitlines(), TCPDUMP)):
+            subprocess.run([PROGRAM, "cut", "-s", "96", "-e", expr, capture, "cut.pcap"], cwd=folder)
+            words = line.split()
+            received, matched, dropped, written = (int(words[place]) for place in (5, 7, 9, 11))
+            check(f"counts of {expr!r}, {room}", (received, matched, dropped + written), (253, kept, kept))
+            seen, whole = records(folder / f"out{n}.pcap"), records(folder / "cut.pcap")
+            check(f"packets of {expr!r}, {room}", len(seen), written)
+            rest = iter(whole)
+            check(f"order of {expr!r}, {room}", all(one in rest for one in seen), True)
+            if is_ample:
+                check(f"all of {expr!r}", (folder / f"out{n}.pcap").read_bytes(), (folder / "cut.pcap").read_bytes())
+
+
+def examples_of_run(folder):
+    """What the page of the example says is printed."""
+    pages = (ROOT / "examples" / "run" / "README.md").read_text().splitlines()
+    told = "".join(line.strip() + "\n" for line in pages if line.startswith("    interface"))
+    seen = ""
+    for words in ["listeners.txt veth.pcap", "two.txt veth.pcap + veth-big-nano.pcap"]:
+        words = words.replace("veth", f"{ROOT}/examples/veth").split()
+        done = subprocess.run([PROGRAM, "run", ROOT / "examples" / "run" / words[0], *words[1:]], cwd=folder, capture_output=True)
+        seen += done.stdout.decode()
+    check("examples of run", seen, told)
+
+
 def main():
     subprocess.run([str(PROGRAM), "--help"], check=True, stdout=subprocess.DEVNULL)
     with tempfile.TemporaryDirectory() as name:
@@ -153,6 +271,9 @@ def main():
         closed_streams(folder)
         real_capture(folder)
         files_of_steps(folder)
+        files_of_run(folder)
+        many_at_once(folder)
+        examples_of_run(folder)
     for line in failures:
         print(line)
     print(f"{passed} passed, {len(failures)} failed")

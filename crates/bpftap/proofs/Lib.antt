@@ -1,3 +1,4 @@
 pub mod Accepted
 pub mod Writing
 pub mod Outcomes
+pub mod Statuses

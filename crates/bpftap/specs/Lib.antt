@@ -3,3 +3,4 @@ pub mod Cut
 pub mod Outcome
 pub mod Telling
 pub mod Filter
+pub mod Replaying

@@ -2,12 +2,15 @@
 
 use crate::check::check;
 use crate::program::run;
+use crate::run_files::NamesFiles;
 use crate::tell::{REFUSED, tell_device, tell_fault, tell_words};
 use std::fs::Files;
 use std::io;
 use std::io::{Cursor, ErrorKind, Write};
 use std::process::Abort;
+use std::sync::Wait;
 use std::test::Fail;
+use std::thread::Threads;
 
 /// What `check` says of a refused expression: standard error and the status. Standard output has nothing.
 fn refused(rt: &(impl Abort + AllocGlobal), expr: &str, line: &str) {
@@ -148,7 +151,10 @@ struct Printed {
     status: u8,
 }
 
-fn printed_by(rt: &(impl Abort + Files + AllocGlobal), words: &[&str]) -> Printed {
+fn printed_by<R: Abort + Files + AllocGlobal + NamesFiles + Threads + Wait + Sync>(
+    rt: &R,
+    words: &[&str],
+) -> Printed {
     let mut out: Vec<u8> = Vec::new(rt.alloc());
     let mut err: Vec<u8> = Vec::new(rt.alloc());
     let status = run(rt, words, &mut out, &mut err);

@@ -1,5 +1,6 @@
 //! The words of the command line, by `clap`.
 use crate::cut::MAX_SNAP;
+use crate::run_words::{RunWords, run_command, run_words};
 use crate::steps_words::{StepsWords, steps_command, steps_words};
 use clap::error::ErrorKind;
 use clap::{Arg, ArgMatches, Command, Error};
@@ -31,6 +32,7 @@ pub enum Request<'a> {
     Check(&'a str),
     Cut(CutWords<'a>),
     Steps(StepsWords<'a>),
+    Run(RunWords<'a>),
 }
 
 /// What the program calls itself, and what it was proved with.
@@ -43,6 +45,7 @@ const EXAMPLES: &str = "Examples:
   bpftap cut -s 0 -e 'udp port 5353' examples/veth.pcap dns.pcap
   bpftap cut -s 0 -f examples/ip.bpf examples/veth.pcap ip.pcap
   bpftap steps -v examples/steps/listeners.txt examples/steps/script.txt examples/veth.pcap
+  bpftap run examples/run/listeners.txt examples/veth.pcap
 
 Exit status: 0 clean; 1 wrong words, a refused expression, file or listing, or want of memory;
 2 a torn or bad record, after the packets before it; 3 a file or device failed.";
@@ -154,7 +157,8 @@ fn program<'a>(alloc: Global) -> Result<Command<'a>, AllocError> {
         .arg_required_else_help(true)
         .subcommand(check_command(alloc)?)?
         .subcommand(cut_command(alloc)?)?
-        .subcommand(steps_command(alloc)?)
+        .subcommand(steps_command(alloc)?)?
+        .subcommand(run_command(alloc)?)
 }
 
 /// A number is decimal digits alone: a sign, a blank or nothing is none.
@@ -197,6 +201,10 @@ pub fn read_words<'a, S: AsStr>(alloc: Global, words: &'a [S]) -> Result<Request
         },
         Some(("steps", steps)) => match steps_words(alloc, steps)? {
             Some(words) => Ok(Request::Steps(words)),
+            None => Err(program.error(ErrorKind::MissingRequiredArgument, "IN is wanted")?),
+        },
+        Some(("run", run)) => match run_words(alloc, run)? {
+            Some(words) => Ok(Request::Run(words)),
             None => Err(program.error(ErrorKind::MissingRequiredArgument, "IN is wanted")?),
         },
         _ => Err(program.error(ErrorKind::MissingSubcommand, "a subcommand is wanted")?),

@@ -1,17 +1,20 @@
 //! The command line and the files of a command: what is opened in which order, what is kept, and what is printed.
 
 use crate::program::run;
+use crate::run_files::NamesFiles;
 use crate::tests::{ALL, ARP_RECORD, BreakingWriter, ETHERTYPE, HEADER, IP_RECORD, concat};
 use std::fs::Files;
 use std::os::unix::fs::symlink;
 use std::process::Abort;
 use std::rt::Env;
+use std::sync::Wait;
 use std::test::Fail;
+use std::thread::Threads;
 use std::{env, fs, process};
 
 /// Runs a command, and checks its status and all that it prints.
-fn command(
-    rt: &(impl Abort + Files + AllocGlobal),
+pub(crate) fn command<R: Abort + Files + AllocGlobal + NamesFiles + Threads + Wait + Sync>(
+    rt: &R,
     words: &[&str],
     out: &str,
     err: &str,
@@ -26,7 +29,7 @@ fn command(
 }
 
 /// Makes a folder of this process's own and goes into it. Its path.
-fn enter_scratch<R: Files + Env + AllocGlobal>(rt: &R, id: u32) -> Result<String, Fail> {
+pub(crate) fn enter_scratch<R: Files + Env + AllocGlobal>(rt: &R, id: u32) -> Result<String, Fail> {
     let scratch = format!(in rt.alloc(); "/tmp/bpftap-tests-{id}")?;
     // A folder of the same name is left where a process of the same number was stopped.
     let _ = fs::remove_dir_all(rt, scratch.as_str());
@@ -36,7 +39,12 @@ fn enter_scratch<R: Files + Env + AllocGlobal>(rt: &R, id: u32) -> Result<String
 }
 
 /// `bpftap cut -s 0 -f LISTING IN OUT`: the line on standard error, and the status.
-fn cuts(rt: &(impl Abort + Files + AllocGlobal), paths: [&str; 3], err: &str, status: u8) {
+fn cuts<R: Abort + Files + AllocGlobal + NamesFiles + Threads + Wait + Sync>(
+    rt: &R,
+    paths: [&str; 3],
+    err: &str,
+    status: u8,
+) {
     let [listing, input, output] = paths;
     let words = ["bpftap", "cut", "-s", "0", "-f", listing, input, output];
     command(rt, &words, "", err, status);
@@ -261,8 +269,10 @@ fn help_that_cannot_be_printed_is_told(rt: HostRuntime) {
 }
 
 /// Words that are no command.
-const WRONG_WORDS: [&[&str]; 12] = [
+const WRONG_WORDS: [&[&str]; 14] = [
     &["bpftap"],
+    &["bpftap", "run"],
+    &["bpftap", "run", "listeners.txt"],
     &["bpftap", "dump"],
     &["bpftap", "cut"],
     &["bpftap", "cut", "-s", "0", "in.pcap"],
@@ -296,12 +306,16 @@ const WRONG_WORDS: [&[&str]; 12] = [
 ];
 
 /// Words that ask for help or the version, and a part of it.
-const HELP: [(&[&str], &str); 5] = [
+const HELP: [(&[&str], &str); 6] = [
     (&["bpftap", "--version"], "proved with rattle-kit-13b logic"),
     (&["bpftap", "-V"], "bpftap 0.1.0, "),
     (&["bpftap", "--help"], "Examples:\n"),
     (&["bpftap", "help", "cut"], "[default: little]"),
     (&["bpftap", "cut", "-h"], "[default: micro]"),
+    (
+        &["bpftap", "run", "-h"],
+        "INTERFACE FLUSH SNAP CAPACITY SPARES OUT EXPRESSION",
+    ),
 ];
 
 #[test]

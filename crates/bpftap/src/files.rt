@@ -1,9 +1,11 @@
 //! The files that the program writes, and which paths are one file.
 
-ghost use Rattle.std.specs.Io.{WritesAtMost};
+ghost use Rattle.std.specs.Io.{ReadsAtMost, WritesAtMost};
 
+use std::alloc::{AllocError, Global};
+use std::collections::BTreeSet;
 use std::fs::Files;
-use std::io::{ErrorKind, Write};
+use std::io::{ErrorKind, Read, Write};
 use std::os::unix::fs::MetadataExt;
 use std::{fs, io};
 
@@ -20,21 +22,29 @@ pub fn hold_stream<R: Files>(rt: &R) -> Option<R::File> {
 /// A file that is made at its first write, so that what stood there stays where nothing is written. Once a call has
 /// failed every later one fails too and touches nothing, so that nothing is written behind a fault that was told.
 #[derive(Drop)]
-pub struct LateFile<'a, R: Files> {
-    rt: &'a R,
-    path: &'a str,
+pub struct LateFile<'r, 'p, R: Files> {
+    rt: &'r R,
+    path: &'p str,
     file: Option<R::File>,
     failed: bool,
+    /// How many bytes it took, modulo 2^64.
+    taken: u64,
 }
 
-impl<'a, R: Files> LateFile<'a, R> {
-    pub fn new(rt: &'a R, path: &'a str) -> Self {
+impl<'r, 'p, R: Files> LateFile<'r, 'p, R> {
+    pub fn new(rt: &'r R, path: &'p str) -> Self {
         LateFile {
             rt,
             path,
             file: None,
             failed: false,
+            taken: 0,
         }
+    }
+
+    /// How many bytes the file took, modulo 2^64.
+    pub fn taken(&self) -> u64 {
+        self.taken
     }
 
     fn write_made(&mut self, bytes: &[u8]) -> io::Result<usize>
@@ -50,13 +60,16 @@ impl<'a, R: Files> LateFile<'a, R> {
     }
 }
 
-impl<R: Files> Write for LateFile<'_, R> {
+impl<R: Files> Write for LateFile<'_, '_, R> {
     fn write(&mut self, bytes: &[u8]) -> io::Result<usize> {
         if self.failed {
             return Err(io::Error::from(ErrorKind::Other));
         }
         let written = self.write_made(bytes);
-        self.failed = written.is_err();
+        match &written {
+            Ok(n) => self.taken = self.taken.wrapping_add(*n as u64),
+            Err(_) => self.failed = true,
+        }
         written
     }
 
@@ -71,8 +84,60 @@ impl<R: Files> Write for LateFile<'_, R> {
     }
 }
 
+/// A file that is opened at its first read, and closed at its end. Once a call has failed every later one fails too.
+#[derive(Drop)]
+pub struct LateInput<'r, 'p, R: Files> {
+    rt: &'r R,
+    path: &'p str,
+    state: Input<R::File>,
+}
+
+/// What became of a file that is read.
+#[derive(Drop)]
+enum Input<F> {
+    Unopened,
+    Opened(F),
+    Ended,
+    Failed,
+}
+
+impl<'r, 'p, R: Files> LateInput<'r, 'p, R> {
+    pub fn new(rt: &'r R, path: &'p str) -> Self {
+        LateInput {
+            rt,
+            path,
+            state: Input::Unopened,
+        }
+    }
+
+    fn read_opened(&mut self, to: &mut [u8]) -> io::Result<usize>
+        ensures { ReadsAtMost result to.new }
+    {
+        if let Input::Unopened = self.state {
+            self.state = Input::Opened(fs::open(self.rt, self.path)?);
+        }
+        match &mut self.state {
+            Input::Opened(file) => file.read(to),
+            Input::Failed => Err(io::Error::from(ErrorKind::Other)),
+            _ => Ok(0),
+        }
+    }
+}
+
+impl<R: Files> Read for LateInput<'_, '_, R> {
+    fn read(&mut self, to: &mut [u8]) -> io::Result<usize> {
+        let read = self.read_opened(to);
+        match &read {
+            Ok(0) if !to.is_empty() => self.state = Input::Ended,
+            Ok(_) => {}
+            Err(_) => self.state = Input::Failed,
+        }
+        read
+    }
+}
+
 /// What tells a regular file from each other one of the system.
-#[derive(Clone, Copy, Debug, PartialEq, Eq)]
+#[derive(Clone, Copy, Debug, PartialEq, Eq, PartialOrd, Ord)]
 struct FileId {
     device: u64,
     inode: u64,
@@ -100,6 +165,35 @@ pub fn is_same_file<R: Files>(rt: &R, path: &str, other: &str) -> bool {
         (Some(file), Some(other)) => file == other,
         _ => false,
     }
+}
+
+/// The first of the paths that are written that is one of the files that are read, or the file of an earlier path that is
+/// written, where the system tells.
+pub fn lost_file<'a, R: Files>(
+    rt: &R,
+    alloc: Global,
+    inputs: &[&str],
+    outputs: &[&'a str],
+) -> Result<Option<&'a str>, AllocError> {
+    let mut texts = BTreeSet::new(alloc);
+    let mut files = BTreeSet::new(alloc);
+    for input in inputs {
+        texts.insert(*input)?;
+        if let Some(file) = file_at(rt, input) {
+            files.insert(file)?;
+        }
+    }
+    for output in outputs {
+        if texts.contains(*output) {
+            return Ok(Some(*output));
+        }
+        if let Some(file) = file_at(rt, output) {
+            if !files.insert(file)? {
+                return Ok(Some(*output));
+            }
+        }
+    }
+    Ok(None)
 }
 
 #[cfg(test)]

@@ -60,3 +60,12 @@ pub fn number(text: &str) -> Option<u64> {
     }
     text.parse::<u64>().ok()
 }
+
+/// A number up to 4,294,967,295.
+pub fn number_u32(text: &str) -> Option<u32> {
+    let n = number(text)?;
+    if n > u64::from(u32::MAX) {
+        return None;
+    }
+    Some(n as u32)
+}

@@ -1,4 +1,4 @@
-//! The file LISTENERS: the listeners that are wanted.
+//! The file LISTENERS of `bpftap steps`: the listeners that are wanted.
 
 use crate::cut::{MAX_SNAP, meant};
 use crate::lines::{LineFault, first_line, number};
@@ -16,7 +16,7 @@ struct Terms {
 }
 
 /// A snapshot length, where 0 stands for the largest.
-fn snapshot_length(text: &str) -> Option<u32> {
+pub fn snapshot_length(text: &str) -> Option<u32> {
     let snap = number(text)?;
     if snap > u64::from(MAX_SNAP) {
         return None;
@@ -24,21 +24,30 @@ fn snapshot_length(text: &str) -> Option<u32> {
     Some(meant(snap as u32))
 }
 
-/// The terms and the expression of a line `SNAP CAPACITY EXPRESSION`. Behind the digits of CAPACITY an `i` stands for the
-/// mode Immediate. Where the expression is empty the space before it may be missing.
+/// A capacity in bytes. Behind its digits an `i` stands for the mode Immediate.
+pub fn capacity_and_mode(text: &str) -> Option<(usize, Mode)> {
+    let (digits, mode) = match text.strip_suffix('i') {
+        Some(digits) => (digits, Mode::Immediate),
+        None => (text, Mode::Buffered),
+    };
+    Some((number(digits)? as usize, mode))
+}
+
+/// The terms and the expression of a line `SNAP CAPACITY EXPRESSION`. Where the expression is empty the space before it
+/// may be missing.
 fn fields(line: &str) -> Option<(Terms, &str)> {
     let (snap, rest) = line.split_once(' ')?;
     let (capacity, expression) = rest.split_once(' ').unwrap_or((rest, ""));
-    let (digits, mode) = match capacity.strip_suffix('i') {
-        Some(digits) => (digits, Mode::Immediate),
-        None => (capacity, Mode::Buffered),
-    };
-    let terms = Terms {
-        snap: snapshot_length(snap)?,
-        capacity: number(digits)? as usize,
-        mode,
-    };
-    Some((terms, expression))
+    let snap = snapshot_length(snap)?;
+    let (capacity, mode) = capacity_and_mode(capacity)?;
+    Some((
+        Terms {
+            snap,
+            capacity,
+            mode,
+        },
+        expression,
+    ))
 }
 
 /// The listener of a line, nothing where the line has not its form.

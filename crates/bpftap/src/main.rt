@@ -20,6 +20,17 @@ mod program;
 #[cfg(test)]
 mod relation_tests;
 mod reports;
+pub mod run;
+#[cfg(test)]
+mod run_device_tests;
+mod run_files;
+#[cfg(test)]
+mod run_files_tests;
+mod run_lines;
+mod run_reports;
+#[cfg(test)]
+mod run_tests;
+mod run_words;
 mod script;
 pub mod steps;
 #[cfg(test)]

@@ -5,6 +5,7 @@ use crate::command_line::{CutWords, Request, read_words};
 use crate::cut::{CutEnd, End, cut};
 use crate::files::{LateFile, hold_stream, is_same_file};
 use crate::filter::filter;
+use crate::run_files::{NamesFiles, run_files};
 use crate::steps_files::steps_files;
 use crate::tell::{Path, REFUSED, tell, tell_device, tell_fault};
 use bpfvm::Program;
@@ -13,6 +14,8 @@ use savefile::{Counted, Fault};
 use std::convert::AsStr;
 use std::fs::Files;
 use std::io::{BufWriter, ErrorKind, Write};
+use std::sync::Wait;
+use std::thread::Threads;
 use std::{fs, io};
 
 /// How many bytes of output are gathered before they are written.
@@ -20,12 +23,12 @@ const OUTPUT_BUFFER: usize = 1 << 18;
 
 /// Runs the command that the words ask for, the program's name first. What was asked for goes to `out`, faults go to
 /// `err`, and the exit status comes back.
-pub fn run<R: Files + AllocGlobal, S: AsStr, O: Write, E: Write>(
-    rt: &R,
-    words: &[S],
-    out: &mut O,
-    err: &mut E,
-) -> u8 {
+pub fn run<
+    R: Files + AllocGlobal + NamesFiles + Threads + Wait + Sync,
+    S: AsStr,
+    O: Write,
+    E: Write,
+>(rt: &R, words: &[S], out: &mut O, err: &mut E) -> u8 {
     let _input = hold_stream(rt);
     let _output = hold_stream(rt);
     let _error = hold_stream(rt);
@@ -33,6 +36,10 @@ pub fn run<R: Files + AllocGlobal, S: AsStr, O: Write, E: Write>(
         Ok(Request::Check(expr)) => check(rt.alloc(), expr, out, err),
         Ok(Request::Cut(words)) => cut_files(rt, &words, err),
         Ok(Request::Steps(words)) => match steps_files(rt, &words, out, err) {
+            Ok(status) => status,
+            Err(status) => status,
+        },
+        Ok(Request::Run(words)) => match run_files(rt, &words, out, err) {
             Ok(status) => status,
             Err(status) => status,
         },
@@ -61,6 +68,18 @@ pub fn tell_io<E: Write>(error: &io::Error, path: &str, err: &mut E) -> u8 {
         tell_fault(Fault::NoMemory, REFUSED, err)
     } else {
         tell_device(path, err)
+    }
+}
+
+/// The bytes of a file, or, told on `err`, why there are none, and the exit status.
+pub fn read_file<R: Files + AllocGlobal, E: Write>(
+    rt: &R,
+    path: &str,
+    err: &mut E,
+) -> Result<Vec<u8>, u8> {
+    match fs::read(rt, path) {
+        Ok(text) => Ok(text),
+        Err(error) => Err(tell_io(&error, path, err)),
     }
 }
 

@@ -1,18 +1,9 @@
 //! The file SCRIPT: the steps of a replay.
 
-use crate::lines::{LineFault, first_line, number};
+use crate::lines::{LineFault, first_line, number_u32};
 use std::alloc::Global;
 use std::str;
 use tap::Step;
-
-/// The number of a listener, up to 4,294,967,295.
-fn listener_of(text: &str) -> Option<u32> {
-    let l = number(text)?;
-    if l > u64::from(u32::MAX) {
-        return None;
-    }
-    Some(l as u32)
-}
 
 /// The step of a line, nothing where the line has not its form.
 fn step_of(line: &[u8]) -> Option<Step> {
@@ -22,9 +13,9 @@ fn step_of(line: &[u8]) -> Option<Step> {
     }
     let (word, l) = line.split_once(' ')?;
     match word {
-        "flush" => Some(Step::Flush(listener_of(l)?)),
-        "read" => Some(Step::Read(listener_of(l)?)),
-        "close" => Some(Step::Close(listener_of(l)?)),
+        "flush" => Some(Step::Flush(number_u32(l)?)),
+        "read" => Some(Step::Read(number_u32(l)?)),
+        "close" => Some(Step::Close(number_u32(l)?)),
         _ => None,
     }
 }

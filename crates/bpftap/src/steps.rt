@@ -7,10 +7,9 @@ use crate::lines::LineFault;
 use crate::listeners_file::read_listeners;
 use crate::reports::write_reports;
 use crate::script::read_script;
-use crate::tell::{BAD_RECORD, REFUSED, tell_device, tell_fault};
+use crate::tell::{BAD_RECORD, REFUSED, tell_fault, tell_written};
 use std::alloc::Global;
-use std::io;
-use std::io::{ErrorKind, Write};
+use std::io::Write;
 use tap::{Fault, Report, Spec, Step, Trace, replay, trace};
 
 /// What the files LISTENERS and SCRIPT ask for.
@@ -34,19 +33,6 @@ fn tell_torn<E: Write>(torn: Option<(u32, savefile::Fault)>, err: &mut E) -> u8
     match torn {
         Some((n, fault)) => tell_fault(Fault::Capture(n, fault), BAD_RECORD, err),
         None => 0,
-    }
-}
-
-/// Tells that `out` failed, or that memory was refused, and answers the exit status.
-fn tell_written<E: Write>(written: io::Result<()>, err: &mut E) -> u8
-    ensures { result ≤ 3 }
-{
-    match written {
-        Ok(()) => 0,
-        Err(error) if error.kind() == ErrorKind::OutOfMemory => {
-            tell_fault(Fault::NoMemory, REFUSED, err)
-        }
-        Err(_) => tell_device("standard output", err),
     }
 }
 

@@ -1,29 +1,16 @@
 //! `bpftap steps`, over files.
 
-use crate::program::tell_io;
+use crate::program::read_file;
 use crate::steps::{play_asked, read_asked};
 use crate::steps_words::StepsWords;
 use crate::tell::{REFUSED, tell_fault};
 use savefile::Fault;
 use std::alloc::{AllocError, Global};
-use std::fs;
 use std::fs::Files;
 use std::io::{BufWriter, Write};
 
 /// How many bytes of output are gathered before they are written.
 const OUTPUT_BUFFER: usize = 1 << 16;
-
-/// The bytes of a file, or, told on `err`, why there are none, and the exit status.
-fn read_file<R: Files + AllocGlobal, E: Write>(
-    rt: &R,
-    path: &str,
-    err: &mut E,
-) -> Result<Vec<u8>, u8> {
-    match fs::read(rt, path) {
-        Ok(text) => Ok(text),
-        Err(error) => Err(tell_io(&error, path, err)),
-    }
-}
 
 /// The bytes of all captures.
 fn read_captures<R: Files + AllocGlobal, E: Write>(

@@ -1,6 +1,6 @@
 //! What the program tells on standard error, and the exit statuses.
 
-ghost use Rattle.std.specs.Prelude.{◌≡◌};
+ghost use Rattle.std.specs.Prelude.{◌≡◌, ◌≤◌, ◌⊎◌, OnOk, OnErr};
 ghost use Rattle.bpftap.specs.Telling.{fault_status, status_of};
 
 use crate::cut::{CutEnd, End};
@@ -80,16 +80,40 @@ pub fn tell_device<E: Write>(path: &str, err: &mut E) -> u8
     tell_fault(format_args!("Device {}", Path(path)), DEVICE, err)
 }
 
+/// Tells that standard output failed, or that memory was refused, and answers the exit status.
+pub fn tell_written<E: Write>(written: io::Result<()>, err: &mut E) -> u8
+    ensures clean { OnOk written (result ≡ 0) }
+    ensures failed { OnErr written ((result ≡ REFUSED) ⊎ (result ≡ DEVICE)) }
+    ensures status { (result ≡ 0) ⊎ (result ≡ REFUSED) ⊎ (result ≡ DEVICE) }
+    ensures bound { result ≤ 3 }
+{
+    match written {
+        Ok(()) => 0,
+        Err(error) if error.kind() == ErrorKind::OutOfMemory => {
+            tell_fault(Fault::NoMemory, REFUSED, err)
+        }
+        Err(_) => tell_device("standard output", err),
+    }
+}
+
+/// The exit status of a fault.
+pub fn fault_status(fault: Fault) -> u8
+    ensures { result ≡ fault_status fault }
+{
+    match fault {
+        Fault::Device => DEVICE,
+        Fault::TornRecord(_) | Fault::BadFraction(_) | Fault::TooLong(_) => BAD_RECORD,
+        _ => REFUSED,
+    }
+}
+
 /// A fault of the file or device at a path.
 fn tell_of<E: Write>(fault: Fault, path: &str, err: &mut E) -> u8
     ensures { result ≡ fault_status fault }
 {
     match fault {
         Fault::Device => tell_device(path, err),
-        Fault::TornRecord(_) | Fault::BadFraction(_) | Fault::TooLong(_) => {
-            tell_fault(fault, BAD_RECORD, err)
-        }
-        _ => tell_fault(fault, REFUSED, err),
+        _ => tell_fault(fault, fault_status(fault), err),
     }
 }
 

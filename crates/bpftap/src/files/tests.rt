@@ -3,13 +3,19 @@
 
 use super::{FileId, LateFile, file_at};
 use crate::program::run;
-use std::alloc::Allocator;
-use std::cell::Cell;
+use crate::run_files::{LateFiles, NamesFiles};
+use crate::run_words::RunWords;
+use crate::tell::REFUSED;
+use std::alloc::{Allocator, Global};
 use std::fs::{Files, Metadata, OpenFile, OpenOptions};
 use std::io::{ErrorKind, Read, Seek, SeekFrom, Write};
 use std::os::unix::fs::MetadataExt;
 use std::process::Abort;
+use std::sync::Wait;
+use std::sync::atomic::Ordering::SeqCst;
+use std::sync::atomic::{AtomicBool, AtomicU32, AtomicUsize};
 use std::test::Fail;
+use std::thread::Threads;
 use std::{fs, io, process};
 
 /// Enough for the standard streams, and all files of a command at once.
@@ -25,45 +31,80 @@ const TORN: &[u8] =
 /// refused, and how many calls there were.
 #[derive(Drop)]
 struct Table {
-    taken: Cell<[bool; DESCRIPTORS]>,
-    output: Cell<Option<usize>>,
-    refused: Cell<u32>,
-    calls: Cell<u32>,
+    taken: [AtomicBool; DESCRIPTORS],
+    output: AtomicUsize,
+    refused: AtomicU32,
+    calls: AtomicU32,
 }
 
+/// No descriptor.
+const NONE: usize = usize::MAX;
+
 impl Table {
-    fn new(taken: [bool; DESCRIPTORS], refused: u32) -> Table {
+    /// The table with these descriptors taken.
+    fn new(open: [bool; 3]) -> Table {
+        let [input, output, error] = open;
         Table {
-            taken: Cell::new(taken),
-            output: Cell::new(None),
-            refused: Cell::new(refused),
-            calls: Cell::new(0),
+            taken: [
+                AtomicBool::new(input),
+                AtomicBool::new(output),
+                AtomicBool::new(error),
+                AtomicBool::new(false),
+                AtomicBool::new(false),
+                AtomicBool::new(false),
+                AtomicBool::new(false),
+                AtomicBool::new(false),
+            ],
+            output: AtomicUsize::new(NONE),
+            refused: AtomicU32::new(0),
+            calls: AtomicU32::new(0),
         }
     }
 
     /// Counts a call, and refuses it where one is to be refused still.
     fn call(&self) -> io::Result<()> {
-        self.calls.set(self.calls.get().wrapping_add(1));
-        let Some(refused) = self.refused.get().checked_sub(1) else {
+        self.calls.fetch_add(1, SeqCst);
+        let Some(refused) = self.refused.load(SeqCst).checked_sub(1) else {
             return Ok(());
         };
-        self.refused.set(refused);
+        self.refused.store(refused, SeqCst);
         Err(io::Error::from(ErrorKind::Other))
     }
 
+    /// The first descriptor that is free.
+    fn free(&self) -> Option<usize> {
+        self.taken.iter().position(|taken| !taken.load(SeqCst))
+    }
+
     fn set(&self, number: usize, taken: bool) {
-        let mut all = self.taken.get();
-        if let Some(one) = all.get_mut(number) {
-            *one = taken;
+        if let Some(one) = self.taken.get(number) {
+            one.store(taken, SeqCst);
         }
-        self.taken.set(all);
     }
 }
 
-/// The made system.
+/// The made system, with the threads of a real one.
 #[derive(Drop)]
-struct System<'a> {
+struct System<'a, T> {
     table: &'a Table,
+    threads: &'a T,
+}
+
+impl<T: Threads> Threads for System<'_, T> {}
+
+impl<T: Wait> Wait for System<'_, T> {}
+
+/// Its captures are not replayed.
+impl<T> NamesFiles for (System<'_, T>, Global) {
+    fn named_files<'r, 'i, 'o, E: Write>(
+        &'r self,
+        _alloc: Global,
+        _words: &RunWords<'i>,
+        _listeners: &'o [u8],
+        _err: &mut E,
+    ) -> Result<LateFiles<'r, 'i, 'o>, u8> {
+        Err(REFUSED)
+    }
 }
 
 /// A file of it, whose descriptor is free again when it is let go.
@@ -125,14 +166,14 @@ impl OpenFile for Numbered<'_> {
     }
 }
 
-impl<'a> Files for System<'a> {
+impl<'a, T> Files for System<'a, T> {
     type File = Numbered<'a>;
 
     type Dir = &'static [u8];
 
     fn open_file(&self, _how: &OpenOptions, path: &str) -> io::Result<Numbered<'a>> {
         let table = self.table;
-        let Some(number) = table.taken.get().iter().position(|taken| !*taken) else {
+        let Some(number) = table.free() else {
             return Err(io::Error::from(ErrorKind::Other));
         };
         let left = match path {
@@ -142,7 +183,7 @@ impl<'a> Files for System<'a> {
         };
         if path == "out.pcap" {
             table.call()?;
-            table.output.set(Some(number));
+            table.output.store(number, SeqCst);
         }
         table.set(number, true);
         Ok(Numbered {
@@ -190,13 +231,15 @@ impl<'a> Files for System<'a> {
 }
 
 /// Cuts the torn capture with these of the standard streams open, and looks where OUT went.
-fn cut_with(rt: &(impl Abort + AllocGlobal), open: [bool; 3]) {
-    let mut taken = [false; DESCRIPTORS];
-    for (number, is_open) in open.iter().enumerate() {
-        taken[number] = *is_open;
-    }
-    let table = Table::new(taken, 0);
-    let system = (System { table: &table }, rt.alloc());
+fn cut_with(rt: &(impl Abort + AllocGlobal + Threads + Wait + Sync), open: [bool; 3]) {
+    let table = Table::new(open);
+    let system = (
+        System {
+            table: &table,
+            threads: rt,
+        },
+        rt.alloc(),
+    );
     let mut out: Vec<u8> = Vec::new(rt.alloc());
     let mut err: Vec<u8> = Vec::new(rt.alloc());
     let words = [
@@ -205,8 +248,11 @@ fn cut_with(rt: &(impl Abort + AllocGlobal), open: [bool; 3]) {
     let status = run(&system, &words, &mut out, &mut err);
     assert_eq!(rt; status, 2, "{open:?}");
     assert_eq!(rt; err.as_slice(), b"bpftap: TornRecord 0\n".as_slice());
-    let output = table.output.get().expect(rt, "OUT is made");
-    assert!(rt; output > 2, "{open:?}: OUT is descriptor {output}");
+    let output = table.output.load(SeqCst);
+    assert!(rt;
+        output > 2 && output != NONE,
+        "{open:?}: OUT is descriptor {output}"
+    );
 }
 
 #[test]
@@ -226,20 +272,24 @@ fn fail_once<R: Files>(rt: &impl Abort, system: &R, table: &Table, is_made: bool
     if is_made {
         assert_eq!(rt; file.write(b"a").ok(), Some(1));
     }
-    let before = table.calls.get();
-    table.refused.set(1);
+    let before = table.calls.load(SeqCst);
+    table.refused.store(1, SeqCst);
     assert!(rt; file.write(b"b").is_err());
     assert!(rt; file.write(b"c").is_err());
     assert!(rt; file.flush().is_err());
-    assert_eq!(rt; table.calls.get(), before.wrapping_add(1));
+    assert_eq!(rt; table.calls.load(SeqCst), before.wrapping_add(1));
 }
 
 #[test]
 fn a_file_that_failed_is_not_touched_again(rt: HostRuntime) {
     // The call that makes the file is refused, or the one that writes it.
     for is_made in [false, true] {
-        let table = Table::new([false; DESCRIPTORS], 0);
-        fail_once(&rt, &System { table: &table }, &table, is_made);
+        let table = Table::new([false; 3]);
+        let system = System {
+            table: &table,
+            threads: &rt,
+        };
+        fail_once(&rt, &system, &table, is_made);
     }
 }
 

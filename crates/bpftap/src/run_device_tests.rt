@@ -1,0 +1,347 @@
+//! `bpftap run` over devices that break, over calls that are counted, and over the frames of a real capture.
+
+use crate::cut::{End, cut};
+use crate::filter::filter;
+use crate::run::run;
+use crate::run_tests::{TCP, UDP, front, item, replayed};
+use crate::tests::{BreakingWriter, HEADER, PiecesReader, concat};
+use crate::veth_frames::{FRAMES, KEPT, capture};
+use savefile::{Counted, Order, Unit};
+use std::fmt::Write as _;
+use std::io;
+use std::io::{Read, Write};
+use std::process::Abort;
+use std::sync::Wait;
+use std::sync::atomic::AtomicU64;
+use std::sync::atomic::Ordering::SeqCst;
+use std::test::Fail;
+use std::thread::Threads;
+
+/// A device that counts its calls.
+#[derive(Drop)]
+struct Touched<'a> {
+    calls: &'a AtomicU64,
+}
+
+impl Read for Touched<'_> {
+    fn read(&mut self, _to: &mut [u8]) -> io::Result<usize> {
+        self.calls.fetch_add(1, SeqCst);
+        Ok(0)
+    }
+}
+
+impl Write for Touched<'_> {
+    fn write(&mut self, from: &[u8]) -> io::Result<usize> {
+        self.calls.fetch_add(1, SeqCst);
+        Ok(from.len())
+    }
+
+    fn flush(&mut self) -> io::Result<()> {
+        Ok(())
+    }
+}
+
+/// The fault that a call over counting devices tells, and how often they were called and how many sinks were made.
+fn call_touched<R: Abort + AllocGlobal + Threads + Wait + Sync>(
+    rt: &R,
+    listeners: &[u8],
+    interfaces: usize,
+) -> Result<(String, u64, u64), Fail> {
+    let alloc = rt.alloc();
+    let (calls, made) = (AtomicU64::new(0), AtomicU64::new(0));
+    let mut captures = Vec::new(alloc);
+    for _ in 0..interfaces {
+        let source = Counted::new(Touched { calls: &calls });
+        let mut sources = Vec::new(alloc);
+        sources.push(source)?;
+        captures.push(sources)?;
+    }
+    let mut out: Vec<u8> = Vec::new(alloc);
+    let mut err: Vec<u8> = Vec::new(alloc);
+    let make = |_: &str| {
+        made.fetch_add(1, SeqCst);
+        Counted::new(Touched { calls: &calls })
+    };
+    let (status, sinks) = run(rt, alloc, listeners, captures, make, &mut out, &mut err);
+    assert_eq!(rt; status, 1);
+    assert!(rt; out.is_empty());
+    assert!(rt; sinks.is_empty());
+    let told = String::from_utf8(err).expect(rt, "standard error is text");
+    Ok((told, calls.load(SeqCst), made.load(SeqCst)))
+}
+
+#[test]
+fn no_device_is_touched_where_a_run_is_refused(rt: HostRuntime) -> Result<(), Fail> {
+    for (listeners, interfaces, fault, sinks) in [
+        (
+            b"0 0 64 96 1 a\n1 0 64 96 1".as_slice(),
+            2,
+            "Listeners 2",
+            0,
+        ),
+        (
+            b"0 0 64 96 1 a\n0 0 64 96 1 b x".as_slice(),
+            1,
+            "Expression 1 BadWord 0",
+            0,
+        ),
+        (b"0 0 64 96 0 a\n".as_slice(), 1, "Open 0 0 BadCapacity", 1),
+        (
+            b"0 0 64 96 1 a\n1 0 64 95 1 b".as_slice(),
+            2,
+            "Open 1 0 BadCapacity",
+            2,
+        ),
+        (b"0 0 64 96 1 a\n".as_slice(), 17, "TooMany", 1),
+    ] {
+        let (told, calls, made) = call_touched(&rt, listeners, interfaces)?;
+        assert_eq!(rt;
+            told.as_str(),
+            format!(in rt.alloc(); "bpftap: {fault}\n")?.as_str()
+        );
+        assert_eq!(rt; (calls, made), (0, sinks));
+    }
+    Ok(())
+}
+
+/// Replays one interface of these sources to these sinks, into an output of so much room: what was printed and told, the
+/// status, and what each sink took.
+fn broken<R: Abort + AllocGlobal + Threads + Wait + Sync>(
+    rt: &R,
+    sources: &[(&[u8], bool)],
+    rooms: &[usize],
+    out: &mut impl Write,
+) -> Result<(String, u8, Vec<Vec<u8>>), Fail> {
+    let alloc = rt.alloc();
+    let mut captures = Vec::new(alloc);
+    for (left, breaks) in sources {
+        captures.push(Counted::new(PiecesReader {
+            left: *left,
+            piece: 5,
+            breaks: *breaks,
+        }))?;
+    }
+    let mut interfaces = Vec::new(alloc);
+    interfaces.push(captures)?;
+    let mut listeners = String::new(alloc);
+    for l in 0..rooms.len() {
+        write!(listeners, "0 0 0 1048576 2 {l}\n")?;
+    }
+    let mut err: Vec<u8> = Vec::new(alloc);
+    let mut rooms = rooms.iter();
+    let make = |_: &str| {
+        Counted::new(BreakingWriter {
+            taken: Vec::new(alloc),
+            room: *rooms.next().unwrap_or(&0),
+        })
+    };
+    let (status, sinks) = run(
+        rt,
+        alloc,
+        listeners.as_bytes(),
+        interfaces,
+        make,
+        out,
+        &mut err,
+    );
+    let mut written = Vec::new(alloc);
+    for sink in sinks {
+        written.push(sink.into_inner().taken)?;
+    }
+    let told = String::from_utf8(err).expect(rt, "standard error is text");
+    Ok((told, status, written))
+}
+
+/// More than any test writes.
+const AMPLE: usize = 1 << 20;
+
+#[test]
+fn a_broken_source_is_told_behind_its_packets(rt: HostRuntime) -> Result<(), Fail> {
+    let alloc = rt.alloc();
+    let whole = concat(alloc, &[HEADER, TCP])?;
+    let more = concat(alloc, &[HEADER, UDP, "000000"])?;
+    let (torn, short) = (
+        front(&rt, more.as_slice(), 77),
+        front(&rt, more.as_slice(), 23),
+    );
+    for (second, packets, length) in [
+        (more.as_slice(), 2, 132),
+        (torn, 1, 78),
+        (short, 1, 78),
+        (front(&rt, more.as_slice(), 0), 1, 78),
+    ] {
+        let sources = [
+            (whole.as_slice(), false),
+            (second, true),
+            (whole.as_slice(), false),
+        ];
+        let mut out: Vec<u8> = Vec::new(alloc);
+        let (told, status, written) = broken(&rt, &sources, &[AMPLE], &mut out)?;
+        assert_eq!(rt; told.as_str(), "bpftap: Interface 0 Capture 1 Device\n");
+        assert_eq!(rt; status, 3);
+        assert_eq!(rt; item(&rt, written.as_slice(), 0).len(), length);
+        let line = format!(in alloc;
+            "interface 0 listener 0 received {packets} matched {packets} dropped 0 written {packets} Clean\n"
+        )?;
+        assert_eq!(rt; out.as_slice(), line.as_bytes());
+    }
+    Ok(())
+}
+
+#[test]
+fn a_broken_sink_is_told_by_its_bytes(rt: HostRuntime) -> Result<(), Fail> {
+    let alloc = rt.alloc();
+    let text = concat(alloc, &[HEADER, TCP, UDP, TCP])?;
+    let sources = [(text.as_slice(), false)];
+    for (room, packets) in [
+        (0, 0),
+        (1, 0),
+        (23, 0),
+        (24, 0),
+        (77, 0),
+        (78, 1),
+        (100, 1),
+        (185, 2),
+    ] {
+        let mut out: Vec<u8> = Vec::new(alloc);
+        let (told, status, written) = broken(&rt, &sources, &[room, AMPLE], &mut out)?;
+        assert_eq!(rt; (told.as_str(), status), ("", 3));
+        // How many packets arrived before the drain was found closed is the threads' to say.
+        let out = String::from_utf8(out).expect(&rt, "standard output is text");
+        let ends = format!(in alloc; " dropped 0 written {packets} Write {room}")?;
+        let (first, second) = out.split_once('\n').expect(&rt, "there are two lines");
+        assert!(rt;
+            first.starts_with("interface 0 listener 0 received "),
+            "{first}"
+        );
+        assert!(rt; first.ends_with(ends.as_str()), "{first}");
+        assert_eq!(rt;
+            second,
+            "interface 0 listener 1 received 3 matched 3 dropped 0 written 3 Clean\n"
+        );
+        assert_eq!(rt;
+            item(&rt, written.as_slice(), 0).as_slice(),
+            front(&rt, text.as_slice(), room)
+        );
+        assert_eq!(rt;
+            item(&rt, written.as_slice(), 1).as_slice(),
+            text.as_slice()
+        );
+    }
+    Ok(())
+}
+
+#[test]
+fn an_output_that_breaks_is_a_device_fault(rt: HostRuntime) -> Result<(), Fail> {
+    let alloc = rt.alloc();
+    let torn = concat(alloc, &[HEADER, TCP, "00"])?;
+    for room in [0, 5, 69] {
+        let mut out = BreakingWriter {
+            taken: Vec::new(alloc),
+            room,
+        };
+        let sources = [(torn.as_slice(), false)];
+        let (told, status, written) = broken(&rt, &sources, &[AMPLE], &mut out)?;
+        assert_eq!(rt;
+            told.as_str(),
+            "bpftap: Device standard output\nbpftap: Interface 0 Capture 0 TornRecord 1\n"
+        );
+        assert_eq!(rt; status, 3);
+        assert_eq!(rt;
+            item(&rt, written.as_slice(), 0).as_slice(),
+            front(&rt, torn.as_slice(), 78)
+        );
+    }
+    Ok(())
+}
+
+/// What `cut -s 40 -e` writes of a capture.
+fn cut_by<R: Abort + AllocGlobal>(rt: &R, expr: &str, text: &[u8]) -> Vec<u8> {
+    let alloc = rt.alloc();
+    let mut err: Vec<u8> = Vec::new(alloc);
+    let program = filter(alloc, None, Some(expr), 40, &mut err).expect(rt, "it compiles");
+    let to = Counted::new(Vec::new(alloc));
+    let end = cut(alloc, text, &program, 40, Order::Little, Unit::Micro, to);
+    assert_eq!(rt; end.end, End::Clean);
+    end.sink.into_inner()
+}
+
+/// The number behind a word of a line.
+fn number_behind(line: &str, word: &str) -> Option<u64> {
+    let (_, rest) = line.split_once(word)?;
+    rest.split_once(' ')?.0.parse::<u64>().ok()
+}
+
+#[test]
+fn each_expression_writes_what_cut_writes(rt: HostRuntime) -> Result<(), Fail> {
+    let alloc = rt.alloc();
+    let text = capture(alloc)?;
+    let mut listeners = String::new(alloc);
+    for (l, (expr, _)) in KEPT.iter().enumerate() {
+        write!(listeners, "0 0 40 8192 2 {l} {expr}\n")?;
+    }
+    let seen = replayed(&rt, listeners.as_bytes(), &[&[text.as_slice()]])?;
+    assert_eq!(rt; (seen.err.as_str(), seen.status), ("", 0));
+    assert_eq!(rt; seen.written.len(), KEPT.len());
+    let mut wanted = String::new(alloc);
+    for ((l, (expr, kept)), written) in KEPT.iter().enumerate().zip(&seen.written) {
+        let matched = kept.count_ones();
+        write!(
+            wanted,
+            "interface 0 listener {l} received {FRAMES} matched {matched} dropped 0 written {matched} Clean\n"
+        )?;
+        assert_eq!(rt;
+            written.as_slice(),
+            cut_by(&rt, expr, text.as_slice()).as_slice(),
+            "{expr}"
+        );
+    }
+    assert_eq!(rt; seen.out.as_str(), wanted.as_str());
+    Ok(())
+}
+
+/// The record at the head of a text of records, and the rest.
+fn first_record(text: &[u8]) -> Option<(&[u8], &[u8])> {
+    let captured = *text.get(8)? as usize;
+    Some((text.get(..captured + 16)?, text.get(captured + 16..)?))
+}
+
+/// How many records a text has, where each stands in the other text, in the same order.
+fn count_among(text: &[u8], all: &[u8]) -> Option<u64> {
+    let (mut text, mut all) = (text, all);
+    let mut count = 0u64;
+    while !text.is_empty() {
+        let (wanted, rest) = first_record(text)?;
+        let (one, left) = first_record(all)?;
+        all = left;
+        if one == wanted {
+            text = rest;
+            count = count.wrapping_add(1);
+        }
+    }
+    Some(count)
+}
+
+#[test]
+fn small_buffers_lose_packets_and_count_them(rt: HostRuntime) -> Result<(), Fail> {
+    let alloc = rt.alloc();
+    let text = capture(alloc)?;
+    let mut listeners = String::new(alloc);
+    for (l, (expr, _)) in KEPT.iter().enumerate() {
+        write!(listeners, "0 {l} 40 72 1 {l} {expr}\n")?;
+    }
+    let seen = replayed(&rt, listeners.as_bytes(), &[&[text.as_slice()]])?;
+    assert_eq!(rt; (seen.err.as_str(), seen.status), ("", 0));
+    for ((line, (expr, kept)), written) in seen.out.lines().zip(KEPT).zip(&seen.written) {
+        assert_eq!(rt; number_behind(line, "received "), Some(FRAMES as u64));
+        assert_eq!(rt;
+            number_behind(line, "matched "),
+            Some(u64::from(kept.count_ones()))
+        );
+        let count = count_among(&written[24..], &cut_by(&rt, expr, text.as_slice())[24..]);
+        let dropped = number_behind(line, "dropped ").expect(&rt, "it is printed");
+        assert_eq!(rt; count, number_behind(line, "written "));
+        assert_eq!(rt; count, u64::from(kept.count_ones()).checked_sub(dropped));
+    }
+    Ok(())
+}

@@ -1,0 +1,213 @@
+//! `bpftap run`, over files.
+
+use crate::files::{LateFile, LateInput, lost_file};
+use crate::program::read_file;
+use crate::run::{Plan, read_plan, replay_plan};
+use crate::run_reports::tell_run;
+use crate::run_words::RunWords;
+use crate::tell::{Path, REFUSED, tell_fault};
+use replay::{InterfaceReport, ListenerReport, RunFault, TaskEnd};
+use savefile::{Counted, Fault};
+use std::alloc::{AllocError, Global};
+use std::fs::Files;
+use std::io;
+use std::io::{BufWriter, Write};
+use std::sync::Wait;
+use std::thread::Threads;
+
+/// How many bytes of a capture are gathered before they are written.
+const OUTPUT_BUFFER: usize = 1 << 16;
+
+/// A capture that is read.
+type Input<'r, 'p> = Counted<LateInput<'r, 'p, HostRuntime>>;
+
+/// A capture that is written.
+type Output<'r, 'p> = Counted<BufWriter<LateFile<'r, 'p, HostRuntime>>>;
+
+/// The captures of an interface, none of them opened.
+fn sources<'r, 'p>(
+    files: &'r HostRuntime,
+    alloc: Global,
+    paths: &[&'p str],
+) -> Result<Vec<Input<'r, 'p>>, AllocError> {
+    let mut sources = Vec::with_capacity(alloc, paths.len())?;
+    for path in paths {
+        sources.push(Counted::new(LateInput::new(files, *path)))?;
+    }
+    Ok(sources)
+}
+
+/// The captures of all interfaces.
+fn all_sources<'r, 'p>(
+    files: &'r HostRuntime,
+    alloc: Global,
+    inputs: &[Vec<&'p str>],
+) -> Result<Vec<Vec<Input<'r, 'p>>>, AllocError> {
+    let mut all = Vec::with_capacity(alloc, inputs.len())?;
+    for paths in inputs {
+        all.push(sources(files, alloc, paths.as_slice())?)?;
+    }
+    Ok(all)
+}
+
+/// The captures that are written, none of them made.
+fn sinks<'r, 'p>(
+    files: &'r HostRuntime,
+    alloc: Global,
+    outputs: &[&'p str],
+) -> io::Result<Vec<Output<'r, 'p>>> {
+    let mut sinks = Vec::with_capacity(alloc, outputs.len())?;
+    for path in outputs {
+        let late = LateFile::new(files, *path);
+        sinks.push(Counted::new(BufWriter::with_capacity(alloc, OUTPUT_BUFFER, late)?))?;
+    }
+    Ok(sinks)
+}
+
+/// Empties the buffer before an OUT. What fails only now is a failed write too, and what was written is what the file took.
+fn flush_one(report: &mut ListenerReport<Output<'_, '_>>) {
+    let flushed = report.sink.inner.flush();
+    if flushed.is_err() || matches!(&report.end, TaskEnd::Write(_)) {
+        report.end = TaskEnd::Write(report.sink.inner.get_ref().taken());
+    }
+}
+
+/// Empties the buffers before all captures that are written.
+fn flush_all(reports: &mut [InterfaceReport<Input<'_, '_>, Output<'_, '_>>]) {
+    for report in reports {
+        for listener in report.listeners.as_mut_slice() {
+            flush_one(listener);
+        }
+    }
+}
+
+/// All paths that are read.
+fn read_paths<'a>(alloc: Global, words: &RunWords<'a>) -> Result<Vec<&'a str>, AllocError> {
+    let mut paths = Vec::new(alloc);
+    paths.push(words.listeners)?;
+    for inputs in words.inputs.as_slice() {
+        paths.extend_from_slice(inputs.as_slice())?;
+    }
+    Ok(paths)
+}
+
+/// All paths that are written.
+fn written_paths<'a>(alloc: Global, plan: &Plan<'a>) -> Result<Vec<&'a str>, AllocError> {
+    plan.lines.iter().map(|line| line.output).collect(alloc)
+}
+
+/// The path that is written and is one of those that are read, or is written twice.
+fn lost_path<'p>(
+    files: &HostRuntime,
+    alloc: Global,
+    words: &RunWords<'_>,
+    plan: &Plan<'p>,
+) -> Result<Option<&'p str>, AllocError> {
+    let (inputs, outputs) = (read_paths(alloc, words)?, written_paths(alloc, plan)?);
+    lost_file(files, alloc, inputs.as_slice(), outputs.as_slice())
+}
+
+/// Looks at the lines of LISTENERS and compiles the expressions. Nothing may be lost: no OUT is a file that is read, or the
+/// file of another OUT.
+fn accepted<'p, E: Write>(
+    files: &HostRuntime,
+    alloc: Global,
+    words: &RunWords<'_>,
+    listeners: &'p [u8],
+    err: &mut E,
+) -> Result<Plan<'p>, u8> {
+    let plan = match read_plan(alloc, listeners, words.inputs.len()) {
+        Ok(plan) => plan,
+        Err(fault) => return Err(tell_fault(fault, REFUSED, err)),
+    };
+    match lost_path(files, alloc, words, &plan) {
+        Ok(None) => Ok(plan),
+        Ok(Some(path)) => {
+            let fault = format_args!("SameFile {}", Path(path));
+            Err(tell_fault(fault, REFUSED, err))
+        }
+        Err(_) => Err(tell_fault(Fault::NoMemory, REFUSED, err)),
+    }
+}
+
+/// What is replayed over files, each of which is opened when it is first read or written.
+#[derive(Drop)]
+pub struct LateFiles<'r, 'i, 'o> {
+    plan: Plan<'o>,
+    captures: Vec<Vec<Input<'r, 'i>>>,
+    sinks: Vec<Output<'r, 'o>>,
+}
+
+/// The files that are replayed, and those that are written.
+fn late_files<'r, 'i, 'o>(
+    files: &'r HostRuntime,
+    alloc: Global,
+    words: &RunWords<'i>,
+    plan: Plan<'o>,
+) -> Result<LateFiles<'r, 'i, 'o>, RunFault> {
+    let captures = all_sources(files, alloc, words.inputs.as_slice())?;
+    let outputs = written_paths(alloc, &plan)?;
+    let Ok(sinks) = sinks(files, alloc, outputs.as_slice()) else {
+        return Err(RunFault::NoStart);
+    };
+    Ok(LateFiles {
+        plan,
+        captures,
+        sinks,
+    })
+}
+
+/// Names the files of a replay. A type parameter will not do for them: that what such a file does may be done by another
+/// thread is shown of a type that is known, and not of one that its trait names.
+pub trait NamesFiles {
+    /// Looks at the lines of LISTENERS, and compiles its expressions.
+    fn named_files<'r, 'i, 'o, E: Write>(
+        &'r self,
+        alloc: Global,
+        words: &RunWords<'i>,
+        listeners: &'o [u8],
+        err: &mut E,
+    ) -> Result<LateFiles<'r, 'i, 'o>, u8>;
+}
+
+impl NamesFiles for HostRuntime {
+    fn named_files<'r, 'i, 'o, E: Write>(
+        &'r self,
+        alloc: Global,
+        words: &RunWords<'i>,
+        listeners: &'o [u8],
+        err: &mut E,
+    ) -> Result<LateFiles<'r, 'i, 'o>, u8> {
+        let plan = accepted(self, alloc, words, listeners, err)?;
+        match late_files(self, alloc, words, plan) {
+            Ok(late) => Ok(late),
+            Err(fault) => Err(tell_fault(fault, REFUSED, err)),
+        }
+    }
+}
+
+/// Reads LISTENERS, and replays the captures.
+pub fn run_files<R: Files + AllocGlobal + NamesFiles + Threads + Wait + Sync, O: Write, E: Write>(
+    rt: &R,
+    words: &RunWords<'_>,
+    out: &mut O,
+    err: &mut E,
+) -> Result<u8, u8> {
+    let alloc = rt.alloc();
+    let listeners = read_file(rt, words.listeners, err)?;
+    let LateFiles {
+        plan,
+        captures,
+        sinks,
+    } = rt.named_files(alloc, words, listeners.as_slice(), err)?;
+    let Ok(mut out) = BufWriter::with_capacity(alloc, OUTPUT_BUFFER, &mut *out) else {
+        return Err(tell_fault(Fault::NoMemory, REFUSED, err));
+    };
+    match replay_plan(rt, alloc, plan, captures, sinks) {
+        Ok(mut reports) => {
+            flush_all(reports.as_mut_slice());
+            Ok(tell_run(reports.as_slice(), &mut out, err))
+        }
+        Err(fault) => Err(tell_fault(fault, REFUSED, err)),
+    }
+}

@@ -1,0 +1,81 @@
+//! The words of `bpftap run`, by `clap`.
+
+use clap::{Arg, ArgMatches, Command};
+use std::alloc::{AllocError, Global};
+
+/// What one call of `bpftap run` asks for.
+#[derive(Drop)]
+pub struct RunWords<'a> {
+    /// The path of LISTENERS.
+    pub listeners: &'a str,
+    /// The paths of the captures of each interface, in order.
+    pub inputs: Vec<Vec<&'a str>>,
+}
+
+/// The word that the captures of the next interface begin behind.
+const NEXT_INTERFACE: &str = "+";
+
+const RUN_EXAMPLES: &str =
+    "LISTENERS has a line INTERFACE FLUSH SNAP CAPACITY SPARES OUT EXPRESSION for each listener: the
+number of its interface, from 0; after every so many packets what is stored can be read (0: not
+before the buffer is full); the most bytes that are kept of a packet (0 means 262144); the bytes
+of each of its buffers; how many buffers go round between the listener and its writer, 1 to 64;
+the capture that it writes; and its filter, which may be empty. An i behind CAPACITY makes the
+listener Immediate: a packet that is stored can be read at once.
+
+A word + among IN begins the captures of the next interface.
+
+Examples:
+  bpftap run examples/run/listeners.txt examples/veth.pcap
+  bpftap run examples/run/two.txt examples/veth.pcap + examples/veth-big-nano.pcap
+
+Exit status: 0 clean; 1 wrong words, a refused line, expression or file, or want of memory;
+2 a torn or bad record, after the packets before it; 3 a file or device failed.";
+
+/// The subcommand.
+pub fn run_command<'a>(alloc: Global) -> Result<Command<'a>, AllocError> {
+    Command::new(alloc, "run")
+        .about("Replay captures in threads to listeners, each of which writes a capture")
+        .after_help(RUN_EXAMPLES)
+        .arg(
+            Arg::new(alloc, "LISTENERS").required(true).help(
+                "File with a line INTERFACE FLUSH SNAP CAPACITY SPARES OUT EXPRESSION for each listener",
+            ),
+        )?
+        .arg(
+            Arg::new(alloc, "IN").required(true).num_args(1..).help(
+                "Captures to replay, in order, with + between those of two interfaces",
+            ),
+        )
+}
+
+/// The paths of each interface.
+fn by_interface<'a>(alloc: Global, words: &[&'a str]) -> Result<Vec<Vec<&'a str>>, AllocError> {
+    let mut interfaces = Vec::new(alloc);
+    let mut paths = Vec::new(alloc);
+    for word in words {
+        if *word == NEXT_INTERFACE {
+            interfaces.push(paths)?;
+            paths = Vec::new(alloc);
+        } else {
+            paths.push(*word)?;
+        }
+    }
+    interfaces.push(paths)?;
+    Ok(interfaces)
+}
+
+/// The words that were found, nothing where one is missing.
+pub fn run_words<'a>(
+    alloc: Global,
+    matches: &ArgMatches<'a>,
+) -> Result<Option<RunWords<'a>>, AllocError> {
+    let (Some(listeners), Some(inputs)) = (matches.get_str("LISTENERS"), matches.get_strs("IN"))
+    else {
+        return Ok(None);
+    };
+    Ok(Some(RunWords {
+        listeners,
+        inputs: by_interface(alloc, inputs)?,
+    }))
+}
