@@ -130,12 +130,12 @@ fn sinks_come_back_in_the_order_of_their_lines(rt: HostRuntime) -> Result<(), Fa
          interface 1 listener 1 received 1 matched 0 dropped 0 written 0 Clean\n"
     );
     assert_eq!(rt; seen.status, 0);
-    // The snapshot length that each header has, and how many bytes of records follow.
-    let wanted = [(10, 26), (20, 72), (30, 0), (40, 54)];
+    // The snapshot length in each header, and how long a header of 24 bytes and its records are.
+    let wanted = [(10, 50), (20, 96), (30, 24), (40, 78)];
     assert_eq!(rt; seen.written.len(), wanted.len());
-    for (written, (snap, records)) in seen.written.iter().zip(wanted) {
-        assert_eq!(rt; written[16], snap);
-        assert_eq!(rt; written.len(), 24 + records);
+    for (written, (snap, length)) in seen.written.iter().zip(wanted) {
+        assert_eq!(rt; *item(&rt, written.as_slice(), 16), snap);
+        assert_eq!(rt; written.len(), length);
     }
     Ok(())
 }
