@@ -114,14 +114,28 @@ fn two_captures_are_replayed_to_two_listeners(rt: HostRuntime) -> Result<(), Fai
     Ok(())
 }
 
+/// Replays captures in memory, each at an interface of its own.
+fn replayed_apart(
+    rt: &(impl Abort + AllocGlobal + Threads + Wait + Sync),
+    listeners: &[u8],
+    sources: &[&[u8]],
+) -> Result<Seen, AllocError> {
+    let alloc = rt.alloc();
+    let mut captures = Vec::new(alloc);
+    for source in sources.chunks(1) {
+        captures.push(Vec::from_slice(alloc, source)?)?;
+    }
+    replayed_from(rt, listeners, captures)
+}
+
 #[test]
 fn sinks_come_back_in_the_order_of_their_lines(rt: HostRuntime) -> Result<(), Fail> {
     let alloc = rt.alloc();
     let first = concat(alloc, &[HEADER, TCP, UDP])?;
     let second = concat(alloc, &[HEADER, UDP])?;
     let listeners = b"1 0 10 4096 2 a\n0 0 20 4096 2 b\n1 0 30 4096 2 c tcp\n0 0 40 4096 2 d udp\n";
-    let interfaces: [&[&[u8]]; 2] = [&[first.as_slice()], &[second.as_slice()]];
-    let seen = replayed(&rt, listeners, &interfaces)?;
+    let captures = [first.as_slice(), second.as_slice()];
+    let seen = replayed_apart(&rt, listeners, &captures)?;
     assert_eq!(rt;
         seen.out.as_str(),
         "interface 0 listener 0 received 2 matched 2 dropped 0 written 2 Clean\n\
