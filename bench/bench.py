@@ -6,6 +6,8 @@
   bench/bench.py --listener        user instructions for each arrival of 660 bytes at a listener, by callgrind; proves and builds
                                    bench/listener in a copy first, which takes some minutes
   bench/bench.py --steps           the same for each packet of a replay by `bpftap steps`, one listener and 64, read at each full hold
+  bench/bench.py --run             packets per second of `bpftap run` with 1 to 8 listeners and 1 to 4 interfaces, beside as many `cut`
+                                   and tcpdump at once; what is dropped with few buffers; instructions of a packet that nobody accepts
   bench/bench.py --handover        arrivals per second at a listener, at a pair in one thread and in two, and at a listener under
                                    a lock in two threads; proves and builds bench/handover in a copy first
   bench/bench.py --expressions     wall time of `check` on expressions of some 8,192 bytes, interleaved runs, on a small stack
@@ -245,6 +247,76 @@ def steps(folder):
         print(f"{name:40} {(counts[1] - counts[0]) / 10000:8.0f}")
 
 
+# What the listeners of a replay accept, in turn.
+FILTERS = ["", "ip", "udp port 53", "arp", "tcp", "port 54", "not ip", "less 500"]
+
+
+def replay_words(folder, capture, interfaces, listeners, spares):
+    """A replay of the capture at so many interfaces, each with so many listeners."""
+    lines = [
+        f"{i} 0 0 1048576 {spares} {folder / f'{i}-{l}.pcap'} {FILTERS[l]}".rstrip() + "\n"
+        for i in range(interfaces) for l in range(listeners)]
+    path = folder / f"{interfaces}-{listeners}-{spares}.txt"
+    path.write_text("".join(lines))
+    return [str(PROGRAM), "run", str(path), *" + ".join([str(capture)] * interfaces).split()]
+
+
+def at_once(commands):
+    """Seconds that commands take which are started together."""
+    start = time.perf_counter()
+    started = [subprocess.Popen(words, stdout=subprocess.DEVNULL, stderr=subprocess.DEVNULL) for words in commands]
+    if any(one.wait() for one in started):
+        sys.exit(f"{commands[0][0]} failed")
+    return time.perf_counter() - start
+
+
+def beside(folder, capture, interfaces, listeners):
+    """As many `cut`, and as many tcpdump, as a replay has listeners."""
+    places = [(i, l) for i in range(interfaces) for l in range(listeners)]
+    yield "cut", [
+        [str(PROGRAM), "cut", "-s", "0", *(["-e", FILTERS[l]] if FILTERS[l] else []), str(capture), str(folder / f"{i}-{l}-cut.pcap")]
+        for i, l in places]
+    if shutil.which("tcpdump"):
+        stay = ["-Z", "root"] if os.geteuid() == 0 else []
+        yield "tcpdump", [
+            ["tcpdump", *stay, "-r", str(capture), "-w", str(folder / f"{i}-{l}-tcpdump.pcap"), *FILTERS[l].split()] for i, l in places]
+
+
+def replays(folder, packets, rounds):
+    """Replays beside as many cuts, and what small rings cost. The reader of a capture does not wait for its listeners, so a
+    listener that is slower drops."""
+    capture = folder / "in.pcap"
+    generate(capture, packets)
+    if shutil.which("valgrind"):
+        counts = {}
+        for many in (1000, 11000):
+            small = folder / f"{many}.pcap"
+            generate(small, many)
+            listeners = folder / "nobody.txt"
+            listeners.write_text(f"0 0 0 1048576 2 {folder / 'nobody.pcap'} less 1\n")
+            counts[many] = instructions_of([str(PROGRAM), "run", str(listeners), str(small)], folder)
+        print(f"user instructions for each packet that no listener accepts: {(counts[11000] - counts[1000]) / 10000:.0f}")
+    print(f"{packets} packets, {capture.stat().st_size / 1e6:.0f} MB, median of {rounds} rounds, {os.cpu_count()} processors")
+    for interfaces, listeners in [(1, 1), (1, 2), (1, 4), (1, 8), (2, 1), (4, 1)]:
+        seen, many = {}, interfaces * packets
+        for _ in range(rounds):
+            words = replay_words(folder, capture, interfaces, listeners, 8)
+            seen.setdefault("run", []).append(at_once([words]))
+            for name, commands in beside(folder, capture, interfaces, listeners):
+                seen.setdefault(name, []).append(at_once(commands))
+        told = ", ".join(f"{name} {many / statistics.median(times) / 1e6:.2f}" for name, times in seen.items())
+        print(f"{interfaces} interfaces, {listeners} listeners each: million packets a second: {told}")
+    for spares in (2, 8, 64):
+        shares = []
+        for _ in range(rounds):
+            done = subprocess.run(replay_words(folder, capture, 1, 4, spares), check=True, capture_output=True, text=True)
+            counts = [line.split() for line in done.stdout.splitlines()]
+            matched = sum(int(line[line.index("matched") + 1]) for line in counts)
+            dropped = sum(int(line[line.index("dropped") + 1]) for line in counts)
+            shares.append(100 * dropped / matched)
+        print(f"{spares:2} spare buffers of 1 MiB: {statistics.median(shares):5.1f} % of what matched is dropped")
+
+
 def handing_over(folder, rounds):
     """Arrivals per second at a listener, at a pair in one thread and in two, and at a listener under a lock in two."""
     program = handover_program(folder)
@@ -318,6 +390,7 @@ def main():
     parser.add_argument("--expressions", action="store_true")
     parser.add_argument("--listener", action="store_true")
     parser.add_argument("--steps", action="store_true")
+    parser.add_argument("--run", action="store_true")
     parser.add_argument("--handover", action="store_true")
     parser.add_argument("--packets", type=int, default=150000)
     parser.add_argument("--rounds", type=int, default=5)
@@ -337,6 +410,8 @@ def main():
             instructions(folder)
         elif words.steps:
             steps(folder)
+        elif words.run:
+            replays(folder, words.packets, words.rounds)
         elif words.expressions:
             expressions(20 * words.rounds)
         else:

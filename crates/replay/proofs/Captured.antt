@@ -1,5 +1,8 @@
 -- One packet of a capture more.
-use Rattle.std.proofs.Common.{◌≡◌, ◌≢◌, ◌⊎◌, inl, inr, ℕ, zero, suc, ◌+◌, ◌<◌, List, [], ◌∷◌, ◌++◌, length, get_or, All, Option, refl, ap, sym, ◌∙◌, subst, arith}
+use Rattle.std.proofs.Common.{◌≡◌, ◌≢◌, ◌⊎◌, inl, inr, ℕ, zero, suc, ◌+◌, ◌<◌, List, [], ◌∷◌, ◌++◌, length, get_or, All, Option, Some, refl, ap, sym, ◌∙◌, subst, arith}
+use Rattle.std.specs.Io.KnownBytes.{Consumes}
+use Rattle.std.proofs.KnownBytes.{Consumes-trans}
+use Rattle.std.proofs.lemmas.Bool.{cases_eq}
 use Rattle.std.proofs.lemmas.List.{append_assoc}
 use Rattle.std.proofs.lemmas.List.Elements.{All-append}
 use Rattle.listener.specs.Messages.{arrival, Arrival}
@@ -8,7 +11,9 @@ use Rattle.savefile.specs.Savefile.{IsWritable, RefusesHeader}
 use Rattle.savefile.specs.declared.fault.Fault.{Fault}
 use Rattle.savefile.specs.declared.fault.Fault.TheVariants as fault
 use Rattle.savefile.specs.declared.packet.Packet.{Packet}
-use Rattle.replay.specs.Captures.{numbered, IsStopped}
+use Rattle.replay.specs.declared.report.InterfaceEnd.{InterfaceEnd}
+use Rattle.replay.specs.declared.report.InterfaceEnd.TheVariants.{Capture}
+use Rattle.replay.specs.Captures.{numbered, ComesBack, IsStopped}
 
 numbered-more : (capture place : ℕ) (ps : List Packet) (p : Packet) → numbered capture place (ps ++ p ∷ []) ≡ numbered capture place ps ++ arrival capture (place + length ps) p ∷ []
 numbered-more capture place [] p = ap (λ k. arrival capture k p ∷ []) (omega arith)
@@ -51,4 +56,23 @@ not-opened start broke why (inr (inr none)) broken = (
   (λ e. let bad = sym none ∙ e in cc),
   (λ e. let bad = sym none ∙ e in cc),
   inr (inr (inr (none, refl))),
+)
+
+-- more bytes were taken
+pub takes-more : (a b c : Option (List ℕ)) → (bytes : List ℕ) × Consumes a b bytes → (bytes : List ℕ) × Consumes b c bytes → (bytes : List ℕ) × Consumes a c bytes
+takes-more a b c p q = (p.0 ++ q.0, Consumes-trans a b c p.0 q.0 p.1 q.1)
+
+-- a source whose counted failures differ failed
+pub device-or-same : (capture : ℕ) (why : Fault) (new old : ℕ) → (new ≢ old → why ≡ fault.Device)
+    → (Some (Capture capture why) ≡ Some (Capture capture fault.Device)) ⊎ (new ≡ old)
+device-or-same capture why new old differs =
+    elim (cases_eq new old) [ inl same ↦ inr same | inr not ↦ inl (ap (λ (f : Fault). Some (Capture capture f)) (differs not)) ]
+
+-- a source that was read further comes back
+pub comes-back : {R : Type 0} (left : R → Option (List ℕ)) (failures : R → ℕ) (s m t : R) (capture : ℕ) (end : Option InterfaceEnd)
+    → (bytes : List ℕ) × Consumes (left s) (left m) bytes → (bytes : List ℕ) × Consumes (left m) (left t) bytes → failures m ≡ failures s
+    → (end ≡ Some (Capture capture fault.Device)) ⊎ (failures t ≡ failures m) → ComesBack left failures s t capture end
+comes-back left failures s m t capture end first more same last = (
+  takes-more (left s) (left m) (left t) first more,
+  elim last [ inl device ↦ inl device | inr kept ↦ inr (kept ∙ same) ],
 )

@@ -1,9 +1,9 @@
 -- Captures that are read one behind the other.
-use Rattle.std.proofs.Common.{◌≡◌, ◌≢◌, ◌+◌, ℕ, List, [], ◌∷◌, ◌++◌, length, refl, ap, sym, ◌∙◌, arith, subst, unwrap_or, Option, Some, None, inl, inr}
+use Rattle.std.proofs.Common.{◌≡◌, ◌+◌, ℕ, List, [], ◌∷◌, ◌++◌, length, refl, ap, sym, ◌∙◌, arith, subst, unwrap_or, Option, Some, None, inl, inr}
 use Rattle.std.proofs.lemmas.List.{append-nil, append_assoc}
 use Rattle.listener.specs.Messages.{Arrival}
 use Rattle.savefile.specs.declared.packet.Packet.{Packet}
-use Rattle.replay.specs.Captures.{EndsSo, Plays, numbered}
+use Rattle.replay.specs.Captures.{Plays, WasPlayed, numbered}
 use Rattle.replay.specs.declared.report.InterfaceEnd.{InterfaceEnd}
 use Rattle.replay.specs.declared.report.InterfaceEnd.TheVariants.{Clean}
 
@@ -18,7 +18,7 @@ module _ {S : Type 0} (left : S → Option (List ℕ)) (broken : S → ℕ) wher
 
   -- one capture more was read whole
   pub one-whole : (all sources : List S) (n : ℕ) (s t : S) (rest : List S) (playlist : List Arrival) (packets : List Packet)
-      → PlaysSoFar all sources n (s ∷ rest) playlist None → EndsSo (left s) (broken t ≢ broken s) n 0 packets None
+      → PlaysSoFar all sources n (s ∷ rest) playlist None → WasPlayed left broken s t n 0 packets None
       → PlaysSoFar all (sources ++ t ∷ []) (n + 1) rest (playlist ++ numbered n 0 packets) None
   one-whole all sources n s t rest playlist packets so ends = λ total others more end plays.
       subst (λ ts. Plays left broken total 0 all ts ((playlist ++ numbered n 0 packets) ++ more) end) (sym (append_assoc sources (t ∷ []) others))
@@ -28,7 +28,7 @@ module _ {S : Type 0} (left : S → Option (List ℕ)) (broken : S → ℕ) wher
   -- one capture more was read, and ended the playlist
   pub one-ending : (all sources : List S) (n : ℕ) (s t : S) (rest : List S) (playlist : List Arrival) (packets : List Packet) (end : InterfaceEnd)
       → PlaysSoFar all sources n (s ∷ rest) playlist None
-      → EndsSo (left s) (broken t ≢ broken s) n (length (playlist ++ numbered n 0 packets)) packets (Some end)
+      → WasPlayed left broken s t n (length (playlist ++ numbered n 0 packets)) packets (Some end)
       → PlaysSoFar all (sources ++ t ∷ []) (n + 1) rest (playlist ++ numbered n 0 packets) (Some end)
   one-ending all sources n s t rest playlist packets end so ends =
       subst (λ ts. Plays left broken (length (playlist ++ numbered n 0 packets)) 0 all ts (playlist ++ numbered n 0 packets) end) (sym (append_assoc sources (t ∷ []) rest))
@@ -38,7 +38,7 @@ module _ {S : Type 0} (left : S → Option (List ℕ)) (broken : S → ℕ) wher
   -- one capture more was read
   pub one-more : (all sources : List S) (n : ℕ) (s t : S) (rest : List S) (playlist : List Arrival) (packets : List Packet) (end : Option InterfaceEnd)
       → PlaysSoFar all sources n (s ∷ rest) playlist None
-      → EndsSo (left s) (broken t ≢ broken s) n (length (playlist ++ numbered n 0 packets)) packets end
+      → WasPlayed left broken s t n (length (playlist ++ numbered n 0 packets)) packets end
       → PlaysSoFar all (sources ++ t ∷ []) (n + 1) rest (playlist ++ numbered n 0 packets) end
   one-more all sources n s t rest playlist packets None so ends = one-whole all sources n s t rest playlist packets so ends
   one-more all sources n s t rest playlist packets (Some end) so ends = one-ending all sources n s t rest playlist packets end so ends
@@ -80,7 +80,7 @@ module _ {S : Type 0} (left : S → Option (List ℕ)) (broken : S → ℕ) wher
 
   pub loop-read : (all sources sources' : List S) (n m k arrived : ℕ) (s t t' : S) (rest rest' : List S) (playlist : List Arrival) (packets : List Packet)
       (end end' end'' : Option InterfaceEnd) → PlaysSoFar all sources n rest playlist end → end ≡ None → rest ≡ s ∷ rest' → t' ≡ t → sources' ≡ sources ++ t' ∷ []
-      → k ≡ n → m ≡ n + 1 → arrived ≡ length (playlist ++ numbered k 0 packets) → EndsSo (left s) (broken t ≢ broken s) k arrived packets end'' → end' ≡ end''
+      → k ≡ n → m ≡ n + 1 → arrived ≡ length (playlist ++ numbered k 0 packets) → WasPlayed left broken s t k arrived packets end'' → end' ≡ end''
       → PlaysSoFar all sources' m rest' (playlist ++ numbered k 0 packets) end'
   loop-read all sources sources' n m k arrived s t t' rest rest' playlist packets end end' end'' so none taken same given here next many ends kept =
       subst (λ x. PlaysSoFar all sources' m rest' (playlist ++ numbered k 0 packets) x) (sym kept)
@@ -89,4 +89,4 @@ module _ {S : Type 0} (left : S → Option (List ℕ)) (broken : S → ℕ) wher
       (one-more all sources k s t rest' playlist packets end''
       (subst (λ i. PlaysSoFar all sources i (s ∷ rest') playlist None) (sym here)
       (subst (λ xs. PlaysSoFar all sources n xs playlist None) taken (subst (λ x. PlaysSoFar all sources n rest playlist x) none so)))
-      (subst (λ a. EndsSo (left s) (broken t ≢ broken s) k a packets end'') many ends))))
+      (subst (λ a. WasPlayed left broken s t k a packets end'') many ends))))

@@ -1,5 +1,5 @@
 -- A task that was settled, and what it was asked for.
-use Rattle.std.proofs.Common.{◌≡◌, ℕ, Bool, true, false, List, [], ◌∷◌, All, length, map, refl, ap, sym, ◌∙◌, arith, subst, Option}
+use Rattle.std.proofs.Common.{◌≡◌, ℕ, Bool, true, false, List, [], ◌∷◌, All, map, refl, ap, sym, ◌∙◌, arith, subst, Option}
 use Rattle.atomic_table.specs.Seated.{TableId}
 use Rattle.listener.specs.LookingBack.{all_accepted, count, is_arrival}
 use Rattle.listener.specs.Messages.{Arrival}
@@ -51,8 +51,8 @@ served taken failures playlist task feeds takes r fed reported = record {
   whole = λ clean.
       let all = reported.clean clean in let got = all-arrived feeds all.0 in let many = ap (count is_arrival) fed in
       let one = count-asked (asking_of task) 0 playlist in let so = reported.all_received.0 in
-      let kept = ap length all.1 in let written = reported.all_written in let balance = reported.balance in
-      (omega (arith, got, many, one, so), omega (arith, kept, written, balance));
+      let written = all.1 in let balance = reported.balance in
+      (omega (arith, got, many, one, so), omega (arith, written, balance));
 }
 
 -- the ended feeders, of which the first is taken, and the tasks that they are of

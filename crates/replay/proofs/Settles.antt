@@ -1,12 +1,14 @@
 -- What is told of a task once its ends are settled.
-use Rattle.std.proofs.Common.{◌≡◌, ℕ, ◌+◌, Bool, true, false, List, ◌++◌, length, map, refl, ap, sym, ◌∙◌, subst, Option, inl, inr}
+use Rattle.std.proofs.Common.{◌≡◌, ℕ, ◌+◌, Bool, true, false, List, ◌++◌, length, map, refl, ap, sym, ◌∙◌, subst, Option, inl, inr, drop}
+use Rattle.std.proofs.lemmas.List.{length-map}
 use Rattle.std.specs.Io.KnownBytes.{Appends}
 use Rattle.listener.specs.Buffers.{Filled}
 use Rattle.listener.specs.Laws.{joined}
 use Rattle.listener.specs.declared.answer.Counts.{Counts}
 use Rattle.listener.specs.declared.message.Message.{Message}
 use Rattle.savefile.specs.Savefile.{encoded}
-use Rattle.savefile.specs.Writer.{IsBeginning, Sent, sent_by, sink_of}
+use Rattle.savefile.specs.declared.packet.Packet.{Packet}
+use Rattle.savefile.specs.Writer.{Sent, sent_by, sink_of}
 use Rattle.handover.specs.Ends.{AreCountsOf, Counted}
 use Rattle.handover.specs.History.{LegalHistory, finds, merge}
 use Rattle.handover.specs.Rule.{last, profile_of, terms_of}
@@ -14,7 +16,7 @@ use Rattle.handover.specs.Settling.{IsWhole}
 use Rattle.handover.specs.declared.calls.Feed.{Feed}
 use Rattle.handover.specs.declared.calls.Take.{Take}
 use Rattle.replay.specs.Reading.{messages_of}
-use Rattle.replay.specs.Reports.{IsFull, IsReported, kept_for, packet_of}
+use Rattle.replay.specs.Reports.{BreaksBehind, IsFull, IsReported, WroteSoFar, kept_for, packet_of}
 use Rattle.replay.specs.Tasks.{output_of}
 use Rattle.replay.specs.Writing.{Writes, as_written}
 use Rattle.replay.specs.declared.report.ListenerReport.{ListenerReport}
@@ -48,26 +50,29 @@ module _ {W : Type 0} (taken : W → Option (List ℕ)) (failures : W → ℕ) (
   took-of-sent : (text : List ℕ) → Sent taken (taken task.sink) text w.writer → Took
   took-of-sent text s = (text, subst (λ (x : W). Appends (taken task.sink) (taken x) text) (sym back.0) s.bytes, back.1 ∙ s.count)
 
-  took-by : (works : Bool) → w.works ≡ works → (messages : List Message) → Writes taken failures (output_of task) messages w → Took
-  took-by true is messages t = took-of-sent _ (t.whole is).1.sent
-  took-by false is messages t = let b = t.broke is in took-of-sent b.0 b.2
-
   -- the ring did not hand over its end
+  unfinished-by : (works : Bool) → w.works ≡ works → (messages : List Message) → Writes taken failures (output_of task) messages w → r.end ≡ Unfinished
+      → (s : Took) × WroteSoFar task.order task.unit task.snap (map as_written messages) r.written s.0
+  unfolding took-of-sent
+  unfinished-by true is messages t end = let all = t.whole is in (took-of-sent _ all.1.sent, inl (back.2 ∙ all.0 ∙ sym (length-map messages as_written), refl))
+  unfinished-by false is messages t end =
+      let off = t.broke is in
+      (took-of-sent off.0 off.2, inr (subst (λ (n : ℕ). BreaksBehind task.order task.unit task.snap (map as_written messages) n off.0) (sym back.2) off.1))
+
   pub unfinished : (messages : List Message) → Writes taken failures (output_of task) messages w → r.end ≡ Unfinished → IsReported taken failures task feeds takes r
   unfinished messages t end =
-      let s = took-by w.works refl messages t in record {
+      let s = unfinished-by w.works refl messages t end in record {
         history = history;
         all_received = (told.0 ∙ counted.all_received, told.0 ∙ are.all_received);
         all_matched = (told.1 ∙ counted.all_matched, told.1 ∙ are.all_matched);
         all_dropped = (told.2 ∙ counted.all_dropped, told.2 ∙ are.all_dropped);
         balance = told.1 ∙ whole.balance ∙ ap (λ d. length (kept_for task feeds takes) + d) (sym told.2);
-        text = s.0;
-        took = s.1;
-        all_sent = s.2;
-        done = t.done;
-        all_written = back.2 ∙ t.counts;
+        text = s.0.0;
+        took = s.0.1;
+        all_sent = s.0.2;
         clean = λ e. let bad = sym end ∙ e in absurd cc;
         broke = λ n e. let bad = sym end ∙ e in absurd cc;
+        unfinished = λ _. (map as_written messages, s.1);
       }
 
   -- all that was kept was written, or a beginning of it
@@ -85,10 +90,9 @@ module _ {W : Type 0} (taken : W → Option (List ℕ)) (failures : W → ℕ) (
         text = s.0;
         took = s.1;
         all_sent = s.2;
-        done = t.done;
-        all_written = back.2 ∙ t.counts;
-        clean = λ e. ((ends e).1, all.0, ap (encoded task.order task.unit task.snap) as-they-are);
+        clean = λ e. ((ends e).1, back.2 ∙ all.0, ap (encoded task.order task.unit task.snap) as-they-are);
         broke = λ n e. let bad = sym is ∙ (breaks n e).0 in absurd cc;
+        unfinished = λ _. (_, inl (back.2 ∙ all.0 ∙ sym (length-map (kept_for task feeds takes) as_written), refl));
       }
   finished-by false is t ends breaks =
       let off = t.broke is in let s = took-of-sent off.0 off.2 in record {
@@ -100,18 +104,18 @@ module _ {W : Type 0} (taken : W → Option (List ℕ)) (failures : W → ℕ) (
         text = s.0;
         took = s.1;
         all_sent = s.2;
-        done = t.done;
-        all_written = back.2 ∙ t.counts;
         clean = λ e. let bad = sym is ∙ (ends e).0 in absurd cc;
         broke = λ n e. (
           (breaks n e).1 ∙ sym back.1,
-          t.begins,
-          subst (λ ps. IsBeginning off.0 (encoded task.order task.unit task.snap ps)) as-they-are off.1,
+          subst (λ (n : ℕ). BreaksBehind task.order task.unit task.snap (map packet_of (kept_for task feeds takes)) n off.0) (sym back.2)
+              (subst (λ (ps : List Packet). BreaksBehind task.order task.unit task.snap ps w.count off.0) as-they-are off.1),
           elim off.3 [
             | inl differs ↦ inl (λ same. differs (ap failures (sym back.0) ∙ same))
-            | inr full ↦ inr (subst (λ (n : ℕ). IsFull n (kept_for task feeds takes)) (sym back.1) full)
+            | inr full ↦ inr (subst (λ (n : ℕ). IsFull n (drop r.written (kept_for task feeds takes))) (sym back.1)
+                (subst (λ (k : ℕ). IsFull (sent_by w.writer) (drop k (kept_for task feeds takes))) (sym back.2) full))
           ],
         );
+        unfinished = λ _. (_, inr (subst (λ (n : ℕ). BreaksBehind task.order task.unit task.snap (map as_written (kept_for task feeds takes)) n off.0) (sym back.2) off.1));
       }
 
   pub finished : Writes taken failures (output_of task) (kept_for task feeds takes) w

@@ -1,8 +1,8 @@
 -- How a savefile goes on that is written.
-use Rattle.std.proofs.Common.{◌≡◌, ◌≢◌, ℕ, ◌+◌, ◌*◌, ◌<◌, ◌≤◌, ◌^◌, ◌⊎◌, inl, inr, true, false, List, [], ◌∷◌, ◌++◌, length, map, refl, ap, sym, ◌∙◌, arith, subst, Option, Contains, length-append, lit<}
-use Rattle.std.proofs.lemmas.List.{append-nil, append_assoc, map-append, length-map}
-use Rattle.std.proofs.lemmas.List.Elements.{Contains-append_left, Contains-append_right}
-use Rattle.std.proofs.lemmas.Bool.{cases_eq}
+use Rattle.std.proofs.Common.{◌≡◌, ◌≢◌, ℕ, ◌+◌, ◌*◌, ◌<◌, ◌≤◌, ◌^◌, ◌⊎◌, inl, inr, true, false, List, [], ◌∷◌, ◌++◌, length, map, take, drop, ap, sym, ◌∙◌, arith, subst, Option, length-append}
+use Rattle.std.proofs.Math.Seq.{drop-append_seam, take-append-add, take-append_seam}
+use Rattle.std.proofs.lemmas.List.{append-nil, drop-append-le, length-map, map-append, take-append-le, take_all}
+use Rattle.std.proofs.lemmas.Bool.{cases_eq, cases_lt}
 use Rattle.listener.specs.declared.message.Message.{Message}
 use Rattle.savefile.specs.declared.fault.Fault.{Fault}
 use Rattle.savefile.specs.declared.fault.Fault.TheVariants.{Device, CountFull, Failed}
@@ -12,37 +12,77 @@ use Rattle.savefile.specs.Savefile.{encoded}
 use Rattle.savefile.specs.Writer.{IsBeginning, HasWritten, BrokeOff, Sent, has_failed, sent_by, sink_of}
 use Rattle.replay.specs.declared.writing.Output.{Output}
 use Rattle.replay.specs.declared.writing.Written.{Written}
+use Rattle.replay.specs.Reports.{BreaksBehind, IsFull}
 use Rattle.replay.specs.Writing.{as_written, Writes}
 
 -- two numbers that do not differ are one
 pub same-unless-different : (a b : ℕ) → (a ≢ b → ⊥) → a ≡ b
 same-unless-different a b not = elim (cases_eq a b) [ inl is ↦ is | inr differs ↦ absurd (not differs) ]
 
--- the last of a list is in it
-pub holds-last : {A : Type 0} (xs : List A) (x : A) → Contains (xs ++ x ∷ []) x
-holds-last {A} xs x = Contains-append_right xs (x ∷ []) x (0, lit< tt, refl)
+-- a record that takes no room does so before more messages
+full-grows : (sent : ℕ) (ms more : List Message) → IsFull sent ms → IsFull sent (ms ++ more)
+full-grows sent [] more full = absurd full
+full-grows sent (m ∷ ms) more full = full
 
 module _ {W : Type 0} (taken : W → Option (List ℕ)) (failures : W → ℕ) (o : Output W) where
   -- what the law of the growing text says
   abbrev Grows : Type 0
   Grows = (packets more : List Packet) (text : List ℕ) → IsBeginning text (encoded o.order o.unit o.snap packets) → IsBeginning text (encoded o.order o.unit o.snap (packets ++ more))
 
-  -- what a writer was handed is longer now
-  text-grows : (messages more : List Message) (text : List ℕ) → Grows
-      → IsBeginning text (encoded o.order o.unit o.snap (map as_written messages)) → IsBeginning text (encoded o.order o.unit o.snap (map as_written (messages ++ more)))
-  text-grows messages more text grows b =
-      subst (λ (ps : List Packet). IsBeginning text (encoded o.order o.unit o.snap ps)) (sym (map-append as_written messages more))
-      (grows (map as_written messages) (map as_written more) text b)
+  -- and how much one packet more adds
+  abbrev Adds : Type 0
+  Adds = (packets : List Packet) (p : Packet) → length (encoded o.order o.unit o.snap (packets ++ p ∷ [])) ≡ length (encoded o.order o.unit o.snap packets) + 16 + length p.bytes
+
+  -- the text of more packets is as long at least
+  longer : Grows → (ps qs : List Packet) → length (encoded o.order o.unit o.snap ps) ≤ length (encoded o.order o.unit o.snap (ps ++ qs))
+  longer grows ps qs =
+      let t = encoded o.order o.unit o.snap ps in
+      let b = grows ps qs t ([], sym (append-nil t)) in
+      let l = ap length b.1 in omega (arith, l, length-append t b.0)
+
+  -- the packet behind the first n, among more packets
+  still-short : Grows → (ps qs : List Packet) (n : ℕ) (text : List ℕ) → n ≤ length ps
+      → length text < length (encoded o.order o.unit o.snap (take (n + 1) ps)) → length text < length (encoded o.order o.unit o.snap (take (n + 1) (ps ++ qs)))
+  still-short grows ps qs n text some short = elim (cases_lt n (length ps)) [
+    | inl below ↦ subst (λ (xs : List Packet). length text < length (encoded o.order o.unit o.snap xs)) (sym (take-append-le (n + 1) ps qs (omega (arith, below)))) short
+    | inr all ↦ (
+        let is : n ≡ length ps = omega (arith, some, all) in
+        let more : take (n + 1) (ps ++ qs) ≡ ps ++ take 1 qs = ap (λ (k : ℕ). take (k + 1) (ps ++ qs)) is ∙ take-append-add ps qs 1 in
+        let same = ap (λ (xs : List Packet). length (encoded o.order o.unit o.snap xs)) (take_all (n + 1) ps (omega (arith, all))) in
+        let l = longer grows ps (take 1 qs) in
+        subst (λ (xs : List Packet). length text < length (encoded o.order o.unit o.snap xs)) (sym more) (omega (arith, short, same, l)))
+  ]
+
+  -- a text that breaks off does so among more packets
+  breaks-grows : Grows → (ps qs : List Packet) (n : ℕ) (text : List ℕ)
+      → BreaksBehind o.order o.unit o.snap ps n text → BreaksBehind o.order o.unit o.snap (ps ++ qs) n text
+  breaks-grows grows ps qs n text b = record {
+    begins = grows ps qs text b.begins;
+    some = omega (arith, b.some, length-append ps qs);
+    whole = elim b.whole [
+      | inl none ↦ inl none
+      | inr all ↦ inr (subst (λ (xs : List Packet). length (encoded o.order o.unit o.snap xs) ≤ length text) (sym (take-append-le n ps qs b.some)) all)
+    ];
+    short = still-short grows ps qs n text b.some b.short;
+  }
+
+  -- behind all packets but the last
+  breaks-at-last : (ps : List Packet) (p : Packet) (text : List ℕ) → IsBeginning text (encoded o.order o.unit o.snap (ps ++ p ∷ []))
+      → length (encoded o.order o.unit o.snap ps) ≤ length text → length text < length (encoded o.order o.unit o.snap (ps ++ p ∷ []))
+      → BreaksBehind o.order o.unit o.snap (ps ++ p ∷ []) (length ps) text
+  breaks-at-last ps p text begins least short = record {
+    begins = begins;
+    some = omega (arith, length-append ps (p ∷ []));
+    whole = inr (subst (λ (xs : List Packet). length (encoded o.order o.unit o.snap xs) ≤ length text) (sym (take-append_seam ps (p ∷ []))) least);
+    short = subst (λ (xs : List Packet). length text < length (encoded o.order o.unit o.snap xs)) (sym (take-append-add ps (p ∷ []) 1)) short;
+  }
 
   -- the header was written
   pub opens : (w : Written W) → w.count ≡ 0 → w.works ≡ true
       → HasWritten taken (taken o.sink) o.order o.unit o.snap [] w.writer → failures (sink_of w.writer) ≡ failures o.sink
       → Writes taken failures o [] w
   opens w none works written same = record {
-    done = [];
-    counts = none;
-    begins = ([], refl);
-    whole = λ _. (refl, written, same);
+    whole = λ _. (none, written, same);
     broke = λ e. let bad : true ≡ false = sym works ∙ e in absurd cc;
   }
 
@@ -51,27 +91,31 @@ module _ {W : Type 0} (taken : W → Option (List ℕ)) (failures : W → ℕ) (
       → BrokeOff taken (taken o.sink) o.order o.unit o.snap [] w.writer → failures (sink_of w.writer) ≢ failures o.sink
       → Writes taken failures o [] w
   fails-to-open w none works broke differs = record {
-    done = [];
-    counts = none;
-    begins = ([], refl);
     whole = λ e. let bad : false ≡ true = sym works ∙ e in absurd cc;
-    broke = λ _. (broke.text, broke.begins, broke.sent, inl differs);
+    broke = λ _. (
+      broke.text,
+      record { begins = broke.begins; some = omega (arith, none); whole = inl none; short = subst (λ (k : ℕ). length broke.text < length (encoded o.order o.unit o.snap (take (k + 1) []))) (sym none) broke.short },
+      broke.sent,
+      inl differs,
+    );
   }
 
   -- behind a fault nothing more is written
   pub stays-broken : (messages more : List Message) (w : Written W) → Grows → w.works ≡ false
       → Writes taken failures o messages w → Writes taken failures o (messages ++ more) w
   stays-broken messages more w grows broken t =
-      let b = t.broke broken in record {
-        done = t.done;
-        counts = t.counts;
-        begins = (t.begins.0 ++ more, ap (λ xs. xs ++ more) t.begins.1 ∙ append_assoc t.done t.begins.0 more);
+      let b = t.broke broken in
+      let some : w.count ≤ length messages = (let l = length-map messages as_written in omega (arith, b.1.some, l)) in record {
         whole = λ e. let bad : false ≡ true = sym broken ∙ e in absurd cc;
         broke = λ _. (
           b.0,
-          text-grows messages more b.0 grows b.1,
+          subst (λ (ps : List Packet). BreaksBehind o.order o.unit o.snap ps w.count b.0) (sym (map-append as_written messages more))
+              (breaks-grows grows (map as_written messages) (map as_written more) w.count b.0 b.1),
           b.2,
-          elim b.3 [ inl differs ↦ inl differs | inr full ↦ inr (full.0, Contains-append_left messages more full.0 full.1, full.2) ],
+          elim b.3 [
+            | inl differs ↦ inl differs
+            | inr full ↦ inr (subst (λ (ms : List Message). IsFull (sent_by w.writer) ms) (sym (drop-append-le w.count messages more some)) (full-grows (sent_by w.writer) (drop w.count messages) more full))
+          ],
         );
       }
 
@@ -83,11 +127,8 @@ module _ {W : Type 0} (taken : W → Option (List ℕ)) (failures : W → ℕ) (
       → Writes taken failures o (messages ++ m ∷ []) new
   writes-more messages m old new worked t works count written same =
       let was = t.whole worked in record {
-        done = messages ++ m ∷ [];
-        counts = (let l = ap length was.0 in let n = t.counts in omega (arith, count, n, l, length-append messages (m ∷ [])));
-        begins = ([], sym (append-nil (messages ++ m ∷ [])));
         whole = λ _. (
-          refl,
+          omega (arith, count, was.0, length-append messages (m ∷ [])),
           subst (λ (ps : List Packet). HasWritten taken (taken o.sink) o.order o.unit o.snap ps new.writer) (sym (map-append as_written messages (m ∷ []))) written,
           same ∙ was.2,
         );
@@ -101,14 +142,14 @@ module _ {W : Type 0} (taken : W → Option (List ℕ)) (failures : W → ℕ) (
       → sent_by new < 2 ^ 64 → w.count + 1 < 2 ^ 64
   count-below messages w new m works t room written below =
       let was = t.whole works in
-      let l = ap length was.0 in let n = t.counts in
+      let n = was.0 in
       let r = room (map as_written messages ++ as_written m ∷ []) in
       let s = written.sent.count in
-      omega (arith, n, l, r, s, below, length-append (map as_written messages) (as_written m ∷ []), length-map messages as_written)
+      omega (arith, n, r, s, below, length-append (map as_written messages) (as_written m ∷ []), length-map messages as_written)
 
   -- the end of a put that failed, by the fault
-  pub put-fails : (messages : List Message) (m : Message) (old new : Written W) (fault : Fault) → Grows → old.works ≡ true → Writes taken failures o messages old
-      → new.works ≡ false → new.count ≡ old.count
+  pub put-fails : (messages : List Message) (m : Message) (old new : Written W) (fault : Fault) → Grows → Adds → old.works ≡ true → Writes taken failures o messages old
+      → new.works ≡ false → new.count ≡ old.count → sent_by old.writer ≤ sent_by new.writer
       → (fault ≡ Device → BrokeOff taken (taken o.sink) o.order o.unit o.snap (map as_written messages ++ as_written m ∷ []) new.writer)
       → (fault ≡ Device → failures (sink_of new.writer) ≢ failures (sink_of old.writer))
       → (fault ≡ Failed → has_failed old.writer ≡ true)
@@ -116,26 +157,32 @@ module _ {W : Type 0} (taken : W → Option (List ℕ)) (failures : W → ℕ) (
       → (fault ≡ CountFull → new.writer ≡ old.writer)
       → (fault ≡ Device) ⊎ (fault ≡ Failed) ⊎ (fault ≡ CountFull)
       → Writes taken failures o (messages ++ m ∷ []) new
-  put-fails messages m old new fault grows worked t broken count broke differs failed full same which =
-      let was = t.whole worked in record {
-        done = t.done;
-        counts = count ∙ t.counts;
-        begins = (t.begins.0 ++ m ∷ [], ap (λ xs. xs ++ m ∷ []) t.begins.1 ∙ append_assoc t.done t.begins.0 (m ∷ []));
+  put-fails messages m old new fault grows adds worked t broken count more broke differs failed full same which =
+      let was = t.whole worked in
+      let ps = map as_written messages in
+      let p = as_written m in
+      let n : length ps ≡ new.count = (let l = length-map messages as_written in omega (arith, l, count, was.0)) in
+      let at : length messages ≡ new.count = omega (arith, count, was.0) in
+      let as_all = λ (text : List ℕ) (b : BreaksBehind o.order o.unit o.snap (ps ++ p ∷ []) (length ps) text).
+      subst (λ (xs : List Packet). BreaksBehind o.order o.unit o.snap xs new.count text) (sym (map-append as_written messages (m ∷ [])))
+      (subst (λ (k : ℕ). BreaksBehind o.order o.unit o.snap (ps ++ p ∷ []) k text) n b) in record {
         whole = λ e. let bad : false ≡ true = sym broken ∙ e in absurd cc;
         broke = λ _. elim which [
           | inl device ↦ (
               let b = broke device in (
                 b.text,
-                subst (λ (ps : List Packet). IsBeginning b.text (encoded o.order o.unit o.snap ps)) (sym (map-append as_written messages (m ∷ []))) b.begins,
+                as_all b.text (breaks-at-last ps p b.text b.begins (let s = was.1.sent.count in let now = b.sent.count in omega (arith, s, now, more)) b.short),
                 b.sent,
                 inl (λ is. differs device (is ∙ sym was.2)),
               ))
           | inr (inl again) ↦ (let bad : false ≡ true = sym was.1.works ∙ failed again in absurd cc)
           | inr (inr many) ↦ (
-            encoded o.order o.unit o.snap (map as_written messages),
-            text-grows messages (m ∷ []) _ grows ([], sym (append-nil _)),
-            subst (λ (w : Writer W). Sent taken (taken o.sink) (encoded o.order o.unit o.snap (map as_written messages)) w) (sym (same many)) was.1.sent,
-            inr (m, holds-last messages m, subst (λ (w : Writer W). 2 ^ 64 ≤ sent_by w + 16 + length m.bytes) (sym (same many)) (full many)),
+            encoded o.order o.unit o.snap ps,
+            as_all _ (breaks-at-last ps p _ (grows ps (p ∷ []) _ ([], sym (append-nil _))) (omega arith) (let a = adds ps p in omega (arith, a))),
+            subst (λ (w : Writer W). Sent taken (taken o.sink) (encoded o.order o.unit o.snap ps) w) (sym (same many)) was.1.sent,
+            inr (subst (λ (ms : List Message). IsFull (sent_by new.writer) ms)
+                (sym (ap (λ (k : ℕ). drop k (messages ++ m ∷ [])) (sym at) ∙ drop-append_seam messages (m ∷ [])))
+                (subst (λ (w : Writer W). 2 ^ 64 ≤ sent_by w + 16 + length m.bytes) (sym (same many)) (full many))),
           )
         ];
       }

@@ -1,5 +1,6 @@
 -- What captures give to the listeners of an interface, and how they end.
 use Rattle.std.specs.Prelude.{◌≡◌, ◌≢◌, ℕ, ◌+◌, ◌-◌, ◌^◌, ◌⊎◌, List, [], ◌∷◌, ◌++◌, Option, Some, None}
+use Rattle.std.specs.Io.KnownBytes.{Consumes}
 use Rattle.listener.specs.Messages.{Arrival, arrival}
 use Rattle.savefile.specs.Reader.{WasBegun, WasRead, WasRefused}
 use Rattle.savefile.specs.declared.fault.Fault.{Fault}
@@ -31,13 +32,24 @@ EndsSo start broke capture arrived packets (Some (Capture n why)) =
     (n ≡ capture) × (why ≢ fault.Failed) × (why ≢ fault.CountFull) × IsStopped start broke packets why
 EndsSo start broke capture arrived packets (Some CountFull) = (arrived ≡ 2 ^ 64 - 2) × (header : Header) × WasBegun start header packets
 
+-- A source that was read comes back: bytes were taken of what it had left, and no others; and it did not fail in between, unless
+-- the capture ended so.
+abbrev pub ComesBack : {R : Type 0} → (R → Option (List ℕ)) → (R → ℕ) → R → R → ℕ → Option InterfaceEnd → Type 0
+ComesBack left failures s t capture end =
+    ((bytes : List ℕ) × Consumes (left s) (left t) bytes) × ((end ≡ Some (Capture capture fault.Device)) ⊎ (failures t ≡ failures s))
+
+-- A capture was read, of which these packets arrived, and so it ended, of so many arrivals at the interface.
+abbrev pub WasPlayed : {R : Type 0} → (R → Option (List ℕ)) → (R → ℕ) → R → R → ℕ → ℕ → List Packet → Option InterfaceEnd → Type 0
+WasPlayed left failures s t capture arrived packets end =
+    EndsSo (left s) (failures t ≢ failures s) capture arrived packets end × ComesBack left failures s t capture end
+
 -- A list of captures was read, of which the first has this number: so the playlist arrived, of `total` packets in all, and so it
--- ended. Each capture was read whole, or it ended the playlist, and no capture behind it was read.
+-- ended. Each capture was read whole, or it ended the playlist, and no capture behind it was read: their sources are as they were.
 abbrev pub Plays : {R : Type 0} → (R → Option (List ℕ)) → (R → ℕ) → ℕ → ℕ → List R → List R → List Arrival → InterfaceEnd → Type 0
 Plays left failures total capture [] [] playlist end = (playlist ≡ []) × (end ≡ Clean)
 Plays left failures total capture [] (t ∷ ts) playlist end = ⊥
 Plays left failures total capture (s ∷ ss) [] playlist end = ⊥
 Plays left failures total capture (s ∷ ss) (t ∷ ts) playlist end =
     (packets : List Packet) × (more : List Arrival) × (playlist ≡ numbered capture 0 packets ++ more)
-    × ((EndsSo (left s) (failures t ≢ failures s) capture total packets None × Plays left failures total (capture + 1) ss ts more end)
-    ⊎ (EndsSo (left s) (failures t ≢ failures s) capture total packets (Some end) × (more ≡ []) × (ts ≡ ss)))
+    × ((WasPlayed left failures s t capture total packets None × Plays left failures total (capture + 1) ss ts more end)
+    ⊎ (WasPlayed left failures s t capture total packets (Some end) × (more ≡ []) × (ts ≡ ss)))

@@ -1,8 +1,10 @@
 -- What is told of a task, of its feeder's and its drain's lists of calls.
-use Rattle.std.specs.Prelude.{◌≡◌, ◌≢◌, ℕ, ◌+◌, ◌^◌, ◌≤◌, ◌⊎◌, false, List, ◌++◌, length, map, Option, Contains}
+use Rattle.std.specs.Prelude.{◌≡◌, ◌≢◌, ℕ, ◌+◌, ◌^◌, ◌<◌, ◌≤◌, ◌⊎◌, false, List, [], ◌∷◌, length, map, take, drop, Option}
 use Rattle.std.specs.Io.KnownBytes.{Appends}
 use Rattle.listener.specs.declared.message.Message.{Message}
 use Rattle.savefile.specs.Savefile.{packet, encoded}
+use Rattle.savefile.specs.declared.header.Order.{Order}
+use Rattle.savefile.specs.declared.header.Unit.{Unit as TimeUnit}
 use Rattle.savefile.specs.declared.packet.Packet.{Packet}
 use Rattle.savefile.specs.Writer.{IsBeginning}
 use Rattle.handover.specs.History.{LegalHistory, finds, merge}
@@ -12,7 +14,7 @@ use Rattle.handover.specs.Settling.{kept_of_both}
 use Rattle.handover.specs.declared.calls.Feed.{Feed}
 use Rattle.handover.specs.declared.calls.Take.{Take}
 use Rattle.replay.specs.declared.report.ListenerReport.{ListenerReport}
-use Rattle.replay.specs.declared.report.TaskEnd.TheVariants.{Clean, Write}
+use Rattle.replay.specs.declared.report.TaskEnd.TheVariants.{Clean, Write, Unfinished}
 use Rattle.replay.specs.declared.task.Task.{Task}
 
 -- the messages that the listener kept
@@ -27,16 +29,26 @@ packet_of m = packet m.sec m.nanos m.len m.bytes
 abbrev pub text_for : {W : Type 0} → Task W → List Feed → List Take → List ℕ
 text_for task feeds takes = encoded task.order task.unit task.snap (map packet_of (kept_for task feeds takes))
 
--- a list is the beginning of another
-abbrev pub Begins : {A : Type 0} → List A → List A → Type 0
-Begins {A} part whole = (more : List A) × (whole ≡ part ++ more)
-
--- the record of one of the messages would take a savefile past 2^64 - 1 bytes
+-- The record of the first of these messages would take a savefile past 2^64 - 1 bytes.
 abbrev pub IsFull : ℕ → List Message → Type 0
-IsFull sent messages = (m : Message) × Contains messages m × (2 ^ 64 ≤ sent + 16 + length m.bytes)
+IsFull sent [] = ⊥
+IsFull sent (m ∷ messages) = 2 ^ 64 ≤ sent + 16 + length m.bytes
 
--- The two lists make a legal history, and the counts are its counts. The sink took exactly `sent` bytes: where the end is Clean,
--- the text of all that was kept; after Write a beginning of it, and the sink failed or the text became too long.
+-- A beginning of the written text of these packets: the first n of them are whole in it, and the next is not.
+pub record BreaksBehind (order : Order) (unit : TimeUnit) (snap : ℕ) (packets : List Packet) (n : ℕ) (text : List ℕ) : Type 0 where
+  pub begins : IsBeginning text (encoded order unit snap packets)
+  pub some : n ≤ length packets
+  pub whole : (n ≡ 0) ⊎ (length (encoded order unit snap (take n packets)) ≤ length text)
+  pub short : length text < length (encoded order unit snap (take (n + 1) packets))
+
+-- n packets were handed to a writer, and this is their text; or it broke off behind the first n of them.
+abbrev pub WroteSoFar : Order → TimeUnit → ℕ → List Packet → ℕ → List ℕ → Type 0
+WroteSoFar order unit snap packets n text =
+    ((n ≡ length packets) × (text ≡ encoded order unit snap packets)) ⊎ BreaksBehind order unit snap packets n text
+
+-- The two lists make a legal history, and the counts are its counts. The sink took exactly `sent` bytes, in which `written`
+-- packets are whole: where the end is Clean, the text of all that was kept; after Write a beginning of it, and the sink failed or
+-- the next packet's record would make the text too long; after Unfinished the text of some packets, or a beginning of it.
 pub record IsReported {W : Type 0} (taken : W → Option (List ℕ)) (failures : W → ℕ) (task : Task W) (feeds : List Feed) (takes : List Take)
     (r : ListenerReport W) : Type 0 where
   pub history : LegalHistory (terms_of (profile_of task.capacity task.mode)) feeds takes (merge feeds takes)
@@ -47,8 +59,8 @@ pub record IsReported {W : Type 0} (taken : W → Option (List ℕ)) (failures :
   pub text : List ℕ
   pub took : Appends (taken task.sink) (taken r.sink) text
   pub all_sent : r.sent ≡ length text
-  pub done : List Message
-  pub all_written : r.written ≡ length done
-  pub clean : r.end ≡ Clean → (finds feeds ≡ false) × (done ≡ kept_for task feeds takes) × (text ≡ text_for task feeds takes)
-  pub broke : (n : ℕ) → r.end ≡ Write n → (n ≡ r.sent) × Begins done (kept_for task feeds takes) × IsBeginning text (text_for task feeds takes)
-      × ((failures r.sink ≢ failures task.sink) ⊎ IsFull r.sent (kept_for task feeds takes))
+  pub clean : r.end ≡ Clean → (finds feeds ≡ false) × (r.written ≡ length (kept_for task feeds takes)) × (text ≡ text_for task feeds takes)
+  pub broke : (n : ℕ) → r.end ≡ Write n → (n ≡ r.sent)
+      × BreaksBehind task.order task.unit task.snap (map packet_of (kept_for task feeds takes)) r.written text
+      × ((failures r.sink ≢ failures task.sink) ⊎ IsFull r.sent (drop r.written (kept_for task feeds takes)))
+  pub unfinished : r.end ≡ Unfinished → (packets : List Packet) × WroteSoFar task.order task.unit task.snap packets r.written text

@@ -1,10 +1,10 @@
 -- What a thread has written of the messages that it was handed.
-use Rattle.std.specs.Prelude.{◌≡◌, ◌≢◌, ◌<◌, ℕ, ◌⊎◌, true, false, List, length, map, min, Option}
+use Rattle.std.specs.Prelude.{◌≡◌, ◌≢◌, ◌<◌, ℕ, ◌⊎◌, true, false, List, length, map, drop, min, Option}
 use Rattle.listener.specs.declared.message.Message.{Message}
 use Rattle.savefile.specs.declared.packet.Packet.{Packet}
-use Rattle.savefile.specs.Savefile.{packet, encoded}
-use Rattle.savefile.specs.Writer.{HasWritten, IsBeginning, Sent, sent_by, sink_of}
-use Rattle.replay.specs.Reports.{Begins, IsFull}
+use Rattle.savefile.specs.Savefile.{packet}
+use Rattle.savefile.specs.Writer.{HasWritten, Sent, sent_by, sink_of}
+use Rattle.replay.specs.Reports.{BreaksBehind, IsFull}
 use Rattle.replay.specs.declared.writing.Output.{Output}
 use Rattle.replay.specs.declared.writing.Written.{Written}
 
@@ -18,13 +18,10 @@ IsPrompt m = m.nanos < 1000000000
 
 -- The messages were written: all while no fault came; else a beginning, behind which the sink failed or the text became too long.
 pub record Writes {W : Type 0} (taken : W → Option (List ℕ)) (failures : W → ℕ) (o : Output W) (messages : List Message) (w : Written W) : Type 0 where
-  pub done : List Message
-  pub counts : w.count ≡ length done
-  pub begins : Begins done messages
-  pub whole : w.works ≡ true → (done ≡ messages)
+  pub whole : w.works ≡ true → (w.count ≡ length messages)
       × HasWritten taken (taken o.sink) o.order o.unit o.snap (map as_written messages) w.writer
       × (failures (sink_of w.writer) ≡ failures o.sink)
   pub broke : w.works ≡ false → (text : List ℕ)
-      × IsBeginning text (encoded o.order o.unit o.snap (map as_written messages))
+      × BreaksBehind o.order o.unit o.snap (map as_written messages) w.count text
       × Sent taken (taken o.sink) text w.writer
-      × ((failures (sink_of w.writer) ≢ failures o.sink) ⊎ IsFull (sent_by w.writer) messages)
+      × ((failures (sink_of w.writer) ≢ failures o.sink) ⊎ IsFull (sent_by w.writer) (drop w.count messages))

@@ -6,6 +6,7 @@ ghost use Rattle.savefile.specs.declared.header.Header.{Header};
 ghost use Rattle.savefile.specs.Reader.{HasGiven, source_of};
 ghost use Rattle.replay.specs.Lines.{Line, HasArrived};
 ghost use Rattle.replay.specs.Arrived.{HasPlayed};
+ghost use Rattle.replay.specs.Captures.{ComesBack};
 
 use crate::gate::Gate;
 use crate::inlet::Player;
@@ -28,6 +29,7 @@ impl Player<'_> {
         requires so_far { (starts : List Line) × (playlist : List Arrival) × HasArrived starts playlist self.old }
         ensures played { (start : Option (List ℕ)) (header : Header) → HasGiven S.left start header [] reader.old →
             HasPlayed start (S.failures (source_of reader.new) ≢ S.failures (source_of reader.old)) capture self.old self.new result }
+        ensures back { ComesBack S.left S.failures (source_of reader.old) (source_of reader.new) capture result }
         ensures room { self.new.arrived ≤ 2 ^ 64 - 2 }
         ensures so_far { (starts : List Line) × (playlist : List Arrival) × HasArrived starts playlist self.new }
     {
@@ -56,6 +58,7 @@ impl Player<'_> {
         requires room { self.old.arrived ≤ 2 ^ 64 - 2 }
         requires so_far { (starts : List Line) × (playlist : List Arrival) × HasArrived starts playlist self.old }
         ensures played { HasPlayed (S.left source) (S.failures result.0 ≢ S.failures source) capture self.old self.new result.1 }
+        ensures back { ComesBack S.left S.failures source result.0 capture result.1 }
         ensures room { self.new.arrived ≤ 2 ^ 64 - 2 }
         ensures so_far { (starts : List Line) × (playlist : List Arrival) × HasArrived starts playlist self.new }
     {

@@ -5,6 +5,7 @@ mod endings;
 mod overlap;
 mod refusals;
 mod small;
+mod steps;
 
 use super::*;
 use bpfvm::{Insn, Program};

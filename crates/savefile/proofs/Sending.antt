@@ -1,5 +1,5 @@
 -- What a writer sends, call after call.
-use Rattle.std.proofs.Common.{◌≡◌, ℕ, ◌-◌, ◌≤◌, true, false, List, [], ◌∷◌, ◌++◌, length, take, drop, Option, Result, Ok, Err, refl, sym, ap, subst, ◌∙◌, append_assoc, arith, length-append, length-drop, take-append-drop}
+use Rattle.std.proofs.Common.{◌≡◌, ℕ, ◌-◌, ◌<◌, ◌≤◌, true, false, List, [], ◌∷◌, ◌++◌, length, take, drop, Option, Result, Ok, Err, refl, sym, ap, subst, ◌∙◌, append_assoc, arith, length-append, length-drop, take-append-drop}
 use Rattle.std.proofs.lemmas.List.{take_all}
 use Rattle.std.proofs.KnownBytes.{Appends-nil, Appends-trans}
 use Rattle.std.specs.Prelude.{OnOk, OnErr}
@@ -8,7 +8,7 @@ use Rattle.savefile.specs.declared.header.Unit.{Unit as TimeUnit}
 use Rattle.savefile.specs.declared.packet.Packet.{Packet}
 use Rattle.savefile.specs.declared.writing.Writer.{Writer}
 use Rattle.savefile.specs.Savefile.{encoded, header_text, record_text}
-use Rattle.savefile.specs.Sending.{Sends}
+use Rattle.savefile.specs.Sending.{Sends, SendsPart}
 use Rattle.savefile.specs.Writer.{BrokeOff, HasWritten, IsBeginning, Sent}
 use Rattle.savefile.proofs.Encoding.{encoded-nil, encoded-push, IsBeginning-front}
 
@@ -58,14 +58,17 @@ writes_packet taken start order unit snap ps p old new h s f = record {
 }
 
 -- a packet was written in part
-pub breaks_off : {W : Type 0} (taken : W → Option (List ℕ)) (start : Option (List ℕ)) (order : Order) (unit : TimeUnit) (snap : ℕ) (ps : List Packet) (p : Packet) (part : List ℕ) (old new : Writer W)
-    → HasWritten taken start order unit snap ps old → IsBeginning part (record_text old.order old.unit p) → Sends taken old new part → new.failed ≡ true → BrokeOff taken start order unit snap (ps ++ p ∷ []) new
-breaks_off taken start order unit snap ps p part old new h b s f = record {
-  text = encoded order unit snap ps ++ part;
-  begins = rw encoded-push (IsBeginning-front (encoded order unit snap ps) part (record_text order unit p) (subst (λ (t : List ℕ). IsBeginning part t) (same_record old order unit p h.in_order h.in_unit) b));
-  sent = Sent-Sends taken start (encoded order unit snap ps) part old new h.sent s;
-  failed = f;
-}
+pub breaks_off : {W : Type 0} (taken : W → Option (List ℕ)) (start : Option (List ℕ)) (order : Order) (unit : TimeUnit) (snap : ℕ) (ps : List Packet) (p : Packet) (old new : Writer W)
+    → HasWritten taken start order unit snap ps old → SendsPart taken old new (record_text old.order old.unit p) → BrokeOff taken start order unit snap (ps ++ p ∷ []) new
+breaks_off taken start order unit snap ps p old new h s =
+    let whole = encoded order unit snap ps in
+    let same = same_record old order unit p h.in_order h.in_unit in record {
+      text = whole ++ s.part;
+      begins = rw encoded-push (IsBeginning-front whole s.part (record_text order unit p) (subst (λ (t : List ℕ). IsBeginning s.part t) same s.begins));
+      short = rw encoded-push (let n = ap length same in omega (arith, s.short, n, length-append whole s.part, length-append whole (record_text order unit p)));
+      sent = Sent-Sends taken start whole s.part old new h.sent s.sends;
+      failed = s.failed;
+    }
 
 -- the header was written whole, or in part
 pub opened : {W : Type 0} (taken : W → Option (List ℕ)) (order : Order) (unit : TimeUnit) (snap : ℕ) (old new : Writer W)
@@ -79,14 +82,15 @@ opened taken order unit snap old new z f o u s g = record {
 }
 
 -- the same, where a beginning of it went out
-pub opens_in_part : {W : Type 0} (taken : W → Option (List ℕ)) (order : Order) (unit : TimeUnit) (snap : ℕ) (part : List ℕ) (old new : Writer W)
-    → old.sent ≡ 0 → IsBeginning part (header_text order unit snap) → Sends taken old new part → new.failed ≡ true
+pub opens_in_part : {W : Type 0} (taken : W → Option (List ℕ)) (order : Order) (unit : TimeUnit) (snap : ℕ) (old new : Writer W)
+    → old.sent ≡ 0 → SendsPart taken old new (header_text order unit snap)
     → BrokeOff taken (taken old.sink) order unit snap [] new
-opens_in_part taken order unit snap part old new z b s f = record {
-  text = part;
-  begins = rw encoded-nil b;
-  sent = record { bytes = s.bytes; count = omega (arith, s.count) };
-  failed = f;
+opens_in_part taken order unit snap old new z s = record {
+  text = s.part;
+  begins = rw encoded-nil s.begins;
+  short = rw encoded-nil s.short;
+  sent = record { bytes = s.sends.bytes; count = omega (arith, s.sends.count, z) };
+  failed = s.failed;
 }
 
 -- a fact under an Ok, and under an Err, leads to another
@@ -104,16 +108,28 @@ pub at_err : {T E : Type 0} (r : Result T E) (e : E) (P : Type 0) → r ≡ Err 
 at_err (Ok x) e P is p = absurd cc
 at_err (Err d) e P is p = p
 
--- what one call of two sent, where it sent a beginning
-abbrev pub SendsPart : {W : Type 0} → (W → Option (List ℕ)) → Writer W → Writer W → List ℕ → Type 0
-SendsPart taken old new text = (part : List ℕ) × IsBeginning part text × Sends taken old new part × (new.failed ≡ true)
-
 -- a beginning of the first text begins both
 pub SendsPart-first : {W : Type 0} (taken : W → Option (List ℕ)) (old new : Writer W) (s t : List ℕ) → SendsPart taken old new s → SendsPart taken old new (s ++ t)
-SendsPart-first taken old new s t p =
-    (p.0, (p.1.0 ++ t, ap (λ (x : List ℕ). x ++ t) p.1.1 ∙ append_assoc p.0 p.1.0 t), p.2, p.3)
+SendsPart-first taken old new s t p = record {
+  part = p.part;
+  begins = (p.begins.0 ++ t, ap (λ (x : List ℕ). x ++ t) p.begins.1 ∙ append_assoc p.part p.begins.0 t);
+  short = omega (arith, p.short, length-append s t);
+  sends = p.sends;
+  failed = p.failed;
+}
 
 -- the first text and a beginning of the second begin both
 pub SendsPart-second : {W : Type 0} (taken : W → Option (List ℕ)) (old mid new : Writer W) (s t : List ℕ) → Sends taken old mid s → SendsPart taken mid new t → SendsPart taken old new (s ++ t)
-SendsPart-second taken old mid new s t q p =
-    (s ++ p.0, IsBeginning-front s p.0 t p.1, Sends-trans taken old mid new s p.0 q p.2, p.3)
+SendsPart-second taken old mid new s t q p = record {
+  part = s ++ p.part;
+  begins = IsBeginning-front s p.part t p.begins;
+  short = omega (arith, p.short, length-append s t, length-append s p.part);
+  sends = Sends-trans taken old mid new s p.part q p.sends;
+  failed = p.failed;
+}
+
+-- what was sent before stays
+pub sent_grows : {W T E : Type 0} (taken : W → Option (List ℕ)) (old new : Writer W) (text : List ℕ) (r : Result T E) (Q : Type 0)
+    → OnOk r (Sends taken old new text × Q) → OnErr r (SendsPart taken old new text) → old.sent ≤ new.sent
+sent_grows taken old new text (Ok x) Q p q = omega (arith, p.0.count)
+sent_grows taken old new text (Err e) Q p q = omega (arith, q.sends.count)

@@ -1,5 +1,5 @@
 -- What a writer has sent to its sink.
-use Rattle.std.specs.Prelude.{◌≡◌, ℕ, Bool, true, false, List, ◌++◌, length, Option}
+use Rattle.std.specs.Prelude.{◌≡◌, ◌<◌, ℕ, Bool, true, false, List, ◌++◌, length, Option}
 use Rattle.std.specs.Io.KnownBytes.{Appends}
 use Rattle.savefile.specs.declared.header.Order.{Order}
 use Rattle.savefile.specs.declared.header.Unit.{Unit as TimeUnit}
@@ -36,10 +36,11 @@ pub record HasWritten {W : Type 0} (taken : W → Option (List ℕ)) (start : Op
   pub in_order : w.order ≡ order
   pub in_unit : w.unit ≡ unit
 
--- A writer that a device failed: it has sent a beginning of the written text of these packets.
+-- A writer that a device failed: it has sent a beginning of the written text of these packets, and not the whole of it.
 pub record BrokeOff {W : Type 0} (taken : W → Option (List ℕ)) (start : Option (List ℕ))
     (order : Order) (unit : TimeUnit) (snap : ℕ) (packets : List Packet) (w : Writer W) : Type 0 where
   pub text : List ℕ
   pub begins : IsBeginning text (encoded order unit snap packets)
+  pub short : length text < length (encoded order unit snap packets)
   pub sent : Sent taken start text w
   pub failed : has_failed w ≡ true

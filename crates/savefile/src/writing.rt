@@ -4,8 +4,8 @@ ghost use Rattle.std.specs.Prelude.{◌≡◌, ◌≢◌, ℕ, List, [], ◌∷�
 ghost use Rattle.savefile.specs.declared.packet.Packet.{Packet};
 ghost use Rattle.savefile.specs.Device.{CountsFailure};
 ghost use Rattle.savefile.specs.Savefile.{bytes_in, header_text, packet, record_header_text};
-ghost use Rattle.savefile.specs.Sending.{Fills, Sends};
-ghost use Rattle.savefile.specs.Writer.{IsBeginning, sink_of, sent_by, has_failed, HasWritten, BrokeOff};
+ghost use Rattle.savefile.specs.Sending.{Fills, Sends, SendsPart};
+ghost use Rattle.savefile.specs.Writer.{sink_of, sent_by, has_failed, HasWritten, BrokeOff};
 
 use crate::device::{Broken, Sink};
 use crate::fault::Fault;
@@ -89,7 +89,8 @@ fn record_header(
 ///
 /// Until a device fault the sink took exactly the written text of the packets whose `put` answered Ok,
 /// and [`Writer::sent`] is its length. After one it took exactly `sent` bytes, a beginning of the written
-/// text of those packets and the one whose `put` answered [`Fault::Device`].
+/// text of those packets and the one whose `put` answered [`Fault::Device`]: those packets whole, and of this
+/// one not the whole.
 ///
 /// A packet is sent in two writes, its record's header and then its bytes. Where each write is a system
 /// call, give the writer a sink that gathers them.
@@ -104,8 +105,8 @@ pub struct Writer<W> {
 
 impl<W: Sink> Writer<W> {
     /// Begins a savefile: writes its header. [`Fault::Device`] comes exactly where the sink failed in
-    /// this call. Then the sink took exactly [`Writer::sent`] bytes, a beginning of the header, and the
-    /// writer has failed.
+    /// this call. Then the sink took exactly [`Writer::sent`] bytes, a beginning of the header and not the
+    /// whole, and the writer has failed.
     pub fn open(sink: W, order: Order, unit: Unit, snap: u32) -> (Writer<W>, Result<(), Fault>)
         ensures ok { OnOk result.1 (HasWritten W.taken (W.taken sink) order unit snap [] result.0) }
         ensures err { OnErr result.1 (BrokeOff W.taken (W.taken sink) order unit snap [] result.0) }
@@ -128,7 +129,7 @@ impl<W: Sink> Writer<W> {
     fn send(&mut self, bytes: &[u8]) -> Result<(), Fault>
         requires { self.old.sent + length bytes.now < 2 ^ 64 }
         ensures ok { OnOk result (Sends W.taken self.old self.new bytes.now × (self.new.failed ≡ self.old.failed)) }
-        ensures err { OnErr result ((part : List ℕ) × IsBeginning part bytes.now × Sends W.taken self.old self.new part × (self.new.failed ≡ true)) }
+        ensures err { OnErr result (SendsPart W.taken self.old self.new bytes.now) }
         ensures only { IfErr result (λ fault. fault ≡ Fault.Device) }
         ensures failures { CountsFailure (W.failures self.old.sink) (W.failures self.new.sink) result }
     {
@@ -156,7 +157,7 @@ impl<W: Sink> Writer<W> {
     fn send_rest(&mut self, bytes: &[u8]) -> Result<(), Fault>
         requires { self.old.sent + length bytes.now < 2 ^ 64 }
         ensures ok { OnOk result (Sends W.taken self.old self.new bytes.now × (self.new.failed ≡ self.old.failed)) }
-        ensures err { OnErr result ((part : List ℕ) × IsBeginning part bytes.now × Sends W.taken self.old self.new part × (self.new.failed ≡ true)) }
+        ensures err { OnErr result (SendsPart W.taken self.old self.new bytes.now) }
         ensures only { IfErr result (λ fault. fault ≡ Fault.Device) }
         ensures failures { CountsFailure (W.failures self.old.sink) (W.failures self.new.sink) result }
     {
@@ -181,7 +182,7 @@ impl<W: Sink> Writer<W> {
     fn send_both(&mut self, header: &[u8], bytes: &[u8]) -> Result<(), Fault>
         requires { self.old.sent + length header.now + length bytes.now < 2 ^ 64 }
         ensures ok { OnOk result (Sends W.taken self.old self.new (header.now ++ bytes.now) × (self.new.failed ≡ self.old.failed)) }
-        ensures err { OnErr result ((part : List ℕ) × IsBeginning part (header.now ++ bytes.now) × Sends W.taken self.old self.new part × (self.new.failed ≡ true)) }
+        ensures err { OnErr result (SendsPart W.taken self.old self.new (header.now ++ bytes.now)) }
         ensures only { IfErr result (λ fault. fault ≡ Fault.Device) }
         ensures failures { CountsFailure (W.failures self.old.sink) (W.failures self.new.sink) result }
     {
@@ -202,13 +203,16 @@ impl<W: Sink> Writer<W> {
         requires nanos { nanos < 1000000000 }
         requires size { length bytes.now ≤ 262144 }
 
-        // After Ok, what was written before and now this packet; after Device, a beginning of that.
+        // After Ok, what was written before and now this packet; after Device, a beginning of that, and not the whole.
         ensures ok { (start : Option (List ℕ)) (order : Order) (unit : Unit) (snap : ℕ) (packets : List Packet) →
             HasWritten W.taken start order unit snap packets self.old →
             OnOk result (HasWritten W.taken start order unit snap (packets ++ packet sec nanos len bytes.now ∷ []) self.new) }
         ensures broke_off { (start : Option (List ℕ)) (order : Order) (unit : Unit) (snap : ℕ) (packets : List Packet) →
             HasWritten W.taken start order unit snap packets self.old → result ≡ Err Fault.Device →
             BrokeOff W.taken start order unit snap (packets ++ packet sec nanos len bytes.now ∷ []) self.new }
+
+        // What the sink took before stays.
+        ensures grows { sent_by self.old ≤ sent_by self.new }
 
         // When each error comes, and no other.
         ensures device { (result ≡ Err Fault.Device) ↔ (W.failures (sink_of self.new) ≢ W.failures (sink_of self.old)) }

@@ -249,3 +249,50 @@ fn without_interfaces_nothing_is_told(rt: HostRuntime) -> Result<(), Fail> {
     assert!(rt; run(&rt, rt.alloc(), none, &Open)?.is_empty());
     Ok(())
 }
+
+/// Replays T, U and T to a task whose sink has so much room, and tests how many packets are told as written.
+fn breaks_off(
+    rt: &(impl Abort + AllocGlobal + Threads + Wait + Sync),
+    room: usize,
+    count: u64,
+) -> Result<(), Fail> {
+    let alloc = rt.alloc();
+    let text = capture(alloc, 1, &[TCP_FRAME, UDP_FRAME, TCP_FRAME])?;
+    let interfaces = vec![in alloc;
+        Interface {
+            captures: vec![in alloc; source_of(text)]?,
+            tasks: vec![in alloc; task(keeping_all()?, 64, 1_024, sink_with(alloc, room))]?,
+        },
+    ]?;
+    let reports = run(rt, alloc, interfaces, &Open)?;
+    let report = at(rt, reports.as_slice(), 0);
+    assert_eq!(rt; report.end, InterfaceEnd::Clean);
+    let one = at(rt, report.listeners.as_slice(), 0);
+    assert_eq!(rt; one.end, TaskEnd::Write(room as u64));
+    assert_eq!(rt; (one.sent, one.written), (room as u64, count));
+    let records = [(1, TCP_FRAME), (2, UDP_FRAME), (3, TCP_FRAME)];
+    let whole = written(alloc, 64, &records, 38)?;
+    let sent = whole.get(..room).expect(rt, "room for a part");
+    assert_eq!(rt; one.sink.inner.bytes.as_slice(), sent);
+    Ok(())
+}
+
+#[test]
+fn a_packet_counts_as_written_where_it_went_out_whole(rt: HostRuntime) -> Result<(), Fail> {
+    // The header has 24 bytes, and each record 54.
+    let rooms = [
+        (0, 0),
+        (10, 0),
+        (24, 0),
+        (77, 0),
+        (78, 1),
+        (88, 1),
+        (131, 1),
+        (132, 2),
+        (185, 2),
+    ];
+    for (room, count) in rooms {
+        breaks_off(&rt, room, count)?;
+    }
+    Ok(())
+}

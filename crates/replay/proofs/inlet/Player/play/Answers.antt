@@ -4,13 +4,13 @@ use Rattle.savefile.specs.Reader.{packet_lent, source_of}
 use Rattle.savefile.specs.declared.packet.Packet.{Packet}
 use Rattle.replay.specs.Captures.{numbered}
 use Rattle.replay.specs.Lines.{HasArrived}
-use Rattle.replay.proofs.Captured.{arrives-behind, writable-more}
+use Rattle.replay.proofs.Captured.{arrives-behind, comes-back, device-or-same, takes-more, writable-more}
 use Rattle.replay.proofs.Writes.{same-unless-different}
 use Rattle.replay.proofs.inlet.Player.play.Goals as goal
 
 pub returns-in-Ok-false-clause-played : goal.returns-in-Ok-false-clause-played
 returns-in-Ok-false-clause-played g c = λ start header h.
-    let (packets, so_many, writable, given, arrives) = c.loop-place.invariant.4 start header h in record {
+    let (packets, so_many, writable, given, arrives) = c.loop-place.invariant.5 start header h in record {
       packets = packets;
       writable = writable;
       arrive = arrives;
@@ -19,7 +19,7 @@ returns-in-Ok-false-clause-played g c = λ start header h.
 
 pub returns-in-Err-clause-played : goal.returns-in-Err-clause-played
 returns-in-Err-clause-played g c = λ start header h.
-    let (packets, so_many, writable, given, arrives) = c.loop-place.invariant.4 start header h in
+    let (packets, so_many, writable, given, arrives) = c.loop-place.invariant.5 start header h in
     let a = c.advance.ensures in
     let most = c.loop-place.invariant.1 in
     let sum = c.loop-place.invariant.0 in record {
@@ -42,9 +42,27 @@ returns-in-Err-clause-played g c = λ start header h.
       );
     }
 
+-- where the call did not fail, the source did not
+pub returns-in-Ok-false-clause-back : goal.returns-in-Ok-false-clause-back
+returns-in-Ok-false-clause-back g c =
+    comes-back g.S.Source.left g.S.Source.failures _ _ (source_of c.advance.new.self) c.args.capture _ c.loop-place.invariant.4 c.advance.ensures.taken c.loop-place.invariant.3
+    (inr (same-unless-different (g.S.Source.failures (source_of c.advance.new.self)) _
+    (λ differs. let bad = sym (c.in-Ok-false.is ∙ ap Ok c.in-Ok-false.field-0-test) ∙ c.advance.ensures.device.1 differs in cc)))
+
+pub returns-in-Err-clause-back : goal.returns-in-Err-clause-back
+returns-in-Err-clause-back g c =
+    comes-back g.S.Source.left g.S.Source.failures _ _ (source_of c.advance.new.self) c.args.capture _ c.loop-place.invariant.4 c.advance.ensures.taken c.loop-place.invariant.3
+    (device-or-same c.args.capture c.in-Err.fault _ _ (λ differs. let e = sym c.in-Err.is ∙ c.advance.ensures.device.1 differs in cc))
+
+pub returns-then-self-clause-back : goal.returns-then-self-clause-back
+returns-then-self-clause-back g c =
+    comes-back g.S.Source.left g.S.Source.failures _ _ (source_of c.advance.new.self) c.args.capture _ c.loop-place.invariant.4 c.advance.ensures.taken c.loop-place.invariant.3
+    (inr (same-unless-different (g.S.Source.failures (source_of c.advance.new.self)) _
+    (λ differs. let bad = sym (c.in-Ok-true.is ∙ ap Ok c.in-Ok-true.field-0-test) ∙ c.advance.ensures.device.1 differs in cc)))
+
 pub returns-then-self-clause-played : goal.returns-then-self-clause-played
 returns-then-self-clause-played g c = λ start header h.
-    let (packets, so_many, writable, given, arrives) = c.loop-place.invariant.4 start header h in record {
+    let (packets, so_many, writable, given, arrives) = c.loop-place.invariant.5 start header h in record {
       packets = packets;
       writable = writable;
       arrive = arrives;
@@ -66,8 +84,9 @@ loop-place-preserved g c =
       same-unless-different (g.S.Source.failures (source_of c.advance.new.self)) (g.S.Source.failures (source_of c.loop-place.reader))
           (λ differs. let bad = sym is ∙ c.advance.ensures.device.1 differs in cc)
           ∙ c.loop-place.invariant.3,
+      takes-more _ _ _ c.loop-place.invariant.4 c.advance.ensures.taken,
       (λ start header h.
-          let (packets, so_many, writable, given, arrives) = c.loop-place.invariant.4 start header h in (
+          let (packets, so_many, writable, given, arrives) = c.loop-place.invariant.5 start header h in (
             packets ++ p ∷ [],
             omega (arith, so_many, length-append packets (p ∷ [])),
             writable-more packets p writable (c.advance.ensures.writable is),

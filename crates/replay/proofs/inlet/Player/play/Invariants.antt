@@ -1,4 +1,5 @@
 use Rattle.std.proofs.Common.{◌≡◌, ◌+◌, ◌-◌, ◌≤◌, ◌^◌, ℕ, List, [], ◌++◌, All, Option, length}
+use Rattle.std.specs.Io.KnownBytes.{Consumes}
 use Rattle.listener.specs.Messages.{Arrival}
 use Rattle.savefile.specs.Reader.{HasGiven, source_of}
 use Rattle.savefile.specs.Savefile.{IsWritable}
@@ -15,6 +16,7 @@ invariant-loop-place g l =
     × (l.self.arrived ≤ 2 ^ 64 - 2)
     × ((starts : List Line) × (playlist : List Arrival) × HasArrived starts playlist l.self)
     × (g.S.Source.failures (source_of l.reader) ≡ g.S.Source.failures (source_of l.fn.reader))
+    × ((bytes : List ℕ) × Consumes (g.S.Source.left (source_of l.fn.reader)) (g.S.Source.left (source_of l.reader)) bytes)
     × ((start : Option (List ℕ)) (header : Header) → HasGiven g.S.Source.left start header [] l.fn.reader →
     (packets : List Packet) × (length packets ≡ l.place) × All IsWritable packets × HasGiven g.S.Source.left start header packets l.reader
     × ((starts : List Line) (playlist : List Arrival) → HasArrived starts playlist l.fn.self → HasArrived starts (playlist ++ numbered l.capture 0 packets) l.self))

@@ -4,7 +4,8 @@ use Rattle.listener.specs.Messages.{Arrival}
 use Rattle.savefile.specs.Reader.{header_told, source_of}
 use Rattle.replay.specs.Lines.{HasArrived}
 use Rattle.replay.specs.Arrived.{HasPlayed}
-use Rattle.replay.proofs.Captured.{none-writable, not-opened}
+use Rattle.replay.specs.Captures.{ComesBack}
+use Rattle.replay.proofs.Captured.{comes-back, device-or-same, none-writable, not-opened}
 use Rattle.replay.proofs.inlet.Player.replay.Goals as goal
 
 pub returns-in-Ok-clause-played : goal.returns-in-Ok-clause-played
@@ -24,3 +25,15 @@ returns-in-Err-clause-played g c =
       arrive = λ starts playlist h. subst (λ (as' : List Arrival). HasArrived starts as' c.args.self.now) (sym (append-nil playlist)) h;
       ends = (refl, why.0, why.1, why.2);
     }
+
+pub returns-in-Ok-clause-back : goal.returns-in-Ok-clause-back
+returns-in-Ok-clause-back g c =
+    let back = c.play-end.ensures.back in
+    subst (λ x. ComesBack g.S.Source.left g.S.Source.failures c.args.source x c.args.capture c.play-end.result) (sym c.close.ensures)
+    (comes-back g.S.Source.left g.S.Source.failures _ (source_of c.in-Ok.reader) _ c.args.capture c.play-end.result c.in-Ok.ensures.taken back.0 c.in-Ok.ensures.device back.1)
+
+pub returns-in-Err-clause-back : goal.returns-in-Err-clause-back
+returns-in-Err-clause-back g c = (
+  (c.in-Err.ensures.taken.0, c.in-Err.ensures.taken.1),
+  device-or-same c.args.capture c.in-Err.fault _ _ c.in-Err.ensures.device.1,
+)

@@ -47,7 +47,7 @@ loop-n-preserved g c =
               subst (λ p. HasArrived starts (playlist ++ numbered c.in-Some.n 0 played.packets) p) (sym w.self-is) (played.arrive starts playlist arrived),
               loop-read L B all _ _ c.loop-n.n-iterator.count _ c.in-Some.n w.replay-source.new.self.arrived c.in-Some.source w.replay-source.result.0 c.match-end.source _ rest
                   playlist played.packets c.loop-n.end c.match-end.end w.replay-source.result.1 so w.in-None-end.is taken w.source-is c.push_reserved.ensures.items
-                  (search rules) (search rules) (played.arrive starts playlist arrived).0 played.ends w.end-is,
+                  (search rules) (search rules) (played.arrive starts playlist arrived).0 (played.ends, w.replay-source.ensures.back) w.end-is,
             )),
         search rules,
         search rules,

@@ -18,7 +18,8 @@ returns-in-Err g c = λ output messages t.
     let put = c.put.ensures in
     let fault = c.in-Err.field-0 in
     put-fails g.W.Sink.taken g.W.Sink.failures output messages (message_in m) c.args.self.now _ fault
-    (c.growing_text.ensures.begins output.order output.unit output.snap) c.if-not-self.false t refl refl
+    (c.growing_text.ensures.begins output.order output.unit output.snap) (c.growing_text.ensures.adds output.order output.unit output.snap)
+    c.if-not-self.false t refl refl put.grows
     (λ is. subst (λ (n : _). BrokeOff g.W.Sink.taken (g.W.Sink.taken output.sink) output.order output.unit output.snap
     (map as_written messages ++ packet m.sec n m.len m.bytes.now ∷ []) c.put.new.self) c.min-nanos.ensures
     (put.broke_off _ output.order output.unit output.snap (map as_written messages) written (c.in-Err.is ∙ ap Err is)))

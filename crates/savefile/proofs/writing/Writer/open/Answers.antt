@@ -8,4 +8,4 @@ returns-clause-ok g c =
 
 pub returns-clause-err : goal.returns-clause-err
 returns-clause-err g c =
-    on_err c.send-answer.result _ _ (λ s. opens_in_part g.W.Sink.taken c.args.order c.args.unit c.args.snap s.0 _ c.send-answer.new.self refl s.1 s.2 s.3) (rw c.file_header.ensures at c.send-answer.ensures.err)
+    on_err c.send-answer.result _ _ (λ s. opens_in_part g.W.Sink.taken c.args.order c.args.unit c.args.snap _ c.send-answer.new.self refl s) (rw c.file_header.ensures at c.send-answer.ensures.err)

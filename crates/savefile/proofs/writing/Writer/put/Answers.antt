@@ -1,6 +1,6 @@
 use Rattle.std.proofs.Common.{◌≡◌, ◌++◌, refl}
 use Rattle.savefile.specs.Savefile.{packet, record_text}
-use Rattle.savefile.proofs.Sending.{at_err, breaks_off, on_ok, writes_packet}
+use Rattle.savefile.proofs.Sending.{at_err, breaks_off, on_ok, sent_grows, writes_packet}
 use Rattle.savefile.proofs.writing.Writer.put.Goals as goal
 
 pub returns-clause-ok : goal.returns-clause-ok
@@ -14,4 +14,8 @@ unfolding record_text
 returns-clause-broke_off g c = λ start order unit snap packets h is.
     let e : c.record_header-header.result ++ c.args.bytes.now ≡ record_text c.args.self.now.order c.args.self.now.unit (packet c.args.sec c.args.nanos c.args.len c.args.bytes.now) = rw (c.record_header-header.ensures, c.nanos.ensures) refl in
     let s = at_err c.send_both.result _ _ is (rw e at c.send_both.ensures.err) in
-    breaks_off g.W.Sink.taken start order unit snap packets (packet c.args.sec c.args.nanos c.args.len c.args.bytes.now) s.0 c.args.self.now c.send_both.new.self h s.1 s.2 s.3
+    breaks_off g.W.Sink.taken start order unit snap packets (packet c.args.sec c.args.nanos c.args.len c.args.bytes.now) c.args.self.now c.send_both.new.self h s
+
+pub returns-clause-grows : goal.returns-clause-grows
+returns-clause-grows g c =
+    sent_grows g.W.Sink.taken c.args.self.now c.send_both.new.self _ c.send_both.result _ c.send_both.ensures.ok c.send_both.ensures.err

@@ -1,6 +1,7 @@
 use Rattle.std.proofs.Common.{◌≡◌, ℕ, ◌+◌, ◌-◌, List, ◌++◌, length, take, drop, refl, ap, subst, ◌∙◌, arith, length-take, take-append-drop}
 use Rattle.savefile.proofs.Records.{rest_of}
-use Rattle.savefile.proofs.Sending.{on_err, SendsPart, SendsPart-second}
+use Rattle.savefile.specs.Sending.{SendsPart}
+use Rattle.savefile.proofs.Sending.{on_err, SendsPart-second}
 use Rattle.savefile.proofs.writing.Writer.send.Goals as goal
 
 pub returns-else-n-bytes-clause-err : goal.returns-else-n-bytes-clause-err
