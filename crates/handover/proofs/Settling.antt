@@ -13,8 +13,8 @@ use Rattle.handover.specs.History.{Happening, fed, got, shut, event_of, events, 
 use Rattle.handover.specs.Own.{own, arrivals, matches, drops}
 use Rattle.handover.specs.Allowed.{AllFit}
 use Rattle.handover.specs.Rule.{last}
-use Rattle.handover.specs.Settling.{stored_in}
-use Rattle.handover.specs.Laws.{MergesHaveBoth, HistoriesAreSettled, StoredAreReadOrPend, OwnRunsAreRight}
+use Rattle.handover.specs.Settling.{stored_in, undropped_in}
+use Rattle.handover.specs.Laws.{MergesHaveBoth, HistoriesAreSettled, StoredAreReadOrPend, KeptAreStored, OnlyDroppedAreMissing, OwnRunsAreRight}
 use Rattle.handover.proofs.Keeps.{store_is}
 use Rattle.handover.proofs.Owns.{own_legal, feeds_in-own, own_store}
 use Rattle.handover.proofs.Merges.{feeds_in-merge, takes_in-merge}
@@ -163,6 +163,33 @@ read_or_pend t s (shut ∷ hs) legal = read_or_pend t (next s (event_of shut)) h
 pub stored_are_read_or_pend : StoredAreReadOrPend
 stored_are_read_or_pend t fs ts hs h =
     ap (λ (l : List Take). joined (batches_of l) ++ (run empty (events hs)).pending) (sym h.takes) ∙ read_or_pend t empty hs h.answers ∙ ap stored_in h.feeds
+
+pub kept_are_stored : KeptAreStored
+kept_are_stored t fs ts hs fits h =
+    let k = runs_are_kept t (events hs) (all_fit t hs (subst (AllFit t.capacity) (sym h.feeds) fits)) h.answers in
+    let bs : batches (events hs) ≡ batches_of ts = batches_are hs ∙ ap batches_of h.takes in
+    sym k.whole ∙ ap (λ (b : List (List Message)). joined b ++ (run empty (events hs)).pending) bs ∙ stored_are_read_or_pend t fs ts hs h
+
+-- no accepted packet is answered Passed
+stored_are_undropped : (t : Terms) (s : PlainList) (hs : List Happening) → Legal t s (events hs) → stored_in (feeds_in hs) ≡ undropped_in (feeds_in hs)
+stored_are_undropped t s [] legal = refl
+stored_are_undropped t s (fed (Arrive None answer) ∷ hs) legal = stored_are_undropped t (next s (event_of (fed (Arrive None answer)))) hs legal.1
+stored_are_undropped t s (fed (Arrive (Some m) Passed) ∷ hs) legal = absurd legal.0
+stored_are_undropped t s (fed (Arrive (Some m) Stored) ∷ hs) legal =
+    ap (λ (l : List Message). m ∷ l) (stored_are_undropped t (next s (event_of (fed (Arrive (Some m) Stored)))) hs legal.1)
+stored_are_undropped t s (fed (Arrive (Some m) Held) ∷ hs) legal =
+    ap (λ (l : List Message). m ∷ l) (stored_are_undropped t (next s (event_of (fed (Arrive (Some m) Held)))) hs legal.1)
+stored_are_undropped t s (fed (Arrive (Some m) Rotated) ∷ hs) legal =
+    ap (λ (l : List Message). m ∷ l) (stored_are_undropped t (next s (event_of (fed (Arrive (Some m) Rotated)))) hs legal.1)
+stored_are_undropped t s (fed (Arrive (Some m) Dropped) ∷ hs) legal = stored_are_undropped t (next s (event_of (fed (Arrive (Some m) Dropped)))) hs legal.1
+stored_are_undropped t s (fed (Arrive (Some m) Closed) ∷ hs) legal = stored_are_undropped t s hs legal.1
+stored_are_undropped t s (fed (Flush full) ∷ hs) legal = stored_are_undropped t (next s (event_of (fed (Flush full)))) hs legal.1
+stored_are_undropped t s (fed FlushClosed ∷ hs) legal = stored_are_undropped t (next s (event_of (fed FlushClosed))) hs legal.1
+stored_are_undropped t s (got take ∷ hs) legal = stored_are_undropped t (next s (event_of (got take))) hs legal.1
+stored_are_undropped t s (shut ∷ hs) legal = stored_are_undropped t (next s (event_of shut)) hs legal.1
+
+pub only_dropped_are_missing : OnlyDroppedAreMissing
+only_dropped_are_missing t fs ts hs h = subst (λ (l : List Feed). stored_in l ≡ undropped_in l) h.feeds (stored_are_undropped t empty hs h.answers)
 
 -- ---- The feeder's own run
 

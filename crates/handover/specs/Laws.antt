@@ -15,7 +15,7 @@ use Rattle.handover.specs.declared.view.View.{View}
 use Rattle.handover.specs.History.{Happening, LegalHistory, events, feeds_in, takes_in, merge, CloseIsPlaced, batches_of, finds, kind, finds_closed}
 use Rattle.handover.specs.Own.{own, store_of, arrivals, matches, drops}
 use Rattle.handover.specs.Allowed.{AllFit, IsQuiet, Busy, Loud, handed}
-use Rattle.handover.specs.Settling.{stored_in}
+use Rattle.handover.specs.Settling.{stored_in, undropped_in}
 use Rattle.handover.specs.Rule.{last, terms_of, Kept, first, for_feeder, for_drain, joint, spent, Owned, Sat, saw_closed, saw_turn, set_turn, set_ended, looked_ended, looked_turn, cleared, set_closed}
 
 -- Each call of both lists stands in the merged list once, in its order, and the close is in its place.
@@ -42,6 +42,16 @@ HistoriesAreSettled = (t : Terms) (fs : List Feed) (ts : List Take) → AllFit t
 abbrev pub StoredAreReadOrPend : Type 0
 StoredAreReadOrPend = (t : Terms) (fs : List Feed) (ts : List Take) (hs : List Happening) → LegalHistory t fs ts hs
     → joined (batches_of ts) ++ (run empty (events hs)).pending ≡ stored_in fs
+
+-- In each legal history what looking back keeps are the messages that were stored, where each message is within the capacity.
+abbrev pub KeptAreStored : Type 0
+KeptAreStored = (t : Terms) (fs : List Feed) (ts : List Take) (hs : List Happening) → AllFit t.capacity fs → LegalHistory t fs ts hs
+    → kept t (requests (events hs)) ≡ stored_in fs
+
+-- In each legal history each accepted arrival that did not find the pair closed was stored or dropped: so what is missing of them is
+-- what was dropped, and nothing else.
+abbrev pub OnlyDroppedAreMissing : Type 0
+OnlyDroppedAreMissing = (t : Terms) (fs : List Feed) (ts : List Take) (hs : List Happening) → LegalHistory t fs ts hs → stored_in fs ≡ undropped_in fs
 
 -- Where the merged list is legal, the feeder's own calls are right by themselves, with one read directly before each that stores 1
 -- to `turn` but the first, and the close directly before the first that found it. Both runs have one store and the same counts.

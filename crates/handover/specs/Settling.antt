@@ -1,6 +1,6 @@
 -- What is left of a pair: batches, hold and rest as a whole, and the counts.
 use Rattle.std.specs.Prelude.{◌≡◌, ◌+◌, true, false, List, [], ◌∷◌, ◌++◌, length, Some, Contains}
-use Rattle.listener.specs.declared.answer.Fed.TheVariants.{Stored, Held, Rotated}
+use Rattle.listener.specs.declared.answer.Fed.TheVariants.{Stored, Held, Rotated, Dropped, Closed}
 use Rattle.listener.specs.declared.answer.Counts.{Counts}
 use Rattle.listener.specs.declared.message.Message.{Message}
 use Rattle.listener.specs.Laws.{joined}
@@ -25,6 +25,14 @@ stored_in (Arrive (Some m) Stored ∷ fs) = m ∷ stored_in fs
 stored_in (Arrive (Some m) Held ∷ fs) = m ∷ stored_in fs
 stored_in (Arrive (Some m) Rotated ∷ fs) = m ∷ stored_in fs
 stored_in (f ∷ fs) = stored_in fs
+
+-- the messages of the accepted arrivals that were answered neither Closed nor Dropped
+abbrev pub undropped_in : List Feed → List Message
+undropped_in [] = []
+undropped_in (Arrive (Some m) Closed ∷ fs) = undropped_in fs
+undropped_in (Arrive (Some m) Dropped ∷ fs) = undropped_in fs
+undropped_in (Arrive (Some m) answer ∷ fs) = m ∷ undropped_in fs
+undropped_in (f ∷ fs) = undropped_in fs
 
 -- What was read, the hold and then the rest are what is kept, and by the answers alone what was stored; each message is an accepted
 -- arrival; what matched is what is kept and what was dropped; and where a read found the end, no call found the pair closed.

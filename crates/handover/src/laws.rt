@@ -1,7 +1,7 @@
 //! Laws of the two lists of calls, of the history that they make, and of the steps. Each function is empty, and its contract is the
 //! law.
 
-ghost use Rattle.handover.specs.Laws.{MergesHaveBoth, HistoriesAreSettled, StoredAreReadOrPend, OwnRunsAreRight, SeatsKeepTheRule, FeederLooksAtClosed, FeederLooksAtTurn, FeederGives, FeederEnds, DrainLooksAtEnded, DrainLooksAtTurn, DrainClears, DrainCloses};
+ghost use Rattle.handover.specs.Laws.{MergesHaveBoth, HistoriesAreSettled, StoredAreReadOrPend, KeptAreStored, OnlyDroppedAreMissing, OwnRunsAreRight, SeatsKeepTheRule, FeederLooksAtClosed, FeederLooksAtTurn, FeederGives, FeederEnds, DrainLooksAtEnded, DrainLooksAtTurn, DrainClears, DrainCloses};
 
 /// Each call of the feeder and each read of the drain stands in the merged list once, in its order, and the close in its
 /// place.
@@ -10,10 +10,14 @@ pub fn merges()
 {}
 
 /// What the reads took and then what pends is what looking back keeps, and the counts are those of the feeder's calls. In each
-/// legal history, however its reads stand, it is the messages of the arrivals that were stored.
+/// legal history, however its reads stand, it is the messages of the arrivals that were stored, and, where each message is within
+/// the capacity, what looking back keeps. Of the accepted arrivals that did not find the pair closed, exactly those that were
+/// answered Dropped are missing in it.
 pub fn histories()
     ensures settled { HistoriesAreSettled }
     ensures stored { StoredAreReadOrPend }
+    ensures kept { KeptAreStored }
+    ensures missing { OnlyDroppedAreMissing }
 {}
 
 /// What the feeder knows by its own calls alone: they are right by themselves, and tell its store and its counts.
