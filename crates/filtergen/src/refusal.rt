@@ -5,7 +5,8 @@ use thiserror::Error;
 /// Why an expression is not compiled. `BadSnap` is looked for first, and `TooDeep` second.
 #[derive(Clone, Copy, Debug, PartialEq, Eq, Error)]
 pub enum Refusal {
-    /// The program would not fit into 512 instructions. It comes only where the expression's weight is above 500.
+    /// Of the 512 instructions of a program fewer were left than its next part may take. It comes only where the
+    /// expression's weight is above 500.
     #[error("TooLong")]
     TooLong,
     /// A relation needs more than 16 cells of the scratch memory.
