@@ -131,7 +131,8 @@ impl<R: Clock> Gate for Watch<'_, R> {
             return;
         };
         one.packets.fetch_add(packets as u64, SeqCst);
-        self.expects(one.read.fetch_add(1, SeqCst) + 1 == one.began.load(SeqCst));
+        let before = one.read.fetch_add(1, SeqCst);
+        self.expects(before.wrapping_add(1) == one.began.load(SeqCst));
     }
 }
 
