@@ -286,7 +286,20 @@ fn arithmetic_is_modulo_two_to_the_32(rt: HostRuntime) {
 }
 
 /// Numbers at which an operator may slip.
-const NUMBERS: [u32; 7] = [0, 1, 31, 32, 33, 0x8000_0000, u32::MAX];
+const NUMBERS: [u32; 12] = [
+    0,
+    1,
+    2,
+    30,
+    31,
+    32,
+    33,
+    0x7fff_ffff,
+    0x8000_0000,
+    0x8000_0001,
+    u32::MAX - 1,
+    u32::MAX,
+];
 
 const OPERATORS: [Operator; 10] = [
     Operator::Plus,
