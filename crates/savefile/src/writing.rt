@@ -125,7 +125,7 @@ impl<W: Sink> Writer<W> {
     }
 
     /// Sends bytes. Mostly the sink takes them all at once.
-    #[inline]
+    #[inline(always)]
     fn send(&mut self, bytes: &[u8]) -> Result<(), Fault>
         requires { self.old.sent + length bytes.now < 2 ^ 64 }
         ensures ok { OnOk result (Sends W.taken self.old self.new bytes.now × (self.new.failed ≡ self.old.failed)) }
@@ -178,7 +178,7 @@ impl<W: Sink> Writer<W> {
     }
 
     /// Sends a header, and then bytes.
-    #[inline]
+    #[inline(always)]
     fn send_both(&mut self, header: &[u8], bytes: &[u8]) -> Result<(), Fault>
         requires { self.old.sent + length header.now + length bytes.now < 2 ^ 64 }
         ensures ok { OnOk result (Sends W.taken self.old self.new (header.now ++ bytes.now) × (self.new.failed ≡ self.old.failed)) }
@@ -198,7 +198,7 @@ impl<W: Sink> Writer<W> {
     /// failed, and every `put` answers [`Fault::Failed`] and does nothing. [`Fault::CountFull`] comes
     /// exactly where the record would take [`Writer::sent`] past 2^64 - 1; it does nothing, and the writer
     /// can be used on. No memory is taken.
-    #[inline]
+    #[inline(always)]
     pub fn put(&mut self, sec: u32, nanos: u32, len: u32, bytes: &[u8]) -> Result<(), Fault>
         requires nanos { nanos < 1000000000 }
         requires size { length bytes.now ≤ 262144 }
