@@ -27,6 +27,8 @@ mod run_files;
 #[cfg(test)]
 mod run_files_tests;
 mod run_lines;
+#[cfg(test)]
+mod run_plan_tests;
 mod run_reports;
 #[cfg(test)]
 mod run_tests;

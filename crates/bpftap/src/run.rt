@@ -227,10 +227,12 @@ fn replay_made<
 ///
 /// A bad line is told as `Listeners N`, N from 1: it has not this form, names an interface that is not there, or an OUT that
 /// an earlier line has. Then the expressions are compiled: `Expression N` or `Compile N`, N from 0. Behind these and a
-/// [`RunFault`] no source is read, no sink is handed back, nothing is printed and the exit status is 1.
+/// [`RunFault`] no sink is handed back, nothing is printed and the exit status is 1; but for [`RunFault::NoStart`] no source is
+/// read either.
 ///
 /// Else the sinks are handed back in the order of the lines, and the exit status is the greatest of these: 0; 1 where an
-/// interface's capture has no header of a savefile, memory was wanting for it, or a listener is `Unfinished`; 2 where a
+/// interface's capture has no header of a savefile, memory was wanting for it or for `out`, an interface's arrivals cannot be
+/// counted further, or a listener is `Unfinished`; 2 where a
 /// capture ended with a record fault; 3 where a source, a sink or `out` failed. A fault of a capture is told as `Interface I
 /// Capture N fault`, one of a sink by the end `Write B` alone, B being the bytes that it took.
 pub fn run<

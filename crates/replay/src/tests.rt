@@ -4,6 +4,7 @@ mod caller;
 mod endings;
 mod overlap;
 mod refusals;
+mod rings;
 mod small;
 mod steps;
 

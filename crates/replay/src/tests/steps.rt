@@ -52,8 +52,8 @@ impl Told {
     }
 }
 
-/// Counts each step, and holds each arrival until what arrived before it is read. A step that is told twice, or with another
-/// number, or out of turn, counts as odd.
+/// Counts each step, and holds each arrival, once it is given and what is due was flushed, until it is read. A step that is told
+/// twice, or with another number, or out of turn, counts as odd.
 #[derive(Drop)]
 struct Watch<'a, R> {
     rt: &'a R,
@@ -103,13 +103,6 @@ impl<R: Clock> Gate for Watch<'_, R> {
             return;
         };
         self.expects(told.began.fetch_add(1, SeqCst) == n && told.arrived.load(SeqCst) == n);
-        for _ in 0..MOST_TURNS {
-            if self.is_read(interface, n) {
-                return;
-            }
-            thread::sleep(self.rt, Duration::from_millis(1));
-        }
-        self.expects(false);
     }
 
     fn after_arrive(&self, interface: u32, n: u64) {
@@ -117,6 +110,13 @@ impl<R: Clock> Gate for Watch<'_, R> {
             return;
         };
         self.expects(told.arrived.fetch_add(1, SeqCst) == n);
+        for _ in 0..MOST_TURNS {
+            if self.is_read(interface, n.wrapping_add(1)) {
+                return;
+            }
+            thread::sleep(self.rt, Duration::from_millis(1));
+        }
+        self.expects(false);
     }
 
     fn before_read(&self, interface: u32, listener: u32) {
@@ -136,15 +136,19 @@ impl<R: Clock> Gate for Watch<'_, R> {
     }
 }
 
-/// An interface of one capture, at a listener for TCP and one for all.
+/// An interface of a capture for each frame, at a listener for TCP and one for all.
 fn interface(
     alloc: Global,
     frames: &[[u8; 38]],
 ) -> Result<Interface<Counted<Tape>, Counted<Paper>>, Fail> {
     let tcp = task(keeping_tcp()?, 64, 96, sink_with(alloc, usize::MAX));
     let all = task(keeping_all()?, 64, 96, sink_with(alloc, usize::MAX));
+    let mut captures = Vec::new(alloc);
+    for frame in frames {
+        captures.push(source_of(capture(alloc, 1, &[*frame])?))?;
+    }
     Ok(Interface {
-        captures: vec![in alloc; source_of(capture(alloc, 1, frames)?)]?,
+        captures,
         tasks: vec![in alloc; tcp, all]?,
     })
 }
@@ -164,6 +168,9 @@ fn each_step_is_told_once_with_its_numbers(rt: HostRuntime) -> Result<(), Fail> 
     let reports = run(&rt, alloc, interfaces, &watch)?;
     assert_eq!(rt; watch.odd.load(SeqCst), 0);
     assert_eq!(rt; reports.len(), 2);
+    for report in &reports {
+        assert_eq!(rt; report.end, InterfaceEnd::Clean);
+    }
     for (told, (arrivals, packets)) in watch.told.iter().zip([(3, [2, 3]), (2, [1, 2])]) {
         assert_eq!(rt;
             (told.began.load(SeqCst), told.arrived.load(SeqCst)),
