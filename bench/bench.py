@@ -36,7 +36,7 @@ import time
 ROOT = pathlib.Path(__file__).resolve().parent.parent
 PROGRAM = ROOT / "crates" / "bpftap" / "out" / "bpftap"
 # Bytes; the program's own limit is that of the machine, mostly 8 MiB.
-STACK = 512 << 10
+STACK = 1 << 20
 # As `tcpdump -ddd udp port 53` prints it.
 UDP_PORT_53 = """20
 40 0 0 12

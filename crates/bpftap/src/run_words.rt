@@ -29,7 +29,7 @@ Examples:
   bpftap run examples/run/listeners.txt examples/veth.pcap
   bpftap run examples/run/two.txt examples/veth.pcap + examples/veth-big-nano.pcap
 
-Exit status: 0 clean; 1 wrong words, a refused line, expression or file, or want of memory;
+Exit status: 0 clean; 1 wrong words, a refused line, expression or file, an Unfinished listener, or want of memory;
 2 a torn or bad record, after the packets before it; 3 a file or device failed.";
 
 /// The subcommand.
