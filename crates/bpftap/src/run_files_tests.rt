@@ -1,4 +1,4 @@
-//! `bpftap run` over files: in which order they are opened, and what is kept.
+//! `bpftap run` over files: which of them are touched where it is refused, and what is kept.
 
 use crate::command_tests::{command, enter_scratch};
 use crate::run_tests::{TCP, UDP};
