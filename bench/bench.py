@@ -1,5 +1,5 @@
 #!/usr/bin/env python3
-"""Measures `bpftap cut` beside cp, and beside tcpdump where it is there; and `bpftap check` on hostile expressions.
+"""Measures each command of bpftap and the calls under it, beside cp and tcpdump where they do the same.
 
   bench/bench.py                   wall time and peak memory on a capture of some 100 MB, interleaved runs
   bench/bench.py --instructions    user instructions for each packet, by valgrind's callgrind, on a small capture
@@ -7,7 +7,8 @@
                                    bench/listener in a copy first, which takes some minutes
   bench/bench.py --steps           the same for each packet of a replay by `bpftap steps`, one listener and 64, read at each full hold
   bench/bench.py --run             packets per second of `bpftap run` with 1 to 8 listeners and 1 to 4 interfaces, beside as many `cut`
-                                   and tcpdump at once; what is dropped with few buffers; instructions of a packet that nobody accepts
+                                   and tcpdump at once; what is dropped with few buffers; instructions of a packet that nobody accepts, and
+                                   of the same by `cut`
   bench/bench.py --handover        arrivals per second at a listener, at a pair in one thread and in two, and at a listener under
                                    a lock in two threads; proves and builds bench/handover in a copy first
   bench/bench.py --expressions     wall time of `check` on expressions of some 8,192 bytes, interleaved runs, on a small stack
@@ -240,7 +241,7 @@ def steps(folder):
         reads = "".join(f"read {l}\n" for l in range(listeners))
         counts = []
         for packets, path in captures.items():
-            # A buffer of 1,048,576 bytes has room for some 1,400 packets.
+            # A buffer of 1,048,576 bytes has room for some 1,500 packets.
             (folder / "script.txt").write_text(("arrive\n" * 1000 + reads) * (packets // 1000))
             words = [str(PROGRAM), "steps", *(str(folder / f) for f in ("listeners.txt", "script.txt")), str(path)]
             counts.append(instructions_of(words, folder))
@@ -288,14 +289,16 @@ def replays(folder, packets, rounds):
     capture = folder / "in.pcap"
     generate(capture, packets)
     if shutil.which("valgrind"):
+        nobody, listeners = folder / "nobody.pcap", folder / "nobody.txt"
+        listeners.write_text(f"0 0 0 1048576 2 {nobody} less 1\n")
         counts = {}
         for many in (1000, 11000):
             small = folder / f"{many}.pcap"
             generate(small, many)
-            listeners = folder / "nobody.txt"
-            listeners.write_text(f"0 0 0 1048576 2 {folder / 'nobody.pcap'} less 1\n")
-            counts[many] = instructions_of([str(PROGRAM), "run", str(listeners), str(small)], folder)
-        print(f"user instructions for each packet that no listener accepts: {(counts[11000] - counts[1000]) / 10000:.0f}")
+            for name, words in [("run", [str(listeners), str(small)]), ("cut", ["-s", "0", "-e", "less 1", str(small), str(nobody)])]:
+                counts[name, many] = instructions_of([str(PROGRAM), name, *words], folder)
+        told = ", ".join(f"{name} {(counts[name, 11000] - counts[name, 1000]) / 10000:.0f}" for name in ["run", "cut"])
+        print(f"user instructions for each packet that nobody accepts: {told}")
     print(f"{packets} packets, {capture.stat().st_size / 1e6:.0f} MB, median of {rounds} rounds, {os.cpu_count()} processors")
     for interfaces, listeners in [(1, 1), (1, 2), (1, 4), (1, 8), (2, 1), (4, 1)]:
         seen, many = {}, interfaces * packets

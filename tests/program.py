@@ -76,6 +76,32 @@ def closed_streams(folder):
         check(f"--help {redirections}", seen, (3 if closed[1] else 0, told))
         after = {path.name: path.read_bytes() for path in folder.iterdir()}
         check(f"files behind --help {redirections}", after, before)
+        reports_of_closed_streams(folder, redirections, closed)
+
+
+def reports_of_closed_streams(folder, redirections, closed):
+    """The same of the other commands: a fault is told, a report printed, or neither, and OUT has the packets alone."""
+    full = b"bpftap: Device standard output\n"
+    (folder / "l.txt").write_text("32 64\n")
+    (folder / "s.txt").write_text("arrive\n")
+    (folder / "r.txt").write_text("0 0 0 1048576 2 out.pcap\n")
+    inputs = {path.name: path.read_bytes() for path in folder.iterdir() if path.name != "out.pcap"}
+    for words, status, told in [
+        ("check ip", 0, b""),
+        ("check 'tcp and 80'", 1, b"bpftap: NoQualifier 8\n"),
+        ("steps l.txt s.txt whole.pcap", 0, b""),
+        ("steps -v l.txt s.txt torn.pcap", 2, b"bpftap: Capture 0 TornRecord 1\n"),
+        ("run r.txt whole.pcap", 0, b""),
+        ("run r.txt torn.pcap", 2, b"bpftap: Interface 0 Capture 0 TornRecord 1\n"),
+    ]:
+        is_printed = status != 1
+        wanted = (full if closed[1] and is_printed else b"") + told
+        seen = shell(folder, words, redirections)
+        check(f"{words} {redirections}", seen, (3 if closed[1] and is_printed else status, b"" if closed[2] else wanted))
+        if words.startswith("run"):
+            check(f"OUT of {words} {redirections}", (folder / "out.pcap").read_bytes(), HEADER + RECORD)
+    after = {path.name: path.read_bytes() for path in folder.iterdir() if path.name != "out.pcap"}
+    check(f"files behind the other commands {redirections}", after, inputs)
 
 
 # Expressions, and how many of the 253 packets of the real capture tcpdump 4.99.3 keeps: `tcpdump -r veth.pcap EXPR`.
@@ -256,6 +282,24 @@ def examples_of_run(folder):
     check("examples of run", seen, told)
 
 
+def examples_of_steps(folder):
+    """What the page of the example says is printed, and the answers of its table."""
+    place = ROOT / "examples" / "steps"
+    lines = (place / "README.md").read_text().splitlines()
+    begins = ("listener", "batch", "capture", "held")
+    told = "".join(line.strip() + "\n" for line in lines if line.startswith("    ") and line.strip().startswith(begins))
+    words = [place / "listeners.txt", place / "script.txt", ROOT / "examples" / "veth.pcap"]
+    done = subprocess.run([PROGRAM, "steps", *words], cwd=folder, capture_output=True)
+    check("example of steps", (done.returncode, done.stdout.decode()), (0, told))
+    explained = subprocess.run([PROGRAM, "steps", "-v", *words], cwd=folder, capture_output=True).stdout.decode()
+    check("reports behind -v", explained.endswith(told), True)
+    answers = [line.split(": listener ")[1].split()[:2] for line in explained.splitlines() if line.startswith("step")]
+    wanted = (
+        "0 Passed, 1 Held, 0 Passed, 1 Stored, 0 Stored, 1 Passed, 1 read, 0 Stored, 1 Passed, 0 Rotated, 1 Passed, 0 Stored, "
+        "1 Passed, 0 Dropped, 1 Passed, 0 read, 0 Rotated, 1 Passed, 1 flushed, 0 closed 0 Closed 1 Passed,")
+    check("answers of the example", " ".join(" ".join(answer) for answer in answers), wanted)
+
+
 def main():
     subprocess.run([str(PROGRAM), "--help"], check=True, stdout=subprocess.DEVNULL)
     with tempfile.TemporaryDirectory() as name:
@@ -274,6 +318,7 @@ def main():
         files_of_run(folder)
         many_at_once(folder)
         examples_of_run(folder)
+        examples_of_steps(folder)
     for line in failures:
         print(line)
     print(f"{passed} passed, {len(failures)} failed")

@@ -1,5 +1,5 @@
 -- How a cut that came to its end was one.
-use Rattle.std.proofs.Common.{◌≡◌, ℕ, ◌<◌, inl, inr, List, [], ◌++◌, length, refl, ap, sym, ◌∙◌, subst, Option, Some, None, IfSome, Result, Ok, Err, unwrap_or, ◌⊎◌}
+use Rattle.std.proofs.Common.{◌≡◌, ℕ, ◌<◌, inl, inr, List, [], ◌++◌, length, refl, sym, ◌∙◌, subst, Option, Some, None, IfSome, unwrap_or, ◌⊎◌}
 use Rattle.std.proofs.lemmas.List.{append-nil}
 use Rattle.std.specs.Io.KnownBytes.{Appends, Consumes}
 use Rattle.savefile.specs.declared.fault.Fault.{Fault}

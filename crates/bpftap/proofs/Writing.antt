@@ -1,7 +1,6 @@
 -- How a writer goes on with one packet more.
-use Rattle.std.proofs.Common.{◌≡◌, ◌≢◌, ℕ, ◌+◌, ◌<◌, ◌≤◌, ◌^◌, ◌⊎◌, inl, inr, List, [], ◌∷◌, ◌++◌, length, min, take, refl, ap, sym, ◌∙◌, arith, subst, Option, Result, Ok, Err, OnOk, OnErr, IfErr, is_ok, length-append, true, false}
+use Rattle.std.proofs.Common.{◌≡◌, ◌≢◌, ℕ, ◌+◌, ◌<◌, ◌≤◌, ◌^◌, ◌⊎◌, inl, inr, List, [], ◌∷◌, ◌++◌, length, min, take, ap, sym, ◌∙◌, arith, subst, Option, Result, Ok, Err, OnOk, OnErr, IfErr, length-append, true, false}
 use Rattle.std.proofs.lemmas.List.{append-nil}
-use Rattle.std.specs.Io.KnownBytes.{Appends}
 use Rattle.savefile.specs.declared.fault.Fault.{Fault}
 use Rattle.savefile.specs.declared.fault.Fault.TheVariants.{Device, CountFull, Failed}
 use Rattle.savefile.specs.declared.header.Order.{Order}
@@ -9,7 +8,7 @@ use Rattle.savefile.specs.declared.header.Unit.{Unit as TimeUnit}
 use Rattle.savefile.specs.declared.packet.Packet.{Packet}
 use Rattle.savefile.specs.declared.writing.Writer.{Writer}
 use Rattle.savefile.specs.Savefile.{encoded, packet}
-use Rattle.savefile.specs.Writer.{IsBeginning, HasWritten, BrokeOff, Sent, has_failed, sent_by, sink_of}
+use Rattle.savefile.specs.Writer.{IsBeginning, HasWritten, BrokeOff, Sent, has_failed, sent_by}
 use Rattle.bpfvm.specs.declared.insn.Insn.{Insn}
 use Rattle.bpftap.specs.Cut.{answer, accepted}
 use Rattle.bpftap.specs.Copying.{Wrote}

@@ -1,10 +1,9 @@
 -- The filter that a command is given.
-use Rattle.std.specs.Prelude.{◌≡◌, ℕ, ◌<◌, List, [], Option, Some, None}
+use Rattle.std.specs.Prelude.{ℕ, ◌<◌, List, [], Option, Some, None}
 use Rattle.bpfvm.specs.declared.insn.Insn.{Insn}
 use Rattle.bpfvm.specs.Listing.{IsListing, listing_of}
 use Rattle.bpfvm.specs.Validity.{IsValidProgram}
 use Rattle.std.specs.Io.KnownBytes.{Appends}
-use Rattle.filterlang.specs.declared.fault.Fault.{Fault}
 use Rattle.filterlang.specs.Texts.{ReadsAs, IsRefusalOf}
 use Rattle.filterlang.specs.Trees.{Tree}
 use Rattle.filtergen.specs.declared.refusal.Refusal.TheVariants.{TooLong, TooDeep, BadSnap, NoMemory}

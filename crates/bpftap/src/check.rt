@@ -14,7 +14,7 @@ use std::io::Write;
 
 /// Prints the listing of an expression's program at the largest snapshot length, 262,144, with status 0.
 ///
-/// Where the text is no expression, its program would be too long, or memory is wanting, the fault is told on `err`,
+/// Where the text is no expression, it is too deep or too long to compile, or memory is wanting, the fault is told on `err`,
 /// nothing is printed and the status is 1. Where `out` fails the status is 3, and a beginning may have been printed.
 pub fn check<O: Write, E: Write>(alloc: Global, expr: &str, out: &mut O, err: &mut E) -> u8
     ensures printed { result ≡ 0 → Prints (O.contents out.old) (O.contents out.new) expr.now }

@@ -21,7 +21,7 @@ fn refused(rt: &(impl Abort + AllocGlobal), expr: &str, line: &str) {
     assert!(rt; out.is_empty(), "{expr:?}");
 }
 
-const REFUSALS: [(&str, &str); 15] = [
+const REFUSALS: [(&str, &str); 16] = [
     ("tcp # udp", "bpftap: BadByte 4\n"),
     ("tcp é", "bpftap: BadByte 4\n"),
     ("port http", "bpftap: BadWord 5\n"),
@@ -37,6 +37,10 @@ const REFUSALS: [(&str, &str); 15] = [
     ("port 65536", "bpftap: OutOfRange 5\n"),
     ("ether proto 1500", "bpftap: OutOfRange 12\n"),
     ("portrange 20-30 and 40", "bpftap: NoQualifier 20\n"),
+    (
+        "1+(1+(1+(1+(1+(1+(1+(1+(1+(1+(1+(1+(1+(1+(1+(1+(1+1)))))))))))))))) = 17",
+        "bpftap: TooDeep\n",
+    ),
 ];
 
 #[test]

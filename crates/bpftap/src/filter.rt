@@ -14,8 +14,8 @@ use std::io::Write;
 /// accepts a packet. Without either it is that of the empty expression, which accepts every packet.
 ///
 /// A fault is told on `err`, and the answer is then the exit status, 1: that of a text that is no listing of a valid
-/// program, of an expression that is refused or too long, of a snapshot length above 262,144 for an expression, and
-/// `FilterTwice` where both are given.
+/// program, of an expression that is refused, or too deep or too long to compile, of a snapshot length above 262,144 for an
+/// expression, `NoMemory` for an expression, and `FilterTwice` where both are given.
 pub fn filter<E: Write>(
     alloc: Global,
     listing: Option<&[u8]>,

@@ -1,5 +1,6 @@
 //! `bpftap steps`: what is printed, the fault lines and the statuses.
 
+use crate::lines::LineFault;
 use crate::steps::{play_asked, read_asked, steps};
 use std::alloc::{AllocError, Global};
 use std::process::Abort;
@@ -180,8 +181,14 @@ fn a_bad_line_is_told_first(rt: HostRuntime) {
 
 #[test]
 fn a_line_that_is_not_utf8_is_bad(rt: HostRuntime) {
-    assert!(rt; read_asked(rt.alloc(), b"32 64 \xff\n", b"").is_err());
-    assert!(rt; read_asked(rt.alloc(), b"32 64 tcp", b"read \xff").is_err());
+    assert_eq!(rt;
+        read_asked(rt.alloc(), b"32 64\n32 64 \xff\n", b"").err(),
+        Some(LineFault::Listeners(2))
+    );
+    assert_eq!(rt;
+        read_asked(rt.alloc(), b"32 64 tcp", b"read \xff").err(),
+        Some(LineFault::Script(1))
+    );
     assert!(rt; read_asked(rt.alloc(), b"000 00i tcp", b"read 000").is_ok());
 }
 
@@ -224,14 +231,46 @@ held
 capture 0 place 1 time 2.000000000 len 60 kept 32
 ";
 
-#[test]
-fn each_answer_is_explained(rt: HostRuntime) -> Result<(), Fail> {
+/// Each answer that the one listener above does not give.
+const OTHERS_EXPLAINED: &str =
+    "step 1 arrive capture 0 place 0 time 1.000000000 len 60: listener 0 Passed, the filter rejects it
+step 1 arrive capture 0 place 0 time 1.000000000 len 60: listener 1 Held, 0 stored and 64 more are within 128, and the empty hold takes them at once
+step 1 arrive capture 0 place 0 time 1.000000000 len 60: listener 2 Stored, 0 stored and 64 more are within 64
+step 2 arrive capture 0 place 1 time 2.000000000 len 60: listener 0 Passed, the filter rejects it
+step 2 arrive capture 0 place 1 time 2.000000000 len 60: listener 1 Stored, 0 stored and 64 more are within 128
+step 2 arrive capture 0 place 1 time 2.000000000 len 60: listener 2 Rotated, 64 stored and 64 more exceed 64, and the empty hold takes the 64
+step 3 flush: listener 0 not flushed, nothing is stored
+step 4 read: listener 0 nothing read, nothing is held
+step 5 read: listener 1 read, 1 held
+step 6 close: listener 1 closed
+step 7 flush: listener 1 not flushed, closed
+step 8 close: listener 2 closed
+step 9 read: listener 2 nothing read, closed
+step 10 arrive capture 0 place 2 time 3.000000000 len 60: listener 0 Passed, the filter rejects it
+step 10 arrive capture 0 place 2 time 3.000000000 len 60: listener 1 Closed
+step 10 arrive capture 0 place 2 time 3.000000000 len 60: listener 2 Closed
+listener 0 received 3 matched 0 dropped 0
+held
+listener 1 received 2 matched 2 dropped 0
+batch 0
+capture 0 place 0 time 1.000000000 len 60 kept 32
+held
+capture 0 place 1 time 2.000000000 len 60 kept 32
+listener 2 received 2 matched 2 dropped 0
+held
+capture 0 place 0 time 1.000000000 len 60 kept 32
+capture 0 place 1 time 2.000000000 len 60 kept 32
+";
+
+/// Plays a script over three packets of zeros, and compares what is explained.
+fn explains(
+    rt: &(impl Abort + AllocGlobal),
+    listeners: &[u8],
+    script: &[u8],
+    expected: &str,
+) -> Result<(), Fail> {
     let text = zeros(rt.alloc(), 3)?;
-    let asked = read_asked(
-        rt.alloc(),
-        b"32 64",
-        b"arrive\narrive\narrive\nread 0\nflush 0\nflush 0\nclose 0\narrive\n",
-    )?;
+    let asked = read_asked(rt.alloc(), listeners, script)?;
     let mut out: Vec<u8> = Vec::new(rt.alloc());
     let mut err: Vec<u8> = Vec::new(rt.alloc());
     let status = play_asked(
@@ -242,8 +281,24 @@ fn each_answer_is_explained(rt: HostRuntime) -> Result<(), Fail> {
         &mut out,
         &mut err,
     );
-    assert_eq!(rt; out.as_slice(), EXPLAINED.as_bytes());
+    assert_eq!(rt; out.as_slice(), expected.as_bytes());
     assert!(rt; err.is_empty());
     assert_eq!(rt; status, 0);
     Ok(())
+}
+
+#[test]
+fn each_answer_is_explained(rt: HostRuntime) -> Result<(), Fail> {
+    explains(
+        &rt,
+        b"32 64",
+        b"arrive\narrive\narrive\nread 0\nflush 0\nflush 0\nclose 0\narrive\n",
+        EXPLAINED,
+    )?;
+    explains(
+        &rt,
+        b"32 64 arp\n32 128i\n32 64\n",
+        b"arrive\narrive\nflush 0\nread 0\nread 1\nclose 1\nflush 1\nclose 2\nread 2\narrive\n",
+        OTHERS_EXPLAINED,
+    )
 }

@@ -23,7 +23,7 @@ pub enum Invalid {
     /// The instruction at this place names a cell of the scratch memory beyond the 16 that there are.
     #[error("Cell {0}")]
     Cell(usize),
-    /// The instruction at this place divides by the constant 0.
+    /// The instruction at this place divides by the constant 0, or takes the rest of such a division.
     #[error("ZeroDivisor {0}")]
     ZeroDivisor(usize),
     /// The last instruction is not a return.

@@ -2,7 +2,8 @@
 //!
 //! A [`Program`] is a list of instructions that [`Program::new`] has found valid, or that [`read_listing`] has read;
 //! contracts see it as that list. [`run`] says how many bytes of a packet it keeps. The machine is that of McCanne and
-//! Jacobson, "The BSD Packet Filter" (1993), and of bpf(4). Nothing here takes memory but [`write_listing`].
+//! Jacobson, "The BSD Packet Filter" (1993), and of bpf(4), with the modulo and the exclusive or that libpcap has beside
+//! them. Nothing here takes memory but [`write_listing`].
 #![tactic(auto)]
 
 pub mod code;

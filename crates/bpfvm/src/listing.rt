@@ -118,8 +118,8 @@ fn read_lines(text: &[u8]) -> Result<Listed, usize>
 
 /// Reads a listing: the number of the instructions on the first line, and `code jt jf k` on each other one, in decimal.
 ///
-/// Lines end with byte 10, which the last one may lack. Leading zeros are read; no other space, sign or carriage return
-/// is. It takes no memory.
+/// Lines end with byte 10, which the last one may lack. Leading zeros are read. No other space, no sign and no carriage
+/// return is. It takes no memory.
 ///
 /// `BadLine` names the first line, from 1, that has not its form; then comes `Count`, where the first line is not the
 /// number of the further ones; then `Program`, as [`Program::new`] says.

@@ -1,12 +1,12 @@
 -- Code that computes values.
-use Rattle.std.proofs.Common.{◌≡◌, ◌≢◌, ℕ, suc, ◌+◌, ◌-◌, ◌*◌, ◌%◌, ◌^◌, ◌<◌, ◌≤◌, Bool, true, false, List, ◌∷◌, length, Option, Some, None, refl, sym, ap, ◌∙◌, subst, arith, bit_and, option_map, option_and_then, get_or, get_or-set_same, get_or-set_other, length-set, set, if◌then◌else◌, not, nat_lt, nat_le, ◌==◌, ◌⊎◌, inl, inr}
+use Rattle.std.proofs.Common.{◌≡◌, ◌≢◌, ℕ, ◌+◌, ◌*◌, ◌%◌, ◌^◌, ◌<◌, ◌≤◌, Bool, true, false, List, ◌∷◌, length, Option, Some, None, refl, ap, ◌∙◌, subst, arith, bit_and, option_map, option_and_then, get_or-set_same, get_or-set_other, length-set, if◌then◌else◌, not, nat_lt, nat_le, ◌==◌, ◌⊎◌, inl, inr}
 use Rattle.std.specs.Prelude.{slice_index, slice_set}
 use Rattle.std.proofs.lemmas.Nat.{and_le_r}
 use Rattle.std.proofs.lemmas.Bool.{cases_lt}
 use Rattle.std.proofs.lemmas.Bool.Decides.{nat_tests}
 use Rattle.bpfvm.specs.declared.insn.Insn.{Insn}
 use Rattle.bpfvm.specs.Codes.{Register, Accumulator, Index, Subtract, operation_of}
-use Rattle.bpfvm.specs.Machine.{Registers, with_value, with_cell, Goes, loaded, effect, answer, number_at, calculated}
+use Rattle.bpfvm.specs.Machine.{Registers, with_value, with_cell, Goes, loaded, effect, number_at, calculated}
 use Rattle.filterlang.specs.declared.token.Operator.{Operator}
 use Rattle.filterlang.specs.declared.token.Operator.TheVariants as operators
 use Rattle.filterlang.specs.declared.tree.Layer.{Layer}
@@ -19,11 +19,11 @@ use Rattle.filtergen.specs.declared.insns.Operand.TheVariants as operands
 use Rattle.filtergen.specs.declared.values.Base.TheVariants as bases
 use Rattle.filtergen.specs.declared.values.Leaf.{Leaf}
 use Rattle.filtergen.specs.declared.values.Leaf.TheVariants as leaves
-use Rattle.filtergen.specs.Meaning.{Packet, HasBytes, byte, decided, arithmetic_of, bytes_of, accessed, value, check_both}
+use Rattle.filtergen.specs.Meaning.{Packet, byte, decided, arithmetic_of, bytes_of, accessed, value, check_both}
 use Rattle.filtergen.specs.Parts.{amount_of_leaf, leaf_value, base_of, read_from}
 use Rattle.filtergen.specs.Insns.{plain_insn, calculation_insn, absolute_code, indirect_code}
-use Rattle.filtergen.specs.Emission.{IsPlace, AreExits, HasCells, run_from, Answers, outcome, Extends, Chooses, Decides, value_of, front, Loads, Keeps, Computed, Computes, Applies, Paired, Pairs}
-use Rattle.filtergen.proofs.Runs.{after, answer-first, front-place, extends-none, extends-one, extends-both, extends-more, header-effect}
+use Rattle.filtergen.specs.Emission.{AreExits, HasCells, run_from, Answers, outcome, Chooses, Decides, value_of, front, Loads, Keeps, Computed, Computes, Applies, Paired, Pairs}
+use Rattle.filtergen.proofs.Runs.{after, answer-first, front-place, extends-one, extends-both, extends-more, header-effect}
 
 tax-effect : (p : Packet) (r : Registers) → effect p.captured p.wire (plain_insn 0x07 0) r ≡ loaded Index r (Some r.accumulator)
 unfolding effect operation_of

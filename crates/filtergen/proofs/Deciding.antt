@@ -1,5 +1,5 @@
 -- Tests that are put together of tests.
-use Rattle.std.proofs.Common.{◌≡◌, ℕ, suc, ◌+◌, ◌-◌, ◌<◌, ◌≤◌, Bool, true, false, List, ◌∷◌, length, Option, Some, None, refl, sym, ap, ◌∙◌, arith, if◌then◌else◌, bit_and}
+use Rattle.std.proofs.Common.{◌≡◌, ℕ, suc, ◌+◌, ◌≤◌, Bool, true, false, List, ◌∷◌, length, Option, Some, None, refl, ap, ◌∙◌, arith, if◌then◌else◌, bit_and}
 use Rattle.bpfvm.specs.declared.insn.Insn.{Insn}
 use Rattle.bpfvm.specs.Codes.{Accumulator}
 use Rattle.bpfvm.specs.Machine.{Registers, with_value, Goes, loaded, effect}
@@ -8,8 +8,8 @@ use Rattle.filtergen.specs.declared.verdict.Verdict.{Verdict}
 use Rattle.filtergen.specs.declared.verdict.Verdict.TheVariants.{Yes, No, Abort}
 use Rattle.filtergen.specs.Meaning.{Packet, HasBytes, Test, and_then, or_else, opposite, both, either, negation, check, decided}
 use Rattle.filtergen.specs.Insns.{plain_insn}
-use Rattle.filtergen.specs.Emission.{IsPlace, AreExits, HasCells, run_from, Answers, Extends, Passes, Renews, outcome, Chooses, with_loaded, Follows, Decides}
-use Rattle.filtergen.proofs.Runs.{after, answer-first, front-place, extends-none, extends-one, extends-both, extends-more, answers-kept, renews-kept, mask-effect}
+use Rattle.filtergen.specs.Emission.{AreExits, HasCells, Answers, Extends, Passes, Renews, outcome, Chooses, with_loaded, Decides}
+use Rattle.filtergen.proofs.Runs.{after, answer-first, front-place, extends-none, extends-one, extends-both, extends-more, renews-kept, mask-effect}
 use Rattle.filtergen.proofs.Following.{decides-followed, follows-loaded, follows-exits}
 
 outcome-both : (v w : Verdict) (m n : ℕ) → outcome v (outcome w m n) n ≡ outcome (and_then v w) m n

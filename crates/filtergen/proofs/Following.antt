@@ -1,13 +1,12 @@
 -- Tests of the registers, put together of jumps and loads.
-use Rattle.std.proofs.Common.{◌≡◌, ℕ, suc, ◌+◌, ◌-◌, ◌<◌, ◌≤◌, Bool, true, false, List, ◌∷◌, length, Option, Some, None, refl, sym, ap, ◌∙◌, arith, if◌then◌else◌}
+use Rattle.std.proofs.Common.{◌≡◌, ℕ, suc, ◌+◌, ◌≤◌, Bool, true, false, List, ◌∷◌, length, Option, Some, None, refl, sym, ap, ◌∙◌, arith, if◌then◌else◌}
 use Rattle.bpfvm.specs.declared.insn.Insn.{Insn}
 use Rattle.bpfvm.specs.Codes.{Register, Accumulator, Index}
-use Rattle.bpfvm.specs.Machine.{Registers, with_value, loaded, effect, answer}
+use Rattle.bpfvm.specs.Machine.{Registers, with_value, loaded, effect}
 use Rattle.filtergen.specs.declared.code.Exits.{Exits}
-use Rattle.filtergen.specs.declared.verdict.Verdict.{Verdict}
-use Rattle.filtergen.specs.declared.verdict.Verdict.TheVariants.{Yes, No, Abort}
-use Rattle.filtergen.specs.Meaning.{Packet, HasBytes, Test, check, decided}
-use Rattle.filtergen.specs.Emission.{IsPlace, AreExits, HasCells, run_from, Answers, Extends, outcome, Chooses, ChoosesBehind, with_loaded, Follows, Decides}
+use Rattle.filtergen.specs.declared.verdict.Verdict.TheVariants.{Yes, No}
+use Rattle.filtergen.specs.Meaning.{Packet, HasBytes, Test, decided}
+use Rattle.filtergen.specs.Emission.{AreExits, HasCells, run_from, Answers, Extends, outcome, Chooses, with_loaded, Follows, Decides}
 use Rattle.filtergen.proofs.Runs.{after, answer-first, front-place, extends-none, extends-one, extends-both, extends-more, answers-kept}
 
 -- each exit follows the answer that leads to it

@@ -1,14 +1,12 @@
 -- What is left of a test behind what is known answers as the whole test does.
-use Rattle.std.proofs.Common.{◌≡◌, ℕ, ◌==◌, Bool, true, false, Option, Some, None, refl, sym, ap, subst, ◌∙◌, arith, if◌then◌else◌, bit_and}
+use Rattle.std.proofs.Common.{◌≡◌, ℕ, ◌==◌, Bool, true, false, Some, None, refl, sym, ap, subst, ◌∙◌, arith, if◌then◌else◌, bit_and}
 use Rattle.std.proofs.lemmas.Bool.Decides.{nat_tests}
 use Rattle.filterlang.specs.Trees.{Amount, Tree}
 use Rattle.filterlang.specs.Trees as trees
 use Rattle.filterlang.specs.declared.token.Comparison.{Comparison}
 use Rattle.filterlang.specs.declared.tree.Layer.{Layer}
 use Rattle.filterlang.specs.declared.tree.Layer.TheVariants as layers
-use Rattle.filterlang.specs.declared.tree.Network.{Network}
 use Rattle.filterlang.specs.declared.tree.Network.TheVariants as networks
-use Rattle.filterlang.specs.declared.tree.Plain.{Plain}
 use Rattle.filterlang.specs.declared.tree.Plain.TheVariants as words
 use Rattle.filterlang.specs.declared.tree.Primitive.{Primitive}
 use Rattle.filterlang.specs.declared.tree.Primitive.TheVariants.{Protocol, Net, EtherHost, Ports, IpProto, EtherProto, EtherBroadcast, EtherMulticast, IpMulticast, Less, Greater}

@@ -1,5 +1,5 @@
 -- A host or a net of any protocol: one load of the type, and three comparisons.
-use Rattle.std.proofs.Common.{◌≡◌, ℕ, suc, ◌+◌, ◌≤◌, ◌==◌, Bool, true, false, List, ◌∷◌, length, Option, Some, None, refl, sym, ap, ◌∙◌, arith, if◌then◌else◌}
+use Rattle.std.proofs.Common.{◌≡◌, ℕ, suc, ◌==◌, Bool, true, false, List, ◌∷◌, length, Option, Some, None, refl, ◌∙◌, arith, if◌then◌else◌}
 use Rattle.std.proofs.lemmas.Bool.Decides.{nat_tests}
 use Rattle.bpfvm.specs.declared.insn.Insn.{Insn}
 use Rattle.bpfvm.specs.Codes.{Accumulator}
@@ -9,13 +9,12 @@ use Rattle.filtergen.specs.declared.code.Exits.{Exits}
 use Rattle.filtergen.specs.declared.insns.Jump.TheVariants as jumps
 use Rattle.filtergen.specs.declared.insns.Operand.TheVariants as operands
 use Rattle.filtergen.specs.declared.insns.Field.TheVariants as fields
-use Rattle.filtergen.specs.declared.verdict.Verdict.{Verdict}
-use Rattle.filtergen.specs.declared.verdict.Verdict.TheVariants.{Yes, No, Abort}
+use Rattle.filtergen.specs.declared.verdict.Verdict.TheVariants.{No}
 use Rattle.filtergen.specs.Meaning.{Packet, Test, half, by_direction, has_address, in_any_net}
 use Rattle.filtergen.specs.Insns.{load_insn}
-use Rattle.filtergen.specs.Emission.{AreExits, Extends, condition, Chooses, with_loaded, Follows, Decides}
-use Rattle.filtergen.proofs.Runs.{extends-both, extends-more, exits-kept, load-effect}
-use Rattle.filtergen.proofs.Following.{one_of, follows-no, follows-kept, follows-later, follows-more, follows-decided, follows-chosen, follows-loaded, decides-followed}
+use Rattle.filtergen.specs.Emission.{AreExits, condition, Chooses, with_loaded, Decides}
+use Rattle.filtergen.proofs.Runs.{load-effect}
+use Rattle.filtergen.proofs.Following.{one_of, follows-no, follows-kept, follows-later, follows-decided, follows-chosen, follows-loaded, decides-followed}
 use Rattle.filtergen.proofs.Sharing.{chosen_by, by_number}
 
 -- the addresses of IPv4 and of ARP that a direction chooses

@@ -1,5 +1,5 @@
 -- The numbers that the bytes of a packet are.
-use Rattle.std.proofs.Common.{◌≡◌, ℕ, zero, suc, ◌+◌, ◌<◌, ◌≤◌, List, [], ◌∷◌, length, take, drop, Some, None, ap, ◌∙◌, arith, nat_le, true, false, Option, if◌then◌else◌, get_or, drop-cons}
+use Rattle.std.proofs.Common.{◌≡◌, ℕ, suc, ◌+◌, ◌<◌, ◌≤◌, List, [], ◌∷◌, length, take, drop, Some, None, ap, ◌∙◌, arith, nat_le, true, false, if◌then◌else◌, get_or, drop-cons}
 use Rattle.std.proofs.lemmas.Bool.Decides.{nat_tests}
 use Rattle.std.specs.Int.{w16, w32, w64, from_be_bytes}
 use Rattle.bpfvm.specs.Machine.{big_endian, number_at}

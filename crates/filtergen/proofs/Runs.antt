@@ -1,13 +1,13 @@
 -- Runs over code that instructions are put in front of.
-use Rattle.std.proofs.Common.{◌≡◌, ℕ, zero, suc, ◌+◌, ◌-◌, ◌<◌, ◌≤◌, Bool, true, false, List, [], ◌∷◌, length, Option, Some, None, refl, sym, ap, subst, ◌∙◌, arith, if◌then◌else◌, bit_and, option_map, ◌*◌, ◌⊎◌, inl, inr, get_or, reverse, ◌&&◌, ◌==◌}
+use Rattle.std.proofs.Common.{◌≡◌, ℕ, zero, suc, ◌+◌, ◌-◌, ◌<◌, ◌≤◌, Bool, true, false, List, [], ◌∷◌, length, Some, refl, sym, ap, subst, ◌∙◌, arith, if◌then◌else◌, bit_and, option_map, ◌*◌, ◌⊎◌, inl, inr, get_or, reverse, ◌&&◌, ◌==◌}
 use Rattle.std.proofs.lemmas.Bool.Decides.{nat_tests}
 use Rattle.std.specs.List.{slice_get}
 use Rattle.std.proofs.lemmas.List.{get_or-reverse, length-reverse}
 use Rattle.std.proofs.lemmas.Option.{slice_get-get_or}
 use Rattle.std.proofs.lemmas.Bool.{cases_lt}
 use Rattle.bpfvm.specs.declared.insn.Insn.{Insn}
-use Rattle.bpfvm.specs.Codes.{Register, Accumulator, Index, operation_of}
-use Rattle.bpfvm.specs.Machine.{Registers, with_value, Effect, Goes, Ends, loaded, effect, answer, number_at}
+use Rattle.bpfvm.specs.Codes.{Accumulator, Index, operation_of}
+use Rattle.bpfvm.specs.Machine.{Registers, Effect, Goes, Ends, loaded, effect, answer, number_at}
 use Rattle.filtergen.specs.declared.code.Exits.{Exits}
 use Rattle.filtergen.specs.declared.insns.Jump.{Jump}
 use Rattle.filtergen.specs.declared.insns.Jump.TheVariants as jumps
@@ -17,7 +17,7 @@ use Rattle.filtergen.specs.declared.insns.Field.{Field}
 use Rattle.filtergen.specs.declared.insns.Field.TheVariants as fields
 use Rattle.filtergen.specs.Meaning.{Packet}
 use Rattle.filtergen.specs.Insns.{plain_insn, branch_insn, load_insn}
-use Rattle.filtergen.specs.Emission.{IsPlace, AreExits, HasCells, run_from, Answers, Extends, condition, field_of, Passes, Nears, Renews, Chooses}
+use Rattle.filtergen.specs.Emission.{IsPlace, AreExits, run_from, Answers, Extends, condition, field_of, Passes, Nears, Renews, Chooses}
 
 -- a run over code goes on behind its first instruction, or ends
 abbrev pub after : List Insn → Packet → Effect → ℕ

@@ -4,7 +4,7 @@ use Rattle.std.proofs.lemmas.Bool.{cases_lt}
 use Rattle.std.proofs.lemmas.Bool.Decides.{nat_tests}
 use Rattle.filtergen.specs.declared.verdict.Verdict.{Verdict}
 use Rattle.filtergen.specs.declared.verdict.Verdict.TheVariants.{Yes, No, Abort}
-use Rattle.filtergen.specs.Meaning.{Packet, Test, and_then, or_else, opposite, both, either, negation, check, decided}
+use Rattle.filtergen.specs.Meaning.{and_then, or_else, opposite, check, decided}
 
 -- no bit is set where the bits are 0
 pub no_bit : (v : Option ℕ) (m : ℕ) → opposite (check (λ n. if bit_and n m == 0 then false else true) v) ≡ check (λ n. bit_and n m == 0) v

@@ -1,21 +1,21 @@
 -- The tests of a port behind a header, and of an address of whatever protocol.
-use Rattle.std.proofs.Common.{◌≡◌, ℕ, suc, ◌+◌, ◌-◌, ◌*◌, ◌<◌, ◌≤◌, ◌==◌, ◌&&◌, Bool, true, false, List, ◌∷◌, length, Option, Some, None, refl, sym, ap, ◌∙◌, arith, if◌then◌else◌, nat_lt, nat_le, bit_and, ◌⊎◌, inl, inr, option_map, option_and_then}
-use Rattle.std.proofs.lemmas.Bool.{cases_lt, cases_eq}
+use Rattle.std.proofs.Common.{◌≡◌, ℕ, suc, ◌+◌, ◌*◌, ◌<◌, ◌≤◌, ◌==◌, Bool, true, false, List, ◌∷◌, length, Option, Some, None, refl, ap, ◌∙◌, arith, if◌then◌else◌, nat_lt, nat_le, bit_and, ◌⊎◌, inl, inr, option_map, option_and_then}
+use Rattle.std.proofs.lemmas.Bool.{cases_lt}
 use Rattle.std.proofs.lemmas.Bool.Decides.{nat_tests}
 use Rattle.bpfvm.specs.declared.insn.Insn.{Insn}
 use Rattle.bpfvm.specs.Codes.{Accumulator, Index}
-use Rattle.bpfvm.specs.Machine.{Registers, with_value, number_at}
+use Rattle.bpfvm.specs.Machine.{Registers, number_at}
 use Rattle.filterlang.specs.declared.tree.Direction.{Direction}
 use Rattle.filterlang.specs.declared.tree.Direction.TheVariants.{Src, Dst, SrcOrDst, SrcAndDst}
 use Rattle.filtergen.specs.declared.code.Exits.{Exits}
 use Rattle.filtergen.specs.declared.verdict.Verdict.{Verdict}
-use Rattle.filtergen.specs.declared.verdict.Verdict.TheVariants.{Yes, No, Abort}
-use Rattle.filtergen.specs.Meaning.{Packet, HasBytes, Test, and_then, or_else, both, either, check, decided, byte, half, half_behind_header, within, has_port, by_direction}
+use Rattle.filtergen.specs.declared.verdict.Verdict.TheVariants.{Yes, No}
+use Rattle.filtergen.specs.Meaning.{Packet, Test, and_then, or_else, both, either, check, decided, byte, half, within, has_port, by_direction}
 use Rattle.filtergen.specs.Insns.{plain_insn}
 use Rattle.filtergen.specs.Parts.{directed, port_behind}
-use Rattle.filtergen.specs.Emission.{IsPlace, AreExits, Extends, Chooses, ChoosesBehind, with_loaded, Follows, Decides}
-use Rattle.filtergen.proofs.Runs.{extends-both, extends-one, extends-more, exits-kept, header-effect, half-effect}
-use Rattle.filtergen.proofs.Following.{one_of, follows-yes, follows-no, follows-kept, follows-more, follows-same, follows-loaded, follows-chosen, decides-followed}
+use Rattle.filtergen.specs.Emission.{AreExits, ChoosesBehind, with_loaded, Follows, Decides}
+use Rattle.filtergen.proofs.Runs.{header-effect, half-effect}
+use Rattle.filtergen.proofs.Following.{one_of, follows-yes, follows-no, follows-kept, follows-same, follows-loaded, follows-chosen, decides-followed}
 
 -- the verdict by a direction is that of its tests
 pub directed-is : (d : Direction) (s t : Test) (p : Packet) → directed d (s p) (t p) ≡ by_direction d s t p

@@ -1,15 +1,13 @@
 -- Six bytes as four and two, and four bytes under a mask of ones.
-use Rattle.std.proofs.Common.{◌≡◌, ◌≢◌, ℕ, zero, suc, ◌+◌, ◌-◌, ◌*◌, ◌<◌, ◌≤◌, ◌==◌, Bool, true, false, List, [], ◌∷◌, ◌++◌, length, take, drop, Option, Some, None, refl, sym, ap, ◌∙◌, subst, arith, nat_le, if◌then◌else◌, ◌⊎◌, inl, inr, bit_and, ◌^◌, ◌%◌}
+use Rattle.std.proofs.Common.{◌≡◌, ◌≢◌, ℕ, zero, suc, ◌+◌, ◌-◌, ◌*◌, ◌<◌, ◌≤◌, ◌==◌, Bool, true, false, List, [], ◌∷◌, ◌++◌, length, take, drop, refl, sym, ap, ◌∙◌, arith, ◌⊎◌, inl, inr, bit_and, ◌^◌, ◌%◌}
 use Rattle.std.proofs.lemmas.Nat.{and_mask}
 use Rattle.std.specs.List.{AllByRecursion, fold}
 use Rattle.std.proofs.lemmas.Bool.{cases_lt, cases_eq}
 use Rattle.std.proofs.lemmas.Bool.Decides.{nat_tests}
 use Rattle.std.proofs.lemmas.List.{length-drop}
 use Rattle.std.proofs.Math.Seq.{take-add, drop-drop}
-use Rattle.bpfvm.specs.Machine.{big_endian, number_at}
+use Rattle.bpfvm.specs.Machine.{big_endian}
 use Rattle.filtergen.proofs.Numbers.{number-some, number-none}
-use Rattle.filtergen.specs.declared.verdict.Verdict.{Verdict}
-use Rattle.filtergen.specs.declared.verdict.Verdict.TheVariants.{Yes, No, Abort}
 use Rattle.filtergen.specs.Meaning.{Packet, HasBytes, and_then, check, decided, half, word, six}
 
 fold-joined : (xs ys : List ℕ) (a : ℕ) → fold (λ n byte. 256 * n + byte) a (xs ++ ys) ≡ fold (λ n byte. 256 * n + byte) (fold (λ n byte. 256 * n + byte) a xs) ys

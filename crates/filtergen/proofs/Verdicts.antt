@@ -1,16 +1,15 @@
 -- The verdict of a program whose first instruction is an expression's entry.
-use Rattle.std.proofs.Common.{◌≡◌, ℕ, zero, suc, ◌+◌, ◌-◌, ◌<◌, ◌≤◌, Bool, true, false, List, [], ◌∷◌, length, refl, sym, ap, ◌∙◌, arith, if◌then◌else◌}
+use Rattle.std.proofs.Common.{◌≡◌, ℕ, List, [], ◌∷◌, length, refl, sym, ap, ◌∙◌, arith, if◌then◌else◌}
 use Rattle.bpfvm.specs.declared.insn.Insn.{Insn}
 use Rattle.bpfvm.specs.Codes.{operation_of}
 use Rattle.bpfvm.specs.Machine.{Registers, Ends, effect, answer, initial, verdict}
-use Rattle.filtergen.specs.declared.code.Exits.{Exits}
 use Rattle.filtergen.specs.Insns.{plain_insn}
 use Rattle.filtergen.specs.declared.verdict.Verdict.{Verdict}
 use Rattle.filtergen.specs.declared.verdict.Verdict.TheVariants.{Yes, No, Abort}
-use Rattle.filtergen.specs.Meaning.{Packet, HasBytes, meaning, is_yes, accepts}
+use Rattle.filtergen.specs.Meaning.{Packet, meaning, is_yes}
 use Rattle.filterlang.specs.Trees.{Tree}
 use Rattle.filtergen.specs.Compiling.{StandsFor}
-use Rattle.filtergen.specs.Emission.{HasCells, run_from, Answers, outcome, Nears, Decides}
+use Rattle.filtergen.specs.Emission.{run_from, Answers, outcome, Nears, Decides}
 use Rattle.filtergen.proofs.Runs.{answer-first, front-place}
 
 abbrev pub returns_of : ℕ → List Insn

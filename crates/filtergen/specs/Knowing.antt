@@ -1,5 +1,5 @@
 -- What tests that were passed have shown of a packet, and what is left to be tested behind them. Private clauses alone say this.
-use Rattle.std.specs.Prelude.{ℕ, ◌==◌, Bool, true, false, Option, Some, None, if◌then◌else◌}
+use Rattle.std.specs.Prelude.{ℕ, ◌==◌, Bool, true, false, Some, None, if◌then◌else◌}
 use Rattle.filterlang.specs.Trees.{Amount, Tree}
 use Rattle.filterlang.specs.Trees as trees
 use Rattle.filterlang.specs.declared.token.Comparison.{Comparison}

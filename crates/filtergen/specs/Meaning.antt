@@ -38,7 +38,7 @@ packet_of captured wire = record { captured = captured; wire = wire }
 abbrev pub HasBytes : Packet → Type 0
 HasBytes p = AllByRecursion (λ byte. byte < 256) p.captured
 
--- A test answers Yes, No or Abort. Abort: a byte past the captured ones was wanted.
+-- A test answers Yes, No or Abort. Abort: a byte past the captured ones was wanted, or a division or modulo was by 0.
 abbrev pub Test : Type 0
 Test = Packet → Verdict
 

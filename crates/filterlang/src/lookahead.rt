@@ -17,7 +17,7 @@ pub(crate) enum Beginning {
     Primitive,
 }
 
-/// The same, of the term at the front.
+/// What the first token says of the term at the front.
 pub(crate) fn look_ahead(tokens: &[Token]) -> Beginning
     ensures { result ≡ beginning (kinds tokens.now) }
 {
@@ -38,7 +38,7 @@ pub(crate) enum Opening {
     Leaf,
 }
 
-/// The same, of the value at the front.
+/// What the first token says of the value at the front.
 pub(crate) fn look_into(tokens: &[Token]) -> Opening
     ensures { result ≡ opening (kinds tokens.now) }
 {

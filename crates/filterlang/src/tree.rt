@@ -1,4 +1,4 @@
-//! What an expression means is told by its tree.
+//! The trees of expressions.
 
 ghost use Rattle.std.specs.Prelude.{Some};
 ghost use Rattle.filterlang.specs.Trees.{tree_of, negation};

@@ -136,7 +136,7 @@ impl Feeder {
         }
     }
 
-    /// The counts, of the packets that arrived before one was found closed.
+    /// The counts, of the packets that arrived before the pair was found closed.
     pub fn counts(&self) -> Counts
         ensures received { result.received ≡ arrivals self.now.feeds }
         ensures matched { result.matched ≡ matches self.now.feeds }

@@ -49,7 +49,7 @@ pub struct Settled {
     pub hold: Buffer,
     /// What the feeder still had in its store.
     pub rest: Buffer,
-    /// The counts, of the packets that arrived before one was found closed.
+    /// The counts, of the packets that arrived before the pair was found closed.
     pub counts: Counts,
 }
 

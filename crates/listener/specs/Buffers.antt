@@ -25,7 +25,7 @@ IsWritable m = length m.bytes ≤ 262144
 abbrev pub message_in : Record → Message
 message_in r = record { capture = r.capture; place = r.place; sec = r.sec; nanos = r.nanos; len = r.len; bytes = r.bytes.now }
 
--- why a buffer isn't made; want of memory can come at any time
+-- why a buffer isn't made; want of memory, only where its capacity is in range
 abbrev pub RefusesBuffer : ℕ → OpenFault → Type 0
 RefusesBuffer capacity BadSnap = ⊥
 RefusesBuffer capacity BadCapacity = (capacity < 40) ⊎ (1048576 < capacity)

@@ -35,7 +35,7 @@ pub record InRange (snap capacity : ℕ) : Type 0 where
   pub room : size snap ≤ capacity
   pub largest : capacity ≤ 1048576
 
--- why a listener isn't opened; want of memory can come at any time
+-- why a listener isn't opened; want of memory, only where nothing else refuses it
 abbrev pub RefusesOpen : ℕ → ℕ → OpenFault → Type 0
 RefusesOpen snap capacity BadSnap = (snap < 1) ⊎ (262144 < snap)
 RefusesOpen snap capacity BadCapacity = (1 ≤ snap) × (snap ≤ 262144) × ((capacity < size snap) ⊎ (1048576 < capacity))

@@ -19,7 +19,7 @@ pub struct ListenerReport<W> {
     pub sink: W,
     /// How many bytes the sink took.
     pub sent: u64,
-    /// How many packets arrived at the listener.
+    /// How many packets arrived before the pair was found closed: all, where nothing closed it.
     pub received: u64,
     /// How many of these its filter accepted.
     pub matched: u64,
@@ -35,8 +35,8 @@ pub struct ListenerReport<W> {
 pub enum InterfaceEnd {
     /// All captures were read to their end.
     Clean,
-    /// This capture has this fault, behind all packets of the captures before it and those of its own before the fault; after
-    /// [`Fault::Device`] a beginning of its own.
+    /// This capture has this fault, behind all packets of the captures before it and those of its own before the fault; with
+    /// [`Fault::Device`] a beginning of its own, and with [`Fault::NoMemory`] none.
     Capture(u32, Fault),
     /// 2^64 - 2 packets arrived, the most that are counted.
     CountFull,

@@ -7,7 +7,7 @@ use savefile::{Order, Unit};
 /// One listener of an interface, and the savefile that its packets are written to.
 #[derive(Drop)]
 pub struct Task<W> {
-    /// The filter: a packet is kept where its answer is not 0.
+    /// The filter: a packet is accepted where its answer is not 0.
     pub program: Program,
     /// At most so many bytes are kept of a packet, 1 to 262,144; the written header has this number too.
     pub snap: u32,

@@ -1,4 +1,4 @@
-//! The thread that writes what was read.
+//! The savefile that what was read is written to.
 
 ghost use Rattle.std.specs.Prelude.{◌≡◌, List, [], ◌∷◌, ◌++◌};
 ghost use Rattle.listener.specs.Buffers.{message_in, IsWritable};

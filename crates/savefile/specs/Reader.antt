@@ -32,7 +32,7 @@ packet_lent r = packet r.record.sec r.record.nanos r.record.len (lent_by r.ahead
 abbrev pub taken_ahead : {R : Type 0} → Reader R → List ℕ
 taken_ahead r = held_by r.ahead
 
--- it has met neither the end nor a fault
+-- it has met neither the end nor a fault, CountFull aside
 abbrev pub GoesOn : {R : Type 0} → Reader R → Type 0
 GoesOn r = r.state ≡ Reading
 

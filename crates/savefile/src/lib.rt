@@ -5,8 +5,8 @@
 //! crate a time is seconds and nanoseconds.
 //!
 //! Some of what is read is this project's own profile and not in pcap-savefile(5). Only version 2.4 and
-//! link type 1, Ethernet, are read, and a link type with further bits set is refused. A fraction of a
-//! second or more ends the packets, as does a captured length above 262,144 bytes, whatever the snapshot
+//! link type 1, Ethernet, are read, and a link type with further bits set is refused. A fraction that
+//! makes a second or more ends the packets, as does a captured length above 262,144 bytes, whatever the snapshot
 //! length. The reserved fields and the snapshot length are never a reason to refuse, and a record may
 //! have more bytes than the snapshot length or than the packet had on the wire. What is written has
 //! zeros in the reserved fields.

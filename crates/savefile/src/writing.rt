@@ -92,8 +92,8 @@ fn record_header(
 /// text of those packets and the one whose `put` answered [`Fault::Device`]: those packets whole, and of this
 /// one not the whole.
 ///
-/// A packet is sent in two writes, its record's header and then its bytes. Where each write is a system
-/// call, give the writer a sink that gathers them.
+/// A packet is sent in two writes, its record's header and then its bytes (in one where it has none, and in more where
+/// the sink takes fewer than it is given). Where each write is a system call, give the writer a sink that gathers them.
 #[derive(Debug, Drop)]
 pub struct Writer<W> {
     sink: W,

@@ -1,5 +1,5 @@
 -- A listener's report is that of its own steps.
-use Rattle.std.proofs.Common.{◌≡◌, ℕ, ◌<◌, ◌≤◌, Bool, true, false, cond, List, [], ◌∷◌, ◌++◌, Option, Some, length, take, min, nat_lt, ◌==◌, refl, ap, sym, ◌∙◌, subst, arith, length-take}
+use Rattle.std.proofs.Common.{◌≡◌, ℕ, ◌<◌, ◌≤◌, Bool, true, false, cond, List, [], ◌∷◌, ◌++◌, Option, Some, length, take, min, ◌==◌, refl, ap, sym, ◌∙◌, subst, arith}
 use Rattle.std.proofs.lemmas.Bool.{lt-ltb}
 use Rattle.bpfvm.specs.declared.insn.Insn.{Insn}
 use Rattle.bpfvm.specs.Machine.{verdict}
@@ -8,7 +8,7 @@ use Rattle.filtergen.specs.Meaning.{HasBytes}
 use Rattle.listener.specs.declared.message.Message.{Message}
 use Rattle.filtergen.specs.Compiling.{StandsFor}
 use Rattle.filtergen.specs.Meaning.{packet_of, accepts}
-use Rattle.listener.specs.Messages.{Arrival, cut_to, kept_by, size, size_of}
+use Rattle.listener.specs.Messages.{Arrival, cut_to, kept_by, size}
 use Rattle.listener.specs.Listening.{listening}
 use Rattle.listener.specs.PlainList.{Terms, Request, Event, Legal, answers, empty, batches, requests}
 use Rattle.listener.specs.PlainList as P

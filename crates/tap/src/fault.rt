@@ -8,8 +8,8 @@ use listener::OpenFault;
 use std::alloc::{AllocError, AllocFailed};
 use thiserror::Error;
 
-/// Why a replay gives no report: the first that stands, in this order, and of the last three the first listener's.
-/// Captures, listeners and steps are counted from 0.
+/// Why a replay gives no report: the first that stands, in this order, and of `Expression`, `Compile` and `Open` the first
+/// listener's. Captures, listeners and steps are counted from 0.
 #[derive(Clone, Copy, Debug, PartialEq, Eq, Error)]
 pub enum Fault {
     /// There are over 64 listeners, or over 65,536 captures.

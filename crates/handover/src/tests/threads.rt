@@ -4,8 +4,8 @@ ghost use Rattle.std.specs.Prelude.{◌≡◌, []};
 ghost use Rattle.listener.specs.Buffers.{filled};
 
 use super::{keeping, packet};
-use crate::{Drain, DrainEnd, FeedEnd, Feeder, Link, Read, Settled, pair, settle};
-use listener::{Buffer, Fed};
+use crate::{Drain, DrainEnd, FeedEnd, Feeder, Link, Read, Settled, pair_as, settle};
+use listener::{Buffer, Fed, Mode};
 use std::process::Abort;
 use std::sync::atomic::AtomicBool;
 use std::sync::atomic::Ordering::SeqCst;
@@ -123,13 +123,14 @@ fn read_all(
 /// many reads are made at most.
 fn run(
     rt: &(impl Abort + AllocGlobal + Threads + Sync),
+    mode: Mode,
     capacity: usize,
     packets: u64,
     late: u64,
     reads: u64,
 ) -> Result<bool, Fail> {
     let alloc = rt.alloc();
-    let (link, feeder, drain) = pair(alloc, keeping(262_144)?, 32, capacity)?;
+    let (link, feeder, drain) = pair_as(alloc, keeping(262_144)?, 32, capacity, mode)?;
     let spare = Buffer::new(alloc, capacity)?;
     let fates = Fates {
         stored: Vec::new(alloc),
@@ -168,26 +169,34 @@ fn run(
     Ok(ended)
 }
 
+const MODES: [Mode; 2] = [Mode::Buffered, Mode::Immediate];
+
 #[test]
 fn what_is_not_dropped_is_read_or_left(rt: HostRuntime) -> Result<(), Fail> {
-    let ended = run(&rt, 256, 10_000, 0, u64::MAX)?;
-    assert!(rt; ended);
+    for mode in MODES {
+        let ended = run(&rt, mode, 256, 10_000, 0, u64::MAX)?;
+        assert!(rt; ended);
+    }
     Ok(())
 }
 
 #[test]
 fn a_close_in_the_middle_ends_the_arrivals(rt: HostRuntime) -> Result<(), Fail> {
-    for reads in [0, 1, 10, 100, 1_000] {
-        run(&rt, 256, 10_000, 3, reads)?;
+    for mode in MODES {
+        for reads in [0, 1, 10, 100, 1_000] {
+            run(&rt, mode, 256, 10_000, 3, reads)?;
+        }
     }
     Ok(())
 }
 
 #[test]
 fn many_short_runs_meet_many_orders(rt: HostRuntime) -> Result<(), Fail> {
-    for round in 0..400u64 {
-        run(&rt, 64, 1 + round % 7, round % 2, round % 5)?;
-        run(&rt, 64, 1 + round % 7, 0, u64::MAX)?;
+    for mode in MODES {
+        for round in 0..400u64 {
+            run(&rt, mode, 64, 1 + round % 7, round % 2, round % 5)?;
+            run(&rt, mode, 64, 1 + round % 7, 0, u64::MAX)?;
+        }
     }
     Ok(())
 }

@@ -1,4 +1,4 @@
-use Rattle.std.proofs.Common.{ℕ, ◌+◌, ◌≤◌, length, vec_len}
+use Rattle.std.proofs.Common.{◌+◌, ◌≤◌, length, vec_len}
 use Rattle.bpftap.proofs.listeners_file.read_listeners.Given as goal
 
 -- each line that was read has left the text

@@ -1,4 +1,4 @@
-use Rattle.std.proofs.Common.{ℕ, ◌+◌, ◌≤◌, length, vec_len}
+use Rattle.std.proofs.Common.{◌+◌, ◌≤◌, length, vec_len}
 use Rattle.bpftap.proofs.run_lines.read_run_lines.Given as goal
 
 -- each line that was read has left the text

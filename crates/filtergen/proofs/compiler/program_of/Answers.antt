@@ -1,8 +1,7 @@
-use Rattle.std.proofs.Common.{◌≡◌, sym, ap, refl}
+use Rattle.std.proofs.Common.{refl}
 use Rattle.filterlang.specs.Trees.{tree_of}
 use Rattle.filtergen.specs.declared.known.Known.TheVariants as known
 use Rattle.filtergen.specs.Meaning.{meaning}
-use Rattle.filtergen.specs.Compiling.{StandsFor}
 use Rattle.filtergen.proofs.Deciding.{decides-same}
 use Rattle.filtergen.proofs.Knowing.{rest-tree}
 use Rattle.filtergen.proofs.Verdicts.{stands}

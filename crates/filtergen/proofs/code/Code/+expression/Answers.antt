@@ -1,4 +1,4 @@
-use Rattle.std.proofs.Common.{rules, arith}
+use Rattle.std.proofs.Common.{arith}
 use Rattle.filtergen.proofs.Deciding.{decides-not, decides-more, decides-renewed, decides-both-renewed, decides-either-renewed, renews-not, renews-both, renews-either, renews-later}
 use Rattle.filterlang.specs.Trees.{amount_of}
 use Rattle.filtergen.proofs.Bounds.{relation_bound}

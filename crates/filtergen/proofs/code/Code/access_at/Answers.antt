@@ -1,5 +1,4 @@
-use Rattle.std.proofs.Common.{◌+◌, arith, refl}
-use Rattle.filtergen.specs.Meaning.{bytes_of}
+use Rattle.std.proofs.Common.{◌+◌, arith}
 use Rattle.filtergen.proofs.Computing.{computes-absolute, computes-behind, computes-more}
 use Rattle.filtergen.proofs.code.Code.access_at.Goals as goal
 

@@ -1,5 +1,5 @@
-use Rattle.std.proofs.Common.{rules, arith, ◌≡◌, ◌==◌, bit_and}
-use Rattle.filtergen.specs.Meaning.{check, word, has_address}
+use Rattle.std.proofs.Common.{arith, ◌==◌}
+use Rattle.filtergen.specs.Meaning.{has_address}
 use Rattle.filtergen.proofs.Deciding.{decides-same, decides-more}
 use Rattle.filtergen.proofs.Six.{whole_mask}
 use Rattle.filtergen.proofs.code.Code.address.Goals as goal

@@ -1,8 +1,4 @@
-use Rattle.std.proofs.Common.{rules, arith, ◌≡◌, ◌==◌, None, length, if◌then◌else◌, true, false}
-use Rattle.bpfvm.specs.Codes.{Accumulator}
 use Rattle.filtergen.specs.declared.insns.Field.TheVariants as fields
-use Rattle.filtergen.specs.Insns.{load_insn}
-use Rattle.filtergen.specs.Meaning.{half, by_direction, has_address, in_any_net}
 use Rattle.filtergen.proofs.Growing.{load-sound}
 use Rattle.filtergen.proofs.Nets.{decides-any-net}
 use Rattle.filtergen.proofs.code.Code.any_net.Goals as goal

@@ -1,10 +1,5 @@
-use Rattle.std.proofs.Common.{rules, arith, ap, sym, ◌∙◌, subst, ◌-◌, length, ◌≡◌, None, ◌+◌, ◌≤◌, ℕ, bit_and, inl, inr}
-use Rattle.bpfvm.specs.declared.insn.Insn.{Insn}
-use Rattle.bpfvm.specs.Machine.{Registers, holds}
-use Rattle.bpfvm.specs.Validity.{fault_of}
-use Rattle.filtergen.specs.Insns.{plain_insn, branch_insn, load_insn}
-use Rattle.filtergen.specs.Emission.{Nears, Chooses, Decides, comparison_of, field_of, condition}
-use Rattle.filtergen.proofs.Growing.{branch-sound, load-sound, mask-sound}
+use Rattle.std.proofs.Common.{arith, ◌-◌, length, ◌≤◌, inl, inr}
+use Rattle.filtergen.proofs.Growing.{branch-sound}
 use Rattle.filtergen.proofs.Runs.{branch-chooses, reach-kept}
 use Rattle.filtergen.proofs.code.Code.branch.Goals as goal
 use Rattle.filtergen.proofs.code.Code.branch.Goals.{then-len-exits-gt-REACH, else-len-exits-gt-REACH}

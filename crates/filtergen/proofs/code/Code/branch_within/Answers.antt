@@ -1,5 +1,4 @@
-use Rattle.std.proofs.Common.{rules, arith, ◌≡◌, ◌==◌, sym, ap, ◌∙◌, if◌then◌else◌, true, false, nat_lt, nat_le}
-use Rattle.bpfvm.specs.Machine.{Registers}
+use Rattle.std.proofs.Common.{arith, ◌==◌, if◌then◌else◌, true, false, nat_lt, nat_le}
 use Rattle.filtergen.specs.Meaning.{within}
 use Rattle.filtergen.proofs.Runs.{chooses-same, chooses-more, chooses-both, chooses-not}
 use Rattle.filtergen.proofs.Sides.{within-one, within-bounds}

@@ -1,5 +1,4 @@
-use Rattle.std.proofs.Common.{◌≡◌, ◌+◌, ◌≤◌, arith}
-use Rattle.filterlang.specs.Trees.{amount_of, number}
+use Rattle.std.proofs.Common.{arith}
 use Rattle.filtergen.specs.Meaning.{compared}
 use Rattle.filtergen.proofs.Computing.{decides-compared, decides-valued}
 use Rattle.filtergen.proofs.Deciding.{decides-more}

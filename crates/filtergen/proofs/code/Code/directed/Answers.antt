@@ -1,4 +1,3 @@
-use Rattle.std.proofs.Common.{rules, arith}
 use Rattle.filtergen.proofs.Deciding.{decides-both, decides-either}
 use Rattle.filtergen.proofs.code.Code.directed.Goals as goal
 

@@ -1,4 +1,4 @@
-use Rattle.std.proofs.Common.{rules, arith}
+use Rattle.std.proofs.Common.{arith}
 use Rattle.filtergen.proofs.Following.{follows-more}
 use Rattle.filtergen.proofs.Sides.{follows-one-port, follows-either-port, follows-both-ports}
 use Rattle.filtergen.proofs.code.Code.directed_ports.Goals as goal

@@ -1,4 +1,4 @@
-use Rattle.std.proofs.Common.{rules, arith, ◌+◌}
+use Rattle.std.proofs.Common.{arith}
 use Rattle.filtergen.specs.Meaning.{is_address, address_number}
 use Rattle.filtergen.proofs.Deciding.{decides-both, decides-same}
 use Rattle.filtergen.proofs.Six.{six_split}

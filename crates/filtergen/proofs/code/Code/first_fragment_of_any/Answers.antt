@@ -1,4 +1,3 @@
-use Rattle.std.proofs.Common.{rules, arith}
 use Rattle.filtergen.proofs.Deciding.{decides-both, yes-exits}
 use Rattle.filtergen.proofs.code.Code.first_fragment_of_any.Goals as goal
 

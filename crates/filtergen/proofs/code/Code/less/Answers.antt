@@ -1,4 +1,4 @@
-use Rattle.std.proofs.Common.{rules, arith, nat_le}
+use Rattle.std.proofs.Common.{nat_le}
 use Rattle.filtergen.specs.Meaning.{decided}
 use Rattle.filtergen.proofs.Deciding.{decides-not, decides-same}
 use Rattle.filtergen.proofs.Sharing.{at_most}

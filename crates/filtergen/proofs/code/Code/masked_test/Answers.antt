@@ -1,4 +1,4 @@
-use Rattle.std.proofs.Common.{rules, arith, ap, sym, ◌∙◌, ◌+◌, ◌==◌}
+use Rattle.std.proofs.Common.{◌==◌}
 use Rattle.filtergen.specs.Insns.{load_insn}
 use Rattle.filtergen.specs.Emission.{field_of}
 use Rattle.filtergen.proofs.Growing.{load-sound, mask-sound}

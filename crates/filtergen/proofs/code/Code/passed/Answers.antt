@@ -1,6 +1,5 @@
-use Rattle.std.proofs.Common.{rules, arith, sym, ap, ◌∙◌, ◌≡◌, length, ◌≤◌, ◌-◌, reverse, get_or}
+use Rattle.std.proofs.Common.{arith, sym, ap, ◌∙◌, ◌≡◌, length, ◌≤◌, ◌-◌, reverse, get_or}
 use Rattle.std.proofs.lemmas.List.{length-reverse}
-use Rattle.bpfvm.specs.declared.insn.Insn.{Insn}
 use Rattle.filtergen.proofs.Runs.{insn_of, same-insn, passes-one}
 use Rattle.filtergen.proofs.code.Code.passed.Goals as goal
 

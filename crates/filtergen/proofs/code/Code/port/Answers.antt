@@ -1,4 +1,4 @@
-use Rattle.std.proofs.Common.{rules, arith, refl, ◌≡◌, ◌∷◌, length, ◌∙◌, sym, ap}
+use Rattle.std.proofs.Common.{refl}
 use Rattle.bpfvm.specs.Codes.{operation_of}
 use Rattle.bpfvm.specs.Validity.{fault_of}
 use Rattle.filtergen.proofs.code.Code.port.Goals as goal

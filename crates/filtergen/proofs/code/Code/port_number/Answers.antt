@@ -1,9 +1,7 @@
-use Rattle.std.proofs.Common.{rules, arith, ◌≡◌, ◌==◌, length, if◌then◌else◌, true, false, subst, sym}
-use Rattle.bpfvm.specs.Codes.{Accumulator}
-use Rattle.bpfvm.specs.Machine.{Registers}
+use Rattle.std.proofs.Common.{◌==◌, if◌then◌else◌, true}
 use Rattle.filtergen.specs.declared.insns.Field.TheVariants as fields
 use Rattle.filtergen.specs.Insns.{load_insn}
-use Rattle.filtergen.specs.Meaning.{byte, check}
+use Rattle.filtergen.specs.Meaning.{byte}
 use Rattle.filtergen.specs.Parts.{has_port_number}
 use Rattle.filtergen.proofs.Growing.{load-sound}
 use Rattle.filtergen.proofs.Runs.{load-effect, chooses-either, passes-itself}

@@ -1,5 +1,5 @@
-use Rattle.std.proofs.Common.{rules, arith, None, ◌==◌, bit_and}
-use Rattle.filtergen.specs.Meaning.{is_type, byte, half, check, by_direction, has_port, has_any_ports}
+use Rattle.std.proofs.Common.{None, ◌==◌}
+use Rattle.filtergen.specs.Meaning.{is_type, byte, by_direction, has_port, has_any_ports}
 use Rattle.filtergen.specs.Parts.{is_unfragmented}
 use Rattle.filtergen.proofs.Deciding.{decides-both, decides-same}
 use Rattle.filtergen.proofs.Sharing.{ports_shared}

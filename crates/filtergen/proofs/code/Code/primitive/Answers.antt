@@ -1,4 +1,4 @@
-use Rattle.std.proofs.Common.{rules, arith, ◌==◌, not, bit_and}
+use Rattle.std.proofs.Common.{◌==◌, not, bit_and}
 use Rattle.filtergen.specs.Meaning.{check, byte}
 use Rattle.filtergen.proofs.Deciding.{decides-same}
 use Rattle.filtergen.proofs.Sharing.{any_bit}

@@ -1,4 +1,3 @@
-use Rattle.std.proofs.Common.{rules, arith}
 use Rattle.filtergen.proofs.Runs.{extends-both, renews-nears}
 use Rattle.filtergen.proofs.code.Code.renew.Goals as goal
 

@@ -1,4 +1,3 @@
-use Rattle.std.proofs.Common.{rules, arith, ap, sym, ◌∙◌, ◌+◌}
 use Rattle.bpfvm.specs.Machine.{holds}
 use Rattle.filtergen.specs.Insns.{load_insn}
 use Rattle.filtergen.specs.Emission.{comparison_of, field_of}

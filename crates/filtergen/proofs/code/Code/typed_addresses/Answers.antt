@@ -1,4 +1,3 @@
-use Rattle.std.proofs.Common.{rules, arith}
 use Rattle.filtergen.proofs.Deciding.{decides-both}
 use Rattle.filtergen.proofs.code.Code.typed_addresses.Goals as goal
 

@@ -1,4 +1,3 @@
-use Rattle.std.proofs.Common.{rules, arith}
 use Rattle.filtergen.specs.Meaning.{half}
 use Rattle.filtergen.specs.Parts.{is_unfragmented}
 use Rattle.filtergen.proofs.Deciding.{decides-not, decides-same}
