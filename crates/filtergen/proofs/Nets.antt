@@ -66,7 +66,7 @@ pub decides-any-net : {e f y n : ℕ} (d : Direction) (a m : ℕ) (ways : Ways) 
     → Chooses 3 (condition jumps.Equal (operands.Constant 0x0806)) (record { yes = e; no = y }) c2 c3
     → Decides 10 (of_ip d a m) (record { yes = ways.yes.ip; no = ways.no.ip }) f c3 c4
     → Chooses 3 (condition jumps.Equal (operands.Constant 0x0800)) (record { yes = f; no = n }) c4 c5
-    → DecidesBy 30 (in_any_net None d a m) ways (record { any = suc (length c5); ip = f; other = suc (length c5); first = f; number = 0 }) c0 (load_insn (fields.Half 12) ∷ c5)
+    → DecidesBy 30 (in_any_net None d a m) ways (record { any = suc (length c5); ip = f; other = suc (length c5); first_fragment = f; transport = None }) c0 (load_insn (fields.Half 12) ∷ c5)
 decides-any-net {e} {f} {y} {n} d a m ways {c0} {c1} {c2} {c3} {c4} {c5} are arp at-rarp at-other rarp-jump arp-jump ip ip-jump =
     let load = load_insn (fields.Half 12) in
     let others : Exits = record { yes = ways.yes.other; no = ways.no.other } in
@@ -79,7 +79,7 @@ decides-any-net {e} {f} {y} {n} d a m ways {c0} {c1} {c2} {c3} {c4} {c5} are arp
     let here = place-kept f behind ip.here in
     record {
       extends = extends-more 30 (omega arith) whole;
-      here = record { any = (omega arith, omega arith); ip = here; other = (omega arith, omega arith); first = here };
+      here = record { any = (omega arith, omega arith); ip = here; other = (omega arith, omega arith); first_fragment = here };
       decides = λ p k l bytes yes' no'.
           let t = is_type 0x0800 p in
           let inside = ip.decides p yes'.ip.found no'.ip.found bytes (answers-kept ways.yes.ip _ p other-test.extends are.0.ip.1 yes'.ip.answers) (answers-kept ways.no.ip _ p other-test.extends are.1.ip.1 no'.ip.answers) in
@@ -100,7 +100,7 @@ decides-any-net {e} {f} {y} {n} d a m ways {c0} {c1} {c2} {c3} {c4} {c5} are arp
             any = any';
             ip = record { found = _; answers = inside'; right = right };
             other = record { found = _; answers = any'; right = λ known. refl };
-            first = record { found = _; answers = inside'; right = λ known. right (first-ip 0 p known) };
+            first_fragment = record { found = _; answers = inside'; right = λ known. right (first-ip None p known) };
           };
     }
   where

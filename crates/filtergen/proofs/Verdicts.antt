@@ -1,5 +1,5 @@
 -- The verdict of a program whose first instruction is an expression's entry.
-use Rattle.std.proofs.Common.{◌≡◌, ℕ, List, [], ◌∷◌, length, refl, sym, ap, ◌∙◌, arith, if◌then◌else◌}
+use Rattle.std.proofs.Common.{◌≡◌, ℕ, List, [], ◌∷◌, length, None, refl, sym, ap, ◌∙◌, arith, if◌then◌else◌}
 use Rattle.bpfvm.specs.declared.insn.Insn.{Insn}
 use Rattle.bpfvm.specs.Codes.{operation_of}
 use Rattle.bpfvm.specs.Machine.{Registers, Ends, effect, answer, initial, verdict}
@@ -35,7 +35,7 @@ by_verdict No snap = refl
 by_verdict Abort snap = refl
 
 abbrev pub way_to : ℕ → Way
-way_to place = record { any = place; ip = place; other = place; first = place; number = 0 }
+way_to place = record { any = place; ip = place; other = place; first_fragment = place; transport = None }
 
 pub stands : (t : Tree) (snap most near : ℕ) (entry : Way) (old mid program : List Insn) → old ≡ returns_of snap
     → DecidesBy most (meaning t) (record { yes = way_to 2; no = way_to 1 }) entry old mid → Nears entry.any 0 near mid program → StandsFor program t snap

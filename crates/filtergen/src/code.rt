@@ -6,7 +6,7 @@ ghost use Rattle.bpfvm.specs.Validity.{fault_of, IsValidProgram};
 ghost use Rattle.bpfvm.specs.Machine.{holds};
 ghost use Rattle.filtergen.specs.Meaning.{check, within};
 ghost use Rattle.filtergen.specs.Insns.{plain_insn};
-ghost use Rattle.filtergen.specs.Emission.{IsPlace, AreExits, Extends, comparison_of, condition, field_of, Passes, Nears, Chooses, Decides};
+ghost use Rattle.filtergen.specs.Emission.{IsPlace, AreExits, comparison_of, condition, field_of, Passes, Nears, Chooses, Decides};
 
 use crate::insns::{Field, Jump, Operand, branch_insn, load_insn, plain_insn};
 use arrayvec::ArrayVec;

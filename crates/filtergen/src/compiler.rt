@@ -7,7 +7,7 @@ ghost use Rattle.filtergen.specs.Meaning.{primitive_test};
 ghost use Rattle.filtergen.specs.Parts.{cost};
 ghost use Rattle.filtergen.specs.Compiling.{weight, need, StandsFor, IsBadSnap};
 ghost use Rattle.filtergen.specs.Emission.{OrFull};
-ghost use Rattle.filtergen.specs.Ways.{AreWays, DecidesBy, RenewsAll};
+ghost use Rattle.filtergen.specs.Ways.{AreWays, DecidesBy, RenewsBoth};
 
 use crate::code::{Code, Full};
 use crate::known::Known;
@@ -31,12 +31,12 @@ struct Emitted {
 }
 
 impl Code {
-    /// A primitive, and ways that jumps in front of it reach, too.
+    /// A primitive. Its ways are renewed first, so that its jumps and those in front of it reach them.
     fn reached_primitive(&mut self, primitive: Primitive, ways: Ways) -> Emitted
         requires room { length self.old + (2 + cost primitive) ≤ 512 }
         requires ways { AreWays self.old ways }
         ensures { DecidesBy (2 + cost primitive) (primitive_test primitive) ways result.entry self.old self.new
-            × RenewsAll ways result.ways self.old self.new }
+            × RenewsBoth ways result.ways self.old self.new }
     {
         let ways = self.renew(ways);
         let entry = self.primitive(primitive, ways);
@@ -50,7 +50,7 @@ impl Code {
         requires ways { AreWays self.old ways }
         ensures { OrFull (weight (tree_of expr.now)) self.old result (λ emitted.
             DecidesBy (weight (tree_of expr.now)) (rest_of_tree known (tree_of expr.now)) ways emitted.entry self.old self.new
-            × RenewsAll ways emitted.ways self.old self.new) }
+            × RenewsBoth ways emitted.ways self.old self.new) }
     {
         match expr {
             Expr::Everything => {
@@ -64,7 +64,7 @@ impl Code {
             Expr::Relation(comparison, left, right) => {
                 self.room(2)?;
                 let ways = self.renew(ways);
-                let place = self.relation(known, *comparison, left, right, ways.any())?;
+                let place = self.relation(known, *comparison, left, right, ways.any_exits())?;
                 let entry = Way::to(place);
                 Ok(Emitted { entry, ways })
             }

@@ -1,12 +1,12 @@
 //! The primitives. Code is written from its end: of two tests that follow each other, the second one comes first here.
 
 ghost use Rattle.std.specs.Prelude.{◌≡◌, ℕ, ◌+◌, ◌≤◌, ◌==◌, None, length};
-ghost use Rattle.filterlang.specs.declared.tree.Primitive.TheVariants.{Ports, IpMulticast, Less};
-ghost use Rattle.filtergen.specs.Meaning.{check, byte, both, is_type, is_protocol, is_first, plain_test, by_direction, has_address, in_net, in_any_net, is_address, within, has_port, has_any_ports, protocol_number, primitive_test};
+ghost use Rattle.filterlang.specs.declared.tree.Primitive.TheVariants.{IpMulticast, Less};
+ghost use Rattle.filtergen.specs.Meaning.{check, byte, both, is_type, is_protocol, plain_test, by_direction, has_address, in_net, in_any_net, is_address, within, has_port, has_any_ports, protocol_number, primitive_test};
 ghost use Rattle.filtergen.specs.Insns.{plain_insn};
 ghost use Rattle.filtergen.specs.Emission.{IsPlace, AreExits, ChoosesBehind, same_index, Follows, Decides};
 ghost use Rattle.filtergen.specs.Ways.{IsWay, AreWays, DecidesBy};
-ghost use Rattle.filtergen.specs.Parts.{side_cost, side_offset, side_test, port_behind, is_unfragmented, has_port_number, is_any_first, plain_cost, cost};
+ghost use Rattle.filtergen.specs.Parts.{side_cost, side_offset, side_test, port_behind, is_unfragmented, has_port_number, plain_cost, cost};
 
 use crate::code::{Code, Exits};
 use crate::insns::{Field, Jump, Operand, load_insn, plain_insn};
@@ -115,28 +115,23 @@ impl Code {
         self.test(Field::Byte(23), Jump::Equal, number, exits)
     }
 
-    /// IPv4, and behind it the test at a place, which is for a packet of IPv4.
-    fn behind_ip(&mut self, inner: usize, ways: Ways) -> Way
+    /// IPv4, and behind it the test at a place, which is for a packet of IPv4; one of another type goes on at the other place.
+    fn behind_ip(&mut self, inner: usize, other: usize) -> Way
         requires room { length self.old + 4 ≤ 512 }
         requires inner { IsPlace self.old inner }
-        requires ways { IsWay self.old ways.no }
-        ensures test { Decides 4 (is_type 0x0800) (record { yes = inner; no = ways.no.other }) result.any self.old self.new }
-        ensures places { result ≡ record { any = result.any; ip = inner; other = ways.no.other; first = inner; number = 0 } }
+        requires other { IsPlace self.old other }
+        ensures test { Decides 4 (is_type 0x0800) (record { yes = inner; no = other }) result.any self.old self.new }
+        ensures places { result ≡
+            record { any = result.any; ip = inner; other = other; first_fragment = inner; transport = None } }
     {
-        let other = ways.no.other;
-        let any = self.ether_type(
-            IP,
-            Exits {
-                yes: inner,
-                no: other,
-            },
-        );
+        let exits = Exits {
+            yes: inner,
+            no: other,
+        };
         Way {
-            any,
-            ip: inner,
+            any: self.ether_type(IP, exits),
             other,
-            first: inner,
-            number: 0,
+            ..Way::to(inner)
         }
     }
 
@@ -146,8 +141,8 @@ impl Code {
         requires ways { AreWays self.old ways }
         ensures { DecidesBy 8 (is_protocol number) ways result self.old self.new }
     {
-        let inner = self.protocol_number(number, ways.ip());
-        self.behind_ip(inner, ways)
+        let inner = self.protocol_number(number, ways.ip_exits());
+        self.behind_ip(inner, ways.no.other)
     }
 
     /// No later fragment of IPv4.
@@ -159,12 +154,15 @@ impl Code {
         self.test(Field::Half(20), Jump::AnyBit, 0x1fff, exits.swapped())
     }
 
-    /// A protocol number of IPv4 that has ports: three comparisons of one byte.
+    /// A protocol number of IPv4 that has ports: three comparisons of one byte. An exit that begins with the same load is
+    /// passed.
     fn port_number(&mut self, exits: Exits) -> usize
         requires room { length self.old + 10 ≤ 512 }
         requires exits { AreExits self.old exits }
         ensures { Decides 10 has_port_number exits result self.old self.new }
     {
+        let load = load_insn(Field::Byte(23));
+        let exits = self.both_passed(load, exits);
         self.branch(Jump::Equal, Operand::Constant(132), exits);
         let sctp = self.len();
         self.branch(
@@ -178,7 +176,7 @@ impl Code {
             Operand::Constant(6),
             Exits { no: udp, ..exits },
         );
-        self.push(load_insn(Field::Byte(23)));
+        self.push(load);
         self.len()
     }
 
@@ -255,7 +253,7 @@ impl Code {
         self.len()
     }
 
-    /// A port from low to high of a protocol.
+    /// A port from low to high of a protocol. Only behind the port is the packet known to be a first fragment.
     fn ports_of(
         &mut self,
         transport: Transport,
@@ -268,15 +266,19 @@ impl Code {
         requires ways { AreWays self.old ways }
         ensures { DecidesBy 27 (has_any_ports (Some transport) direction low high) ways result self.old self.new }
     {
-        let number = protocol_number(transport);
-        let first = self.ports_behind_header(direction, low, high, ways.first_of(number));
+        let exits = ways.first_fragment_exits(Some(transport));
+        let first_fragment = self.ports_behind_header(direction, low, high, exits);
         let no = ways.no.ip;
-        let inner = self.unfragmented(Exits { yes: first, no });
-        let ip = self.protocol_number(number, Exits { yes: inner, no });
+        let yes = self.unfragmented(Exits {
+            yes: first_fragment,
+            no,
+        });
+        let ip = self.protocol_number(protocol_number(transport), Exits { yes, no });
+        let way = self.behind_ip(ip, ways.no.other);
         Way {
-            first,
-            number,
-            ..self.behind_ip(ip, ways)
+            first_fragment,
+            transport: Some(transport),
+            ..way
         }
     }
 
@@ -286,17 +288,19 @@ impl Code {
         requires ways { AreWays self.old ways }
         ensures { DecidesBy 33 (has_any_ports None direction low high) ways result self.old self.new }
     {
-        let exits = ways.ip();
-        let inner = self.ports_behind_header(direction, low, high, exits);
-        let unfragmented = self.unfragmented(Exits {
-            yes: inner,
-            ..exits
+        let exits = ways.first_fragment_exits(None);
+        let first_fragment = self.ports_behind_header(direction, low, high, exits);
+        let no = ways.no.ip;
+        let yes = self.unfragmented(Exits {
+            yes: first_fragment,
+            no,
         });
-        let number = self.port_number(Exits {
-            yes: unfragmented,
-            ..exits
-        });
-        self.behind_ip(number, ways)
+        let ip = self.port_number(Exits { yes, no });
+        let way = self.behind_ip(ip, ways.no.other);
+        Way {
+            first_fragment,
+            ..way
+        }
     }
 
     /// The bits of an IPv4 address under a mask. A mask of ones takes no instruction.
@@ -418,7 +422,8 @@ impl Code {
         self.directed(direction, source, destination, exits)
     }
 
-    /// The Ethernet type of ARP or RARP, and behind it the addresses that a direction chooses.
+    /// The Ethernet type of ARP or RARP, and behind it the addresses that a direction chooses. A packet of another type may
+    /// still be of IPv4, so it goes on at the exits for any.
     #[tactic(auto, using(crate::proofs::Leading::decides_any))]
     fn arp_addresses(
         &mut self,
@@ -434,7 +439,7 @@ impl Code {
             (by_direction direction (has_address address mask 28) (has_address address mask 38))) ways result
             self.old self.new }
     {
-        let exits = ways.any();
+        let exits = ways.any_exits();
         let inner = self.addresses(ARP_ADDRESSES, direction, address, mask, exits);
         Way::to(self.ether_type(
             number,
@@ -460,8 +465,8 @@ impl Code {
     {
         match network {
             Network::Ip => {
-                let inner = self.addresses(IP_ADDRESSES, direction, address, mask, ways.ip());
-                self.behind_ip(inner, ways)
+                let inner = self.addresses(IP_ADDRESSES, direction, address, mask, ways.ip_exits());
+                self.behind_ip(inner, ways.no.other)
             }
             Network::Arp => self.arp_addresses(ARP, direction, address, mask, ways),
             Network::Rarp => self.arp_addresses(RARP, direction, address, mask, ways),
@@ -474,11 +479,11 @@ impl Code {
         requires ways { AreWays self.old ways }
         ensures { DecidesBy 30 (in_any_net None direction address mask) ways result self.old self.new }
     {
-        let others = ways.other();
-        let inner = self.addresses(ARP_ADDRESSES, direction, address, mask, others);
+        let exits = ways.other_exits();
+        let inner = self.addresses(ARP_ADDRESSES, direction, address, mask, exits);
         let arp = Exits {
             yes: inner,
-            ..others
+            ..exits
         };
         self.branch(Jump::Equal, Operand::Constant(RARP), arp);
         let rarp = self.len();
@@ -488,7 +493,7 @@ impl Code {
             Exits { no: rarp, ..arp },
         );
         let other = self.len();
-        let ip = self.addresses(IP_ADDRESSES, direction, address, mask, ways.ip());
+        let ip = self.addresses(IP_ADDRESSES, direction, address, mask, ways.ip_exits());
         self.branch(
             Jump::Equal,
             Operand::Constant(IP),
@@ -496,10 +501,11 @@ impl Code {
         );
         self.push(load_insn(Field::Half(12)));
         let any = self.len();
+        // The place for another type than IPv4 wants the type in the accumulator, so such a packet begins anew.
         Way {
-            ip,
-            first: ip,
-            ..Way::to(any)
+            any,
+            other: any,
+            ..Way::to(ip)
         }
     }
 
@@ -511,9 +517,9 @@ impl Code {
         ensures { DecidesBy (plain_cost word) (plain_test word) ways result self.old self.new }
     {
         match word {
-            Plain::Ip => self.behind_ip(ways.yes.ip, ways),
-            Plain::Arp => Way::to(self.ether_type(ARP, ways.any())),
-            Plain::Rarp => Way::to(self.ether_type(RARP, ways.any())),
+            Plain::Ip => self.behind_ip(ways.yes.ip, ways.no.other),
+            Plain::Arp => Way::to(self.ether_type(ARP, ways.any_exits())),
+            Plain::Rarp => Way::to(self.ether_type(RARP, ways.any_exits())),
             Plain::Icmp => self.ip_protocol(1, ways),
             Plain::Tcp => self.ip_protocol(6, ways),
             Plain::Udp => self.ip_protocol(17, ways),
@@ -539,8 +545,8 @@ impl Code {
         requires ways { AreWays self.old ways }
         ensures { DecidesBy 8 (primitive_test IpMulticast) ways result self.old self.new }
     {
-        let inner = self.test(Field::Byte(30), Jump::GreaterOrEqual, 224, ways.ip());
-        self.behind_ip(inner, ways)
+        let inner = self.test(Field::Byte(30), Jump::GreaterOrEqual, 224, ways.ip_exits());
+        self.behind_ip(inner, ways.no.other)
     }
 
     /// A wire length of at most so many bytes.
@@ -559,7 +565,7 @@ impl Code {
         requires ways { AreWays self.old ways }
         ensures { DecidesBy (cost primitive) (primitive_test primitive) ways result self.old self.new }
     {
-        let exits = ways.any();
+        let exits = ways.any_exits();
         match primitive {
             Primitive::Protocol(word) => self.plain(word, ways),
             Primitive::Net {

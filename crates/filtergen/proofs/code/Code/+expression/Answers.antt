@@ -29,7 +29,7 @@ returns-in_ok-room-in-Test t c =
 pub returns-in_ok-place-in-Relation : goal.returns-in_ok-place-in-Relation
 returns-in_ok-place-in-Relation t c =
     let renewed = c.renew-ways.ensures in
-    let done = rw c.any.ensures at c.in_ok-place-in-Relation.ensures in
+    let done = rw c.any_exits.ensures at c.in_ok-place-in-Relation.ensures in
     let bound = relation_bound (amount_of c.in-Relation.left) (amount_of c.in-Relation.right) in
     rw (c.in-Relation.is, c.to-entry.ensures)
     (decides-by-more _ bound (decides-renewed renewed.extends renewed.renews (decides_any c.renew-ways.result done)), renews-all-later renewed.renews done.extends)

@@ -5,6 +5,6 @@ use Rattle.filtergen.proofs.code.Code.arp_addresses.Goals as goal
 pub returns : goal.returns
 returns c =
     let ways = c.args.ways in
-    let inner = rw c.any-exits.ensures at c.addresses-inner.ensures in
-    let typed = rw c.any-exits.ensures at c.ether_type.ensures in
+    let inner = rw c.any_exits-exits.ensures at c.addresses-inner.ensures in
+    let typed = rw c.any_exits-exits.ensures at c.ether_type.ensures in
     rw c.to.ensures (decides_any ways (decides-both (c.requires.ways.0.any, c.requires.ways.1.any) inner typed))

@@ -8,12 +8,12 @@ pub returns-in-EtherMulticast : goal.returns-in-EtherMulticast
 returns-in-EtherMulticast c =
     rw (c.in-EtherMulticast.is, c.to-in-EtherMulticast.ensures)
     (decides-by-same _ (λ p. check (λ b. not (bit_and b 1 == 0)) (byte 0 p)) (λ p bytes. any_bit (byte 0 p) 1)
-    (decides_any c.args.ways (rw c.any-exits.ensures at c.test.ensures)))
+    (decides_any c.args.ways (rw c.any_exits-exits.ensures at c.test.ensures)))
 
 pub returns-in-EtherBroadcast : goal.returns-in-EtherBroadcast
 returns-in-EtherBroadcast c =
     rw (c.in-EtherBroadcast.is, c.to-in-EtherBroadcast.ensures)
-    (decides-by-more 8 (omega arith) (decides_any c.args.ways (rw c.any-exits.ensures at c.ethernet.ensures)))
+    (decides-by-more 8 (omega arith) (decides_any c.args.ways (rw c.any_exits-exits.ensures at c.ethernet.ensures)))
 
 pub returns-in-None : goal.returns-in-None
 returns-in-None c = rw (c.in-Net.is, c.in-None.is) c.any_net.ensures
