@@ -8,100 +8,48 @@ use Rattle.filtergen.specs.declared.verdict.Verdict.{Verdict}
 use Rattle.filtergen.specs.declared.verdict.Verdict.TheVariants.{Yes, No, Abort}
 use Rattle.filtergen.specs.Meaning.{Packet, HasBytes, Test, and_then, or_else, opposite, both, either, negation, check, decided}
 use Rattle.filtergen.specs.Insns.{plain_insn}
-use Rattle.filtergen.specs.Emission.{AreExits, HasCells, Answers, Extends, Passes, Renews, outcome, Chooses, with_loaded, Decides}
-use Rattle.filtergen.proofs.Runs.{after, answer-first, front-place, extends-none, extends-one, extends-both, extends-more, renews-kept, mask-effect}
+use Rattle.filtergen.specs.Emission.{AreExits, HasCells, Answers, Passes, outcome, Chooses, with_loaded, Decides}
+use Rattle.filtergen.proofs.Runs.{after, answer-first, front-place, extends-none, extends-one, extends-both, extends-more, answers-kept, mask-effect}
 use Rattle.filtergen.proofs.Following.{decides-followed, follows-loaded, follows-exits}
 
-outcome-both : (v w : Verdict) (m n : ℕ) → outcome v (outcome w m n) n ≡ outcome (and_then v w) m n
+pub outcome-both : (v w : Verdict) (m n : ℕ) → outcome v (outcome w m n) n ≡ outcome (and_then v w) m n
 outcome-both Yes w m n = refl
 outcome-both No w m n = refl
 outcome-both Abort w m n = refl
 
-outcome-either : (v w : Verdict) (m n : ℕ) → outcome v m (outcome w m n) ≡ outcome (or_else v w) m n
+pub outcome-either : (v w : Verdict) (m n : ℕ) → outcome v m (outcome w m n) ≡ outcome (or_else v w) m n
 outcome-either Yes w m n = refl
 outcome-either No w m n = refl
 outcome-either Abort w m n = refl
 
-outcome-opposite : (v : Verdict) (m n : ℕ) → outcome v n m ≡ outcome (opposite v) m n
+pub outcome-opposite : (v : Verdict) (m n : ℕ) → outcome v n m ≡ outcome (opposite v) m n
 outcome-opposite Yes m n = refl
 outcome-opposite No m n = refl
 outcome-opposite Abort m n = refl
 
-answers-same : (code : List Insn) (place m n : ℕ) (p : Packet) → m ≡ n → Answers code place p m → Answers code place p n
+pub answers-same : (code : List Insn) (place m n : ℕ) (p : Packet) → m ≡ n → Answers code place p m → Answers code place p n
 answers-same code place m n p same before = record { always = λ r cells. before.always r cells ∙ same }
 
--- renewed exits keep the answers
-pub answers-renewed-yes : {exits renewed : Exits} {a b : List Insn} (n : ℕ) (p : Packet) → Renews exits renewed a b → Answers a exits.yes p n → Answers b renewed.yes p n
-answers-renewed-yes n p renews before = record { always = λ r cells. renews.yes_leads p r ∙ before.always r cells }
-
-pub answers-renewed-no : {exits renewed : Exits} {a b : List Insn} (n : ℕ) (p : Packet) → Renews exits renewed a b → Answers a exits.no p n → Answers b renewed.no p n
-answers-renewed-no n p renews before = record { always = λ r cells. renews.no_leads p r ∙ before.always r cells }
-
--- a test by renewed exits
-pub decides-renewed : {k l e : ℕ} {t : Test} {exits renewed : Exits} {a b c : List Insn} → Extends k a b → Renews exits renewed a b → Decides l t renewed e b c → Decides (k + l) t exits e a c
-decides-renewed {k} {l} {e} extends renews first = record {
-  extends = extends-both extends first.extends;
-  here = first.here;
-  decides = λ p m n bytes yes' no'. first.decides p m n bytes (answers-renewed-yes m p renews yes') (answers-renewed-no n p renews no');
-}
-
--- the second test is there first; the first one goes on to it, or to the exits as the second one renewed them
-pub decides-both-renewed : {k l e f : ℕ} {t u : Test} {exits renewed : Exits} {a b c : List Insn} → Renews exits renewed a b
-    → Decides k u exits e a b → Decides l t (record { yes = e; no = renewed.no }) f b c → Decides (k + l) (both t u) exits f a c
-decides-both-renewed {k} {l} {e} {f} {t} {u} {exits} {renewed} {a} {b} {c} renews second first = record {
+-- the second test is there first, and the first one goes on to it
+pub decides-both : {k l e f : ℕ} {t u : Test} {exits : Exits} {a b c : List Insn} → AreExits a exits
+    → Decides k u exits e a b → Decides l t (record { yes = e; no = exits.no }) f b c → Decides (k + l) (both t u) exits f a c
+decides-both {k} {l} {e} {f} {t} {u} {exits} {a} {b} {c} are second first = record {
   extends = extends-both second.extends first.extends;
   here = first.here;
   decides = λ p m n bytes yes' no'.
       answers-same c f _ _ p (outcome-both (t p) (u p) m n)
-      (first.decides p (outcome (u p) m n) n bytes (second.decides p m n bytes yes' no') (answers-renewed-no n p renews no'));
+      (first.decides p (outcome (u p) m n) n bytes (second.decides p m n bytes yes' no') (answers-kept exits.no n p second.extends are.1.1 no'));
 }
 
-pub decides-either-renewed : {k l e f : ℕ} {t u : Test} {exits renewed : Exits} {a b c : List Insn} → Renews exits renewed a b
-    → Decides k u exits e a b → Decides l t (record { yes = renewed.yes; no = e }) f b c → Decides (k + l) (either t u) exits f a c
-decides-either-renewed {k} {l} {e} {f} {t} {u} {exits} {renewed} {a} {b} {c} renews second first = record {
+pub decides-either : {k l e f : ℕ} {t u : Test} {exits : Exits} {a b c : List Insn} → AreExits a exits
+    → Decides k u exits e a b → Decides l t (record { yes = exits.yes; no = e }) f b c → Decides (k + l) (either t u) exits f a c
+decides-either {k} {l} {e} {f} {t} {u} {exits} {a} {b} {c} are second first = record {
   extends = extends-both second.extends first.extends;
   here = first.here;
   decides = λ p m n bytes yes' no'.
       answers-same c f _ _ p (outcome-either (t p) (u p) m n)
-      (first.decides p m (outcome (u p) m n) bytes (answers-renewed-yes m p renews yes') (second.decides p m n bytes yes' no'));
+      (first.decides p m (outcome (u p) m n) bytes (answers-kept exits.yes m p second.extends are.0.1 yes') (second.decides p m n bytes yes' no'));
 }
-
--- renewed exits lead on as they did, behind what is put in front
-pub renews-later : {k : ℕ} {exits renewed : Exits} {a b c : List Insn} → Renews exits renewed a b → Extends k b c → Renews exits renewed a c
-renews-later {k} {exits} {renewed} before extends = record {
-  here = ((before.here.0.0, omega (arith, before.here.0.1, extends.longer)), (before.here.1.0, omega (arith, before.here.1.1, extends.longer)));
-  yes_leads = λ p r. extends.same renewed.yes p r before.here.0.1 ∙ before.yes_leads p r;
-  no_leads = λ p r. extends.same renewed.no p r before.here.1.1 ∙ before.no_leads p r;
-}
-
--- both renew the exits, the one after the other
-pub renews-both : {l : ℕ} {e : ℕ} {exits second first : Exits} {a b c : List Insn} → Extends l b c → Renews exits second a b → Renews (record { yes = e; no = second.no }) first b c
-    → Renews exits (record { yes = second.yes; no = first.no }) a c
-renews-both {l} {e} {exits} {second} {first} extends before after' = record {
-  here = ((before.here.0.0, omega (arith, before.here.0.1, extends.longer)), after'.here.1);
-  yes_leads = λ p r. extends.same second.yes p r before.here.0.1 ∙ before.yes_leads p r;
-  no_leads = λ p r. after'.no_leads p r ∙ before.no_leads p r;
-}
-
-pub renews-either : {l : ℕ} {e : ℕ} {exits second first : Exits} {a b c : List Insn} → Extends l b c → Renews exits second a b → Renews (record { yes = second.yes; no = e }) first b c
-    → Renews exits (record { yes = first.yes; no = second.no }) a c
-renews-either {l} {e} {exits} {second} {first} extends before after' = record {
-  here = (after'.here.0, (before.here.1.0, omega (arith, before.here.1.1, extends.longer)));
-  yes_leads = λ p r. after'.yes_leads p r ∙ before.yes_leads p r;
-  no_leads = λ p r. extends.same second.no p r before.here.1.1 ∙ before.no_leads p r;
-}
-
-pub renews-not : {exits renewed : Exits} {a b : List Insn} → Renews (record { yes = exits.no; no = exits.yes }) renewed a b → Renews exits (record { yes = renewed.no; no = renewed.yes }) a b
-renews-not renews = record { here = (renews.here.1, renews.here.0); yes_leads = renews.no_leads; no_leads = renews.yes_leads }
-
--- the same with the exits themselves
-pub decides-both : {k l e f : ℕ} {t u : Test} {exits : Exits} {a b c : List Insn} → AreExits a exits
-    → Decides k u exits e a b → Decides l t (record { yes = e; no = exits.no }) f b c → Decides (k + l) (both t u) exits f a c
-decides-both {k} {l} {e} {f} {t} {u} {exits} are second first = decides-both-renewed (renews-kept exits are second.extends) second first
-
-pub decides-either : {k l e f : ℕ} {t u : Test} {exits : Exits} {a b c : List Insn} → AreExits a exits
-    → Decides k u exits e a b → Decides l t (record { yes = exits.yes; no = e }) f b c → Decides (k + l) (either t u) exits f a c
-decides-either {k} {l} {e} {f} {t} {u} {exits} are second first = decides-either-renewed (renews-kept exits are second.extends) second first
 
 pub decides-not : {k e : ℕ} {t : Test} {exits : Exits} {a b : List Insn} → Decides k t (record { yes = exits.no; no = exits.yes }) e a b → Decides k (negation t) exits e a b
 decides-not {k} {e} {t} {exits} {a} {b} first = record {
@@ -166,8 +114,8 @@ pub decides-masked : {m : ℕ} (i : Insn) (mask : ℕ) (value : Packet → Optio
 decides-masked {m} i mask value f {exits} loads are choice =
     decides-more (m + 2) (omega arith)
     (decides-followed _ (λ p. check (λ n. f (bit_and n mask)) (value p)) (λ r p bytes. by_value r p (value p))
-    (follows-loaded i Accumulator (λ r. value) (λ r p. decided (f (bit_and r.accumulator mask))) loads
-    (follows-loaded (plain_insn 0x54 mask) Accumulator (λ r p. Some (bit_and r.accumulator mask)) (λ r p. decided (f r.accumulator)) (mask-effect mask)
+    (follows-loaded i Accumulator (λ r. value) (λ r p. decided (f (bit_and r.accumulator mask))) (λ r s n like. tt) loads
+    (follows-loaded (plain_insn 0x54 mask) Accumulator (λ r p. Some (bit_and r.accumulator mask)) (λ r p. decided (f r.accumulator)) (λ r s n like. tt) (mask-effect mask)
     (follows-exits (λ r. f r.accumulator) are choice))))
   where
     by_value : (r : Registers) (p : Packet) (v : Option ℕ) → with_loaded Accumulator r v (λ r' p'. decided (f (bit_and r'.accumulator mask))) p ≡ check (λ n. f (bit_and n mask)) v

@@ -3,6 +3,7 @@ pub mod Growing
 pub mod Runs
 pub mod Following
 pub mod Deciding
+pub mod Leading
 pub mod Sides
 pub mod Sharing
 pub mod Nets

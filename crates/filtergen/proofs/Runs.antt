@@ -17,7 +17,7 @@ use Rattle.filtergen.specs.declared.insns.Field.{Field}
 use Rattle.filtergen.specs.declared.insns.Field.TheVariants as fields
 use Rattle.filtergen.specs.Meaning.{Packet}
 use Rattle.filtergen.specs.Insns.{plain_insn, branch_insn, load_insn}
-use Rattle.filtergen.specs.Emission.{IsPlace, AreExits, run_from, Answers, Extends, condition, field_of, Passes, Nears, Renews, Chooses}
+use Rattle.filtergen.specs.Emission.{IsPlace, AreExits, run_from, Answers, Extends, condition, field_of, Passes, Nears, Chooses}
 
 -- a run over code goes on behind its first instruction, or ends
 abbrev pub after : List Insn → Packet → Effect → ℕ
@@ -203,22 +203,6 @@ half-effect k p r = refl
 -- exits stay exits where something is put in front
 pub exits-kept : {k : ℕ} (exits : Exits) (a b : List Insn) → AreExits a exits → Extends k a b → AreExits b exits
 exits-kept exits a b are extends = ((are.0.0, omega (arith, are.0.1, extends.longer)), (are.1.0, omega (arith, are.1.1, extends.longer)))
-
--- the exits themselves, behind what is put in front
-pub renews-kept : {k : ℕ} (exits : Exits) {a b : List Insn} → AreExits a exits → Extends k a b → Renews exits exits a b
-renews-kept exits {a} {b} are extends = record {
-  here = exits-kept exits a b are extends;
-  yes_leads = λ p r. extends.same exits.yes p r are.0.1;
-  no_leads = λ p r. extends.same exits.no p r are.1.1;
-}
-
--- nearer exits, first of the one and then of the other
-pub renews-nears : (exits : Exits) (reach no' yes' : ℕ) (a b c : List Insn) → AreExits a exits → Nears exits.no reach no' a b → Nears exits.yes reach yes' b c → Renews exits (record { yes = yes'; no = no' }) a c
-renews-nears exits reach no' yes' a b c are first second = record {
-  here = (second.here, (first.here.0, omega (arith, first.here.1, second.extends.longer)));
-  yes_leads = λ p r. second.leads p r ∙ first.extends.same exits.yes p r are.0.1;
-  no_leads = λ p r. second.extends.same no' p r first.here.1 ∙ first.leads p r;
-}
 
 -- the same choice in other words
 pub chooses-same : {most : ℕ} (f g : Registers → Bool) {exits : Exits} {a b : List Insn} → ((r : Registers) → f r ≡ g r) → Chooses most f exits a b → Chooses most g exits a b

@@ -1,5 +1,5 @@
 -- The verdict of a program whose first instruction is an expression's entry.
-use Rattle.std.proofs.Common.{◌≡◌, ℕ, List, [], ◌∷◌, length, refl, sym, ap, ◌∙◌, arith, if◌then◌else◌}
+use Rattle.std.proofs.Common.{◌≡◌, ℕ, List, [], ◌∷◌, length, None, refl, sym, ap, ◌∙◌, arith, if◌then◌else◌}
 use Rattle.bpfvm.specs.declared.insn.Insn.{Insn}
 use Rattle.bpfvm.specs.Codes.{operation_of}
 use Rattle.bpfvm.specs.Machine.{Registers, Ends, effect, answer, initial, verdict}
@@ -9,7 +9,10 @@ use Rattle.filtergen.specs.declared.verdict.Verdict.TheVariants.{Yes, No, Abort}
 use Rattle.filtergen.specs.Meaning.{Packet, meaning, is_yes}
 use Rattle.filterlang.specs.Trees.{Tree}
 use Rattle.filtergen.specs.Compiling.{StandsFor}
-use Rattle.filtergen.specs.Emission.{run_from, Answers, outcome, Nears, Decides}
+use Rattle.filtergen.specs.declared.ways.Way.{Way}
+use Rattle.filtergen.specs.Emission.{run_from, Answers, outcome, Nears}
+use Rattle.filtergen.specs.Ways.{DecidesBy}
+use Rattle.filtergen.proofs.Leading.{serves-any}
 use Rattle.filtergen.proofs.Runs.{answer-first, front-place}
 
 abbrev pub returns_of : ℕ → List Insn
@@ -31,14 +34,17 @@ by_verdict Yes snap = refl
 by_verdict No snap = refl
 by_verdict Abort snap = refl
 
-pub stands : (t : Tree) (snap most entry near : ℕ) (old mid program : List Insn) → old ≡ returns_of snap
-    → Decides most (meaning t) (record { yes = 2; no = 1 }) entry old mid → Nears entry 0 near mid program → StandsFor program t snap
+abbrev pub way_to : ℕ → Way
+way_to place = record { any = place; ip = place; other = place; first_fragment = place; transport = None }
+
+pub stands : (t : Tree) (snap most near : ℕ) (entry : Way) (old mid program : List Insn) → old ≡ returns_of snap
+    → DecidesBy most (meaning t) (record { yes = way_to 2; no = way_to 1 }) entry old mid → Nears entry.any 0 near mid program → StandsFor program t snap
 unfolding verdict
-stands t snap most entry near old mid program is decides nears p bytes =
+stands t snap most near entry old mid program is decides nears p bytes =
     let at : near ≡ length program = omega (arith, nears.here, nears.reached) in
     let yes' : Answers old 2 p snap = rw is (accepting snap p) in
     let no' : Answers old 1 p 0 = rw is (rejecting snap p) in
     sym (ap (λ n. run_from program n p initial) at ∙ front-place program p initial)
     ∙ nears.leads p initial
-    ∙ (decides.decides p snap 0 bytes yes' no').always initial refl
+    ∙ (decides.decides p snap 0 bytes (serves-any old 2 snap p yes') (serves-any old 1 0 p no')).any.always initial refl
     ∙ by_verdict (meaning t p) snap

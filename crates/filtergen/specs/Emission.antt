@@ -60,12 +60,6 @@ pub record Passes (insn : Insn) (place passed : ℕ) (code : List Insn) : Type 0
   pub here : IsPlace code passed
   pub leads : (p : Packet) (r : Registers) → effect p.captured p.wire insn r ≡ Goes 0 r → run_from code passed p r ≡ run_from code place p r
 
--- places of new from which a run goes on as from the exits of old
-pub record Renews (exits renewed : Exits) (old new : List Insn) : Type 0 where
-  pub here : AreExits new renewed
-  pub yes_leads : (p : Packet) (r : Registers) → run_from new renewed.yes p r ≡ run_from old exits.yes p r
-  pub no_leads : (p : Packet) (r : Registers) → run_from new renewed.no p r ≡ run_from old exits.no p r
-
 -- the front of new goes to the exits by a condition on the registers, which it leaves as they are
 pub record Chooses (most : ℕ) (choice : Registers → Bool) (exits : Exits) (old new : List Insn) : Type 0 where
   pub extends : Extends most old new
@@ -106,12 +100,23 @@ abbrev pub with_loaded : Register → Registers → Option ℕ → (Registers �
 with_loaded to r None test p = Abort
 with_loaded to r (Some n) test p = test (with_value to n r) p
 
--- from entry a run of new decides a test, which may look at the registers there, and goes to an exit
-pub record Follows (most : ℕ) (test : Registers → Test) (exits : Exits) (entry : ℕ) (old new : List Insn) : Type 0 where
+-- whatever the registers are, or as long as X is what it was
+abbrev pub any_registers : Registers → Registers → Type 0
+any_registers r s = Unit {0}
+
+abbrev pub same_index : Registers → Registers → Type 0
+same_index r s = s.index ≡ r.index
+
+-- with all registers that are so like these, the run from the place has this answer
+abbrev pub LeadsLike : (Registers → Registers → Type 0) → List Insn → ℕ → Packet → Registers → ℕ → Type 0
+LeadsLike like code place p r n = (s : Registers) → HasCells s → like r s → run_from code place p s ≡ n
+
+-- from entry a run of new decides a test, which may look at the registers there, and goes to an exit with registers like these
+pub record Follows (like : Registers → Registers → Type 0) (most : ℕ) (test : Registers → Test) (exits : Exits) (entry : ℕ) (old new : List Insn) : Type 0 where
   pub extends : Extends most old new
   pub here : IsPlace new entry
   pub follows : (p : Packet) (m n : ℕ) (r : Registers) → HasBytes p → HasCells r
-      → Answers old exits.yes p m → Answers old exits.no p n → run_from new entry p r ≡ outcome (test r p) m n
+      → LeadsLike like old exits.yes p r m → LeadsLike like old exits.no p r n → run_from new entry p r ≡ outcome (test r p) m n
 
 -- from entry a run of new decides a test, whatever the registers are, and goes to an exit
 pub record Decides (most : ℕ) (test : Test) (exits : Exits) (entry : ℕ) (old new : List Insn) : Type 0 where

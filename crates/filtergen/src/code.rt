@@ -6,7 +6,7 @@ ghost use Rattle.bpfvm.specs.Validity.{fault_of, IsValidProgram};
 ghost use Rattle.bpfvm.specs.Machine.{holds};
 ghost use Rattle.filtergen.specs.Meaning.{check, within};
 ghost use Rattle.filtergen.specs.Insns.{plain_insn};
-ghost use Rattle.filtergen.specs.Emission.{IsPlace, AreExits, Extends, comparison_of, condition, field_of, Passes, Nears, Renews, Chooses, Decides};
+ghost use Rattle.filtergen.specs.Emission.{IsPlace, AreExits, comparison_of, condition, field_of, Passes, Nears, Chooses, Decides};
 
 use crate::insns::{Field, Jump, Operand, branch_insn, load_insn, plain_insn};
 use arrayvec::ArrayVec;
@@ -14,7 +14,7 @@ use bpfvm::{Insn, MAX_INSNS, Program, code};
 use std::marker::Model;
 
 /// How many instructions a conditional jump passes at most, by its own offset of 8 bits.
-const REACH: usize = 255;
+pub(crate) const REACH: usize = 255;
 
 /// Where a test goes on: places of the code, counted from its end.
 #[derive(Clone, Copy)]
@@ -122,19 +122,6 @@ impl Code {
         }
     }
 
-    /// The exits, or places that go on there, where a jump in front would not reach them. All tests that come in front
-    /// share these, so that a long chain takes few jumps more.
-    pub fn renew(&mut self, exits: Exits) -> Exits
-        requires room { length self.old + 2 ≤ 512 }
-        requires exits { AreExits self.old exits }
-        ensures extends { Extends 2 self.old self.new }
-        ensures renews { Renews exits result self.old self.new }
-    {
-        let no = self.near(exits.no, REACH);
-        let yes = self.near(exits.yes, REACH);
-        Exits { yes, no }
-    }
-
     /// Goes to an exit by a comparison of the accumulator.
     pub fn branch(&mut self, jump: Jump, operand: Operand, exits: Exits)
         requires room { length self.old + 3 ≤ 512 }
@@ -186,6 +173,18 @@ impl Code {
         }
     }
 
+    /// The exits, or the places behind them where this instruction stands there.
+    pub fn both_passed(&self, insn: Insn, exits: Exits) -> Exits
+        requires { AreExits self.now exits }
+        ensures yes { Passes insn exits.yes result.yes self.now }
+        ensures no { Passes insn exits.no result.no self.now }
+    {
+        Exits {
+            yes: self.passed(insn, exits.yes),
+            no: self.passed(insn, exits.no),
+        }
+    }
+
     /// Goes to an exit by a comparison of a number of the packet. An exit that begins with the same load is passed: the
     /// number is still in the accumulator.
     pub fn test(&mut self, field: Field, jump: Jump, value: u32, exits: Exits) -> usize
@@ -195,10 +194,7 @@ impl Code {
             self.old self.new }
     {
         let load = load_insn(field);
-        let exits = Exits {
-            yes: self.passed(load, exits.yes),
-            no: self.passed(load, exits.no),
-        };
+        let exits = self.both_passed(load, exits);
         self.branch(jump, Operand::Constant(value), exits);
         self.push(load);
         self.len()

@@ -1,18 +1,22 @@
 //! Expressions to programs.
 
-ghost use Rattle.std.specs.Prelude.{◌≡◌, ◌≢◌, ◌↔◌, ℕ, ◌<◌, ◌≤◌, Err, IfOk, MatchResult};
+ghost use Rattle.std.specs.Prelude.{◌≡◌, ◌≢◌, ◌↔◌, ℕ, ◌+◌, ◌<◌, ◌≤◌, length, Err, IfOk, MatchResult};
 ghost use Rattle.filterlang.specs.Trees.{tree_of};
 ghost use Rattle.filtergen.specs.Knowing.{rest_of_tree};
+ghost use Rattle.filtergen.specs.Meaning.{primitive_test};
+ghost use Rattle.filtergen.specs.Parts.{cost};
 ghost use Rattle.filtergen.specs.Compiling.{weight, need, StandsFor, IsBadSnap};
-ghost use Rattle.filtergen.specs.Emission.{OrFull, AreExits, Decides, Renews};
+ghost use Rattle.filtergen.specs.Emission.{OrFull};
+ghost use Rattle.filtergen.specs.Ways.{AreWays, DecidesBy, RenewsBoth};
 
-use crate::code::{Code, Exits, Full};
+use crate::code::{Code, Full};
 use crate::known::Known;
 use crate::primitives::cost;
 use crate::refusal::Refusal;
+use crate::ways::{Way, Ways};
 use crate::weighing::{MAX_NEED, need};
 use bpfvm::Program;
-use filterlang::Expr;
+use filterlang::{Expr, Primitive};
 
 /// The largest snapshot length.
 pub const MAX_SNAP: u32 = 262_144;
@@ -20,59 +24,70 @@ pub const MAX_SNAP: u32 = 262_144;
 /// The code of an expression.
 #[derive(Clone, Copy)]
 struct Emitted {
-    /// The place from which its run begins.
-    entry: usize,
-    /// Places from which a run goes on as from the expression's exits, which may have come out of reach.
-    exits: Exits,
+    /// Where its run begins.
+    entry: Way,
+    /// Ways that lead on as the expression's, which may have come out of reach.
+    ways: Ways,
 }
 
 impl Code {
-    /// What is left of an expression, from whose entry a run goes to an exit. The right operand is there before the left one.
+    /// A primitive. Its ways are renewed first, so that its jumps and those in front of it reach them.
+    fn reached_primitive(&mut self, primitive: Primitive, ways: Ways) -> Emitted
+        requires room { length self.old + (2 + cost primitive) ≤ 512 }
+        requires ways { AreWays self.old ways }
+        ensures { DecidesBy (2 + cost primitive) (primitive_test primitive) ways result.entry self.old self.new
+            × RenewsBoth ways result.ways self.old self.new }
+    {
+        let ways = self.renew(ways);
+        let entry = self.primitive(primitive, ways);
+        Emitted { entry, ways }
+    }
+
+    /// What is left of an expression, which goes on by its ways. The right operand is there before the left one.
     #[tactic(auto, using(crate::proofs::Bounds::relation_bound))]
-    fn expression(&mut self, known: Known, expr: &Expr, exits: Exits) -> Result<Emitted, Full>
+    fn expression(&mut self, known: Known, expr: &Expr, ways: Ways) -> Result<Emitted, Full>
         requires need { need (tree_of expr.now) ≤ 16 }
-        requires exits { AreExits self.old exits }
+        requires ways { AreWays self.old ways }
         ensures { OrFull (weight (tree_of expr.now)) self.old result (λ emitted.
-            Decides (weight (tree_of expr.now)) (rest_of_tree known (tree_of expr.now)) exits emitted.entry self.old self.new
-            × Renews exits emitted.exits self.old self.new) }
+            DecidesBy (weight (tree_of expr.now)) (rest_of_tree known (tree_of expr.now)) ways emitted.entry self.old self.new
+            × RenewsBoth ways emitted.ways self.old self.new) }
     {
         match expr {
             Expr::Everything => {
-                let entry = exits.yes;
-                Ok(Emitted { entry, exits })
+                let entry = ways.yes;
+                Ok(Emitted { entry, ways })
             }
             Expr::Test(primitive) => {
                 self.room(2 + cost(*primitive))?;
-                let exits = self.renew(exits);
-                let entry = self.primitive(*primitive, exits);
-                Ok(Emitted { entry, exits })
+                Ok(self.reached_primitive(*primitive, ways))
             }
             Expr::Relation(comparison, left, right) => {
                 self.room(2)?;
-                let exits = self.renew(exits);
-                let entry = self.relation(known, *comparison, left, right, exits)?;
-                Ok(Emitted { entry, exits })
+                let ways = self.renew(ways);
+                let place = self.relation(known, *comparison, left, right, ways.any_exits())?;
+                let entry = Way::to(place);
+                Ok(Emitted { entry, ways })
             }
             Expr::Not(operand) => {
-                let inner = self.expression(known, operand, exits.swapped())?;
-                let (entry, exits) = (inner.entry, inner.exits.swapped());
-                Ok(Emitted { entry, exits })
+                let inner = self.expression(known, operand, ways.swapped())?;
+                let (entry, ways) = (inner.entry, inner.ways.swapped());
+                Ok(Emitted { entry, ways })
             }
             Expr::And(left, right) => {
-                let second = self.expression(known.behind(left), right, exits)?;
-                let (yes, no) = (second.entry, second.exits.no);
-                let first = self.expression(known, left, Exits { yes, no })?;
-                let (yes, no) = (second.exits.yes, first.exits.no);
-                let (entry, exits) = (first.entry, Exits { yes, no });
-                Ok(Emitted { entry, exits })
+                let second = self.expression(known.behind(left), right, ways)?;
+                let (yes, no) = (second.entry, second.ways.no);
+                let first = self.expression(known, left, Ways { yes, no })?;
+                let (yes, no) = (second.ways.yes, first.ways.no);
+                let (entry, ways) = (first.entry, Ways { yes, no });
+                Ok(Emitted { entry, ways })
             }
             Expr::Or(left, right) => {
-                let second = self.expression(known, right, exits)?;
-                let (yes, no) = (second.exits.yes, second.entry);
-                let first = self.expression(known, left, Exits { yes, no })?;
-                let (yes, no) = (first.exits.yes, second.exits.no);
-                let (entry, exits) = (first.entry, Exits { yes, no });
-                Ok(Emitted { entry, exits })
+                let second = self.expression(known, right, ways)?;
+                let (yes, no) = (second.ways.yes, second.entry);
+                let first = self.expression(known, left, Ways { yes, no })?;
+                let (yes, no) = (first.ways.yes, second.ways.no);
+                let (entry, ways) = (first.entry, Ways { yes, no });
+                Ok(Emitted { entry, ways })
             }
         }
     }
@@ -85,9 +100,10 @@ fn program_of(expr: &Expr, snap: u32) -> Result<Program, Full>
         (λ program. StandsFor program (tree_of expr.now) snap) (λ _. 500 < weight (tree_of expr.now)) }
 {
     let mut code = Code::new(snap);
-    let emitted = code.expression(Known::Nothing, expr, Exits { yes: 2, no: 1 })?;
+    let (yes, no) = (Way::to(2), Way::to(1));
+    let emitted = code.expression(Known::Nothing, expr, Ways { yes, no })?;
     code.room(1)?;
-    code.near(emitted.entry, 0);
+    code.near(emitted.entry.any, 0);
     Ok(code.into_program())
 }
 

@@ -15,6 +15,7 @@ mod refusal;
 mod relations;
 mod values;
 mod verdict;
+mod ways;
 mod weighing;
 
 pub use compiler::{MAX_SNAP, compile};

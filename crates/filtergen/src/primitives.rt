@@ -1,14 +1,16 @@
 //! The primitives. Code is written from its end: of two tests that follow each other, the second one comes first here.
 
 ghost use Rattle.std.specs.Prelude.{◌≡◌, ℕ, ◌+◌, ◌≤◌, ◌==◌, None, length};
-ghost use Rattle.filterlang.specs.declared.tree.Primitive.TheVariants.{Ports, IpMulticast, Less};
-ghost use Rattle.filtergen.specs.Meaning.{check, byte, both, is_type, is_protocol, is_first, plain_test, by_direction, has_address, in_net, in_any_net, is_address, within, has_port, has_any_ports, protocol_number, primitive_test};
+ghost use Rattle.filterlang.specs.declared.tree.Primitive.TheVariants.{IpMulticast, Less};
+ghost use Rattle.filtergen.specs.Meaning.{check, byte, both, is_type, is_protocol, plain_test, by_direction, has_address, in_net, in_any_net, is_address, within, has_port, has_any_ports, protocol_number, primitive_test};
 ghost use Rattle.filtergen.specs.Insns.{plain_insn};
-ghost use Rattle.filtergen.specs.Emission.{AreExits, ChoosesBehind, Follows, Decides};
-ghost use Rattle.filtergen.specs.Parts.{side_cost, side_offset, side_test, port_behind, is_unfragmented, has_port_number, is_any_first, plain_cost, cost};
+ghost use Rattle.filtergen.specs.Emission.{IsPlace, AreExits, ChoosesBehind, same_index, Follows, Decides};
+ghost use Rattle.filtergen.specs.Ways.{IsWay, AreWays, DecidesBy};
+ghost use Rattle.filtergen.specs.Parts.{side_cost, side_offset, side_test, port_behind, is_unfragmented, has_port_number, plain_cost, cost};
 
 use crate::code::{Code, Exits};
 use crate::insns::{Field, Jump, Operand, load_insn, plain_insn};
+use crate::ways::{Way, Ways};
 use bpfvm::code;
 use filterlang::{Direction, EthernetAddress, Network, Plain, Primitive, Transport};
 
@@ -113,18 +115,34 @@ impl Code {
         self.test(Field::Byte(23), Jump::Equal, number, exits)
     }
 
-    /// IPv4 with this protocol number.
-    fn ip_protocol(&mut self, number: u32, exits: Exits) -> usize
-        requires room { length self.old + 8 ≤ 512 }
-        requires exits { AreExits self.old exits }
-        ensures { Decides 8 (is_protocol number) exits result self.old self.new }
+    /// IPv4, and behind it the test at a place, which is for a packet of IPv4; one of another type goes on at the other place.
+    fn behind_ip(&mut self, inner: usize, other: usize) -> Way
+        requires room { length self.old + 4 ≤ 512 }
+        requires inner { IsPlace self.old inner }
+        requires other { IsPlace self.old other }
+        ensures test { Decides 4 (is_type 0x0800) (record { yes = inner; no = other }) result.any self.old self.new }
+        ensures places { result ≡
+            record { any = result.any; ip = inner; other = other; first_fragment = inner; transport = None } }
     {
-        let inner = self.protocol_number(number, exits);
         let exits = Exits {
             yes: inner,
-            ..exits
+            no: other,
         };
-        self.ether_type(IP, exits)
+        Way {
+            any: self.ether_type(IP, exits),
+            other,
+            ..Way::to(inner)
+        }
+    }
+
+    /// IPv4 with this protocol number.
+    fn ip_protocol(&mut self, number: u32, ways: Ways) -> Way
+        requires room { length self.old + 8 ≤ 512 }
+        requires ways { AreWays self.old ways }
+        ensures { DecidesBy 8 (is_protocol number) ways result self.old self.new }
+    {
+        let inner = self.protocol_number(number, ways.ip_exits());
+        self.behind_ip(inner, ways.no.other)
     }
 
     /// No later fragment of IPv4.
@@ -136,26 +154,15 @@ impl Code {
         self.test(Field::Half(20), Jump::AnyBit, 0x1fff, exits.swapped())
     }
 
-    /// IPv4 with this protocol number, and no later fragment.
-    fn first_fragment(&mut self, number: u32, exits: Exits) -> usize
-        requires room { length self.old + 12 ≤ 512 }
-        requires exits { AreExits self.old exits }
-        ensures { Decides 12 (is_first number) exits result self.old self.new }
-    {
-        let inner = self.unfragmented(exits);
-        let exits = Exits {
-            yes: inner,
-            ..exits
-        };
-        self.ip_protocol(number, exits)
-    }
-
-    /// A protocol number of IPv4 that has ports: three comparisons of one byte.
+    /// A protocol number of IPv4 that has ports: three comparisons of one byte. An exit that begins with the same load is
+    /// passed.
     fn port_number(&mut self, exits: Exits) -> usize
         requires room { length self.old + 10 ≤ 512 }
         requires exits { AreExits self.old exits }
         ensures { Decides 10 has_port_number exits result self.old self.new }
     {
+        let load = load_insn(Field::Byte(23));
+        let exits = self.both_passed(load, exits);
         self.branch(Jump::Equal, Operand::Constant(132), exits);
         let sctp = self.len();
         self.branch(
@@ -169,29 +176,8 @@ impl Code {
             Operand::Constant(6),
             Exits { no: udp, ..exits },
         );
-        self.push(load_insn(Field::Byte(23)));
+        self.push(load);
         self.len()
-    }
-
-    /// IPv4 with a protocol number that has ports, and no later fragment. The three forms of a port share this.
-    fn first_fragment_of_any(&mut self, exits: Exits) -> usize
-        requires room { length self.old + 18 ≤ 512 }
-        requires exits { AreExits self.old exits }
-        ensures { Decides 18 is_any_first exits result self.old self.new }
-    {
-        let inner = self.unfragmented(exits);
-        let exits = Exits {
-            yes: inner,
-            ..exits
-        };
-        let number = self.port_number(exits);
-        self.ether_type(
-            IP,
-            Exits {
-                yes: number,
-                ..exits
-            },
-        )
     }
 
     /// A port from low to high, so many bytes behind the header whose length the index register has.
@@ -211,7 +197,7 @@ impl Code {
     fn directed_ports(&mut self, direction: Direction, low: u32, high: u32, exits: Exits) -> usize
         requires room { length self.old + 14 ≤ 512 }
         requires exits { AreExits self.old exits }
-        ensures test { Follows 14
+        ensures test { Follows same_index 14
             (λ r. by_direction direction (port_behind r.index low high 0) (port_behind r.index low high 2)) exits result
             self.old self.new }
         ensures front { result ≡ length self.new }
@@ -246,7 +232,8 @@ impl Code {
         }
     }
 
-    /// The ports that a direction chooses, behind the IPv4 header.
+    /// The ports that a direction chooses, behind the IPv4 header. An exit that begins with the same header's length is passed:
+    /// it is still in the index register.
     fn ports_behind_header(
         &mut self,
         direction: Direction,
@@ -259,42 +246,60 @@ impl Code {
         ensures { Decides 15 (by_direction direction (has_port low high 0) (has_port low high 2)) exits result
             self.old self.new }
     {
+        let header = plain_insn(code::LDX_MSH, 14);
+        let exits = self.both_passed(header, exits);
         self.directed_ports(direction, low, high, exits);
-        self.push(plain_insn(code::LDX_MSH, 14));
+        self.push(header);
         self.len()
     }
 
-    /// A port from low to high of a protocol, or of any.
-    fn ports(
+    /// A port from low to high of a protocol. Only behind the port is the packet known to be a first fragment.
+    fn ports_of(
         &mut self,
-        transport: Option<Transport>,
+        transport: Transport,
         direction: Direction,
         low: u32,
         high: u32,
-        exits: Exits,
-    ) -> usize
-        requires room { length self.old + cost (Ports transport direction low high) ≤ 512 }
-        requires exits { AreExits self.old exits }
-        ensures { Decides (cost (Ports transport direction low high)) (has_any_ports transport direction low high)
-            exits result self.old self.new }
+        ways: Ways,
+    ) -> Way
+        requires room { length self.old + 27 ≤ 512 }
+        requires ways { AreWays self.old ways }
+        ensures { DecidesBy 27 (has_any_ports (Some transport) direction low high) ways result self.old self.new }
     {
-        match transport {
-            Some(transport) => {
-                let inner = self.ports_behind_header(direction, low, high, exits);
-                let exits = Exits {
-                    yes: inner,
-                    ..exits
-                };
-                self.first_fragment(protocol_number(transport), exits)
-            }
-            None => {
-                let inner = self.ports_behind_header(direction, low, high, exits);
-                let exits = Exits {
-                    yes: inner,
-                    ..exits
-                };
-                self.first_fragment_of_any(exits)
-            }
+        let exits = ways.first_fragment_exits(Some(transport));
+        let first_fragment = self.ports_behind_header(direction, low, high, exits);
+        let no = ways.no.ip;
+        let yes = self.unfragmented(Exits {
+            yes: first_fragment,
+            no,
+        });
+        let ip = self.protocol_number(protocol_number(transport), Exits { yes, no });
+        let way = self.behind_ip(ip, ways.no.other);
+        Way {
+            first_fragment,
+            transport: Some(transport),
+            ..way
+        }
+    }
+
+    /// A port from low to high of any protocol. The three forms share all but the protocol number.
+    fn any_ports(&mut self, direction: Direction, low: u32, high: u32, ways: Ways) -> Way
+        requires room { length self.old + 33 ≤ 512 }
+        requires ways { AreWays self.old ways }
+        ensures { DecidesBy 33 (has_any_ports None direction low high) ways result self.old self.new }
+    {
+        let exits = ways.first_fragment_exits(None);
+        let first_fragment = self.ports_behind_header(direction, low, high, exits);
+        let no = ways.no.ip;
+        let yes = self.unfragmented(Exits {
+            yes: first_fragment,
+            no,
+        });
+        let ip = self.port_number(Exits { yes, no });
+        let way = self.behind_ip(ip, ways.no.other);
+        Way {
+            first_fragment,
+            ..way
         }
     }
 
@@ -417,30 +422,32 @@ impl Code {
         self.directed(direction, source, destination, exits)
     }
 
-    /// An Ethernet type, and behind it the addresses at these offsets that a direction chooses.
-    fn typed_addresses(
+    /// The Ethernet type of ARP or RARP, and behind it the addresses that a direction chooses. A packet of another type may
+    /// still be of IPv4, so it goes on at the exits for any.
+    #[tactic(auto, using(crate::proofs::Leading::decides_any))]
+    fn arp_addresses(
         &mut self,
         number: u32,
-        offsets: (u32, u32),
         direction: Direction,
         address: u32,
         mask: u32,
-        exits: Exits,
-    ) -> usize
-        requires source { offsets.0 ≤ 40 }
-        requires destination { offsets.1 ≤ 40 }
+        ways: Ways,
+    ) -> Way
         requires room { length self.old + 14 ≤ 512 }
-        requires exits { AreExits self.old exits }
-        ensures { Decides 14 (both (is_type number)
-            (by_direction direction (has_address address mask offsets.0) (has_address address mask offsets.1))) exits result
+        requires ways { AreWays self.old ways }
+        ensures { DecidesBy 14 (both (is_type number)
+            (by_direction direction (has_address address mask 28) (has_address address mask 38))) ways result
             self.old self.new }
     {
-        let inner = self.addresses(offsets, direction, address, mask, exits);
-        let exits = Exits {
-            yes: inner,
-            ..exits
-        };
-        self.ether_type(number, exits)
+        let exits = ways.any_exits();
+        let inner = self.addresses(ARP_ADDRESSES, direction, address, mask, exits);
+        Way::to(self.ether_type(
+            number,
+            Exits {
+                yes: inner,
+                ..exits
+            },
+        ))
     }
 
     /// A host or a net of one protocol.
@@ -450,31 +457,29 @@ impl Code {
         direction: Direction,
         address: u32,
         mask: u32,
-        exits: Exits,
-    ) -> usize
+        ways: Ways,
+    ) -> Way
         requires room { length self.old + 14 ≤ 512 }
-        requires exits { AreExits self.old exits }
-        ensures { Decides 14 (in_net network direction address mask) exits result self.old self.new }
+        requires ways { AreWays self.old ways }
+        ensures { DecidesBy 14 (in_net network direction address mask) ways result self.old self.new }
     {
         match network {
             Network::Ip => {
-                self.typed_addresses(IP, IP_ADDRESSES, direction, address, mask, exits)
+                let inner = self.addresses(IP_ADDRESSES, direction, address, mask, ways.ip_exits());
+                self.behind_ip(inner, ways.no.other)
             }
-            Network::Arp => {
-                self.typed_addresses(ARP, ARP_ADDRESSES, direction, address, mask, exits)
-            }
-            Network::Rarp => {
-                self.typed_addresses(RARP, ARP_ADDRESSES, direction, address, mask, exits)
-            }
+            Network::Arp => self.arp_addresses(ARP, direction, address, mask, ways),
+            Network::Rarp => self.arp_addresses(RARP, direction, address, mask, ways),
         }
     }
 
     /// A host or a net of any protocol: three comparisons of one type. ARP and RARP have their addresses at the same places.
-    fn any_net(&mut self, direction: Direction, address: u32, mask: u32, exits: Exits) -> usize
+    fn any_net(&mut self, direction: Direction, address: u32, mask: u32, ways: Ways) -> Way
         requires room { length self.old + 30 ≤ 512 }
-        requires exits { AreExits self.old exits }
-        ensures { Decides 30 (in_any_net None direction address mask) exits result self.old self.new }
+        requires ways { AreWays self.old ways }
+        ensures { DecidesBy 30 (in_any_net None direction address mask) ways result self.old self.new }
     {
+        let exits = ways.other_exits();
         let inner = self.addresses(ARP_ADDRESSES, direction, address, mask, exits);
         let arp = Exits {
             yes: inner,
@@ -488,30 +493,37 @@ impl Code {
             Exits { no: rarp, ..arp },
         );
         let other = self.len();
-        let ip = self.addresses(IP_ADDRESSES, direction, address, mask, exits);
+        let ip = self.addresses(IP_ADDRESSES, direction, address, mask, ways.ip_exits());
         self.branch(
             Jump::Equal,
             Operand::Constant(IP),
             Exits { yes: ip, no: other },
         );
         self.push(load_insn(Field::Half(12)));
-        self.len()
+        let any = self.len();
+        // The place for another type than IPv4 wants the type in the accumulator, so such a packet begins anew.
+        Way {
+            any,
+            other: any,
+            ..Way::to(ip)
+        }
     }
 
     /// A protocol word.
-    fn plain(&mut self, word: Plain, exits: Exits) -> usize
+    #[tactic(auto, using(crate::proofs::Leading::decides_any))]
+    fn plain(&mut self, word: Plain, ways: Ways) -> Way
         requires room { length self.old + plain_cost word ≤ 512 }
-        requires exits { AreExits self.old exits }
-        ensures { Decides (plain_cost word) (plain_test word) exits result self.old self.new }
+        requires ways { AreWays self.old ways }
+        ensures { DecidesBy (plain_cost word) (plain_test word) ways result self.old self.new }
     {
         match word {
-            Plain::Ip => self.ether_type(IP, exits),
-            Plain::Arp => self.ether_type(ARP, exits),
-            Plain::Rarp => self.ether_type(RARP, exits),
-            Plain::Icmp => self.ip_protocol(1, exits),
-            Plain::Tcp => self.ip_protocol(6, exits),
-            Plain::Udp => self.ip_protocol(17, exits),
-            Plain::Sctp => self.ip_protocol(132, exits),
+            Plain::Ip => self.behind_ip(ways.yes.ip, ways.no.other),
+            Plain::Arp => Way::to(self.ether_type(ARP, ways.any_exits())),
+            Plain::Rarp => Way::to(self.ether_type(RARP, ways.any_exits())),
+            Plain::Icmp => self.ip_protocol(1, ways),
+            Plain::Tcp => self.ip_protocol(6, ways),
+            Plain::Udp => self.ip_protocol(17, ways),
+            Plain::Sctp => self.ip_protocol(132, ways),
         }
     }
 
@@ -528,17 +540,13 @@ impl Code {
     }
 
     /// A multicast address of IPv4, from 224.0.0.0 on.
-    fn ip_multicast(&mut self, exits: Exits) -> usize
+    fn ip_multicast(&mut self, ways: Ways) -> Way
         requires room { length self.old + 8 ≤ 512 }
-        requires exits { AreExits self.old exits }
-        ensures { Decides 8 (primitive_test IpMulticast) exits result self.old self.new }
+        requires ways { AreWays self.old ways }
+        ensures { DecidesBy 8 (primitive_test IpMulticast) ways result self.old self.new }
     {
-        let inner = self.test(Field::Byte(30), Jump::GreaterOrEqual, 224, exits);
-        let exits = Exits {
-            yes: inner,
-            ..exits
-        };
-        self.ether_type(IP, exits)
+        let inner = self.test(Field::Byte(30), Jump::GreaterOrEqual, 224, ways.ip_exits());
+        self.behind_ip(inner, ways.no.other)
     }
 
     /// A wire length of at most so many bytes.
@@ -551,43 +559,53 @@ impl Code {
     }
 
     /// A primitive.
-    pub fn primitive(&mut self, primitive: Primitive, exits: Exits) -> usize
+    #[tactic(auto, using(crate::proofs::Leading::decides_any))]
+    pub fn primitive(&mut self, primitive: Primitive, ways: Ways) -> Way
         requires room { length self.old + cost primitive ≤ 512 }
-        requires exits { AreExits self.old exits }
-        ensures { Decides (cost primitive) (primitive_test primitive) exits result self.old self.new }
+        requires ways { AreWays self.old ways }
+        ensures { DecidesBy (cost primitive) (primitive_test primitive) ways result self.old self.new }
     {
+        let exits = ways.any_exits();
         match primitive {
-            Primitive::Protocol(word) => self.plain(word, exits),
+            Primitive::Protocol(word) => self.plain(word, ways),
             Primitive::Net {
                 network,
                 direction,
                 address,
                 mask,
             } => match network {
-                Some(network) => self.net(network, direction, address, mask, exits),
-                None => self.any_net(direction, address, mask, exits),
+                Some(network) => self.net(network, direction, address, mask, ways),
+                None => self.any_net(direction, address, mask, ways),
             },
-            Primitive::EtherHost { direction, address } => self.ether_host(
-                direction, address, exits,
-            ),
+            Primitive::EtherHost { direction, address } => {
+                Way::to(self.ether_host(direction, address, exits))
+            }
             Primitive::Ports {
                 transport,
                 direction,
                 low,
                 high,
-            } => self.ports(transport, direction, u32::from(low), u32::from(high), exits),
-            Primitive::IpProto(number) => self.ip_protocol(u32::from(number), exits),
-            Primitive::EtherProto(number) => self.ether_type(u32::from(number), exits),
-            Primitive::EtherBroadcast => self.ethernet(0, BROADCAST, exits),
-            Primitive::EtherMulticast => self.test(Field::Byte(0), Jump::AnyBit, 1, exits),
-            Primitive::IpMulticast => self.ip_multicast(exits),
-            Primitive::Less(bytes) => self.less(bytes, exits),
-            Primitive::Greater(bytes) => self.test(
+            } => {
+                let (low, high) = (u32::from(low), u32::from(high));
+                match transport {
+                    Some(transport) => self.ports_of(transport, direction, low, high, ways),
+                    None => self.any_ports(direction, low, high, ways),
+                }
+            }
+            Primitive::IpProto(number) => self.ip_protocol(u32::from(number), ways),
+            Primitive::EtherProto(number) => Way::to(self.ether_type(u32::from(number), exits)),
+            Primitive::EtherBroadcast => Way::to(self.ethernet(0, BROADCAST, exits)),
+            Primitive::EtherMulticast => {
+                Way::to(self.test(Field::Byte(0), Jump::AnyBit, 1, exits))
+            }
+            Primitive::IpMulticast => self.ip_multicast(ways),
+            Primitive::Less(bytes) => Way::to(self.less(bytes, exits)),
+            Primitive::Greater(bytes) => Way::to(self.test(
                 Field::Length,
                 Jump::GreaterOrEqual,
                 bytes,
                 exits,
-            ),
+            )),
         }
     }
 }

@@ -147,6 +147,18 @@ fn chain(rt: &(impl Abort + AllocGlobal), more: usize) -> Expr {
 }
 
 #[test]
+fn what_a_primitive_has_shown_is_not_tested_again(rt: HostRuntime) {
+    // ldh [12]; jeq #0x800; ldb [23]; jeq #6; and of the second one ldh [12]; jeq #0x800; ldb [23]; jeq #17. Another type goes
+    // from the first jump to the end, another protocol from the second one to the last.
+    let program = program_of(&rt, "tcp or udp", 96);
+    for (at, jt, jf) in [(1, 0, 7), (3, 4, 3), (7, 0, 1)] {
+        let insn = program.insns().get(at).expect(&rt, "an instruction");
+        assert_eq!(rt; insn.jt, jt, "{at}");
+        assert_eq!(rt; insn.jf, jf, "{at}");
+    }
+}
+
+#[test]
 fn a_chain_of_250_compiles(rt: HostRuntime) {
     let program = compile(&chain(&rt, 249), 96).expect(&rt, "it fits");
     assert_eq!(rt; run(&program, &UDP_FRAME, 38), 96);

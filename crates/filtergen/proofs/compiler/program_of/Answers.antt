@@ -2,7 +2,7 @@ use Rattle.std.proofs.Common.{refl}
 use Rattle.filterlang.specs.Trees.{tree_of}
 use Rattle.filtergen.specs.declared.known.Known.TheVariants as known
 use Rattle.filtergen.specs.Meaning.{meaning}
-use Rattle.filtergen.proofs.Deciding.{decides-same}
+use Rattle.filtergen.proofs.Leading.{decides-by-same}
 use Rattle.filtergen.proofs.Knowing.{rest-tree}
 use Rattle.filtergen.proofs.Verdicts.{stands}
 use Rattle.filtergen.proofs.compiler.program_of.Goals as goal
@@ -10,6 +10,6 @@ use Rattle.filtergen.proofs.compiler.program_of.Goals as goal
 pub returns : goal.returns
 returns c =
     let t = tree_of c.args.expr.now in
-    let whole = decides-same _ (meaning t) (λ p bytes. rest-tree known.Nothing t p refl) c.in_ok-emitted.ensures.0 in
+    let whole = rw (c.to-yes.ensures, c.to-no.ensures) at (decides-by-same _ (meaning t) (λ p bytes. rest-tree known.Nothing t p refl) c.in_ok-emitted.ensures.0) in
     rw c.into_program.ensures
-    (stands t c.args.snap _ c.in_ok-emitted.emitted.entry c.near.result c.new-code.result c.expression.new.self c.near.new.self c.new-code.ensures whole c.near.ensures)
+    (stands t c.args.snap _ c.near.result c.in_ok-emitted.emitted.entry c.new-code.result c.expression.new.self c.near.new.self c.new-code.ensures whole c.near.ensures)

@@ -8,5 +8,8 @@ push-requires-clause-sound c = rw c.load_insn.ensures (load-sound (fields.Half 1
 
 pub returns : goal.returns
 returns c =
-    rw (c.len.ensures.value, c.push.ensures, c.load_insn.ensures)
-    (decides-any-net c.args.direction c.args.address c.args.mask c.requires.exits c.addresses-inner.ensures c.len-rarp.ensures.value c.len-other.ensures.value c.branch-self.ensures c.branch-self-2.ensures c.addresses-ip.ensures c.branch-self-3.ensures)
+    let arp = rw c.other_exits-exits.ensures at c.addresses-inner.ensures in
+    let rarp-jump = rw c.other_exits-exits.ensures at c.branch-self.ensures in
+    let ip = rw c.ip_exits.ensures at c.addresses-ip.ensures in
+    rw (c.to.ensures, c.len-any.ensures.value, c.push.ensures, c.load_insn.ensures)
+    (decides-any-net c.args.direction c.args.address c.args.mask c.args.ways c.requires.ways arp c.len-rarp.ensures.value c.len-other.ensures.value rarp-jump c.branch-self-2.ensures ip c.branch-self-3.ensures)

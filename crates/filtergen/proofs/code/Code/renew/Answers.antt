@@ -1,8 +1,12 @@
-use Rattle.filtergen.proofs.Runs.{extends-both, renews-nears}
+use Rattle.filtergen.proofs.Runs.{extends-both}
+use Rattle.filtergen.proofs.Leading.{renews-later, renews-after}
 use Rattle.filtergen.proofs.code.Code.renew.Goals as goal
 
 pub returns-clause-extends : goal.returns-clause-extends
-returns-clause-extends c = extends-both c.near-no.ensures.extends c.near-yes.ensures.extends
+returns-clause-extends c = extends-both c.renew_one-no.ensures.extends c.renew_one-yes.ensures.extends
 
 pub returns-clause-renews : goal.returns-clause-renews
-returns-clause-renews c = renews-nears c.args.exits 255 c.near-no.result c.near-yes.result c.args.self.now c.near-no.new.self c.near-yes.new.self c.requires.exits c.near-no.ensures c.near-yes.ensures
+returns-clause-renews c = record {
+  yes = renews-after c.requires.ways.0 c.renew_one-no.ensures.extends c.renew_one-yes.ensures.renews;
+  no = renews-later c.renew_one-no.ensures.renews c.renew_one-yes.ensures.extends;
+}

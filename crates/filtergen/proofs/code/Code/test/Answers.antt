@@ -12,5 +12,6 @@ push-requires-clause-sound c = rw c.load_insn-load.ensures (load-sound c.args.fi
 pub returns : goal.returns
 returns c =
     let v = c.args.value in
+    let passed = c.both_passed-exits.ensures in
     rw (c.len.ensures.value, c.push.ensures, c.load_insn-load.ensures)
-    (decides-tested (load_insn c.args.field) (field_of c.args.field) (λ n. holds (comparison_of c.args.jump) n v) (load-effect c.args.field) (rw c.load_insn-load.ensures at c.passed.ensures) (rw c.load_insn-load.ensures at c.passed-2.ensures) c.branch-self.ensures)
+    (decides-tested (load_insn c.args.field) (field_of c.args.field) (λ n. holds (comparison_of c.args.jump) n v) (load-effect c.args.field) (rw c.load_insn-load.ensures at passed.yes) (rw c.load_insn-load.ensures at passed.no) c.branch-self.ensures)
