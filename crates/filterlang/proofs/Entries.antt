@@ -4,7 +4,8 @@ use Rattle.std.specs.Prelude.{option_map}
 use Rattle.std.specs.Borrow.{Bor}
 use Rattle.std.specs.List.{find}
 use Rattle.filterlang.specs.declared.token.Kind.{Kind}
-use Rattle.filterlang.specs.Words.{Entry, entries_of, token_of, first_of}
+use Rattle.filterlang.specs.Words.{Entry, token_of}
+use Rattle.filterlang.specs.Finding.{entries_of, first_of}
 
 -- one entry's turn
 found_test : (b : Bool) (e : Bor (List ℕ) × Kind) (x : Option Entry) (y : Option (Bor (List ℕ) × Kind)) → option_map token_of x ≡ option_map (λ e. (e.1, length e.0.now)) y

@@ -12,7 +12,8 @@ use Rattle.filterlang.specs.declared.lexer.Cause.{Cause}
 use Rattle.filterlang.specs.declared.lexer.Cause.TheVariants.{BadByte, BadWord, BadNumber}
 use Rattle.filterlang.specs.declared.lexer.Front.{Front}
 use Rattle.filterlang.specs.declared.lexer.Front.TheVariants as fronts
-use Rattle.filterlang.specs.Tokens.{IsWithin, front, placed, Lexes, lexes_end, lexes_blank, lexes_token, Stuck, stuck_here, stuck_blank, stuck_token, AreInOrder, IsFaultOf, fault_at}
+use Rattle.filterlang.specs.Tokens.{front, placed, Lexes, lexes_end, lexes_blank, lexes_token, Stuck, stuck_here, stuck_blank, stuck_token, AreInOrder, IsFaultOf, fault_at}
+use Rattle.filterlang.specs.Finding.{IsWithin}
 use Rattle.filterlang.proofs.Within.{front_within}
 
 -- two tokens at one place are one

@@ -13,7 +13,8 @@ use Rattle.filterlang.specs.declared.lexer.Cause.{Cause}
 use Rattle.filterlang.specs.declared.lexer.Cause.TheVariants.{BadByte, BadWord, BadNumber}
 use Rattle.filterlang.specs.Words.{Entry, words, names, signs, begins, stands, stands_whole, token_of, whole_word, standing}
 use Rattle.filterlang.specs.Numbers.{is_in_run, run_at, number_or_dotted_at, ethernet_at, number_of, dotted_of, ethernet_of}
-use Rattle.filterlang.specs.Tokens.{HasBytes, IsWithin, is_blank, or_else, token_at, front, front_of}
+use Rattle.filterlang.specs.Tokens.{is_blank, or_else, token_at, front, front_of}
+use Rattle.filterlang.specs.Finding.{HasBytes, IsWithin}
 use Rattle.filterlang.specs.declared.lexer.Front.TheVariants.{Blank}
 
 -- both parts of a test that holds

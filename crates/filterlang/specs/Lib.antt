@@ -2,6 +2,7 @@ pub mod Types
 pub mod Words
 pub mod Numbers
 pub mod Tokens
+pub mod Finding
 pub mod Qualifiers
 pub mod Phrases
 pub mod Primitives

@@ -38,17 +38,6 @@ unfoldable pub front : List ℕ → Front
 front [] = fronts.End
 front (b ∷ rest) = if is_blank b then fronts.Blank else front_of (token_at (b ∷ rest))
 
--- so many bytes of a text, one at least
-abbrev pub HasBytes : ℕ → ℕ → Type 0
-HasBytes n bytes = (0 < n) × (n ≤ bytes)
-
--- what stands at the front of so many bytes lies within them
-abbrev pub IsWithin : Front → ℕ → Type 0
-IsWithin fronts.End bytes = bytes ≡ 0
-IsWithin fronts.Blank bytes = 0 < bytes
-IsWithin (fronts.Token kind n) bytes = HasBytes n bytes
-IsWithin (fronts.Stuck cause) bytes = 0 < bytes
-
 -- a token of n bytes at a place
 abbrev pub placed : ℕ → Kind → ℕ → Token
 placed at kind n = record { kind = kind; span = record { start = at; end = at + n } }

@@ -1,6 +1,5 @@
 -- The words and signs of the language, and how they are found in a text.
-use Rattle.std.specs.Prelude.{ℕ, Bool, false, not, ◌&&◌, List, [], ◌∷◌, Option, length, codes, drop, map, option_map, nat_eq}
-use Rattle.std.specs.Borrow.{Bor}
+use Rattle.std.specs.Prelude.{ℕ, Bool, false, not, ◌&&◌, List, [], ◌∷◌, Option, length, codes, drop, option_map, nat_eq}
 use Rattle.std.specs.Char.{is_ascii_alphanumeric}
 use Rattle.std.specs.List.{find, starts_with}
 use Rattle.filterlang.specs.Types.{Kind}
@@ -15,10 +14,6 @@ use Rattle.filterlang.specs.Types.comparison
 -- an entry of a table: a spelling, and what it stands for
 abbrev pub Entry : Type 0
 Entry = List ℕ × Kind
-
--- a table as the code has it
-abbrev pub entries_of : List (Bor (List ℕ) × Kind) → List Entry
-entries_of table = map (λ entry. (entry.0.now, entry.1)) table
 
 -- The words. Of two that stand at a place the first is meant, so the hyphenated ones come first.
 unfoldable pub words : List Entry
@@ -120,10 +115,6 @@ stands_whole text spelling = stands text spelling && not (begins is_ascii_alphan
 -- what an entry stands for, and how many bytes it has
 abbrev pub token_of : Entry → Kind × ℕ
 token_of entry = (entry.1, length entry.0)
-
--- the first entry of a table whose spelling passes a test
-abbrev pub first_of : (List ℕ → Bool) → List (Bor (List ℕ) × Kind) → Option (Kind × ℕ)
-first_of test table = option_map (λ e. (e.1, length e.0.now)) (find (λ e. test e.0.now) table)
 
 -- the first word of a table that stands whole at the front of the text
 abbrev pub whole_word : List Entry → List ℕ → Option (Kind × ℕ)

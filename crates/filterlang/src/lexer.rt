@@ -6,7 +6,8 @@ ghost use Rattle.filterlang.specs.declared.fault.Fault.TheVariants as Fault;
 ghost use Rattle.filterlang.specs.declared.lexer.Cause.{Cause};
 ghost use Rattle.filterlang.specs.declared.lexer.TheConstants.{MAX_TEXT};
 ghost use Rattle.filterlang.specs.Words.{names, whole_word};
-ghost use Rattle.filterlang.specs.Tokens.{is_blank, token_at, front, fault_at, Lexes, Stuck, AreInOrder, IsFaultOf, IsWithin};
+ghost use Rattle.filterlang.specs.Tokens.{is_blank, token_at, front, fault_at, Lexes, Stuck, AreInOrder, IsFaultOf};
+ghost use Rattle.filterlang.specs.Finding.{IsWithin};
 
 mod numbers;
 mod words;

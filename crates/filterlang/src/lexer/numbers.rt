@@ -3,7 +3,7 @@
 ghost use Rattle.std.specs.Prelude.{◌≡◌, ◌≤◌, ◌<◌, ◌==◌, List, ℕ, Some, length, take, IfSome, IfNone};
 ghost use Rattle.std.specs.List.{prefix_len, slice_split};
 ghost use Rattle.filterlang.specs.Numbers.{is_in_run, numeral, octet, octets, at_most, number_of, dotted_of, ethernet_of, number_or_dotted_at, ethernet_at};
-ghost use Rattle.filterlang.specs.Tokens.{HasBytes};
+ghost use Rattle.filterlang.specs.Finding.{HasBytes};
 
 use crate::token::{EthernetAddress, Kind, Parts};
 

@@ -1,8 +1,8 @@
 //! The words, names and signs of the language.
 
 ghost use Rattle.std.specs.Prelude.{◌≡◌, length, IfSome};
-ghost use Rattle.filterlang.specs.Words.{words, names, signs, stands, stands_whole, whole_word, standing, first_of};
-ghost use Rattle.filterlang.specs.Tokens.{HasBytes};
+ghost use Rattle.filterlang.specs.Words.{words, names, signs, stands, stands_whole, whole_word, standing};
+ghost use Rattle.filterlang.specs.Finding.{HasBytes, first_of};
 
 use crate::token::{Comparison, Joint, Kind, Operator, Protocol, Side, TypeWord};
 

@@ -1,6 +1,6 @@
 use Rattle.std.proofs.Common.{sym, ◌∙◌, length}
 use Rattle.std.proofs.lemmas.Result.{IfOk-at_ok}
-use Rattle.filterlang.specs.Tokens.{HasBytes}
+use Rattle.filterlang.specs.Finding.{HasBytes}
 use Rattle.filterlang.proofs.Within.{token_within}
 use Rattle.filterlang.proofs.lexer.at_front.Goals as goal
 

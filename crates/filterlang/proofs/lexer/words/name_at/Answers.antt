@@ -1,5 +1,6 @@
 use Rattle.std.proofs.Common.{ap}
-use Rattle.filterlang.specs.Words.{names, stands_whole, entries_of}
+use Rattle.filterlang.specs.Words.{names, stands_whole}
+use Rattle.filterlang.specs.Finding.{entries_of}
 use Rattle.filterlang.proofs.Entries.{found_in}
 use Rattle.filterlang.proofs.Within.{name_within}
 use Rattle.filterlang.proofs.lexer.words.name_at.Goals as goal

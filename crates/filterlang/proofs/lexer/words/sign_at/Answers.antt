@@ -1,5 +1,6 @@
 use Rattle.std.proofs.Common.{ap}
-use Rattle.filterlang.specs.Words.{signs, stands, entries_of}
+use Rattle.filterlang.specs.Words.{signs, stands}
+use Rattle.filterlang.specs.Finding.{entries_of}
 use Rattle.filterlang.proofs.Entries.{found_in}
 use Rattle.filterlang.proofs.Within.{sign_within}
 use Rattle.filterlang.proofs.lexer.words.sign_at.Goals as goal
