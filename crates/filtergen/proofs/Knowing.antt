@@ -1,5 +1,5 @@
 -- What is left of a test behind what is known answers as the whole test does.
-use Rattle.std.proofs.Common.{◌≡◌, ℕ, ◌==◌, Bool, true, false, Some, None, refl, sym, ap, subst, ◌∙◌, arith, if◌then◌else◌, bit_and}
+use Rattle.std.proofs.Common.{◌≡◌, ℕ, ◌-◌, ◌==◌, Bool, true, false, Some, None, refl, sym, ap, subst, ◌∙◌, arith, if◌then◌else◌, bit_and}
 use Rattle.std.proofs.lemmas.Bool.Decides.{nat_tests}
 use Rattle.filterlang.specs.Trees.{Amount, Tree}
 use Rattle.filterlang.specs.Trees as trees
@@ -15,7 +15,7 @@ use Rattle.filtergen.specs.declared.known.Known.TheVariants as known
 use Rattle.filtergen.specs.declared.verdict.Verdict.{Verdict}
 use Rattle.filtergen.specs.declared.verdict.Verdict.TheVariants.{Yes, No, Abort}
 use Rattle.filtergen.specs.Meaning.{Packet, Test, and_then, or_else, opposite, check, check_both, compared, byte, half, is_type, is_protocol, is_first, value, in_layer, in_layers, relation_test, primitive_test, meaning}
-use Rattle.filtergen.specs.Knowing.{shows, has_type, has_number, has_first, implies, narrowed, unless_known, rest_of_type, rest_of_number, rest_of_first, rest_of, of_layer, behind_layers, rest_of_layers, rest_of_relation, of_primitive, behind, rest_of_tree}
+use Rattle.filtergen.specs.Knowing.{shows, has_type, has_number, has_first, implies, narrowed, unless_known, rest_of_type, rest_of_number, rest_of_first, rest_of, of_layer, behind_layers, rest_of_layers, rest_of_relation, of_primitive, behind, LOOK_BACK, rest_of_tree}
 
 -- where both are Yes, each is
 and-left : (v w : Verdict) → and_then v w ≡ Yes → v ≡ Yes
@@ -59,13 +59,14 @@ first-from (known.Type m) n p holds is = absurd cc
 first-from (known.Number m) n p holds is = absurd cc
 first-from (known.First m) n p holds is = subst (λ x. is_first x p ≡ Yes) (sym (equal-true n m is)) holds
 
+-- one of two that are known
+one-holds : (b : Bool) (j k : Known) (p : Packet) → shows j p ≡ Yes → shows k p ≡ Yes → shows (if b then j else k) p ≡ Yes
+one-holds true j k p first second = first
+one-holds false j k p first second = second
+
 -- and so does what is known behind one more test
 narrowed-holds : (k fact : Known) (p : Packet) → shows k p ≡ Yes → shows fact p ≡ Yes → shows (narrowed k fact) p ≡ Yes
-narrowed-holds k fact p holds passed = by_test (implies k fact)
-  where
-    by_test : (b : Bool) → shows (if b then k else fact) p ≡ Yes
-    by_test true = holds
-    by_test false = passed
+narrowed-holds k fact p holds passed = one-holds (implies k fact) k fact p holds passed
 
 -- a test is passed over only where it is known to hold
 unless-same : (b : Bool) (t u : Test) (p : Packet) → (b ≡ true → u p ≡ Yes) → t p ≡ u p → unless_known b t p ≡ u p
@@ -156,14 +157,15 @@ primitive-known (Less n) p passed = refl
 primitive-known (Greater n) p passed = refl
 
 -- an expression that is Yes
-tree-known : (k : Known) (t : Tree) (p : Packet) → shows k p ≡ Yes → meaning t p ≡ Yes → shows (behind k t) p ≡ Yes
-tree-known k trees.everything p holds passed = holds
-tree-known k (trees.test primitive) p holds passed = narrowed-holds k (of_primitive primitive) p holds (primitive-known primitive p passed)
-tree-known k (trees.relation c v w) p holds passed = relation-known k c v w p holds passed
-tree-known k (trees.negation t) p holds passed = holds
-tree-known k (trees.both t u) p holds passed =
-    tree-known (behind k t) u p (tree-known k t p holds (and-left _ (meaning u p) passed)) (and-right (meaning t p) _ passed)
-tree-known k (trees.either t u) p holds passed = holds
+tree-known : (levels : ℕ) (k : Known) (t : Tree) (p : Packet) → shows k p ≡ Yes → meaning t p ≡ Yes → shows (behind levels k t) p ≡ Yes
+tree-known levels k trees.everything p holds passed = holds
+tree-known levels k (trees.test primitive) p holds passed = narrowed-holds k (of_primitive primitive) p holds (primitive-known primitive p passed)
+tree-known levels k (trees.relation c v w) p holds passed = relation-known k c v w p holds passed
+tree-known levels k (trees.negation t) p holds passed = holds
+tree-known levels k (trees.both t u) p holds passed =
+    let front = tree-known (levels - 1) k t p holds (and-left _ (meaning u p) passed) in
+    one-holds (levels == 0) k _ p holds (tree-known (levels - 1) (behind (levels - 1) k t) u p front (and-right (meaning t p) _ passed))
+tree-known levels k (trees.either t u) p holds passed = holds
 
 -- what is left of an expression is the whole, where what is known holds
 pub rest-tree : (k : Known) (t : Tree) (p : Packet) → shows k p ≡ Yes → rest_of_tree k t p ≡ meaning t p
@@ -172,6 +174,6 @@ rest-tree k (trees.test primitive) p holds = refl
 rest-tree k (trees.relation c v w) p holds = rest-relation k c v w p holds
 rest-tree k (trees.negation t) p holds = ap opposite (rest-tree k t p holds)
 rest-tree k (trees.both t u) p holds =
-    and-same _ (meaning t p) _ (meaning u p) (rest-tree k t p holds) (λ passed. rest-tree (behind k t) u p (tree-known k t p holds passed))
+    and-same _ (meaning t p) _ (meaning u p) (rest-tree k t p holds) (λ passed. rest-tree (behind LOOK_BACK k t) u p (tree-known LOOK_BACK k t p holds passed))
 rest-tree k (trees.either t u) p holds =
     ap (λ x. or_else x (rest_of_tree k u p)) (rest-tree k t p holds) ∙ ap (or_else (meaning t p)) (rest-tree k u p holds)

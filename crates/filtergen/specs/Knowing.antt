@@ -1,5 +1,5 @@
 -- What tests that were passed have shown of a packet, and what is left to be tested behind them. Private clauses alone say this.
-use Rattle.std.specs.Prelude.{ℕ, ◌==◌, Bool, true, false, Some, None, if◌then◌else◌}
+use Rattle.std.specs.Prelude.{ℕ, ◌-◌, ◌==◌, Bool, true, false, Some, None, if◌then◌else◌}
 use Rattle.filterlang.specs.Trees.{Amount, Tree}
 use Rattle.filterlang.specs.Trees as trees
 use Rattle.filterlang.specs.declared.token.Comparison.{Comparison}
@@ -137,14 +137,19 @@ of_primitive IpMulticast = known.Type 0x0800
 of_primitive (Less n) = known.Nothing
 of_primitive (Greater n) = known.Nothing
 
--- what is known where an expression is Yes
-abbrev pub behind : Known → Tree → Known
-behind k trees.everything = k
-behind k (trees.test primitive) = narrowed k (of_primitive primitive)
-behind k (trees.relation c v w) = behind_layers (behind_layers k v) w
-behind k (trees.negation t) = k
-behind k (trees.both t u) = behind (behind k t) u
-behind k (trees.either t u) = k
+-- What is known where an expression is Yes, by its operands that stand at most so many levels of `and` deep: farther ones are
+-- not asked.
+abbrev pub behind : ℕ → Known → Tree → Known
+behind levels k trees.everything = k
+behind levels k (trees.test primitive) = narrowed k (of_primitive primitive)
+behind levels k (trees.relation c v w) = behind_layers (behind_layers k v) w
+behind levels k (trees.negation t) = k
+behind levels k (trees.both t u) = if levels == 0 then k else behind (levels - 1) (behind (levels - 1) k t) u
+behind levels k (trees.either t u) = k
+
+-- how deep operands are asked
+abbrev pub LOOK_BACK : ℕ
+LOOK_BACK = 16
 
 -- what is left of an expression
 abbrev pub rest_of_tree : Known → Tree → Test
@@ -152,5 +157,5 @@ rest_of_tree k trees.everything = always
 rest_of_tree k (trees.test primitive) = primitive_test primitive
 rest_of_tree k (trees.relation c v w) = rest_of_relation k c v w
 rest_of_tree k (trees.negation t) = negation (rest_of_tree k t)
-rest_of_tree k (trees.both t u) = both (rest_of_tree k t) (rest_of_tree (behind k t) u)
+rest_of_tree k (trees.both t u) = both (rest_of_tree k t) (rest_of_tree (behind LOOK_BACK k t) u)
 rest_of_tree k (trees.either t u) = either (rest_of_tree k t) (rest_of_tree k u)

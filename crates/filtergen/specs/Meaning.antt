@@ -233,7 +233,7 @@ accessed layers.Tcp = behind_header
 accessed layers.Udp = behind_header
 accessed layers.Icmp = behind_header
 
--- The value of arithmetic, below 2 ^ 32: nothing where a divisor is 0, or a byte past the captured ones is wanted.
+-- The value of arithmetic, below 2 ^ 32 where the length on the wire is: nothing where a divisor is 0, or a byte past the captured ones is wanted.
 abbrev pub value : Amount → Packet → Option ℕ
 value (trees.number n) p = Some n
 value trees.wire_length p = Some p.wire

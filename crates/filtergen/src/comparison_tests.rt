@@ -86,7 +86,7 @@ const TRANSPORTS: [Option<Transport>; 4] = [
     Some(Transport::Sctp),
 ];
 
-/// Addresses with their masks. The last two read as no text: bits outside the mask, and none at all.
+/// Addresses with their masks. Of the last two one has bits outside its mask, as no text has, and one has none at all.
 const NETS: [(u32, u32); 6] = [
     (0x0a00_0001, 0xffff_ffff),
     (0x0a00_0002, 0xffff_ffff),

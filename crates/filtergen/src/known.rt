@@ -2,10 +2,14 @@
 
 ghost use Rattle.std.specs.Prelude.{◌≡◌};
 ghost use Rattle.filterlang.specs.Trees.{amount_of, tree_of};
-ghost use Rattle.filtergen.specs.Knowing.{has_type, has_number, has_first, implies, narrowed, of_layer, of_plain, of_network, of_primitive, behind_layers, behind};
+ghost use Rattle.filtergen.specs.Knowing.{has_type, has_number, has_first, implies, narrowed, of_layer, of_plain, of_network, of_primitive, behind_layers, behind, LOOK_BACK};
 
 use crate::primitives::{ARP, IP, RARP, protocol_number};
 use filterlang::{Expr, Layer, Network, Plain, Primitive, Value};
+
+/// How many levels of `and` deep an operand is asked what it shows. Each operand asks those in front of it, so that without a
+/// bound the time of a chain would grow with the square of its length.
+const LOOK_BACK: u32 = 16;
 
 /// What is known of a packet.
 #[derive(Clone, Copy)]
@@ -145,15 +149,25 @@ impl Known {
         }
     }
 
-    /// What is known where an expression is Yes.
-    pub fn behind(self, expr: &Expr) -> Known
-        ensures { result ≡ behind self (tree_of expr.now) }
+    /// What is known where an expression is Yes, by its operands that stand at most so many levels of `and` deep.
+    fn behind_within(self, levels: u32, expr: &Expr) -> Known
+        ensures { result ≡ behind levels self (tree_of expr.now) }
     {
         match expr {
             Expr::Everything | Expr::Not(_) | Expr::Or(_, _) => self,
             Expr::Test(primitive) => self.narrowed(Known::of_primitive(*primitive)),
             Expr::Relation(_, left, right) => self.behind_layers(left).behind_layers(right),
-            Expr::And(left, right) => self.behind(left).behind(right),
+            Expr::And(_, _) if levels == 0 => self,
+            Expr::And(left, right) => self
+                .behind_within(levels - 1, left)
+                .behind_within(levels - 1, right),
         }
+    }
+
+    /// What is known where an expression is Yes.
+    pub fn behind(self, expr: &Expr) -> Known
+        ensures { result ≡ behind LOOK_BACK self (tree_of expr.now) }
+    {
+        self.behind_within(LOOK_BACK, expr)
     }
 }

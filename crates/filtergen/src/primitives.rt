@@ -68,8 +68,8 @@ fn plain_cost(word: Plain) -> usize
     }
 }
 
-/// How many instructions a primitive takes at most: each load, each jump, and two more for each jump whose exits are
-/// out of its reach.
+/// How many instructions a primitive takes at most: each load, each mask, each jump, and two more for each jump whose exits
+/// are out of its reach.
 pub(crate) fn cost(primitive: Primitive) -> usize
     ensures value { result ≡ cost primitive }
     ensures within { result ≤ 38 }

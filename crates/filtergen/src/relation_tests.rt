@@ -1,4 +1,4 @@
-//! Worked examples of relations, each by its program and by the evaluator. The trees are put together by hand.
+//! Worked examples of relations, each by its program and by the evaluator. Most trees are put together by hand.
 
 use super::*;
 use crate::tests::{ARP_FRAME, UDP_FRAME};

@@ -158,6 +158,42 @@ fn what_a_primitive_has_shown_is_not_tested_again(rt: HostRuntime) {
     }
 }
 
+// How many instructions of a program have this code and this number.
+fn counted(rt: &(impl Abort + AllocGlobal), text: &str, code: u16, k: u32) -> usize {
+    let program = program_of(rt, text, 96);
+    program
+        .insns()
+        .iter()
+        .filter(|insn| insn.code == code && insn.k == k)
+        .count()
+}
+
+#[test]
+fn what_a_chain_has_shown_is_not_tested_again(rt: HostRuntime) -> Result<(), Fail> {
+    for (between, tests) in [(0, 1), (16, 1), (17, 2)] {
+        let mut text = String::new(rt.alloc());
+        text.push_str("tcp")?;
+        for _ in 0..between {
+            text.push_str(" and greater 1")?;
+        }
+        text.push_str(" and tcp[13] = 2")?;
+        let found = counted(&rt, text.as_str(), bpfvm::code::JEQ_K, 6);
+        assert_eq!(rt; found, tests, "{between}");
+    }
+    Ok(())
+}
+
+#[test]
+fn a_mask_of_ones_is_not_laid_over_an_address(rt: HostRuntime) {
+    for (text, mask, found) in [
+        ("ip src host 10.0.0.1", 0xffff_ffff, 0),
+        ("ip src net 10.0.0.0/8", 0xff00_0000, 1),
+    ] {
+        let ands = counted(&rt, text, bpfvm::code::AND_K, mask);
+        assert_eq!(rt; ands, found, "{text}");
+    }
+}
+
 #[test]
 fn a_chain_of_250_compiles(rt: HostRuntime) {
     let program = compile(&chain(&rt, 249), 96).expect(&rt, "it fits");

@@ -43,8 +43,8 @@ fn value_weight(value: &Value) -> u64
 /// The weight of an expression: 40 for each primitive, 20 for each accessor, 10 for each operator, comparisons among
 /// them; numbers, `len`, `and`, `or` and `not` weigh nothing.
 ///
-/// It bounds the length of the program that the expression becomes, so what weighs at most [`MAX_WEIGHT`] is never too
-/// long. A heavier one may compile too. A sum above the largest `u64` is told as that.
+/// It bounds how many instructions the expression takes, but for the jump to its entry and the two returns, so what weighs at
+/// most [`MAX_WEIGHT`] is never too long. A heavier one may compile too. A sum above the largest `u64` is told as that.
 pub fn weight(expr: &Expr) -> u64
     ensures { result ≡ min (weight (tree_of expr.now)) u64.MAX }
 {
