@@ -16,7 +16,7 @@ numbered capture place [] = []
 numbered capture place (p ∷ ps) = arrival capture place p ∷ numbered capture (place + 1) ps
 
 -- Why a capture ended before its end, behind these packets: its header is refused; a record's fault stands behind them; its
--- source failed, and they begin what it holds; or memory was refused, and nothing was read.
+-- source failed, and they begin what it holds; or memory was refused, and it gave nothing.
 abbrev pub IsStopped : Option (List ℕ) → Type 0 → List Packet → Fault → Type 0
 IsStopped start broke packets why =
     (WasRefused start why × (packets ≡ []))

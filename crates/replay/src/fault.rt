@@ -1,4 +1,4 @@
-//! Why a replay is not started.
+//! Why a replay gives no reports.
 
 ghost use Rattle.std.specs.Prelude.{◌≡◌};
 ghost use Rattle.replay.specs.declared.fault.RunFault.TheVariants.{NoStart};
@@ -7,7 +7,7 @@ use listener::OpenFault;
 use std::alloc::{AllocError, AllocFailed};
 use thiserror::Error;
 
-/// Why a replay is not started: the first that stands, in this order. Interfaces and their tasks are counted from 0.
+/// Why a replay gives no reports: the first that stands, in this order. Interfaces and their tasks are counted from 0.
 #[derive(Clone, Copy, Debug, PartialEq, Eq, Error)]
 pub enum RunFault {
     /// There are over 16 interfaces, or one has over 64 tasks or over 65,536 captures.
@@ -17,7 +17,7 @@ pub enum RunFault {
     /// ([`OpenFault::BadCapacity`] too) is out of range.
     #[error("Open {0} {1} {2}")]
     Open(u32, u32, OpenFault),
-    /// Memory or a thread was refused.
+    /// Memory or a thread was refused. The threads that ran already have gone on to their end.
     #[error("NoStart")]
     NoStart,
 }
