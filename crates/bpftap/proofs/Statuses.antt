@@ -10,8 +10,8 @@ use Rattle.replay.specs.declared.report.InterfaceReport.{InterfaceReport}
 use Rattle.replay.specs.declared.report.ListenerReport.{ListenerReport}
 use Rattle.replay.specs.declared.report.TaskEnd.{TaskEnd}
 use Rattle.replay.specs.declared.report.TaskEnd.TheVariants as task
-use Rattle.bpftap.specs.Telling.{fault_status, interface_status, task_status}
-use Rattle.bpftap.specs.Replaying.{report_status, run_status}
+use Rattle.bpftap.specs.Telling.{fault_status}
+use Rattle.bpftap.specs.Replaying.{interface_status, task_status, report_status, run_status}
 
 -- the greatest of some numbers has each bound that they have
 greatest_bound : {X : Type 0} (f : X → ℕ) (bound : ℕ) → ((x : X) → f x ≤ bound) → (start : ℕ) (xs : List X) → start ≤ bound →

@@ -1,8 +1,24 @@
--- The exit status of a replay.
+-- The exit status of a replay, for private clauses alone.
 use Rattle.std.specs.Prelude.{◌≡◌, ℕ, ◌⊎◌, List, fold, max}
+use Rattle.replay.specs.declared.report.InterfaceEnd.{InterfaceEnd}
+use Rattle.replay.specs.declared.report.InterfaceEnd.TheVariants as interface
 use Rattle.replay.specs.declared.report.InterfaceReport.{InterfaceReport}
 use Rattle.replay.specs.declared.report.ListenerReport.{ListenerReport}
-use Rattle.bpftap.specs.Telling.{interface_status, task_status}
+use Rattle.replay.specs.declared.report.TaskEnd.{TaskEnd}
+use Rattle.replay.specs.declared.report.TaskEnd.TheVariants as task
+use Rattle.bpftap.specs.Telling.{fault_status}
+
+-- of an interface's captures
+abbrev pub interface_status : InterfaceEnd → ℕ
+interface_status interface.Clean = 0
+interface_status (interface.Capture n fault) = fault_status fault
+interface_status interface.CountFull = 1
+
+-- of a listener's capture
+abbrev pub task_status : TaskEnd → ℕ
+task_status task.Clean = 0
+task_status (task.Write bytes) = 3
+task_status task.Unfinished = 1
 
 -- the greatest status of these listeners' ends
 abbrev pub listeners_status : {W : Type 0} → List (ListenerReport W) → ℕ

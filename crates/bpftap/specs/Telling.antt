@@ -4,10 +4,6 @@ use Rattle.savefile.specs.declared.fault.Fault.{Fault}
 use Rattle.savefile.specs.declared.fault.Fault.TheVariants.{TornRecord, BadFraction, TooLong, Device}
 use Rattle.bpftap.specs.declared.cut.End.{End}
 use Rattle.bpftap.specs.declared.cut.End.TheVariants.{Clean, Input, Output}
-use Rattle.replay.specs.declared.report.InterfaceEnd.{InterfaceEnd}
-use Rattle.replay.specs.declared.report.InterfaceEnd.TheVariants as interface
-use Rattle.replay.specs.declared.report.TaskEnd.{TaskEnd}
-use Rattle.replay.specs.declared.report.TaskEnd.TheVariants as task
 
 -- 3 where a device failed, 2 for a torn or bad record, and 1 for every other fault
 abbrev pub fault_status : Fault → ℕ
@@ -22,15 +18,3 @@ abbrev pub status_of : End → ℕ
 status_of Clean = 0
 status_of (Input fault) = fault_status fault
 status_of (Output fault) = fault_status fault
-
--- of an interface's captures
-abbrev pub interface_status : InterfaceEnd → ℕ
-interface_status interface.Clean = 0
-interface_status (interface.Capture n fault) = fault_status fault
-interface_status interface.CountFull = 1
-
--- of a listener's capture
-abbrev pub task_status : TaskEnd → ℕ
-task_status task.Clean = 0
-task_status (task.Write bytes) = 3
-task_status task.Unfinished = 1

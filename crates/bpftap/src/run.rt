@@ -1,4 +1,5 @@
-//! Captures that are replayed in threads to the listeners of interfaces: the function under `bpftap run`.
+//! Captures that are replayed in threads to the listeners of interfaces: `run`, and the parts that it shares with the command
+//! over files.
 
 ghost use Rattle.std.specs.Prelude.{◌≤◌};
 
@@ -104,7 +105,7 @@ fn bare_interfaces<R: Drop, W: Drop>(
 }
 
 /// The interfaces, the listeners of each in the order of their lines.
-fn interfaces_of<R: Drop, W: Drop>(
+pub(crate) fn interfaces_of<R: Drop, W: Drop>(
     alloc: Global,
     lines: &[RunLine<'_>],
     programs: Vec<Program>,

@@ -1,9 +1,10 @@
 //! `bpftap run`: what a line asks of its listener, and what is printed of ends that no capture brings about.
 
-use crate::run::run;
+use crate::run::{Plan, interfaces_of, read_plan, run};
 use crate::run_reports::tell_run;
-use crate::run_tests::{TCP, replayed};
+use crate::run_tests::{TCP, item, replayed};
 use crate::tests::{HEADER, concat};
+use listener::Mode;
 use replay::{InterfaceEnd, InterfaceReport, ListenerReport, TaskEnd};
 use savefile::Counted;
 use std::io::{Read, Write};
@@ -93,9 +94,37 @@ fn a_flush_and_the_letter_let_a_packet_be_read_at_once(rt: HostRuntime) -> Resul
 }
 
 #[test]
+fn each_listener_gets_the_numbers_of_its_line(rt: HostRuntime) -> Result<(), Fail> {
+    let alloc = rt.alloc();
+    let text = b"1 7 64 4096i 3 a tcp\n0 9 10 96 64 b\n";
+    let Plan { lines, programs } = read_plan(alloc, text, 2).expect(&rt, "the lines are well");
+    let mut captures: Vec<Vec<&[u8]>> = Vec::new(alloc);
+    captures.push(Vec::new(alloc))?;
+    captures.push(Vec::new(alloc))?;
+    let sinks = Vec::from_slice(alloc, &[1, 2])?;
+    let interfaces = interfaces_of(alloc, lines.as_slice(), programs, captures, sinks)?;
+    let wanted = [
+        (9, 10, 96, Mode::Buffered, 64, 2),
+        (7, 64, 4096, Mode::Immediate, 3, 1),
+    ];
+    assert_eq!(rt; interfaces.len(), wanted.len());
+    for (interface, (flush_every, snap, capacity, mode, spares, sink)) in interfaces
+        .iter()
+        .zip(wanted)
+    {
+        let task = item(&rt, interface.tasks.as_slice(), 0);
+        assert_eq!(rt; (task.flush_every, task.snap), (flush_every, snap));
+        assert_eq!(rt; (task.capacity, task.spares), (capacity, spares));
+        assert_eq!(rt; (task.mode, task.sink), (mode, sink));
+    }
+    Ok(())
+}
+
+#[test]
 fn each_sink_is_made_of_its_out(rt: HostRuntime) -> Result<(), Fail> {
     let alloc = rt.alloc();
     let mut captures: Vec<Vec<&[u8]>> = Vec::new(alloc);
+    captures.push(Vec::new(alloc))?;
     captures.push(Vec::new(alloc))?;
     let make = |out: &str| {
         let mut bytes: Vec<u8> = Vec::new(alloc);
@@ -104,7 +133,7 @@ fn each_sink_is_made_of_its_out(rt: HostRuntime) -> Result<(), Fail> {
     };
     let mut out: Vec<u8> = Vec::new(alloc);
     let mut err: Vec<u8> = Vec::new(alloc);
-    let listeners = b"0 0 10 4096 2 one\n0 0 20 4096 2 two tcp\n";
+    let listeners = b"1 0 10 4096 2 one\n0 0 20 4096 2 two tcp\n";
     let (status, sinks) = run(&rt, alloc, listeners, captures, make, &mut out, &mut err);
     assert_eq!(rt; (status, sinks.len()), (0, 2));
     for (sink, name) in sinks.into_iter().zip(["one", "two"]) {

@@ -1,8 +1,7 @@
 //! What `bpftap run` prints of each listener, what it tells of each interface, and its exit status.
 
 ghost use Rattle.std.specs.Prelude.{◌≡◌, ◌≤◌};
-ghost use Rattle.bpftap.specs.Telling.{interface_status, task_status};
-ghost use Rattle.bpftap.specs.Replaying.{IsStatusOf, listeners_status, report_status, run_status};
+ghost use Rattle.bpftap.specs.Replaying.{IsStatusOf, interface_status, task_status, listeners_status, report_status, run_status};
 
 use crate::tell::{DEVICE, REFUSED, fault_status, tell_fault, tell_written};
 use replay::{InterfaceEnd, InterfaceReport, ListenerReport, TaskEnd};

@@ -1,5 +1,5 @@
 use Rattle.std.proofs.Common.{◌≡◌, ap, fold, max, rules, sym, ◌∙◌, take}
-use Rattle.bpftap.specs.Telling.{task_status}
+use Rattle.bpftap.specs.Replaying.{task_status}
 use Rattle.bpftap.proofs.Statuses.{fold-more, fold-whole}
 use Rattle.bpftap.proofs.run_reports.listeners_status.Goals as goal
 

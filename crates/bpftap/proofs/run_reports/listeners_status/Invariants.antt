@@ -1,5 +1,5 @@
 use Rattle.std.proofs.Common.{◌≡◌, fold, max, take}
-use Rattle.bpftap.specs.Telling.{task_status}
+use Rattle.bpftap.specs.Replaying.{task_status}
 use Rattle.bpftap.proofs.run_reports.listeners_status.Given as goal
 
 -- the greatest status of those before the index
