@@ -350,7 +350,9 @@ def hostile():
     yield "a chain of words", "ip" + "||ip" * 2047, 1
     yield "a chain of hosts that inherit", "host 10.0.0.1" + " or 10.0.0.1" * 681, 1
     yield "negations", "||".join(["!" * 62 + "ip"] * 124), 0
-    yield "the deepest tree", "!" * 64 + "net 1" + "||1" * 2707, 1
+    yield "negations before a chain", "!" * 64 + "net 1" + "||1" * 2707, 1
+    yield "a chain of which all is wanted", "ip" + "&&ip" * 2047, 1
+    yield "a long value before such a chain", "1=1" + "+1" * 3000 + "&&ip" * 540, 1
     yield "short parentheses", "||".join(["(ip)"] * 1365), 1
     yield "64 levels round a chain", deep + "ip" + "||ip" * 2015 + ")" * 64, 1
     yield "a chain of 64 levels", "||".join([deep + "ip" + ")" * 64] * 62), 0

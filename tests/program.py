@@ -131,6 +131,9 @@ def real_capture(folder):
         subprocess.run([PROGRAM, "cut", "-s", "0", "-e", expr, capture, "cut.pcap"], cwd=folder)
         check(f"cut -e {expr!r}", len(records(folder / "cut.pcap")), kept)
     check("steps: status", (done.returncode, done.stderr), (0, b""))
+    figures = subprocess.run([ROOT / "bench" / "filters.py", "--figures"], capture_output=True, text=True)
+    told = figures.stdout.splitlines()[-1:]
+    check("packets and bytes as tcpdump writes them", told, ["23 expressions, 0 of them differ from tcpdump"])
 
 
 def records(path):
