@@ -1,15 +1,15 @@
 //! The commands, over files.
 
-use crate::check::check;
-use crate::command_line::{CutWords, Request, read_words};
-use crate::cut::{CutEnd, End, cut};
 use crate::files::{LateFile, hold_stream, is_same_file};
-use crate::filter::filter;
 use crate::run_files::{NamesFiles, run_files};
 use crate::steps_files::steps_files;
-use crate::tell::{Path, REFUSED, tell, tell_device, tell_fault};
 use bpfvm::Program;
 use clap::Error;
+use cutting::check::check;
+use cutting::cut::{CutEnd, End, cut};
+use cutting::filter::filter;
+use cutting::tell::tell;
+use lines::telling::{Path, REFUSED, tell_device, tell_fault};
 use savefile::{Counted, Fault};
 use std::convert::AsStr;
 use std::fs::Files;
@@ -17,6 +17,7 @@ use std::io::{BufWriter, ErrorKind, Write};
 use std::sync::Wait;
 use std::thread::Threads;
 use std::{fs, io};
+use words::command_line::{CutWords, Request, read_words};
 
 /// How many bytes of output are gathered before they are written.
 const OUTPUT_BUFFER: usize = 1 << 18;

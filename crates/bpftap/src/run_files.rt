@@ -2,11 +2,10 @@
 
 use crate::files::{LateFile, LateInput, lost_file};
 use crate::program::read_file;
-use crate::run::{Plan, read_plan, replay_plan};
-use crate::run_reports::tell_run;
-use crate::run_words::RunWords;
-use crate::tell::{Path, REFUSED, tell_fault};
+use lines::telling::{Path, REFUSED, tell_fault};
 use replay::{InterfaceReport, ListenerReport, RunFault, TaskEnd};
+use running::reports::tell_run;
+use running::run::{Plan, read_plan, replay_plan};
 use savefile::{Counted, Fault};
 use std::alloc::{AllocError, Global};
 use std::fs::Files;
@@ -14,6 +13,7 @@ use std::io;
 use std::io::{BufWriter, Write};
 use std::sync::Wait;
 use std::thread::Threads;
+use words::run::RunWords;
 
 /// How many bytes of a capture are gathered before they are written.
 const OUTPUT_BUFFER: usize = 1 << 16;

@@ -1,13 +1,13 @@
 //! `bpftap steps`, over files.
 
 use crate::program::read_file;
-use crate::steps::{play_asked, read_asked};
-use crate::steps_words::StepsWords;
-use crate::tell::{REFUSED, tell_fault};
+use lines::telling::{REFUSED, tell_fault};
 use savefile::Fault;
 use std::alloc::{AllocError, Global};
 use std::fs::Files;
 use std::io::{BufWriter, Write};
+use stepping::steps::{play_asked, read_asked};
+use words::steps::StepsWords;
 
 /// How many bytes of output are gathered before they are written.
 const OUTPUT_BUFFER: usize = 1 << 16;

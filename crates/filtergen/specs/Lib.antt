@@ -5,3 +5,4 @@ pub mod Emission
 pub mod Ways
 pub mod Parts
 pub mod Knowing
+pub mod Expressions

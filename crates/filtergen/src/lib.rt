@@ -2,12 +2,14 @@
 //!
 //! [`compile`] makes the program that stands for an expression: on every packet it answers the snapshot length where
 //! the expression accepts it, and else 0. [`evaluate`] answers an expression without compiling it, and [`need`] and
-//! [`weight`] tell how much it may take: up to [`MAX_NEED`] and [`MAX_WEIGHT`] it compiles. Nothing here takes memory.
+//! [`weight`] tell how much it may take: up to [`MAX_NEED`] and [`MAX_WEIGHT`] it compiles. None of these takes memory.
+//! [`compile_text`] reads the text too, and takes memory for its tree.
 #![tactic(auto)]
 
 mod code;
 mod compiler;
 mod evaluator;
+mod expression;
 mod insns;
 mod known;
 mod primitives;
@@ -20,6 +22,7 @@ mod weighing;
 
 pub use compiler::{MAX_SNAP, compile};
 pub use evaluator::evaluate;
+pub use expression::{ExpressionFault, compile_text};
 pub use refusal::Refusal;
 pub use verdict::Verdict;
 pub use weighing::{MAX_NEED, MAX_WEIGHT, need, weight};

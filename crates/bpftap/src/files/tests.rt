@@ -4,8 +4,7 @@
 use super::{FileId, LateFile, file_at};
 use crate::program::run;
 use crate::run_files::{LateFiles, NamesFiles};
-use crate::run_words::RunWords;
-use crate::tell::REFUSED;
+use lines::telling::REFUSED;
 use std::alloc::{Allocator, Global};
 use std::fs::{Files, Metadata, OpenFile, OpenOptions};
 use std::io::{ErrorKind, Read, Seek, SeekFrom, Write};
@@ -17,6 +16,7 @@ use std::sync::atomic::{AtomicBool, AtomicU32, AtomicUsize};
 use std::test::Fail;
 use std::thread::Threads;
 use std::{fs, io, process};
+use words::run::RunWords;
 
 /// Enough for the standard streams, and all files of a command at once.
 const DESCRIPTORS: usize = 8;

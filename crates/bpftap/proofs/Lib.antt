@@ -1,4 +1,0 @@
-pub mod Accepted
-pub mod Writing
-pub mod Outcomes
-pub mod Statuses

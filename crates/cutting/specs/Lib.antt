@@ -1,0 +1,5 @@
+pub mod Cut
+pub mod Copying
+pub mod Outcome
+pub mod Telling
+pub mod Filter

@@ -1,0 +1,176 @@
+//! A capture cut by a filter: the function under `bpftap cut`.
+
+ghost use Rattle.std.specs.Prelude.{◌≡◌, ◌≢◌, ℕ, List, [], ◌∷◌, ◌++◌, Option, Err, ◌↔◌};
+ghost use Rattle.std.specs.Io.KnownBytes.{Consumes};
+ghost use Rattle.savefile.specs.Savefile.{IsWritable};
+ghost use Rattle.savefile.specs.declared.header.Header.{Header};
+ghost use Rattle.savefile.specs.declared.packet.Packet.{Packet};
+ghost use Rattle.savefile.specs.declared.writing.Writer.{Writer};
+ghost use Rattle.savefile.specs.Reader.{HasGiven, source_of};
+ghost use Rattle.savefile.specs.Writer.{HasWritten, sent_by, sink_of};
+ghost use Rattle.cutting.specs.Copying.{Copied, Wrote};
+ghost use Rattle.cutting.specs.Cut.{accepted};
+ghost use Rattle.lines.specs.Snapshot.{meant};
+ghost use Rattle.cutting.specs.Outcome.{Cuts};
+
+use bpfvm::Program;
+use lines::meant;
+use savefile::laws::{given_so_far, growing_text};
+use savefile::{Fault, Order, PacketRef, Reader, Sink, Source, Unit, Writer};
+use std::alloc::Global;
+
+/// How a cut ended.
+#[derive(Clone, Copy, Debug, PartialEq, Eq)]
+pub enum End {
+    /// The whole capture was read, and each accepted packet was written.
+    Clean,
+    /// The capture could not be read, or not further; the packets before a bad record were written.
+    Input(Fault),
+    /// The output could not be written further.
+    Output(Fault),
+}
+
+/// What a cut gives back.
+#[derive(Debug, Drop)]
+pub struct CutEnd<R, W> {
+    pub source: R,
+    pub sink: W,
+    /// How many bytes the sink took in this call.
+    pub sent: u64,
+    pub end: End,
+}
+
+/// Writes the packets of a capture that a program accepts, each cut, as a capture of its own.
+///
+/// A packet is kept with the least of the snapshot length, the program's answer and the captured length as its number
+/// of bytes; its time and its length on the wire stay. The new header has the snapshot length, and 0 stands for
+/// 262,144. The capture is a savefile of pcap-savefile(5), in any byte order and unit; it is written in those given.
+/// Each packet is written before the next one is read, in memory that does not grow with the capture.
+///
+/// The end is [`End::Clean`] where the whole capture was read and written. It is [`End::Input`] with the header's fault,
+/// and nothing is written; with the fault of the first torn or bad record, behind all packets before it; with
+/// [`Fault::Device`] exactly where the source failed: behind all packets that came whole in what the source gave, or
+/// with nothing written where that was fewer than the 24 bytes of a header; with [`Fault::NoMemory`], and nothing is
+/// written; or with [`Fault::CountFull`] after 2^64 - 1 packets. It is [`End::Output`] with [`Fault::Device`] exactly
+/// where the sink failed, or [`Fault::CountFull`] where the text has 2^64 bytes or more. In every case the sink took
+/// exactly `sent` bytes, a beginning of the text that was to be written.
+pub fn cut<R: Source, W: Sink>(
+    alloc: Global,
+    from: R,
+    program: &Program,
+    snap: u32,
+    order: Order,
+    unit: Unit,
+    to: W,
+) -> CutEnd<R, W>
+    // What stood in the source, what it gave of it, what the sink took, and how that ended.
+    ensures cuts { Cuts R.left W.taken from to program.now snap order unit result }
+
+    // A device's fault is told exactly where the device failed.
+    ensures source_broke { (result.end ≡ End.Input Fault.Device) ↔ (R.failures result.source ≢ R.failures from) }
+    ensures sink_broke { (result.end ≡ End.Output Fault.Device) ↔ (W.failures result.sink ≢ W.failures to) }
+{
+    let mut reader = match Reader::open(alloc, from) {
+        Ok(reader) => reader,
+        Err((source, fault)) => {
+            return CutEnd {
+                source,
+                sink: to,
+                sent: 0,
+                end: End::Input(fault),
+            };
+        }
+    };
+    // What was sent of the text of some packets begins the text of all.
+    growing_text();
+    let (sink, sent, end) = write_accepted(&mut reader, program, snap, order, unit, to);
+    CutEnd {
+        source: reader.close(),
+        sink,
+        sent,
+        end,
+    }
+}
+
+/// The header, and then each accepted packet.
+fn write_accepted<R: Source, W: Sink>(
+    reader: &mut Reader<R>,
+    program: &Program,
+    snap: u32,
+    order: Order,
+    unit: Unit,
+    to: W,
+) -> (W, u64, End)
+    ensures writes { (from : Option (List ℕ)) (header : Header) → HasGiven R.left from header [] reader.old →
+        (writer : Writer W) × (result.0 ≡ sink_of writer) × (result.1 ≡ sent_by writer)
+        × Copied W.taken from (R.left (source_of reader.new)) header (W.taken to) order unit (meant snap) program.now (meant snap) result.2 writer }
+    ensures taken { (bytes : List ℕ) × Consumes (R.left (source_of reader.old)) (R.left (source_of reader.new)) bytes }
+    ensures source_broke { (result.2 ≡ End.Input Fault.Device) ↔ (R.failures (source_of reader.new) ≢ R.failures (source_of reader.old)) }
+    ensures sink_broke { (result.2 ≡ End.Output Fault.Device) ↔ (W.failures result.0 ≢ W.failures to) }
+{
+    let snap = meant(snap);
+    let (mut writer, opened) = Writer::open(to, order, unit, snap);
+    if let Err(fault) = opened {
+        // No packet, too, begins what the capture holds.
+        given_so_far(reader);
+        let (sink, sent) = writer.close();
+        return (sink, sent, End::Output(fault));
+    }
+    let end = copy_accepted(reader, program, snap, &mut writer);
+    let (sink, sent) = writer.close();
+    (sink, sent, end)
+}
+
+/// Each accepted packet, written before the next one is read.
+fn copy_accepted<R: Source, W: Sink>(
+    reader: &mut Reader<R>,
+    program: &Program,
+    snap: u32,
+    writer: &mut Writer<W>,
+) -> End
+    ensures copies { (from : Option (List ℕ)) (header : Header) (to : Option (List ℕ)) (order : Order) (unit : Unit) (head : ℕ) →
+        HasGiven R.left from header [] reader.old → HasWritten W.taken to order unit head [] writer.old →
+        Copied W.taken from (R.left (source_of reader.new)) header to order unit head program.now snap result writer.new }
+    ensures taken { (bytes : List ℕ) × Consumes (R.left (source_of reader.old)) (R.left (source_of reader.new)) bytes }
+    ensures source_broke { (result ≡ End.Input Fault.Device) ↔ (R.failures (source_of reader.new) ≢ R.failures (source_of reader.old)) }
+    ensures sink_broke { (result ≡ End.Output Fault.Device) ↔ (W.failures (sink_of writer.new) ≢ W.failures (sink_of writer.old)) }
+{
+    loop {
+        match reader.advance() {
+            Ok(true) => {
+                // Where the sink breaks, what was read so far begins what the capture holds.
+                given_so_far(reader);
+                match put_one(writer, &reader.packet(), program, snap) {
+                    Ok(()) => {}
+                    Err(fault) => return End::Output(fault),
+                }
+            }
+            Ok(false) => return End::Clean,
+            Err(fault) => return End::Input(fault),
+        }
+    }
+}
+
+/// A packet, cut, where the program accepts it.
+#[inline]
+fn put_one<W: Sink>(
+    writer: &mut Writer<W>,
+    packet: &PacketRef<'_>,
+    program: &Program,
+    snap: u32,
+) -> Result<(), Fault>
+    requires { IsWritable packet.now }
+    ensures writes { (start : Option (List ℕ)) (order : Order) (unit : Unit) (head : ℕ) (before : List Packet) →
+        HasWritten W.taken start order unit head before writer.old →
+        Wrote W.taken start order unit head (before ++ accepted program.now snap (packet.now ∷ [])) result writer.new }
+    ensures sink_broke { (result ≡ Err Fault.Device) ↔ (W.failures (sink_of writer.new) ≢ W.failures (sink_of writer.old)) }
+{
+    // The text grows by this packet's record.
+    growing_text();
+    let verdict = bpfvm::run(program, packet.bytes, packet.len);
+    if verdict == 0 {
+        return Ok(());
+    }
+    let kept = (verdict.min(snap) as usize).min(packet.bytes.len());
+    writer.put(packet.sec, packet.nanos, packet.len, &packet.bytes[..kept])
+}

@@ -1,0 +1,107 @@
+//! What the program tells on standard error, and the exit statuses.
+
+ghost use Rattle.std.specs.Prelude.{◌≡◌, ◌≤◌, ◌⊎◌, OnOk, OnErr};
+ghost use Rattle.lines.specs.Telling.{fault_status};
+
+use savefile::Fault;
+use std::fmt::{Display, Formatter};
+use std::io::{Cursor, ErrorKind, Write};
+use std::{fmt, io};
+
+/// The exit status of wrong words, a refusal and want of memory.
+pub const REFUSED: u8 = 1;
+
+/// The exit status of a torn or bad record, after the packets before it.
+pub const BAD_RECORD: u8 = 2;
+
+/// The exit status of a failed device.
+pub const DEVICE: u8 = 3;
+
+/// The most bytes of a fault's line that are put together first, so that it goes out in one write.
+const LINE: usize = 512;
+
+/// Tells a fault in a line of its own, and gives the status back. Where standard error itself fails, the status
+/// is all that is left to tell.
+pub fn tell_fault<E: Write, D: Display + Drop>(fault: D, status: u8, err: &mut E) -> u8
+    ensures { result ≡ status }
+{
+    let _ = write_line(fault, err);
+    status
+}
+
+/// The line, in one write where it is not too long. It takes no memory, which may be the fault that is told.
+fn write_line<E: Write, D: Display + Drop>(fault: D, err: &mut E) -> io::Result<()> {
+    let mut line = Cursor::new([0; LINE]);
+    let put = writeln!(line, "bpftap: {fault}");
+    let length = line.position() as usize;
+    match (put, line.into_inner().get(..length)) {
+        (Ok(()), Some(line)) => err.write_all(line),
+        _ => writeln!(err, "bpftap: {fault}"),
+    }
+}
+
+/// Tells why the words of the command line could not be taken.
+pub fn tell_words<E: Write>(error: io::Error, err: &mut E) -> u8
+    ensures { result ≡ REFUSED }
+{
+    match error.kind() {
+        ErrorKind::OutOfMemory => tell_fault(Fault::NoMemory, REFUSED, err),
+        ErrorKind::InvalidData => tell_fault(
+            "a word of the command line is not UTF-8",
+            REFUSED,
+            err,
+        ),
+        _ => tell_fault(error, REFUSED, err),
+    }
+}
+
+/// A path in a line of its own: control characters are written as in a Rust string, `\n` or `\u{1b}`.
+#[derive(Clone, Copy)]
+pub struct Path<'a>(pub &'a str);
+
+impl Display for Path<'_> {
+    fn fmt<W: fmt::Write>(&self, f: &mut Formatter<W>) -> fmt::Result {
+        for character in self.0.chars() {
+            if character.is_control() {
+                write!(f, "{}", character.escape_default())?;
+            } else {
+                f.write_char(character)?;
+            }
+        }
+        Ok(())
+    }
+}
+
+/// Tells that the file or device of a path failed.
+pub fn tell_device<E: Write>(path: &str, err: &mut E) -> u8
+    ensures { result ≡ DEVICE }
+{
+    tell_fault(format_args!("Device {}", Path(path)), DEVICE, err)
+}
+
+/// Tells that standard output failed, or that memory was refused, and answers the exit status.
+pub fn tell_written<E: Write>(written: io::Result<()>, err: &mut E) -> u8
+    ensures clean { OnOk written (result ≡ 0) }
+    ensures failed { OnErr written ((result ≡ REFUSED) ⊎ (result ≡ DEVICE)) }
+    ensures status { (result ≡ 0) ⊎ (result ≡ REFUSED) ⊎ (result ≡ DEVICE) }
+    ensures bound { result ≤ 3 }
+{
+    match written {
+        Ok(()) => 0,
+        Err(error) if error.kind() == ErrorKind::OutOfMemory => {
+            tell_fault(Fault::NoMemory, REFUSED, err)
+        }
+        Err(_) => tell_device("standard output", err),
+    }
+}
+
+/// The exit status of a fault.
+pub fn fault_status(fault: Fault) -> u8
+    ensures { result ≡ fault_status fault }
+{
+    match fault {
+        Fault::Device => DEVICE,
+        Fault::TornRecord(_) | Fault::BadFraction(_) | Fault::TooLong(_) => BAD_RECORD,
+        _ => REFUSED,
+    }
+}

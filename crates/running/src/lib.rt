@@ -1,0 +1,6 @@
+//! Captures that are replayed in threads to the listeners of interfaces: the functions under `bpftap run`.
+#![tactic(auto)]
+
+pub mod listeners;
+pub mod reports;
+pub mod run;

@@ -1,0 +1,8 @@
+//! Listeners that are played a script over captures: the functions under `bpftap steps`.
+#![tactic(auto)]
+
+pub mod answers;
+pub mod listeners;
+pub mod reports;
+pub mod script;
+pub mod steps;

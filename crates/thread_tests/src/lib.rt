@@ -1,0 +1,9 @@
+//! Tests of `running`.
+#![tactic(auto)]
+
+#[cfg(test)]
+mod run;
+#[cfg(test)]
+mod run_devices;
+#[cfg(test)]
+mod run_plan;

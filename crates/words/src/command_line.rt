@@ -1,0 +1,234 @@
+//! The words of the command line, by `clap`.
+use crate::run::{RunWords, run_command, run_words};
+use crate::steps::{StepsWords, steps_command, steps_words};
+use clap::error::ErrorKind;
+use clap::{Arg, ArgMatches, Command, Error};
+use lines::fields::snapshot_length;
+use savefile::{Order, Unit};
+use std::alloc::{AllocError, Global};
+use std::convert::AsStr;
+
+/// What one call of `bpftap cut` asks for.
+#[derive(Clone, Copy, Debug)]
+pub struct CutWords<'a> {
+    /// The snapshot length, 1 to [`lines::MAX_SNAP`].
+    pub snap: u32,
+    /// The path of the listing, where `-f` is given.
+    pub listing: Option<&'a str>,
+    /// The expression, where `-e` is given.
+    pub expr: Option<&'a str>,
+    pub order: Order,
+    pub unit: Unit,
+    /// The path of the capture that is read.
+    pub input: &'a str,
+    /// The path of the capture that is written.
+    pub output: &'a str,
+}
+
+/// What the words ask for.
+#[derive(Drop)]
+pub enum Request<'a> {
+    /// `bpftap check`, of this expression.
+    Check(&'a str),
+    Cut(CutWords<'a>),
+    Steps(StepsWords<'a>),
+    Run(RunWords<'a>),
+}
+
+/// What the program calls itself, and what it was proved with.
+const VERSION: &str = "0.1.0, proved with rattle-kit-13b logic dac8208d650f15bf";
+
+const ABOUT: &str =
+    "Filters captures offline, and replays them to listeners, as the BSD packet tap would have";
+
+const EXAMPLES: &str = "Examples:
+  bpftap check 'tcp dst port 80 or 443'
+  bpftap cut -s 0 -e 'udp port 5353' examples/veth.pcap dns.pcap
+  bpftap cut -s 0 -f examples/ip.bpf examples/veth.pcap ip.pcap
+  bpftap steps -v examples/steps/listeners.txt examples/steps/script.txt examples/veth.pcap
+  bpftap run examples/run/listeners.txt examples/veth.pcap
+
+Exit status: 0 clean; 1 wrong words, a refused expression, file or listing, or want of memory;
+2 a torn or bad record, after the packets before it; 3 a file or device failed.";
+
+const CUT_EXAMPLES: &str = "Examples:
+  bpftap cut -s 0 -e 'udp port 5353' examples/veth.pcap dns.pcap
+  bpftap cut -s 0 -f examples/ip.bpf examples/veth.pcap ip.pcap
+  bpftap cut -s 64 examples/veth.pcap headers.pcap     the first 64 bytes of every packet
+
+-e and -f exclude each other. An expression that begins with - is written in parentheses.
+
+Exit status: 0 clean; 1 wrong words, a refused expression, file or listing, or want of memory;
+2 a torn or bad record, after the packets before it; 3 a file or device failed.";
+
+const CHECK_EXAMPLES: &str = "Examples:
+  bpftap check 'tcp dst port 80 or 443'
+  bpftap check 'tcp and 80'       prints bpftap: NoQualifier 8
+  bpftap check ''                 the empty expression accepts every packet
+
+What is printed is a line with the number of instructions, and a line code jt jf k for each:
+tcpdump -ddd prints the same form, and cut -f reads it. An expression that begins with - is
+written in parentheses. The number behind a fault's name is the byte of the expression that
+it stands at, from 0; docs/LANGUAGE.md has the language.
+
+Exit status: 0 the expression is accepted; 1 it is refused or its program is too long, wrong
+words, or want of memory; 3 standard output failed.";
+
+fn snap_arg<'a>(alloc: Global) -> Arg<'a> {
+    Arg::new(alloc, "snap")
+        .short('s')
+        .value_name("N")
+        .required(true)
+        .help("Snapshot length: keep at most N bytes of a packet, 0 to 262144 (0 means 262144)")
+}
+
+fn listing_arg<'a>(alloc: Global) -> Arg<'a> {
+    Arg::new(alloc, "listing")
+        .short('f')
+        .value_name("LISTING")
+        .help("Filter program, as lines of numbers in the form of tcpdump -ddd")
+}
+
+fn expr_arg<'a>(alloc: Global) -> Arg<'a> {
+    Arg::new(alloc, "expr").short('e').value_name("EXPR").help(
+        "Filter expression of pcap-filter(7), as one word; without -e and -f every packet is taken",
+    )
+}
+
+fn order_arg<'a>(alloc: Global) -> Arg<'a> {
+    Arg::new(alloc, "order")
+        .short('o')
+        .value_name("ORDER")
+        .value_parser(["little", "big"].as_slice())
+        .default_value("little")
+        .help("Byte order of OUT")
+}
+
+fn unit_arg<'a>(alloc: Global) -> Arg<'a> {
+    Arg::new(alloc, "unit")
+        .short('u')
+        .value_name("UNIT")
+        .value_parser(["micro", "nano"].as_slice())
+        .default_value("micro")
+        .help("Unit of the time stamps of OUT")
+}
+
+fn path_arg<'a>(alloc: Global, name: &'a str, help: &'a str) -> Arg<'a> {
+    Arg::new(alloc, name).required(true).help(help)
+}
+
+fn check_command<'a>(alloc: Global) -> Result<Command<'a>, AllocError> {
+    Command::new(alloc, "check")
+        .about("Print the program of a filter expression, or tell what is wrong with it")
+        .after_help(CHECK_EXAMPLES)
+        .arg(
+            Arg::new(alloc, "EXPR").required(true).help(
+                "Filter expression of pcap-filter(7), as one word; it may be empty",
+            ),
+        )
+}
+
+fn cut_command<'a>(alloc: Global) -> Result<Command<'a>, AllocError> {
+    Command::new(alloc, "cut")
+        .about("Write each packet of IN that the filter accepts, cut, to OUT")
+        .after_help(CUT_EXAMPLES)
+        .arg(snap_arg(alloc))?
+        .arg(listing_arg(alloc))?
+        .arg(expr_arg(alloc))?
+        .arg(order_arg(alloc))?
+        .arg(unit_arg(alloc))?
+        .arg(path_arg(
+            alloc,
+            "IN",
+            "Capture to read: a classic savefile of Ethernet frames",
+        ))?
+        .arg(path_arg(
+            alloc,
+            "OUT",
+            "Capture to write; made once the filter and the header of IN are accepted",
+        ))
+}
+
+fn program<'a>(alloc: Global) -> Result<Command<'a>, AllocError> {
+    Command::new(alloc, "bpftap")
+        .version(VERSION)
+        .about(ABOUT)
+        .after_help(EXAMPLES)
+        .subcommand_required(true)
+        .arg_required_else_help(true)
+        .subcommand(check_command(alloc)?)?
+        .subcommand(cut_command(alloc)?)?
+        .subcommand(steps_command(alloc)?)?
+        .subcommand(run_command(alloc)?)
+}
+
+fn order_of(matches: &ArgMatches<'_>) -> Order {
+    match matches.get_str("order") {
+        Some("big") => Order::Big,
+        _ => Order::Little,
+    }
+}
+
+fn unit_of(matches: &ArgMatches<'_>) -> Unit {
+    match matches.get_str("unit") {
+        Some("nano") => Unit::Nano,
+        _ => Unit::Micro,
+    }
+}
+
+/// What the words of a subcommand ask for; nothing where one is missing or wrong.
+fn request_of<'a>(
+    alloc: Global,
+    name: &str,
+    words: &ArgMatches<'a>,
+) -> Result<Option<Request<'a>>, AllocError> {
+    match name {
+        "check" => Ok(words.get_str("EXPR").map(|expr| Request::Check(expr))),
+        "cut" => Ok(cut_words(words).map(|words| Request::Cut(words))),
+        "steps" => Ok(steps_words(alloc, words)?.map(|words| Request::Steps(words))),
+        "run" => Ok(run_words(alloc, words)?.map(|words| Request::Run(words))),
+        _ => Ok(None),
+    }
+}
+
+/// What is wrong with words of a subcommand that `clap` took: of `cut` the snapshot length; of the others a word is
+/// missing, which `clap` has told.
+fn bad_words(alloc: Global, name: &str, program: &mut Command<'_>) -> Result<Error, AllocError> {
+    match name {
+        "cut" => bad_snap(alloc),
+        _ => program.error(ErrorKind::MissingRequiredArgument, "a word is wanted"),
+    }
+}
+
+/// What the words ask for, the program's name first; or `clap`'s error, which for a call for help has the help.
+pub fn read_words<'a, S: AsStr>(alloc: Global, words: &'a [S]) -> Result<Request<'a>, Error> {
+    let mut program = program(alloc)?;
+    let matches = program.try_get_matches_from_mut(words)?;
+    let Some((name, given)) = matches.subcommand() else {
+        return Err(program.error(ErrorKind::MissingSubcommand, "a subcommand is wanted")?);
+    };
+    match request_of(alloc, name, given)? {
+        Some(request) => Ok(request),
+        None => Err(bad_words(alloc, name, &mut program)?),
+    }
+}
+
+/// The error of a snapshot length that is not digits alone, with the usage of `cut`.
+fn bad_snap(alloc: Global) -> Result<Error, AllocError> {
+    cut_command(alloc)?.bin_name("bpftap cut")?.error(
+        ErrorKind::ValueValidation,
+        "-s takes a number from 0 to 262144",
+    )
+}
+
+fn cut_words<'a>(matches: &ArgMatches<'a>) -> Option<CutWords<'a>> {
+    Some(CutWords {
+        snap: snapshot_length(matches.get_str("snap")?)?,
+        listing: matches.get_str("listing"),
+        expr: matches.get_str("expr"),
+        order: order_of(matches),
+        unit: unit_of(matches),
+        input: matches.get_str("IN")?,
+        output: matches.get_str("OUT")?,
+    })
+}

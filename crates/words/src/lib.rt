@@ -1,0 +1,6 @@
+//! The words of the command line, by `clap`.
+#![tactic(auto)]
+
+pub mod command_line;
+pub mod run;
+pub mod steps;
