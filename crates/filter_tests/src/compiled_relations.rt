@@ -1,8 +1,7 @@
 //! Expressions with relations, from their text to the program's answer.
 
 use bpfvm::{run, write_listing};
-use filtergen::Refusal;
-use filtergen::expression::{ExpressionFault, compile_text};
+use filtergen::{ExpressionFault, Refusal, compile_text};
 use fixtures::captures::bytes_of;
 use std::process::Abort;
 use std::test::Fail;

@@ -3,8 +3,7 @@
 use bpfvm::read_listing;
 use cutting::check::check;
 use cutting::filter::filter;
-use filtergen::Refusal;
-use filtergen::expression::{ExpressionFault, compile_text};
+use filtergen::{ExpressionFault, Refusal, compile_text};
 use fixtures::captures::bytes_of;
 use fixtures::devices::BreakingWriter;
 use fixtures::frames::{KEPT, VETH};
