@@ -1,0 +1,55 @@
+"""`bpftap check`: an expression is one word, and its listing is printed or its fault told."""
+from .common import IP, case
+
+ACCEPTED = ["check ''", "check 'tcp or udp'", "check '(-1 = 1)'", "check -- '-1 = 1'"]
+
+# Blanks at both ends of the word are counted.
+REFUSED = [
+    ("check 'tcp and 80'", "NoQualifier 8"),
+    ("check ' tcp and 80'", "NoQualifier 9"),
+    ("check 'port 80 and '", "Syntax 12"),
+]
+
+# No word, two words, and one that looks like an option.
+WRONG = ["check", "check tcp udp", "check -1"]
+
+
+def is_listing(text):
+    """Whether a text is the number of lines that follow and these, each of four numbers."""
+    count, *lines = text.decode().splitlines() or [""]
+    is_instruction = [len(line.split()) == 4 and line.replace(" ", "").isdigit() for line in lines]
+    return count == str(len(lines)) and lines != [] and all(is_instruction)
+
+
+@case
+def an_accepted_expression_is_printed(scene):
+    """A listing is printed, nothing is told, and the status is 0."""
+    for words in ACCEPTED:
+        seen = scene.run(words)
+        scene.check(f"listing of {words}", is_listing(seen.out), True)
+        scene.check(f"told of {words}, and its status", (seen.err, seen.status), (b"", 0))
+    scene.expect("check ip", out=IP)
+
+
+@case
+def a_refused_expression_is_told(scene):
+    """The fault is told with its place in the word, nothing is printed, and the status is 1."""
+    for words, fault in REFUSED:
+        scene.refuse(words, 1, fault)
+
+
+@case
+def other_numbers_of_words_have_the_usage(scene):
+    """What is not one word is told with the usage of `check`, nothing is printed, and the status is 1."""
+    for words in WRONG:
+        seen = scene.run(words)
+        scene.check(f"usage behind {words}", b"Usage: bpftap check" in seen.err, True)
+        scene.check(f"printed of {words}, and its status", (seen.out, seen.status), (b"", 1))
+
+
+@case
+def help_has_an_example(scene):
+    """The help of `check` is printed with an example, nothing is told, and the status is 0."""
+    seen = scene.run("check --help")
+    scene.check("the example", b"bpftap check 'tcp dst port 80 or 443'" in seen.out, True)
+    scene.check("told, and the status", (seen.err, seen.status), (b"", 0))

@@ -1,0 +1,47 @@
+"""`bpftap steps`: in which order its files are looked at, and what is told of them."""
+from .common import TORN, WHOLE, case, told
+
+FILES = {
+    "l.txt": "32 64\n", "s.txt": "arrive\n", "bad.txt": "x\n", "refused.txt": "32 64 tcp and 80\n",
+    "whole.pcap": WHOLE, "torn.pcap": TORN, "empty.pcap": "",
+}
+
+# LISTENERS, SCRIPT and IN, the status, and the fault.
+REFUSED = [
+    # LISTENERS is read before SCRIPT, and that before IN.
+    ("no.listeners no.script no.pcap", 3, "Device no.listeners"),
+    ("bad.txt none.txt no.pcap", 3, "Device none.txt"),
+    # The lines of both are looked at before IN, and IN goes before an expression.
+    ("bad.txt bad.txt no.pcap", 1, "Listeners 1"),
+    ("l.txt bad.txt no.pcap", 1, "Script 1"),
+    ("refused.txt s.txt whole.pcap no.pcap", 3, "Device no.pcap"),
+    ("refused.txt s.txt whole.pcap", 1, "Expression 0 NoQualifier 8"),
+    ("refused.txt s.txt whole.pcap empty.pcap", 1, "Capture 1 ShortHeader"),
+    ("l.txt s.txt .", 3, "Device ."),
+]
+
+# What is printed of the one packet of `whole.pcap` and of `torn.pcap`, which nobody reads.
+EXPLAINED = (
+    "step 1 arrive capture 0 place 0 time 2.000000000 len 14: "
+    "listener 0 Stored, 0 stored and 48 more are within 64\n")
+REPORT = "listener 0 received 1 matched 1 dropped 0\nheld\ncapture 0 place 0 time 2.000000000 len 14 kept 14\n"
+
+
+@case
+def files_are_looked_at_in_order(scene):
+    """The first fault is told, and nothing is printed."""
+    scene.put(FILES)
+    for words, status, fault in REFUSED:
+        scene.refuse(f"steps {words}", status, fault)
+
+
+@case
+def reports_are_printed(scene):
+    """Of captures that are whole or torn reports are printed, and no file is made or changed."""
+    scene.put(FILES)
+    before = scene.files()
+    scene.expect("steps l.txt s.txt whole.pcap", out=REPORT)
+    scene.expect("steps l.txt s.txt torn.pcap", 2, told("Capture 0 TornRecord 1"), REPORT)
+    scene.expect("steps -v l.txt s.txt torn.pcap", 2, told("Capture 0 TornRecord 1"), EXPLAINED + REPORT)
+    scene.expect("steps /dev/null /dev/null whole.pcap")
+    scene.check("files", scene.files(), before)

@@ -1,0 +1,69 @@
+"""Standard streams that are closed or full: no file of a command gets what is told or printed there."""
+import itertools
+
+from .common import ALL, HEADER, IP, TCP_RECORD, TORN, UDP_RECORD, WHOLE, as_bytes, case, header, told
+from .steps import EXPLAINED, REPORT
+
+FILES = {
+    "all.bpf": ALL, "l.txt": "32 64\n", "s.txt": "arrive\n", "r.txt": "0 0 0 1048576 2 out.pcap\n",
+    "whole.pcap": WHOLE, "torn.pcap": TORN,
+}
+FULL = "Device standard output"
+RAN = "interface 0 listener 0 received 1 matched 1 dropped 0 written 1 Clean\n"
+
+# The words, what is printed, the faults, the status, and OUT.
+COMMANDS = [
+    ("cut -s 0 -f all.bpf whole.pcap out.pcap", "", [], 0, {"out.pcap": WHOLE}),
+    ("cut -s 0 -f all.bpf torn.pcap out.pcap", "", ["TornRecord 1"], 2, {"out.pcap": WHOLE}),
+    ("check ip", IP, [], 0, {}),
+    ("check 'tcp and 80'", "", ["NoQualifier 8"], 1, {}),
+    ("steps l.txt s.txt whole.pcap", REPORT, [], 0, {}),
+    ("steps -v l.txt s.txt torn.pcap", EXPLAINED + REPORT, ["Capture 0 TornRecord 1"], 2, {}),
+    ("run r.txt whole.pcap", RAN, [], 0, {"out.pcap": WHOLE}),
+    ("run r.txt torn.pcap", RAN, ["Interface 0 Capture 0 TornRecord 1"], 2, {"out.pcap": WHOLE}),
+]
+
+
+def closings():
+    """Each combination of closed standard streams: its redirections, and whether output and error are among them."""
+    streams = ["<&-", ">&-", "2>&-"]
+    for closed in itertools.product([False, True], repeat=3):
+        yield " ".join(text for text, is_closed in zip(streams, closed) if is_closed), closed[1], closed[2]
+
+
+@case
+def no_file_gets_what_is_told_or_printed(scene):
+    """With each combination of closed streams OUT has the packets alone, and the status tells what is not printed."""
+    for streams, no_out, no_err in closings():
+        for words, printed, faults, status, files in COMMANDS:
+            scene.start(FILES)
+            before = scene.files()
+            if no_out and printed:
+                printed, faults, status = "", [FULL, *faults], 3
+            scene.expect(words, status, "" if no_err else told(*faults), printed, streams)
+            scene.check(f"files behind {words} {streams}", scene.files(), {**before, **files})
+
+
+@case
+def no_file_gets_help(scene):
+    """The same of help: what standard output does not take is told, and goes nowhere else."""
+    scene.put(FILES)
+    before = scene.files()
+    for streams, no_out, no_err in closings():
+        seen = scene.run("--help", streams)
+        wanted = (as_bytes(told(FULL)) if no_out and not no_err else b"", 3 if no_out else 0)
+        scene.check(f"--help {streams}", (seen.err, seen.status), wanted)
+        scene.check(f"printed by --help {streams}", b"Examples:\n" in seen.out, not no_out)
+        scene.check(f"files behind --help {streams}", scene.files(), before)
+
+
+@case
+def a_full_device_is_told(scene):
+    """What a full device does not take is told with status 3, and other faults behind it."""
+    scene.put({**FILES, "two.txt": "0 0 64 1048576 2 tcp.pcap tcp\n0 0 0 1048576 2 all.pcap\n"})
+    scene.put({"tu.pcap": HEADER + TCP_RECORD + UDP_RECORD})
+    for words in ["check ip", "steps l.txt s.txt whole.pcap"]:
+        scene.expect(words, 3, told(FULL), streams=">/dev/full")
+    scene.expect("run two.txt tu.pcap torn.pcap", 3, told(FULL, "Interface 0 Capture 1 TornRecord 1"), streams=">/dev/full")
+    scene.check("one OUT", scene.read("tcp.pcap"), header(64) + TCP_RECORD)
+    scene.check("the other OUT", scene.read("all.pcap"), HEADER + TCP_RECORD + UDP_RECORD + WHOLE[24:])
