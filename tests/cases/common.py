@@ -77,7 +77,9 @@ def text_of(words):
 
 
 def difference(seen, wanted):
-    """Both values; of long ones what stands round the first character that differs."""
+    """Both values; of files those that differ, and of long texts what stands round the first character that differs."""
+    if isinstance(seen, dict):
+        seen, wanted = dict(sorted(seen.items() - wanted.items())), dict(sorted(wanted.items() - seen.items()))
     texts = [repr(seen), repr(wanted)]
     place = max(0, len(os.path.commonprefix(texts)) - 40)
     if max(map(len, texts)) > 400:

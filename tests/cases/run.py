@@ -81,7 +81,9 @@ def an_out_loses_what_it_had(scene):
     scene.put({"kept.pcap": "kept " * 100})
     scene.expect("run listeners.txt t.pcap", out=report((0, 0), 1, 1))
     scene.check("a long OUT", scene.read("kept.pcap"), HEADER + T)
-    scene.refuse("run /dev/null tu.pcap", 0)
+    before = scene.files()
+    scene.expect("run /dev/null tu.pcap")
+    scene.check("files behind no listeners", scene.files(), before)
 
 
 # The captures of two interfaces, what the listener of each one keeps, the faults and the status.

@@ -53,7 +53,8 @@ def no_file_gets_help(scene):
         seen = scene.run("--help", streams)
         wanted = (as_bytes(told(FULL)) if no_out and not no_err else b"", 3 if no_out else 0)
         scene.check(f"--help {streams}", (seen.err, seen.status), wanted)
-        scene.check(f"printed by --help {streams}", b"Examples:\n" in seen.out, not no_out)
+        if not no_out:
+            scene.check(f"printed by --help {streams}", b"Examples:\n" in seen.out, True)
         scene.check(f"files behind --help {streams}", scene.files(), before)
 
 

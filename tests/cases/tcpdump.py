@@ -1,4 +1,5 @@
 """The real capture of `examples/`: what each command keeps of it is what tcpdump keeps."""
+import os
 import subprocess
 import sys
 
@@ -105,7 +106,7 @@ def run_all(scene, room):
     return reports
 
 
-# `bench/filters.py`, whose own program is the built one, with the program that is tested.
+# `bench/filters.py` with the program that is tested in place of its own.
 FIGURES = "import sys, pathlib, filters; filters.PROGRAM = pathlib.Path(sys.argv.pop(1)); filters.main()"
 
 
@@ -113,6 +114,7 @@ FIGURES = "import sys, pathlib, filters; filters.PROGRAM = pathlib.Path(sys.argv
 def packets_and_bytes_are_those_of_tcpdump(scene):
     """`bench/filters.py --figures` finds in what `cut -e` writes as many packets and bytes as in what tcpdump does."""
     done = subprocess.run(
-        [sys.executable, "-c", FIGURES, PROGRAM, "--figures"], cwd=ROOT / "bench", capture_output=True, text=True)
+        [sys.executable, "-c", FIGURES, PROGRAM, "--figures"], cwd=scene.folder, capture_output=True, text=True,
+        env={**os.environ, "PYTHONPATH": str(ROOT / "bench")})
     wanted = ["23 expressions, 0 of them differ from tcpdump"]
     scene.check("figures", (done.stdout.splitlines(), done.stderr, done.returncode), (wanted, "", 0))
