@@ -1,0 +1,387 @@
+#!/usr/bin/env python3
+"""Tries wrong bodies in batches: the prover has to refuse each of them.
+
+  tests/edits.py [NAME..]          the edits in crates/NAME/more-must-fail/, of these crates or of all
+  tests/edits.py --all [NAME..]    those in crates/NAME/must-fail/ too, which `rt ci` tries one by one
+  tests/edits.py --list [NAME..]   the batches, and tries nothing
+
+An edit puts one wrong body into one function. Here many of them, in functions that don't call one another, go into one copy
+of the crate, which is checked once: each of these functions has to come back as not proved, with a goal of its own. An edit
+that does not come back so is tried alone, and so is one that changes something else than one function. An edit that is
+still proved is a failure: then a contract says too little, or the edit is none.
+
+The copies lie in a temporary folder and take the work along that `rt check` kept in out/; so run `rt all check` before,
+or each crate is first proved from nothing. The last line is `N passed, M failed`.
+"""
+import argparse
+import collections
+import functools
+import os
+import pathlib
+import re
+import shutil
+import subprocess
+import sys
+import tempfile
+import threading
+import time
+
+ROOT = pathlib.Path(__file__).resolve().parent.parent
+GATE, APART = "must-fail", "more-must-fail"
+PARTS = ("src", "specs", "proofs")
+
+# A head of a function or of an impl, in rt fmt's layout: what it opens ends at the next `}` that stands as far in.
+HEAD = re.compile(r"^( *)(?:pub(?:\([a-z]+\))? )?(?:const )?fn (\w+)|^()((?:unsafe )?impl\b.*|(?:pub )?trait .*)\{$", re.M)
+# What the check says of an item that is not proved, and of one that only calls such an item.
+UNPROVED = re.compile(r"^(?:fn|struct|enum|impl|trait|const) (\S+): (not proved.*|no proof.*)$", re.M)
+CALLS_UNPROVED = "no proof: it calls "
+# An error says that a text can't be read, where it stands in the code and names no goal, or says one of these.
+UNREAD = re.compile(r"is not in scope|has no field|is no name|operand is missing|expected the end|cannot continue")
+
+
+class Function:
+    """A function of a crate: where it stands, and how the check names it."""
+
+    def __init__(self, crate, path, text, head, owner):
+        self.name, self.owner, self.path, self.start = head[2], owner, path, head.start()
+        line = text.index("\n", head.end())
+        is_line = text[line - 1] == "}"
+        self.end = line if is_line else re.compile(rf"^{head[1]}\{{?\}}$", re.M).search(text, line).end()
+        self.text = text[self.start : self.end]
+        self.lines = range(text.count("\n", 0, self.start) + 1, text.count("\n", 0, self.end) + 2)
+        # A method is named by its type's file, any other function by its own, and a closure by the function that it stands in.
+        modules = "" if path in ("src/lib.rt", "src/main.rt") else path[len("src/") : -len(".rt")].replace("/", "::") + "::"
+        where = rf"(?:\w+::)*(?:fn::)?{owner}::" if owner else rf"{modules}(?:fn::)?"
+        self.pattern = re.compile(rf"{crate}::{where}{self.name}(?:::.*)?")
+
+    def __str__(self):
+        return f"{self.owner}::{self.name}".replace("\\w*", "") if self.owner else self.name
+
+
+def owner_of(head):
+    """A pattern of how the check names what an impl is for: `Reader`, or with a trait `FaultFromBroken`. A trait's own functions
+    have no bodies."""
+    if not re.match(r"(unsafe )?impl\b", head):
+        return ""
+    words = re.sub(r"^(unsafe )?impl\b\s*(<.*?>(?= \w| &))?", "", head).partition(" where ")[0]
+    trait, _, of = words.rpartition(" for ")
+    trait = "".join(re.findall(r"\w+\b(?!::)", re.sub(r"'\w+", "", trait)))
+    return (re.match(r"\s*(?:\w+::)*(\w*)", of)[1] or r"\w*") + (trait and trait + r"\w*")
+
+
+def functions_of(crate):
+    """The functions of a crate's code, file by file."""
+    found = []
+    for file in sorted((ROOT / "crates" / crate / "src").rglob("*.rt")):
+        text, path, owner, end = file.read_text(), str(file.relative_to(ROOT / "crates" / crate)), "", 0
+        for head in HEAD.finditer(text):
+            if head[4]:
+                owner, end = owner_of(head[4]), text.find("\n}", head.start())
+            elif owner or head.start() > end:
+                found.append(Function(crate, path, text, head, owner if head.start() < end else ""))
+    return found
+
+
+class Edit:
+    """An edit: its changed files, and the function that it changes, if it changes one alone."""
+
+    def __init__(self, crate, file, functions):
+        self.crate, self.file, self.name = crate, file, file.stem
+        self.why = ""
+        try:
+            self.texts = self.apply(file.read_text())
+        except (OSError, ValueError) as error:
+            self.texts, self.why = {}, f"it can't be applied: {error}"
+        self.function = self.changed(functions)
+
+    def apply(self, said):
+        """The texts of the files that it changes, by their paths in the crate."""
+        texts, path, old = {}, "", ""
+        for line in said.split("\n"):
+            word, _, rest = line.partition(":")
+            rest = rest.removeprefix(" ")
+            if word == "file":
+                path = rest.strip()
+                if not path.startswith(tuple(f"{it}/" for it in PARTS)):
+                    raise ValueError(f"{path} is no file below src, specs or proofs")
+                texts.setdefault(path, (ROOT / "crates" / self.crate / path).read_text())
+            elif word == "old":
+                old = rest
+            elif word == "new":
+                if not old or texts[path].count(old) != 1:
+                    raise ValueError(f"`{old}` does not stand once in {path}")
+                texts[path], old = texts[path].replace(old, rest), ""
+        if not texts:
+            raise ValueError("it has no line `file:`")
+        return texts
+
+    def changed(self, functions):
+        """The one function in which all that it changes stands. What it puts there is kept with its place."""
+        if len(self.texts) != 1:
+            return None
+        [(path, new)] = self.texts.items()
+        old = (ROOT / "crates" / self.crate / path).read_text()
+        start = len(os.path.commonprefix([old, new]))
+        behind = len(os.path.commonprefix([old[start:][::-1], new[start:][::-1]]))
+        self.place = path, start, len(old) - behind, new[start : len(new) - behind]
+        own = [it for it in functions if it.path == path and it.start <= start and len(old) - behind <= it.end]
+        # A function within a function is the inner one's text, and the outer one's.
+        return max(own, key=lambda it: it.start, default=None)
+
+    def __str__(self):
+        return f"{self.crate}/{self.name}"
+
+
+def edits_of(crate, folders):
+    functions = functions_of(crate)
+    files = [it for folder in folders for it in sorted((ROOT / "crates" / crate / folder).glob("*.edit"))]
+    return [Edit(crate, it, functions) for it in files], functions
+
+
+def called(function, functions):
+    """What a function may call: by `.name(` each method of that name, by `Type::name` that type's, by `name` what is no method."""
+    text = re.sub(r"//.*|^ *(?:requires|ensures|ghost)\b.*", "", function.text.partition(function.name)[2], flags=re.M)
+    methods = set(re.findall(r"\.\s*(\w+)\(", text))
+    of_types = {(function.owner if owner == "Self" else owner, name) for owner, name in re.findall(r"\b([A-Z]\w*)::([a-z]\w*)", text)}
+    others = set(re.findall(r"(?<![\w.])(?:[a-z]\w*::)*([a-z]\w*)", text))
+    is_called = lambda it: it.name in methods or (it.owner, it.name) in of_types if it.owner else it.name in others
+    return {it for it in functions if is_called(it)}
+
+
+def reached(functions):
+    """For each function those that it calls, directly or through others."""
+    calls = {it: called(it, functions) for it in functions}
+    for it in functions:
+        todo = [*calls[it]]
+        while todo:
+            new = calls[todo.pop()] - calls[it]
+            calls[it] = calls[it] | new
+            todo += new
+    return calls
+
+
+def batches_of(edits, functions):
+    """Puts the edits into batches: in each, functions that don't call one another; alone, what is no body of one function."""
+    calls = reached(functions)
+    alone, shared = [[it] for it in edits if not it.function], []
+    for edit in (it for it in edits if it.function):
+        mine = edit.function
+        others = [[it.function for it in batch] for batch in shared]
+        free = (at for at, of in enumerate(others) if not any(it is mine or it in calls[mine] or mine in calls[it] for it in of))
+        at = next(free, None)
+        if at is None:
+            shared.append([edit])
+        else:
+            shared[at].append(edit)
+    return shared + alone
+
+
+def texts_of(batch):
+    """The changed files of a batch."""
+    if len(batch) == 1:
+        return batch[0].texts
+    texts = {}
+    for path, start, end, new in sorted((it.place for it in batch), reverse=True):
+        text = texts.get(path) or (ROOT / "crates" / batch[0].crate / path).read_text()
+        texts[path] = text[:start] + new + text[end:]
+    return texts
+
+
+def listed():
+    """The lines of crates.txt by the crate's name, and what each crate stands on."""
+    lines, below = {}, {}
+    for line in (ROOT / "crates.txt").read_text().splitlines():
+        head, is_line, words = line.partition("#")[0].partition(":")
+        if is_line:
+            name = head.split()[0]
+            lines[name], below[name] = line, words.split()
+    return lines, below
+
+
+class Copy:
+    """A copy of a crate and of the libraries that it stands on, with the work that was kept of them."""
+
+    def __init__(self, crate, room):
+        lines, below = listed()
+        self.crate, self.room, own = crate, room, [crate]
+        for it in own:
+            own += [low for low in below[it] if low in lines and low not in own]
+        (room / "crates.txt").write_text("".join(f"{lines[it]}\n" for it in lines if it in own))
+        shutil.copy(ROOT / "HANDLES", room)
+        for it in own:
+            for part in [*PARTS, "out/rlib", *["out/incremental"] * (it == crate)]:
+                if (ROOT / "crates" / it / part).is_dir():
+                    shutil.copytree(ROOT / "crates" / it / part, room / "crates" / it / part)
+
+    def check(self, texts):
+        """What `rt check` says with these texts in place of the crate's own."""
+        folder = self.room / "crates" / self.crate
+        for path, text in texts.items():
+            (folder / path).write_text(text)
+        try:
+            words = ["rt", "check", "--jobs", "1"]
+            how = {"stdin": subprocess.DEVNULL, "stdout": subprocess.PIPE, "stderr": subprocess.STDOUT, "errors": "replace"}
+            return subprocess.run(words, cwd=folder, **how).stdout
+        finally:
+            for path in texts:
+                shutil.copy(ROOT / "crates" / self.crate / path, folder / path)
+
+
+def is_unread(log, texts):
+    """Whether the prover can't read a text, or there was no proof at all."""
+    for at in re.finditer(r"^(?:\./)?(\S+?):\d+:\d+: error: (?:(`[^`]*`): )?(.*)", log, re.M):
+        is_own = at[1] in texts or at[1].startswith(("src/", "specs/"))
+        if is_own and (not at[2] or UNREAD.search(re.sub(r"`[^`]*`", "", at[3]))):
+            return True
+    return not re.search(r"^logic=(not-)?proved\b", log, re.M)
+
+
+def refusals(log):
+    """The items that are refused for themselves, each with the goals that are not proved."""
+    found = {}
+    for name, why in UNPROVED.findall(log):
+        if why.startswith(CALLS_UNPROVED):
+            continue
+        goals = re.findall(r"`([^`]*)`", why.partition("did not prove")[2].partition("; it calls")[0])
+        at = re.escape("/".join(name.split("::")[1:]))
+        for goal, said in re.findall(rf"^\./proofs/{at}/\S+ error: `([^`]*)`: (.*)", log, re.M):
+            goals += [goal] * ("was not admitted" not in said)
+        if goals:
+            found[name] = list(dict.fromkeys(goals))
+    return found
+
+
+def told(log, function, goals):
+    """The goals, and in words what the first note at the function says of one."""
+    for line, said, goal in re.findall(r"^note: src/\S+?:(\d+):\d+: (.*?) \(`([^`]*)`\)", log, re.M):
+        if function and int(line) in function.lines and goal in goals:
+            return f"{', '.join(goals)}: {said}"
+    return ", ".join(goals)
+
+
+class Trial:
+    """All that is to be tried, and what came of it."""
+
+    def __init__(self, waiting, logs):
+        self.waiting, self.logs = waiting, logs
+        self.count = sum(len(batch) for batches in waiting.values() for batch in batches)
+        self.at, self.passed, self.failed = collections.Counter(), 0, []
+        self.lock, self.start = threading.Lock(), time.monotonic()
+
+    def next_batch(self, mine):
+        """The next batch: of this lane's crate if it has any left, else of the crate with the fewest lanes."""
+        with self.lock:
+            left = [it for it in self.waiting if self.waiting[it]]
+            if not left:
+                return None
+            crate = mine if mine in left else min(left, key=lambda it: (self.at[it], -len(self.waiting[it])))
+            self.at[crate] += 1
+            return self.waiting[crate].pop(0)
+
+    def end(self, edit, well, said):
+        with self.lock:
+            self.passed += well
+            self.failed += [str(edit)] * (not well)
+            share = f"{self.passed + len(self.failed)}/{self.count}"
+            print(f"{share:>8}  {'refused' if well else 'FAILED '}  {edit}  {edit.function or '-'}: {said}", flush=True)
+
+    def say(self, text):
+        with self.lock:
+            print(f"{(time.monotonic() - self.start) / 60:5.1f} min  {text}", flush=True)
+
+    def lane(self):
+        """Tries one batch after the other, each crate in a copy of this lane's own."""
+        copy, batch = None, self.next_batch("")
+        while batch:
+            crate = batch[0].crate
+            with tempfile.TemporaryDirectory(prefix="edits-") as room:
+                if not (ROOT / "crates" / crate / "out/incremental").is_dir():
+                    self.say(f"{crate}: no work is kept in out/, so it is proved from nothing first")
+                copy = Copy(crate, pathlib.Path(room))
+                is_proved = re.search(r"^logic=proved\b", copy.check({}), re.M)
+                while batch and batch[0].crate == crate:
+                    if is_proved:
+                        self.try_batch(copy, batch)
+                    else:
+                        [self.end(it, False, f"{crate} itself is not proved") for it in batch]
+                    batch = self.next_batch(crate)
+
+    def try_batch(self, copy, batch):
+        if len(batch) == 1:
+            return self.try_alone(copy, batch[0])
+        self.say(f"{copy.crate}: {len(batch)} edits in one check, {len(self.waiting[copy.crate])} checks behind it")
+        texts = texts_of(batch)
+        log = self.check(copy, texts, "+".join(it.name for it in batch))
+        found = {} if is_unread(log, texts) else refusals(log)
+        for edit in batch:
+            goals = [goal for name in found if edit.function.pattern.fullmatch(name) for goal in found[name]]
+            if goals:
+                self.end(edit, True, told(log, edit.function, goals))
+            else:
+                self.try_alone(copy, edit)
+
+    def try_alone(self, copy, edit):
+        if edit.why:
+            return self.end(edit, False, edit.why)
+        self.say(f"{copy.crate}: {edit.name} alone")
+        log = self.check(copy, edit.texts, edit.name)
+        found = refusals(log)
+        if is_unread(log, edit.texts):
+            said = re.search(r"^.*\berror\b.*$", log, re.M)
+            self.end(edit, False, f"the prover can't read it: {said[0] if said else log[-300:]}")
+        elif re.search(r"^logic=proved\b", log, re.M):
+            self.end(edit, False, "it is still PROVED")
+        elif not found:
+            self.end(edit, False, "no function is named as not proved with a goal of its own")
+        else:
+            own = [name for name in found if edit.function and edit.function.pattern.fullmatch(name)]
+            name = (own or list(found))[0]
+            by = "" if own else f"by {name}: "
+            self.end(edit, True, by + told(log, edit.function, found[name]))
+
+    def check(self, copy, texts, name):
+        log = copy.check(texts)
+        if self.logs:
+            self.logs.mkdir(parents=True, exist_ok=True)
+            (self.logs / f"{copy.crate}-{name[:180]}.log").write_text(log)
+        return log
+
+
+def parsed():
+    parser = argparse.ArgumentParser(description=__doc__, formatter_class=argparse.RawDescriptionHelpFormatter)
+    parser.add_argument("names", nargs="*", metavar="NAME", help="a crate, or an edit of it as NAME/EDIT")
+    parser.add_argument("--all", action="store_true", help=f"the edits of {GATE}/ too")
+    parser.add_argument("--list", action="store_true", help="print the batches alone")
+    parser.add_argument("--jobs", type=int, default=1, metavar="N", help="so many checks at once (1; each takes up to 3 GB)")
+    parser.add_argument("--logs", type=pathlib.Path, metavar="FOLDER", help="keep what the check says of each batch there")
+    return parser.parse_args()
+
+
+def main():
+    given = parsed()
+    folders = [APART, *[GATE] * given.all]
+    crates = list(dict.fromkeys(it.partition("/")[0] for it in given.names)) or list(listed()[0])
+    wanted = {it for it in given.names if "/" in it}
+    waiting = {}
+    for crate in crates:
+        if crate not in listed()[0]:
+            sys.exit(f"crates.txt lists no crate {crate}")
+        edits, functions = edits_of(crate, folders)
+        whole = crate in given.names or not given.names
+        waiting[crate] = batches_of([it for it in edits if whole or str(it) in wanted], functions)
+    if given.list:
+        for batch in (it for batches in waiting.values() for it in batches):
+            print(f"{batch[0].crate}: {', '.join(f'{it.name} ({it.function})' for it in batch)}")
+        return 0
+    trial = Trial(waiting, given.logs)
+    lanes = [threading.Thread(target=trial.lane) for _ in range(max(1, given.jobs))]
+    [it.start() for it in lanes]
+    [it.join() for it in lanes]
+    if trial.failed:
+        print(f"FAILED: {' '.join(trial.failed)}")
+    print(f"{trial.passed} passed, {len(trial.failed)} failed")
+    return 1 if trial.failed else 0
+
+
+if __name__ == "__main__":
+    sys.exit(main())
