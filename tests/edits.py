@@ -2,8 +2,9 @@
 """Tries wrong bodies in batches: the prover has to refuse each of them.
 
   tests/edits.py [NAME..]          the edits in crates/NAME/more-must-fail/, of these crates or of all
+  tests/edits.py NAME/EDIT..       these edits, in whichever folder
   tests/edits.py --all [NAME..]    those in crates/NAME/must-fail/ too, which `rt ci` tries one by one
-  tests/edits.py --list [NAME..]   the batches, and tries nothing
+  tests/edits.py --list [NAME..]   prints the batches, and tries nothing
 
 An edit puts one wrong body into one function. Here many of them, in functions that don't call one another, go into one copy
 of the crate, which is checked once: each of these functions has to come back as not proved, with a goal of its own. An edit
@@ -15,7 +16,6 @@ or each crate is first proved from nothing. The last line is `N passed, M failed
 """
 import argparse
 import collections
-import functools
 import os
 import pathlib
 import re
@@ -42,43 +42,46 @@ UNREAD = re.compile(r"is not in scope|has no field|is no name|operand is missing
 class Function:
     """A function of a crate: where it stands, and how the check names it."""
 
-    def __init__(self, crate, path, text, head, owner):
+    def __init__(self, crate, path, text, head, owner, pattern):
         self.name, self.owner, self.path, self.start = head[2], owner, path, head.start()
         line = text.index("\n", head.end())
         is_line = text[line - 1] == "}"
         self.end = line if is_line else re.compile(rf"^{head[1]}\{{?\}}$", re.M).search(text, line).end()
         self.text = text[self.start : self.end]
         self.lines = range(text.count("\n", 0, self.start) + 1, text.count("\n", 0, self.end) + 2)
-        # A method is named by its type's file, any other function by its own, and a closure by the function that it stands in.
+        # A method is named by its type's file, any other function by its own, a closure by the function that it stands in.
         modules = "" if path in ("src/lib.rt", "src/main.rt") else path[len("src/") : -len(".rt")].replace("/", "::") + "::"
-        where = rf"(?:\w+::)*(?:fn::)?{owner}::" if owner else rf"{modules}(?:fn::)?"
+        where = rf"(?:\w+::)*(?:fn::)?{pattern}::" if owner else rf"{modules}(?:fn::)?"
         self.pattern = re.compile(rf"{crate}::{where}{self.name}(?:::.*)?")
 
     def __str__(self):
-        return f"{self.owner}::{self.name}".replace("\\w*", "") if self.owner else self.name
+        return f"{self.owner}::{self.name}" if self.owner else self.name
 
 
 def owner_of(head):
-    """A pattern of how the check names what an impl is for: `Reader`, or with a trait `FaultFromBroken`. A trait's own functions
-    have no bodies."""
+    """The type of an impl, and a pattern of how the check names it: `Reader`, with a trait `FaultFromBroken`. The functions of
+    a trait itself have no bodies."""
     if not re.match(r"(unsafe )?impl\b", head):
-        return ""
+        return "", ""
     words = re.sub(r"^(unsafe )?impl\b\s*(<.*?>(?= \w| &))?", "", head).partition(" where ")[0]
     trait, _, of = words.rpartition(" for ")
-    trait = "".join(re.findall(r"\w+\b(?!::)", re.sub(r"'\w+", "", trait)))
-    return (re.match(r"\s*(?:\w+::)*(\w*)", of)[1] or r"\w*") + (trait and trait + r"\w*")
+    owner = re.search(r"\w+(?!\w*::)", of)[0]
+    # Of `From<AllocFailed<T>>` it has `FromAllocFailed`.
+    trait = re.sub(r"'\w+|(<[^<>]*)<.*", r"\1", trait)
+    trait = "".join(re.findall(r"\w+(?!\w*::)", trait))
+    return owner, ("Ref" if "&" in of else owner) + (trait and rf"\w*{trait}\w*")
 
 
 def functions_of(crate):
     """The functions of a crate's code, file by file."""
     found = []
     for file in sorted((ROOT / "crates" / crate / "src").rglob("*.rt")):
-        text, path, owner, end = file.read_text(), str(file.relative_to(ROOT / "crates" / crate)), "", 0
+        text, path, owner, end = file.read_text(), str(file.relative_to(ROOT / "crates" / crate)), ("", ""), 0
         for head in HEAD.finditer(text):
             if head[4]:
                 owner, end = owner_of(head[4]), text.find("\n}", head.start())
-            elif owner or head.start() > end:
-                found.append(Function(crate, path, text, head, owner if head.start() < end else ""))
+            elif owner[0] or head.start() > end:
+                found.append(Function(crate, path, text, head, *(owner if head.start() < end else ("", ""))))
     return found
 
 
@@ -132,17 +135,18 @@ class Edit:
         return f"{self.crate}/{self.name}"
 
 
-def edits_of(crate, folders):
+def edits_of(crate):
+    """The edits of a crate, and its functions."""
     functions = functions_of(crate)
-    files = [it for folder in folders for it in sorted((ROOT / "crates" / crate / folder).glob("*.edit"))]
+    files = [it for folder in (APART, GATE) for it in sorted((ROOT / "crates" / crate / folder).glob("*.edit"))]
     return [Edit(crate, it, functions) for it in files], functions
 
 
 def called(function, functions):
-    """What a function may call: by `.name(` each method of that name, by `Type::name` that type's, by `name` what is no method."""
+    """What a function may call: by `.name(` each method of that name, by `Type::name` that type's, by `name` the others."""
     text = re.sub(r"//.*|^ *(?:requires|ensures|ghost)\b.*", "", function.text.partition(function.name)[2], flags=re.M)
     methods = set(re.findall(r"\.\s*(\w+)\(", text))
-    of_types = {(function.owner if owner == "Self" else owner, name) for owner, name in re.findall(r"\b([A-Z]\w*)::([a-z]\w*)", text)}
+    of_types = re.findall(r"\b([A-Z]\w*)::([a-z]\w*)", re.sub(r"\bSelf\b", function.owner, text))
     others = set(re.findall(r"(?<![\w.])(?:[a-z]\w*::)*([a-z]\w*)", text))
     is_called = lambda it: it.name in methods or (it.owner, it.name) in of_types if it.owner else it.name in others
     return {it for it in functions if is_called(it)}
@@ -161,18 +165,17 @@ def reached(functions):
 
 
 def batches_of(edits, functions):
-    """Puts the edits into batches: in each, functions that don't call one another; alone, what is no body of one function."""
+    """Puts the edits into batches of functions that don't call one another; alone, what is no body of one function."""
     calls = reached(functions)
     alone, shared = [[it] for it in edits if not it.function], []
+    belong = lambda one, other: one is other or one in calls[other] or other in calls[one]
     for edit in (it for it in edits if it.function):
-        mine = edit.function
-        others = [[it.function for it in batch] for batch in shared]
-        free = (at for at, of in enumerate(others) if not any(it is mine or it in calls[mine] or mine in calls[it] for it in of))
-        at = next(free, None)
-        if at is None:
-            shared.append([edit])
+        for batch in shared:
+            if not any(belong(edit.function, it.function) for it in batch):
+                batch.append(edit)
+                break
         else:
-            shared[at].append(edit)
+            shared.append([edit])
     return shared + alone
 
 
@@ -216,6 +219,7 @@ class Copy:
     def check(self, texts):
         """What `rt check` says with these texts in place of the crate's own."""
         folder = self.room / "crates" / self.crate
+        were = {path: (folder / path).read_text() for path in texts}
         for path, text in texts.items():
             (folder / path).write_text(text)
         try:
@@ -223,8 +227,8 @@ class Copy:
             how = {"stdin": subprocess.DEVNULL, "stdout": subprocess.PIPE, "stderr": subprocess.STDOUT, "errors": "replace"}
             return subprocess.run(words, cwd=folder, **how).stdout
         finally:
-            for path in texts:
-                shutil.copy(ROOT / "crates" / self.crate / path, folder / path)
+            for path, text in were.items():
+                (folder / path).write_text(text)
 
 
 def is_unread(log, texts):
@@ -252,18 +256,21 @@ def refusals(log):
 
 
 def told(log, function, goals):
-    """The goals, and in words what the first note at the function says of one."""
+    """The goals that are not proved: those of clauses, whose names begin with `returns`; else in words what one asks."""
+    clauses = [it for it in goals if it.startswith("returns")]
+    if clauses:
+        return f"ensures ({', '.join(clauses)})"
     for line, said, goal in re.findall(r"^note: src/\S+?:(\d+):\d+: (.*?) \(`([^`]*)`\)", log, re.M):
         if function and int(line) in function.lines and goal in goals:
-            return f"{', '.join(goals)}: {said}"
-    return ", ".join(goals)
+            return f"{said} ({', '.join(goals)})"
+    return f"({', '.join(goals)})"
 
 
 class Trial:
     """All that is to be tried, and what came of it."""
 
-    def __init__(self, waiting, logs):
-        self.waiting, self.logs = waiting, logs
+    def __init__(self, waiting, room, logs):
+        self.waiting, self.room, self.logs = waiting, room, logs
         self.count = sum(len(batch) for batches in waiting.values() for batch in batches)
         self.at, self.passed, self.failed = collections.Counter(), 0, []
         self.lock, self.start = threading.Lock(), time.monotonic()
@@ -283,7 +290,7 @@ class Trial:
             self.passed += well
             self.failed += [str(edit)] * (not well)
             share = f"{self.passed + len(self.failed)}/{self.count}"
-            print(f"{share:>8}  {'refused' if well else 'FAILED '}  {edit}  {edit.function or '-'}: {said}", flush=True)
+            print(f"{share:>8}  {'refused' if well else 'FAILED'}  {edit}: {said}", flush=True)
 
     def say(self, text):
         with self.lock:
@@ -294,7 +301,7 @@ class Trial:
         copy, batch = None, self.next_batch("")
         while batch:
             crate = batch[0].crate
-            with tempfile.TemporaryDirectory(prefix="edits-") as room:
+            with tempfile.TemporaryDirectory(dir=self.room, ignore_cleanup_errors=True) as room:
                 if not (ROOT / "crates" / crate / "out/incremental").is_dir():
                     self.say(f"{crate}: no work is kept in out/, so it is proved from nothing first")
                 copy = Copy(crate, pathlib.Path(room))
@@ -316,7 +323,7 @@ class Trial:
         for edit in batch:
             goals = [goal for name in found if edit.function.pattern.fullmatch(name) for goal in found[name]]
             if goals:
-                self.end(edit, True, told(log, edit.function, goals))
+                self.end(edit, True, f"{edit.function} {told(log, edit.function, goals)}")
             else:
                 self.try_alone(copy, edit)
 
@@ -336,8 +343,7 @@ class Trial:
         else:
             own = [name for name in found if edit.function and edit.function.pattern.fullmatch(name)]
             name = (own or list(found))[0]
-            by = "" if own else f"by {name}: "
-            self.end(edit, True, by + told(log, edit.function, found[name]))
+            self.end(edit, True, f"{edit.function if own else name} {told(log, edit.function, found[name])}")
 
     def check(self, copy, texts, name):
         log = copy.check(texts)
@@ -349,7 +355,7 @@ class Trial:
 
 def parsed():
     parser = argparse.ArgumentParser(description=__doc__, formatter_class=argparse.RawDescriptionHelpFormatter)
-    parser.add_argument("names", nargs="*", metavar="NAME", help="a crate, or an edit of it as NAME/EDIT")
+    parser.add_argument("names", nargs="*", metavar="NAME", help="a crate, or one edit of it as NAME/EDIT")
     parser.add_argument("--all", action="store_true", help=f"the edits of {GATE}/ too")
     parser.add_argument("--list", action="store_true", help="print the batches alone")
     parser.add_argument("--jobs", type=int, default=1, metavar="N", help="so many checks at once (1; each takes up to 3 GB)")
@@ -357,30 +363,43 @@ def parsed():
     return parser.parse_args()
 
 
-def main():
-    given = parsed()
-    folders = [APART, *[GATE] * given.all]
+def chosen(given):
+    """The batches of each crate that is named, or of all."""
     crates = list(dict.fromkeys(it.partition("/")[0] for it in given.names)) or list(listed()[0])
-    wanted = {it for it in given.names if "/" in it}
-    waiting = {}
+    waiting, left = {}, {it for it in given.names if "/" in it}
     for crate in crates:
         if crate not in listed()[0]:
             sys.exit(f"crates.txt lists no crate {crate}")
-        edits, functions = edits_of(crate, folders)
-        whole = crate in given.names or not given.names
-        waiting[crate] = batches_of([it for it in edits if whole or str(it) in wanted], functions)
+        edits, functions = edits_of(crate)
+        is_whole = crate in given.names or not given.names
+        whole = [it for it in edits if is_whole and (given.all or it.file.parent.name == APART)]
+        edits = [it for it in edits if it in whole or str(it) in left]
+        left -= {str(it) for it in edits}
+        waiting[crate] = batches_of(edits, functions)
+    if left:
+        sys.exit(f"there is no edit {', '.join(sorted(left))}")
+    return waiting
+
+
+def main():
+    given = parsed()
+    waiting = chosen(given)
     if given.list:
         for batch in (it for batches in waiting.values() for it in batches):
-            print(f"{batch[0].crate}: {', '.join(f'{it.name} ({it.function})' for it in batch)}")
+            print(f"{batch[0].crate}: {', '.join(f'{it.name} ({it.function})' if it.function else it.name for it in batch)}")
         return 0
-    trial = Trial(waiting, given.logs)
-    lanes = [threading.Thread(target=trial.lane) for _ in range(max(1, given.jobs))]
-    [it.start() for it in lanes]
-    [it.join() for it in lanes]
+    with tempfile.TemporaryDirectory(prefix="edits-", ignore_cleanup_errors=True) as room:
+        trial = Trial(waiting, room, given.logs)
+        # Where a person stops it, the lanes end with the process.
+        lanes = [threading.Thread(target=trial.lane, daemon=True) for _ in range(max(1, given.jobs))]
+        [it.start() for it in lanes]
+        [it.join() for it in lanes]
     if trial.failed:
         print(f"FAILED: {' '.join(trial.failed)}")
-    print(f"{trial.passed} passed, {len(trial.failed)} failed")
-    return 1 if trial.failed else 0
+    # An edit that a fault of this script left untried has not passed.
+    failed = trial.count - trial.passed
+    print(f"{trial.passed} passed, {failed} failed")
+    return 1 if failed else 0
 
 
 if __name__ == "__main__":
