@@ -4,7 +4,7 @@
   tests/edits.py [NAME..]          the edits in crates/NAME/more-must-fail/, of these crates or of all
   tests/edits.py NAME/EDIT..       these edits, in whichever folder
   tests/edits.py --all [NAME..]    those in crates/NAME/must-fail/ too, which `rt ci` tries one by one
-  tests/edits.py --list [NAME..]   prints the batches, and tries nothing
+  tests/edits.py --list [NAME..]   prints the batches, and says which edits can't be applied; it tries nothing
 
 An edit puts one wrong body into one function. Here many of them, in functions that don't call one another, go into one copy
 of the crate, which is checked once: each of these functions has to come back as not proved, with a goal of its own. An edit
@@ -59,8 +59,8 @@ class Function:
 
 
 def owner_of(head):
-    """The type of an impl, and a pattern of how the check names it: `Reader`, with a trait `FaultFromBroken`. The functions of
-    a trait itself have no bodies."""
+    """The type of an impl, and a pattern of how the check names it: `Reader`, with a trait `FaultFromBroken`. The functions
+    of a trait itself have no bodies."""
     if not re.match(r"(unsafe )?impl\b", head):
         return "", ""
     words = re.sub(r"^(unsafe )?impl\b\s*(<.*?>(?= \w| &))?", "", head).partition(" where ")[0]
@@ -357,7 +357,7 @@ def parsed():
     parser = argparse.ArgumentParser(description=__doc__, formatter_class=argparse.RawDescriptionHelpFormatter)
     parser.add_argument("names", nargs="*", metavar="NAME", help="a crate, or one edit of it as NAME/EDIT")
     parser.add_argument("--all", action="store_true", help=f"the edits of {GATE}/ too")
-    parser.add_argument("--list", action="store_true", help="print the batches alone")
+    parser.add_argument("--list", action="store_true", help="print the batches, and try nothing")
     parser.add_argument("--jobs", type=int, default=1, metavar="N", help="so many checks at once (1; each takes up to 3 GB)")
     parser.add_argument("--logs", type=pathlib.Path, metavar="FOLDER", help="keep what the check says of each batch there")
     return parser.parse_args()
@@ -381,13 +381,22 @@ def chosen(given):
     return waiting
 
 
+def show(waiting):
+    """Prints the batches, and which edits can't be applied."""
+    batches = [it for found in waiting.values() for it in found]
+    for batch in batches:
+        print(f"{batch[0].crate}: {', '.join(f'{it.name} ({it.function})' if it.function else it.name for it in batch)}")
+    failed = [it for batch in batches for it in batch if it.why]
+    for edit in failed:
+        print(f"{edit}: {edit.why}")
+    return 1 if failed else 0
+
+
 def main():
     given = parsed()
     waiting = chosen(given)
     if given.list:
-        for batch in (it for batches in waiting.values() for it in batches):
-            print(f"{batch[0].crate}: {', '.join(f'{it.name} ({it.function})' if it.function else it.name for it in batch)}")
-        return 0
+        return show(waiting)
     with tempfile.TemporaryDirectory(prefix="edits-", ignore_cleanup_errors=True) as room:
         trial = Trial(waiting, room, given.logs)
         # Where a person stops it, the lanes end with the process.
