@@ -240,24 +240,37 @@ def is_unread(log, texts):
     return not re.search(r"^logic=(not-)?proved\b", log, re.M)
 
 
+def own_goals(log, name, why, others):
+    """The goals of an item that are not proved, where `others` stand beside it and are not proved either."""
+    front, _, own = name.rpartition("::")
+    answers = re.search(r"expected answers in \S*/\+(\w+)/", why)
+    asked = re.findall(r"`([^`]*)`", why.partition("did not prove")[2].partition("; it calls")[0])
+    at = re.escape("/".join(front.split("::")[1:]))
+    wrong = re.findall(rf"^\./proofs/{at}/(?:\+(\w+)|{re.escape(own)})/\S+ error: `([^`]*)`: (.*)", log, re.M)
+    goals = [(answers and answers[1], goal) for goal in asked]
+    goals += [(group, goal) for group, goal, said in wrong if "was not admitted" not in said]
+    # Functions that call themselves or one another have one folder of proofs, as `+value`. Where it has several, each of
+    # them comes back as not proved, and a goal begins with the name of its own.
+    of_others = tuple(f"{it}-" for it in others)
+    is_own = lambda group, goal: goal.startswith(f"{own}-") or group == own and not goal.startswith(of_others)
+    return list(dict.fromkeys(goal for group, goal in goals if not group or is_own(group, goal)))
+
+
 def refusals(log):
-    """The items that are refused for themselves, each with the goals that are not proved."""
-    found = {}
-    for name, why in UNPROVED.findall(log):
-        if why.startswith(CALLS_UNPROVED):
-            continue
-        goals = re.findall(r"`([^`]*)`", why.partition("did not prove")[2].partition("; it calls")[0])
-        at = re.escape("/".join(name.split("::")[1:]))
-        for goal, said in re.findall(rf"^\./proofs/{at}/\S+ error: `([^`]*)`: (.*)", log, re.M):
-            goals += [goal] * ("was not admitted" not in said)
-        if goals:
-            found[name] = list(dict.fromkeys(goals))
+    """The items that are refused for themselves, each with its goals that are not proved."""
+    unproved, found = dict(UNPROVED.findall(log)), {}
+    for name, why in unproved.items():
+        front = name.rpartition("::")[0]
+        others = [it.rpartition("::")[2] for it in unproved if it.rpartition("::")[0] == front and it != name]
+        goals = own_goals(log, name, why, others)
+        if goals and not why.startswith(CALLS_UNPROVED):
+            found[name] = goals
     return found
 
 
 def told(log, function, goals):
-    """The goals that are not proved: those of clauses, whose names begin with `returns`; else in words what one asks."""
-    clauses = [it for it in goals if it.startswith("returns")]
+    """The goals that are not proved: those of clauses, which have `returns` in their names; else in words what one asks."""
+    clauses = [it for it in goals if re.search(r"(^|-)returns(-|$)", it)]
     if clauses:
         return f"ensures ({', '.join(clauses)})"
     for line, said, goal in re.findall(r"^note: src/\S+?:(\d+):\d+: (.*?) \(`([^`]*)`\)", log, re.M):
