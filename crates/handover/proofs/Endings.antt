@@ -1,6 +1,7 @@
 -- What the rule tells of a pair that is taken apart.
 use Rattle.std.proofs.Common.{◌≡◌, ℕ, zero, suc, ◌+◌, Bool, true, false, List, [], ◌∷◌, ◌++◌, length, take, Option, Some, None, Contains, refl, sym, ap, ◌∙◌, subst, arith, append_assoc, take-append-drop}
 use mathlib.Core.Option.{some, some-injective, some-ne-none}
+use mathlib.Core.List.{IsPrefix}
 use lib.ListN.{get_elem?}
 use Rattle.atomic_table.specs.Seated.{TableId}
 use Rattle.atomic_table.specs.Table.{Final, Seen}
@@ -17,7 +18,8 @@ use Rattle.handover.specs.declared.calls.Take.{Take}
 use Rattle.handover.specs.declared.calls.Take.TheVariants.{Full, Nothing, Ended}
 use Rattle.handover.specs.declared.view.Role.TheVariants.{Joined}
 use Rattle.handover.specs.declared.view.Profile.{Profile}
-use Rattle.handover.specs.declared.view.View.{View}
+use Rattle.handover.specs.declared.view.Sight.{Sight}
+use Rattle.handover.specs.Orders.{HasOneOrder}
 use Rattle.handover.specs.Allowed.{AllFit}
 use Rattle.handover.specs.Asks.{asks}
 use Rattle.handover.specs.Ends.{FeedingEnded, feeding_ended, Draining, draining, AreCountsOf, Counted}
@@ -26,27 +28,28 @@ use Rattle.handover.specs.Own.{matches, drops, store_of}
 use Rattle.handover.specs.Rule.{Home, IsHeld, last, terms_of, Stands, Facts, Seats, whole, apart, joined as seats_joined, Kept, joint}
 use Rattle.handover.specs.Settling.{kept_of_both, IsWhole}
 use Rattle.handover.proofs.Keeps.{store_is}
+use Rattle.handover.proofs.Orders.{same_latest}
 use Rattle.handover.proofs.Merges.{feeds_in-merge}
 use Rattle.handover.proofs.Settling.{merges_have_both, histories_are_kept, histories_are_settled, stored_are_read_or_pend}
 
 -- the last state, once the ends are joined
-joined_at : (f d u : View) (vs : List View) (id : ℕ) → Seats f d vs → get_elem? vs id ≡ some u → u.role ≡ Joined → (f ≡ u) × (d ≡ u)
+joined_at : (f d u : Sight) (vs : List Sight) (id : ℕ) → Seats f d vs → get_elem? vs id ≡ some u → u.view.role ≡ Joined → (f ≡ u) × (d ≡ u)
 joined_at f d u vs id (whole p q) at r = absurd (one id at)
   where
     one : (id : ℕ) → get_elem? (f ∷ []) id ≡ some u → ⊥
-    one zero e = let s : f.role ≡ u.role = ap (λ (o : View). o.role) (some-injective f u e) in cc
+    one zero e = let s : f.view.role ≡ u.view.role = ap (λ (o : Sight). o.view.role) (some-injective f u e) in cc
     one (suc k) e = some-ne-none u (sym e)
 joined_at f d u vs id (apart p q) at r = absurd (two id at)
   where
     two : (id : ℕ) → get_elem? (f ∷ d ∷ []) id ≡ some u → ⊥
-    two zero e = let s : f.role ≡ u.role = ap (λ (o : View). o.role) (some-injective f u e) in cc
-    two (suc zero) e = let s : d.role ≡ u.role = ap (λ (o : View). o.role) (some-injective d u e) in cc
+    two zero e = let s : f.view.role ≡ u.view.role = ap (λ (o : Sight). o.view.role) (some-injective f u e) in cc
+    two (suc zero) e = let s : d.view.role ≡ u.view.role = ap (λ (o : Sight). o.view.role) (some-injective d u e) in cc
     two (suc (suc k)) e = some-ne-none u (sym e)
 joined_at f d u vs id (seats_joined o p q s) at r = two id at
   where
     two : (id : ℕ) → get_elem? (f ∷ o ∷ []) id ≡ some u → (f ≡ u) × (d ≡ u)
     two zero e = let t = some-injective f u e in (t, sym p ∙ t)
-    two (suc zero) e = let t : o.role ≡ u.role = ap (λ (v : View). v.role) (some-injective o u e) in absurd (cc)
+    two (suc zero) e = let t : o.view.role ≡ u.view.role = ap (λ (v : Sight). v.view.role) (some-injective o u e) in absurd (cc)
     two (suc (suc k)) e = absurd (some-ne-none u (sym e))
 
 at_home : (capacity : ℕ) (full : Bool) (home : Home) (s : PlainList) → IsHeld full s.held → Stands capacity full false None home (hold_of s) → home ≡ some (filled capacity (hold_of s))
@@ -61,23 +64,34 @@ pub record Ending (p : Profile) (fs : List Feed) (ts : List Take) (y : Filled) :
   pub unclosed : ended_in ts ≡ true → finds fs ≡ false
   pub hold : y ≡ filled p.capacity (hold_of (last fs ts))
 
-pub ends_well : (p : Profile) (id : ℕ) (v w u : View) (ws : List ℕ) (xs : List Filled) (y : Filled) → u ≡ joint v w → v.rotating ≡ false → w.taking ≡ None
-    → Final (Seen (Kept p) id u) ws xs → get_elem? xs 0 ≡ some y → Ending v.profile v.feeds w.takes y
+pub ends_well : (p : Profile) (id : ℕ) (v w u : Sight) (ws : List ℕ) (xs : List Filled) (y : Filled) → u ≡ joint v w → v.view.rotating ≡ false → w.view.taking ≡ None
+    → Final (Seen (Kept p) id u) ws xs → get_elem? xs 0 ≡ some y → Ending v.view.profile v.view.feeds w.view.takes y × HasOneOrder v.feeder_saw w.drain_saw v.view.feed_steps w.view.take_steps
 ends_well p id v w u ws xs y is calm idle (s, seen, _, _, values) there =
     let k = seen.0 in
-    let at = joined_at k.feeder k.drain u s.views id k.seats seen.1 (ap (λ (o : View). o.role) is) in
+    let at = joined_at k.feeder k.drain u s.views id k.seats seen.1 (ap (λ (o : Sight). o.view.role) is) in
     let f : k.feeder ≡ joint v w = at.0 ∙ is in
     let d : k.drain ≡ joint v w = at.1 ∙ is in
-    let same : p ≡ v.profile = sym k.feeder_profile ∙ ap (λ (o : View). o.profile) f in
-    let facts : Facts (terms_of v.profile) k.full k.home (joint v w) (joint v w) =
-    subst (λ (x : Profile). Facts (terms_of x) k.full k.home (joint v w) (joint v w)) same
-    (subst (λ (o : View). Facts (terms_of p) k.full k.home (joint v w) o) d (subst (λ (o : View). Facts (terms_of p) k.full k.home o k.drain) f k.facts)) in
-    let place : Stands v.profile.capacity k.full false None k.home (hold_of (last v.feeds w.takes)) =
-    subst (λ (x : Option (List Message)). Stands v.profile.capacity k.full false x k.home (hold_of (last v.feeds w.takes))) idle
-    (subst (λ (b : Bool). Stands v.profile.capacity k.full b w.taking k.home (hold_of (last v.feeds w.takes))) calm facts.place) in
-    let home = at_home v.profile.capacity k.full k.home (last v.feeds w.takes) facts.held place in
-    let found = values 0 (filled v.profile.capacity (hold_of (last v.feeds w.takes))) (ap (λ (l : List Home). get_elem? l 0) k.homes ∙ ap some home) in
-    record { fits = facts.fits; legal = facts.legal; late = facts.late; unclosed = facts.unclosed; hold = some-injective _ _ (sym there ∙ found) }
+    let same : p ≡ v.view.profile = sym k.feeder_profile ∙ ap (λ (o : Sight). o.view.profile) f in
+    let facts : Facts (terms_of v.view.profile) k.full k.home (joint v w).view (joint v w).view =
+    subst (λ (x : Profile). Facts (terms_of x) k.full k.home (joint v w).view (joint v w).view) same
+    (subst (λ (o : Sight). Facts (terms_of p) k.full k.home (joint v w).view o.view) d (subst (λ (o : Sight). Facts (terms_of p) k.full k.home o.view k.drain.view) f k.facts)) in
+    let place : Stands v.view.profile.capacity k.full false None k.home (hold_of (last v.view.feeds w.view.takes)) =
+    subst (λ (x : Option (List Message)). Stands v.view.profile.capacity k.full false x k.home (hold_of (last v.view.feeds w.view.takes))) idle
+    (subst (λ (b : Bool). Stands v.view.profile.capacity k.full b w.view.taking k.home (hold_of (last v.view.feeds w.view.takes))) calm facts.place) in
+    let home = at_home v.view.profile.capacity k.full k.home (last v.view.feeds w.view.takes) facts.held place in
+    let found = values 0 (filled v.view.profile.capacity (hold_of (last v.view.feeds w.view.takes))) (ap (λ (l : List Home). get_elem? l 0) k.homes ∙ ap some home) in
+    let o = k.steps in (
+      record { fits = facts.fits; legal = facts.legal; late = facts.late; unclosed = facts.unclosed; hold = some-injective _ _ (sym there ∙ found) },
+      record {
+        order = k.order;
+        fresh = o.fresh;
+        feeder = o.feeder ∙ (λ i. (f i).view.feed_steps);
+        drain = o.drain ∙ (λ i. (d i).view.take_steps);
+        feeder_saw = subst (λ (x : Sight). IsPrefix x.feeder_saw k.order) f o.feeder_saw;
+        drain_saw = subst (λ (x : Sight). IsPrefix x.drain_saw k.order) d o.drain_saw;
+        latest = same_latest k.order k.feeder.feeder_saw k.drain.drain_saw v.feeder_saw w.drain_saw (λ i. (f i).feeder_saw) (λ i. (d i).drain_saw) o.latest;
+      },
+    )
 
 -- ---- What settling promises of it
 
@@ -132,10 +146,14 @@ ends_whole p fs ts hold rest counts e r c =
     }
 
 -- the same of the ends as contracts see them
-pub ends_as : (v w : View) (y : Filled) (f : FeedingEnded) (d : Draining) (one other : TableId) (store : List Message) → feeding_ended one v.profile v.feeds v.feed_steps store ≡ f
-    → draining other w.profile w.takes w.take_steps ≡ d → Ending v.profile v.feeds w.takes y → Ending f.profile f.feeds d.takes y
+pub ends_as : (v w : Sight) (y : Filled) (f : FeedingEnded) (d : Draining) (one other : TableId) (store : List Message)
+    → feeding_ended one v.view.profile v.view.feeds v.view.feed_steps v.feeder_saw store ≡ f
+    → draining other w.view.profile w.view.takes w.view.take_steps w.drain_saw ≡ d
+    → Ending v.view.profile v.view.feeds w.view.takes y × HasOneOrder v.feeder_saw w.drain_saw v.view.feed_steps w.view.take_steps
+    → Ending f.profile f.feeds d.takes y × HasOneOrder f.seen d.seen f.steps d.steps
 ends_as v w y f d one other store is also e =
-    subst (λ (x : FeedingEnded). Ending x.profile x.feeds d.takes y) is (subst (λ (x : Draining). Ending v.profile v.feeds x.takes y) also e)
+    subst (λ (x : FeedingEnded). Ending x.profile x.feeds d.takes y × HasOneOrder x.seen d.seen x.steps d.steps) is
+    (subst (λ (x : Draining). Ending v.view.profile v.view.feeds x.takes y × HasOneOrder v.feeder_saw x.seen v.view.feed_steps x.steps) also e)
 
 pub ends_rest : (p : Profile) (fs : List Feed) (ts : List Take) (y rest : Filled) → Ending p fs ts y → rest ≡ filled p.capacity (store_of fs)
     → rest ≡ filled p.capacity (stored (last fs ts))

@@ -14,6 +14,7 @@ use Rattle.listener.proofs.ArriveSteps.{size_cut}
 use Rattle.handover.specs.declared.calls.Feed.{Feed}
 use Rattle.handover.specs.declared.calls.Feed.TheVariants.{Arrive, Flush, FlushClosed}
 use Rattle.handover.specs.declared.calls.Step.{Step}
+use Rattle.handover.specs.declared.calls.Made.{Made}
 use Rattle.handover.specs.declared.view.View.{View}
 use Rattle.handover.specs.Ends.{feeding, own_list, HasOwnRun, AreCountsOf, Counted}
 use Rattle.handover.specs.Own.{arrivals, matches, drops}
@@ -31,9 +32,9 @@ same_capacity m n b c f es h w =
 
 -- ---- The run of the feeder's own calls
 
-pub own_run : (pair : TableId) (program : List Insn) (snap : ℕ) (n : Sat) (c : Filled) (over : Bool) → IsFeeder n c over
-    → HasOwnRun (feeding pair program snap n.0.profile n.0.feeds n.0.feed_steps c.messages)
-own_run pair program snap n c over h =
+pub own_run : (pair : TableId) (program : List Insn) (snap : ℕ) (n : Sat) (seen : List Made) (c : Filled) (over : Bool) → IsFeeder n c over
+    → HasOwnRun (feeding pair program snap n.0.profile n.0.feeds n.0.feed_steps seen c.messages)
+own_run pair program snap n seen c over h =
     let t = terms_of n.0.profile in
     let right = own_legal t n.0.feeds h.owned.takes h.owned.fits h.owned.legal in
     record { legal = right; store = ap (λ (k : Filled). k.messages) h.store ∙ sym (own_store t n.0.feeds right) }

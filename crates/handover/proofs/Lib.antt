@@ -8,3 +8,5 @@ pub mod Seats
 pub mod Paths
 pub mod Feeders
 pub mod Endings
+pub mod Orders
+pub mod Fresh

@@ -1,7 +1,8 @@
 -- Each step keeps the rule.
-use Rattle.std.proofs.Common.{◌≡◌, ℕ, zero, suc, Bool, true, false, true≢false, List, [], ◌∷◌, ◌++◌, set, Option, Some, None, refl, sym, ap, ◌∙◌, subst, arith, append-nil}
+use Rattle.std.proofs.Common.{◌≡◌, ℕ, zero, suc, Bool, true, false, ◌||◌, true≢false, List, [], ◌∷◌, ◌++◌, set, Option, Some, None, refl, sym, ap, ◌∙◌, subst, arith, append-nil, inl}
 use Rattle.std.specs.Prelude.{slice_index}
 use mathlib.Core.Option.{some, none, some-injective, some-ne-none}
+use mathlib.Core.List.{IsPrefix}
 use lib.ListN.{get_elem?}
 use Rattle.atomic_table.specs.Table.{Act, keeps, takes, gives, Valid, homes_after, carried_after, Allows, Splits, Joins, rest, put_back}
 use Rattle.listener.specs.declared.message.Message.{Message}
@@ -17,17 +18,32 @@ use Rattle.handover.specs.declared.calls.Step.TheVariants.{Load, Store}
 use Rattle.handover.specs.declared.view.Role.TheVariants.{Whole, Feeds, Drains}
 use Rattle.handover.specs.declared.view.Profile.{Profile}
 use Rattle.handover.specs.declared.view.View.{View}
+use Rattle.handover.specs.declared.view.Sight.{Sight}
+use Rattle.handover.specs.declared.calls.Made.{Made}
+use Rattle.handover.specs.declared.calls.Made.TheVariants.{OfFeeder, OfDrain}
 use Rattle.handover.specs.History.{events, merge, EndedIsLast, ended_in, finds, kind, finds_closed}
 use Rattle.handover.specs.Tidy.{Tidy}
 use Rattle.handover.specs.Allowed.{IsQuiet, Busy, Loud, handed, AllFit}
 use Rattle.handover.specs.Own.{store_of}
-use Rattle.handover.specs.Rule.{Home, IsHeld, bit, terms_of, last, Stands, Facts, Seats, whole, apart, joined, Kept, first, for_feeder, for_drain, joint, spent, fed_by, taken_by, ended_by, saw_end, closed_by, idle, Backed, Owned, Sat, saw_closed, saw_turn, set_turn, set_ended, looked_ended, looked_turn, cleared, set_closed}
+use Rattle.handover.specs.Rule.{Home, IsHeld, bit, terms_of, last, Stands, Facts, Seats, whole, apart, joined, Kept, first, for_feeder, for_drain, joint, spent, IsOrder, FeederSees, DrainSees, Sitting, known, fed_by, taken_by, ended_by, saw_end, closed_by, idle, Backed, Owned, Sat, saw_closed, saw_turn, set_turn, set_ended, looked_ended, looked_turn, cleared, set_closed}
+use Rattle.handover.specs.Orders.{Finds, behind, is_store_to, store_to}
+use Rattle.handover.proofs.Orders.{feeder_at_step, drain_at_step, by_feeder, by_drain, same_latest, flag_more}
 use Rattle.handover.proofs.Keeps.{quiet_keeps, busy_keeps, loud_keeps, late_keeps, idle_keeps, full_keeps}
 
 -- ---- The feeder's seat
 
 abbrev words_of : Bool → View → View → List ℕ
 words_of full f d = bit full ∷ bit d.closed ∷ bit f.ended ∷ []
+
+-- the same by the stores that were made, as the rule tells them
+abbrev stores_of : Bool → View → View → List ℕ
+stores_of full f d = bit full ∷ bit (store_to word.Closed d.take_steps) ∷ bit (store_to word.Ended f.feed_steps) ∷ []
+
+by_flags : (ws : List ℕ) (full : Bool) (f d : View) → ws ≡ stores_of full f d → d.closed ≡ store_to word.Closed d.take_steps → f.ended ≡ store_to word.Ended f.feed_steps → ws ≡ words_of full f d
+by_flags ws full f d is closed ended = is ∙ (λ i. bit full ∷ bit (sym closed i) ∷ bit (sym ended i) ∷ [])
+
+by_stores : (ws : List ℕ) (full : Bool) (f d : View) → ws ≡ words_of full f d → d.closed ≡ store_to word.Closed d.take_steps → f.ended ≡ store_to word.Ended f.feed_steps → ws ≡ stores_of full f d
+by_stores ws full f d is closed ended = is ∙ (λ i. bit full ∷ bit (closed i) ∷ bit (ended i) ∷ [])
 
 -- what a step of the feeder owes, where its view and the drain's are known
 pub record FeedStep (me : Sat) (i : ℕ) (f : ℕ → ℕ) (then : ℕ → Sat → Type 0) (full : Bool) (home : Home) (d : View) : Type 0 where
@@ -39,83 +55,100 @@ pub record FeedStep (me : Sat) (i : ℕ) (f : ℕ → ℕ) (then : ℕ → Sat �
   pub role : view.role ≡ Feeds
   pub profile : view.profile ≡ me.0.profile
   pub words : set (words_of full me.0 d) i (f (slice_index (words_of full me.0 d) i)) ≡ words_of full_after view d
+  pub made : Step
+  pub steps : view.feed_steps ≡ me.0.feed_steps ++ made ∷ []
+  pub finds : Finds (words_of full me.0 d) made
+  pub leaves : words_of full_after view d ≡ behind (words_of full me.0 d) made
+  pub ends : view.ended ≡ (is_store_to word.Ended made || me.0.ended)
   pub homes : homes_after (home ∷ []) me.1 act ≡ home_after ∷ []
   pub facts : Facts (terms_of me.0.profile) full_after home_after view d
   pub told : then (slice_index (words_of full me.0 d) i) (view, carried_after me.1 act)
 
 -- the feeder's seat is the first
-feeder_at : (f d v : View) (vs : List View) (id : ℕ) → Seats f d vs → get_elem? vs id ≡ some v → v.role ≡ Feeds → (vs ≡ f ∷ d ∷ []) × (id ≡ 0) × (f ≡ v) × (d.role ≡ Drains)
+pub feeder_at : (f d v : Sight) (vs : List Sight) (id : ℕ) → Seats f d vs → get_elem? vs id ≡ some v → v.view.role ≡ Feeds → (vs ≡ f ∷ d ∷ []) × (id ≡ 0) × (f ≡ v) × (d.view.role ≡ Drains)
 feeder_at f d v vs id (whole p q) at r = absurd (one id at)
   where
     one : (id : ℕ) → get_elem? (f ∷ []) id ≡ some v → ⊥
-    one zero e = let s : f.role ≡ v.role = ap (λ (o : View). o.role) (some-injective f v e) in let q' : f.role ≡ Whole = q in cc
+    one zero e = let s : f.view.role ≡ v.view.role = ap (λ (o : Sight). o.view.role) (some-injective f v e) in let q' : f.view.role ≡ Whole = q in cc
     one (suc k) e = some-ne-none v (sym e)
 feeder_at f d v vs id (apart p q) at r = two id at
   where
-    two : (id : ℕ) → get_elem? (f ∷ d ∷ []) id ≡ some v → (f ∷ d ∷ [] ≡ f ∷ d ∷ []) × (id ≡ 0) × (f ≡ v) × (d.role ≡ Drains)
+    two : (id : ℕ) → get_elem? (f ∷ d ∷ []) id ≡ some v → (f ∷ d ∷ [] ≡ f ∷ d ∷ []) × (id ≡ 0) × (f ≡ v) × (d.view.role ≡ Drains)
     two zero e = (refl, refl, some-injective f v e, q)
-    two (suc zero) e = let s : d.role ≡ v.role = ap (λ (o : View). o.role) (some-injective d v e) in absurd (cc)
+    two (suc zero) e = let s : d.view.role ≡ v.view.role = ap (λ (o : Sight). o.view.role) (some-injective d v e) in absurd (cc)
     two (suc (suc k)) e = absurd (some-ne-none v (sym e))
 feeder_at f d v vs id (joined o p q s) at r = absurd (two id at)
   where
     two : (id : ℕ) → get_elem? (f ∷ o ∷ []) id ≡ some v → ⊥
-    two zero e = let t : f.role ≡ v.role = ap (λ (u : View). u.role) (some-injective f v e) in cc
-    two (suc zero) e = let t : o.role ≡ v.role = ap (λ (u : View). u.role) (some-injective o v e) in cc
+    two zero e = let t : f.view.role ≡ v.view.role = ap (λ (u : Sight). u.view.role) (some-injective f v e) in cc
+    two (suc zero) e = let t : o.view.role ≡ v.view.role = ap (λ (u : Sight). u.view.role) (some-injective o v e) in cc
     two (suc (suc k)) e = some-ne-none v (sym e)
 
-pub feeder_allows : (p : Profile) (slots id : ℕ) (me : Sat) (i : ℕ) (f : ℕ → ℕ) (then : ℕ → Sat → Type 0) → me.0.role ≡ Feeds
-    → ((full : Bool) (home : Home) (d : View) → Facts (terms_of me.0.profile) full home me.0 d → FeedStep me i f then full home d)
-    → Allows (Kept p) slots id me i f (λ r n. then r n × Owned n.0)
+pub feeder_allows : (p : Profile) (slots id : ℕ) (me : Sitting) (i : ℕ) (f : ℕ → ℕ) (then : ℕ → Sat → Type 0) → me.0.view.role ≡ Feeds
+    → ((full : Bool) (home : Home) (d : View) → Facts (terms_of me.0.view.profile) full home me.0.view d → FeedStep (known me) i f then full home d)
+    → Allows (Kept p) slots id me i f (λ r n. then r (known n) × Owned n.0.view × FeederSees me.0 n.0)
 feeder_allows p slots id me i f then role go s k _ at _ =
     let a = feeder_at k.feeder k.drain me.0 s.views id k.seats at role in
-    let same : k.feeder.profile ≡ me.0.profile = ap (λ (v : View). v.profile) a.2 in
-    let facts : Facts (terms_of me.0.profile) k.full k.home me.0 k.drain =
-    subst (λ (v : View). Facts (terms_of v.profile) k.full k.home v k.drain) a.2
-    (subst (λ (x : Profile). Facts (terms_of x) k.full k.home k.feeder k.drain) (sym k.feeder_profile) k.facts) in
-    let words : s.words ≡ words_of k.full me.0 k.drain = k.words ∙ ap (λ (v : View). words_of k.full v k.drain) a.2 in
-    let g = go k.full k.home k.drain facts in
-    let is : me.0.profile ≡ p = sym same ∙ k.feeder_profile in (
-      g.view,
+    let same : k.feeder.view.profile ≡ me.0.view.profile = ap (λ (v : Sight). v.view.profile) a.2 in
+    let facts : Facts (terms_of me.0.view.profile) k.full k.home me.0.view k.drain.view =
+    subst (λ (v : Sight). Facts (terms_of v.view.profile) k.full k.home v.view k.drain.view) a.2
+    (subst (λ (x : Profile). Facts (terms_of x) k.full k.home k.feeder.view k.drain.view) (sym k.feeder_profile) k.facts) in
+    let words : s.words ≡ words_of k.full me.0.view k.drain.view = by_flags s.words k.full k.feeder.view k.drain.view k.words k.closed k.ended ∙ ap (λ (v : Sight). words_of k.full v.view k.drain.view) a.2 in
+    let g = go k.full k.home k.drain.view facts in
+    let is : me.0.view.profile ≡ p = sym same ∙ k.feeder_profile in
+    let after : set s.words i (f (slice_index s.words i)) ≡ words_of g.full_after g.view k.drain.view = ap (λ (ws : List ℕ). set ws i (f (slice_index ws i))) words ∙ g.words in
+    let steps : IsOrder k.order s.words me.0 k.drain = subst (λ (v : Sight). IsOrder k.order s.words v k.drain) a.2 k.steps in
+    let order = by_feeder k.order s.words (set s.words i (f (slice_index s.words i))) me.0 k.drain g.view g.made steps (subst (λ (ws : List ℕ). Finds ws g.made) (sym words) g.finds)
+    (after ∙ (g.leaves ∙ ap (λ (ws : List ℕ). behind ws g.made) (sym words))) g.steps in
+    let mine : me.0.view.ended ≡ store_to word.Ended me.0.view.feed_steps = subst (λ (v : Sight). v.view.ended ≡ store_to word.Ended v.view.feed_steps) a.2 k.ended in
+    let ended : g.view.ended ≡ store_to word.Ended g.view.feed_steps = flag_more word.Ended me.0.view.feed_steps g.view.feed_steps g.made me.0.view.ended g.view.ended g.steps mine g.ends in
+    let next : Sight = feeder_at_step me.0 g.view (k.order ++ OfFeeder g.made ∷ []) in (
+      next,
       g.act,
       subst (λ (hs : List Home). Valid hs me.1 g.act) (sym k.homes) g.valid,
       record {
         full = g.full_after;
         home = g.home_after;
-        feeder = g.view;
+        feeder = next;
         drain = k.drain;
-        words = ap (λ (ws : List ℕ). set ws i (f (slice_index ws i))) words ∙ g.words;
+        order = k.order ++ OfFeeder g.made ∷ [];
+        words = by_stores (set s.words i (f (slice_index s.words i))) g.full_after g.view k.drain.view after k.closed ended;
+        closed = k.closed;
+        ended = ended;
         homes = ap (λ (hs : List Home). homes_after hs me.1 g.act) k.homes ∙ g.homes;
-        seats = subst (Seats g.view k.drain) (λ j. set (sym a.0 j) (sym a.1 j) g.view) (apart g.role a.3);
+        seats = subst (Seats next k.drain) (λ j. set (sym a.0 j) (sym a.1 j) next) (apart g.role a.3);
         feeder_profile = g.profile ∙ is;
         drain_profile = k.drain_profile;
-        facts = subst (λ (x : Profile). Facts (terms_of x) g.full_after g.home_after g.view k.drain) is g.facts;
+        facts = subst (λ (x : Profile). Facts (terms_of x) g.full_after g.home_after g.view k.drain.view) is g.facts;
+        steps = order.0;
       },
       (
         subst (λ (ws : List ℕ). then (slice_index ws i) (g.view, carried_after me.1 g.act)) (sym words) g.told,
-        subst (λ (x : Profile). Backed (terms_of x) g.view.feeds) (sym g.profile) (record { fits = g.facts.fits; takes = k.drain.takes; legal = g.facts.legal }),
+        subst (λ (x : Profile). Backed (terms_of x) g.view.feeds) (sym g.profile) (record { fits = g.facts.fits; takes = k.drain.view.takes; legal = g.facts.legal }),
+        order.1,
       ),
     )
 
 -- ---- The drain's seat
 
 -- the drain's seat is the second
-drain_at : (f d v : View) (vs : List View) (id : ℕ) → Seats f d vs → get_elem? vs id ≡ some v → v.role ≡ Drains → (vs ≡ f ∷ d ∷ []) × (id ≡ 1) × (d ≡ v) × (f.role ≡ Feeds)
+drain_at : (f d v : Sight) (vs : List Sight) (id : ℕ) → Seats f d vs → get_elem? vs id ≡ some v → v.view.role ≡ Drains → (vs ≡ f ∷ d ∷ []) × (id ≡ 1) × (d ≡ v) × (f.view.role ≡ Feeds)
 drain_at f d v vs id (whole p q) at r = absurd (one id at)
   where
     one : (id : ℕ) → get_elem? (f ∷ []) id ≡ some v → ⊥
-    one zero e = let s : f.role ≡ v.role = ap (λ (o : View). o.role) (some-injective f v e) in let q' : f.role ≡ Whole = q in cc
+    one zero e = let s : f.view.role ≡ v.view.role = ap (λ (o : Sight). o.view.role) (some-injective f v e) in let q' : f.view.role ≡ Whole = q in cc
     one (suc k) e = some-ne-none v (sym e)
 drain_at f d v vs id (apart p q) at r = two id at
   where
-    two : (id : ℕ) → get_elem? (f ∷ d ∷ []) id ≡ some v → (f ∷ d ∷ [] ≡ f ∷ d ∷ []) × (id ≡ 1) × (d ≡ v) × (f.role ≡ Feeds)
-    two zero e = let s : f.role ≡ v.role = ap (λ (o : View). o.role) (some-injective f v e) in absurd (cc)
+    two : (id : ℕ) → get_elem? (f ∷ d ∷ []) id ≡ some v → (f ∷ d ∷ [] ≡ f ∷ d ∷ []) × (id ≡ 1) × (d ≡ v) × (f.view.role ≡ Feeds)
+    two zero e = let s : f.view.role ≡ v.view.role = ap (λ (o : Sight). o.view.role) (some-injective f v e) in absurd (cc)
     two (suc zero) e = (refl, refl, some-injective d v e, p)
     two (suc (suc k)) e = absurd (some-ne-none v (sym e))
 drain_at f d v vs id (joined o p q s) at r = absurd (two id at)
   where
     two : (id : ℕ) → get_elem? (f ∷ o ∷ []) id ≡ some v → ⊥
-    two zero e = let t : f.role ≡ v.role = ap (λ (u : View). u.role) (some-injective f v e) in cc
-    two (suc zero) e = let t : o.role ≡ v.role = ap (λ (u : View). u.role) (some-injective o v e) in cc
+    two zero e = let t : f.view.role ≡ v.view.role = ap (λ (u : Sight). u.view.role) (some-injective f v e) in cc
+    two (suc zero) e = let t : o.view.role ≡ v.view.role = ap (λ (u : Sight). u.view.role) (some-injective o v e) in cc
     two (suc (suc k)) e = some-ne-none v (sym e)
 
 -- what a step of the drain owes, where its view and the feeder's are known
@@ -128,38 +161,54 @@ pub record DrainStep (me : Sat) (i : ℕ) (f : ℕ → ℕ) (then : ℕ → Sat 
   pub role : view.role ≡ Drains
   pub profile : view.profile ≡ me.0.profile
   pub words : set (words_of full v me.0) i (f (slice_index (words_of full v me.0) i)) ≡ words_of full_after v view
+  pub made : Step
+  pub steps : view.take_steps ≡ me.0.take_steps ++ made ∷ []
+  pub finds : Finds (words_of full v me.0) made
+  pub leaves : words_of full_after v view ≡ behind (words_of full v me.0) made
+  pub closes : view.closed ≡ (is_store_to word.Closed made || me.0.closed)
   pub homes : homes_after (home ∷ []) me.1 act ≡ home_after ∷ []
   pub facts : Facts (terms_of me.0.profile) full_after home_after v view
   pub told : then (slice_index (words_of full v me.0) i) (view, carried_after me.1 act)
 
-pub drain_allows : (p : Profile) (slots id : ℕ) (me : Sat) (i : ℕ) (f : ℕ → ℕ) (then : ℕ → Sat → Type 0) → me.0.role ≡ Drains
-    → ((full : Bool) (home : Home) (v : View) → Facts (terms_of me.0.profile) full home v me.0 → DrainStep me i f then full home v)
-    → Allows (Kept p) slots id me i f then
+pub drain_allows : (p : Profile) (slots id : ℕ) (me : Sitting) (i : ℕ) (f : ℕ → ℕ) (then : ℕ → Sat → Type 0) → me.0.view.role ≡ Drains
+    → ((full : Bool) (home : Home) (v : View) → Facts (terms_of me.0.view.profile) full home v me.0.view → DrainStep (known me) i f then full home v)
+    → Allows (Kept p) slots id me i f (λ r n. then r (known n) × DrainSees me.0 n.0)
 drain_allows p slots id me i f then role go s k _ at _ =
     let a = drain_at k.feeder k.drain me.0 s.views id k.seats at role in
-    let same : k.drain.profile ≡ me.0.profile = ap (λ (v : View). v.profile) a.2 in
-    let facts : Facts (terms_of me.0.profile) k.full k.home k.feeder me.0 =
-    subst (λ (v : View). Facts (terms_of v.profile) k.full k.home k.feeder v) a.2
-    (subst (λ (x : Profile). Facts (terms_of x) k.full k.home k.feeder k.drain) (sym k.drain_profile) k.facts) in
-    let words : s.words ≡ words_of k.full k.feeder me.0 = k.words ∙ ap (λ (v : View). words_of k.full k.feeder v) a.2 in
-    let g = go k.full k.home k.feeder facts in
-    let is : me.0.profile ≡ p = sym same ∙ k.drain_profile in (
-      g.view,
+    let same : k.drain.view.profile ≡ me.0.view.profile = ap (λ (v : Sight). v.view.profile) a.2 in
+    let facts : Facts (terms_of me.0.view.profile) k.full k.home k.feeder.view me.0.view =
+    subst (λ (v : Sight). Facts (terms_of v.view.profile) k.full k.home k.feeder.view v.view) a.2
+    (subst (λ (x : Profile). Facts (terms_of x) k.full k.home k.feeder.view k.drain.view) (sym k.drain_profile) k.facts) in
+    let words : s.words ≡ words_of k.full k.feeder.view me.0.view = by_flags s.words k.full k.feeder.view k.drain.view k.words k.closed k.ended ∙ ap (λ (v : Sight). words_of k.full k.feeder.view v.view) a.2 in
+    let g = go k.full k.home k.feeder.view facts in
+    let is : me.0.view.profile ≡ p = sym same ∙ k.drain_profile in
+    let after : set s.words i (f (slice_index s.words i)) ≡ words_of g.full_after k.feeder.view g.view = ap (λ (ws : List ℕ). set ws i (f (slice_index ws i))) words ∙ g.words in
+    let steps : IsOrder k.order s.words k.feeder me.0 = subst (λ (v : Sight). IsOrder k.order s.words k.feeder v) a.2 k.steps in
+    let order = by_drain k.order s.words (set s.words i (f (slice_index s.words i))) k.feeder me.0 g.view g.made steps (subst (λ (ws : List ℕ). Finds ws g.made) (sym words) g.finds)
+    (after ∙ (g.leaves ∙ ap (λ (ws : List ℕ). behind ws g.made) (sym words))) g.steps in
+    let mine : me.0.view.closed ≡ store_to word.Closed me.0.view.take_steps = subst (λ (v : Sight). v.view.closed ≡ store_to word.Closed v.view.take_steps) a.2 k.closed in
+    let closed : g.view.closed ≡ store_to word.Closed g.view.take_steps = flag_more word.Closed me.0.view.take_steps g.view.take_steps g.made me.0.view.closed g.view.closed g.steps mine g.closes in
+    let next : Sight = drain_at_step me.0 g.view (k.order ++ OfDrain g.made ∷ []) in (
+      next,
       g.act,
       subst (λ (hs : List Home). Valid hs me.1 g.act) (sym k.homes) g.valid,
       record {
         full = g.full_after;
         home = g.home_after;
         feeder = k.feeder;
-        drain = g.view;
-        words = ap (λ (ws : List ℕ). set ws i (f (slice_index ws i))) words ∙ g.words;
+        drain = next;
+        order = k.order ++ OfDrain g.made ∷ [];
+        words = by_stores (set s.words i (f (slice_index s.words i))) g.full_after k.feeder.view g.view after closed k.ended;
+        closed = closed;
+        ended = k.ended;
         homes = ap (λ (hs : List Home). homes_after hs me.1 g.act) k.homes ∙ g.homes;
-        seats = subst (Seats k.feeder g.view) (λ j. set (sym a.0 j) (sym a.1 j) g.view) (apart a.3 g.role);
+        seats = subst (Seats k.feeder next) (λ j. set (sym a.0 j) (sym a.1 j) next) (apart a.3 g.role);
         feeder_profile = k.feeder_profile;
         drain_profile = g.profile ∙ is;
-        facts = subst (λ (x : Profile). Facts (terms_of x) g.full_after g.home_after k.feeder g.view) is g.facts;
+        facts = subst (λ (x : Profile). Facts (terms_of x) g.full_after g.home_after k.feeder.view g.view) is g.facts;
+        steps = order.0;
       },
-      subst (λ (ws : List ℕ). then (slice_index ws i) (g.view, carried_after me.1 g.act)) (sym words) g.told,
+      (subst (λ (ws : List ℕ). then (slice_index ws i) (g.view, carried_after me.1 g.act)) (sym words) g.told, order.1),
     )
 
 -- ---- The feeder's load of `closed`
@@ -200,6 +249,11 @@ closed_step me gs f role calm going q is fit full home d false at k = record {
   role = role;
   profile = refl;
   words = refl;
+  made = Load word.Closed 0;
+  steps = refl;
+  finds = ap bit at;
+  leaves = refl;
+  ends = refl;
   homes = refl;
   facts = quiet_list (terms_of me.0.profile) full home me.0 d gs (Load word.Closed 0) calm going (k.closer at) q k;
   told = ((λ _. (refl, k.closer at)), (λ ne. absurd (ne (ap bit at))));
@@ -213,16 +267,21 @@ closed_step me gs f role calm going q is fit full home d true at k = record {
   role = role;
   profile = refl;
   words = refl;
+  made = Load word.Closed 1;
+  steps = refl;
+  finds = ap bit at;
+  leaves = refl;
+  ends = refl;
   homes = refl;
   facts = late_keeps (terms_of me.0.profile) full home me.0 d f (Load word.Closed 1) calm going at is fit k;
   told = ((λ z. let o : bit true ≡ 0 = ap bit (sym at) ∙ z in absurd (omega (arith, o))), (λ _. (ap bit at, refl)));
 }
 
-pub sees_closed : (p : Profile) (slots id : ℕ) (me : Sat) (gs : List Feed) (f : Feed) → me.0.role ≡ Feeds → me.0.rotating ≡ false → me.0.ended ≡ false
-    → IsQuiet (terms_of me.0.profile) me.0.feeds gs → kind f ≡ finds_closed → AllFit me.0.profile.capacity (f ∷ [])
-    → Allows (Kept p) slots id me 1 (λ n. n) (λ r n. saw_closed gs f me r n × Owned n.0)
-sees_closed p slots id me gs f role calm going q is fit = feeder_allows p slots id me 1 (λ n. n) (saw_closed gs f me) role
-    (λ full home d k. closed_step me gs f role calm going q is fit full home d d.closed refl k)
+pub sees_closed : (p : Profile) (slots id : ℕ) (me : Sitting) (gs : List Feed) (f : Feed) → me.0.view.role ≡ Feeds → me.0.view.rotating ≡ false → me.0.view.ended ≡ false
+    → IsQuiet (terms_of me.0.view.profile) me.0.view.feeds gs → kind f ≡ finds_closed → AllFit me.0.view.profile.capacity (f ∷ [])
+    → Allows (Kept p) slots id me 1 (λ n. n) (λ r n. saw_closed gs f (known me) r (known n) × Owned n.0.view × FeederSees me.0 n.0)
+sees_closed p slots id me gs f role calm going q is fit = feeder_allows p slots id me 1 (λ n. n) (saw_closed gs f (known me)) role
+    (λ full home d k. closed_step (known me) gs f role calm going q is fit full home d d.closed refl k)
 
 -- ---- The feeder's load of `turn`
 
@@ -238,6 +297,11 @@ turn_step me f role calm going yet q fit true home d x at k = record {
   role = role;
   profile = refl;
   words = refl;
+  made = Load word.Turn 1;
+  steps = refl;
+  finds = refl;
+  leaves = refl;
+  ends = refl;
   homes = refl;
   facts = busy_keeps (terms_of me.0.profile) home me.0 d f (Load word.Turn 1) calm going yet fit q k;
   told = ((λ e. absurd (omega arith)), (λ _. (refl, refl)));
@@ -256,6 +320,11 @@ turn_step me f role calm going yet q fit false home d None at k =
       role = role;
       profile = refl;
       words = refl;
+      made = Load word.Turn 0;
+      steps = refl;
+      finds = refl;
+      leaves = refl;
+      ends = refl;
       homes = refl;
       facts = record {
         fits = out.fits;
@@ -277,11 +346,11 @@ turn_step me f role calm going yet q fit false home d (Some batch) at k =
     absurd (subst (λ (x : Option (List Message)). Stands t.capacity false false x home (hold_of (last me.0.feeds d.takes))) at
     (subst (λ (b : Bool). Stands t.capacity false b d.taking home (hold_of (last me.0.feeds d.takes))) calm k.place))
 
-pub sees_turn : (p : Profile) (slots id : ℕ) (me : Sat) (f : Feed) → me.0.role ≡ Feeds → me.0.rotating ≡ false → me.0.ended ≡ false → finds me.0.feeds ≡ false
-    → Busy (terms_of me.0.profile) (store_of me.0.feeds) f → AllFit me.0.profile.capacity (f ∷ [])
-    → Allows (Kept p) slots id me 0 (λ n. n) (λ r n. saw_turn f me r n × Owned n.0)
-sees_turn p slots id me f role calm going yet q fit = feeder_allows p slots id me 0 (λ n. n) (saw_turn f me) role
-    (λ full home d k. turn_step me f role calm going yet q fit full home d d.taking refl k)
+pub sees_turn : (p : Profile) (slots id : ℕ) (me : Sitting) (f : Feed) → me.0.view.role ≡ Feeds → me.0.view.rotating ≡ false → me.0.view.ended ≡ false → finds me.0.view.feeds ≡ false
+    → Busy (terms_of me.0.view.profile) (store_of me.0.view.feeds) f → AllFit me.0.view.profile.capacity (f ∷ [])
+    → Allows (Kept p) slots id me 0 (λ n. n) (λ r n. saw_turn f (known me) r (known n) × Owned n.0.view × FeederSees me.0 n.0)
+sees_turn p slots id me f role calm going yet q fit = feeder_allows p slots id me 0 (λ n. n) (saw_turn f (known me)) role
+    (λ full home d k. turn_step (known me) f role calm going yet q fit full home d d.taking refl k)
 
 -- ---- The feeder's stores
 
@@ -301,23 +370,28 @@ set_step me f role busy going yet q fit carries false home d None at k = record 
   role = role;
   profile = refl;
   words = refl;
+  made = Store word.Turn 1;
+  steps = refl;
+  finds = tt;
+  leaves = refl;
+  ends = refl;
   homes = ap (λ (c : List (ℕ × Filled)). put_back (home ∷ []) c) carries;
   facts = loud_keeps (terms_of me.0.profile) home me.0 d f (Store word.Turn 1) going yet at fit q k;
   told = refl;
 }
 
-pub sets_turn : (p : Profile) (slots id : ℕ) (me : Sat) (f : Feed) → me.0.role ≡ Feeds → me.0.rotating ≡ true → me.0.ended ≡ false → finds me.0.feeds ≡ false
-    → Loud (terms_of me.0.profile) (store_of me.0.feeds) f → AllFit me.0.profile.capacity (f ∷ [])
-    → me.1 ≡ (0, filled me.0.profile.capacity (handed (store_of me.0.feeds) f)) ∷ []
-    → Allows (Kept p) slots id me 0 (λ _. 1) (λ _ n. set_turn f me 1 n × Owned n.0)
-sets_turn p slots id me f role busy going yet q fit carries = feeder_allows p slots id me 0 (λ _. 1) (λ _. set_turn f me 1) role
-    (λ full home d k. set_step me f role busy going yet q fit carries full home d d.taking refl k)
+pub sets_turn : (p : Profile) (slots id : ℕ) (me : Sitting) (f : Feed) → me.0.view.role ≡ Feeds → me.0.view.rotating ≡ true → me.0.view.ended ≡ false → finds me.0.view.feeds ≡ false
+    → Loud (terms_of me.0.view.profile) (store_of me.0.view.feeds) f → AllFit me.0.view.profile.capacity (f ∷ [])
+    → me.1 ≡ (0, filled me.0.view.profile.capacity (handed (store_of me.0.view.feeds) f)) ∷ []
+    → Allows (Kept p) slots id me 0 (λ _. 1) (λ _ n. set_turn f (known me) 1 (known n) × Owned n.0.view × FeederSees me.0 n.0)
+sets_turn p slots id me f role busy going yet q fit carries = feeder_allows p slots id me 0 (λ _. 1) (λ _. set_turn f (known me) 1) role
+    (λ full home d k. set_step (known me) f role busy going yet q fit carries full home d d.taking refl k)
 
-pub sets_ended : (p : Profile) (slots id : ℕ) (me : Sat) → me.0.role ≡ Feeds → me.0.ended ≡ false
-    → Allows (Kept p) slots id me 2 (λ _. 1) (λ _ n. set_ended me 1 n × Owned n.0)
-sets_ended p slots id me role going = feeder_allows p slots id me 2 (λ _. 1) (λ _. set_ended me 1) role
+pub sets_ended : (p : Profile) (slots id : ℕ) (me : Sitting) → me.0.view.role ≡ Feeds → me.0.view.ended ≡ false
+    → Allows (Kept p) slots id me 2 (λ _. 1) (λ _ n. set_ended (known me) 1 (known n) × Owned n.0.view × FeederSees me.0 n.0)
+sets_ended p slots id me role going = feeder_allows p slots id me 2 (λ _. 1) (λ _. set_ended (known me) 1) role
     (λ full home d k. record {
-      view = ended_by me.0;
+      view = ended_by me.0.view;
       act = keeps;
       full_after = full;
       home_after = home;
@@ -325,6 +399,11 @@ sets_ended p slots id me role going = feeder_allows p slots id me 2 (λ _. 1) (�
       role = role;
       profile = refl;
       words = refl;
+      made = Store word.Ended 1;
+      steps = refl;
+      finds = tt;
+      leaves = refl;
+      ends = refl;
       homes = refl;
       facts = record {
         fits = k.fits;
@@ -355,6 +434,11 @@ ended_step me role full home v b at k = record {
   role = role;
   profile = refl;
   words = refl;
+  made = Load word.Ended (bit b);
+  steps = refl;
+  finds = ap bit at;
+  leaves = refl;
+  closes = refl;
   homes = refl;
   facts = record {
     fits = k.fits;
@@ -376,8 +460,8 @@ ended_step me role full home v b at k = record {
     by true e = ((λ z. let o : bit true ≡ 0 = ap bit (sym e) ∙ z in absurd (omega (arith, o))), (λ _. (ap bit e, refl)))
     by false e = ((λ _. refl), (λ ne. absurd (ne (ap bit e))))
 
-pub looks_ended : (p : Profile) (slots id : ℕ) (me : Sat) → me.0.role ≡ Drains → Allows (Kept p) slots id me 2 (λ n. n) (looked_ended me)
-looks_ended p slots id me role = drain_allows p slots id me 2 (λ n. n) (looked_ended me) role (λ full home v k. ended_step me role full home v v.ended refl k)
+pub looks_ended : (p : Profile) (slots id : ℕ) (me : Sitting) → me.0.view.role ≡ Drains → Allows (Kept p) slots id me 2 (λ n. n) (λ r n. looked_ended (known me) r (known n) × DrainSees me.0 n.0)
+looks_ended p slots id me role = drain_allows p slots id me 2 (λ n. n) (looked_ended (known me)) role (λ full home v k. ended_step (known me) role full home v v.ended refl k)
 
 look_step : (me : Sat) → me.0.role ≡ Drains → me.0.closed ≡ false → me.0.taking ≡ None → (full : Bool) (home : Home) (v : View) (b : Bool) → v.rotating ≡ b
     → Facts (terms_of me.0.profile) full home v me.0 → DrainStep me 0 (λ n. n) (looked_turn me) full home v
@@ -390,6 +474,11 @@ look_step me role unshut calm false home v b at k = record {
   role = role;
   profile = refl;
   words = refl;
+  made = Load word.Turn 0;
+  steps = refl;
+  finds = refl;
+  leaves = refl;
+  closes = refl;
   homes = refl;
   facts = idle_keeps (terms_of me.0.profile) home v me.0 (Load word.Turn 0) unshut calm k;
   told = ((λ _. refl), (λ ne. absurd (ne refl)));
@@ -408,6 +497,11 @@ look_step me role unshut calm true home v false at k =
       role = role;
       profile = refl;
       words = refl;
+      made = Load word.Turn 1;
+      steps = refl;
+      finds = refl;
+      leaves = refl;
+      closes = refl;
       homes = refl;
       facts = record {
         fits = k.fits;
@@ -428,9 +522,9 @@ look_step me role unshut calm true home v false at k =
 look_step me role unshut calm true home v true at k =
     absurd (subst (λ (x : Bool). Stands me.0.profile.capacity true x me.0.taking home (hold_of (last v.feeds me.0.takes))) at k.place)
 
-pub looks_turn : (p : Profile) (slots id : ℕ) (me : Sat) → me.0.role ≡ Drains → me.0.closed ≡ false → me.0.taking ≡ None → Allows (Kept p) slots id me 0 (λ n. n) (looked_turn me)
-looks_turn p slots id me role unshut calm = drain_allows p slots id me 0 (λ n. n) (looked_turn me) role
-    (λ full home v k. look_step me role unshut calm full home v v.rotating refl k)
+pub looks_turn : (p : Profile) (slots id : ℕ) (me : Sitting) → me.0.view.role ≡ Drains → me.0.view.closed ≡ false → me.0.view.taking ≡ None → Allows (Kept p) slots id me 0 (λ n. n) (λ r n. looked_turn (known me) r (known n) × DrainSees me.0 n.0)
+looks_turn p slots id me role unshut calm = drain_allows p slots id me 0 (λ n. n) (looked_turn (known me)) role
+    (λ full home v k. look_step (known me) role unshut calm full home v v.rotating refl k)
 
 clear_step : (me : Sat) (batch : List Message) → me.0.role ≡ Drains → me.0.closed ≡ false → me.0.taking ≡ Some batch → me.1 ≡ (0, filled me.0.profile.capacity []) ∷ []
     → (full : Bool) (home : Home) (v : View) (b : Bool) → v.rotating ≡ b → Facts (terms_of me.0.profile) full home v me.0
@@ -444,6 +538,11 @@ clear_step me batch role unshut busy carries true home v false at k = record {
   role = role;
   profile = refl;
   words = refl;
+  made = Store word.Turn 0;
+  steps = refl;
+  finds = tt;
+  leaves = refl;
+  closes = refl;
   homes = ap (λ (c : List (ℕ × Filled)). put_back (home ∷ []) c) carries;
   facts = full_keeps (terms_of me.0.profile) home v me.0 batch (Store word.Turn 0) unshut busy at k;
   told = λ other is. let same : batch ≡ other = let e : Some batch ≡ Some other = sym busy ∙ is in cc in ap (λ (l : List Message). (taken_by me.0 (Full l ∷ []) (Store word.Turn 0) None, rest me.1)) same;
@@ -453,15 +552,15 @@ clear_step me batch role unshut busy carries true home v true at k =
 clear_step me batch role unshut busy carries false home v b at k =
     absurd (subst (λ (x : Option (List Message)). Stands me.0.profile.capacity false v.rotating x home (hold_of (last v.feeds me.0.takes))) busy k.place)
 
-pub clears : (p : Profile) (slots id : ℕ) (me : Sat) (batch : List Message) → me.0.role ≡ Drains → me.0.closed ≡ false → me.0.taking ≡ Some batch
-    → me.1 ≡ (0, filled me.0.profile.capacity []) ∷ [] → Allows (Kept p) slots id me 0 (λ _. 0) (λ _. cleared me 0)
-clears p slots id me batch role unshut busy carries = drain_allows p slots id me 0 (λ _. 0) (λ _. cleared me 0) role
-    (λ full home v k. clear_step me batch role unshut busy carries full home v v.rotating refl k)
+pub clears : (p : Profile) (slots id : ℕ) (me : Sitting) (batch : List Message) → me.0.view.role ≡ Drains → me.0.view.closed ≡ false → me.0.view.taking ≡ Some batch
+    → me.1 ≡ (0, filled me.0.view.profile.capacity []) ∷ [] → Allows (Kept p) slots id me 0 (λ _. 0) (λ _ n. cleared (known me) 0 (known n) × DrainSees me.0 n.0)
+clears p slots id me batch role unshut busy carries = drain_allows p slots id me 0 (λ _. 0) (λ _. cleared (known me) 0) role
+    (λ full home v k. clear_step (known me) batch role unshut busy carries full home v v.rotating refl k)
 
-pub sets_closed : (p : Profile) (slots id : ℕ) (me : Sat) → me.0.role ≡ Drains → Allows (Kept p) slots id me 1 (λ _. 1) (λ _. set_closed me 1)
-sets_closed p slots id me role = drain_allows p slots id me 1 (λ _. 1) (λ _. set_closed me 1) role
+pub sets_closed : (p : Profile) (slots id : ℕ) (me : Sitting) → me.0.view.role ≡ Drains → Allows (Kept p) slots id me 1 (λ _. 1) (λ _ n. set_closed (known me) 1 (known n) × DrainSees me.0 n.0)
+sets_closed p slots id me role = drain_allows p slots id me 1 (λ _. 1) (λ _. set_closed (known me) 1) role
     (λ full home v k. record {
-      view = closed_by me.0;
+      view = closed_by me.0.view;
       act = keeps;
       full_after = full;
       home_after = home;
@@ -469,6 +568,11 @@ sets_closed p slots id me role = drain_allows p slots id me 1 (λ _. 1) (λ _. s
       role = role;
       profile = refl;
       words = refl;
+      made = Store word.Closed 1;
+      steps = refl;
+      finds = tt;
+      leaves = refl;
+      closes = refl;
       homes = refl;
       facts = record {
         fits = k.fits;
@@ -494,7 +598,10 @@ opens p = record {
   home = some (filled p.capacity []);
   feeder = first p;
   drain = first p;
+  order = [];
   words = refl;
+  closed = refl;
+  ended = refl;
   homes = refl;
   seats = whole refl refl;
   feeder_profile = refl;
@@ -512,9 +619,10 @@ opens p = record {
     seen = λ n. absurd (true≢false (sym n));
     place = refl;
   };
+  steps = record { fresh = tt; words = refl; feeder = refl; drain = refl; feeder_saw = ([], refl); drain_saw = ([], refl); latest = inl refl };
 }
 
-whole_at : (f d v : View) (vs : List View) (id : ℕ) → Seats f d vs → get_elem? vs id ≡ some v → v.role ≡ Whole → (vs ≡ f ∷ []) × (id ≡ 0) × (f ≡ v) × (d ≡ v)
+whole_at : (f d v : Sight) (vs : List Sight) (id : ℕ) → Seats f d vs → get_elem? vs id ≡ some v → v.view.role ≡ Whole → (vs ≡ f ∷ []) × (id ≡ 0) × (f ≡ v) × (d ≡ v)
 whole_at f d v vs id (whole p q) at r = one id at
   where
     one : (id : ℕ) → get_elem? (f ∷ []) id ≡ some v → (f ∷ [] ≡ f ∷ []) × (id ≡ 0) × (f ≡ v) × (d ≡ v)
@@ -523,14 +631,14 @@ whole_at f d v vs id (whole p q) at r = one id at
 whole_at f d v vs id (apart p q) at r = absurd (two id at)
   where
     two : (id : ℕ) → get_elem? (f ∷ d ∷ []) id ≡ some v → ⊥
-    two zero e = let s : f.role ≡ v.role = ap (λ (o : View). o.role) (some-injective f v e) in cc
-    two (suc zero) e = let s : d.role ≡ v.role = ap (λ (o : View). o.role) (some-injective d v e) in cc
+    two zero e = let s : f.view.role ≡ v.view.role = ap (λ (o : Sight). o.view.role) (some-injective f v e) in cc
+    two (suc zero) e = let s : d.view.role ≡ v.view.role = ap (λ (o : Sight). o.view.role) (some-injective d v e) in cc
     two (suc (suc k)) e = some-ne-none v (sym e)
 whole_at f d v vs id (joined o p q s) at r = absurd (two id at)
   where
     two : (id : ℕ) → get_elem? (f ∷ o ∷ []) id ≡ some v → ⊥
-    two zero e = let t : f.role ≡ v.role = ap (λ (u : View). u.role) (some-injective f v e) in cc
-    two (suc zero) e = let t : o.role ≡ v.role = ap (λ (u : View). u.role) (some-injective o v e) in cc
+    two zero e = let t : f.view.role ≡ v.view.role = ap (λ (u : Sight). u.view.role) (some-injective f v e) in cc
+    two (suc zero) e = let t : o.view.role ≡ v.view.role = ap (λ (u : Sight). u.view.role) (some-injective o v e) in cc
     two (suc (suc k)) e = some-ne-none v (sym e)
 
 -- facts do not read what a seat is for
@@ -553,38 +661,61 @@ recast t full home v w x y a b c g h i j k = record {
       (subst (λ (o : Option (List Message)). Stands t.capacity full v.rotating o home (hold_of (last v.feeds w.takes))) (sym h) k.place)));
 }
 
-pub cuts : (p : Profile) (id : ℕ) (v : View) → v.role ≡ Whole → Splits (Kept p) id v (for_feeder v) (for_drain v)
+-- nor does the order
+reordered : (order : List Made) (ws : List ℕ) (f d g e : Sight) → f.view.feed_steps ≡ g.view.feed_steps → f.feeder_saw ≡ g.feeder_saw
+    → d.view.take_steps ≡ e.view.take_steps → d.drain_saw ≡ e.drain_saw → IsOrder order ws f d → IsOrder order ws g e
+reordered order ws f d g e a b h i k = record {
+  fresh = k.fresh;
+  words = k.words;
+  feeder = k.feeder ∙ a;
+  drain = k.drain ∙ h;
+  feeder_saw = subst (λ (l : List Made). IsPrefix l order) b k.feeder_saw;
+  drain_saw = subst (λ (l : List Made). IsPrefix l order) i k.drain_saw;
+  latest = same_latest order f.feeder_saw d.drain_saw g.feeder_saw e.drain_saw b i k.latest;
+}
+
+pub cuts : (p : Profile) (id : ℕ) (v : Sight) → v.view.role ≡ Whole → Splits (Kept p) id v (for_feeder v) (for_drain v)
 cuts p id v role s k at = let a = whole_at k.feeder k.drain v s.views id k.seats at role in record {
   full = k.full;
   home = k.home;
   feeder = for_feeder v;
   drain = for_drain v;
-  words = k.words ∙ (λ i. words_of k.full (a.2 i) (a.3 i));
+  order = k.order;
+  words = k.words ∙ (λ i. stores_of k.full (a.2 i).view (a.3 i).view);
+  closed = subst (λ (u : Sight). u.view.closed ≡ store_to word.Closed u.view.take_steps) a.3 k.closed;
+  ended = subst (λ (u : Sight). u.view.ended ≡ store_to word.Ended u.view.feed_steps) a.2 k.ended;
   homes = k.homes;
   seats = subst (Seats (for_feeder v) (for_drain v)) (λ j. set (sym a.0 j) (sym a.1 j) (for_feeder v) ++ for_drain v ∷ []) (apart refl refl);
-  feeder_profile = ap (λ (u : View). u.profile) (sym a.2) ∙ k.feeder_profile;
-  drain_profile = ap (λ (u : View). u.profile) (sym a.2) ∙ k.feeder_profile;
-  facts = recast (terms_of p) k.full k.home k.feeder k.drain (for_feeder v) (for_drain v)
-      (λ i. (sym a.2 i).feeds) (λ i. (sym a.2 i).rotating) (λ i. (sym a.2 i).ended)
-      (λ i. (sym a.3 i).takes) (λ i. (sym a.3 i).taking) (λ i. (sym a.3 i).sees_end) (λ i. (sym a.3 i).closed) k.facts;
+  feeder_profile = ap (λ (u : Sight). u.view.profile) (sym a.2) ∙ k.feeder_profile;
+  drain_profile = ap (λ (u : Sight). u.view.profile) (sym a.2) ∙ k.feeder_profile;
+  facts = recast (terms_of p) k.full k.home k.feeder.view k.drain.view (for_feeder v).view (for_drain v).view
+      (λ i. (sym a.2 i).view.feeds) (λ i. (sym a.2 i).view.rotating) (λ i. (sym a.2 i).view.ended)
+      (λ i. (sym a.3 i).view.takes) (λ i. (sym a.3 i).view.taking) (λ i. (sym a.3 i).view.sees_end) (λ i. (sym a.3 i).view.closed) k.facts;
+  steps = reordered k.order s.words k.feeder k.drain (for_feeder v) (for_drain v)
+      (λ i. (a.2 i).view.feed_steps) (λ i. (a.2 i).feeder_saw) (λ i. (a.3 i).view.take_steps) (λ i. (a.3 i).drain_saw) k.steps;
 }
 
-pub joins : (p : Profile) (id : ℕ) (v : View) (other : ℕ) (w : View) → v.role ≡ Feeds → w.role ≡ Drains → Joins (Kept p) id v other w (joint v w) spent
+pub joins : (p : Profile) (id : ℕ) (v : Sight) (other : ℕ) (w : Sight) → v.view.role ≡ Feeds → w.view.role ≡ Drains → Joins (Kept p) id v other w (joint v w) spent
 joins p id v other w role role' s k at apart_ there = let a = feeder_at k.feeder k.drain v s.views id k.seats at role in
     let views : set s.views id (joint v w) ≡ joint v w ∷ k.drain ∷ [] = λ j. set (a.0 j) (a.1 j) (joint v w) in
-    let q = second other (λ e. apart_ (e ∙ sym a.1)) (subst (λ (l : List View). get_elem? l other ≡ some w) views there) in record {
+    let q = second other (λ e. apart_ (e ∙ sym a.1)) (subst (λ (l : List Sight). get_elem? l other ≡ some w) views there) in record {
       full = k.full;
       home = k.home;
       feeder = joint v w;
       drain = joint v w;
-      words = k.words ∙ (λ i. words_of k.full (a.2 i) (q.1 i));
+      order = k.order;
+      words = k.words ∙ (λ i. stores_of k.full (a.2 i).view (q.1 i).view);
+      closed = subst (λ (u : Sight). u.view.closed ≡ store_to word.Closed u.view.take_steps) q.1 k.closed;
+      ended = subst (λ (u : Sight). u.view.ended ≡ store_to word.Ended u.view.feed_steps) a.2 k.ended;
       homes = k.homes;
       seats = subst (Seats (joint v w) (joint v w)) (λ j. set (sym views j) (sym q.0 j) spent) (joined spent refl refl refl);
-      feeder_profile = ap (λ (u : View). u.profile) (sym a.2) ∙ k.feeder_profile;
-      drain_profile = ap (λ (u : View). u.profile) (sym a.2) ∙ k.feeder_profile;
-      facts = recast (terms_of p) k.full k.home k.feeder k.drain (joint v w) (joint v w)
-          (λ i. (sym a.2 i).feeds) (λ i. (sym a.2 i).rotating) (λ i. (sym a.2 i).ended)
-          (λ i. (sym q.1 i).takes) (λ i. (sym q.1 i).taking) (λ i. (sym q.1 i).sees_end) (λ i. (sym q.1 i).closed) k.facts;
+      feeder_profile = ap (λ (u : Sight). u.view.profile) (sym a.2) ∙ k.feeder_profile;
+      drain_profile = ap (λ (u : Sight). u.view.profile) (sym a.2) ∙ k.feeder_profile;
+      facts = recast (terms_of p) k.full k.home k.feeder.view k.drain.view (joint v w).view (joint v w).view
+          (λ i. (sym a.2 i).view.feeds) (λ i. (sym a.2 i).view.rotating) (λ i. (sym a.2 i).view.ended)
+          (λ i. (sym q.1 i).view.takes) (λ i. (sym q.1 i).view.taking) (λ i. (sym q.1 i).view.sees_end) (λ i. (sym q.1 i).view.closed) k.facts;
+      steps = reordered k.order s.words k.feeder k.drain (joint v w) (joint v w)
+          (λ i. (a.2 i).view.feed_steps) (λ i. (a.2 i).feeder_saw) (λ i. (q.1 i).view.take_steps) (λ i. (q.1 i).drain_saw) k.steps;
     }
   where
     second : (i : ℕ) → ¬ (i ≡ 0) → get_elem? (joint v w ∷ k.drain ∷ []) i ≡ some w → (i ≡ 1) × (k.drain ≡ w)

@@ -6,6 +6,7 @@ use Rattle.listener.specs.declared.answer.Counts.{Counts}
 use Rattle.listener.specs.declared.message.Message.{Message}
 use Rattle.listener.specs.PlainList.{PlainList, empty, run, stored, Legal}
 use Rattle.handover.specs.declared.calls.Feed.{Feed}
+use Rattle.handover.specs.declared.calls.Made.{Made}
 use Rattle.handover.specs.declared.calls.Step.{Step}
 use Rattle.handover.specs.declared.calls.Take.{Take}
 use Rattle.handover.specs.declared.view.Profile.{Profile}
@@ -14,7 +15,8 @@ use Rattle.handover.specs.Own.{own, arrivals, matches, drops}
 use Rattle.handover.specs.Rule.{terms_of}
 use Rattle.handover.specs.Steps.{flush_steps, FlushAnswers}
 
--- A feeder: its pair, its filter, its calls with their answers, the steps of its seat, and its store.
+-- A feeder: its pair, its filter, its calls with their answers, the steps of its seat, the steps of both ends that it has seen,
+-- and its store.
 pub record Feeding : Type 0 where
   pub pair : TableId
   pub program : List Insn
@@ -22,11 +24,12 @@ pub record Feeding : Type 0 where
   pub profile : Profile
   pub feeds : List Feed
   pub steps : List Step
+  pub seen : List Made
   pub store : List Message
 
-abbrev pub feeding : TableId → List Insn → ℕ → Profile → List Feed → List Step → List Message → Feeding
-feeding pair program snap profile feeds steps store =
-    record { pair = pair; program = program; snap = snap; profile = profile; feeds = feeds; steps = steps; store = store }
+abbrev pub feeding : TableId → List Insn → ℕ → Profile → List Feed → List Step → List Made → List Message → Feeding
+feeding pair program snap profile feeds steps seen store =
+    record { pair = pair; program = program; snap = snap; profile = profile; feeds = feeds; steps = steps; seen = seen; store = store }
 
 -- A feeder that has ended.
 pub record FeedingEnded : Type 0 where
@@ -34,21 +37,24 @@ pub record FeedingEnded : Type 0 where
   pub profile : Profile
   pub feeds : List Feed
   pub steps : List Step
+  pub seen : List Made
   pub store : List Message
 
-abbrev pub feeding_ended : TableId → Profile → List Feed → List Step → List Message → FeedingEnded
-feeding_ended pair profile feeds steps store =
-    record { pair = pair; profile = profile; feeds = feeds; steps = steps; store = store }
+abbrev pub feeding_ended : TableId → Profile → List Feed → List Step → List Made → List Message → FeedingEnded
+feeding_ended pair profile feeds steps seen store =
+    record { pair = pair; profile = profile; feeds = feeds; steps = steps; seen = seen; store = store }
 
--- A drain, before and after its close: its pair, its reads with their answers, and the steps of its seat.
+-- A drain, before and after its close: its pair, its reads with their answers, the steps of its seat, and the steps
+-- of both ends that it has seen.
 pub record Draining : Type 0 where
   pub pair : TableId
   pub profile : Profile
   pub takes : List Take
   pub steps : List Step
+  pub seen : List Made
 
-abbrev pub draining : TableId → Profile → List Take → List Step → Draining
-draining pair profile takes steps = record { pair = pair; profile = profile; takes = takes; steps = steps }
+abbrev pub draining : TableId → Profile → List Take → List Step → List Made → Draining
+draining pair profile takes steps seen = record { pair = pair; profile = profile; takes = takes; steps = steps; seen = seen }
 
 -- a call of a feeder leaves its pair and its filter as they are
 pub record IsSameFeeder (old new : Feeding) : Type 0 where

@@ -11,12 +11,12 @@ use Rattle.handover.specs.declared.calls.Feed.{Feed}
 use Rattle.handover.specs.declared.calls.Take.{Take}
 use Rattle.handover.specs.declared.view.Role.TheVariants.{Whole, Feeds, Drains}
 use Rattle.handover.specs.declared.view.Profile.{Profile}
-use Rattle.handover.specs.declared.view.View.{View}
+use Rattle.handover.specs.declared.view.Sight.{Sight}
 use Rattle.handover.specs.History.{Happening, LegalHistory, events, feeds_in, takes_in, merge, CloseIsPlaced, batches_of, finds, kind, finds_closed}
 use Rattle.handover.specs.Own.{own, store_of, arrivals, matches, drops}
 use Rattle.handover.specs.Allowed.{AllFit, IsQuiet, Busy, Loud, handed}
 use Rattle.handover.specs.Settling.{stored_in, undropped_in}
-use Rattle.handover.specs.Rule.{last, terms_of, Kept, first, for_feeder, for_drain, joint, spent, Owned, Sat, saw_closed, saw_turn, set_turn, set_ended, looked_ended, looked_turn, cleared, set_closed}
+use Rattle.handover.specs.Rule.{last, terms_of, Kept, first, for_feeder, for_drain, joint, spent, Owned, Sitting, known, FeederSees, DrainSees, saw_closed, saw_turn, set_turn, set_ended, looked_ended, looked_turn, cleared, set_closed}
 
 -- Each call of both lists stands in the merged list once, in its order, and the close is in its place.
 pub record HasBoth (fs : List Feed) (ts : List Take) : Type 0 where
@@ -72,48 +72,48 @@ OwnRunsAreRight = (t : Terms) (fs : List Feed) (ts : List Take) → AllFit t.cap
 abbrev pub SeatsKeepTheRule : Type 0
 SeatsKeepTheRule =
     ((p : Profile) → Kept p (record { words = 0 ∷ 0 ∷ 0 ∷ []; homes = some (filled p.capacity []) ∷ []; views = first p ∷ [] }))
-    × ((p : Profile) (id : ℕ) (v : View) → v.role ≡ Whole → Splits (Kept p) id v (for_feeder v) (for_drain v))
-    × ((p : Profile) (id : ℕ) (v : View) (other : ℕ) (w : View) → v.role ≡ Feeds → w.role ≡ Drains → Joins (Kept p) id v other w (joint v w) spent)
+    × ((p : Profile) (id : ℕ) (v : Sight) → v.view.role ≡ Whole → Splits (Kept p) id v (for_feeder v) (for_drain v))
+    × ((p : Profile) (id : ℕ) (v : Sight) (other : ℕ) (w : Sight) → v.view.role ≡ Feeds → w.view.role ≡ Drains → Joins (Kept p) id v other w (joint v w) spent)
 
 -- The feeder's load of `closed` ends a call that the store alone decides where the pair is open, and a call that found it closed
 -- where it is not.
 abbrev pub FeederLooksAtClosed : Type 0
 FeederLooksAtClosed =
-    (p : Profile) (slots id : ℕ) (me : Sat) (gs : List Feed) (f : Feed) → me.0.role ≡ Feeds → me.0.rotating ≡ false → me.0.ended ≡ false
-    → IsQuiet (terms_of me.0.profile) me.0.feeds gs → kind f ≡ finds_closed → AllFit me.0.profile.capacity (f ∷ [])
-    → Allows (Kept p) slots id me 1 (λ n. n) (λ r n. saw_closed gs f me r n × Owned n.0)
+    (p : Profile) (slots id : ℕ) (me : Sitting) (gs : List Feed) (f : Feed) → me.0.view.role ≡ Feeds → me.0.view.rotating ≡ false → me.0.view.ended ≡ false
+    → IsQuiet (terms_of me.0.view.profile) me.0.view.feeds gs → kind f ≡ finds_closed → AllFit me.0.view.profile.capacity (f ∷ [])
+    → Allows (Kept p) slots id me 1 (λ n. n) (λ r n. saw_closed gs f (known me) r (known n) × Owned n.0.view × FeederSees me.0 n.0)
 
 -- The feeder's load of `turn` ends a call that found the hold full, or takes the empty buffer out of the slot.
 abbrev pub FeederLooksAtTurn : Type 0
 FeederLooksAtTurn =
-    (p : Profile) (slots id : ℕ) (me : Sat) (f : Feed) → me.0.role ≡ Feeds → me.0.rotating ≡ false → me.0.ended ≡ false → finds me.0.feeds ≡ false
-    → Busy (terms_of me.0.profile) (store_of me.0.feeds) f → AllFit me.0.profile.capacity (f ∷ [])
-    → Allows (Kept p) slots id me 0 (λ n. n) (λ r n. saw_turn f me r n × Owned n.0)
+    (p : Profile) (slots id : ℕ) (me : Sitting) (f : Feed) → me.0.view.role ≡ Feeds → me.0.view.rotating ≡ false → me.0.view.ended ≡ false → finds me.0.view.feeds ≡ false
+    → Busy (terms_of me.0.view.profile) (store_of me.0.view.feeds) f → AllFit me.0.view.profile.capacity (f ∷ [])
+    → Allows (Kept p) slots id me 0 (λ n. n) (λ r n. saw_turn f (known me) r (known n) × Owned n.0.view × FeederSees me.0 n.0)
 
 -- The feeder's store to `turn` brings home what the call hands over, and ends the call.
 abbrev pub FeederGives : Type 0
 FeederGives =
-    (p : Profile) (slots id : ℕ) (me : Sat) (f : Feed) → me.0.role ≡ Feeds → me.0.rotating ≡ true → me.0.ended ≡ false → finds me.0.feeds ≡ false
-    → Loud (terms_of me.0.profile) (store_of me.0.feeds) f → AllFit me.0.profile.capacity (f ∷ [])
-    → me.1 ≡ (0, filled me.0.profile.capacity (handed (store_of me.0.feeds) f)) ∷ []
-    → Allows (Kept p) slots id me 0 (λ _. 1) (λ _ n. set_turn f me 1 n × Owned n.0)
+    (p : Profile) (slots id : ℕ) (me : Sitting) (f : Feed) → me.0.view.role ≡ Feeds → me.0.view.rotating ≡ true → me.0.view.ended ≡ false → finds me.0.view.feeds ≡ false
+    → Loud (terms_of me.0.view.profile) (store_of me.0.view.feeds) f → AllFit me.0.view.profile.capacity (f ∷ [])
+    → me.1 ≡ (0, filled me.0.view.profile.capacity (handed (store_of me.0.view.feeds) f)) ∷ []
+    → Allows (Kept p) slots id me 0 (λ _. 1) (λ _ n. set_turn f (known me) 1 (known n) × Owned n.0.view × FeederSees me.0 n.0)
 
 abbrev pub FeederEnds : Type 0
-FeederEnds = (p : Profile) (slots id : ℕ) (me : Sat) → me.0.role ≡ Feeds → me.0.ended ≡ false
-    → Allows (Kept p) slots id me 2 (λ _. 1) (λ _ n. set_ended me 1 n × Owned n.0)
+FeederEnds = (p : Profile) (slots id : ℕ) (me : Sitting) → me.0.view.role ≡ Feeds → me.0.view.ended ≡ false
+    → Allows (Kept p) slots id me 2 (λ _. 1) (λ _ n. set_ended (known me) 1 (known n) × Owned n.0.view × FeederSees me.0 n.0)
 
 abbrev pub DrainLooksAtEnded : Type 0
-DrainLooksAtEnded = (p : Profile) (slots id : ℕ) (me : Sat) → me.0.role ≡ Drains → Allows (Kept p) slots id me 2 (λ n. n) (looked_ended me)
+DrainLooksAtEnded = (p : Profile) (slots id : ℕ) (me : Sitting) → me.0.view.role ≡ Drains → Allows (Kept p) slots id me 2 (λ n. n) (λ r n. looked_ended (known me) r (known n) × DrainSees me.0 n.0)
 
 -- The drain's load of `turn` ends a read of an empty hold, or takes the hold out of the slot.
 abbrev pub DrainLooksAtTurn : Type 0
-DrainLooksAtTurn = (p : Profile) (slots id : ℕ) (me : Sat) → me.0.role ≡ Drains → me.0.closed ≡ false → me.0.taking ≡ None
-    → Allows (Kept p) slots id me 0 (λ n. n) (looked_turn me)
+DrainLooksAtTurn = (p : Profile) (slots id : ℕ) (me : Sitting) → me.0.view.role ≡ Drains → me.0.view.closed ≡ false → me.0.view.taking ≡ None
+    → Allows (Kept p) slots id me 0 (λ n. n) (λ r n. looked_turn (known me) r (known n) × DrainSees me.0 n.0)
 
 -- The drain's store to `turn` brings an empty buffer home, and ends the read.
 abbrev pub DrainClears : Type 0
-DrainClears = (p : Profile) (slots id : ℕ) (me : Sat) (batch : List Message) → me.0.role ≡ Drains → me.0.closed ≡ false → me.0.taking ≡ Some batch
-    → me.1 ≡ (0, filled me.0.profile.capacity []) ∷ [] → Allows (Kept p) slots id me 0 (λ _. 0) (λ _. cleared me 0)
+DrainClears = (p : Profile) (slots id : ℕ) (me : Sitting) (batch : List Message) → me.0.view.role ≡ Drains → me.0.view.closed ≡ false → me.0.view.taking ≡ Some batch
+    → me.1 ≡ (0, filled me.0.view.profile.capacity []) ∷ [] → Allows (Kept p) slots id me 0 (λ _. 0) (λ _ n. cleared (known me) 0 (known n) × DrainSees me.0 n.0)
 
 abbrev pub DrainCloses : Type 0
-DrainCloses = (p : Profile) (slots id : ℕ) (me : Sat) → me.0.role ≡ Drains → Allows (Kept p) slots id me 1 (λ _. 1) (λ _. set_closed me 1)
+DrainCloses = (p : Profile) (slots id : ℕ) (me : Sitting) → me.0.view.role ≡ Drains → Allows (Kept p) slots id me 1 (λ _. 1) (λ _ n. set_closed (known me) 1 (known n) × DrainSees me.0 n.0)

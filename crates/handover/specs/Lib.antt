@@ -10,3 +10,5 @@ pub mod Ends
 pub mod Seated
 pub mod Reads
 pub mod Settling
+pub mod Orders
+pub mod Fresh

@@ -1,7 +1,8 @@
 -- The rule of the table, between any two steps.
-use Rattle.std.specs.Prelude.{◌≡◌, ◌≢◌, ℕ, ◌<◌, Bool, true, false, List, [], ◌∷◌, ◌++◌, Option, Some, None}
+use Rattle.std.specs.Prelude.{◌≡◌, ◌≢◌, ℕ, ◌<◌, Bool, true, false, List, [], ◌∷◌, ◌++◌, ◌⊎◌, Option, Some, None}
 use mathlib.Core.Option.{some, none}
 use mathlib.Core.Option as lean
+use mathlib.Core.List.{IsPrefix}
 use Rattle.atomic_table.specs.Table.{State, Me, rest}
 use Rattle.listener.specs.declared.mode.Mode.{Mode}
 use Rattle.listener.specs.declared.mode.Mode.TheVariants.{Buffered}
@@ -18,9 +19,12 @@ use Rattle.handover.specs.declared.calls.Step.TheVariants.{Load, Store}
 use Rattle.handover.specs.declared.view.Role.TheVariants.{Whole, Feeds, Drains, Joined, Spent}
 use Rattle.handover.specs.declared.view.Profile.{Profile}
 use Rattle.handover.specs.declared.view.View.{View}
+use Rattle.handover.specs.declared.view.Sight.{Sight}
+use Rattle.handover.specs.declared.calls.Made.{Made}
 use Rattle.handover.specs.History.{events, merge, finds, ended_in, EndedIsLast}
 use Rattle.handover.specs.Allowed.{AllFit}
 use Rattle.handover.specs.Tidy.{Tidy}
+use Rattle.handover.specs.Orders.{IsFresh, words_after, store_to, of_feeder, of_drain, GoesOn}
 
 abbrev pub profile_of : ℕ → Mode → Profile
 profile_of capacity mode = record { capacity = capacity; mode = mode }
@@ -69,42 +73,65 @@ pub record Facts (t : Terms) (full : Bool) (home : Home) (f d : View) : Type 0 w
   pub place : Stands t.capacity full f.rotating d.taking home (hold_of (last f.feeds d.takes))
 
 -- the seats: the one that is whole, the two, or the joined one beside the spent
-pub data Seats (feeder drain : View) : List View → Type 0 where
-  whole : feeder ≡ drain → feeder.role ≡ Whole → Seats feeder drain (feeder ∷ [])
-  apart : feeder.role ≡ Feeds → drain.role ≡ Drains → Seats feeder drain (feeder ∷ drain ∷ [])
-  joined : (other : View) → feeder ≡ drain → feeder.role ≡ Joined → other.role ≡ Spent → Seats feeder drain (feeder ∷ other ∷ [])
+pub data Seats (feeder drain : Sight) : List Sight → Type 0 where
+  whole : feeder ≡ drain → feeder.view.role ≡ Whole → Seats feeder drain (feeder ∷ [])
+  apart : feeder.view.role ≡ Feeds → drain.view.role ≡ Drains → Seats feeder drain (feeder ∷ drain ∷ [])
+  joined : (other : Sight) → feeder ≡ drain → feeder.view.role ≡ Joined → other.view.role ≡ Spent → Seats feeder drain (feeder ∷ other ∷ [])
+
+-- All steps that were made, in their order: each load is fresh, and the words are what the stores left. It has the steps of both
+-- ends and no others; one of them has seen it all, and the other a beginning of it.
+pub record IsOrder (order : List Made) (numbers : List ℕ) (f d : Sight) : Type 0 where
+  pub fresh : IsFresh order
+  pub words : numbers ≡ words_after order
+  pub feeder : of_feeder order ≡ f.view.feed_steps
+  pub drain : of_drain order ≡ d.view.take_steps
+  pub feeder_saw : IsPrefix f.feeder_saw order
+  pub drain_saw : IsPrefix d.drain_saw order
+  pub latest : (order ≡ f.feeder_saw) ⊎ (order ≡ d.drain_saw)
 
 -- The rule: the merged list is a legal history whose hold is full exactly where `turn` is 1; the buffer is at home but where one
--- seat has it; `closed` and `ended` are 1 exactly where the drain's and the feeder's view holds that store.
-pub record Kept (p : Profile) (s : State Filled View) : Type 0 where
+-- seat has it; `closed` and `ended` are 1 exactly where the drain and the feeder have made that store; and all steps have one
+-- order, in which each load answered what its word was, and which left the words as they are.
+pub record Kept (p : Profile) (s : State Filled Sight) : Type 0 where
   pub full : Bool
   pub home : Home
-  pub feeder : View
-  pub drain : View
-  pub words : s.words ≡ bit full ∷ bit drain.closed ∷ bit feeder.ended ∷ []
+  pub feeder : Sight
+  pub drain : Sight
+  pub order : List Made
+  pub words : s.words ≡ bit full ∷ bit (store_to word.Closed drain.view.take_steps) ∷ bit (store_to word.Ended feeder.view.feed_steps) ∷ []
+  pub closed : drain.view.closed ≡ store_to word.Closed drain.view.take_steps
+  pub ended : feeder.view.ended ≡ store_to word.Ended feeder.view.feed_steps
   pub homes : s.homes ≡ home ∷ []
   pub seats : Seats feeder drain s.views
-  pub feeder_profile : feeder.profile ≡ p
-  pub drain_profile : drain.profile ≡ p
-  pub facts : Facts (terms_of p) full home feeder drain
+  pub feeder_profile : feeder.view.profile ≡ p
+  pub drain_profile : drain.view.profile ≡ p
+  pub facts : Facts (terms_of p) full home feeder.view drain.view
+  pub steps : IsOrder order s.words feeder drain
 
 -- ---- Views
 
-abbrev pub first : Profile → View
-first p = record { role = Whole; profile = p; feeds = []; feed_steps = []; rotating = false; ended = false; takes = []; take_steps = []; taking = None; sees_end = false; closed = false }
+abbrev pub first : Profile → Sight
+first p = record {
+  view = record { role = Whole; profile = p; feeds = []; feed_steps = []; rotating = false; ended = false; takes = []; take_steps = []; taking = None; sees_end = false; closed = false };
+  feeder_saw = [];
+  drain_saw = [];
+}
 
-abbrev pub for_feeder : View → View
-for_feeder v = record v { role = Feeds }
+abbrev pub for_feeder : Sight → Sight
+for_feeder s = record s { view = record (s.view) { role = Feeds } }
 
-abbrev pub for_drain : View → View
-for_drain v = record v { role = Drains }
+abbrev pub for_drain : Sight → Sight
+for_drain s = record s { view = record (s.view) { role = Drains } }
 
 -- the feeder's view with what the drain's knows
-abbrev pub joint : View → View → View
-joint v w = record v { role = Joined; takes = w.takes; take_steps = w.take_steps; taking = w.taking; sees_end = w.sees_end; closed = w.closed }
+abbrev pub both_views : View → View → View
+both_views v w = record v { role = Joined; takes = w.takes; take_steps = w.take_steps; taking = w.taking; sees_end = w.sees_end; closed = w.closed }
 
-abbrev pub spent : View
-spent = record (first (record { capacity = 0; mode = Buffered })) { role = Spent }
+abbrev pub joint : Sight → Sight → Sight
+joint s t = record { view = both_views s.view t.view; feeder_saw = s.feeder_saw; drain_saw = t.drain_saw }
+
+abbrev pub spent : Sight
+spent = let s = first (record { capacity = 0; mode = Buffered }) in record s { view = record (s.view) { role = Spent } }
 
 -- after a step of the feeder, with the calls that it ends
 abbrev pub fed_by : View → List Feed → Step → Bool → View
@@ -142,6 +169,20 @@ Owned v = Backed (terms_of v.profile) v.feeds
 
 abbrev pub Sat : Type 0
 Sat = Me Filled View
+
+-- a seat of the table, and of this what it knows of its own calls
+abbrev pub Sitting : Type 0
+Sitting = Me Filled Sight
+
+abbrev pub known : Sitting → Sat
+known me = (me.0.view, me.1)
+
+-- Each step of an end: it has seen more, each load that it has seen is fresh, and its own steps among them are all that it made.
+abbrev pub FeederSees : Sight → Sight → Type 0
+FeederSees old new = GoesOn of_feeder old.feeder_saw new.feeder_saw new.view.feed_steps
+
+abbrev pub DrainSees : Sight → Sight → Type 0
+DrainSees old new = GoesOn of_drain old.drain_saw new.drain_saw new.view.take_steps
 
 -- ---- What each step tells: of the seat before, the number found and the seat after
 

@@ -40,3 +40,11 @@ pub enum Step {
     /// A store.
     Store(Word, u64),
 }
+
+/// A step, and which end made it.
+pub enum Made {
+    /// The feeder.
+    OfFeeder(Step),
+    /// The drain.
+    OfDrain(Step),
+}

@@ -5,6 +5,7 @@ ghost use Rattle.listener.specs.Buffers.{filled};
 ghost use Rattle.handover.specs.declared.calls.Step.TheVariants.{Store};
 ghost use Rattle.handover.specs.declared.calls.Word.TheVariants as word;
 ghost use Rattle.handover.specs.Ends.{draining, IsSameDrain};
+ghost use Rattle.handover.specs.Orders.{GoesOn, of_drain};
 ghost use Rattle.handover.specs.Reads.{take_of, HasBuffer};
 ghost use Rattle.handover.specs.Steps.{GrewByRead};
 
@@ -36,13 +37,14 @@ pub struct Drain {
 impl Model for Drain {
     ghost use Rattle.std.specs.Prelude.{◌≡◌, false};
     ghost use Rattle.handover.specs.Ends.{Draining, draining};
+    ghost use Rattle.handover.specs.Rule.{known};
     ghost use Rattle.handover.specs.Seated.{IsDrain};
 
     ghost Value = { Draining };
 
-    ghost view = { λ d. draining d.seat.table_id d.seat.me.0.profile d.seat.me.0.takes d.seat.me.0.take_steps };
+    ghost view = { λ d. draining d.seat.table_id d.seat.me.0.view.profile d.seat.me.0.view.takes d.seat.me.0.view.take_steps d.seat.me.0.drain_saw };
 
-    ghost invariant = { λ d. IsDrain d.seat.me false × (d.capacity ≡ d.seat.me.0.profile.capacity) };
+    ghost invariant = { λ d. IsDrain (known d.seat.me) false × (d.capacity ≡ d.seat.me.0.view.profile.capacity) };
 }
 
 /// A drain that has closed.
@@ -56,13 +58,14 @@ pub struct DrainEnd {
 impl Model for DrainEnd {
     ghost use Rattle.std.specs.Prelude.{true};
     ghost use Rattle.handover.specs.Ends.{Draining, draining};
+    ghost use Rattle.handover.specs.Rule.{known};
     ghost use Rattle.handover.specs.Seated.{IsDrain};
 
     ghost Value = { Draining };
 
-    ghost view = { λ d. draining d.seat.table_id d.seat.me.0.profile d.seat.me.0.takes d.seat.me.0.take_steps };
+    ghost view = { λ d. draining d.seat.table_id d.seat.me.0.view.profile d.seat.me.0.view.takes d.seat.me.0.view.take_steps d.seat.me.0.drain_saw };
 
-    ghost invariant = { λ d. IsDrain d.seat.me true };
+    ghost invariant = { λ d. IsDrain (known d.seat.me) true };
 }
 
 impl Drain {
@@ -83,6 +86,7 @@ impl Drain {
         ensures same { IsSameDrain self.old self.new }
         ensures call { self.new.takes ≡ self.old.takes ++ take_of result ∷ [] }
         ensures steps { GrewByRead (take_of result) self.old.steps self.new.steps }
+        ensures order { GoesOn of_drain self.old.seen self.new.seen self.new.steps }
         ensures buffer { HasBuffer self.old.profile.capacity result }
     {
         let shared = &link.table.shared;
@@ -104,7 +108,8 @@ impl Drain {
     /// a flush with false.
     pub fn close(self, link: &Link) -> DrainEnd
         requires { self.pair ≡ link.now }
-        ensures { result ≡ draining self.pair self.profile self.takes (self.steps ++ Store word.Closed 1 ∷ []) }
+        ensures closed { result ≡ draining self.pair self.profile self.takes (self.steps ++ Store word.Closed 1 ∷ []) result.seen }
+        ensures order { GoesOn of_drain self.seen result.seen result.steps }
     {
         let Drain {
             mut seat,

@@ -8,6 +8,7 @@ ghost use Rattle.handover.specs.declared.calls.Feed.TheVariants.{Arrive};
 ghost use Rattle.handover.specs.declared.calls.Step.TheVariants.{Store};
 ghost use Rattle.handover.specs.declared.calls.Word.TheVariants as word;
 ghost use Rattle.handover.specs.Ends.{feeding_ended, IsSameFeeder, HasOwnRun, AreCountsOf, Counted, Flushed, own_list};
+ghost use Rattle.handover.specs.Orders.{GoesOn, of_feeder};
 ghost use Rattle.handover.specs.Own.{arrivals, matches, drops};
 ghost use Rattle.handover.specs.Steps.{arrive_steps};
 
@@ -21,7 +22,8 @@ use std::marker::Model;
 
 /// The end of a pair that packets are given to: a filter, the store, and the counts.
 ///
-/// Contracts see which pair it is of, its filter, its calls with their answers, the steps that these took, and its store.
+/// Contracts see which pair it is of, its filter, its calls with their answers, the steps that these took, which steps
+/// of both ends it has seen, and its store.
 #[derive(Drop)]
 pub struct Feeder {
     pub(crate) stand: Stand,
@@ -36,15 +38,16 @@ impl Model for Feeder {
     ghost use Rattle.listener.specs.Listening.{InRange};
     ghost use Rattle.handover.specs.Ends.{Feeding, feeding};
     ghost use Rattle.handover.specs.Ends.{Counted};
+    ghost use Rattle.handover.specs.Rule.{known};
     ghost use Rattle.handover.specs.Seated.{IsFeeder};
 
     ghost Value = { Feeding };
 
-    ghost view = { λ f. feeding f.stand.seat.table_id f.program f.snap f.stand.seat.me.0.profile f.stand.seat.me.0.feeds
-        f.stand.seat.me.0.feed_steps f.stand.store.messages };
+    ghost view = { λ f. feeding f.stand.seat.table_id f.program f.snap f.stand.seat.me.0.view.profile f.stand.seat.me.0.view.feeds
+        f.stand.seat.me.0.view.feed_steps f.stand.seat.me.0.feeder_saw f.stand.store.messages };
 
-    ghost invariant = { λ f. IsFeeder f.stand.seat.me f.stand.store false × InRange f.snap f.stand.store.capacity
-        × (f.stand.seat.me.0.profile.mode ≡ f.mode) × Counted f.counts f.stand.seat.me.0.feeds };
+    ghost invariant = { λ f. IsFeeder (known f.stand.seat.me) f.stand.store false × InRange f.snap f.stand.store.capacity
+        × (f.stand.seat.me.0.view.profile.mode ≡ f.mode) × Counted f.counts f.stand.seat.me.0.view.feeds };
 }
 
 /// A feeder that has ended.
@@ -60,14 +63,15 @@ impl Model for FeedEnd {
     ghost use Rattle.std.specs.Prelude.{true};
     ghost use Rattle.handover.specs.Ends.{FeedingEnded, feeding_ended};
     ghost use Rattle.handover.specs.Ends.{Counted};
+    ghost use Rattle.handover.specs.Rule.{known};
     ghost use Rattle.handover.specs.Seated.{IsFeeder};
 
     ghost Value = { FeedingEnded };
 
-    ghost view = { λ f. feeding_ended f.stand.seat.table_id f.stand.seat.me.0.profile f.stand.seat.me.0.feeds
-        f.stand.seat.me.0.feed_steps f.stand.store.messages };
+    ghost view = { λ f. feeding_ended f.stand.seat.table_id f.stand.seat.me.0.view.profile f.stand.seat.me.0.view.feeds
+        f.stand.seat.me.0.view.feed_steps f.stand.seat.me.0.feeder_saw f.stand.store.messages };
 
-    ghost invariant = { λ f. IsFeeder f.stand.seat.me f.stand.store true × Counted f.counts f.stand.seat.me.0.feeds };
+    ghost invariant = { λ f. IsFeeder (known f.stand.seat.me) f.stand.store true × Counted f.counts f.stand.seat.me.0.view.feeds };
 }
 
 /// Counts an arrival with this answer, and tells the answer.
@@ -104,6 +108,7 @@ impl Feeder {
         ensures call { self.new.feeds ≡ self.old.feeds ++
             Arrive (kept_by self.old.program self.old.snap (arrival capture place packet.now)) result ∷ [] }
         ensures steps { self.new.steps ≡ self.old.steps ++ arrive_steps self.old.profile.mode result }
+        ensures order { GoesOn of_feeder self.old.seen self.new.seen self.new.steps }
         ensures own { HasOwnRun self.new }
     {
         let Some(kept) = kept_of(&self.program, self.snap, packet) else {
@@ -127,6 +132,7 @@ impl Feeder {
         requires { self.old.pair ≡ link.now }
         ensures same { IsSameFeeder self.old self.new }
         ensures call { Flushed result self.old self.new }
+        ensures order { GoesOn of_feeder self.old.seen self.new.seen self.new.steps }
         ensures own { HasOwnRun self.new }
     {
         if self.stand.store.is_empty() {
@@ -150,7 +156,8 @@ impl Feeder {
     /// Ends the feeder: a read that finds this and an empty hold is answered with [`Read::Ended`](crate::Read::Ended).
     pub fn end(self, link: &Link) -> FeedEnd
         requires { self.pair ≡ link.now }
-        ensures ended { result ≡ feeding_ended self.pair self.profile self.feeds (self.steps ++ Store word.Ended 1 ∷ []) self.store }
+        ensures ended { result ≡ feeding_ended self.pair self.profile self.feeds (self.steps ++ Store word.Ended 1 ∷ []) result.seen self.store }
+        ensures order { GoesOn of_feeder self.seen result.seen result.steps }
         ensures own { HasOwnRun self }
     {
         let Feeder {

@@ -2,6 +2,7 @@
 //! law.
 
 ghost use Rattle.handover.specs.Laws.{MergesHaveBoth, HistoriesAreSettled, StoredAreReadOrPend, KeptAreStored, OnlyDroppedAreMissing, OwnRunsAreRight, SeatsKeepTheRule, FeederLooksAtClosed, FeederLooksAtTurn, FeederGives, FeederEnds, DrainLooksAtEnded, DrainLooksAtTurn, DrainClears, DrainCloses};
+ghost use Rattle.handover.specs.Fresh.{FeederStepsAreFresh, DrainStepsAreFresh, SilentStepsChangeNothing, NoEndIsOverlooked, NoHoldIsOverlooked, NoCloseIsOverlooked, NoHoldIsMadeUp, NoEndIsMadeUp, NoCloseIsMadeUp};
 
 /// Each call of the feeder and each read of the drain stands in the merged list once, in its order, and the close in its
 /// place.
@@ -44,4 +45,23 @@ pub fn drain_steps()
     ensures turn { DrainLooksAtTurn }
     ensures clears { DrainClears }
     ensures closes { DrainCloses }
+{}
+
+/// Whatever private code says of a step: where the rule holds before it and behind it, a load that is told answered the number
+/// that its word had at this very step, and a store that is told was made. A step that is not told changes no word.
+pub fn fresh_steps()
+    ensures feeder { FeederStepsAreFresh }
+    ensures drain { DrainStepsAreFresh }
+    ensures silent { SilentStepsChangeNothing }
+{}
+
+/// So there is no proof of a drain that answers Nothing for ever after the end or while the hold is full, of a feeder that
+/// stores after the close or drops without a look, or of an `end` or a `close` that stores nothing.
+pub fn wrong_steps()
+    ensures end_overlooked { NoEndIsOverlooked }
+    ensures hold_overlooked { NoHoldIsOverlooked }
+    ensures close_overlooked { NoCloseIsOverlooked }
+    ensures hold_made_up { NoHoldIsMadeUp }
+    ensures end_made_up { NoEndIsMadeUp }
+    ensures close_made_up { NoCloseIsMadeUp }
 {}

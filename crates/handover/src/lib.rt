@@ -11,11 +11,11 @@ mod rule;
 mod stand;
 mod view;
 
-pub use calls::{Feed, Step, Take, Word};
+pub use calls::{Feed, Made, Step, Take, Word};
 pub use drain::{Drain, DrainEnd, Read};
 pub use feeder::{FeedEnd, Feeder};
 pub use link::{Link, Settled, pair, pair_as, settle};
-pub use view::{Profile, Role, View};
+pub use view::{Profile, Role, Sight, View};
 
 #[cfg(test)]
 mod tests;

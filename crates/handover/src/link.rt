@@ -9,6 +9,7 @@ ghost use Rattle.listener.specs.declared.mode.Mode.TheVariants.{Buffered};
 ghost use Rattle.handover.specs.declared.view.Profile.{Profile};
 ghost use Rattle.handover.specs.Ends.{feeding, draining, AreCountsOf, Counted};
 ghost use Rattle.handover.specs.History.{LegalHistory, merge};
+ghost use Rattle.handover.specs.Orders.{HasOneOrder};
 ghost use Rattle.handover.specs.Rule.{first, last, profile_of, terms_of};
 ghost use Rattle.handover.specs.Settling.{IsWhole};
 
@@ -60,8 +61,8 @@ pub fn pair(
     snap: u32,
     capacity: usize,
 ) -> Result<(Link, Feeder, Drain), OpenFault>
-    ensures ok { IfOk result (λ p. p.1 ≡ feeding p.0 program snap (profile_of capacity Buffered) [] [] []) }
-    ensures drain { IfOk result (λ p. p.2 ≡ draining p.0 (profile_of capacity Buffered) [] []) }
+    ensures ok { IfOk result (λ p. p.1 ≡ feeding p.0 program snap (profile_of capacity Buffered) [] [] [] []) }
+    ensures drain { IfOk result (λ p. p.2 ≡ draining p.0 (profile_of capacity Buffered) [] [] []) }
     ensures in_range { OnOk result (InRange snap capacity) }
     ensures only { IfErr result (RefusesOpen snap capacity) }
 {
@@ -80,8 +81,8 @@ pub fn pair_as(
     capacity: usize,
     mode: Mode,
 ) -> Result<(Link, Feeder, Drain), OpenFault>
-    ensures ok { IfOk result (λ p. p.1 ≡ feeding p.0 program snap (profile_of capacity mode) [] [] []) }
-    ensures drain { IfOk result (λ p. p.2 ≡ draining p.0 (profile_of capacity mode) [] []) }
+    ensures ok { IfOk result (λ p. p.1 ≡ feeding p.0 program snap (profile_of capacity mode) [] [] [] []) }
+    ensures drain { IfOk result (λ p. p.2 ≡ draining p.0 (profile_of capacity mode) [] [] []) }
     ensures in_range { OnOk result (InRange snap capacity) }
     ensures only { IfErr result (RefusesOpen snap capacity) }
 {
@@ -110,8 +111,8 @@ fn parted(
     requires seat { seat.me ≡ (first (profile_of store.capacity mode), []) }
     requires store { store ≡ filled store.capacity [] }
     requires in_range { InRange snap store.capacity }
-    ensures feeder { result.1 ≡ feeding result.0 program snap (profile_of store.capacity mode) [] [] [] }
-    ensures drain { result.2 ≡ draining result.0 (profile_of store.capacity mode) [] [] }
+    ensures feeder { result.1 ≡ feeding result.0 program snap (profile_of store.capacity mode) [] [] [] [] }
+    ensures drain { result.2 ≡ draining result.0 (profile_of store.capacity mode) [] [] [] }
 {
     let capacity = store.capacity();
     let other = table.shared.split_seat::<Ends>(&mut seat);
@@ -142,6 +143,7 @@ fn parted(
 pub fn settle(link: Link, feeder: FeedEnd, drain: DrainEnd) -> Settled
     requires { (feeder.pair ≡ link) × (drain.pair ≡ link) }
     ensures history { LegalHistory (terms_of feeder.profile) feeder.feeds drain.takes (merge feeder.feeds drain.takes) }
+    ensures order { HasOneOrder feeder.seen drain.seen feeder.steps drain.steps }
     ensures hold { result.hold ≡ filled feeder.profile.capacity (hold_of (last feeder.feeds drain.takes)) }
     ensures rest { result.rest ≡ filled feeder.profile.capacity (stored (last feeder.feeds drain.takes)) }
     ensures counts { AreCountsOf result.counts (last feeder.feeds drain.takes) × Counted result.counts feeder.feeds }

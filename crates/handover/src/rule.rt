@@ -3,9 +3,9 @@
 ghost use Rattle.std.specs.Prelude.{List, [], false};
 ghost use Rattle.handover.specs.declared.calls.Feed.{Feed};
 ghost use Rattle.handover.specs.declared.calls.Feed.TheVariants.{Flush, FlushClosed};
-ghost use Rattle.handover.specs.Rule.{Kept, first, for_feeder, for_drain, joint, spent, saw_closed, saw_turn, set_turn, set_ended, looked_ended, looked_turn, cleared, set_closed, Owned};
+ghost use Rattle.handover.specs.Rule.{Kept, first, for_feeder, for_drain, joint, spent, saw_closed, saw_turn, set_turn, set_ended, looked_ended, looked_turn, cleared, set_closed, Owned, known, FeederSees, DrainSees};
 
-use crate::view::{Profile, View};
+use crate::view::{Profile, Sight};
 use atomic_table::{Join, Play, Seat, Split, Table, TableRule};
 use listener::Buffer;
 use std::alloc::Global;
@@ -21,14 +21,14 @@ pub(crate) const ENDED: usize = 2;
 /// The table's one slot.
 pub(crate) const SLOT: usize = 0;
 
-pub(crate) type Place = Seat<Buffer, View>;
+pub(crate) type Place = Seat<Buffer, Sight>;
 
-pub(crate) type PairTable = Table<Buffer, View, Profile, HandOver, Global>;
+pub(crate) type PairTable = Table<Buffer, Sight, Profile, HandOver, Global>;
 
 /// The rule of the table.
 pub struct HandOver;
 
-impl TableRule<Buffer, View, Profile> for HandOver {
+impl TableRule<Buffer, Sight, Profile> for HandOver {
     ghost holds = { Kept };
 
     ghost first = { first };
@@ -37,13 +37,13 @@ impl TableRule<Buffer, View, Profile> for HandOver {
 /// The two ends.
 pub struct Ends;
 
-impl Split<View> for Ends {
+impl Split<Sight> for Ends {
     ghost left = { for_feeder };
 
     ghost right = { for_drain };
 }
 
-impl Join<View> for Ends {
+impl Join<Sight> for Ends {
     ghost both = { joint };
 
     ghost spent = { spent };
@@ -76,8 +76,8 @@ pub struct SawClosed<C> {
     marker: PhantomData<C>,
 }
 
-impl<C: Opening> Play<Buffer, View> for SawClosed<C> {
-    ghost then = { λ step me found after. saw_closed C.quiet C.late me found after × Owned after.0 };
+impl<C: Opening> Play<Buffer, Sight> for SawClosed<C> {
+    ghost then = { λ step me found after. saw_closed C.quiet C.late (known me) found (known after) × Owned after.0.view × FeederSees me.0 after.0 };
 }
 
 /// The feeder's load of `turn`.
@@ -85,8 +85,8 @@ pub struct SawTurn<C> {
     marker: PhantomData<C>,
 }
 
-impl<C: Call> Play<Buffer, View> for SawTurn<C> {
-    ghost then = { λ step me found after. saw_turn C.call me found after × Owned after.0 };
+impl<C: Call> Play<Buffer, Sight> for SawTurn<C> {
+    ghost then = { λ step me found after. saw_turn C.call (known me) found (known after) × Owned after.0.view × FeederSees me.0 after.0 };
 }
 
 /// The feeder's store to `turn`.
@@ -94,41 +94,41 @@ pub struct GaveTurn<C> {
     marker: PhantomData<C>,
 }
 
-impl<C: Call> Play<Buffer, View> for GaveTurn<C> {
-    ghost then = { λ step me found after. set_turn C.call me found after × Owned after.0 };
+impl<C: Call> Play<Buffer, Sight> for GaveTurn<C> {
+    ghost then = { λ step me found after. set_turn C.call (known me) found (known after) × Owned after.0.view × FeederSees me.0 after.0 };
 }
 
 /// The feeder's store to `ended`.
 pub struct SetEnded;
 
-impl Play<Buffer, View> for SetEnded {
-    ghost then = { λ step me found after. set_ended me found after × Owned after.0 };
+impl Play<Buffer, Sight> for SetEnded {
+    ghost then = { λ step me found after. set_ended (known me) found (known after) × Owned after.0.view × FeederSees me.0 after.0 };
 }
 
 /// The drain's load of `ended`.
 pub struct LookedEnded;
 
-impl Play<Buffer, View> for LookedEnded {
-    ghost then = { λ step me found after. looked_ended me found after };
+impl Play<Buffer, Sight> for LookedEnded {
+    ghost then = { λ step me found after. looked_ended (known me) found (known after) × DrainSees me.0 after.0 };
 }
 
 /// The drain's load of `turn`.
 pub struct LookedTurn;
 
-impl Play<Buffer, View> for LookedTurn {
-    ghost then = { λ step me found after. looked_turn me found after };
+impl Play<Buffer, Sight> for LookedTurn {
+    ghost then = { λ step me found after. looked_turn (known me) found (known after) × DrainSees me.0 after.0 };
 }
 
 /// The drain's store to `turn`.
 pub struct Cleared;
 
-impl Play<Buffer, View> for Cleared {
-    ghost then = { λ step me found after. cleared me found after };
+impl Play<Buffer, Sight> for Cleared {
+    ghost then = { λ step me found after. cleared (known me) found (known after) × DrainSees me.0 after.0 };
 }
 
 /// The drain's store to `closed`.
 pub struct SetClosed;
 
-impl Play<Buffer, View> for SetClosed {
-    ghost then = { λ step me found after. set_closed me found after };
+impl Play<Buffer, Sight> for SetClosed {
+    ghost then = { λ step me found after. set_closed (known me) found (known after) × DrainSees me.0 after.0 };
 }

@@ -12,7 +12,7 @@ ghost use Rattle.handover.specs.declared.view.Role.TheVariants.{Feeds};
 ghost use Rattle.handover.specs.Allowed.{AllFit, IsQuiet, Busy, Loud, handed};
 ghost use Rattle.handover.specs.History.{kind, finds, finds_closed};
 ghost use Rattle.handover.specs.Own.{store_of};
-ghost use Rattle.handover.specs.Rule.{terms_of, saw_closed, saw_turn, set_turn, Owned};
+ghost use Rattle.handover.specs.Rule.{terms_of, saw_closed, saw_turn, set_turn, Owned, known, FeederSees};
 ghost use Rattle.handover.specs.Seated.{IsFeeder, IsGiving, Offers, Went, WentByFlush};
 ghost use Rattle.handover.specs.Steps.{arrive_steps};
 
@@ -42,12 +42,13 @@ pub(crate) struct Stand {
 /// Loads `closed`. The step ends the calls that C names where the pair is open, else the one that found it closed.
 fn see_closed<C: Opening>(link: &Link, seat: &mut Place) -> u64
     requires pair { seat.old.table_id ≡ link.now }
-    requires calm { (seat.old.me.0.role ≡ Feeds) × (seat.old.me.0.rotating ≡ false) × (seat.old.me.0.ended ≡ false) }
-    requires quiet { IsQuiet (terms_of seat.old.me.0.profile) seat.old.me.0.feeds C.quiet }
-    requires late { (kind C.late ≡ finds_closed) × AllFit seat.old.me.0.profile.capacity (C.late ∷ []) }
+    requires calm { (seat.old.me.0.view.role ≡ Feeds) × (seat.old.me.0.view.rotating ≡ false) × (seat.old.me.0.view.ended ≡ false) }
+    requires quiet { IsQuiet (terms_of seat.old.me.0.view.profile) seat.old.me.0.view.feeds C.quiet }
+    requires late { (kind C.late ≡ finds_closed) × AllFit seat.old.me.0.view.profile.capacity (C.late ∷ []) }
     ensures pair { seat.new.table_id ≡ seat.old.table_id }
-    ensures step { saw_closed C.quiet C.late seat.old.me result seat.new.me }
-    ensures own { Owned seat.new.me.0 }
+    ensures step { saw_closed C.quiet C.late (known seat.old.me) result (known seat.new.me) }
+    ensures own { Owned seat.new.me.0.view }
+    ensures order { FeederSees seat.old.me.0 seat.new.me.0 }
 {
     link.table.shared.load::<SawClosed<C>>(seat, CLOSED)
 }
@@ -55,13 +56,14 @@ fn see_closed<C: Opening>(link: &Link, seat: &mut Place) -> u64
 /// Loads `turn`. The step ends the call C where the hold is full.
 fn see_turn<C: Call>(link: &Link, seat: &mut Place) -> u64
     requires pair { seat.old.table_id ≡ link.now }
-    requires calm { (seat.old.me.0.role ≡ Feeds) × (seat.old.me.0.rotating ≡ false) × (seat.old.me.0.ended ≡ false) }
-    requires unclosed { finds seat.old.me.0.feeds ≡ false }
-    requires busy { Busy (terms_of seat.old.me.0.profile) (store_of seat.old.me.0.feeds) C.call }
-    requires fits { AllFit seat.old.me.0.profile.capacity (C.call ∷ []) }
+    requires calm { (seat.old.me.0.view.role ≡ Feeds) × (seat.old.me.0.view.rotating ≡ false) × (seat.old.me.0.view.ended ≡ false) }
+    requires unclosed { finds seat.old.me.0.view.feeds ≡ false }
+    requires busy { Busy (terms_of seat.old.me.0.view.profile) (store_of seat.old.me.0.view.feeds) C.call }
+    requires fits { AllFit seat.old.me.0.view.profile.capacity (C.call ∷ []) }
     ensures pair { seat.new.table_id ≡ seat.old.table_id }
-    ensures step { saw_turn C.call seat.old.me result seat.new.me }
-    ensures own { Owned seat.new.me.0 }
+    ensures step { saw_turn C.call (known seat.old.me) result (known seat.new.me) }
+    ensures own { Owned seat.new.me.0.view }
+    ensures order { FeederSees seat.old.me.0 seat.new.me.0 }
 {
     link.table.shared.load::<SawTurn<C>>(seat, TURN)
 }
@@ -69,13 +71,14 @@ fn see_turn<C: Call>(link: &Link, seat: &mut Place) -> u64
 /// Stores 1 to `turn`, which hands the slot over and ends the call C.
 fn give_turn<C: Call>(link: &Link, seat: &mut Place)
     requires pair { seat.old.table_id ≡ link.now }
-    requires giving { IsGiving seat.old.me
-        (filled seat.old.me.0.profile.capacity (handed (store_of seat.old.me.0.feeds) C.call)) }
-    requires loud { Loud (terms_of seat.old.me.0.profile) (store_of seat.old.me.0.feeds) C.call }
-    requires fits { AllFit seat.old.me.0.profile.capacity (C.call ∷ []) }
+    requires giving { IsGiving (known seat.old.me)
+        (filled seat.old.me.0.view.profile.capacity (handed (store_of seat.old.me.0.view.feeds) C.call)) }
+    requires loud { Loud (terms_of seat.old.me.0.view.profile) (store_of seat.old.me.0.view.feeds) C.call }
+    requires fits { AllFit seat.old.me.0.view.profile.capacity (C.call ∷ []) }
     ensures pair { seat.new.table_id ≡ seat.old.table_id }
-    ensures step { set_turn C.call seat.old.me 1 seat.new.me }
-    ensures own { Owned seat.new.me.0 }
+    ensures step { set_turn C.call (known seat.old.me) 1 (known seat.new.me) }
+    ensures own { Owned seat.new.me.0.view }
+    ensures order { FeederSees seat.old.me.0 seat.new.me.0 }
 {
     link.table.shared.store::<GaveTurn<C>>(seat, TURN, 1);
 }
@@ -84,10 +87,10 @@ impl Stand {
     /// Exchanges the store for the empty buffer that the seat has taken out of the slot.
     fn swap_out(&mut self, link: &Link)
         requires pair { self.old.seat.table_id ≡ link.now }
-        requires slot { self.old.seat.me.1 ≡ (0, filled self.old.seat.me.0.profile.capacity []) ∷ [] }
+        requires slot { self.old.seat.me.1 ≡ (0, filled self.old.seat.me.0.view.profile.capacity []) ∷ [] }
         ensures pair { self.new.seat.table_id ≡ self.old.seat.table_id }
         ensures seat { self.new.seat.me ≡ (self.old.seat.me.0, (0, self.old.store) ∷ []) }
-        ensures store { self.new.store ≡ filled self.old.seat.me.0.profile.capacity [] }
+        ensures store { self.new.store ≡ filled self.old.seat.me.0.view.profile.capacity [] }
     {
         mem::swap(
             self.seat.slot_mut(&link.table.shared, SLOT),
@@ -98,10 +101,11 @@ impl Stand {
     /// A packet that the filter rejects.
     pub(crate) fn pass(&mut self, link: &Link) -> Fed
         requires pair { self.old.seat.table_id ≡ link.now }
-        requires feeder { IsFeeder self.old.seat.me self.old.store false }
+        requires feeder { IsFeeder (known self.old.seat.me) self.old.store false }
         ensures pair { self.new.seat.table_id ≡ self.old.seat.table_id }
-        ensures went { Went self.old.seat.me self.new.seat.me self.new.store (Arrive None result)
-            (arrive_steps self.old.seat.me.0.profile.mode result) }
+        ensures went { Went (known self.old.seat.me) (known self.new.seat.me) self.new.store (Arrive None result)
+            (arrive_steps self.old.seat.me.0.view.profile.mode result) }
+        ensures order { FeederSees self.old.seat.me.0 self.new.seat.me.0 }
     {
         if see_closed::<Brand>(link, &mut self.seat) == 0 {
             Fed::Passed
@@ -113,14 +117,15 @@ impl Stand {
     /// A packet for which the store has room, where the store becomes the hold only for want of room.
     fn keep(&mut self, link: &Link, packet: &Accepted<'_>) -> Fed
         ghost message: { Message }
-        requires offers { Offers self.old.seat.me self.old.store message
+        requires offers { Offers (known self.old.seat.me) self.old.store message
             (arrival packet.now.capture packet.now.place packet.now.packet.now) packet.now.kept }
-        requires fits { room self.old.store.messages + size_of message ≤ self.old.seat.me.0.profile.capacity }
-        requires mode { self.old.seat.me.0.profile.mode ≡ mode.Buffered }
+        requires fits { room self.old.store.messages + size_of message ≤ self.old.seat.me.0.view.profile.capacity }
+        requires mode { self.old.seat.me.0.view.profile.mode ≡ mode.Buffered }
         requires pair { self.old.seat.table_id ≡ link.now }
         ensures pair { self.new.seat.table_id ≡ self.old.seat.table_id }
-        ensures went { Went self.old.seat.me self.new.seat.me self.new.store (Arrive (Some message) result)
+        ensures went { Went (known self.old.seat.me) (known self.new.seat.me) self.new.store (Arrive (Some message) result)
             (arrive_steps mode.Buffered result) }
+        ensures order { FeederSees self.old.seat.me.0 self.new.seat.me.0 }
     {
         if see_closed::<Brand>(link, &mut self.seat) != 0 {
             return Fed::Closed;
@@ -134,14 +139,15 @@ impl Stand {
     /// A packet for which the store has room, where the store becomes the hold at once.
     fn hand_over(&mut self, link: &Link, packet: &Accepted<'_>) -> Fed
         ghost message: { Message }
-        requires offers { Offers self.old.seat.me self.old.store message
+        requires offers { Offers (known self.old.seat.me) self.old.store message
             (arrival packet.now.capture packet.now.place packet.now.packet.now) packet.now.kept }
-        requires fits { room self.old.store.messages + size_of message ≤ self.old.seat.me.0.profile.capacity }
-        requires mode { self.old.seat.me.0.profile.mode ≡ mode.Immediate }
+        requires fits { room self.old.store.messages + size_of message ≤ self.old.seat.me.0.view.profile.capacity }
+        requires mode { self.old.seat.me.0.view.profile.mode ≡ mode.Immediate }
         requires pair { self.old.seat.table_id ≡ link.now }
         ensures pair { self.new.seat.table_id ≡ self.old.seat.table_id }
-        ensures went { Went self.old.seat.me self.new.seat.me self.new.store (Arrive (Some message) result)
+        ensures went { Went (known self.old.seat.me) (known self.new.seat.me) self.new.store (Arrive (Some message) result)
             (arrive_steps mode.Immediate result) }
+        ensures order { FeederSees self.old.seat.me.0 self.new.seat.me.0 }
     {
         if see_closed::<Brand>(link, &mut self.seat) != 0 {
             return Fed::Closed;
@@ -161,13 +167,14 @@ impl Stand {
     /// A packet for which the store has no room.
     fn rotate(&mut self, link: &Link, packet: &Accepted<'_>) -> Fed
         ghost message: { Message }
-        requires offers { Offers self.old.seat.me self.old.store message
+        requires offers { Offers (known self.old.seat.me) self.old.store message
             (arrival packet.now.capture packet.now.place packet.now.packet.now) packet.now.kept }
-        requires over { self.old.seat.me.0.profile.capacity < room self.old.store.messages + size_of message }
+        requires over { self.old.seat.me.0.view.profile.capacity < room self.old.store.messages + size_of message }
         requires pair { self.old.seat.table_id ≡ link.now }
         ensures pair { self.new.seat.table_id ≡ self.old.seat.table_id }
-        ensures went { Went self.old.seat.me self.new.seat.me self.new.store (Arrive (Some message) result)
-            (arrive_steps self.old.seat.me.0.profile.mode result) }
+        ensures went { Went (known self.old.seat.me) (known self.new.seat.me) self.new.store (Arrive (Some message) result)
+            (arrive_steps self.old.seat.me.0.view.profile.mode result) }
+        ensures order { FeederSees self.old.seat.me.0 self.new.seat.me.0 }
     {
         if see_closed::<Brand>(link, &mut self.seat) != 0 {
             return Fed::Closed;
@@ -186,13 +193,14 @@ impl Stand {
     /// A packet that the filter accepts.
     pub(crate) fn take(&mut self, link: &Link, mode: Mode, packet: &Accepted<'_>) -> Fed
         ghost message: { Message }
-        requires offers { Offers self.old.seat.me self.old.store message
+        requires offers { Offers (known self.old.seat.me) self.old.store message
             (arrival packet.now.capture packet.now.place packet.now.packet.now) packet.now.kept }
-        requires mode { self.old.seat.me.0.profile.mode ≡ mode }
+        requires mode { self.old.seat.me.0.view.profile.mode ≡ mode }
         requires pair { self.old.seat.table_id ≡ link.now }
         ensures pair { self.new.seat.table_id ≡ self.old.seat.table_id }
-        ensures went { Went self.old.seat.me self.new.seat.me self.new.store (Arrive (Some message) result)
+        ensures went { Went (known self.old.seat.me) (known self.new.seat.me) self.new.store (Arrive (Some message) result)
             (arrive_steps mode result) }
+        ensures order { FeederSees self.old.seat.me.0 self.new.seat.me.0 }
     {
         if !self.store.fits(packet.kept) {
             return self.rotate(link, packet);
@@ -206,10 +214,11 @@ impl Stand {
     /// A flush of an empty store.
     pub(crate) fn flush_nothing(&mut self, link: &Link) -> bool
         requires pair { self.old.seat.table_id ≡ link.now }
-        requires feeder { IsFeeder self.old.seat.me self.old.store false }
+        requires feeder { IsFeeder (known self.old.seat.me) self.old.store false }
         requires store { self.old.store.messages ≡ [] }
         ensures pair { self.new.seat.table_id ≡ self.old.seat.table_id }
-        ensures went { WentByFlush self.old.seat.me self.new.seat.me self.old.store.messages self.new.store result }
+        ensures went { WentByFlush (known self.old.seat.me) (known self.new.seat.me) self.old.store.messages self.new.store result }
+        ensures order { FeederSees self.old.seat.me.0 self.new.seat.me.0 }
     {
         see_closed::<Brand>(link, &mut self.seat);
         false
@@ -218,10 +227,11 @@ impl Stand {
     /// A flush of a store that has something.
     pub(crate) fn flush_store(&mut self, link: &Link) -> bool
         requires pair { self.old.seat.table_id ≡ link.now }
-        requires feeder { IsFeeder self.old.seat.me self.old.store false }
+        requires feeder { IsFeeder (known self.old.seat.me) self.old.store false }
         requires store { 0 < length self.old.store.messages }
         ensures pair { self.new.seat.table_id ≡ self.old.seat.table_id }
-        ensures went { WentByFlush self.old.seat.me self.new.seat.me self.old.store.messages self.new.store result }
+        ensures went { WentByFlush (known self.old.seat.me) (known self.new.seat.me) self.old.store.messages self.new.store result }
+        ensures order { FeederSees self.old.seat.me.0 self.new.seat.me.0 }
     {
         if see_closed::<Brand>(link, &mut self.seat) != 0 {
             return false;

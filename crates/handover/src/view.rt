@@ -1,6 +1,6 @@
 //! What a seat of the table knows. Only contracts have values of these types.
 
-use crate::calls::{Feed, Step, Take};
+use crate::calls::{Feed, Made, Step, Take};
 use listener::{Message, Mode};
 use std::collections::LinkedList;
 
@@ -36,4 +36,13 @@ pub struct View {
     pub taking: Option<LinkedList<Message>>,
     pub sees_end: bool,
     pub closed: bool,
+}
+
+/// What a seat knows: of its own calls, and which steps of both ends it has seen, in their one order, up to its own last one.
+pub struct Sight {
+    pub view: View,
+    /// What the feeder has seen.
+    pub feeder_saw: LinkedList<Made>,
+    /// What the drain has seen.
+    pub drain_saw: LinkedList<Made>,
 }

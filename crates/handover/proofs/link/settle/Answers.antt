@@ -21,7 +21,15 @@ returns-clause-history c =
     let w = c.drain.inside.seat.me.0 in
     let e = ends_as v w _ _ _ _ _ _ c.feeder.view_is c.drain.view_is
     (ends_well _ _ v w _ _ _ c.take-hold.result (ap (λ m. m.0) c.join_seat.ensures.2) c.feeder.invariant.0.calm c.drain.invariant.calm c.close_with-closed.ensures.values.2 c.take-hold.ensures.value) in
-    ends_legally _ _ _ _ e
+    ends_legally _ _ _ _ e.0
+
+pub returns-clause-order : goal.returns-clause-order
+returns-clause-order c =
+    let v = c.feeder.inside.stand.seat.me.0 in
+    let w = c.drain.inside.seat.me.0 in
+    let e = ends_as v w _ _ _ _ _ _ c.feeder.view_is c.drain.view_is
+    (ends_well _ _ v w _ _ _ c.take-hold.result (ap (λ m. m.0) c.join_seat.ensures.2) c.feeder.invariant.0.calm c.drain.invariant.calm c.close_with-closed.ensures.values.2 c.take-hold.ensures.value) in
+    e.1
 
 pub returns-clause-hold : goal.returns-clause-hold
 returns-clause-hold c =
@@ -29,7 +37,7 @@ returns-clause-hold c =
     let w = c.drain.inside.seat.me.0 in
     let e = ends_as v w _ _ _ _ _ _ c.feeder.view_is c.drain.view_is
     (ends_well _ _ v w _ _ _ c.take-hold.result (ap (λ m. m.0) c.join_seat.ensures.2) c.feeder.invariant.0.calm c.drain.invariant.calm c.close_with-closed.ensures.values.2 c.take-hold.ensures.value) in
-    e.hold
+    e.0.hold
 
 pub returns-clause-rest : goal.returns-clause-rest
 returns-clause-rest c =
@@ -37,7 +45,7 @@ returns-clause-rest c =
     let w = c.drain.inside.seat.me.0 in
     let e = ends_as v w _ _ _ _ _ _ c.feeder.view_is c.drain.view_is
     (ends_well _ _ v w _ _ _ c.take-hold.result (ap (λ m. m.0) c.join_seat.ensures.2) c.feeder.invariant.0.calm c.drain.invariant.calm c.close_with-closed.ensures.values.2 c.take-hold.ensures.value) in
-    let rest = ends_rest _ _ _ _ _ e (subst (λ (f : FeedingEnded). c.feeder.inside.stand.store ≡ filled f.profile.capacity (store_of f.feeds)) c.feeder.view_is c.feeder.invariant.0.store) in
+    let rest = ends_rest _ _ _ _ _ e.0 (subst (λ (f : FeedingEnded). c.feeder.inside.stand.store ≡ filled f.profile.capacity (store_of f.feeds)) c.feeder.view_is c.feeder.invariant.0.store) in
     rest
 
 pub returns-clause-counts : goal.returns-clause-counts
@@ -47,7 +55,7 @@ returns-clause-counts c =
     let e = ends_as v w _ _ _ _ _ _ c.feeder.view_is c.drain.view_is
     (ends_well _ _ v w _ _ _ c.take-hold.result (ap (λ m. m.0) c.join_seat.ensures.2) c.feeder.invariant.0.calm c.drain.invariant.calm c.close_with-closed.ensures.values.2 c.take-hold.ensures.value) in
     let counted = subst (λ (f : FeedingEnded). Counted c.feeder.inside.counts f.feeds) c.feeder.view_is c.feeder.invariant.1 in
-    (ends_counted _ _ _ _ _ e counted, counted)
+    (ends_counted _ _ _ _ _ e.0 counted, counted)
 
 pub returns-clause-whole : goal.returns-clause-whole
 returns-clause-whole c =
@@ -55,6 +63,6 @@ returns-clause-whole c =
     let w = c.drain.inside.seat.me.0 in
     let e = ends_as v w _ _ _ _ _ _ c.feeder.view_is c.drain.view_is
     (ends_well _ _ v w _ _ _ c.take-hold.result (ap (λ m. m.0) c.join_seat.ensures.2) c.feeder.invariant.0.calm c.drain.invariant.calm c.close_with-closed.ensures.values.2 c.take-hold.ensures.value) in
-    let rest = ends_rest _ _ _ _ _ e (subst (λ (f : FeedingEnded). c.feeder.inside.stand.store ≡ filled f.profile.capacity (store_of f.feeds)) c.feeder.view_is c.feeder.invariant.0.store) in
+    let rest = ends_rest _ _ _ _ _ e.0 (subst (λ (f : FeedingEnded). c.feeder.inside.stand.store ≡ filled f.profile.capacity (store_of f.feeds)) c.feeder.view_is c.feeder.invariant.0.store) in
     let counted = subst (λ (f : FeedingEnded). Counted c.feeder.inside.counts f.feeds) c.feeder.view_is c.feeder.invariant.1 in
-    ends_whole _ _ _ c.take-hold.result c.feeder.inside.stand.store c.feeder.inside.counts e rest counted
+    ends_whole _ _ _ c.take-hold.result c.feeder.inside.stand.store c.feeder.inside.counts e.0 rest counted

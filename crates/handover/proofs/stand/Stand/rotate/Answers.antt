@@ -1,62 +1,62 @@
-use Rattle.std.proofs.Common.{[], ◌∷◌, Some, refl, arith}
+use Rattle.std.proofs.Common.{[], ◌∷◌, Some, refl, arith, ap}
 use Rattle.listener.specs.Messages.{arrival}
 use Rattle.listener.specs.declared.answer.Fed.TheVariants.{Rotated, Dropped, Closed}
 use Rattle.handover.specs.declared.calls.Feed.TheVariants.{Arrive}
 use Rattle.handover.specs.Allowed.{AllFit, Busy, Loud}
-use Rattle.handover.specs.Rule.{terms_of}
+use Rattle.handover.specs.Rule.{terms_of, known}
 use Rattle.handover.proofs.Paths.{capacity_is, went_late, opened, still, went_busy, slot_is, fresh_is, handing, holds_still, gives, went_loud, was_put, first_put, first_fits}
 use Rattle.handover.proofs.stand.Stand.rotate.Goals as goal
 
 pub returns-then-see_closed-ne0-clause-went : goal.returns-then-see_closed-ne0-clause-went
 returns-then-see_closed-ne0-clause-went g c =
-    went_late c.args.self.now.seat.me _ c.args.self.now.store [] (Arrive (Some g.message) Closed) _ c.requires.0.feeder c.see_closed.ensures.step c.if-see_closed-ne0.true c.see_closed.ensures.own refl
+    went_late (known c.args.self.now.seat.me) _ c.args.self.now.store [] (Arrive (Some g.message) Closed) _ c.requires.0.feeder c.see_closed.ensures.step c.if-see_closed-ne0.true c.see_closed.ensures.own refl
 
 pub see_turn-requires-clause-busy : goal.see_turn-requires-clause-busy
 see_turn-requires-clause-busy g c =
-    let o = opened c.args.self.now.seat.me _ c.args.self.now.store (Arrive (Some g.message) Closed) _ c.requires.0.feeder c.see_closed.ensures.step c.if-see_closed-ne0.false c.see_closed.ensures.own in
+    let o = opened (known c.args.self.now.seat.me) _ c.args.self.now.store (Arrive (Some g.message) Closed) _ c.requires.0.feeder c.see_closed.ensures.step c.if-see_closed-ne0.false c.see_closed.ensures.own in
     still _ _ _ (λ p s. Busy (terms_of p) s (Arrive (Some g.message) Dropped)) o c.requires.1.0
 
 pub see_turn-requires-clause-fits : goal.see_turn-requires-clause-fits
 see_turn-requires-clause-fits g c =
-    let o = opened c.args.self.now.seat.me _ c.args.self.now.store (Arrive (Some g.message) Closed) _ c.requires.0.feeder c.see_closed.ensures.step c.if-see_closed-ne0.false c.see_closed.ensures.own in
+    let o = opened (known c.args.self.now.seat.me) _ c.args.self.now.store (Arrive (Some g.message) Closed) _ c.requires.0.feeder c.see_closed.ensures.step c.if-see_closed-ne0.false c.see_closed.ensures.own in
     still _ _ _ (λ p s. AllFit p.capacity (Arrive (Some g.message) Dropped ∷ [])) o (c.requires.0.small, tt)
 
 pub returns-then-see_turn-ne0-clause-went : goal.returns-then-see_turn-ne0-clause-went
 returns-then-see_turn-ne0-clause-went g c =
-    let o = opened c.args.self.now.seat.me _ c.args.self.now.store (Arrive (Some g.message) Closed) _ c.requires.0.feeder c.see_closed.ensures.step c.if-see_closed-ne0.false c.see_closed.ensures.own in
+    let o = opened (known c.args.self.now.seat.me) _ c.args.self.now.store (Arrive (Some g.message) Closed) _ c.requires.0.feeder c.see_closed.ensures.step c.if-see_closed-ne0.false c.see_closed.ensures.own in
     went_busy _ _ _ _ _ (Arrive (Some g.message) Dropped) _ o c.see_turn.ensures.step c.if-see_turn-ne0.true c.see_turn.ensures.own refl
 
 pub swap_out-requires-clause-slot : goal.swap_out-requires-clause-slot
 swap_out-requires-clause-slot g c =
-    let o = opened c.args.self.now.seat.me _ c.args.self.now.store (Arrive (Some g.message) Closed) _ c.requires.0.feeder c.see_closed.ensures.step c.if-see_closed-ne0.false c.see_closed.ensures.own in
+    let o = opened (known c.args.self.now.seat.me) _ c.args.self.now.store (Arrive (Some g.message) Closed) _ c.requires.0.feeder c.see_closed.ensures.step c.if-see_closed-ne0.false c.see_closed.ensures.own in
     slot_is _ _ _ _ (Arrive (Some g.message) Dropped) _ o c.see_turn.ensures.step c.if-see_turn-ne0.false
 
 pub give_turn-requires-clause-giving : goal.give_turn-requires-clause-giving
 give_turn-requires-clause-giving g c =
-    let o = opened c.args.self.now.seat.me _ c.args.self.now.store (Arrive (Some g.message) Closed) _ c.requires.0.feeder c.see_closed.ensures.step c.if-see_closed-ne0.false c.see_closed.ensures.own in
-    let h = handing _ _ _ _ _ _ (Arrive (Some g.message) Dropped) _ o c.see_turn.ensures.step c.if-see_turn-ne0.false c.swap_out.ensures.seat in
+    let o = opened (known c.args.self.now.seat.me) _ c.args.self.now.store (Arrive (Some g.message) Closed) _ c.requires.0.feeder c.see_closed.ensures.step c.if-see_closed-ne0.false c.see_closed.ensures.own in
+    let h = handing _ _ _ _ _ _ (Arrive (Some g.message) Dropped) _ o c.see_turn.ensures.step c.if-see_turn-ne0.false (ap known c.swap_out.ensures.seat) in
     gives _ _ _ _ (Arrive (Some g.message) Rotated) h refl
 
 pub give_turn-requires-clause-loud : goal.give_turn-requires-clause-loud
 give_turn-requires-clause-loud g c =
-    let o = opened c.args.self.now.seat.me _ c.args.self.now.store (Arrive (Some g.message) Closed) _ c.requires.0.feeder c.see_closed.ensures.step c.if-see_closed-ne0.false c.see_closed.ensures.own in
-    let h = handing _ _ _ _ _ _ (Arrive (Some g.message) Dropped) _ o c.see_turn.ensures.step c.if-see_turn-ne0.false c.swap_out.ensures.seat in
+    let o = opened (known c.args.self.now.seat.me) _ c.args.self.now.store (Arrive (Some g.message) Closed) _ c.requires.0.feeder c.see_closed.ensures.step c.if-see_closed-ne0.false c.see_closed.ensures.own in
+    let h = handing _ _ _ _ _ _ (Arrive (Some g.message) Dropped) _ o c.see_turn.ensures.step c.if-see_turn-ne0.false (ap known c.swap_out.ensures.seat) in
     holds_still _ _ _ _ _ (λ p s. Loud (terms_of p) s (Arrive (Some g.message) Rotated)) o h (c.requires.0.small, c.requires.1.0)
 
 pub give_turn-requires-clause-fits : goal.give_turn-requires-clause-fits
 give_turn-requires-clause-fits g c =
-    let o = opened c.args.self.now.seat.me _ c.args.self.now.store (Arrive (Some g.message) Closed) _ c.requires.0.feeder c.see_closed.ensures.step c.if-see_closed-ne0.false c.see_closed.ensures.own in
-    let h = handing _ _ _ _ _ _ (Arrive (Some g.message) Dropped) _ o c.see_turn.ensures.step c.if-see_turn-ne0.false c.swap_out.ensures.seat in
+    let o = opened (known c.args.self.now.seat.me) _ c.args.self.now.store (Arrive (Some g.message) Closed) _ c.requires.0.feeder c.see_closed.ensures.step c.if-see_closed-ne0.false c.see_closed.ensures.own in
+    let h = handing _ _ _ _ _ _ (Arrive (Some g.message) Dropped) _ o c.see_turn.ensures.step c.if-see_turn-ne0.false (ap known c.swap_out.ensures.seat) in
     holds_still _ _ _ _ _ (λ p s. AllFit p.capacity (Arrive (Some g.message) Rotated ∷ [])) o h (c.requires.0.small, tt)
 
 pub returns-clause-went : goal.returns-clause-went
 returns-clause-went g c =
-    let o = opened c.args.self.now.seat.me _ c.args.self.now.store (Arrive (Some g.message) Closed) _ c.requires.0.feeder c.see_closed.ensures.step c.if-see_closed-ne0.false c.see_closed.ensures.own in
+    let o = opened (known c.args.self.now.seat.me) _ c.args.self.now.store (Arrive (Some g.message) Closed) _ c.requires.0.feeder c.see_closed.ensures.step c.if-see_closed-ne0.false c.see_closed.ensures.own in
     let b = c.args.self.now.store in
-    let cap = capacity_is c.args.self.now.seat.me b c.requires.0.feeder in
+    let cap = capacity_is (known c.args.self.now.seat.me) b c.requires.0.feeder in
     let fresh = fresh_is _ _ _ _ _ (Arrive (Some g.message) Dropped) _ o c.see_turn.ensures.step c.if-see_turn-ne0.false c.swap_out.ensures.store in
     let fits = first_fits b _ g.message fresh (omega (arith, cap, c.requires.0.small)) in
     let put = was_put c.put-stored.result c.swap_out.new.self.store _ (arrival c.args.packet.now.capture c.args.packet.now.place c.args.packet.now.packet.now) c.args.packet.now.kept g.message c.requires.0.message c.requires.0.captured
     fits c.put-stored.ensures.fits.1 c.put-stored.ensures.stored in
-    went_loud _ _ _ _ _ _ _ _ (Arrive (Some g.message) Rotated) (Arrive (Some g.message) Dropped) _ o c.see_turn.ensures.step c.if-see_turn-ne0.false c.swap_out.ensures.seat c.give_turn.ensures.step c.give_turn.ensures.own
+    went_loud _ _ _ _ _ _ _ _ (Arrive (Some g.message) Rotated) (Arrive (Some g.message) Dropped) _ o c.see_turn.ensures.step c.if-see_turn-ne0.false (ap known c.swap_out.ensures.seat) c.give_turn.ensures.step c.give_turn.ensures.own
     (first_put b _ _ g.message fresh put)
