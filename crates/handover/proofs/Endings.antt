@@ -16,7 +16,7 @@ use Rattle.handover.specs.declared.calls.Feed.{Feed}
 use Rattle.handover.specs.declared.calls.Feed.TheVariants.{Arrive, Flush, FlushClosed}
 use Rattle.handover.specs.declared.calls.Take.{Take}
 use Rattle.handover.specs.declared.calls.Take.TheVariants.{Full, Nothing, Ended}
-use Rattle.handover.specs.declared.view.Role.TheVariants.{Joined}
+use Rattle.handover.specs.declared.view.Role.TheVariants.{Joined, Spent}
 use Rattle.handover.specs.declared.view.Profile.{Profile}
 use Rattle.handover.specs.declared.view.Sight.{Sight}
 use Rattle.handover.specs.Orders.{HasOneOrder}
@@ -29,6 +29,7 @@ use Rattle.handover.specs.Rule.{Home, IsHeld, last, terms_of, Stands, Facts, Sea
 use Rattle.handover.specs.Settling.{kept_of_both, IsWhole}
 use Rattle.handover.proofs.Keeps.{store_is}
 use Rattle.handover.proofs.Orders.{same_latest}
+use Rattle.handover.proofs.Steps.{spent_at}
 use Rattle.handover.proofs.Merges.{feeds_in-merge}
 use Rattle.handover.proofs.Settling.{merges_have_both, histories_are_kept, histories_are_settled, stored_are_read_or_pend}
 
@@ -45,12 +46,11 @@ joined_at f d u vs id (apart p q) at r = absurd (two id at)
     two zero e = let s : f.view.role ≡ u.view.role = ap (λ (o : Sight). o.view.role) (some-injective f u e) in cc
     two (suc zero) e = let s : d.view.role ≡ u.view.role = ap (λ (o : Sight). o.view.role) (some-injective d u e) in cc
     two (suc (suc k)) e = some-ne-none u (sym e)
-joined_at f d u vs id (seats_joined o p q s) at r = two id at
+joined_at f d u vs id (seats_joined os p q s) at r = two id at
   where
-    two : (id : ℕ) → get_elem? (f ∷ o ∷ []) id ≡ some u → (f ≡ u) × (d ≡ u)
+    two : (id : ℕ) → get_elem? (f ∷ os) id ≡ some u → (f ≡ u) × (d ≡ u)
     two zero e = let t = some-injective f u e in (t, sym p ∙ t)
-    two (suc zero) e = let t : o.view.role ≡ u.view.role = ap (λ (v : Sight). v.view.role) (some-injective o u e) in absurd (cc)
-    two (suc (suc k)) e = absurd (some-ne-none u (sym e))
+    two (suc k) e = let t : u.view.role ≡ Spent = spent_at os k u s e in absurd (cc)
 
 at_home : (capacity : ℕ) (full : Bool) (home : Home) (s : PlainList) → IsHeld full s.held → Stands capacity full false None home (hold_of s) → home ≡ some (filled capacity (hold_of s))
 at_home capacity true home s h p = p

@@ -15,7 +15,7 @@ use Rattle.handover.specs.declared.calls.Take.TheVariants.{Full}
 use Rattle.handover.specs.declared.calls.Word.TheVariants as word
 use Rattle.handover.specs.declared.calls.Step.{Step}
 use Rattle.handover.specs.declared.calls.Step.TheVariants.{Load, Store}
-use Rattle.handover.specs.declared.view.Role.TheVariants.{Whole, Feeds, Drains}
+use Rattle.handover.specs.declared.view.Role.TheVariants.{Whole, Feeds, Drains, Joined, Spent}
 use Rattle.handover.specs.declared.view.Profile.{Profile}
 use Rattle.handover.specs.declared.view.View.{View}
 use Rattle.handover.specs.declared.view.Sight.{Sight}
@@ -25,7 +25,7 @@ use Rattle.handover.specs.History.{events, merge, EndedIsLast, ended_in, finds, 
 use Rattle.handover.specs.Tidy.{Tidy}
 use Rattle.handover.specs.Allowed.{IsQuiet, Busy, Loud, handed, AllFit}
 use Rattle.handover.specs.Own.{store_of}
-use Rattle.handover.specs.Rule.{Home, IsHeld, bit, terms_of, last, Stands, Facts, Seats, whole, apart, joined, Kept, first, for_feeder, for_drain, joint, spent, IsOrder, FeederSees, DrainSees, Sitting, known, fed_by, taken_by, ended_by, saw_end, closed_by, idle, Backed, Owned, Sat, saw_closed, saw_turn, set_turn, set_ended, looked_ended, looked_turn, cleared, set_closed}
+use Rattle.handover.specs.Rule.{Home, IsHeld, bit, terms_of, last, Stands, Facts, Seats, whole, apart, joined, AllSpent, witness, Kept, first, for_feeder, for_drain, joint, spent, IsOrder, FeederSees, DrainSees, Sitting, known, fed_by, taken_by, ended_by, saw_end, closed_by, idle, Backed, Owned, Sat, saw_closed, saw_turn, set_turn, set_ended, looked_ended, looked_turn, cleared, set_closed}
 use Rattle.handover.specs.Orders.{Finds, behind, is_store_to, store_to}
 use Rattle.handover.proofs.Orders.{feeder_at_step, drain_at_step, by_feeder, by_drain, same_latest, flag_more}
 use Rattle.handover.proofs.Keeps.{quiet_keeps, busy_keeps, loud_keeps, late_keeps, idle_keeps, full_keeps}
@@ -64,6 +64,11 @@ pub record FeedStep (me : Sat) (i : ℕ) (f : ℕ → ℕ) (then : ℕ → Sat �
   pub facts : Facts (terms_of me.0.profile) full_after home_after view d
   pub told : then (slice_index (words_of full me.0 d) i) (view, carried_after me.1 act)
 
+pub spent_at : (os : List Sight) (k : ℕ) (v : Sight) → AllSpent os → get_elem? os k ≡ some v → v.view.role ≡ Spent
+spent_at [] k v s e = absurd (some-ne-none v (sym e))
+spent_at (o ∷ os) zero v s e = ap (λ (u : Sight). u.view.role) (sym (some-injective o v e)) ∙ s.0
+spent_at (o ∷ os) (suc k) v s e = spent_at os k v s.1 e
+
 -- the feeder's seat is the first
 pub feeder_at : (f d v : Sight) (vs : List Sight) (id : ℕ) → Seats f d vs → get_elem? vs id ≡ some v → v.view.role ≡ Feeds → (vs ≡ f ∷ d ∷ []) × (id ≡ 0) × (f ≡ v) × (d.view.role ≡ Drains)
 feeder_at f d v vs id (whole p q) at r = absurd (one id at)
@@ -77,12 +82,11 @@ feeder_at f d v vs id (apart p q) at r = two id at
     two zero e = (refl, refl, some-injective f v e, q)
     two (suc zero) e = let s : d.view.role ≡ v.view.role = ap (λ (o : Sight). o.view.role) (some-injective d v e) in absurd (cc)
     two (suc (suc k)) e = absurd (some-ne-none v (sym e))
-feeder_at f d v vs id (joined o p q s) at r = absurd (two id at)
+feeder_at f d v vs id (joined os p q s) at r = absurd (two id at)
   where
-    two : (id : ℕ) → get_elem? (f ∷ o ∷ []) id ≡ some v → ⊥
+    two : (id : ℕ) → get_elem? (f ∷ os) id ≡ some v → ⊥
     two zero e = let t : f.view.role ≡ v.view.role = ap (λ (u : Sight). u.view.role) (some-injective f v e) in cc
-    two (suc zero) e = let t : o.view.role ≡ v.view.role = ap (λ (u : Sight). u.view.role) (some-injective o v e) in cc
-    two (suc (suc k)) e = some-ne-none v (sym e)
+    two (suc k) e = let t : v.view.role ≡ Spent = spent_at os k v s e in cc
 
 pub feeder_allows : (p : Profile) (slots id : ℕ) (me : Sitting) (i : ℕ) (f : ℕ → ℕ) (then : ℕ → Sat → Type 0) → me.0.view.role ≡ Feeds
     → ((full : Bool) (home : Home) (d : View) → Facts (terms_of me.0.view.profile) full home me.0.view d → FeedStep (known me) i f then full home d)
@@ -144,12 +148,11 @@ drain_at f d v vs id (apart p q) at r = two id at
     two zero e = let s : f.view.role ≡ v.view.role = ap (λ (o : Sight). o.view.role) (some-injective f v e) in absurd (cc)
     two (suc zero) e = (refl, refl, some-injective d v e, p)
     two (suc (suc k)) e = absurd (some-ne-none v (sym e))
-drain_at f d v vs id (joined o p q s) at r = absurd (two id at)
+drain_at f d v vs id (joined os p q s) at r = absurd (two id at)
   where
-    two : (id : ℕ) → get_elem? (f ∷ o ∷ []) id ≡ some v → ⊥
+    two : (id : ℕ) → get_elem? (f ∷ os) id ≡ some v → ⊥
     two zero e = let t : f.view.role ≡ v.view.role = ap (λ (u : Sight). u.view.role) (some-injective f v e) in cc
-    two (suc zero) e = let t : o.view.role ≡ v.view.role = ap (λ (u : Sight). u.view.role) (some-injective o v e) in cc
-    two (suc (suc k)) e = some-ne-none v (sym e)
+    two (suc k) e = let t : v.view.role ≡ Spent = spent_at os k v s e in cc
 
 -- what a step of the drain owes, where its view and the feeder's are known
 pub record DrainStep (me : Sat) (i : ℕ) (f : ℕ → ℕ) (then : ℕ → Sat → Type 0) (full : Bool) (home : Home) (v : View) : Type 0 where
@@ -634,12 +637,11 @@ whole_at f d v vs id (apart p q) at r = absurd (two id at)
     two zero e = let s : f.view.role ≡ v.view.role = ap (λ (o : Sight). o.view.role) (some-injective f v e) in cc
     two (suc zero) e = let s : d.view.role ≡ v.view.role = ap (λ (o : Sight). o.view.role) (some-injective d v e) in cc
     two (suc (suc k)) e = some-ne-none v (sym e)
-whole_at f d v vs id (joined o p q s) at r = absurd (two id at)
+whole_at f d v vs id (joined os p q s) at r = absurd (two id at)
   where
-    two : (id : ℕ) → get_elem? (f ∷ o ∷ []) id ≡ some v → ⊥
+    two : (id : ℕ) → get_elem? (f ∷ os) id ≡ some v → ⊥
     two zero e = let t : f.view.role ≡ v.view.role = ap (λ (u : Sight). u.view.role) (some-injective f v e) in cc
-    two (suc zero) e = let t : o.view.role ≡ v.view.role = ap (λ (u : Sight). u.view.role) (some-injective o v e) in cc
-    two (suc (suc k)) e = some-ne-none v (sym e)
+    two (suc k) e = let t : v.view.role ≡ Spent = spent_at os k v s e in cc
 
 -- facts do not read what a seat is for
 recast : (t : Terms) (full : Bool) (home : Home) (v w x y : View) → x.feeds ≡ v.feeds → x.rotating ≡ v.rotating → x.ended ≡ v.ended
@@ -708,7 +710,7 @@ joins p id v other w role role' s k at apart_ there = let a = feeder_at k.feeder
       closed = subst (λ (u : Sight). u.view.closed ≡ store_to word.Closed u.view.take_steps) q.1 k.closed;
       ended = subst (λ (u : Sight). u.view.ended ≡ store_to word.Ended u.view.feed_steps) a.2 k.ended;
       homes = k.homes;
-      seats = subst (Seats (joint v w) (joint v w)) (λ j. set (sym views j) (sym q.0 j) spent) (joined spent refl refl refl);
+      seats = subst (Seats (joint v w) (joint v w)) (λ j. set (sym views j) (sym q.0 j) spent) (joined (spent ∷ []) refl refl (refl, tt));
       feeder_profile = ap (λ (u : Sight). u.view.profile) (sym a.2) ∙ k.feeder_profile;
       drain_profile = ap (λ (u : Sight). u.view.profile) (sym a.2) ∙ k.feeder_profile;
       facts = recast (terms_of p) k.full k.home k.feeder.view k.drain.view (joint v w).view (joint v w).view
@@ -722,3 +724,46 @@ joins p id v other w role role' s k at apart_ there = let a = feeder_at k.feeder
     second zero n e = absurd (n refl)
     second (suc zero) n e = (refl, some-injective k.drain w e)
     second (suc (suc i)) n e = absurd (some-ne-none w (sym e))
+
+-- the joined seat is the first
+joined_first : (f d u : Sight) (vs : List Sight) (id : ℕ) → Seats f d vs → get_elem? vs id ≡ some u → u.view.role ≡ Joined
+    → (os : List Sight) × (vs ≡ f ∷ os) × (id ≡ 0) × (f ≡ u) × (d ≡ u) × AllSpent os
+joined_first f d u vs id (whole p q) at r = absurd (one id at)
+  where
+    one : (id : ℕ) → get_elem? (f ∷ []) id ≡ some u → ⊥
+    one zero e = let s : f.view.role ≡ u.view.role = ap (λ (o : Sight). o.view.role) (some-injective f u e) in cc
+    one (suc k) e = some-ne-none u (sym e)
+joined_first f d u vs id (apart p q) at r = absurd (two id at)
+  where
+    two : (id : ℕ) → get_elem? (f ∷ d ∷ []) id ≡ some u → ⊥
+    two zero e = let s : f.view.role ≡ u.view.role = ap (λ (o : Sight). o.view.role) (some-injective f u e) in cc
+    two (suc zero) e = let s : d.view.role ≡ u.view.role = ap (λ (o : Sight). o.view.role) (some-injective d u e) in cc
+    two (suc (suc k)) e = some-ne-none u (sym e)
+joined_first f d u vs id (joined os p q s) at r = two id at
+  where
+    two : (id : ℕ) → get_elem? (f ∷ os) id ≡ some u → (os' : List Sight) × (f ∷ os ≡ f ∷ os') × (id ≡ 0) × (f ≡ u) × (d ≡ u) × AllSpent os'
+    two zero e = let t = some-injective f u e in (os, refl, refl, t, sym p ∙ t, s)
+    two (suc k) e = let t : u.view.role ≡ Spent = spent_at os k u s e in absurd (cc)
+
+one_more : (os : List Sight) (o : Sight) → AllSpent os → o.view.role ≡ Spent → AllSpent (os ++ o ∷ [])
+one_more [] o s is = (is, tt)
+one_more (x ∷ os) o s is = (s.0, one_more os o s.1 is)
+
+-- its knowledge is copied
+pub copies : (p : Profile) (id : ℕ) (v : Sight) → v.view.role ≡ Joined → Splits (Kept p) id v v (witness v)
+copies p id v role s k at = let a = joined_first k.feeder k.drain v s.views id k.seats at role in record {
+  full = k.full;
+  home = k.home;
+  feeder = v;
+  drain = v;
+  order = k.order;
+  words = k.words ∙ (λ i. stores_of k.full (a.3 i).view (a.4 i).view);
+  closed = subst (λ (u : Sight). u.view.closed ≡ store_to word.Closed u.view.take_steps) a.4 k.closed;
+  ended = subst (λ (u : Sight). u.view.ended ≡ store_to word.Ended u.view.feed_steps) a.3 k.ended;
+  homes = k.homes;
+  seats = subst (Seats v v) (λ j. set (sym a.1 j) (sym a.2 j) v ++ witness v ∷ []) (joined (a.0 ++ witness v ∷ []) refl role (one_more a.0 (witness v) a.5 refl));
+  feeder_profile = ap (λ (u : Sight). u.view.profile) (sym a.3) ∙ k.feeder_profile;
+  drain_profile = ap (λ (u : Sight). u.view.profile) (sym a.3) ∙ k.feeder_profile;
+  facts = subst (λ (u : Sight). Facts (terms_of p) k.full k.home u.view v.view) a.3 (subst (λ (u : Sight). Facts (terms_of p) k.full k.home k.feeder.view u.view) a.4 k.facts);
+  steps = subst (λ (u : Sight). IsOrder k.order s.words u v) a.3 (subst (λ (u : Sight). IsOrder k.order s.words k.feeder u) a.4 k.steps);
+}

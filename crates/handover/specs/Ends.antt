@@ -56,6 +56,19 @@ pub record Draining : Type 0 where
 abbrev pub draining : TableId → Profile → List Take → List Step → List Made → Draining
 draining pair profile takes steps seen = record { pair = pair; profile = profile; takes = takes; steps = steps; seen = seen }
 
+-- The lists of a pair: the calls of both ends with their answers, and the steps of both.
+pub record PairLists : Type 0 where
+  pub pair : TableId
+  pub profile : Profile
+  pub feeds : List Feed
+  pub feeder_steps : List Step
+  pub takes : List Take
+  pub drain_steps : List Step
+
+abbrev pub pair_lists : TableId → Profile → List Feed → List Step → List Take → List Step → PairLists
+pair_lists pair profile feeds feeder_steps takes drain_steps =
+    record { pair = pair; profile = profile; feeds = feeds; feeder_steps = feeder_steps; takes = takes; drain_steps = drain_steps }
+
 -- a call of a feeder leaves its pair and its filter as they are
 pub record IsSameFeeder (old new : Feeding) : Type 0 where
   pub pair : new.pair ≡ old.pair

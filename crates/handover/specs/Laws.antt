@@ -9,14 +9,14 @@ use Rattle.listener.specs.Laws.{joined}
 use Rattle.listener.specs.LookingBack.{kept}
 use Rattle.handover.specs.declared.calls.Feed.{Feed}
 use Rattle.handover.specs.declared.calls.Take.{Take}
-use Rattle.handover.specs.declared.view.Role.TheVariants.{Whole, Feeds, Drains}
+use Rattle.handover.specs.declared.view.Role.TheVariants.{Whole, Feeds, Drains, Joined}
 use Rattle.handover.specs.declared.view.Profile.{Profile}
 use Rattle.handover.specs.declared.view.Sight.{Sight}
 use Rattle.handover.specs.History.{Happening, LegalHistory, events, feeds_in, takes_in, merge, CloseIsPlaced, batches_of, finds, kind, finds_closed}
 use Rattle.handover.specs.Own.{own, store_of, arrivals, matches, drops}
 use Rattle.handover.specs.Allowed.{AllFit, IsQuiet, Busy, Loud, handed}
 use Rattle.handover.specs.Settling.{stored_in, undropped_in}
-use Rattle.handover.specs.Rule.{last, terms_of, Kept, first, for_feeder, for_drain, joint, spent, Owned, Sitting, known, FeederSees, DrainSees, saw_closed, saw_turn, set_turn, set_ended, looked_ended, looked_turn, cleared, set_closed}
+use Rattle.handover.specs.Rule.{last, terms_of, Kept, first, for_feeder, for_drain, joint, witness, spent, Owned, Sitting, known, FeederSees, DrainSees, saw_closed, saw_turn, set_turn, set_ended, looked_ended, looked_turn, cleared, set_closed}
 
 -- Each call of both lists stands in the merged list once, in its order, and the close is in its place.
 pub record HasBoth (fs : List Feed) (ts : List Take) : Type 0 where
@@ -68,12 +68,14 @@ OwnRunsAreRight = (t : Terms) (fs : List Feed) (ts : List Take) → AllFit t.cap
 
 -- ---- The rule of the table, and the steps that keep it
 
--- The table begins with the rule, the first seat is cut in two, and the two ends' seats are joined.
+-- The table begins with the rule, the first seat is cut in two, the two ends' seats are joined, and what the joined one knows is
+-- copied.
 abbrev pub SeatsKeepTheRule : Type 0
 SeatsKeepTheRule =
     ((p : Profile) → Kept p (record { words = 0 ∷ 0 ∷ 0 ∷ []; homes = some (filled p.capacity []) ∷ []; views = first p ∷ [] }))
     × ((p : Profile) (id : ℕ) (v : Sight) → v.view.role ≡ Whole → Splits (Kept p) id v (for_feeder v) (for_drain v))
     × ((p : Profile) (id : ℕ) (v : Sight) (other : ℕ) (w : Sight) → v.view.role ≡ Feeds → w.view.role ≡ Drains → Joins (Kept p) id v other w (joint v w) spent)
+    × ((p : Profile) (id : ℕ) (v : Sight) → v.view.role ≡ Joined → Splits (Kept p) id v v (witness v))
 
 -- The feeder's load of `closed` ends a call that the store alone decides where the pair is open, and a call that found it closed
 -- where it is not.

@@ -72,11 +72,16 @@ pub record Facts (t : Terms) (full : Bool) (home : Home) (f d : View) : Type 0 w
   pub seen : d.sees_end ≡ true → f.ended ≡ true
   pub place : Stands t.capacity full f.rotating d.taking home (hold_of (last f.feeds d.takes))
 
--- the seats: the one that is whole, the two, or the joined one beside the spent
+-- seats that make no step any more
+abbrev pub AllSpent : List Sight → Type 0
+AllSpent [] = Unit {0}
+AllSpent (s ∷ ss) = (s.view.role ≡ Spent) × AllSpent ss
+
+-- the seats: the one that is whole, the two, or the joined one beside spent ones
 pub data Seats (feeder drain : Sight) : List Sight → Type 0 where
   whole : feeder ≡ drain → feeder.view.role ≡ Whole → Seats feeder drain (feeder ∷ [])
   apart : feeder.view.role ≡ Feeds → drain.view.role ≡ Drains → Seats feeder drain (feeder ∷ drain ∷ [])
-  joined : (other : Sight) → feeder ≡ drain → feeder.view.role ≡ Joined → other.view.role ≡ Spent → Seats feeder drain (feeder ∷ other ∷ [])
+  joined : (others : List Sight) → feeder ≡ drain → feeder.view.role ≡ Joined → AllSpent others → Seats feeder drain (feeder ∷ others)
 
 -- All steps that were made, in their order: each load is fresh, and the words are what the stores left. It has the steps of both
 -- ends and no others; one of them has seen it all, and the other a beginning of it.
@@ -129,6 +134,10 @@ both_views v w = record v { role = Joined; takes = w.takes; take_steps = w.take_
 
 abbrev pub joint : Sight → Sight → Sight
 joint s t = record { view = both_views s.view t.view; feeder_saw = s.feeder_saw; drain_saw = t.drain_saw }
+
+-- what the joined seat knows, in a spent one
+abbrev pub witness : Sight → Sight
+witness s = record s { view = record (s.view) { role = Spent } }
 
 abbrev pub spent : Sight
 spent = let s = first (record { capacity = 0; mode = Buffered }) in record s { view = record (s.view) { role = Spent } }

@@ -14,7 +14,7 @@ mod view;
 pub use calls::{Feed, Made, Step, Take, Word};
 pub use drain::{Drain, DrainEnd, Read};
 pub use feeder::{FeedEnd, Feeder};
-pub use link::{Link, Settled, pair, pair_as, settle};
+pub use link::{Link, Past, Settled, pair, pair_as, settle};
 pub use view::{Profile, Role, Sight, View};
 
 #[cfg(test)]

@@ -7,7 +7,7 @@ ghost use Rattle.listener.specs.Listening.{InRange, RefusesOpen};
 ghost use Rattle.listener.specs.PlainList.{stored};
 ghost use Rattle.listener.specs.declared.mode.Mode.TheVariants.{Buffered};
 ghost use Rattle.handover.specs.declared.view.Profile.{Profile};
-ghost use Rattle.handover.specs.Ends.{feeding, draining, AreCountsOf, Counted};
+ghost use Rattle.handover.specs.Ends.{feeding, draining, pair_lists, AreCountsOf, Counted};
 ghost use Rattle.handover.specs.History.{LegalHistory, merge};
 ghost use Rattle.handover.specs.Orders.{HasOneOrder};
 ghost use Rattle.handover.specs.Rule.{first, last, profile_of, terms_of};
@@ -15,13 +15,14 @@ ghost use Rattle.handover.specs.Settling.{IsWhole};
 
 use crate::drain::{Drain, DrainEnd};
 use crate::feeder::{FeedEnd, Feeder};
-use crate::rule::{Ends, PairTable, Place, SLOT};
+use crate::rule::{Ends, PairTable, Place, SLOT, Witness};
 use crate::stand::Stand;
 use crate::view::Profile;
 use atomic_table::{Refused, Table};
 use bpfvm::Program;
 use listener::{Buffer, Counts, Mode, OpenFault, check_range};
 use std::alloc::Global;
+use std::fmt::{self, Debug, Formatter, Write};
 use std::marker::Model;
 
 /// What the threads of a pair share, by a `&`. Contracts see which pair it is.
@@ -43,6 +44,34 @@ impl Model for Link {
     ghost invariant = { λ l. (l.table.shared.table_id.words ≡ 3) × (l.table.shared.table_id.slots ≡ 1) };
 }
 
+/// What was done with a pair that is settled. It has no bytes, and only [`settle`] makes one: so these calls were made, by the
+/// two ends of one pair.
+///
+/// Contracts see which pair it was, the calls of both ends with their answers, and the steps that these took.
+#[derive(Drop)]
+pub struct Past {
+    seat: Place,
+}
+
+impl Model for Past {
+    ghost use Rattle.std.specs.Prelude.{◌≡◌};
+    ghost use Rattle.handover.specs.declared.view.Role.TheVariants.{Spent};
+    ghost use Rattle.handover.specs.Ends.{PairLists, pair_lists};
+
+    ghost Value = { PairLists };
+
+    ghost view = { λ p. pair_lists p.seat.table_id p.seat.me.0.view.profile p.seat.me.0.view.feeds p.seat.me.0.view.feed_steps
+        p.seat.me.0.view.takes p.seat.me.0.view.take_steps };
+
+    ghost invariant = { λ p. p.seat.me.0.view.role ≡ Spent };
+}
+
+impl Debug for Past {
+    fn fmt<W: Write>(&self, f: &mut Formatter<W>) -> fmt::Result {
+        f.write_str("Past")
+    }
+}
+
 /// What is left of a pair.
 #[derive(Drop)]
 pub struct Settled {
@@ -52,6 +81,8 @@ pub struct Settled {
     pub rest: Buffer,
     /// The counts, of the packets that arrived before the pair was found closed.
     pub counts: Counts,
+    /// The calls of both ends.
+    pub past: Past,
 }
 
 /// Makes a pair in the mode [`Mode::Buffered`], as [`pair_as`].
@@ -139,11 +170,13 @@ fn parted(
 ///
 /// The feeder's calls and the drain's reads make one legal history of the plain list, and the buffers have what then
 /// pends: what was read, then the hold, then the rest is exactly what was kept, and this is the messages of the arrivals
-/// that were answered Stored, Held or Rotated, in order.
+/// that were answered Stored, Held or Rotated, in order. The steps of both have one order, in which each load answered what the last
+/// store before it left: one of the ends has seen it all, and the other a beginning of it.
 pub fn settle(link: Link, feeder: FeedEnd, drain: DrainEnd) -> Settled
     requires { (feeder.pair ≡ link) × (drain.pair ≡ link) }
     ensures history { LegalHistory (terms_of feeder.profile) feeder.feeds drain.takes (merge feeder.feeds drain.takes) }
     ensures order { HasOneOrder feeder.seen drain.seen feeder.steps drain.steps }
+    ensures past { result.past ≡ pair_lists link feeder.profile feeder.feeds feeder.steps drain.takes drain.steps }
     ensures hold { result.hold ≡ filled feeder.profile.capacity (hold_of (last feeder.feeds drain.takes)) }
     ensures rest { result.rest ≡ filled feeder.profile.capacity (stored (last feeder.feeds drain.takes)) }
     ensures counts { AreCountsOf result.counts (last feeder.feeds drain.takes) × Counted result.counts feeder.feeds }
@@ -156,6 +189,7 @@ pub fn settle(link: Link, feeder: FeedEnd, drain: DrainEnd) -> Settled
     } = feeder;
     let DrainEnd { seat: other } = drain;
     table.shared.join_seat::<Ends>(&mut seat, other);
+    let witness = table.shared.split_seat::<Witness>(&mut seat);
     let mut closed = table.close_with(seat);
     let hold = closed.take(SLOT);
     closed.free();
@@ -163,5 +197,6 @@ pub fn settle(link: Link, feeder: FeedEnd, drain: DrainEnd) -> Settled
         hold,
         rest: store,
         counts,
+        past: Past { seat: witness },
     }
 }

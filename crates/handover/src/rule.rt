@@ -3,7 +3,7 @@
 ghost use Rattle.std.specs.Prelude.{List, [], false};
 ghost use Rattle.handover.specs.declared.calls.Feed.{Feed};
 ghost use Rattle.handover.specs.declared.calls.Feed.TheVariants.{Flush, FlushClosed};
-ghost use Rattle.handover.specs.Rule.{Kept, first, for_feeder, for_drain, joint, spent, saw_closed, saw_turn, set_turn, set_ended, looked_ended, looked_turn, cleared, set_closed, Owned, known, FeederSees, DrainSees};
+ghost use Rattle.handover.specs.Rule.{Kept, first, for_feeder, for_drain, joint, witness, spent, saw_closed, saw_turn, set_turn, set_ended, looked_ended, looked_turn, cleared, set_closed, Owned, known, FeederSees, DrainSees};
 
 use crate::view::{Profile, Sight};
 use atomic_table::{Join, Play, Seat, Split, Table, TableRule};
@@ -41,6 +41,15 @@ impl Split<Sight> for Ends {
     ghost left = { for_feeder };
 
     ghost right = { for_drain };
+}
+
+/// A copy of what the joined seat knows.
+pub struct Witness;
+
+impl Split<Sight> for Witness {
+    ghost left = { λ s. s };
+
+    ghost right = { witness };
 }
 
 impl Join<Sight> for Ends {

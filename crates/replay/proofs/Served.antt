@@ -42,12 +42,12 @@ all-arrived (call.FlushClosed ∷ fs) open' = absurd cc
 
 -- a task that was settled was served with the playlist that its feeder was asked for
 pub served : {W : Type 0} (taken : W → Option (List ℕ)) (failures : W → ℕ) (playlist : List Arrival) (task : Task W) (feeds : List Feed) (takes : List Take)
-    (r : ListenerReport W) → asks feeds ≡ asked (asking_of task) playlist → IsReported taken failures task feeds takes r → IsServed taken failures playlist task r
-served taken failures playlist task feeds takes r fed reported = record {
-  feeds = feeds;
-  takes = takes;
-  asked_for = fed;
-  reported = reported;
+    (r : ListenerReport W) → asks feeds ≡ asked (asking_of task) playlist → (r.past.feeds ≡ feeds) × (r.past.takes ≡ takes)
+    → IsReported taken failures task feeds takes r → IsServed taken failures playlist task r
+served taken failures playlist task feeds takes r fed past reported = record {
+  asked_for = ap asks past.0 ∙ fed;
+  reported = subst (λ (fs : List Feed). IsReported taken failures task fs r.past.takes r) (sym past.0)
+      (subst (λ (ts : List Take). IsReported taken failures task feeds ts r) (sym past.1) reported);
   whole = λ clean.
       let all = reported.clean clean in let got = all-arrived feeds all.0 in let many = ap (count is_arrival) fed in
       let one = count-asked (asking_of task) 0 playlist in let so = reported.all_received.0 in

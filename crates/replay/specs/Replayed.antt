@@ -3,8 +3,6 @@ use Rattle.std.specs.Prelude.{◌≡◌, ℕ, ◌+◌, List, length, Option}
 use Rattle.std.specs.List.{AllZip}
 use Rattle.listener.specs.Messages.{Arrival}
 use Rattle.handover.specs.Asks.{asks}
-use Rattle.handover.specs.declared.calls.Feed.{Feed}
-use Rattle.handover.specs.declared.calls.Take.{Take}
 use Rattle.replay.specs.Captures.{Plays}
 use Rattle.replay.specs.Playing.{asked, asking_of}
 use Rattle.replay.specs.Reports.{IsReported}
@@ -15,12 +13,11 @@ use Rattle.replay.specs.declared.task.Interface.{Interface}
 use Rattle.replay.specs.declared.task.Task.{Task}
 
 -- A task's feeder was asked for the playlist and the flushes that are due; its calls and the drain's reads make the history that
--- the report tells. Where the task ends Clean, the whole playlist was received, and what matched was written or dropped.
+-- the report tells. They are those of the report's past, which a settled pair alone gives. Where the task ends Clean, the whole
+-- playlist was received, and what matched was written or dropped.
 pub record IsServed {W : Type 0} (taken : W → Option (List ℕ)) (failures : W → ℕ) (playlist : List Arrival) (task : Task W) (r : ListenerReport W) : Type 0 where
-  pub feeds : List Feed
-  pub takes : List Take
-  pub asked_for : asks feeds ≡ asked (asking_of task) playlist
-  pub reported : IsReported taken failures task feeds takes r
+  pub asked_for : asks r.past.feeds ≡ asked (asking_of task) playlist
+  pub reported : IsReported taken failures task r.past.feeds r.past.takes r
   pub whole : r.end ≡ Clean → (r.received ≡ length playlist) × (r.matched ≡ r.written + r.dropped)
 
 -- What became of an interface: the captures give the playlist and the end, and each task was served with it.

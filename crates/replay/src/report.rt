@@ -1,5 +1,6 @@
 //! What is told of a replay.
 
+use handover::Past;
 use savefile::Fault;
 
 /// How the writing of a task ended.
@@ -28,6 +29,8 @@ pub struct ListenerReport<W> {
     /// How many packets were written whole.
     pub written: u64,
     pub end: TaskEnd,
+    /// The calls of the feeder and the drain, of a pair that was settled.
+    pub past: Past,
 }
 
 /// How the captures of an interface ended.

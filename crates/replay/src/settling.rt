@@ -19,7 +19,7 @@ use crate::reading::{ReadEnd, Stop};
 use crate::report::{ListenerReport, TaskEnd};
 use crate::writer::WriteEnd;
 use crate::writing::Written;
-use handover::{FeedEnd, Link, Settled, settle};
+use handover::{FeedEnd, Link, Past, Settled, settle};
 use listener::{Buffer, Counts};
 use rtrb::Consumer;
 use savefile::Sink;
@@ -48,10 +48,16 @@ fn end_of(stop: Stop, works: bool, sent: u64) -> TaskEnd
     }
 }
 
-fn report<W: Sink>(written: Written<W>, counts: Counts, end: TaskEnd) -> ListenerReport<W>
+fn report<W: Sink>(
+    written: Written<W>,
+    counts: Counts,
+    end: TaskEnd,
+    past: Past,
+) -> ListenerReport<W>
     ensures sink { (result.sink ≡ sink_of written.writer) × (result.sent ≡ sent_by written.writer) × (result.written ≡ written.count) }
     ensures counts { (result.received ≡ counts.received) × (result.matched ≡ counts.matched) × (result.dropped ≡ counts.dropped) }
     ensures end { result.end ≡ end }
+    ensures past { result.past ≡ past }
 {
     let Written {
         writer,
@@ -67,6 +73,7 @@ fn report<W: Sink>(written: Written<W>, counts: Counts, end: TaskEnd) -> Listene
         dropped: counts.dropped,
         written: count,
         end,
+        past,
     }
 }
 
@@ -76,7 +83,8 @@ pub(crate) fn settled<W: Sink + Drop>(link: Link, feed: FeedEnd, done: Done<W>) 
     requires profile { feed.profile ≡ profile_of done.task.value.capacity done.task.value.mode }
     requires prompt { All IsPrompt (all_accepted (asks feed.feeds)) }
     requires done { IsDone W.taken W.failures done }
-    ensures { IsReported W.taken W.failures done.task.value feed.feeds done.read.drain.takes result }
+    ensures report { IsReported W.taken W.failures done.task.value feed.feeds done.read.drain.takes result }
+    ensures past { (result.past.feeds ≡ feed.feeds) × (result.past.takes ≡ done.read.drain.takes) }
 {
     let Done {
         task: _,
@@ -92,9 +100,14 @@ pub(crate) fn settled<W: Sink + Drop>(link: Link, feed: FeedEnd, done: Done<W>) 
         mut written,
         mut full,
     } = write;
-    let Settled { hold, rest, counts } = settle(link, feed, drain);
+    let Settled {
+        hold,
+        rest,
+        counts,
+        past,
+    } = settle(link, feed, drain);
     let Some(mut finished) = finished else {
-        return report(written, counts, TaskEnd::Unfinished);
+        return report(written, counts, TaskEnd::Unfinished, past);
     };
     let left = full.slots_after(&mut finished);
     // Behind a fault nothing more is written.
@@ -102,5 +115,5 @@ pub(crate) fn settled<W: Sink + Drop>(link: Link, feed: FeedEnd, done: Done<W>) 
     written.put_all(&hold);
     written.put_all(&rest);
     let end = end_of(stop, written.works, written.writer.sent());
-    report(written, counts, end)
+    report(written, counts, end, past)
 }

@@ -157,7 +157,12 @@ fn run(
             read
         },
     );
-    let Settled { hold, rest, counts } = settle(link, feed_end, drain_end);
+    let Settled {
+        hold,
+        rest,
+        counts,
+        past: _,
+    } = settle(link, feed_end, drain_end);
     note(&hold, &mut places);
     note(&rest, &mut places);
     assert!(rt; places.as_slice() == fates.stored.as_slice());

@@ -1,8 +1,9 @@
-use Rattle.std.proofs.Common.{◌≡◌, arith, sym, ap, ◌∙◌, subst}
+use Rattle.std.proofs.Common.{◌≡◌, [], arith, sym, ap, ◌∙◌, subst}
 use Rattle.listener.specs.Buffers.{filled}
-use Rattle.handover.specs.Ends.{FeedingEnded, Counted}
+use Rattle.handover.specs.Ends.{FeedingEnded, Counted, pair_lists}
 use Rattle.handover.specs.Own.{store_of}
-use Rattle.handover.proofs.Steps.{joins}
+use Rattle.handover.specs.Rule.{witness}
+use Rattle.handover.proofs.Steps.{joins, copies}
 use Rattle.handover.proofs.Endings.{ends_well, ends_as, ends_legally, ends_rest, ends_counted, ends_whole}
 use Rattle.handover.proofs.link.settle.Goals as goal
 
@@ -15,12 +16,28 @@ join_seat-requires c = (
   joins _ _ _ _ _ c.feeder.invariant.0.role c.drain.invariant.role,
 )
 
+pub split_seat-witness-requires : goal.split_seat-witness-requires
+split_seat-witness-requires c = (
+  c.join_seat.ensures.0 ∙ ap (λ f. f.pair) c.feeder.view_is ∙ c.requires.0 ∙ sym c.link.view_is,
+  omega arith,
+  copies _ _ c.join_seat.new.seat.me.0 (ap (λ m. m.0.view.role) c.join_seat.ensures.2),
+)
+
+pub returns-clause-past : goal.returns-clause-past
+returns-clause-past c =
+    let v = c.feeder.inside.stand.seat.me.0 in
+    let w = c.drain.inside.seat.me.0 in
+    let m = c.split_seat-witness.ensures.4 ∙ ap (λ m. (witness m.0, [])) c.join_seat.ensures.2 in
+    let id = c.split_seat-witness.ensures.3 ∙ c.join_seat.ensures.0 ∙ ap (λ f. f.pair) c.feeder.view_is ∙ c.requires.0 in
+    (λ i. pair_lists (id i) (m i).0.view.profile (m i).0.view.feeds (m i).0.view.feed_steps (m i).0.view.takes (m i).0.view.take_steps)
+    ∙ (λ i. pair_lists c.args.link (c.feeder.view_is i).profile (c.feeder.view_is i).feeds (c.feeder.view_is i).steps (c.drain.view_is i).takes (c.drain.view_is i).steps)
+
 pub returns-clause-history : goal.returns-clause-history
 returns-clause-history c =
     let v = c.feeder.inside.stand.seat.me.0 in
     let w = c.drain.inside.seat.me.0 in
     let e = ends_as v w _ _ _ _ _ _ c.feeder.view_is c.drain.view_is
-    (ends_well _ _ v w _ _ _ c.take-hold.result (ap (λ m. m.0) c.join_seat.ensures.2) c.feeder.invariant.0.calm c.drain.invariant.calm c.close_with-closed.ensures.values.2 c.take-hold.ensures.value) in
+    (ends_well _ _ v w _ _ _ c.take-hold.result (ap (λ m. m.0) (c.split_seat-witness.ensures.2 ∙ c.join_seat.ensures.2)) c.feeder.invariant.0.calm c.drain.invariant.calm c.close_with-closed.ensures.values.2 c.take-hold.ensures.value) in
     ends_legally _ _ _ _ e.0
 
 pub returns-clause-order : goal.returns-clause-order
@@ -28,7 +45,7 @@ returns-clause-order c =
     let v = c.feeder.inside.stand.seat.me.0 in
     let w = c.drain.inside.seat.me.0 in
     let e = ends_as v w _ _ _ _ _ _ c.feeder.view_is c.drain.view_is
-    (ends_well _ _ v w _ _ _ c.take-hold.result (ap (λ m. m.0) c.join_seat.ensures.2) c.feeder.invariant.0.calm c.drain.invariant.calm c.close_with-closed.ensures.values.2 c.take-hold.ensures.value) in
+    (ends_well _ _ v w _ _ _ c.take-hold.result (ap (λ m. m.0) (c.split_seat-witness.ensures.2 ∙ c.join_seat.ensures.2)) c.feeder.invariant.0.calm c.drain.invariant.calm c.close_with-closed.ensures.values.2 c.take-hold.ensures.value) in
     e.1
 
 pub returns-clause-hold : goal.returns-clause-hold
@@ -36,7 +53,7 @@ returns-clause-hold c =
     let v = c.feeder.inside.stand.seat.me.0 in
     let w = c.drain.inside.seat.me.0 in
     let e = ends_as v w _ _ _ _ _ _ c.feeder.view_is c.drain.view_is
-    (ends_well _ _ v w _ _ _ c.take-hold.result (ap (λ m. m.0) c.join_seat.ensures.2) c.feeder.invariant.0.calm c.drain.invariant.calm c.close_with-closed.ensures.values.2 c.take-hold.ensures.value) in
+    (ends_well _ _ v w _ _ _ c.take-hold.result (ap (λ m. m.0) (c.split_seat-witness.ensures.2 ∙ c.join_seat.ensures.2)) c.feeder.invariant.0.calm c.drain.invariant.calm c.close_with-closed.ensures.values.2 c.take-hold.ensures.value) in
     e.0.hold
 
 pub returns-clause-rest : goal.returns-clause-rest
@@ -44,7 +61,7 @@ returns-clause-rest c =
     let v = c.feeder.inside.stand.seat.me.0 in
     let w = c.drain.inside.seat.me.0 in
     let e = ends_as v w _ _ _ _ _ _ c.feeder.view_is c.drain.view_is
-    (ends_well _ _ v w _ _ _ c.take-hold.result (ap (λ m. m.0) c.join_seat.ensures.2) c.feeder.invariant.0.calm c.drain.invariant.calm c.close_with-closed.ensures.values.2 c.take-hold.ensures.value) in
+    (ends_well _ _ v w _ _ _ c.take-hold.result (ap (λ m. m.0) (c.split_seat-witness.ensures.2 ∙ c.join_seat.ensures.2)) c.feeder.invariant.0.calm c.drain.invariant.calm c.close_with-closed.ensures.values.2 c.take-hold.ensures.value) in
     let rest = ends_rest _ _ _ _ _ e.0 (subst (λ (f : FeedingEnded). c.feeder.inside.stand.store ≡ filled f.profile.capacity (store_of f.feeds)) c.feeder.view_is c.feeder.invariant.0.store) in
     rest
 
@@ -53,7 +70,7 @@ returns-clause-counts c =
     let v = c.feeder.inside.stand.seat.me.0 in
     let w = c.drain.inside.seat.me.0 in
     let e = ends_as v w _ _ _ _ _ _ c.feeder.view_is c.drain.view_is
-    (ends_well _ _ v w _ _ _ c.take-hold.result (ap (λ m. m.0) c.join_seat.ensures.2) c.feeder.invariant.0.calm c.drain.invariant.calm c.close_with-closed.ensures.values.2 c.take-hold.ensures.value) in
+    (ends_well _ _ v w _ _ _ c.take-hold.result (ap (λ m. m.0) (c.split_seat-witness.ensures.2 ∙ c.join_seat.ensures.2)) c.feeder.invariant.0.calm c.drain.invariant.calm c.close_with-closed.ensures.values.2 c.take-hold.ensures.value) in
     let counted = subst (λ (f : FeedingEnded). Counted c.feeder.inside.counts f.feeds) c.feeder.view_is c.feeder.invariant.1 in
     (ends_counted _ _ _ _ _ e.0 counted, counted)
 
@@ -62,7 +79,7 @@ returns-clause-whole c =
     let v = c.feeder.inside.stand.seat.me.0 in
     let w = c.drain.inside.seat.me.0 in
     let e = ends_as v w _ _ _ _ _ _ c.feeder.view_is c.drain.view_is
-    (ends_well _ _ v w _ _ _ c.take-hold.result (ap (λ m. m.0) c.join_seat.ensures.2) c.feeder.invariant.0.calm c.drain.invariant.calm c.close_with-closed.ensures.values.2 c.take-hold.ensures.value) in
+    (ends_well _ _ v w _ _ _ c.take-hold.result (ap (λ m. m.0) (c.split_seat-witness.ensures.2 ∙ c.join_seat.ensures.2)) c.feeder.invariant.0.calm c.drain.invariant.calm c.close_with-closed.ensures.values.2 c.take-hold.ensures.value) in
     let rest = ends_rest _ _ _ _ _ e.0 (subst (λ (f : FeedingEnded). c.feeder.inside.stand.store ≡ filled f.profile.capacity (store_of f.feeds)) c.feeder.view_is c.feeder.invariant.0.store) in
     let counted = subst (λ (f : FeedingEnded). Counted c.feeder.inside.counts f.feeds) c.feeder.view_is c.feeder.invariant.1 in
     ends_whole _ _ _ c.take-hold.result c.feeder.inside.stand.store c.feeder.inside.counts e.0 rest counted

@@ -30,9 +30,9 @@ loop-crew-preserved g c =
             completes-next (IsServed g.W.Sink.taken g.W.Sink.failures playlist) _ _ _ (crew_task c.in-Some.crew) _ _ _ so_far
                 (ap (λ cs. map crew_task cs) c.in-Some.ensures.steps.0) c.push_reserved.ensures.items
                 (served g.W.Sink.taken g.W.Sink.failures playlist (crew_task c.in-Some.crew) c.in-Some-next-2.feed.feeds c.finish-done.result.read.drain.takes c.settled.result
-                (ap (λ (l : EndedLine). l.asks) n.0)
+                (ap (λ (l : EndedLine). l.asks) n.0) c.settled.ensures.past
                 (subst (λ (t : Task _). IsReported g.W.Sink.taken g.W.Sink.failures t c.in-Some-next-2.feed.feeds c.finish-done.result.read.drain.takes c.settled.result)
-                c.finish-done.ensures.task c.settled.ensures)),
+                c.finish-done.ensures.task c.settled.ensures.report)),
           )),
       search rules,
       search rules,

@@ -13,8 +13,8 @@ use Rattle.replay.proofs.Timely.{all-of-contained, as-they-are}
 use Rattle.std.proofs.lemmas.List.Elements.{All-contains}
 use Rattle.replay.proofs.settling.settled.Goals as goal
 
-pub returns-in_default : goal.returns-in_default
-returns-in_default g c =
+pub returns-in_default-clause-report : goal.returns-in_default-clause-report
+returns-in_default-clause-report g c =
     let d = c.args.done in
     let s = c.settle-hold.ensures in
     let told = c.report.ensures in
@@ -27,8 +27,8 @@ returns-in_default g c =
     told.counts d.write.written told.sink
     (as-they-are _ (all-of-contained IsPrompt _ (λ m here. All-contains IsPrompt _ m c.requires.prompt (whole.accepted m here)))) _ c.requires.done.writes told.end
 
-pub returns : goal.returns
-returns g c =
+pub returns-clause-report : goal.returns-clause-report
+returns-clause-report g c =
     let d = c.args.done in
     let T = g.W.Sink.taken in
     let F = g.W.Sink.failures in
