@@ -1,7 +1,9 @@
 //! `bpftap run`: what a line asks of its listener, and what is printed of ends that no capture brings about.
 
 use crate::run::{item, replayed};
+use bpfvm::read_listing;
 use fixtures::captures::{HEADER, TCP, concat};
+use handover::{Past, pair, settle};
 use listener::Mode;
 use replay::{Interface, InterfaceEnd, InterfaceReport, ListenerReport, TaskEnd};
 use running::reports::tell_run;
@@ -153,6 +155,15 @@ fn each_sink_is_made_of_its_out(rt: HostRuntime) -> Result<(), Fail> {
     Ok(())
 }
 
+/// The past of a pair that was settled before anything arrived.
+fn nothing_done(alloc: Global) -> Result<Past, Fail> {
+    let rejecting = read_listing(b"1\n6 0 0 0\n")?;
+    let (link, feeder, drain) = pair(alloc, rejecting, 96, 4096)?;
+    let feed_end = feeder.end(&link);
+    let drain_end = drain.close(&link);
+    Ok(settle(link, feed_end, drain_end).past)
+}
+
 #[test]
 fn an_end_that_is_not_reached_is_told(rt: HostRuntime) -> Result<(), Fail> {
     let alloc = rt.alloc();
@@ -165,6 +176,7 @@ fn an_end_that_is_not_reached_is_told(rt: HostRuntime) -> Result<(), Fail> {
         dropped: 1,
         written: 2,
         end: TaskEnd::Unfinished,
+        past: nothing_done(alloc)?,
     })?;
     let sources: Vec<u8> = Vec::new(alloc);
     let mut reports = Vec::new(alloc);
