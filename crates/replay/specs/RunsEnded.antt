@@ -10,14 +10,21 @@ use Rattle.replay.specs.Crews.{crew_pair, crew_task}
 use Rattle.replay.specs.Replayed.{IsServed}
 use Rattle.replay.specs.declared.ready.Running.{Running}
 use Rattle.replay.specs.declared.report.InterfaceReport.{InterfaceReport}
+use Rattle.replay.specs.declared.report.ListenerReport.{ListenerReport}
 
 -- the links of its tasks' pairs
 abbrev pub HasItsPairs : {S W : Type 0} → Vec TableId Global → Running S W → Type 0
 HasItsPairs links running = map crew_pair running.crews.items ≡ links.items
 
--- the captures that its thread was given make the playlist and the end, and each of its tasks was served with it
+-- the pair whose past a report has
+abbrev pub past_pair : {W : Type 0} → ListenerReport W → TableId
+past_pair r = r.past.pair
+
+-- The captures that its thread was given make the playlist and the end, and each of its tasks was served with it. The past of
+-- each report is that of the pair which the task's threads were started with.
 pub record IsReportOf {S W : Type 0} (left : S → Option (List ℕ)) (broken : S → ℕ) (taken : W → Option (List ℕ)) (failures : W → ℕ)
     (running : Running S W) (r : InterfaceReport S W) : Type 0 where
   pub playlist : List Arrival
   pub plays : Plays left broken (length playlist) 0 running.player.promise.captures.value.items r.sources.items playlist r.end
+  pub pairs : map past_pair r.listeners.items ≡ map crew_pair running.crews.items
   pub served : AllZip (IsServed taken failures playlist) (map crew_task running.crews.items) r.listeners.items

@@ -63,9 +63,9 @@ fn in_threads<
 ///
 /// What is promised, whatever the order of the threads. *Of an interface*: the packets that arrive are those of its captures, one
 /// capture behind the other, each with its capture's number and its place there, from 0; the first capture with a fault ends
-/// them, behind its packets before the fault, and the end names it. *Of a listener*: its feeder was asked for each of these
-/// packets and for the flushes that are due, and that with the reads of its other thread makes one legal history of the tap's
-/// list, whose counts are the report's. Its sink took exactly `sent` bytes. Where it ends [`Clean`](crate::TaskEnd::Clean), all
+/// them, behind its packets before the fault, and the end names it. *Of a listener*: the report's `past` is that of a pair that
+/// was settled. The feeder of this pair was asked for each of these packets and for the flushes that are due, and its calls with
+/// the drain's reads make one legal history of the tap's list, whose counts are the report's. Its sink took exactly `sent` bytes. Where it ends [`Clean`](crate::TaskEnd::Clean), all
 /// packets were received, and the sink took the text of all that looking back keeps of that history; after
 /// [`Write`](crate::TaskEnd::Write) it took a beginning of that text, and the sink failed or the text would have 2^64 bytes.
 /// Which packets find no room depends on the threads; where the end is Clean, each that matched is written or dropped.

@@ -1,11 +1,12 @@
-use Rattle.std.proofs.Common.{◌≡◌, map, length, ap, ◌∙◌, subst, rules}
+use Rattle.std.proofs.Common.{◌≡◌, ◌∷◌, ◌++◌, map, length, sym, ap, ◌∙◌, subst, rules}
 use Rattle.std.proofs.lemmas.List.{length-map}
-use Rattle.replay.specs.Crews.{crew_task}
+use Rattle.replay.specs.Crews.{crew_pair, crew_task}
 use Rattle.replay.specs.Lines.{EndedLine}
 use Rattle.replay.specs.Replayed.{IsServed}
 use Rattle.replay.specs.Reports.{IsReported}
+use Rattle.replay.specs.RunsEnded.{past_pair}
 use Rattle.replay.specs.declared.task.Task.{Task}
-use Rattle.replay.proofs.Lists.{completed, completes-next}
+use Rattle.replay.proofs.Lists.{completed, completes-next, moved}
 use Rattle.replay.proofs.Served.{ended-prompt, next-ended, next-paired, served}
 use Rattle.replay.proofs.reporting.report_tasks.Goals as goal
 
@@ -30,15 +31,21 @@ loop-crew-preserved g c =
             completes-next (IsServed g.W.Sink.taken g.W.Sink.failures playlist) _ _ _ (crew_task c.in-Some.crew) _ _ _ so_far
                 (ap (λ cs. map crew_task cs) c.in-Some.ensures.steps.0) c.push_reserved.ensures.items
                 (served g.W.Sink.taken g.W.Sink.failures playlist (crew_task c.in-Some.crew) c.in-Some-next-2.feed.feeds c.finish-done.result.read.drain.takes c.settled.result
-                (ap (λ (l : EndedLine). l.asks) n.0) c.settled.ensures.past
+                (ap (λ (l : EndedLine). l.asks) n.0) (c.settled.ensures.past.1, c.settled.ensures.past.2)
                 (subst (λ (t : Task _). IsReported g.W.Sink.taken g.W.Sink.failures t c.in-Some-next-2.feed.feeds c.finish-done.result.read.drain.takes c.settled.result)
                 c.finish-done.ensures.task c.settled.ensures.report)),
           )),
+      (let all = map crew_pair c.args.crews.items in
+          let rest = c.next.new.self.rest.items in
+          let before : map past_pair c.loop-crew.reports.items ++ map crew_pair (c.in-Some.crew ∷ rest) ≡ all =
+          subst (λ cs. map past_pair c.loop-crew.reports.items ++ map crew_pair cs ≡ all) c.in-Some.ensures.steps.0 c.loop-crew.invariant.5 in
+          subst (λ rs. map past_pair rs ++ map crew_pair rest ≡ all) (sym c.push_reserved.ensures.items)
+          (moved past_pair crew_pair c.loop-crew.reports.items c.settled.result c.in-Some.crew rest all before (c.settled.ensures.past.0 ∙ c.finish-done.ensures.pair))),
       search rules,
       search rules,
     )
 
-pub returns : goal.returns
-returns g c = λ playlist timely all.
+pub returns-clause-served : goal.returns-clause-served
+returns-clause-served g c = λ playlist timely all.
     completed (IsServed g.W.Sink.taken g.W.Sink.failures playlist) _ _ _ (c.loop-crew.invariant.4 playlist timely all).1
     (length-map c.loop-crew.crew-iterator.rest.items crew_task ∙ (let none : length c.loop-crew.crew-iterator.rest.items ≡ 0 = search rules in none))
