@@ -11,6 +11,7 @@ use std::process::Abort;
 use std::test::Fail;
 
 mod caller;
+mod past;
 mod threads;
 
 /// A program that accepts each packet, with at most so many bytes.
