@@ -62,7 +62,47 @@ fn step(alloc: Global, listener: &mut Listener, step: char, place: u64) -> Resul
     }
 }
 
-/// What a listener of snapshot length 32 answers to a script, what it has then, and its counts.
+/// Adds what a listener answers to one step of a script.
+fn push_answer(
+    alloc: Global,
+    listener: &mut Listener,
+    one: char,
+    place: u64,
+    out: &mut String,
+) -> Result<(), Fail> {
+    let answer = step(alloc, listener, one, place)?;
+    let line = format!(in alloc; "{answer}, ")?;
+    out.push_str(line.as_str())?;
+    Ok(())
+}
+
+/// Adds what pends at a listener, and its counts.
+fn push_state(alloc: Global, listener: &Listener, out: &mut String) -> Result<(), AllocError> {
+    let (hold, store) = listener.buffers();
+    let (held, stored) = (places(alloc, hold)?, places(alloc, store)?);
+    let counts = listener.counts();
+    let line = format!(in alloc;
+        "held{held}, stored{stored}; {} {} {}",
+        counts.received, counts.matched, counts.dropped
+    )?;
+    out.push_str(line.as_str())
+}
+
+/// What a listener answers to a script, what it has then, and its counts.
+fn play(alloc: Global, listener: &mut Listener, script: &str) -> Result<String, Fail> {
+    let mut out = String::new(alloc);
+    let mut place = 0;
+    for one in script.chars() {
+        push_answer(alloc, listener, one, place, &mut out)?;
+        if one == 'a' {
+            place = place.wrapping_add(1);
+        }
+    }
+    push_state(alloc, listener, &mut out)?;
+    Ok(out)
+}
+
+/// A script is played so at a listener of snapshot length 32.
 fn played(
     rt: &(impl Abort + AllocGlobal),
     capacity: usize,
@@ -70,33 +110,9 @@ fn played(
     script: &str,
     want: &str,
 ) -> Result<(), Fail> {
-    let alloc = rt.alloc();
-    let program = keeping(262_144)?;
-    let mut listener = Listener::open_as(alloc, program, 32, capacity, mode)?;
-    let mut out = String::new(alloc);
-    let mut place = 0;
-    for one in script.chars() {
-        let answer = step(alloc, &mut listener, one, place)?;
-        let line = format!(in alloc; "{answer}, ")?;
-        out.push_str(line.as_str())?;
-        if one == 'a' {
-            place = place.wrapping_add(1);
-        }
-    }
-    let (hold, store) = listener.buffers();
-    let left = format!(in alloc;
-        "held{}, stored{}",
-        places(alloc, hold)?,
-        places(alloc, store)?
-    )?;
-    out.push_str(left.as_str())?;
-    let counts = listener.counts();
-    let line = format!(in alloc;
-        "; {} {} {}",
-        counts.received, counts.matched, counts.dropped
-    )?;
-    out.push_str(line.as_str())?;
-    assert_eq!(rt; out.as_str(), want);
+    let mut listener = Listener::open_as(rt.alloc(), keeping(262_144)?, 32, capacity, mode)?;
+    let told = play(rt.alloc(), &mut listener, script)?;
+    assert_eq!(rt; told.as_str(), want);
     Ok(())
 }
 
@@ -169,31 +185,48 @@ fn put(
     buffer.put(capture, place, packet, kept)
 }
 
-#[test]
-fn a_record_has_its_bytes(rt: HostRuntime) -> Result<(), Fail> {
-    let mut buffer = Buffer::new(rt.alloc(), 40)?;
-    let data = [0xaa, 0xbb, 0xcc];
+/// Puts a packet of the data of `RECORD`, of a capture's first interface, and says whether it found room.
+fn put_three(rt: &impl Abort, buffer: &mut Buffer, place: u64, kept: u32) -> bool {
     let packet = PacketRef {
         sec: 2,
         nanos: 3000,
         len: 60,
-        bytes: &data,
+        bytes: &[0xaa, 0xbb, 0xcc],
     };
+    put(rt, buffer, 0, place, &packet, kept)
+}
+
+/// A buffer has these bytes and so many records.
+fn has(rt: &impl Abort, buffer: &Buffer, bytes: &[u8], len: usize) {
+    assert!(rt; buffer.bytes() == bytes);
+    assert_eq!(rt; buffer.len(), len);
+}
+
+/// A record of three bytes finds its room in an empty buffer of 40 bytes.
+fn is_filled(rt: &impl Abort, buffer: &mut Buffer) {
+    assert!(rt; buffer.is_empty());
+    assert_eq!(rt; buffer.capacity(), 40);
     assert!(rt; buffer.fits(3));
-    assert!(rt; put(&rt, &mut buffer, 0, 1, &packet, 3));
-    assert!(rt; buffer.bytes() == RECORD.as_slice());
-    // no room for a record without data
+    assert!(rt; put_three(rt, buffer, 1, 3));
+    has(rt, buffer, &RECORD, 1);
+}
+
+/// A full buffer has no room for a record without data.
+fn is_full(rt: &impl Abort, buffer: &mut Buffer) {
     assert!(rt; !buffer.fits(0));
-    assert!(rt; !put(&rt, &mut buffer, 0, 2, &packet, 0));
-    assert!(rt; buffer.bytes() == RECORD.as_slice());
-    assert_eq!(rt; buffer.len(), 1);
+    assert!(rt; !put_three(rt, buffer, 2, 0));
+    has(rt, buffer, &RECORD, 1);
+}
+
+#[test]
+fn a_record_has_its_bytes(rt: HostRuntime) -> Result<(), Fail> {
+    let mut buffer = Buffer::new(rt.alloc(), 40)?;
+    is_filled(&rt, &mut buffer);
+    is_full(&rt, &mut buffer);
     // emptied, it has the same room again
     buffer.clear();
-    assert!(rt; buffer.is_empty());
-    assert_eq!(rt; buffer.len(), 0);
-    assert_eq!(rt; buffer.capacity(), 40);
-    assert!(rt; put(&rt, &mut buffer, 0, 1, &packet, 3));
-    assert!(rt; buffer.bytes() == RECORD.as_slice());
+    has(&rt, &buffer, &[], 0);
+    is_filled(&rt, &mut buffer);
     Ok(())
 }
 
@@ -207,25 +240,41 @@ fn shows(rt: &impl Abort, record: Record<'_>, bytes: &[u8]) {
     assert!(rt; record.bytes == bytes);
 }
 
-#[test]
-fn records_show_what_was_put(rt: HostRuntime) -> Result<(), Fail> {
+/// A buffer with a record of the greatest fields, of the first 25 of these bytes.
+fn greatest(rt: &(impl Abort + AllocGlobal), data: &[u8]) -> Result<Buffer, OpenFault> {
     let mut buffer = Buffer::new(rt.alloc(), 64)?;
-    let data = numbered(rt.alloc(), 60)?;
-    let want = numbered(rt.alloc(), 25)?;
     let packet = PacketRef {
         sec: u32::MAX,
         nanos: 999_999_999,
         len: u32::MAX - 1,
-        bytes: &data,
+        bytes: data,
     };
-    assert!(rt; put(&rt, &mut buffer, u32::MAX - 2, u64::MAX - 3, &packet, 25));
+    assert!(rt; put(rt, &mut buffer, u32::MAX - 2, u64::MAX - 3, &packet, 25));
+    Ok(buffer)
+}
+
+/// The one record of a buffer, and the message made of it, show the greatest fields and these bytes.
+fn each_shows(
+    rt: &(impl Abort + AllocGlobal),
+    buffer: &Buffer,
+    bytes: &[u8],
+) -> Result<(), AllocError> {
     assert_eq!(rt; buffer.bytes().len(), 64);
     assert_eq!(rt; buffer.len(), 1);
     for record in buffer.records() {
-        shows(&rt, record, &want);
+        shows(rt, record, bytes);
         let message = record.to_message(rt.alloc())?;
-        shows(&rt, message.as_record(), &want);
+        shows(rt, message.as_record(), bytes);
     }
+    Ok(())
+}
+
+#[test]
+fn records_show_what_was_put(rt: HostRuntime) -> Result<(), Fail> {
+    let data = numbered(rt.alloc(), 60)?;
+    let buffer = greatest(&rt, &data)?;
+    let want = numbered(rt.alloc(), 25)?;
+    each_shows(&rt, &buffer, &want)?;
     Ok(())
 }
 
@@ -292,6 +341,16 @@ const LISTENERS: [(u32, usize, &str); 12] = [
     (1, 1_048_577, "BadCapacity"),
 ];
 
+/// How a listener is opened, in the mode that is given or in none.
+fn opened(alloc: Global, snap: u32, capacity: usize, mode: Option<Mode>) -> Result<String, Fail> {
+    let program = keeping(1)?;
+    let answer = match mode {
+        Some(mode) => Listener::open_as(alloc, program, snap, capacity, mode),
+        None => Listener::open(alloc, program, snap, capacity),
+    };
+    Ok(told(alloc, answer)?)
+}
+
 /// A listener is opened so in both modes.
 fn opens(
     rt: &(impl Abort + AllocGlobal),
@@ -299,12 +358,10 @@ fn opens(
     capacity: usize,
     want: &str,
 ) -> Result<(), Fail> {
-    let opened = Listener::open(rt.alloc(), keeping(1)?, snap, capacity);
-    let got = told(rt.alloc(), opened)?;
-    assert_eq!(rt; got.as_str(), want, "at {snap} {capacity}");
-    let opened = Listener::open_as(rt.alloc(), keeping(1)?, snap, capacity, Mode::Immediate);
-    let got = told(rt.alloc(), opened)?;
-    assert_eq!(rt; got.as_str(), want, "at {snap} {capacity}");
+    for mode in [None, Some(Mode::Immediate)] {
+        let got = opened(rt.alloc(), snap, capacity, mode)?;
+        assert_eq!(rt; got.as_str(), want, "at {snap} {capacity}");
+    }
     Ok(())
 }
 
@@ -320,14 +377,19 @@ fn capacities_and_snapshot_lengths_have_their_ranges(rt: HostRuntime) -> Result<
     Ok(())
 }
 
+/// A filter that keeps `most` keeps so many of these bytes, at snapshot length 32.
+fn keeps(rt: &impl Abort, most: u32, bytes: &[u8], want: Option<u32>) -> Result<(), Fail> {
+    assert_eq!(rt; kept_of(&keeping(most)?, 32, &packet(bytes)), want);
+    Ok(())
+}
+
 #[test]
 fn a_filter_keeps_the_least_of_three_lengths(rt: HostRuntime) -> Result<(), Fail> {
     let (long, short) = ([7; 60], [7; 10]);
-    assert_eq!(rt; kept_of(&keeping(40)?, 32, &packet(&long)), Some(32));
-    assert_eq!(rt; kept_of(&keeping(20)?, 32, &packet(&long)), Some(20));
-    assert_eq!(rt; kept_of(&keeping(40)?, 32, &packet(&short)), Some(10));
-    assert_eq!(rt; kept_of(&keeping(0)?, 32, &packet(&long)), None);
-    Ok(())
+    keeps(&rt, 40, &long, Some(32))?;
+    keeps(&rt, 20, &long, Some(20))?;
+    keeps(&rt, 40, &short, Some(10))?;
+    keeps(&rt, 0, &long, None)
 }
 
 /// The answer, or a failed test that tells its fault.

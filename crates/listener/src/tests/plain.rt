@@ -38,6 +38,19 @@ fn size_of(len: usize) -> usize {
 }
 
 impl Slow {
+    fn new(alloc: Global, capacity: usize, mode: Mode) -> Slow {
+        Slow {
+            capacity,
+            mode,
+            pending: Vec::new(alloc),
+            held: 0,
+            received: 0,
+            matched: 0,
+            dropped: 0,
+            closed: false,
+        }
+    }
+
     fn load(&self) -> usize {
         let mut load: usize = 0;
         for kept in self.pending.iter().skip(self.held) {
@@ -192,27 +205,61 @@ fn read_at_both(
     Ok(())
 }
 
-/// Both have the same state.
-fn compare(rt: &(impl Abort + AllocGlobal), listener: &Listener, slow: &Slow) -> Result<(), Fail> {
+/// What pends at a listener, and how many messages of it are held.
+fn pending_of(alloc: Global, listener: &Listener) -> Result<(Vec<Kept>, usize), AllocError> {
     let (hold, store) = listener.buffers();
-    let mut pending = messages(rt.alloc(), hold)?;
-    assert_eq!(rt; pending.len(), slow.held);
-    for kept in &messages(rt.alloc(), store)? {
-        pending.push(*kept)?;
-    }
-    assert!(rt; pending.as_slice() == slow.pending.as_slice());
+    let mut pending = messages(alloc, hold)?;
+    let held = pending.len();
+    let stored = messages(alloc, store)?;
+    pending.extend_from_slice(stored.as_slice())?;
+    Ok((pending, held))
+}
+
+/// Both have the same counts.
+fn compare_counts(rt: &impl Abort, listener: &Listener, slow: &Slow) {
     let counts = listener.counts();
     assert_eq!(rt; counts.received, slow.received);
     assert_eq!(rt; counts.matched, slow.matched);
     assert_eq!(rt; counts.dropped, slow.dropped);
+}
+
+/// Both have the same state.
+fn compare(
+    rt: &(impl Abort + AllocGlobal),
+    listener: &Listener,
+    slow: &Slow,
+) -> Result<(), AllocError> {
+    let (pending, held) = pending_of(rt.alloc(), listener)?;
+    assert_eq!(rt; held, slow.held);
+    assert!(rt; pending.as_slice() == slow.pending.as_slice());
+    compare_counts(rt, listener, slow);
     Ok(())
 }
 
-/// One random list of steps.
-fn run_both(rt: &(impl Abort + AllocGlobal), random: &mut Random, mode: Mode) -> Result<(), Fail> {
-    let snap = random.below(64) as u32 + 1;
-    let capacity = size_of(snap as usize).wrapping_add(random.below(200) as usize);
-    let program = Program::new(&[
+/// One random step at both.
+fn step_at_both(
+    rt: &(impl Abort + AllocGlobal),
+    listener: &mut Listener,
+    slow: &mut Slow,
+    random: &mut Random,
+    place: u64,
+    snap: usize,
+) -> Result<(), Fail> {
+    match random.below(40) {
+        0..30 => arrive_at_both(rt, listener, slow, random, place, snap)?,
+        30..33 => assert_eq!(rt; listener.flush(), slow.flush()),
+        33..39 => read_at_both(rt, listener, slow)?,
+        _ => {
+            listener.close();
+            slow.closed = true;
+        }
+    }
+    Ok(())
+}
+
+/// A program whose answer is a packet's first byte.
+fn first_byte() -> Result<Program, bpfvm::Invalid> {
+    Program::new(&[
         Insn {
             code: bpfvm::code::LD_B_ABS,
             jt: 0,
@@ -225,28 +272,17 @@ fn run_both(rt: &(impl Abort + AllocGlobal), random: &mut Random, mode: Mode) ->
             jf: 0,
             k: 0,
         },
-    ])?;
-    let mut listener = Listener::open_as(rt.alloc(), program, snap, capacity, mode)?;
-    let mut slow = Slow {
-        capacity,
-        mode,
-        pending: Vec::new(rt.alloc()),
-        held: 0,
-        received: 0,
-        matched: 0,
-        dropped: 0,
-        closed: false,
-    };
+    ])
+}
+
+/// One random list of steps.
+fn run_both(rt: &(impl Abort + AllocGlobal), random: &mut Random, mode: Mode) -> Result<(), Fail> {
+    let snap = random.below(64) as u32 + 1;
+    let capacity = size_of(snap as usize).wrapping_add(random.below(200) as usize);
+    let mut listener = Listener::open_as(rt.alloc(), first_byte()?, snap, capacity, mode)?;
+    let mut slow = Slow::new(rt.alloc(), capacity, mode);
     for place in 0..40 {
-        match random.below(40) {
-            0..30 => arrive_at_both(rt, &mut listener, &mut slow, random, place, snap as usize)?,
-            30..33 => assert_eq!(rt; listener.flush(), slow.flush()),
-            33..39 => read_at_both(rt, &mut listener, &mut slow)?,
-            _ => {
-                listener.close();
-                slow.closed = true;
-            }
-        }
+        step_at_both(rt, &mut listener, &mut slow, random, place, snap as usize)?;
         compare(rt, &listener, &slow)?;
     }
     Ok(())
