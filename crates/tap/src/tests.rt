@@ -104,9 +104,36 @@ fn counts(report: &Report) -> (u64, u64, u64) {
     (report.received, report.matched, report.dropped)
 }
 
-#[test]
-fn four_packets_rotate_and_drop(rt: HostRuntime) {
-    let text = zeros(rt.alloc(), 4).expect(&rt, "memory");
+/// The places of a batch's messages are these.
+fn has_batch(rt: &(impl Abort + AllocGlobal), report: &Report, batch: usize, want: &[u64]) {
+    let batch = at(rt, report.batches.as_slice(), batch);
+    assert_eq!(rt; places(rt, batch.as_slice()).as_slice(), want);
+}
+
+/// The places of the messages that are held are these.
+fn holds(rt: &(impl Abort + AllocGlobal), report: &Report, want: &[u64]) {
+    assert_eq!(rt; places(rt, report.held.as_slice()).as_slice(), want);
+}
+
+/// A program that keeps 32 bytes of each packet.
+fn keeping_32(rt: &impl Abort) -> Filter {
+    Filter::Program(read_listing(b"1\n6 0 0 32\n").expect(rt, "a program"))
+}
+
+/// Of four packets the third is dropped, and the others are kept with 32 bytes each.
+fn drops_the_third(rt: &(impl Abort + AllocGlobal), report: &Report) {
+    assert_eq!(rt; counts(report), (4, 4, 1));
+    assert_eq!(rt; report.batches.len(), 1);
+    has_batch(rt, report, 0, &[0]);
+    holds(rt, report, &[1, 3]);
+    let last = at(rt, report.held.as_slice(), 1);
+    assert_eq!(rt; last.bytes.as_slice().len(), 32);
+    assert_eq!(rt; (last.sec, last.nanos, last.len), (4, 0, 60));
+}
+
+/// Four packets, of which the listener has read the first before the fourth arrives.
+fn rotates_and_drops(rt: &(impl Abort + AllocGlobal), spec: Spec) {
+    let text = zeros(rt.alloc(), 4).expect(rt, "memory");
     let steps = [
         Step::Arrive,
         Step::Arrive,
@@ -114,36 +141,27 @@ fn four_packets_rotate_and_drop(rt: HostRuntime) {
         Step::Read(0),
         Step::Arrive,
     ];
-    let program = read_listing(b"1\n6 0 0 32\n").expect(&rt, "a program");
-    let by_program = Spec {
-        filter: Filter::Program(program),
-        snap: 64,
-        capacity: 96,
-        mode: Mode::Buffered,
-    };
-    for spec in [wanted(&rt, "", 32, 64, Mode::Buffered), by_program] {
-        let specs = [spec];
-        let trace = trace(rt.alloc(), &[text.as_slice()], &specs, &steps).expect(&rt, "a trace");
-        let report = at(&rt, trace.reports.as_slice(), 0);
-        assert_eq!(rt; counts(report), (4, 4, 1));
-        assert_eq!(rt; report.batches.len(), 1);
-        assert_eq!(rt;
-            places(&rt, at(&rt, report.batches.as_slice(), 0).as_slice()).as_slice(),
-            [0].as_slice()
-        );
-        assert_eq!(rt;
-            places(&rt, report.held.as_slice()).as_slice(),
-            [1, 3].as_slice()
-        );
-        let last = at(&rt, report.held.as_slice(), 1);
-        assert_eq!(rt; last.bytes.as_slice().len(), 32);
-        assert_eq!(rt; (last.sec, last.nanos, last.len), (4, 0, 60));
-        assert_eq!(rt;
-            fates(&rt, &trace, 0).as_slice(),
-            [Fed::Stored, Fed::Rotated, Fed::Dropped, Fed::Rotated].as_slice()
-        );
-        assert!(rt; trace.torn.is_none());
-    }
+    let trace = trace(rt.alloc(), &[text.as_slice()], &[spec], &steps).expect(rt, "a trace");
+    drops_the_third(rt, at(rt, trace.reports.as_slice(), 0));
+    assert_eq!(rt;
+        fates(rt, &trace, 0).as_slice(),
+        [Fed::Stored, Fed::Rotated, Fed::Dropped, Fed::Rotated].as_slice()
+    );
+    assert!(rt; trace.torn.is_none());
+}
+
+#[test]
+fn four_packets_rotate_and_drop(rt: HostRuntime) {
+    rotates_and_drops(&rt, wanted(&rt, "", 32, 64, Mode::Buffered));
+    rotates_and_drops(
+        &rt,
+        Spec {
+            filter: keeping_32(&rt),
+            snap: 64,
+            capacity: 96,
+            mode: Mode::Buffered,
+        },
+    );
 }
 
 /// A replay of one capture to one listener.
@@ -168,9 +186,32 @@ fn replayed(
     trace
 }
 
+/// A replay of one capture to a listener of all packets, at snapshot length 32.
+fn replayed_at_32(
+    rt: &(impl Abort + AllocGlobal),
+    packets: u8,
+    capacity: usize,
+    mode: Mode,
+    steps: &[Step],
+) -> Trace {
+    let text = zeros(rt.alloc(), packets).expect(rt, "memory");
+    let spec = wanted(rt, "", 32, capacity, mode);
+    replayed(rt, text.as_slice(), spec, steps).expect(rt, "a trace")
+}
+
+/// The answers to the steps of the first listener, each with its load and its number of held messages.
+fn answers(rt: &(impl Abort + AllocGlobal), trace: &Trace) -> Vec<(usize, usize, Answer)> {
+    let mut answers = Vec::new(rt.alloc());
+    for answered in at(rt, trace.answers.as_slice(), 0) {
+        answers
+            .push((answered.load, answered.held, answered.answer))
+            .expect(rt, "memory");
+    }
+    answers
+}
+
 #[test]
 fn a_closed_listener_takes_nothing_and_gives_nothing(rt: HostRuntime) {
-    let text = zeros(rt.alloc(), 3).expect(&rt, "memory");
     let steps = [
         Step::Arrive,
         Step::Arrive,
@@ -181,23 +222,13 @@ fn a_closed_listener_takes_nothing_and_gives_nothing(rt: HostRuntime) {
         Step::Read(0),
         Step::Close(0),
     ];
-    let spec = wanted(&rt, "", 32, 128, Mode::Buffered);
-    let trace = replayed(&rt, text.as_slice(), spec, &steps).expect(&rt, "a trace");
+    let trace = replayed_at_32(&rt, 3, 128, Mode::Buffered, &steps);
     let report = at(&rt, trace.reports.as_slice(), 0);
     assert_eq!(rt; counts(report), (2, 2, 0));
     assert!(rt; report.batches.is_empty());
+    holds(&rt, report, &[0, 1]);
     assert_eq!(rt;
-        places(&rt, report.held.as_slice()).as_slice(),
-        [0, 1].as_slice()
-    );
-    let mut answers = Vec::new(rt.alloc());
-    for answered in at(&rt, trace.answers.as_slice(), 0) {
-        answers
-            .push((answered.load, answered.held, answered.answer))
-            .expect(&rt, "memory");
-    }
-    assert_eq!(rt;
-        answers.as_slice(),
+        answers(&rt, &trace).as_slice(),
         [
             (0, 0, Answer::Arrived(Fed::Stored)),
             (64, 0, Answer::Arrived(Fed::Stored)),
@@ -227,29 +258,33 @@ const ELEVEN: [Step; 11] = [
     Step::Read(0),
 ];
 
+/// A listener with room for two packets answers the eleven steps so: its counts, the places of its two batches, and what
+/// became of the packets. Two are held.
+fn answers_eleven(
+    rt: &(impl Abort + AllocGlobal),
+    mode: Mode,
+    want: (u64, u64, u64),
+    batches: [&[u64]; 2],
+    became: &[Fed],
+) {
+    let trace = replayed_at_32(rt, 7, 128, mode, &ELEVEN);
+    let report = at(rt, trace.reports.as_slice(), 0);
+    assert_eq!(rt; counts(report), want);
+    assert_eq!(rt; report.batches.len(), 2);
+    has_batch(rt, report, 0, batches[0]);
+    has_batch(rt, report, 1, batches[1]);
+    holds(rt, report, &[4, 5]);
+    assert_eq!(rt; fates(rt, &trace, 0).as_slice(), became);
+}
+
 #[test]
 fn an_immediate_listener_hands_over_at_once(rt: HostRuntime) {
-    let text = zeros(rt.alloc(), 7).expect(&rt, "memory");
-    let spec = wanted(&rt, "", 32, 128, Mode::Immediate);
-    let trace = replayed(&rt, text.as_slice(), spec, &ELEVEN).expect(&rt, "a trace");
-    let report = at(&rt, trace.reports.as_slice(), 0);
-    assert_eq!(rt; counts(report), (6, 6, 1));
-    assert_eq!(rt; report.batches.len(), 2);
-    assert_eq!(rt;
-        places(&rt, at(&rt, report.batches.as_slice(), 0).as_slice()).as_slice(),
-        [0].as_slice()
-    );
-    assert_eq!(rt;
-        places(&rt, at(&rt, report.batches.as_slice(), 1).as_slice()).as_slice(),
-        [1, 2].as_slice()
-    );
-    assert_eq!(rt;
-        places(&rt, report.held.as_slice()).as_slice(),
-        [4, 5].as_slice()
-    );
-    assert_eq!(rt;
-        fates(&rt, &trace, 0).as_slice(),
-        [
+    answers_eleven(
+        &rt,
+        Mode::Immediate,
+        (6, 6, 1),
+        [&[0], &[1, 2]],
+        &[
             Fed::Held,
             Fed::Stored,
             Fed::Stored,
@@ -257,34 +292,18 @@ fn an_immediate_listener_hands_over_at_once(rt: HostRuntime) {
             Fed::Rotated,
             Fed::Held,
             Fed::Closed,
-        ]
-        .as_slice()
+        ],
     );
 }
 
 #[test]
 fn a_buffered_listener_waits(rt: HostRuntime) {
-    let text = zeros(rt.alloc(), 7).expect(&rt, "memory");
-    let spec = wanted(&rt, "", 32, 128, Mode::Buffered);
-    let trace = replayed(&rt, text.as_slice(), spec, &ELEVEN).expect(&rt, "a trace");
-    let report = at(&rt, trace.reports.as_slice(), 0);
-    assert_eq!(rt; counts(report), (6, 6, 0));
-    assert_eq!(rt; report.batches.len(), 2);
-    assert_eq!(rt;
-        places(&rt, at(&rt, report.batches.as_slice(), 0).as_slice()).as_slice(),
-        [0, 1].as_slice()
-    );
-    assert_eq!(rt;
-        places(&rt, at(&rt, report.batches.as_slice(), 1).as_slice()).as_slice(),
-        [2, 3].as_slice()
-    );
-    assert_eq!(rt;
-        places(&rt, report.held.as_slice()).as_slice(),
-        [4, 5].as_slice()
-    );
-    assert_eq!(rt;
-        fates(&rt, &trace, 0).as_slice(),
-        [
+    answers_eleven(
+        &rt,
+        Mode::Buffered,
+        (6, 6, 0),
+        [&[0, 1], &[2, 3]],
+        &[
             Fed::Stored,
             Fed::Stored,
             Fed::Rotated,
@@ -292,38 +311,40 @@ fn a_buffered_listener_waits(rt: HostRuntime) {
             Fed::Rotated,
             Fed::Stored,
             Fed::Closed,
-        ]
-        .as_slice()
+        ],
     );
+}
+
+/// A replay of one TCP frame to a listener of an expression that keeps ten bytes, and a read of it.
+fn read_of_tcp(rt: &(impl Abort + AllocGlobal), expression: &str) -> Trace {
+    let text = one_tcp(rt.alloc()).expect(rt, "memory");
+    let spec = wanted(rt, expression, 10, 48, Mode::Buffered);
+    let steps = [Step::Arrive, Step::Flush(0), Step::Read(0)];
+    replayed(rt, text.as_slice(), spec, &steps).expect(rt, "a trace")
 }
 
 #[test]
 fn an_expression_keeps_what_it_accepts_cut(rt: HostRuntime) {
-    let text = one_tcp(rt.alloc()).expect(&rt, "memory");
-    let spec = wanted(&rt, "tcp", 10, 48, Mode::Buffered);
-    let steps = [Step::Arrive, Step::Flush(0), Step::Read(0)];
-    let trace = replayed(&rt, text.as_slice(), spec, &steps).expect(&rt, "a trace");
+    let trace = read_of_tcp(&rt, "tcp");
     let report = at(&rt, trace.reports.as_slice(), 0);
     assert_eq!(rt; counts(report), (1, 1, 0));
     assert_eq!(rt; report.batches.len(), 1);
     let message = at(&rt, at(&rt, report.batches.as_slice(), 0).as_slice(), 0);
     assert_eq!(rt; message.bytes.as_slice(), &UDP[..10]);
     assert_eq!(rt; (message.sec, message.nanos, message.len), (1, 0, 38));
-    let spec = wanted(&rt, "udp", 10, 48, Mode::Buffered);
-    let trace = replayed(&rt, text.as_slice(), spec, &steps).expect(&rt, "a trace");
+    let trace = read_of_tcp(&rt, "udp");
     assert_eq!(rt; counts(at(&rt, trace.reports.as_slice(), 0)), (1, 0, 0));
     assert_eq!(rt; fates(&rt, &trace, 0).as_slice(), [Fed::Passed].as_slice());
 }
 
 #[test]
 fn past_the_last_packet_nothing_arrives(rt: HostRuntime) {
-    let text = zeros(rt.alloc(), 0).expect(&rt, "memory");
-    let spec = wanted(&rt, "", 32, 64, Mode::Buffered);
     let steps = [Step::Arrive, Step::Flush(0), Step::Arrive, Step::Read(0)];
-    let trace = replayed(&rt, text.as_slice(), spec, &steps).expect(&rt, "a trace");
-    assert_eq!(rt; counts(at(&rt, trace.reports.as_slice(), 0)), (0, 0, 0));
-    assert!(rt; at(&rt, trace.reports.as_slice(), 0).batches.is_empty());
-    assert!(rt; at(&rt, trace.reports.as_slice(), 0).held.is_empty());
+    let trace = replayed_at_32(&rt, 0, 64, Mode::Buffered, &steps);
+    let report = at(&rt, trace.reports.as_slice(), 0);
+    assert_eq!(rt; counts(report), (0, 0, 0));
+    assert!(rt; report.batches.is_empty());
+    assert!(rt; report.held.is_empty());
     assert_eq!(rt; at(&rt, trace.answers.as_slice(), 0).len(), 2);
     assert!(rt; trace.playlist.is_empty());
 }
@@ -337,119 +358,140 @@ fn fault_of(rt: &(impl Abort + AllocGlobal), spec: Spec, steps: &[Step]) -> Faul
     }
 }
 
+/// A replay of one TCP frame to one listener is refused so.
+fn refuses(rt: &(impl Abort + AllocGlobal), spec: Spec, steps: &[Step], want: Fault) {
+    assert_eq!(rt; fault_of(rt, spec, steps), want);
+}
+
 #[test]
 fn each_fault_comes_where_it_stands(rt: HostRuntime) {
     let buffered = Mode::Buffered;
-    assert_eq!(rt;
-        fault_of(&rt, wanted(&rt, "tcp", 10, 47, buffered), &[Step::Arrive]),
-        Fault::Open(0, OpenFault::BadCapacity)
+    let bad = Fault::Open(0, OpenFault::BadCapacity);
+    refuses(
+        &rt,
+        wanted(&rt, "tcp", 10, 47, buffered),
+        &[Step::Arrive],
+        bad,
     );
-    assert_eq!(rt;
-        fault_of(&rt, wanted(&rt, "tcp", 10, 1_048_577, buffered), &[]),
-        Fault::Open(0, OpenFault::BadCapacity)
-    );
-    assert_eq!(rt;
-        fault_of(&rt, wanted(&rt, "tcp and 80", 0, 0, buffered), &[]),
-        Fault::Expression(0, filterlang::Fault::NoQualifier(8))
-    );
-    assert_eq!(rt;
-        fault_of(&rt, wanted(&rt, "tcp", 0, 0, buffered), &[]),
-        Fault::Compile(0, Refusal::BadSnap)
-    );
-    assert_eq!(rt;
-        fault_of(&rt, wanted(&rt, DEEP, 10, 0, buffered), &[]),
-        Fault::Compile(0, Refusal::TooDeep)
-    );
-    assert_eq!(rt;
-        fault_of(
-            &rt,
-            wanted(&rt, "tcp and 80", 0, 0, buffered),
-            &[Step::Arrive, Step::Read(1)]
-        ),
-        Fault::NoListener(1)
-    );
+    let bad = Fault::Open(0, OpenFault::BadCapacity);
+    refuses(&rt, wanted(&rt, "tcp", 10, 1_048_577, buffered), &[], bad);
+    let unread = Fault::Expression(0, filterlang::Fault::NoQualifier(8));
+    refuses(&rt, wanted(&rt, "tcp and 80", 0, 0, buffered), &[], unread);
+    let bad = Fault::Compile(0, Refusal::BadSnap);
+    refuses(&rt, wanted(&rt, "tcp", 0, 0, buffered), &[], bad);
+    let deep = Fault::Compile(0, Refusal::TooDeep);
+    refuses(&rt, wanted(&rt, DEEP, 10, 0, buffered), &[], deep);
+    let steps = [Step::Arrive, Step::Read(1)];
+    let unread = wanted(&rt, "tcp and 80", 0, 0, buffered);
+    refuses(&rt, unread, &steps, Fault::NoListener(1));
     let spec = Spec {
-        filter: Filter::Program(read_listing(b"1\n6 0 0 32\n").expect(&rt, "a program")),
+        filter: keeping_32(&rt),
         snap: 262_145,
         capacity: 0,
         mode: buffered,
     };
-    assert_eq!(rt;
-        fault_of(&rt, spec, &[]),
-        Fault::Open(0, OpenFault::BadSnap)
-    );
+    refuses(&rt, spec, &[], Fault::Open(0, OpenFault::BadSnap));
+}
+
+/// A capture of one TCP frame that breaks off in the header of the next record.
+fn torn_tcp(alloc: Global) -> Result<Vec<u8>, AllocError> {
+    let mut torn = one_tcp(alloc)?;
+    torn.extend_from_slice(&[0; 7])?;
+    Ok(torn)
+}
+
+/// Two packets were kept, each the first of its capture, of the first capture and of the second.
+fn holds_one_of_each(rt: &(impl Abort + AllocGlobal), report: &Report) {
+    assert_eq!(rt; counts(report), (2, 2, 0));
+    for capture in 0..2 {
+        let message = at(rt, report.held.as_slice(), capture as usize);
+        assert_eq!(rt; (message.capture, message.place), (capture, 0));
+    }
 }
 
 #[test]
 fn a_torn_capture_ends_the_playlist(rt: HostRuntime) {
     let whole = one_tcp(rt.alloc()).expect(&rt, "memory");
-    let mut torn = one_tcp(rt.alloc()).expect(&rt, "memory");
-    torn.extend_from_slice(&[0; 7]).expect(&rt, "memory");
-    let steps = [Step::Arrive; 4];
-    let specs = [wanted(&rt, "", 64, 1_000, Mode::Buffered)];
+    let torn = torn_tcp(rt.alloc()).expect(&rt, "memory");
     let (whole, torn) = (whole.as_slice(), torn.as_slice());
-    let (reports, fault) = replay(rt.alloc(), &[whole, torn, whole, torn], &specs, &steps).expect(
-        &rt, "a report",
-    );
+    let specs = [wanted(&rt, "", 64, 1_000, Mode::Buffered)];
+    let (reports, fault) = replay(
+        rt.alloc(),
+        &[whole, torn, whole, torn],
+        &specs,
+        &[Step::Arrive; 4],
+    )
+    .expect(&rt, "a report");
     assert_eq!(rt; fault, Some((1, savefile::Fault::TornRecord(1))));
-    let report = at(&rt, reports.as_slice(), 0);
-    assert_eq!(rt; counts(report), (2, 2, 0));
-    let (first, second) = (
-        at(&rt, report.held.as_slice(), 0),
-        at(&rt, report.held.as_slice(), 1),
-    );
-    assert_eq!(rt; (first.capture, first.place), (0, 0));
-    assert_eq!(rt; (second.capture, second.place), (1, 0));
-    // A header behind the tear counts, and a listener that is refused comes after it.
+    holds_one_of_each(&rt, at(&rt, reports.as_slice(), 0));
+}
+
+/// A header behind a tear counts, and a listener that is refused comes after it.
+#[test]
+fn a_header_behind_a_tear_counts(rt: HostRuntime) {
+    let whole = one_tcp(rt.alloc()).expect(&rt, "memory");
+    let torn = torn_tcp(rt.alloc()).expect(&rt, "memory");
+    let captures = [whole.as_slice(), torn.as_slice(), &HEADER[..23]];
     let refused = [wanted(&rt, "tcp and 80", 64, 1_000, Mode::Buffered)];
-    match replay(rt.alloc(), &[whole, torn, &HEADER[..23]], &refused, &steps) {
-        Ok(_) => assert!(rt; false, "a header is refused"),
-        Err(fault) => {
-            assert_eq!(rt; fault, Fault::Capture(2, savefile::Fault::ShortHeader));
-        }
+    let answer = replay(rt.alloc(), &captures, &refused, &[Step::Arrive; 4]);
+    is_refused(&rt, answer, Fault::Capture(2, savefile::Fault::ShortHeader));
+}
+
+/// What a replay answers.
+type Answered = Result<(Vec<Report>, Option<(u32, savefile::Fault)>), Fault>;
+
+/// A replay was refused so.
+fn is_refused(rt: &impl Abort, answer: Answered, want: Fault) {
+    match answer {
+        Ok(_) => assert!(rt; false, "it was not refused"),
+        Err(fault) => assert_eq!(rt; fault, want),
     }
 }
 
+/// The answer to a replay of so many captures, all of them this text, to so many listeners.
+fn replay_many(
+    rt: &(impl Abort + AllocGlobal),
+    listeners: u32,
+    captures: usize,
+    text: &[u8],
+    step: Step,
+) -> Answered {
+    let mut specs = Vec::new(rt.alloc());
+    for _ in 0..listeners {
+        specs
+            .push(wanted(rt, "", 32, 64, Mode::Buffered))
+            .expect(rt, "memory");
+    }
+    let texts = vec![in rt.alloc(); text; captures].expect(rt, "memory");
+    replay(rt.alloc(), texts.as_slice(), specs.as_slice(), &[step])
+}
+
+/// So many listeners and captures are taken: what is refused is what is looked at next, a step that names no listener,
+/// and then the first header.
+fn are_taken(rt: &(impl Abort + AllocGlobal), listeners: u32, captures: usize) {
+    let answer = replay_many(rt, listeners, captures, &HEADER, Step::Read(listeners));
+    is_refused(rt, answer, Fault::NoListener(0));
+    let answer = replay_many(rt, listeners, captures, &HEADER[..23], Step::Arrive);
+    is_refused(rt, answer, Fault::Capture(0, savefile::Fault::ShortHeader));
+}
+
+/// So many listeners and captures are too many, whatever else is wrong.
+fn are_too_many(rt: &(impl Abort + AllocGlobal), listeners: u32, captures: usize) {
+    let answer = replay_many(rt, listeners, captures, &HEADER, Step::Read(listeners));
+    is_refused(rt, answer, Fault::TooMany);
+    let answer = replay_many(rt, listeners, captures, &HEADER, Step::Arrive);
+    is_refused(rt, answer, Fault::TooMany);
+}
+
+// Each header that is read clears half a mebibyte, so 65,536 captures are not read to their end here.
 #[test]
 fn as_many_as_may_be(rt: HostRuntime) {
-    let alloc = rt.alloc();
-    let header: &[u8] = &HEADER;
-    for (listeners, captures, taken) in [
-        (64, 1, true),
-        (65, 1, false),
-        (1, 65_536, true),
-        (1, 65_537, false),
-    ] {
-        let mut specs = Vec::new(alloc);
-        for _ in 0..listeners {
-            specs
-                .push(wanted(&rt, "", 32, 64, Mode::Buffered))
-                .expect(&rt, "memory");
-        }
-        let mut texts = Vec::new(alloc);
-        for _ in 0..captures {
-            texts.push(header).expect(&rt, "memory");
-        }
-        let steps = [Step::Read(listeners)];
-        match replay(alloc, texts.as_slice(), specs.as_slice(), &steps) {
-            Ok(_) => assert!(rt; false, "a step names no listener"),
-            Err(fault) => {
-                let wanted = if taken {
-                    Fault::NoListener(0)
-                } else {
-                    Fault::TooMany
-                };
-                assert_eq!(rt; fault, wanted);
-            }
-        }
-        let one = replay(
-            alloc,
-            texts.as_slice(),
-            specs.as_slice(),
-            [Step::Arrive].as_slice(),
-        );
-        assert_eq!(rt; one.is_ok(), taken);
-    }
+    are_taken(&rt, 64, 1);
+    are_too_many(&rt, 65, 1);
+    are_taken(&rt, 1, 65_536);
+    are_too_many(&rt, 1, 65_537);
+    assert!(rt; replay_many(&rt, 64, 1, &HEADER, Step::Arrive).is_ok());
+    assert!(rt; replay_many(&rt, 1, 1_000, &HEADER, Step::Arrive).is_ok());
 }
 
 #[test]

@@ -1,7 +1,7 @@
 //! Replays that look random, beside a slow program of the definitions: what each listener keeps, looking back.
 
 use super::{HEADER, UDP, at, put_record, tcp, wanted};
-use crate::{Report, Step, replay};
+use crate::{Report, Spec, Step, replay};
 use listener::Mode;
 use std::alloc::{AllocError, Global};
 use std::process::Abort;
@@ -48,12 +48,16 @@ enum Own {
 #[derive(Clone, Copy)]
 struct Asked {
     filter: &'static str,
-    snap: usize,
+    snap: u32,
     capacity: usize,
     mode: Mode,
 }
 
 impl Asked {
+    fn spec(&self, rt: &(impl Abort + AllocGlobal)) -> Spec {
+        wanted(rt, self.filter, self.snap, self.capacity, self.mode)
+    }
+
     fn accepts(&self, packet: Known) -> bool {
         match self.filter {
             "tcp" => packet.is_tcp,
@@ -66,7 +70,11 @@ impl Asked {
         if !self.accepts(packet) {
             return None;
         }
-        Some((packet.capture, packet.place, packet.captured.min(self.snap)))
+        Some((
+            packet.capture,
+            packet.place,
+            packet.captured.min(self.snap as usize),
+        ))
     }
 }
 
@@ -236,11 +244,11 @@ fn some_listener(dice: &mut Dice) -> Asked {
         2 => "udp",
         _ => "not tcp",
     };
-    let snap = (dice.roll(50) as usize).saturating_add(1);
+    let snap = u32::try_from(dice.roll(50)).unwrap_or(0).saturating_add(1);
     Asked {
         filter,
         snap,
-        capacity: size(snap).saturating_add(dice.roll(150) as usize),
+        capacity: size(snap as usize).saturating_add(dice.roll(150) as usize),
         mode: if dice.roll(2) == 0 {
             Mode::Buffered
         } else {
@@ -249,50 +257,82 @@ fn some_listener(dice: &mut Dice) -> Asked {
     }
 }
 
-/// One replay of two captures to two listeners. The first capture may be torn: then the second gives nothing.
-fn play(rt: &(impl Abort + AllocGlobal), dice: &mut Dice) -> Result<(), Fail> {
-    let alloc = rt.alloc();
-    let mut playlist = Vec::new(alloc);
-    let mut first = Vec::from_slice(alloc, &HEADER)?;
-    put_packets(dice, 0, &mut first, &mut playlist)?;
-    let mut second = Vec::from_slice(alloc, &HEADER)?;
-    let torn = dice.roll(4) == 0;
-    if torn {
-        first.extend_from_slice(&[0; 7])?;
-        put_packets(dice, 1, &mut second, &mut Vec::new(alloc))?;
-    } else {
-        put_packets(dice, 1, &mut second, &mut playlist)?;
+/// Two captures, and the packets of their playlist. The first capture may be torn: then the second gives nothing.
+#[derive(Drop)]
+struct Captures {
+    first: Vec<u8>,
+    second: Vec<u8>,
+    is_torn: bool,
+    playlist: Vec<Known>,
+}
+
+impl Captures {
+    fn without_packets(alloc: Global) -> Result<Captures, AllocError> {
+        Ok(Captures {
+            first: Vec::from_slice(alloc, &HEADER)?,
+            second: Vec::from_slice(alloc, &HEADER)?,
+            is_torn: false,
+            playlist: Vec::new(alloc),
+        })
     }
-    let asked = [some_listener(dice), some_listener(dice)];
-    let mut specs = Vec::new(alloc);
-    for one in asked {
-        specs.push(wanted(
-            rt,
-            one.filter,
-            u32::try_from(one.snap)?,
-            one.capacity,
-            one.mode,
-        ))?;
+
+    fn put_packets(&mut self, alloc: Global, dice: &mut Dice) -> Result<(), AllocError> {
+        put_packets(dice, 0, &mut self.first, &mut self.playlist)?;
+        self.is_torn = dice.roll(4) == 0;
+        if !self.is_torn {
+            return put_packets(dice, 1, &mut self.second, &mut self.playlist);
+        }
+        self.first.extend_from_slice(&[0; 7])?;
+        put_packets(dice, 1, &mut self.second, &mut Vec::new(alloc))
     }
-    let steps = some_steps(alloc, dice)?;
-    let captures = [first.as_slice(), second.as_slice()];
-    let (reports, fault) = replay(alloc, &captures, specs.as_slice(), steps.as_slice())?;
-    assert_eq!(rt; fault.is_some(), torn);
+}
+
+/// A report tells what was kept of a listener's steps, looking back, and its counts.
+fn tells(
+    rt: &(impl Abort + AllocGlobal),
+    report: &Report,
+    asked: Asked,
+    own: Vec<Own>,
+) -> Result<(), AllocError> {
+    let (kept, counts) = looked_back(rt.alloc(), own.as_slice(), asked)?;
+    assert_eq!(rt; told(rt.alloc(), report)?.as_slice(), kept.as_slice());
+    assert_eq!(rt; (report.received, report.matched, report.dropped), counts);
+    Ok(())
+}
+
+/// One replay of captures to two listeners.
+fn play(
+    rt: &(impl Abort + AllocGlobal),
+    captures: &Captures,
+    asked: [Asked; 2],
+    steps: &[Step],
+) -> Result<(), Fail> {
+    let texts = [captures.first.as_slice(), captures.second.as_slice()];
+    let specs = asked.map(|one| one.spec(rt));
+    let (reports, fault) = replay(rt.alloc(), &texts, &specs, steps)?;
+    assert_eq!(rt; fault.is_some(), captures.is_torn);
     for (l, one) in asked.iter().enumerate() {
-        let own = own_steps(alloc, l as u32, *one, steps.as_slice(), playlist.as_slice())?;
-        let (kept, counts) = looked_back(alloc, own.as_slice(), *one)?;
-        let report = at(rt, reports.as_slice(), l);
-        assert_eq!(rt; told(alloc, report)?.as_slice(), kept.as_slice());
-        assert_eq!(rt; (report.received, report.matched, report.dropped), counts);
+        let playlist = captures.playlist.as_slice();
+        let own = own_steps(rt.alloc(), l as u32, *one, steps, playlist)?;
+        tells(rt, at(rt, reports.as_slice(), l), *one, own)?;
     }
     Ok(())
+}
+
+/// One random replay.
+fn play_some(rt: &(impl Abort + AllocGlobal), dice: &mut Dice) -> Result<(), Fail> {
+    let mut captures = Captures::without_packets(rt.alloc())?;
+    captures.put_packets(rt.alloc(), dice)?;
+    let asked = [some_listener(dice), some_listener(dice)];
+    let steps = some_steps(rt.alloc(), dice)?;
+    play(rt, &captures, asked, steps.as_slice())
 }
 
 #[test]
 fn replays_keep_what_looking_back_keeps(rt: HostRuntime) -> Result<(), Fail> {
     let mut dice = Dice { state: 1 };
     for _ in 0..3_000 {
-        play(&rt, &mut dice)?;
+        play_some(&rt, &mut dice)?;
     }
     Ok(())
 }
