@@ -59,21 +59,43 @@ fn told_lent<R: Source>(alloc: Global, reader: &mut Reader<R>) -> Result<String,
     }
 }
 
+/// A reader over a source that gives at most so many bytes a call, and does not fail.
+fn over(alloc: Global, text: &[u8], at_once: usize) -> Result<Reader<Counted<Drip>>, Fault> {
+    opened(alloc, source_of(alloc, text, at_once, 0)?)
+}
+
+/// The next packet of both readers is told so, owned from the one and lent by the other.
+fn both_tell(
+    rt: &(impl Abort + AllocGlobal),
+    owning: &mut Reader<Counted<Drip>>,
+    lending: &mut Reader<Counted<Drip>>,
+    want: &str,
+) -> Result<(), AllocError> {
+    let got = told_next(rt.alloc(), owning)?;
+    assert_eq!(rt; got.as_str(), want);
+    let got = told_lent(rt.alloc(), lending)?;
+    assert_eq!(rt; got.as_str(), want);
+    Ok(())
+}
+
+/// A text of a record and a torn one, in pieces of at most so many bytes, gives the one and tells of the other once.
+fn is_told_once(rt: &(impl Abort + AllocGlobal), text: &[u8], at_once: usize) -> Result<(), Fail> {
+    let mut owning = over(rt.alloc(), text, at_once)?;
+    let mut lending = over(rt.alloc(), text, at_once)?;
+    assert_eq!(rt; owning.header().snap, 262_144);
+    for want in ["1.000005000 60 [7, 8]", "TornRecord 1", "Failed", "Failed"] {
+        both_tell(rt, &mut owning, &mut lending, want)?;
+    }
+    assert_eq!(rt; owning.close().failures, 0);
+    Ok(())
+}
+
 #[test]
 fn a_torn_record_header_in_pieces_is_told_once(rt: HostRuntime) -> Result<(), Fail> {
     let whole = [1, 0, 0, 0, 5, 0, 0, 0, 2, 0, 0, 0, 60, 0, 0, 0, 7, 8];
     let text = joined(rt.alloc(), &[&HEADER_LITTLE_MICRO, &whole, &whole[..7]])?;
     for at_once in [1, 5, 7, usize::MAX] {
-        let mut owning = opened(rt.alloc(), source_of(rt.alloc(), &text, at_once, 0)?)?;
-        let mut lending = opened(rt.alloc(), source_of(rt.alloc(), &text, at_once, 0)?)?;
-        assert_eq!(rt; owning.header().snap, 262_144);
-        for want in ["1.000005000 60 [7, 8]", "TornRecord 1", "Failed", "Failed"] {
-            let got = told_next(rt.alloc(), &mut owning)?;
-            assert_eq!(rt; got.as_str(), want);
-            let got = told_lent(rt.alloc(), &mut lending)?;
-            assert_eq!(rt; got.as_str(), want);
-        }
-        assert_eq!(rt; owning.close().failures, 0);
+        is_told_once(&rt, &text, at_once)?;
     }
     Ok(())
 }
@@ -100,6 +122,17 @@ fn fate<R: Source + Drop>(alloc: Global, source: R) -> Result<String, AllocError
     format!(in alloc; "too many")
 }
 
+/// A source has this fate.
+fn has_fate<R: Source + Drop>(
+    rt: &(impl Abort + AllocGlobal),
+    source: R,
+    want: &str,
+) -> Result<(), AllocError> {
+    let got = fate(rt.alloc(), source)?;
+    assert_eq!(rt; got.as_str(), want);
+    Ok(())
+}
+
 #[test]
 fn a_text_cut_short_anywhere_is_torn(rt: HostRuntime) -> Result<(), Fail> {
     let text = one_packet(rt.alloc())?;
@@ -112,10 +145,8 @@ fn a_text_cut_short_anywhere_is_torn(rt: HostRuntime) -> Result<(), Fail> {
             _ => "1 end end",
         };
         let part = text.as_slice().get(..n).unwrap_or(&[]);
-        let got = fate(rt.alloc(), part)?;
-        assert_eq!(rt; got.as_str(), want);
-        let got = fate(rt.alloc(), source_of(rt.alloc(), part, 1, 0)?)?;
-        assert_eq!(rt; got.as_str(), want);
+        has_fate(&rt, part, want)?;
+        has_fate(&rt, source_of(rt.alloc(), part, 1, 0)?, want)?;
     }
     Ok(())
 }
@@ -129,20 +160,14 @@ fn a_source_that_fails_anywhere_is_told(rt: HostRuntime) -> Result<(), Fail> {
             25..79 => "0 Device Failed",
             _ => "1 Device Failed",
         };
-        let got = fate(rt.alloc(), source_of(rt.alloc(), &text, 1, k)?)?;
-        assert_eq!(rt; got.as_str(), want);
+        has_fate(&rt, source_of(rt.alloc(), &text, 1, k)?, want)?;
     }
     Ok(())
 }
 
-#[test]
-fn whole_records_come_before_a_break(rt: HostRuntime) -> Result<(), Fail> {
-    // a header, a record and 3 bytes more in one call, and then a break
-    let text = joined(rt.alloc(), &[&one_packet(rt.alloc())?, &[1, 0, 0]])?;
-    let got = fate(rt.alloc(), source_of(rt.alloc(), &text, 81, 2)?)?;
-    assert_eq!(rt; got.as_str(), "1 Device Failed");
-    // the source comes back with what is left of it
-    match Reader::open(rt.alloc(), source_of(rt.alloc(), &text, 10, 2)?) {
+/// A source that fails in the header comes back with what is left of it.
+fn comes_back(rt: &(impl Abort + AllocGlobal), source: Counted<Drip>) {
+    match Reader::open(rt.alloc(), source) {
         Ok(_reader) => assert!(rt; false),
         Err((source, fault)) => {
             assert_eq!(rt; fault, Fault::Device);
@@ -150,6 +175,14 @@ fn whole_records_come_before_a_break(rt: HostRuntime) -> Result<(), Fail> {
             assert_eq!(rt; source.inner.place, 10);
         }
     }
+}
+
+#[test]
+fn whole_records_come_before_a_break(rt: HostRuntime) -> Result<(), Fail> {
+    // a header, a record and 3 bytes more in one call, and then a break
+    let text = joined(rt.alloc(), &[&one_packet(rt.alloc())?, &[1, 0, 0]])?;
+    has_fate(&rt, source_of(rt.alloc(), &text, 81, 2)?, "1 Device Failed")?;
+    comes_back(&rt, source_of(rt.alloc(), &text, 10, 2)?);
     Ok(())
 }
 
@@ -167,50 +200,86 @@ fn longest(alloc: Global) -> Result<Vec<u8>, AllocError> {
     Ok(text)
 }
 
+/// How many bytes a source gives at once: few, about a record's header, and about the longest record and the reader's memory.
+const PIECES: [usize; 17] = [
+    1,
+    16,
+    24,
+    39,
+    40,
+    41,
+    4_095,
+    65_537,
+    262_143,
+    262_144,
+    262_159,
+    262_160,
+    262_161,
+    524_287,
+    524_288,
+    524_289,
+    usize::MAX,
+];
+
+/// The next packet has these fields, and so many sevens.
+fn next_has(
+    rt: &impl Abort,
+    reader: &mut Reader<Counted<Drip>>,
+    sec: u32,
+    len: u32,
+    captured: usize,
+) {
+    match reader.advance() {
+        Ok(true) => {
+            let packet = reader.packet();
+            assert_eq!(rt; (packet.sec, packet.len), (sec, len));
+            assert_eq!(rt; packet.bytes.len(), captured);
+            assert!(rt; packet.bytes.iter().all(|byte| *byte == 7));
+        }
+        _ => assert!(rt; false),
+    }
+}
+
+/// A text of the longest records, twice, comes whole in pieces of at most so many bytes.
+fn comes_whole(rt: &(impl Abort + AllocGlobal), text: &[u8], at_once: usize) -> Result<(), Fault> {
+    let mut reader = over(rt.alloc(), text, at_once)?;
+    for _ in 0..2 {
+        next_has(rt, &mut reader, 0, 0, 0);
+        next_has(rt, &mut reader, 2, 5, 262_144);
+    }
+    assert_eq!(rt; reader.advance(), Ok(false));
+    assert_eq!(rt; reader.advance(), Ok(false));
+    Ok(())
+}
+
 #[test]
 fn the_longest_record_comes_whole_in_all_pieces(rt: HostRuntime) -> Result<(), Fail> {
     let mut text = longest(rt.alloc())?;
     // twice, so that the second stands behind what was read ahead
     let again = longest(rt.alloc())?;
     text.extend_from_slice(again.as_slice().get(24..).unwrap_or(&[]))?;
-    for at_once in [
-        1,
-        16,
-        24,
-        39,
-        40,
-        41,
-        4_095,
-        65_537,
-        262_143,
-        262_144,
-        262_159,
-        262_160,
-        262_161,
-        524_287,
-        524_288,
-        524_289,
-        usize::MAX,
-    ] {
-        let mut reader = opened(rt.alloc(), source_of(rt.alloc(), &text, at_once, 0)?)?;
-        for (sec, len, captured) in [(0, 0, 0), (2, 5, 262_144), (0, 0, 0), (2, 5, 262_144)] {
-            match reader.advance() {
-                Ok(true) => {
-                    let packet = reader.packet();
-                    assert_eq!(rt; (packet.sec, packet.len), (sec, len));
-                    assert_eq!(rt; packet.bytes.len(), captured);
-                    assert!(rt; packet.bytes.iter().all(|byte| *byte == 7));
-                }
-                _ => assert!(rt; false),
-            }
-        }
-        assert_eq!(rt; reader.advance(), Ok(false));
-        assert_eq!(rt; reader.advance(), Ok(false));
+    for at_once in PIECES {
+        comes_whole(&rt, &text, at_once)?;
     }
     Ok(())
 }
 
 fn is_sent<T: Send + Drop>(_value: &T) {}
+
+/// A reader of one packet gives it, or breaks for want of memory and stays broken.
+fn gives_or_breaks(rt: &(impl Abort + AllocGlobal), mut reader: Reader<&[u8]>) {
+    match reader.next(rt.alloc()) {
+        Ok(Some(packet)) => {
+            assert!(rt; packet.bytes.as_slice() == TCP_FRAME.as_slice());
+            assert!(rt; reader.next(rt.alloc()).is_ok());
+        }
+        Ok(None) => assert!(rt; false),
+        Err(fault) => {
+            assert_eq!(rt; fault, Fault::NoMemory);
+            assert_eq!(rt; reader.advance(), Err(Fault::Failed));
+        }
+    }
+}
 
 /// This one passes too where any one request for memory is refused.
 #[test]
@@ -220,19 +289,9 @@ fn want_of_memory_breaks_a_reader(rt: HostRuntime) {
         Err(_) => return,
     };
     match Reader::open(rt.alloc(), text.as_slice()) {
-        Ok(mut reader) => {
+        Ok(reader) => {
             is_sent(&reader);
-            match reader.next(rt.alloc()) {
-                Ok(Some(packet)) => {
-                    assert!(rt; packet.bytes.as_slice() == TCP_FRAME.as_slice());
-                    assert!(rt; reader.next(rt.alloc()).is_ok());
-                }
-                Ok(None) => assert!(rt; false),
-                Err(fault) => {
-                    assert_eq!(rt; fault, Fault::NoMemory);
-                    assert_eq!(rt; reader.advance(), Err(Fault::Failed));
-                }
-            }
+            gives_or_breaks(&rt, reader);
         }
         Err((source, fault)) => {
             assert_eq!(rt; fault, Fault::NoMemory);

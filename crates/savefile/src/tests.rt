@@ -27,6 +27,16 @@ pub(crate) fn joined(alloc: Global, parts: &[&[u8]]) -> Result<Vec<u8>, AllocErr
     Ok(text)
 }
 
+/// Adds a packet's parts.
+fn push_packet(alloc: Global, out: &mut String, packet: &Packet) -> Result<(), AllocError> {
+    let bytes = packet.bytes.as_slice();
+    let line = format!(in alloc;
+        "; {}.{:09} {} {:?}",
+        packet.sec, packet.nanos, packet.len, bytes
+    )?;
+    out.push_str(line.as_str())
+}
+
 /// What a text is read as: a fault, or the header, the packets and the fault that ended them.
 fn told(alloc: Global, text: &[u8]) -> Result<String, AllocError> {
     let (header, packets, fault) = match read_all(alloc, text) {
@@ -35,12 +45,7 @@ fn told(alloc: Global, text: &[u8]) -> Result<String, AllocError> {
     };
     let mut out = format!(in alloc; "{:?} {:?} {}", header.order, header.unit, header.snap)?;
     for packet in &packets {
-        let bytes = packet.bytes.as_slice();
-        let line = format!(in alloc;
-            "; {}.{:09} {} {:?}",
-            packet.sec, packet.nanos, packet.len, bytes
-        )?;
-        out.push_str(line.as_str())?;
+        push_packet(alloc, &mut out, packet)?;
     }
     if let Some(fault) = fault {
         let line = format!(in alloc; "; {fault}")?;
@@ -49,67 +54,67 @@ fn told(alloc: Global, text: &[u8]) -> Result<String, AllocError> {
     Ok(out)
 }
 
-fn reads(rt: &(impl Abort + AllocGlobal), parts: &[&[u8]], want: &str) -> Result<(), Fail> {
-    let text = joined(rt.alloc(), parts)?;
-    let got = told(rt.alloc(), &text)?;
+/// The parts, one behind the other, are read as this.
+fn reads(rt: &(impl Abort + AllocGlobal), parts: &[&[u8]], want: &str) {
+    let text = joined(rt.alloc(), parts).expect(rt, "memory");
+    let got = told(rt.alloc(), &text).expect(rt, "memory");
     assert_eq!(rt; got.as_str(), want);
-    Ok(())
 }
 
 #[test]
-fn header_checks_come_in_order(rt: HostRuntime) -> Result<(), Fail> {
+fn header_checks_come_in_order(rt: HostRuntime) {
     let h = &HEADER_LITTLE_MICRO;
-    reads(&rt, &[], "ShortHeader")?;
-    reads(&rt, &[&h[..23]], "ShortHeader")?;
-    reads(&rt, &[b"no savefile"], "ShortHeader")?;
-    reads(&rt, &[h], "Little Micro 262144")?;
+    reads(&rt, &[], "ShortHeader");
+    reads(&rt, &[&h[..23]], "ShortHeader");
+    reads(&rt, &[b"no savefile"], "ShortHeader");
+    reads(&rt, &[h], "Little Micro 262144");
     // another magic number, which libpcap knows, with a version that is wrong too
     reads(
         &rt,
         &[&[0x34, 0xcd, 0xb2, 0xa1, 9, 0], &h[6..]],
         "NotSavefile",
-    )?;
+    );
     // each half of the version, and the halves exchanged
-    reads(&rt, &[&h[..4], &[3, 0, 4, 0], &h[8..]], "Version")?;
-    reads(&rt, &[&h[..4], &[2, 0, 3, 0], &h[8..]], "Version")?;
+    reads(&rt, &[&h[..4], &[3, 0, 4, 0], &h[8..]], "Version");
+    reads(&rt, &[&h[..4], &[2, 0, 3, 0], &h[8..]], "Version");
     reads(
         &rt,
         &[&h[..4], &[4, 0, 2, 0], &h[8..20], &[9, 0, 0, 0]],
         "Version",
-    )?;
+    );
     // another link type, and Ethernet with a check sequence of four bytes
-    reads(&rt, &[&h[..20], &[113, 0, 0, 0]], "LinkType")?;
-    reads(&rt, &[&h[..20], &[1, 0, 0, 0x24]], "LinkType")?;
+    reads(&rt, &[&h[..20], &[113, 0, 0, 0]], "LinkType");
+    reads(&rt, &[&h[..20], &[1, 0, 0, 0x24]], "LinkType");
     // reserved fields of any content, and the least and the greatest snapshot length
     reads(
         &rt,
         &[&h[..8], &[1, 2, 3, 4, 5, 6, 7, 8], &[0; 4], &h[20..]],
         "Little Micro 0",
-    )?;
+    );
     reads(
         &rt,
         &[&h[..16], &[0xff; 4], &h[20..]],
         "Little Micro 4294967295",
-    )
+    );
 }
 
 #[test]
-fn a_torn_record_header_is_named(rt: HostRuntime) -> Result<(), Fail> {
+fn a_torn_record_header_is_named(rt: HostRuntime) {
     let h = &HEADER_LITTLE_MICRO;
     let whole = &[1, 0, 0, 0, 5, 0, 0, 0, 2, 0, 0, 0, 60, 0, 0, 0, 7, 8];
     let one = "Little Micro 262144; 1.000005000 60 [7, 8]";
-    reads(&rt, &[h, whole], one)?;
+    reads(&rt, &[h, whole], one);
     reads(
         &rt,
         &[h, whole, &whole[..7]],
         "Little Micro 262144; 1.000005000 60 [7, 8]; TornRecord 1",
-    )?;
+    );
     reads(
         &rt,
         &[h, whole, &whole[..17]],
         "Little Micro 262144; 1.000005000 60 [7, 8]; TornRecord 1",
-    )?;
-    reads(&rt, &[h, &whole[..17]], "Little Micro 262144; TornRecord 0")?;
+    );
+    reads(&rt, &[h, &whole[..17]], "Little Micro 262144; TornRecord 0");
     // in the other order
     let big = &[
         0xa1, 0xb2, 0xc3, 0xd4, 0, 2, 0, 4, 0, 0, 0, 0, 0, 0, 0, 0, 0, 0, 0, 9, 0, 0, 0, 1,
@@ -119,23 +124,23 @@ fn a_torn_record_header_is_named(rt: HostRuntime) -> Result<(), Fail> {
         &rt,
         &[big, record, record],
         "Big Micro 9; 1.000005000 60 [7, 8]; 1.000005000 60 [7, 8]",
-    )?;
+    );
     reads(
         &rt,
         &[big, record, &record[..17]],
         "Big Micro 9; 1.000005000 60 [7, 8]; TornRecord 1",
-    )?;
+    );
     // more captured than there was on the wire, and than the header's snapshot length
     let odd = &[0, 0, 0, 0, 0, 0, 0, 0, 2, 0, 0, 0, 1, 0, 0, 0, 7, 8];
     reads(
         &rt,
         &[&h[..16], &[1, 0, 0, 0], &h[20..], odd],
         "Little Micro 1; 0.000000000 1 [7, 8]",
-    )
+    );
 }
 
 #[test]
-fn fraction_of_a_million_is_refused(rt: HostRuntime) -> Result<(), Fail> {
+fn fraction_of_a_million_is_refused(rt: HostRuntime) {
     let h = &HEADER_LITTLE_MICRO;
     let rest = &[0, 0, 0, 0, 0, 0, 0, 0];
     // 999,999 and 1,000,000 microseconds
@@ -143,51 +148,61 @@ fn fraction_of_a_million_is_refused(rt: HostRuntime) -> Result<(), Fail> {
         &rt,
         &[h, &[9, 0, 0, 0, 0x3f, 0x42, 0x0f, 0], rest],
         "Little Micro 262144; 9.999999000 0 []",
-    )?;
+    );
     reads(
         &rt,
         &[h, &[9, 0, 0, 0, 0x40, 0x42, 0x0f, 0], rest],
         "Little Micro 262144; BadFraction 0",
-    )?;
+    );
     // with a captured length of 262,145 too
     let both = &[9, 0, 0, 0, 0x40, 0x42, 0x0f, 0, 1, 0, 4, 0, 0, 0, 0, 0];
-    reads(&rt, &[h, both], "Little Micro 262144; BadFraction 0")?;
+    reads(&rt, &[h, both], "Little Micro 262144; BadFraction 0");
     // 999,999,999 and 1,000,000,000 nanoseconds
     let nano = &[0x4d, 0x3c, 0xb2, 0xa1];
     reads(
         &rt,
         &[nano, &h[4..], &[9, 0, 0, 0, 0xff, 0xc9, 0x9a, 0x3b], rest],
         "Little Nano 262144; 9.999999999 0 []",
-    )?;
+    );
     reads(
         &rt,
         &[nano, &h[4..], &[9, 0, 0, 0, 0, 0xca, 0x9a, 0x3b], rest],
         "Little Nano 262144; BadFraction 0",
-    )
+    );
 }
 
 pub(crate) fn sevens(alloc: Global, len: usize) -> Result<Vec<u8>, AllocError> {
     vec![in alloc; 7; len]
 }
 
-#[test]
-fn captured_length_is_refused_above_262144(rt: HostRuntime) -> Result<(), Fail> {
-    let h = &HEADER_LITTLE_MICRO;
-    let mut bytes = sevens(rt.alloc(), 262_144)?;
-    let mut text = joined(rt.alloc(), &[h, &[0; 8], &[0, 0, 4, 0], &[0; 4]])?;
-    text.extend_from_slice(&bytes)?;
-    let (_, packets, fault) = read_all(rt.alloc(), &text)?;
+/// A text has one packet, of these bytes, and no fault.
+fn has_one_packet(rt: &(impl Abort + AllocGlobal), text: &[u8], bytes: &[u8]) -> Result<(), Fault> {
+    let (_, packets, fault) = read_all(rt.alloc(), text)?;
     assert_eq!(rt; fault, None);
     assert_eq!(rt; packets.len(), 1);
     for packet in packets {
         let data = packet.bytes.into_vec();
-        assert!(rt; data.as_slice() == bytes.as_slice());
+        assert!(rt; data.as_slice() == bytes);
     }
-    bytes.push(7)?;
-    let mut text = joined(rt.alloc(), &[h, &[0; 8], &[1, 0, 4, 0], &[0; 4]])?;
-    text.extend_from_slice(&bytes)?;
-    let got = told(rt.alloc(), &text)?;
-    assert_eq!(rt; got.as_str(), "Little Micro 262144; TooLong 0");
+    Ok(())
+}
+
+/// A text of one record that says in its header how many bytes it has, and has these.
+fn of_record(alloc: Global, captured: &[u8; 4], bytes: &[u8]) -> Result<Vec<u8>, AllocError> {
+    joined(
+        alloc,
+        &[&HEADER_LITTLE_MICRO, &[0; 8], captured, &[0; 4], bytes],
+    )
+}
+
+#[test]
+fn captured_length_is_refused_above_262144(rt: HostRuntime) -> Result<(), Fail> {
+    let bytes = sevens(rt.alloc(), 262_144)?;
+    let text = of_record(rt.alloc(), &[0, 0, 4, 0], bytes.as_slice())?;
+    has_one_packet(&rt, text.as_slice(), bytes.as_slice())?;
+    let longer = sevens(rt.alloc(), 262_145)?;
+    let text = of_record(rt.alloc(), &[1, 0, 4, 0], longer.as_slice())?;
+    reads(&rt, &[text.as_slice()], "Little Micro 262144; TooLong 0");
     Ok(())
 }
 
@@ -209,6 +224,20 @@ fn written(
     }
     let (sink, _) = writer.close();
     Ok(sink.into_inner())
+}
+
+/// A savefile of one packet is written as this.
+fn writes(
+    rt: &(impl Abort + AllocGlobal),
+    order: Order,
+    unit: Unit,
+    snap: u32,
+    packet: (u32, u32, u32, &[u8]),
+    want: &[u8],
+) -> Result<(), Fail> {
+    let got = written(rt, order, unit, snap, &[packet])?;
+    assert_eq!(rt; got.as_slice(), want);
+    Ok(())
 }
 
 /// Each form: the header with the greatest snapshot length, and one packet with each field at its
@@ -258,11 +287,10 @@ const GREATEST: [(Order, Unit, [u8; 41], &str); 4] = [
 
 #[test]
 fn each_form_is_read_and_written_at_its_limits(rt: HostRuntime) -> Result<(), Fail> {
-    let packets = [(u32::MAX, 999_999_999, u32::MAX, [7].as_slice())];
+    let packet = (u32::MAX, 999_999_999, u32::MAX, [7].as_slice());
     for (order, unit, text, want) in GREATEST {
-        reads(&rt, &[&text], want)?;
-        let got = written(&rt, order, unit, u32::MAX, &packets)?;
-        assert_eq!(rt; got.as_slice(), text.as_slice());
+        reads(&rt, &[&text], want);
+        writes(&rt, order, unit, u32::MAX, packet, &text)?;
     }
     Ok(())
 }
@@ -274,35 +302,30 @@ fn each_form_is_written_as_it_stands(rt: HostRuntime) -> Result<(), Fail> {
         0xa1, 0xb2, 0x3c, 0x4d, 0, 2, 0, 4, 0, 0, 0, 0, 0, 0, 0, 0, 0, 0, 0, 0x60, 0, 0, 0, 1, 0,
         0, 0, 1, 0x3b, 0x9a, 0xc9, 0xff, 0, 0, 0, 0, 0, 0, 0, 0x3c,
     ];
-    reads(&rt, &[&big], "Big Nano 96; 1.999999999 60 []")?;
-    let packets = [(1, 999_999_999, 60, [].as_slice())];
-    let text = written(&rt, Order::Big, Unit::Nano, 96, &packets)?;
-    assert_eq!(rt; text.as_slice(), big.as_slice());
+    reads(&rt, &[&big], "Big Nano 96; 1.999999999 60 []");
+    let packet = (1, 999_999_999, 60, [].as_slice());
+    writes(&rt, Order::Big, Unit::Nano, 96, packet, &big)?;
     // the same, little-endian with microseconds
     let little = [
         0xd4, 0xc3, 0xb2, 0xa1, 2, 0, 4, 0, 0, 0, 0, 0, 0, 0, 0, 0, 0x60, 0, 0, 0, 1, 0, 0, 0, 1,
         0, 0, 0, 0x3f, 0x42, 0x0f, 0, 0, 0, 0, 0, 0x3c, 0, 0, 0,
     ];
-    let text = written(&rt, Order::Little, Unit::Micro, 96, &packets)?;
-    assert_eq!(rt; text.as_slice(), little.as_slice());
+    writes(&rt, Order::Little, Unit::Micro, 96, packet, &little)?;
     // five microseconds, as nanoseconds
     let nano = [
         0xa1, 0xb2, 0x3c, 0x4d, 0, 2, 0, 4, 0, 0, 0, 0, 0, 0, 0, 0, 0, 4, 0, 0, 0, 0, 0, 1, 0, 0,
         0, 1, 0, 0, 0x13, 0x88, 0, 0, 0, 0, 0, 0, 0, 0,
     ];
-    let packets = [(1, 5_000, 0, [].as_slice())];
-    let text = written(&rt, Order::Big, Unit::Nano, 262_144, &packets)?;
-    assert_eq!(rt; text.as_slice(), nano.as_slice());
+    let packet = (1, 5_000, 0, [].as_slice());
+    writes(&rt, Order::Big, Unit::Nano, 262_144, packet, &nano)?;
     // each field at zero
     let zeros = [
         0x4d, 0x3c, 0xb2, 0xa1, 2, 0, 4, 0, 0, 0, 0, 0, 0, 0, 0, 0, 0, 0, 0, 0, 1, 0, 0, 0, 0, 0,
         0, 0, 0, 0, 0, 0, 0, 0, 0, 0, 0, 0, 0, 0,
     ];
-    reads(&rt, &[&zeros], "Little Nano 0; 0.000000000 0 []")?;
-    let packets = [(0, 0, 0, [].as_slice())];
-    let text = written(&rt, Order::Little, Unit::Nano, 0, &packets)?;
-    assert_eq!(rt; text.as_slice(), zeros.as_slice());
-    Ok(())
+    reads(&rt, &[&zeros], "Little Nano 0; 0.000000000 0 []");
+    let packet = (0, 0, 0, [].as_slice());
+    writes(&rt, Order::Little, Unit::Nano, 0, packet, &zeros)
 }
 
 /// A device that moves few bytes a call, and fails at one of its calls.
@@ -360,34 +383,49 @@ pub(crate) fn dripping(bytes: Vec<u8>, at_once: usize, fails_at: usize) -> Count
     })
 }
 
-#[test]
-fn a_failed_sink_has_what_was_sent(rt: HostRuntime) -> Result<(), Fail> {
+/// A packet that is put is answered so, and so many bytes were sent then.
+fn puts(rt: &impl Abort, writer: &mut Writer<Counted<Drip>>, want: Result<(), Fault>, sent: u64) {
+    assert_eq!(rt; writer.put(1, 0, 38, &TCP_FRAME), want);
+    assert_eq!(rt; writer.sent(), sent);
+}
+
+/// A sink that fails in a record's header has what stands before it, and gets nothing more.
+fn fails_in_a_record(rt: &(impl Abort + AllocGlobal)) -> Result<(), AllocError> {
     let sink = dripping(Vec::new(rt.alloc()), 1, 31);
     let (mut writer, opened) = Writer::open(sink, Order::Little, Unit::Micro, 262_144);
     assert_eq!(rt; opened, Ok(()));
-    assert_eq!(rt; writer.put(1, 0, 38, &TCP_FRAME), Err(Fault::Device));
-    assert_eq!(rt; writer.sent(), 30);
-    assert_eq!(rt; writer.put(1, 0, 38, &TCP_FRAME), Err(Fault::Failed));
-    assert_eq!(rt; writer.sent(), 30);
+    puts(rt, &mut writer, Err(Fault::Device), 30);
+    puts(rt, &mut writer, Err(Fault::Failed), 30);
     let (sink, sent) = writer.close();
     assert_eq!(rt; sent, 30);
     assert_eq!(rt; sink.failures, 1);
     let text = joined(rt.alloc(), &[&HEADER_LITTLE_MICRO, &[1, 0, 0, 0, 0, 0]])?;
     assert_eq!(rt; sink.inner.bytes.as_slice(), text.as_slice());
-    // in the header, and a sink that takes nothing
-    let sink = dripping(Vec::new(rt.alloc()), 5, 3);
-    let (mut writer, opened) = Writer::open(sink, Order::Little, Unit::Micro, 0);
+    Ok(())
+}
+
+/// A writer whose sink fails in the file's header, with so many bytes sent, takes no packet.
+fn fails_in_the_header(
+    rt: &(impl Abort + AllocGlobal),
+    at_once: usize,
+    fails_at: usize,
+    order: Order,
+    unit: Unit,
+    sent: u64,
+) {
+    let sink = dripping(Vec::new(rt.alloc()), at_once, fails_at);
+    let (mut writer, opened) = Writer::open(sink, order, unit, 0);
     assert_eq!(rt; opened, Err(Fault::Device));
-    assert_eq!(rt; writer.put(1, 0, 38, &TCP_FRAME), Err(Fault::Failed));
-    assert_eq!(rt; writer.sent(), 10);
-    let (writer, opened) = Writer::open(
-        dripping(Vec::new(rt.alloc()), 0, 9),
-        Order::Big,
-        Unit::Nano,
-        0,
-    );
-    assert_eq!(rt; opened, Err(Fault::Device));
-    assert_eq!(rt; writer.sent(), 0);
+    assert_eq!(rt; writer.sent(), sent);
+    puts(rt, &mut writer, Err(Fault::Failed), sent);
+}
+
+#[test]
+fn a_failed_sink_has_what_was_sent(rt: HostRuntime) -> Result<(), Fail> {
+    fails_in_a_record(&rt)?;
+    fails_in_the_header(&rt, 5, 3, Order::Little, Unit::Micro, 10);
+    // a sink that takes nothing
+    fails_in_the_header(&rt, 0, 9, Order::Big, Unit::Nano, 0);
     // no byte taken of none is no failure
     let mut sink = dripping(Vec::new(rt.alloc()), 5, 9);
     assert_eq!(rt; sink.write(&[]), Ok(0));
