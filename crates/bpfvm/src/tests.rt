@@ -1,7 +1,8 @@
 //! Worked examples over the public functions.
 
 use super::*;
-use std::alloc::Global;
+use std::alloc::{AllocError, Global};
+use std::process::Abort;
 use std::test::Fail;
 
 /// An Ethernet, IPv4 and UDP header, 38 bytes.
@@ -15,6 +16,15 @@ const UDP_FRAME: [u8; 38] = [
 fn answer_of(listing: &str, packet: &[u8], wire: u32) -> Option<u32> {
     let program = read_listing(listing.as_bytes()).ok()?;
     Some(run(&program, packet, wire))
+}
+
+/// The program of a listing answers so on the frame, 1,500 bytes long on the wire.
+fn answers(rt: &impl Abort, listing: &str, want: u32) {
+    assert_eq!(rt;
+        answer_of(listing, &UDP_FRAME, 1500),
+        Some(want),
+        "{listing}"
+    );
 }
 
 /// A program for each of the 49 codes, and what it answers on the frame, 1,500 bytes long on the wire.
@@ -76,11 +86,7 @@ const EACH_CODE: [(&str, u32); 49] = [
 #[test]
 fn each_code_does_what_the_manual_says(rt: HostRuntime) {
     for (listing, want) in EACH_CODE {
-        assert_eq!(rt;
-            answer_of(listing, &UDP_FRAME, 1500),
-            Some(want),
-            "{listing}"
-        );
+        answers(&rt, listing, want);
     }
 }
 
@@ -129,11 +135,7 @@ fn numbers_wrap_and_loads_do_not(rt: HostRuntime) {
         ("4\n0 0 0 4294967295\n37 0 1 1\n6 0 0 1\n6 0 0 2", 1),
     ];
     for (listing, want) in rows {
-        assert_eq!(rt;
-            answer_of(listing, &UDP_FRAME, 1500),
-            Some(want),
-            "{listing}"
-        );
+        answers(&rt, listing, want);
     }
 }
 
@@ -152,15 +154,21 @@ fn ethertype_listing_keeps_ipv4_and_no_other_frame(rt: HostRuntime) {
 }
 
 /// The fault of a listing, in the words that the program prints.
-fn fault_of(alloc: Global, listing: &str) -> Result<String, Fail> {
+fn fault_of(alloc: Global, listing: &str) -> Result<String, AllocError> {
     match read_listing(listing.as_bytes()) {
-        Ok(_) => Ok(format!(in alloc; "none")?),
-        Err(fault) => Ok(format!(in alloc; "{fault}")?),
+        Ok(_) => format!(in alloc; "none"),
+        Err(fault) => format!(in alloc; "{fault}"),
     }
 }
 
+/// A listing has this fault.
+fn has_fault(rt: &(impl Abort + AllocGlobal), listing: &str, want: &str) {
+    let fault = fault_of(rt.alloc(), listing).expect(rt, "memory");
+    assert_eq!(rt; fault.as_str(), want, "{listing}");
+}
+
 #[test]
-fn the_validator_names_the_first_fault(rt: HostRuntime) -> Result<(), Fail> {
+fn the_validator_names_the_first_fault(rt: HostRuntime) {
     let rows = [
         ("3\n40 0 0 12\n21 0 1 2048\n6 0 0 1", "Program JumpOut 1"),
         ("4\n40 0 0 12\n21 0 1 2048\n6 0 0 1\n6 0 0 0", "none"),
@@ -196,10 +204,9 @@ fn the_validator_names_the_first_fault(rt: HostRuntime) -> Result<(), Fail> {
         ("1\n6 255 255 4294967295", "none"),
     ];
     for (listing, want) in rows {
-        assert_eq!(rt; fault_of(rt.alloc(), listing)?.as_str(), want, "{listing}");
+        has_fault(&rt, listing, want);
     }
     assert!(rt; matches!(Program::new(&[]), Err(Invalid::Empty)));
-    Ok(())
 }
 
 #[test]
@@ -294,11 +301,9 @@ const LISTINGS: [(&str, &str); 36] = [
 ];
 
 #[test]
-fn bad_lines_are_named_before_counts_and_counts_before_programs(
-    rt: HostRuntime,
-) -> Result<(), Fail> {
+fn bad_lines_are_named_before_counts_and_counts_before_programs(rt: HostRuntime) {
     for (listing, want) in LISTINGS {
-        assert_eq!(rt; fault_of(rt.alloc(), listing)?.as_str(), want, "{listing}");
+        has_fault(&rt, listing, want);
     }
     assert!(rt;
         matches!(
@@ -306,61 +311,41 @@ fn bad_lines_are_named_before_counts_and_counts_before_programs(
             Err(ListingFault::BadLine(2))
         )
     );
-    Ok(())
 }
 
 /// A listing that names a count, and has so many lines `6 0 0 0`.
-fn returns(alloc: Global, count: u32, lines: u32) -> Result<Vec<u8>, Fail> {
-    let mut text = format!(in alloc; "{count}\n")?.into_bytes();
-    for _ in 0..lines {
-        text.extend_from_slice(b"6 0 0 0\n")?;
-    }
-    Ok(text)
+fn returns(rt: &(impl Abort + AllocGlobal), count: u32, lines: usize) -> String {
+    let lines = "6 0 0 0\n".repeat(rt.alloc(), lines).expect(rt, "memory");
+    format!(in rt.alloc(); "{count}\n{lines}").expect(rt, "memory")
+}
+
+/// The program of a listing is written so.
+fn is_written(rt: &(impl Abort + AllocGlobal), listing: &str, want: &str) {
+    let program = read_listing(listing.as_bytes()).expect(rt, "a program");
+    let text = write_listing(rt.alloc(), &program).expect(rt, "memory");
+    assert_eq!(rt; text.as_slice(), want.as_bytes());
 }
 
 #[test]
-fn long_listings_are_read_to_their_end(rt: HostRuntime) -> Result<(), Fail> {
-    let longest = returns(rt.alloc(), 512, 512)?;
-    let program = read_listing(&longest).ok().ok_or("a program")?;
-    let written = write_listing(rt.alloc(), &program)?;
-    assert_eq!(rt; written.as_slice(), longest.as_slice());
-    let over = returns(rt.alloc(), 513, 513)?;
-    assert!(rt;
-        matches!(
-            read_listing(&over),
-            Err(ListingFault::Program(Invalid::TooMany))
-        )
-    );
-    let over = ListingFault::Program(Invalid::TooMany);
-    assert_eq!(rt;
-        format!(in rt.alloc(); "{over}")?.as_str(),
-        "Program TooMany"
-    );
-    assert_eq!(rt;
-        format!(in rt.alloc(); "{}", NoMemory)?.as_str(),
-        "NoMemory"
-    );
-    let mut bad = returns(rt.alloc(), 513, 512)?;
-    bad.extend_from_slice(b"x")?;
-    assert!(rt; matches!(read_listing(&bad), Err(ListingFault::BadLine(514))));
-    Ok(())
+fn long_listings_are_read_to_their_end(rt: HostRuntime) {
+    let longest = returns(&rt, 512, 512);
+    is_written(&rt, longest.as_str(), longest.as_str());
+    has_fault(&rt, returns(&rt, 513, 513).as_str(), "Program TooMany");
+    let mut bad = returns(&rt, 513, 512);
+    bad.push('x').expect(&rt, "memory");
+    has_fault(&rt, bad.as_str(), "BadLine 514");
+    let told = format!(in rt.alloc(); "{}", NoMemory).expect(&rt, "memory");
+    assert_eq!(rt; told.as_str(), "NoMemory");
 }
 
 #[test]
-fn a_listing_is_written_without_leading_zeros(rt: HostRuntime) -> Result<(), Fail> {
-    let rows = [
-        ("01\n06 0 0 007", "1\n6 0 0 7\n"),
-        (
-            "4\n40 0 0 12\n21 0 1 2048\n6 0 0 262144\n6 255 255 4294967295",
-            "4\n40 0 0 12\n21 0 1 2048\n6 0 0 262144\n6 255 255 4294967295\n",
-        ),
-    ];
-    for (listing, want) in rows {
-        let program = read_listing(listing.as_bytes()).ok().ok_or("a program")?;
-        let text = write_listing(rt.alloc(), &program)?;
-        assert_eq!(rt; text.as_slice(), want.as_bytes());
-    }
-    Ok(())
+fn a_listing_is_written_without_leading_zeros(rt: HostRuntime) {
+    is_written(&rt, "01\n06 0 0 007", "1\n6 0 0 7\n");
+    is_written(
+        &rt,
+        "4\n40 0 0 12\n21 0 1 2048\n6 0 0 262144\n6 255 255 4294967295",
+        "4\n40 0 0 12\n21 0 1 2048\n6 0 0 262144\n6 255 255 4294967295\n",
+    );
 }
 
 #[test]

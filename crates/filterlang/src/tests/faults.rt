@@ -1,16 +1,7 @@
 //! The fault of a text that is no expression, and its place.
 
+use super::{chain, nested, refused, refuses};
 use crate::fault::Fault;
-use crate::parser::parse;
-use std::process::Abort;
-use std::test::Fail;
-
-/// Each of these texts is refused with its fault.
-fn refused(rt: &(impl Abort + AllocGlobal), rows: &[(&str, Fault)]) {
-    for (text, fault) in rows {
-        assert_eq!(rt; parse(rt.alloc(), text).err(), Some(*fault), "{text:?}");
-    }
-}
 
 /// Where a text breaks off, or goes on as no expression does.
 const BROKEN_OFF: [(&str, Fault); 98] = [
@@ -368,35 +359,24 @@ const TOO_NESTED: [(usize, &str, &str, &str, Fault); 21] = [
 ];
 
 #[test]
-fn more_than_64_levels_are_too_many(rt: HostRuntime) -> Result<(), Fail> {
-    let alloc = rt.alloc();
+fn more_than_64_levels_are_too_many(rt: HostRuntime) {
     for (times, sign, inner, closing, fault) in TOO_NESTED {
-        let (signs, closing) = (sign.repeat(alloc, times)?, closing.repeat(alloc, times)?);
-        let text = format!(in alloc; "{signs}{inner}{closing}")?;
-        let text = text.as_str();
-        assert_eq!(rt; parse(alloc, text).err(), Some(fault), "{text:?}");
+        let text = nested(&rt, times, sign, inner, closing);
+        refuses(&rt, text.as_str(), fault);
     }
-    let signs = "(".repeat(alloc, 65)?;
-    let text = format!(in alloc; "port {signs}80")?;
-    let found = parse(alloc, text.as_str()).err();
-    assert_eq!(rt; found, Some(Fault::TooNested(5 + 64)));
+    let text = chain(&rt, "port ", nested(&rt, 65, "(", "80", "").as_str(), 1);
+    refuses(&rt, text.as_str(), Fault::TooNested(5 + 64));
     // The `(` is the first of these levels, so that the 64th `not` is one too many.
-    let signs = "not ".repeat(alloc, 65)?;
-    let text = format!(in alloc; "port ({signs}80")?;
-    let found = parse(alloc, text.as_str()).err();
-    assert_eq!(rt; found, Some(Fault::TooNested(6 + 4 * 63)));
-    Ok(())
+    let text = chain(&rt, "port (", nested(&rt, 65, "not ", "80", "").as_str(), 1);
+    refuses(&rt, text.as_str(), Fault::TooNested(6 + 4 * 63));
 }
 
 #[test]
-fn a_text_of_8193_bytes_is_too_long(rt: HostRuntime) -> Result<(), Fail> {
-    let blanks = format!(in rt.alloc(); "tcp{}", " ".repeat(rt.alloc(), 8190)?)?;
-    let found = parse(rt.alloc(), blanks.as_str()).err();
-    assert_eq!(rt; found, Some(Fault::TextTooLong));
+fn a_text_of_8193_bytes_is_too_long(rt: HostRuntime) {
+    let text = chain(&rt, "tcp", " ", 8190);
+    refuses(&rt, text.as_str(), Fault::TextTooLong);
     for byte in [" ", "#", "(", "x"] {
-        let text = byte.repeat(rt.alloc(), 8193)?;
-        let found = parse(rt.alloc(), text.as_str()).err();
-        assert_eq!(rt; found, Some(Fault::TextTooLong), "{byte:?}");
+        let text = chain(&rt, "", byte, 8193);
+        refuses(&rt, text.as_str(), Fault::TextTooLong);
     }
-    Ok(())
 }

@@ -1,16 +1,7 @@
 //! The fault of a relation that is none, and its place.
 
+use super::{chain, nested, refused, refuses};
 use crate::fault::Fault;
-use crate::parser::parse;
-use std::process::Abort;
-use std::test::Fail;
-
-/// Each of these texts is refused with its fault.
-fn refused(rt: &(impl Abort + AllocGlobal), rows: &[(&str, Fault)]) {
-    for (text, fault) in rows {
-        assert_eq!(rt; parse(rt.alloc(), text).err(), Some(*fault), "{text:?}");
-    }
-}
 
 /// Where a relation breaks off, or goes on as none does.
 const BROKEN_OFF: [(&str, Fault); 73] = [
@@ -227,13 +218,15 @@ const TOO_NESTED: [(&str, usize, &str, &str, &str, &str, Fault); 19] = [
 ];
 
 #[test]
-fn more_than_64_open_signs_are_too_many(rt: HostRuntime) -> Result<(), Fail> {
-    let alloc = rt.alloc();
+fn more_than_64_open_signs_are_too_many(rt: HostRuntime) {
     for (before, times, sign, inner, closing, behind, fault) in TOO_NESTED {
-        let (signs, closing) = (sign.repeat(alloc, times)?, closing.repeat(alloc, times)?);
-        let text = format!(in alloc; "{before}{signs}{inner}{closing}{behind}")?;
-        let text = text.as_str();
-        assert_eq!(rt; parse(alloc, text).err(), Some(fault), "{text:?}");
+        let text = chain(
+            &rt,
+            before,
+            nested(&rt, times, sign, inner, closing).as_str(),
+            1,
+        );
+        let text = chain(&rt, text.as_str(), behind, 1);
+        refuses(&rt, text.as_str(), fault);
     }
-    Ok(())
 }

@@ -1,33 +1,35 @@
 //! Which tree a text with relations reads as.
 
+use super::{chain, nested, read_alike, read_unless_no_memory, reads_as, refuses, tree_of};
 use crate::fault::Fault;
 use crate::parser::parse;
 use crate::token::Comparison::{Equal, Greater, GreaterOrEqual, Less, LessOrEqual, NotEqual};
 use crate::token::{Comparison, Operator};
 use crate::tree::{Expr, Layer, Size, Value};
-use std::alloc::Global;
-use std::test::Fail;
+use std::process::Abort;
 
-fn binary(alloc: Global, operator: Operator, left: Value, right: Value) -> Result<Value, Fault> {
-    let left = Box::new(alloc, left)?;
-    Ok(Value::Binary(operator, left, Box::new(alloc, right)?))
+fn boxed(rt: &(impl Abort + AllocGlobal), value: Value) -> Box<Value> {
+    Box::new(rt.alloc(), value).expect(rt, "memory")
+}
+
+fn binary(rt: &(impl Abort + AllocGlobal), operator: Operator, left: Value, right: Value) -> Value {
+    Value::Binary(operator, boxed(rt, left), boxed(rt, right))
 }
 
 /// `1 OPERATOR 2 = 3`
-fn of_one_and_two(alloc: Global, operator: Operator) -> Result<Expr, Fault> {
-    let left = binary(alloc, operator, Value::Number(1), Value::Number(2))?;
-    Ok(Expr::Relation(Equal, left, Value::Number(3)))
+fn of_one_and_two(rt: &(impl Abort + AllocGlobal), operator: Operator) -> Expr {
+    let left = binary(rt, operator, Value::Number(1), Value::Number(2));
+    Expr::Relation(Equal, left, Value::Number(3))
 }
 
 /// `LAYER[0:SIZE] = 1`
-fn of_a_layer(alloc: Global, layer: Layer, size: Size) -> Result<Expr, Fault> {
-    let index = Box::new(alloc, Value::Number(0))?;
-    let left = Value::Accessor(layer, index, size);
-    Ok(Expr::Relation(Equal, left, Value::Number(1)))
+fn of_a_layer(rt: &(impl Abort + AllocGlobal), layer: Layer, size: Size) -> Expr {
+    let left = Value::Accessor(layer, boxed(rt, Value::Number(0)), size);
+    Expr::Relation(Equal, left, Value::Number(1))
 }
 
 #[test]
-fn each_comparison_is_read(rt: HostRuntime) -> Result<(), Fail> {
+fn each_comparison_is_read(rt: HostRuntime) {
     let rows: [(&str, Comparison); 7] = [
         ("len = 2", Equal),
         ("len == 2", Equal),
@@ -39,13 +41,12 @@ fn each_comparison_is_read(rt: HostRuntime) -> Result<(), Fail> {
     ];
     for (text, comparison) in rows {
         let wanted = Expr::Relation(comparison, Value::Length, Value::Number(2));
-        assert_eq!(rt; parse(rt.alloc(), text)?, wanted, "{text:?}");
+        reads_as(&rt, text, wanted);
     }
-    Ok(())
 }
 
 #[test]
-fn each_operator_is_read(rt: HostRuntime) -> Result<(), Fail> {
+fn each_operator_is_read(rt: HostRuntime) {
     let rows = [
         ("1 + 2 = 3", Operator::Plus),
         ("1 - 2 = 3", Operator::Minus),
@@ -59,14 +60,12 @@ fn each_operator_is_read(rt: HostRuntime) -> Result<(), Fail> {
         ("1 >> 2 = 3", Operator::ShiftRight),
     ];
     for (text, operator) in rows {
-        let wanted = of_one_and_two(rt.alloc(), operator)?;
-        assert_eq!(rt; parse(rt.alloc(), text)?, wanted, "{text:?}");
+        reads_as(&rt, text, of_one_and_two(&rt, operator));
     }
-    Ok(())
 }
 
 #[test]
-fn each_layer_and_size_is_read(rt: HostRuntime) -> Result<(), Fail> {
+fn each_layer_and_size_is_read(rt: HostRuntime) {
     let rows = [
         ("ether[0] = 1", Layer::Ether, Size::One),
         ("ip[0] = 1", Layer::Ip, Size::One),
@@ -77,37 +76,25 @@ fn each_layer_and_size_is_read(rt: HostRuntime) -> Result<(), Fail> {
         ("icmp [ 0 : 02 ] = 1", Layer::Icmp, Size::Two),
     ];
     for (text, layer, size) in rows {
-        let wanted = of_a_layer(rt.alloc(), layer, size)?;
-        assert_eq!(rt; parse(rt.alloc(), text)?, wanted, "{text:?}");
+        reads_as(&rt, text, of_a_layer(&rt, layer, size));
     }
-    Ok(())
 }
 
 #[test]
-fn values_read_as_their_trees(rt: HostRuntime) -> Result<(), Fail> {
-    let alloc = rt.alloc();
-    let ten_less_four = binary(alloc, Operator::Minus, Value::Number(10), Value::Number(4))?;
-    let less_three = binary(alloc, Operator::Minus, ten_less_four, Value::Number(3))?;
-    let product = binary(alloc, Operator::Times, Value::Number(2), Value::Number(3))?;
-    let sum = binary(alloc, Operator::Plus, Value::Number(1), product)?;
-    let negated = Value::Negation(Box::new(alloc, Value::Number(1))?);
-    let most = Value::Number(4_294_967_295);
-    let rows = [
-        (
-            "10 - 4 - 3 = len",
-            Expr::Relation(Equal, less_three, Value::Length),
-        ),
-        ("len = 1 + 2 * 3", Expr::Relation(Equal, Value::Length, sum)),
-        ("-1 = 4294967295", Expr::Relation(Equal, negated, most)),
-        (
-            "(tcp-syn) < icmptype",
-            Expr::Relation(Less, Value::Number(2), Value::Number(0)),
-        ),
-    ];
-    for (text, wanted) in &rows {
-        assert_eq!(rt; &parse(alloc, text)?, wanted, "{text:?}");
-    }
-    Ok(())
+fn values_read_as_their_trees(rt: HostRuntime) {
+    let ten_less_four = binary(&rt, Operator::Minus, Value::Number(10), Value::Number(4));
+    let less_three = binary(&rt, Operator::Minus, ten_less_four, Value::Number(3));
+    let wanted = Expr::Relation(Equal, less_three, Value::Length);
+    reads_as(&rt, "10 - 4 - 3 = len", wanted);
+    let product = binary(&rt, Operator::Times, Value::Number(2), Value::Number(3));
+    let sum = binary(&rt, Operator::Plus, Value::Number(1), product);
+    let wanted = Expr::Relation(Equal, Value::Length, sum);
+    reads_as(&rt, "len = 1 + 2 * 3", wanted);
+    let negated = Value::Negation(boxed(&rt, Value::Number(1)));
+    let wanted = Expr::Relation(Equal, negated, Value::Number(4_294_967_295));
+    reads_as(&rt, "-1 = 4294967295", wanted);
+    let wanted = Expr::Relation(Less, Value::Number(2), Value::Number(0));
+    reads_as(&rt, "(tcp-syn) < icmptype", wanted);
 }
 
 /// Two texts that read as the same tree, the second with parentheses round each value that has an operator.
@@ -206,12 +193,8 @@ const READINGS: [(&str, &str); 66] = [
 ];
 
 #[test]
-fn texts_with_relations_read_as_one_tree(rt: HostRuntime) -> Result<(), Fail> {
-    for (text, written) in READINGS {
-        let (tree, wanted) = (parse(rt.alloc(), text)?, parse(rt.alloc(), written)?);
-        assert_eq!(rt; tree, wanted, "{text:?}");
-    }
-    Ok(())
+fn texts_with_relations_read_as_one_tree(rt: HostRuntime) {
+    read_alike(&rt, READINGS.as_slice());
 }
 
 /// Divisors that are no number 0.
@@ -228,10 +211,15 @@ const DIVISORS: [&str; 10] = [
     "len * 0 + 0 - 0 << 0 & 0 ^ 0 | 0 = 0",
 ];
 
+/// A text is an expression.
+fn is_read(rt: &(impl Abort + AllocGlobal), text: &str) {
+    assert!(rt; parse(rt.alloc(), text).is_ok(), "{text:?}");
+}
+
 #[test]
 fn a_divisor_may_turn_out_as_0(rt: HostRuntime) {
     for text in DIVISORS {
-        assert!(rt; parse(rt.alloc(), text).is_ok(), "{text:?}");
+        is_read(&rt, text);
     }
 }
 
@@ -253,18 +241,38 @@ const SIXTY_FOUR_OPEN: [(usize, &str, &str, &str, &str, &str); 12] = [
 ];
 
 #[test]
-fn sixty_four_open_signs_are_read(rt: HostRuntime) -> Result<(), Fail> {
-    let alloc = rt.alloc();
+fn sixty_four_open_signs_are_read(rt: HostRuntime) {
     for (times, before, sign, inner, closing, behind) in SIXTY_FOUR_OPEN {
-        let (signs, closing) = (sign.repeat(alloc, times)?, closing.repeat(alloc, times)?);
-        let text = format!(in alloc; "{before}{signs}{inner}{closing}{behind}")?;
-        assert!(rt; parse(alloc, text.as_str()).is_ok(), "{text:?}");
+        let text = chain(
+            &rt,
+            before,
+            nested(&rt, times, sign, inner, closing).as_str(),
+            1,
+        );
+        let text = chain(&rt, text.as_str(), behind, 1);
+        is_read(&rt, text.as_str());
     }
-    // Those that are closed count no more.
-    let (open, close) = ("(".repeat(alloc, 64)?, ")".repeat(alloc, 64)?);
-    let text = format!(in alloc; "{open}len{close} = {open}1{close} + {open}2{close}")?;
-    assert_eq!(rt; parse(alloc, text.as_str())?, parse(alloc, "len = 1 + 2")?);
-    Ok(())
+}
+
+/// Signs that are closed count no more.
+#[test]
+fn sixty_four_open_signs_are_read_thrice(rt: HostRuntime) {
+    let text = nested(&rt, 64, "(", "len", ")");
+    let text = chain(&rt, text.as_str(), " = ", 1);
+    let text = chain(
+        &rt,
+        text.as_str(),
+        nested(&rt, 64, "(", "1", ")").as_str(),
+        1,
+    );
+    let text = chain(&rt, text.as_str(), " + ", 1);
+    let text = chain(
+        &rt,
+        text.as_str(),
+        nested(&rt, 64, "(", "2", ")").as_str(),
+        1,
+    );
+    read_alike(&rt, &[(text.as_str(), "len = 1 + 2")]);
 }
 
 /// How many `+` join the left value of a tree from the left, where each side is 1.
@@ -289,15 +297,13 @@ fn ones_added(tree: &Expr) -> Option<usize> {
 }
 
 #[test]
-fn a_long_chain_of_operators_is_read_and_dropped(rt: HostRuntime) -> Result<(), Fail> {
-    let alloc = rt.alloc();
-    let text = format!(in alloc; "1{}=1 ", "+1".repeat(alloc, 4094)?)?;
+fn a_long_chain_of_operators_is_read_and_dropped(rt: HostRuntime) {
+    let text = chain(&rt, "1", "+1", 4094);
+    let text = chain(&rt, text.as_str(), "=1 ", 1);
     assert_eq!(rt; text.len(), 8192);
-    let tree = parse(alloc, text.as_str())?;
-    assert_eq!(rt; ones_added(&tree), Some(4094));
-    let text = format!(in alloc; "{text} ")?;
-    assert_eq!(rt; parse(alloc, text.as_str()).err(), Some(Fault::TextTooLong));
-    Ok(())
+    assert_eq!(rt; ones_added(&tree_of(&rt, text.as_str())), Some(4094));
+    let text = chain(&rt, text.as_str(), " ", 1);
+    refuses(&rt, text.as_str(), Fault::TextTooLong);
 }
 
 /// Whether a tree is that of `-len = ip[1]`, found without taking memory.
@@ -313,12 +319,10 @@ fn is_whole(tree: &Expr) -> bool {
 /// This one passes too where any one request for memory is refused.
 #[test]
 fn want_of_memory_in_a_value_is_named(rt: HostRuntime) {
-    match parse(rt.alloc(), "-len = ip[1]") {
-        Ok(tree) => assert!(rt; is_whole(&tree)),
-        Err(fault) => assert_eq!(rt; fault, Fault::NoMemory),
+    if let Some(tree) = read_unless_no_memory(&rt, "-len = ip[1]") {
+        assert!(rt; is_whole(&tree));
     }
-    match parse(rt.alloc(), "1 + 2 = 3") {
-        Ok(tree) => assert!(rt; tree != Expr::Everything),
-        Err(fault) => assert_eq!(rt; fault, Fault::NoMemory),
+    if let Some(tree) = read_unless_no_memory(&rt, "1 + 2 = 3") {
+        assert!(rt; tree != Expr::Everything);
     }
 }

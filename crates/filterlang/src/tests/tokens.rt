@@ -1,9 +1,10 @@
 //! Which tokens a text has, and how faults are printed.
 
+use super::chain;
 use crate::fault::Fault;
 use crate::lexer::lex;
 use crate::token::{
-    Comparison, EthernetAddress, Joint, Kind, Operator, Parts, Protocol, Side, TypeWord,
+    Comparison, EthernetAddress, Joint, Kind, Operator, Parts, Protocol, Side, Token, TypeWord,
 };
 use std::process::Abort;
 use std::test::Fail;
@@ -182,16 +183,30 @@ const TEXTS: [(&str, &[(Kind, usize, usize)]); 18] = [
     ),
 ];
 
+/// A token of a text is of this kind, from this place to that.
+fn is_token(rt: &impl Abort, text: &str, token: &Token, wanted: (Kind, usize, usize)) {
+    let found = (token.kind, token.span.start, token.span.end);
+    assert_eq!(rt; found, wanted, "a token of {text:?}");
+}
+
+/// A text has these tokens.
+fn has_tokens(
+    rt: &(impl Abort + AllocGlobal),
+    text: &str,
+    wanted: &[(Kind, usize, usize)],
+) -> Result<(), Fault> {
+    let tokens = lex(rt.alloc(), text)?;
+    assert_eq!(rt; tokens.len(), wanted.len(), "tokens of {text:?}");
+    for (token, one) in tokens.iter().zip(wanted) {
+        is_token(rt, text, token, *one);
+    }
+    Ok(())
+}
+
 #[test]
 fn texts_have_these_tokens(rt: HostRuntime) -> Result<(), Fail> {
     for (text, wanted) in TEXTS {
-        let tokens = lex(rt.alloc(), text)?;
-        assert_eq!(rt; tokens.len(), wanted.len(), "tokens of {text:?}");
-        for (token, (kind, start, end)) in tokens.iter().zip(wanted) {
-            assert_eq!(rt; token.kind, *kind, "a kind of {text:?}");
-            assert_eq!(rt; token.span.start, *start, "a start of {text:?}");
-            assert_eq!(rt; token.span.end, *end, "an end of {text:?}");
-        }
+        has_tokens(&rt, text, wanted)?;
     }
     Ok(())
 }
@@ -322,10 +337,7 @@ const NUMBERS: [(&str, Kind); 15] = [
 /// Each of these texts is one token.
 fn each_is_one_token(rt: &(impl Abort + AllocGlobal), rows: &[(&str, Kind)]) -> Result<(), Fail> {
     for (text, kind) in rows {
-        let tokens = lex(rt.alloc(), text)?;
-        assert_eq!(rt; tokens.len(), 1, "tokens of {text:?}");
-        assert_eq!(rt; tokens[0].kind, *kind, "the kind of {text:?}");
-        assert_eq!(rt; tokens[0].span.end, text.len(), "the end of {text:?}");
+        has_tokens(rt, text, &[(*kind, 0, text.len())])?;
     }
     Ok(())
 }
@@ -382,32 +394,33 @@ const FAILING: [(&str, Fault); 34] = [
     ("08 #", Fault::BadNumber(0)),
 ];
 
-#[test]
-fn the_first_failing_place_is_named(rt: HostRuntime) {
-    for (text, fault) in FAILING {
-        let found = lex(rt.alloc(), text).err();
-        assert_eq!(rt; found, Some(fault), "{text:?}");
-    }
+/// A text has no tokens, with this fault.
+fn refuses(rt: &(impl Abort + AllocGlobal), text: &str, fault: Fault) {
+    assert_eq!(rt; lex(rt.alloc(), text).err(), Some(fault), "{text:?}");
 }
 
 #[test]
-fn a_text_has_8192_bytes_at_most(rt: HostRuntime) -> Result<(), Fail> {
-    let alloc = rt.alloc();
-    for sign in ["(", "1 "] {
-        let text = sign.repeat(alloc, 8192 / sign.len())?;
-        assert_eq!(rt; text.len(), 8192);
-        assert_eq!(rt;
-            lex(alloc, text.as_str())?.len(),
-            8192 / sign.len(),
-            "{sign:?}"
-        );
+fn the_first_failing_place_is_named(rt: HostRuntime) {
+    for (text, fault) in FAILING {
+        refuses(&rt, text, fault);
     }
+}
+
+/// A text of 8,192 bytes has as many tokens as signs.
+fn has_as_many_as_signs(rt: &(impl Abort + AllocGlobal), sign: &str, signs: usize) {
+    let text = chain(rt, "", sign, signs);
+    assert_eq!(rt; text.len(), 8192);
+    let tokens = lex(rt.alloc(), text.as_str()).expect(rt, "tokens");
+    assert_eq!(rt; tokens.len(), signs, "{sign:?}");
+}
+
+#[test]
+fn a_text_has_8192_bytes_at_most(rt: HostRuntime) {
+    has_as_many_as_signs(&rt, "(", 8192);
+    has_as_many_as_signs(&rt, "1 ", 4096);
     for sign in ["(", " ", "#"] {
-        let text = sign.repeat(alloc, 8193)?;
-        let found = lex(alloc, text.as_str()).err();
-        assert_eq!(rt; found, Some(Fault::TextTooLong), "{sign:?}");
+        refuses(&rt, chain(&rt, "", sign, 8193).as_str(), Fault::TextTooLong);
     }
-    Ok(())
 }
 
 #[test]

@@ -1,6 +1,6 @@
 //! Which tree a text reads as.
 
-use crate::fault::Fault;
+use super::{chain, nested, read_alike, read_unless_no_memory, reads_as, tree_of};
 use crate::parser::parse;
 use crate::token::EthernetAddress;
 use crate::tree::Direction::{Dst, Src, SrcAndDst, SrcOrDst};
@@ -8,9 +8,7 @@ use crate::tree::Network::{Arp, Ip, Rarp};
 use crate::tree::Primitive::{EtherBroadcast, EtherMulticast, Greater, IpMulticast, Less};
 use crate::tree::Transport::{Sctp, Tcp, Udp};
 use crate::tree::{Direction, Expr, Network, Plain, Primitive, Transport};
-use std::alloc::Global;
 use std::process::Abort;
-use std::test::Fail;
 
 fn host(network: Option<Network>, direction: Direction, address: u32) -> Primitive {
     net(network, direction, address, 0xffff_ffff)
@@ -47,34 +45,31 @@ fn plain(word: Plain) -> Expr {
     Expr::Test(Primitive::Protocol(word))
 }
 
-fn not(alloc: Global, expr: Expr) -> Result<Expr, Fault> {
-    Ok(Expr::Not(Box::new(alloc, expr)?))
+fn boxed(rt: &(impl Abort + AllocGlobal), expr: Expr) -> Box<Expr> {
+    Box::new(rt.alloc(), expr).expect(rt, "memory")
 }
 
-fn and(alloc: Global, left: Expr, right: Expr) -> Result<Expr, Fault> {
-    let left = Box::new(alloc, left)?;
-    Ok(Expr::And(left, Box::new(alloc, right)?))
+fn not(rt: &(impl Abort + AllocGlobal), expr: Expr) -> Expr {
+    Expr::Not(boxed(rt, expr))
 }
 
-fn or(alloc: Global, left: Expr, right: Expr) -> Result<Expr, Fault> {
-    let left = Box::new(alloc, left)?;
-    Ok(Expr::Or(left, Box::new(alloc, right)?))
+fn and(rt: &(impl Abort + AllocGlobal), left: Expr, right: Expr) -> Expr {
+    Expr::And(boxed(rt, left), boxed(rt, right))
+}
+
+fn or(rt: &(impl Abort + AllocGlobal), left: Expr, right: Expr) -> Expr {
+    Expr::Or(boxed(rt, left), boxed(rt, right))
 }
 
 /// Each of these texts reads as its test alone.
-fn each_reads_as(rt: &(impl Abort + AllocGlobal), rows: &[(&str, Primitive)]) -> Result<(), Fail> {
+fn each_reads_as(rt: &(impl Abort + AllocGlobal), rows: &[(&str, Primitive)]) {
     for (text, primitive) in rows {
-        assert_eq!(rt;
-            parse(rt.alloc(), text)?,
-            Expr::Test(*primitive),
-            "{text:?}"
-        );
+        reads_as(rt, text, Expr::Test(*primitive));
     }
-    Ok(())
 }
 
 #[test]
-fn a_word_or_a_length_reads_as_its_test(rt: HostRuntime) -> Result<(), Fail> {
+fn a_word_or_a_length_reads_as_its_test(rt: HostRuntime) {
     let rows = [
         ("ip", Primitive::Protocol(Plain::Ip)),
         ("arp", Primitive::Protocol(Plain::Arp)),
@@ -92,11 +87,11 @@ fn a_word_or_a_length_reads_as_its_test(rt: HostRuntime) -> Result<(), Fail> {
         ("less 0", Less(0)),
         ("greater 4294967295", Greater(4_294_967_295)),
     ];
-    each_reads_as(&rt, rows.as_slice())
+    each_reads_as(&rt, rows.as_slice());
 }
 
 #[test]
-fn a_host_reads_as_its_test(rt: HostRuntime) -> Result<(), Fail> {
+fn a_host_reads_as_its_test(rt: HostRuntime) {
     let rows = [
         ("host 10.0.0.1", host(None, SrcOrDst, 0x0a00_0001)),
         ("ip 10.0.0.1", host(Some(Ip), SrcOrDst, 0x0a00_0001)),
@@ -115,11 +110,11 @@ fn a_host_reads_as_its_test(rt: HostRuntime) -> Result<(), Fail> {
             ether_host(Dst, [0, 1, 2, 3, 4, 5]),
         ),
     ];
-    each_reads_as(&rt, rows.as_slice())
+    each_reads_as(&rt, rows.as_slice());
 }
 
 #[test]
-fn a_net_reads_as_its_test(rt: HostRuntime) -> Result<(), Fail> {
+fn a_net_reads_as_its_test(rt: HostRuntime) {
     let rows = [
         ("net 10", net(None, SrcOrDst, 0x0a00_0000, 0xff00_0000)),
         ("src net 255", net(None, Src, 0xff00_0000, 0xff00_0000)),
@@ -150,11 +145,11 @@ fn a_net_reads_as_its_test(rt: HostRuntime) -> Result<(), Fail> {
             net(None, SrcOrDst, 0x0a00_0001, 0xff00_00ff),
         ),
     ];
-    each_reads_as(&rt, rows.as_slice())
+    each_reads_as(&rt, rows.as_slice());
 }
 
 #[test]
-fn a_port_reads_as_its_test(rt: HostRuntime) -> Result<(), Fail> {
+fn a_port_reads_as_its_test(rt: HostRuntime) {
     let rows = [
         ("port 0", ports(None, SrcOrDst, 0, 0)),
         ("port 65535", ports(None, SrcOrDst, 65535, 65535)),
@@ -173,11 +168,11 @@ fn a_port_reads_as_its_test(rt: HostRuntime) -> Result<(), Fail> {
             ports(None, SrcAndDst, 20, 30),
         ),
     ];
-    each_reads_as(&rt, rows.as_slice())
+    each_reads_as(&rt, rows.as_slice());
 }
 
 #[test]
-fn a_protocol_number_reads_as_its_test(rt: HostRuntime) -> Result<(), Fail> {
+fn a_protocol_number_reads_as_its_test(rt: HostRuntime) {
     let rows = [
         ("proto 0", Primitive::IpProto(0)),
         ("ip proto 255", Primitive::IpProto(255)),
@@ -190,38 +185,32 @@ fn a_protocol_number_reads_as_its_test(rt: HostRuntime) -> Result<(), Fail> {
         ("ether proto \\arp", Primitive::EtherProto(0x0806)),
         ("ether proto \\rarp", Primitive::EtherProto(0x8035)),
     ];
-    each_reads_as(&rt, rows.as_slice())
+    each_reads_as(&rt, rows.as_slice());
 }
 
 #[test]
-fn a_text_reads_as_its_tree(rt: HostRuntime) -> Result<(), Fail> {
-    let alloc = rt.alloc();
-    let tcp_or_udp = or(alloc, plain(Plain::Tcp), plain(Plain::Udp))?;
-    let not_80 = not(alloc, port(80))?;
-    let not_53 = not(alloc, port(53))?;
-    let one_and_two = and(alloc, port(1), port(2))?;
-    let one_or_two = or(alloc, port(1), port(2))?;
-    let ports_or_three = or(alloc, one_or_two, port(3))?;
-    let cases = [
-        ("", Expr::Everything),
-        (" \t\r\n", Expr::Everything),
-        ("tcp", plain(Plain::Tcp)),
-        ("not tcp", not(alloc, plain(Plain::Tcp))?),
-        // Both words bind alike, from the left.
-        (
-            "tcp or udp and arp",
-            and(alloc, tcp_or_udp, plain(Plain::Arp))?,
-        ),
-        // An identifier inherits from behind parentheses, a group and a negation.
-        ("(port 1) and 2", one_and_two),
-        ("port (1 or 2) or 3", ports_or_three),
-        ("not port 80 or 443", or(alloc, not_80, port(443))?),
-        ("port (80 or not 53)", or(alloc, port(80), not_53)?),
-    ];
-    for (text, tree) in &cases {
-        assert_eq!(rt; &parse(alloc, text)?, tree, "{text:?}");
-    }
-    Ok(())
+fn a_text_reads_as_its_tree(rt: HostRuntime) {
+    reads_as(&rt, "", Expr::Everything);
+    reads_as(&rt, " \t\r\n", Expr::Everything);
+    reads_as(&rt, "tcp", plain(Plain::Tcp));
+    reads_as(&rt, "not tcp", not(&rt, plain(Plain::Tcp)));
+    // Both words bind alike, from the left.
+    let either = or(&rt, plain(Plain::Tcp), plain(Plain::Udp));
+    let tree = and(&rt, either, plain(Plain::Arp));
+    reads_as(&rt, "tcp or udp and arp", tree);
+}
+
+#[test]
+fn an_inherited_phrase_stands_in_the_tree(rt: HostRuntime) {
+    // An identifier inherits from behind parentheses, a group and a negation.
+    let tree = and(&rt, port(1), port(2));
+    reads_as(&rt, "(port 1) and 2", tree);
+    let tree = or(&rt, or(&rt, port(1), port(2)), port(3));
+    reads_as(&rt, "port (1 or 2) or 3", tree);
+    let tree = or(&rt, not(&rt, port(80)), port(443));
+    reads_as(&rt, "not port 80 or 443", tree);
+    let tree = or(&rt, port(80), not(&rt, port(53)));
+    reads_as(&rt, "port (80 or not 53)", tree);
 }
 
 /// Two texts that read as the same tree, the second with each phrase written.
@@ -394,17 +383,23 @@ const READINGS: [(&str, &str); 92] = [
 ];
 
 #[test]
-fn texts_read_as_one_tree(rt: HostRuntime) -> Result<(), Fail> {
-    for (text, written) in READINGS {
-        let (tree, wanted) = (parse(rt.alloc(), text)?, parse(rt.alloc(), written)?);
-        assert_eq!(rt; tree, wanted, "{text:?}");
-    }
-    Ok(())
+fn texts_read_as_one_tree(rt: HostRuntime) {
+    read_alike(&rt, READINGS.as_slice());
+}
+
+/// A text reads as so many negations of what another one reads as.
+fn reads_negated(rt: &(impl Abort + AllocGlobal), text: &str, negations: usize, meant: &str) {
+    let tree = tree_of(rt, text);
+    let meant = tree_of(rt, meant);
+    assert_eq!(rt;
+        inside_negations(&tree, negations),
+        Some(&meant),
+        "{text:?}"
+    );
 }
 
 #[test]
-fn sixty_four_levels_are_read(rt: HostRuntime) -> Result<(), Fail> {
-    let alloc = rt.alloc();
+fn sixty_four_levels_are_read(rt: HostRuntime) {
     // How often a sign stands, the sign, what stands behind it, what closes each, and what it reads as.
     let cases = [
         (64, "(", "tcp", ")", "tcp"),
@@ -414,14 +409,10 @@ fn sixty_four_levels_are_read(rt: HostRuntime) -> Result<(), Fail> {
         (62, "!", "port (!80)", "", "not port 80"),
     ];
     for (times, sign, inner, closing, meant) in cases {
-        let (signs, closing) = (sign.repeat(alloc, times)?, closing.repeat(alloc, times)?);
-        let text = format!(in alloc; "{signs}{inner}{closing}")?;
-        let tree = parse(alloc, text.as_str())?;
+        let text = nested(&rt, times, sign, inner, closing);
         let negations = if sign == "(" { 0 } else { times };
-        let inside = inside_negations(&tree, negations);
-        assert_eq!(rt; inside, Some(&parse(alloc, meant)?), "{text:?}");
+        reads_negated(&rt, text.as_str(), negations, meant);
     }
-    Ok(())
 }
 
 /// What so many negations of a tree stand before, if it has so many.
@@ -437,14 +428,18 @@ fn inside_negations(tree: &Expr, times: usize) -> Option<&Expr> {
 }
 
 #[test]
-fn levels_that_are_closed_count_no_more(rt: HostRuntime) -> Result<(), Fail> {
-    let alloc = rt.alloc();
-    let (open, close) = ("(".repeat(alloc, 64)?, ")".repeat(alloc, 64)?);
-    let text = format!(in alloc; "{open}tcp{close} and {open}udp{close}")?;
-    assert_eq!(rt; parse(alloc, text.as_str())?, parse(alloc, "tcp and udp")?);
-    let text = format!(in alloc; "!ip{}", "&&!ip".repeat(alloc, 99)?)?;
-    assert!(rt; parse(alloc, text.as_str()).is_ok());
-    Ok(())
+fn levels_that_are_closed_count_no_more(rt: HostRuntime) {
+    let text = nested(&rt, 64, "(", "tcp", ")");
+    let text = chain(&rt, text.as_str(), " and ", 1);
+    let text = chain(
+        &rt,
+        text.as_str(),
+        nested(&rt, 64, "(", "udp", ")").as_str(),
+        1,
+    );
+    read_alike(&rt, &[(text.as_str(), "tcp and udp")]);
+    let text = chain(&rt, "!ip", "&&!ip", 99);
+    assert!(rt; parse(rt.alloc(), text.as_str()).is_ok());
 }
 
 /// How many `or` join a tree from the left, where each term behind one is this test.
@@ -462,38 +457,33 @@ fn joined_from_the_left(tree: &Expr, each: &Expr) -> Option<usize> {
 }
 
 #[test]
-fn long_chains_are_read_and_dropped(rt: HostRuntime) -> Result<(), Fail> {
-    let alloc = rt.alloc();
-    let text = format!(in alloc; "ip{}", "||ip".repeat(alloc, 2047)?)?;
-    let tree = parse(alloc, text.as_str())?;
+fn long_chains_are_read_and_dropped(rt: HostRuntime) {
+    let text = chain(&rt, "ip", "||ip", 2047);
+    let tree = tree_of(&rt, text.as_str());
     assert_eq!(rt; joined_from_the_left(&tree, &plain(Plain::Ip)), Some(2047));
     // The longest chain that a text has room for.
-    let text = format!(in alloc; "net 1{}", "||1".repeat(alloc, 2729)?)?;
+    let text = chain(&rt, "net 1", "||1", 2729);
     assert_eq!(rt; text.len(), 8192);
-    let tree = parse(alloc, text.as_str())?;
+    let tree = tree_of(&rt, text.as_str());
     let first = Expr::Test(net(None, SrcOrDst, 0x0100_0000, 0xff00_0000));
     assert_eq!(rt; joined_from_the_left(&tree, &first), Some(2729));
-    Ok(())
 }
 
 #[test]
-fn nearly_each_byte_may_be_a_token(rt: HostRuntime) -> Result<(), Fail> {
-    let alloc = rt.alloc();
-    let signs = "!".repeat(alloc, 64)?;
-    let first = format!(in alloc; "{signs}net 1")?;
-    let next = format!(in alloc; "||{signs}1")?;
-    let text = format!(in alloc; "{first}{}", next.repeat(alloc, 120)?)?;
+fn nearly_each_byte_may_be_a_token(rt: HostRuntime) {
+    let first = chain(&rt, chain(&rt, "", "!", 64).as_str(), "net 1", 1);
+    let next = chain(&rt, chain(&rt, "||", "!", 64).as_str(), "1", 1);
+    let text = chain(&rt, first.as_str(), next.as_str(), 120);
     assert_eq!(rt; text.len(), 8109);
-    let (tree, each) = (parse(alloc, text.as_str())?, parse(alloc, first.as_str())?);
+    let tree = tree_of(&rt, text.as_str());
+    let each = tree_of(&rt, first.as_str());
     assert_eq!(rt; joined_from_the_left(&tree, &each), Some(120));
-    Ok(())
 }
 
 #[test]
-fn blanks_may_fill_a_text_up(rt: HostRuntime) -> Result<(), Fail> {
-    let text = format!(in rt.alloc(); "tcp{}", " ".repeat(rt.alloc(), 8189)?)?;
-    assert_eq!(rt; parse(rt.alloc(), text.as_str())?, plain(Plain::Tcp));
-    Ok(())
+fn blanks_may_fill_a_text_up(rt: HostRuntime) {
+    let text = chain(&rt, "tcp", " ", 8189);
+    reads_as(&rt, text.as_str(), plain(Plain::Tcp));
 }
 
 /// Whether a tree is that of `not port 80 and tcp or port (1 or 2)`, found without taking memory.
@@ -513,8 +503,7 @@ fn is_whole(tree: &Expr) -> bool {
 /// This one passes too where any one request for memory is refused.
 #[test]
 fn want_of_memory_is_named(rt: HostRuntime) {
-    match parse(rt.alloc(), "not port 80 and tcp or port (1 or 2)") {
-        Ok(tree) => assert!(rt; is_whole(&tree)),
-        Err(fault) => assert_eq!(rt; fault, Fault::NoMemory),
+    if let Some(tree) = read_unless_no_memory(&rt, "not port 80 and tcp or port (1 or 2)") {
+        assert!(rt; is_whole(&tree));
     }
 }
