@@ -37,6 +37,8 @@ UNPROVED = re.compile(r"^(?:fn|struct|enum|impl|trait|const) (\S+): (not proved.
 CALLS_UNPROVED = "no proof: it calls "
 # An error says that a text can't be read, where it stands in the code and names no goal, or says one of these.
 UNREAD = re.compile(r"is not in scope|has no field|is no name|operand is missing|expected the end|cannot continue")
+# An error of a proof that names what an edit took away, or that cites such a proof: it tells nothing of a goal.
+NAMES_GONE = re.compile(r"has no field|is not in scope|has no `|was not admitted")
 
 
 class Function:
@@ -248,7 +250,7 @@ def own_goals(log, name, why, others):
     at = re.escape("/".join(front.split("::")[1:]))
     wrong = re.findall(rf"^\./proofs/{at}/(?:\+(\w+)|{re.escape(own)})/\S+ error: `([^`]*)`: (.*)", log, re.M)
     goals = [(answers and answers[1], goal) for goal in asked]
-    goals += [(group, goal) for group, goal, said in wrong if "was not admitted" not in said]
+    goals += [(group, goal) for group, goal, said in wrong if not NAMES_GONE.search(said)]
     # Functions that call themselves or one another have one folder of proofs, as `+value`. Where it has several, each of
     # them comes back as not proved, and a goal begins with the name of its own.
     of_others = tuple(f"{it}-" for it in others)
@@ -351,6 +353,8 @@ class Trial:
             self.end(edit, False, f"the prover can't read it: {said[0] if said else log[-300:]}")
         elif re.search(r"^logic=proved\b", log, re.M):
             self.end(edit, False, "it is still PROVED")
+        elif not found and any(NAMES_GONE.search(it) for it in re.findall(r"^\./proofs/.* error: .*", log, re.M)):
+            self.end(edit, True, "only since a proof names what the edit took away, which says little of the contract")
         elif not found:
             self.end(edit, False, "no function is named as not proved with a goal of its own")
         else:
