@@ -288,13 +288,13 @@ class Trial:
         self.waiting, self.room, self.logs = waiting, room, logs
         self.count = sum(len(batch) for batches in waiting.values() for batch in batches)
         self.at, self.passed, self.failed = collections.Counter(), 0, []
-        self.lock, self.start = threading.Lock(), time.monotonic()
+        self.lock, self.start, self.is_stopped = threading.Lock(), time.monotonic(), False
 
     def next_batch(self, mine):
         """The next batch: of this lane's crate if it has any left, else of the crate with the fewest lanes."""
         with self.lock:
             left = [it for it in self.waiting if self.waiting[it]]
-            if not left:
+            if not left or self.is_stopped:
                 return None
             crate = mine if mine in left else min(left, key=lambda it: (self.at[it], -len(self.waiting[it])))
             self.at[crate] += 1
@@ -302,6 +302,8 @@ class Trial:
 
     def end(self, edit, well, said):
         with self.lock:
+            if self.is_stopped:
+                return
             self.passed += well
             self.failed += [str(edit)] * (not well)
             share = f"{self.passed + len(self.failed)}/{self.count}"
@@ -343,6 +345,8 @@ class Trial:
                 self.try_alone(copy, edit)
 
     def try_alone(self, copy, edit):
+        if self.is_stopped:
+            return
         if edit.why:
             return self.end(edit, False, edit.why)
         self.say(f"{copy.crate}: {edit.name} alone")
@@ -416,13 +420,17 @@ def main():
         return show(waiting)
     with tempfile.TemporaryDirectory(prefix="edits-", ignore_cleanup_errors=True) as room:
         trial = Trial(waiting, room, given.logs)
-        # Where a person stops it, the lanes end with the process.
-        lanes = [threading.Thread(target=trial.lane, daemon=True) for _ in range(max(1, given.jobs))]
+        lanes = [threading.Thread(target=trial.lane) for _ in range(max(1, given.jobs))]
         [it.start() for it in lanes]
-        [it.join() for it in lanes]
+        while any(it.is_alive() for it in lanes):
+            try:
+                time.sleep(0.2)
+            except KeyboardInterrupt:
+                # The checks that run are interrupted too: what they say is no answer.
+                trial.is_stopped = True
     if trial.failed:
         print(f"FAILED: {' '.join(trial.failed)}")
-    # An edit that a fault of this script left untried has not passed.
+    # An edit that was left untried has not passed.
     failed = trial.count - trial.passed
     print(f"{trial.passed} passed, {failed} failed")
     return 1 if failed else 0
