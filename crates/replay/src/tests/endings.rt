@@ -174,11 +174,11 @@ fn torn_behind_one(alloc: Global) -> Result<Vec<Source>, AllocError> {
     let three = [TCP_FRAME, UDP_FRAME, TCP_FRAME];
     let mut torn = source_of(capture(alloc, 2, &three)?);
     torn.inner.end = 185;
-    vec![in alloc;
+    Ok(vec![in alloc;
         source_of(capture(alloc, 1, &[UDP_FRAME])?),
         torn,
         source_of(capture(alloc, 9, &three)?),
-    ]
+    ]?)
 }
 
 #[test]
@@ -196,11 +196,11 @@ fn failing_behind_one(alloc: Global, at_byte: usize) -> Result<Vec<Source>, Allo
     let mut failing = two_at(alloc, 2)?;
     failing.inner.end = at_byte;
     failing.inner.fails = true;
-    vec![in alloc;
+    Ok(vec![in alloc;
         source_of(capture(alloc, 1, &[UDP_FRAME])?),
         failing,
         two_at(alloc, 9)?,
-    ]
+    ]?)
 }
 
 /// Tests that so many packets before the byte at which a device fails are written, and no packet behind it.

@@ -85,7 +85,7 @@ fn crowded<W: Drop>(
     let text = capture(alloc, 1, frames(alloc, packets)?.as_slice())?;
     let captures = vec![in alloc; source_of(text)]?;
     let tasks = vec![in alloc; task]?;
-    vec![in alloc; Interface { captures, tasks }]
+    Ok(vec![in alloc; Interface { captures, tasks }]?)
 }
 
 #[test]
