@@ -185,7 +185,8 @@ fn each_step_is_told_once_with_its_numbers(rt: HostRuntime) -> Result<(), Fail> 
     let reports = run(&rt, rt.alloc(), interfaces, &watch)?;
     assert_eq!(rt; watch.odd.load(SeqCst), 0);
     end_clean(&rt, reports.as_slice(), 2);
-    was_told(&rt, &watch.told[0], 3, [2, 3]);
-    was_told(&rt, &watch.told[1], 2, [1, 2]);
+    for (told, (arrivals, packets)) in watch.told.iter().zip([(3, [2, 3]), (2, [1, 2])]) {
+        was_told(&rt, told, arrivals, packets);
+    }
     Ok(())
 }
