@@ -16,9 +16,6 @@ use std::alloc::{AllocError, Global};
 use std::io;
 use std::io::{Read, Write};
 use std::process::Abort;
-use std::sync::Wait;
-use std::test::Fail;
-use std::thread::Threads;
 
 /// Little-endian, microseconds, snapshot length 262,144, Ethernet.
 const HEADER: [u8; 24] = [
@@ -191,25 +188,10 @@ fn told<W: Drop>(alloc: Global, report: &ListenerReport<W>) -> Result<String, Al
     )
 }
 
-type Source = Counted<Tape>;
-
-type Sink = Counted<Paper>;
-
-/// Replays one interface, and gives its report.
-fn replay_one(
-    rt: &(impl Abort + AllocGlobal + Threads + Wait + Sync),
-    interface: Interface<Source, Sink>,
-) -> Result<InterfaceReport<Source, Sink>, Fail> {
-    let interfaces = vec![in rt.alloc(); interface]?;
-    let mut reports = run(rt, rt.alloc(), interfaces, &Open)?;
-    assert_eq!(rt; reports.len(), 1);
-    Ok(reports.pop().expect(rt, "a report"))
-}
-
 /// Tests what is told of a task, and the bytes of its savefile.
 fn serves(
     rt: &(impl Abort + AllocGlobal),
-    report: &ListenerReport<Sink>,
+    report: &ListenerReport<Counted<Paper>>,
     want: &str,
     bytes: &[u8],
 ) {

@@ -6,7 +6,6 @@ use bpfvm::read_listing;
 use listener::Mode;
 use savefile::{Counted, Order, Unit};
 use std::alloc::Global;
-use std::process::Abort;
 use std::sync::Wait;
 use std::test::Fail;
 use std::thread::Threads;
@@ -44,13 +43,6 @@ fn sorted_out<R: Threads + Wait + Sync>(
     Ok(files)
 }
 
-/// A savefile has these bytes, and nothing was lost.
-fn has_all(rt: &impl Abort, file: &(Vec<u8>, u64), bytes: &[u8]) {
-    let (file, lost) = file;
-    assert!(rt; file.as_slice() == bytes);
-    assert_eq!(rt; *lost, 0);
-}
-
 #[test]
 fn the_example_of_the_page(rt: HostRuntime) -> Result<(), Fail> {
     // Ethernet frames of 14 bytes of IPv4 and of ARP; a listing that accepts IPv4, and one that accepts everything
@@ -65,7 +57,11 @@ fn the_example_of_the_page(rt: HostRuntime) -> Result<(), Fail> {
     let all = b"1\n6 0 0 262144\n";
     let files = sorted_out(&rt, rt.alloc(), &[ip, all], &capture)?;
     assert_eq!(rt; files.len(), 2);
-    has_all(&rt, at(&rt, files.as_slice(), 0), &capture[..54]);
-    has_all(&rt, at(&rt, files.as_slice(), 1), &capture);
+    let (file, lost) = at(&rt, files.as_slice(), 0);
+    assert!(rt; file.as_slice() == &capture[..54]);
+    assert_eq!(rt; *lost, 0);
+    let (file, lost) = at(&rt, files.as_slice(), 1);
+    assert!(rt; file.as_slice() == capture.as_slice());
+    assert_eq!(rt; *lost, 0);
     Ok(())
 }

@@ -1,9 +1,12 @@
 //! Reading goes on while packets arrive.
 
 use super::*;
+use std::sync::Wait;
 use std::sync::atomic::Ordering::SeqCst;
 use std::sync::atomic::{AtomicBool, AtomicU64};
+use std::test::Fail;
 use std::thread;
+use std::thread::Threads;
 use std::time::{Clock, Duration};
 
 /// How many packets each of the two listeners accepts of the first 0, 1 and 2.
@@ -93,7 +96,11 @@ impl<R: Clock> Gate for Lockstep<'_, R> {
 
 /// The interface of the example: T and U arrive, and then T, at a listener for TCP, whose sink has so much room, and one for
 /// all. Where they are Immediate, nothing is flushed.
-fn example(alloc: Global, mode: Mode, room: usize) -> Result<Vec<Interface<Source, Sink>>, Fail> {
+fn example(
+    alloc: Global,
+    mode: Mode,
+    room: usize,
+) -> Result<Vec<Interface<Counted<Tape>, Counted<Paper>>>, Fail> {
     let captures = vec![in alloc;
         source_of(capture(alloc, 1, &[TCP_FRAME, UDP_FRAME])?),
         source_of(capture(alloc, 3, &[TCP_FRAME])?),
@@ -116,36 +123,25 @@ fn example(alloc: Global, mode: Mode, room: usize) -> Result<Vec<Interface<Sourc
     Ok(vec![in alloc; Interface { captures, tasks }]?)
 }
 
-/// The first listener of the example keeps the packets of TCP.
-fn keeps_tcp(rt: &(impl Abort + AllocGlobal), report: &InterfaceReport<Source, Sink>) {
-    let tcp = [(1, TCP_FRAME), (3, TCP_FRAME)];
-    let tcp = written(rt.alloc(), 64, &tcp, 38).expect(rt, "memory");
-    let listener = at(rt, report.listeners.as_slice(), 0);
-    serves(rt, listener, "132 3 2 0 2 Clean", tcp.as_slice());
-}
-
-/// The second listener of the example keeps all packets.
-fn keeps_all(rt: &(impl Abort + AllocGlobal), report: &InterfaceReport<Source, Sink>) {
-    let all = [(1, TCP_FRAME), (2, UDP_FRAME), (3, TCP_FRAME)];
-    let all = written(rt.alloc(), 0, &all, 38).expect(rt, "memory");
-    let listener = at(rt, report.listeners.as_slice(), 1);
-    serves(rt, listener, "186 3 3 0 3 Clean", all.as_slice());
-}
-
 /// Replays the example in lockstep, and tests that each listener keeps all that it accepts.
 fn overlaps(
     rt: &(impl Abort + AllocGlobal + Clock + Threads + Wait + Sync),
     mode: Mode,
 ) -> Result<(), Fail> {
+    let alloc = rt.alloc();
     let gate = Lockstep::new(rt, 0);
-    let interfaces = example(rt.alloc(), mode, usize::MAX)?;
-    let reports = run(rt, rt.alloc(), interfaces, &gate)?;
+    let reports = run(rt, alloc, example(alloc, mode, usize::MAX)?, &gate)?;
     assert!(rt; !gate.is_late.load(SeqCst));
     assert_eq!(rt; gate.entered.load(SeqCst), 3);
     let report = at(rt, reports.as_slice(), 0);
     assert_eq!(rt; report.end, InterfaceEnd::Clean);
-    keeps_tcp(rt, report);
-    keeps_all(rt, report);
+    let tcp = written(alloc, 64, &[(1, TCP_FRAME), (3, TCP_FRAME)], 38)?;
+    let listener = at(rt, report.listeners.as_slice(), 0);
+    serves(rt, listener, "132 3 2 0 2 Clean", tcp.as_slice());
+    let all = [(1, TCP_FRAME), (2, UDP_FRAME), (3, TCP_FRAME)];
+    let all = written(alloc, 0, &all, 38)?;
+    let listener = at(rt, report.listeners.as_slice(), 1);
+    serves(rt, listener, "186 3 3 0 3 Clean", all.as_slice());
     Ok(())
 }
 
@@ -159,26 +155,25 @@ fn immediate_packets_are_read_without_a_flush(rt: HostRuntime) -> Result<(), Fai
     overlaps(&rt, Mode::Immediate)
 }
 
-/// A listener whose sink took the header alone wrote nothing more.
-fn wrote_the_header(rt: &(impl Abort + AllocGlobal), broken: &ListenerReport<Sink>) {
-    assert_eq!(rt; broken.end, TaskEnd::Write(24));
-    assert_eq!(rt; (broken.sent, broken.written), (24, 0));
-    assert!(rt; broken.received >= 1 && broken.received <= 3);
-    let head = written(rt.alloc(), 64, &[], 38).expect(rt, "memory");
-    assert_eq!(rt; broken.sink.inner.bytes.as_slice(), head.as_slice());
-    assert_eq!(rt; broken.sink.failures, 1);
-}
-
 #[test]
 fn one_failed_sink_leaves_the_others(rt: HostRuntime) -> Result<(), Fail> {
+    let alloc = rt.alloc();
     let gate = Lockstep::new(&rt, 1);
-    let interfaces = example(rt.alloc(), Mode::Buffered, 24)?;
-    let reports = run(&rt, rt.alloc(), interfaces, &gate)?;
+    let reports = run(&rt, alloc, example(alloc, Mode::Buffered, 24)?, &gate)?;
     assert!(rt; !gate.is_late.load(SeqCst));
     let report = at(&rt, reports.as_slice(), 0);
     assert_eq!(rt; report.end, InterfaceEnd::Clean);
-    wrote_the_header(&rt, at(&rt, report.listeners.as_slice(), 0));
-    keeps_all(&rt, report);
+    let broken = at(&rt, report.listeners.as_slice(), 0);
+    assert_eq!(rt; broken.end, TaskEnd::Write(24));
+    assert_eq!(rt; (broken.sent, broken.written), (24, 0));
+    assert!(rt; broken.received >= 1 && broken.received <= 3);
+    let head = written(alloc, 64, &[], 38)?;
+    assert_eq!(rt; broken.sink.inner.bytes.as_slice(), head.as_slice());
+    assert_eq!(rt; broken.sink.failures, 1);
+    let all = [(1, TCP_FRAME), (2, UDP_FRAME), (3, TCP_FRAME)];
+    let all = written(alloc, 0, &all, 38)?;
+    let listener = at(&rt, report.listeners.as_slice(), 1);
+    serves(&rt, listener, "186 3 3 0 3 Clean", all.as_slice());
     Ok(())
 }
 
@@ -219,7 +214,7 @@ fn interfaces_are_replayed_side_by_side(rt: HostRuntime) -> Result<(), Fail> {
         entered: AtomicU64::new(0),
         met: AtomicU64::new(0),
     };
-    let mut interfaces: Vec<Interface<Source, Sink>> = Vec::new(alloc);
+    let mut interfaces: Vec<Interface<Counted<Tape>, Counted<Paper>>> = Vec::new(alloc);
     for sec in 0..2 {
         interfaces.push(Interface {
             captures: vec![in alloc; source_of(capture(alloc, sec, &[TCP_FRAME])?)]?,

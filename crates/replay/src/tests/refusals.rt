@@ -2,8 +2,11 @@
 
 use super::*;
 use listener::OpenFault;
+use std::sync::Wait;
 use std::sync::atomic::AtomicU64;
 use std::sync::atomic::Ordering::SeqCst;
+use std::test::Fail;
+use std::thread::Threads;
 
 /// A device that ends at once, and takes everything. It counts its calls.
 #[derive(Drop)]
@@ -56,20 +59,6 @@ fn interface<'a>(
         captures: sources,
         tasks: made,
     })
-}
-
-/// So many interfaces, with so many captures each, and one task that stands.
-fn interfaces_of_one_task(
-    alloc: Global,
-    calls: &AtomicU64,
-    interfaces: usize,
-    captures: usize,
-) -> Result<Vec<Interface<Tally<'_>, Tally<'_>>>, Fail> {
-    let mut made = Vec::new(alloc);
-    for _ in 0..interfaces {
-        made.push(interface(alloc, calls, captures, &[RIGHT])?)?;
-    }
-    Ok(made)
 }
 
 /// Tests that a replay is refused, with this fault, and that nothing was read or written.
@@ -134,7 +123,10 @@ fn the_first_of_several_refusals_is_told(rt: HostRuntime) -> Result<(), Fail> {
 #[test]
 fn seventeen_interfaces_are_too_many(rt: HostRuntime) -> Result<(), Fail> {
     let calls = AtomicU64::new(0);
-    let interfaces = interfaces_of_one_task(rt.alloc(), &calls, 17, 1)?;
+    let mut interfaces = Vec::new(rt.alloc());
+    for _ in 0..17 {
+        interfaces.push(interface(rt.alloc(), &calls, 1, &[RIGHT])?)?;
+    }
     refuses(&rt, &calls, interfaces, RunFault::TooMany);
     Ok(())
 }
@@ -147,8 +139,15 @@ fn too_many_captures_are_refused(rt: HostRuntime) -> Result<(), Fail> {
     Ok(())
 }
 
-/// The first of 65,536 captures ended an interface, and each of its 64 tasks is clean and wrote its header.
-fn ends_at_the_first_capture(rt: &impl Abort, report: &InterfaceReport<Tally<'_>, Tally<'_>>) {
+#[test]
+fn the_most_of_everything_is_replayed(rt: HostRuntime) -> Result<(), Fail> {
+    // 64 tasks, and 65,536 captures of which the first has no header
+    let calls = AtomicU64::new(0);
+    let mut tasks = [RIGHT; 64];
+    tasks[0] = (1, 40, 64);
+    let interfaces = vec![in rt.alloc(); interface(rt.alloc(), &calls, 65_536, &tasks)?]?;
+    let reports = run(&rt, rt.alloc(), interfaces, &Open)?;
+    let report = at(&rt, reports.as_slice(), 0);
     let fault = savefile::Fault::ShortHeader;
     assert_eq!(rt; report.end, InterfaceEnd::Capture(0, fault));
     assert_eq!(rt;
@@ -158,43 +157,24 @@ fn ends_at_the_first_capture(rt: &impl Abort, report: &InterfaceReport<Tally<'_>
     for listener in &report.listeners {
         assert_eq!(rt; (listener.sent, listener.end), (24, TaskEnd::Clean));
     }
-}
-
-/// 64 tasks, and 65,536 captures of which the first has no header, are replayed.
-fn replays_the_most_captures_and_tasks(
-    rt: &(impl Abort + AllocGlobal + Threads + Wait + Sync),
-) -> Result<(), Fail> {
-    let calls = AtomicU64::new(0);
-    let mut tasks = [RIGHT; 64];
-    tasks[0] = (1, 40, 64);
-    let interfaces = vec![in rt.alloc(); interface(rt.alloc(), &calls, 65_536, &tasks)?]?;
-    let reports = run(rt, rt.alloc(), interfaces, &Open)?;
-    ends_at_the_first_capture(rt, at(rt, reports.as_slice(), 0));
     // the first source alone was read, once, and each header was written at one go
     assert_eq!(rt; calls.load(SeqCst), 65);
-    Ok(())
-}
-
-/// 16 interfaces are replayed.
-fn replays_the_most_interfaces(
-    rt: &(impl Abort + AllocGlobal + Threads + Wait + Sync),
-) -> Result<(), Fail> {
+    // 16 interfaces
     let calls = AtomicU64::new(0);
-    let interfaces = interfaces_of_one_task(rt.alloc(), &calls, 16, 0)?;
-    let reports = run(rt, rt.alloc(), interfaces, &Open)?;
+    let mut interfaces = Vec::new(rt.alloc());
+    for _ in 0..16 {
+        interfaces.push(interface(rt.alloc(), &calls, 0, &[RIGHT])?)?;
+    }
+    let reports = run(&rt, rt.alloc(), interfaces, &Open)?;
     assert_eq!(rt; reports.len(), 16);
     for report in &reports {
-        let told = (report.end, report.listeners.len());
-        assert_eq!(rt; told, (InterfaceEnd::Clean, 1));
+        assert_eq!(rt;
+            (report.end, report.listeners.len()),
+            (InterfaceEnd::Clean, 1)
+        );
     }
     assert_eq!(rt; calls.load(SeqCst), 16);
     Ok(())
-}
-
-#[test]
-fn the_most_of_everything_is_replayed(rt: HostRuntime) -> Result<(), Fail> {
-    replays_the_most_captures_and_tasks(&rt)?;
-    replays_the_most_interfaces(&rt)
 }
 
 #[test]

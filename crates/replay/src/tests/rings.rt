@@ -3,6 +3,7 @@
 use super::*;
 use std::sync::atomic::AtomicU64;
 use std::sync::atomic::Ordering::SeqCst;
+use std::test::Fail;
 use std::thread;
 use std::time::{Clock, Duration};
 
@@ -76,18 +77,6 @@ fn frames(alloc: Global, packets: usize) -> Result<Vec<[u8; 38]>, AllocError> {
     Ok(frames)
 }
 
-/// An interface of a capture of so many packets, and this task.
-fn crowded<W: Drop>(
-    alloc: Global,
-    packets: usize,
-    task: Task<W>,
-) -> Result<Vec<Interface<Source, W>>, AllocError> {
-    let text = capture(alloc, 1, frames(alloc, packets)?.as_slice())?;
-    let captures = vec![in alloc; source_of(text)]?;
-    let tasks = vec![in alloc; task]?;
-    Ok(vec![in alloc; Interface { captures, tasks }]?)
-}
-
 #[test]
 fn as_many_batches_are_read_ahead_as_buffers_go_round(rt: HostRuntime) -> Result<(), Fail> {
     let alloc = rt.alloc();
@@ -105,7 +94,14 @@ fn as_many_batches_are_read_ahead_as_buffers_go_round(rt: HostRuntime) -> Result
     // Room for one packet in each buffer.
     let mut one = task(keeping_all()?, 64, 96, sink);
     one.spares = SPARES;
-    let reports = run(&rt, alloc, crowded(alloc, 60, one)?, &gate)?;
+    let text = capture(alloc, 1, frames(alloc, 60)?.as_slice())?;
+    let interfaces = vec![in alloc;
+        Interface {
+            captures: vec![in alloc; source_of(text)]?,
+            tasks: vec![in alloc; one]?,
+        },
+    ]?;
+    let reports = run(&rt, alloc, interfaces, &gate)?;
     let report = at(&rt, reports.as_slice(), 0);
     let one = at(&rt, report.listeners.as_slice(), 0);
     assert_eq!(rt; one.end, TaskEnd::Clean);
@@ -121,8 +117,14 @@ fn a_failed_write_closes_the_drain(rt: HostRuntime) -> Result<(), Fail> {
         rt: &rt,
         read: &read,
     };
-    let one = task(keeping_all()?, 64, 96, sink_with(alloc, 24));
-    let reports = run(&rt, alloc, crowded(alloc, 250, one)?, &gate)?;
+    let text = capture(alloc, 1, frames(alloc, 250)?.as_slice())?;
+    let interfaces = vec![in alloc;
+        Interface {
+            captures: vec![in alloc; source_of(text)]?,
+            tasks: vec![in alloc; task(keeping_all()?, 64, 96, sink_with(alloc, 24))]?,
+        },
+    ]?;
+    let reports = run(&rt, alloc, interfaces, &gate)?;
     let report = at(&rt, reports.as_slice(), 0);
     assert_eq!(rt; report.end, InterfaceEnd::Clean);
     let one = at(&rt, report.listeners.as_slice(), 0);

@@ -4,6 +4,7 @@ use super::*;
 use savefile::Fault;
 use std::sync::atomic::AtomicBool;
 use std::sync::atomic::Ordering::SeqCst;
+use std::test::Fail;
 use std::thread;
 use std::time::{Clock, Duration};
 
@@ -46,7 +47,7 @@ fn narrow(
     alloc: Global,
     packets: u8,
     flush_every: u32,
-) -> Result<Vec<Interface<Source, Sink>>, Fail> {
+) -> Result<Vec<Interface<Counted<Tape>, Counted<Paper>>>, Fail> {
     let mut text = Vec::from_slice(alloc, &HEADER)?;
     for sec in 0..packets {
         put_record(&mut text, sec, &TCP_FRAME, 38)?;
@@ -104,47 +105,35 @@ fn stand_among(records: &[u8], others: &[u8]) -> bool {
     true
 }
 
-/// A listener of 250 packets keeps some of them, as they stand in the whole, and drops the others.
-fn keeps_some_in_order(rt: &impl Abort, listener: &ListenerReport<Sink>, whole: &[u8]) {
-    assert_eq!(rt; listener.end, TaskEnd::Clean);
-    assert_eq!(rt; (listener.received, listener.matched), (250, 250));
-    assert_eq!(rt; listener.dropped.wrapping_add(listener.written), 250);
-    let file = listener.sink.inner.bytes.as_slice();
-    let records = file.get(24..).unwrap_or(&[]);
-    assert_eq!(rt; records.len() as u64, 36 * listener.written.min(250));
-    assert!(rt; stand_among(records, whole));
-}
-
-/// Two listeners keep some of 250 packets in order, flushed after so many.
-fn keep_some_in_order(
-    rt: &(impl Abort + AllocGlobal + Threads + Wait + Sync),
-    flush_every: u32,
-    whole: &[u8],
-) -> Result<(), Fail> {
-    let interfaces = narrow(rt.alloc(), 250, flush_every)?;
-    let reports = run(rt, rt.alloc(), interfaces, &Open)?;
-    let report = at(rt, reports.as_slice(), 0);
-    assert_eq!(rt; report.end, InterfaceEnd::Clean);
-    for listener in &report.listeners {
-        keeps_some_in_order(rt, listener, whole);
-    }
-    Ok(())
-}
-
 #[test]
 fn what_small_buffers_keep_stands_in_order(rt: HostRuntime) -> Result<(), Fail> {
-    let mut whole = Vec::new(rt.alloc());
+    let alloc = rt.alloc();
+    let mut whole = Vec::new(alloc);
     for sec in 0..250 {
         put_record(&mut whole, sec, &TCP_FRAME, 20)?;
     }
     for flush_every in 0..20 {
-        keep_some_in_order(&rt, flush_every, whole.as_slice())?;
+        let reports = run(&rt, alloc, narrow(alloc, 250, flush_every)?, &Open)?;
+        let report = at(&rt, reports.as_slice(), 0);
+        assert_eq!(rt; report.end, InterfaceEnd::Clean);
+        for listener in &report.listeners {
+            assert_eq!(rt; listener.end, TaskEnd::Clean);
+            assert_eq!(rt; (listener.received, listener.matched), (250, 250));
+            assert_eq!(rt; listener.dropped.wrapping_add(listener.written), 250);
+            let file = listener.sink.inner.bytes.as_slice();
+            let records = file.get(24..).unwrap_or(&[]);
+            assert_eq!(rt; records.len() as u64, 36 * listener.written.min(250));
+            assert!(rt; stand_among(records, whole.as_slice()));
+        }
     }
     Ok(())
 }
 
 /// Two captures of a frame each, and one listener, whose sink takes no memory.
-fn lasting(alloc: Global, program: Program) -> Result<Vec<Interface<Source, Sink>>, AllocError> {
+fn lasting(
+    alloc: Global,
+    program: Program,
+) -> Result<Vec<Interface<Counted<Tape>, Counted<Paper>>>, AllocError> {
     let captures = vec![in alloc;
         source_of(capture(alloc, 1, &[TCP_FRAME])?),
         source_of(capture(alloc, 2, &[TCP_FRAME])?),
@@ -157,9 +146,22 @@ fn lasting(alloc: Global, program: Program) -> Result<Vec<Interface<Source, Sink
     Ok(vec![in alloc; Interface { captures, tasks }]?)
 }
 
-/// How many packets stand before the end of an interface of two, which may be for want of memory.
-fn packets_before(rt: &impl Abort, end: InterfaceEnd) -> u64 {
-    match end {
+// By hand: with `rt try --test --fail-alloc N` this passes for every N.
+#[test]
+fn want_of_memory_is_told_by_name(rt: HostRuntime) {
+    let program = keeping_all().expect(&rt, "a program");
+    let Ok(interfaces) = lasting(rt.alloc(), program) else {
+        return;
+    };
+    let reports = match run(&rt, rt.alloc(), interfaces, &Open) {
+        Ok(reports) => reports,
+        Err(fault) => {
+            assert_eq!(rt; fault, RunFault::NoStart);
+            return;
+        }
+    };
+    let report = at(&rt, reports.as_slice(), 0);
+    let packets = match report.end {
         InterfaceEnd::Capture(n, fault) => {
             assert_eq!(rt; fault, Fault::NoMemory);
             n as u64
@@ -168,32 +170,12 @@ fn packets_before(rt: &impl Abort, end: InterfaceEnd) -> u64 {
             assert_eq!(rt; end, InterfaceEnd::Clean);
             2
         }
-    }
-}
-
-/// A listener is clean and wrote so many packets.
-fn wrote(rt: &impl Abort, listener: &ListenerReport<Sink>, packets: u64) {
+    };
+    let listener = at(&rt, report.listeners.as_slice(), 0);
     assert_eq!(rt; listener.end, TaskEnd::Clean);
     assert_eq!(rt;
         (listener.received, listener.written, listener.dropped),
         (packets, packets, 0)
     );
     assert_eq!(rt; listener.sent, 24 + 54 * packets.min(2));
-}
-
-// By hand: with `rt try --test --fail-alloc N` this passes for every N.
-#[test]
-fn want_of_memory_is_told_by_name(rt: HostRuntime) {
-    let program = keeping_all().expect(&rt, "a program");
-    let Ok(interfaces) = lasting(rt.alloc(), program) else {
-        return;
-    };
-    match run(&rt, rt.alloc(), interfaces, &Open) {
-        Ok(reports) => {
-            let report = at(&rt, reports.as_slice(), 0);
-            let packets = packets_before(&rt, report.end);
-            wrote(&rt, at(&rt, report.listeners.as_slice(), 0), packets);
-        }
-        Err(fault) => assert_eq!(rt; fault, RunFault::NoStart),
-    }
 }

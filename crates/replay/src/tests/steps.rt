@@ -3,6 +3,7 @@
 use super::*;
 use std::sync::atomic::AtomicU64;
 use std::sync::atomic::Ordering::SeqCst;
+use std::test::Fail;
 use std::thread;
 use std::time::{Clock, Duration};
 
@@ -60,15 +61,7 @@ struct Watch<'a, R> {
     odd: AtomicU64,
 }
 
-impl<'a, R> Watch<'a, R> {
-    fn new(rt: &'a R) -> Watch<'a, R> {
-        Watch {
-            rt,
-            told: [Told::new(), Told::new()],
-            odd: AtomicU64::new(0),
-        }
-    }
-
+impl<R> Watch<'_, R> {
     fn of(&self, interface: u32) -> Option<&Told> {
         let told = self.told.get(interface as usize);
         if told.is_none() {
@@ -144,7 +137,10 @@ impl<R: Clock> Gate for Watch<'_, R> {
 }
 
 /// An interface of a capture for each frame, at a listener for TCP and one for all.
-fn interface(alloc: Global, frames: &[[u8; 38]]) -> Result<Interface<Source, Sink>, Fail> {
+fn interface(
+    alloc: Global,
+    frames: &[[u8; 38]],
+) -> Result<Interface<Counted<Tape>, Counted<Paper>>, Fail> {
     let tcp = task(keeping_tcp()?, 64, 96, sink_with(alloc, usize::MAX));
     let all = task(keeping_all()?, 64, 96, sink_with(alloc, usize::MAX));
     let mut captures = Vec::new(alloc);
@@ -157,36 +153,33 @@ fn interface(alloc: Global, frames: &[[u8; 38]]) -> Result<Interface<Source, Sin
     })
 }
 
-/// So many interfaces ended clean.
-fn end_clean(rt: &impl Abort, reports: &[InterfaceReport<Source, Sink>], interfaces: usize) {
-    assert_eq!(rt; reports.len(), interfaces);
-    for report in reports {
-        assert_eq!(rt; report.end, InterfaceEnd::Clean);
-    }
-}
-
-/// So many arrivals of an interface were told, and of each listener so many packets, each begun and ended.
-fn was_told(rt: &impl Abort, told: &Told, arrivals: u64, packets: [u64; 2]) {
-    let ends = (told.began.load(SeqCst), told.arrived.load(SeqCst));
-    assert_eq!(rt; ends, (arrivals, arrivals));
-    for (one, packets) in told.listeners.iter().zip(packets) {
-        assert_eq!(rt; one.packets.load(SeqCst), packets);
-        assert_eq!(rt; one.began.load(SeqCst), one.read.load(SeqCst));
-    }
-}
-
 #[test]
 fn each_step_is_told_once_with_its_numbers(rt: HostRuntime) -> Result<(), Fail> {
-    let watch = Watch::new(&rt);
-    let interfaces = vec![in rt.alloc();
-        interface(rt.alloc(), &[TCP_FRAME, UDP_FRAME, TCP_FRAME])?,
-        interface(rt.alloc(), &[UDP_FRAME, TCP_FRAME])?,
+    let alloc = rt.alloc();
+    let watch = Watch {
+        rt: &rt,
+        told: [Told::new(), Told::new()],
+        odd: AtomicU64::new(0),
+    };
+    let interfaces = vec![in alloc;
+        interface(alloc, &[TCP_FRAME, UDP_FRAME, TCP_FRAME])?,
+        interface(alloc, &[UDP_FRAME, TCP_FRAME])?,
     ]?;
-    let reports = run(&rt, rt.alloc(), interfaces, &watch)?;
+    let reports = run(&rt, alloc, interfaces, &watch)?;
     assert_eq!(rt; watch.odd.load(SeqCst), 0);
-    end_clean(&rt, reports.as_slice(), 2);
+    assert_eq!(rt; reports.len(), 2);
+    for report in &reports {
+        assert_eq!(rt; report.end, InterfaceEnd::Clean);
+    }
     for (told, (arrivals, packets)) in watch.told.iter().zip([(3, [2, 3]), (2, [1, 2])]) {
-        was_told(&rt, told, arrivals, packets);
+        assert_eq!(rt;
+            (told.began.load(SeqCst), told.arrived.load(SeqCst)),
+            (arrivals, arrivals)
+        );
+        for (one, packets) in told.listeners.iter().zip(packets) {
+            assert_eq!(rt; one.packets.load(SeqCst), packets);
+            assert_eq!(rt; one.began.load(SeqCst), one.read.load(SeqCst));
+        }
     }
     Ok(())
 }
