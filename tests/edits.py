@@ -145,10 +145,12 @@ def edits_of(crate):
 
 
 def called(function, functions):
-    """What a function may call: by `.name(` each method of that name, by `Type::name` that type's, by `name` the others."""
+    """What a function may call: by `.name(` each method of that name, by `Type::name` that type's, by `name` the others. A
+    name behind a trait or a type parameter, as in `Sink::write`, may be that of any method."""
     text = re.sub(r"//.*|^ *(?:requires|ensures|ghost)\b.*", "", function.text.partition(function.name)[2], flags=re.M)
-    methods = set(re.findall(r"\.\s*(\w+)\(", text))
-    of_types = re.findall(r"\b([A-Z]\w*)::([a-z]\w*)", re.sub(r"\bSelf\b", function.owner, text))
+    owners = {it.owner for it in functions}
+    of_types = re.findall(r"\b([A-Z]\w*)(?:::<[^()]*?>)?::([a-z]\w*)", re.sub(r"\bSelf\b", function.owner, text))
+    methods = set(re.findall(r"\.\s*(\w+)(?:::<[^()]*>)?\(", text)) | {name for of, name in of_types if of not in owners}
     others = set(re.findall(r"(?<![\w.])(?:[a-z]\w*::)*([a-z]\w*)", text))
     is_called = lambda it: it.name in methods or (it.owner, it.name) in of_types if it.owner else it.name in others
     return {it for it in functions if is_called(it)}
