@@ -1,5 +1,5 @@
 """The cases of `tests/program.py`. Each of these modules is a group, and they run in this order."""
-from . import words, check, cut, steps, run, streams, tcpdump, examples, manual, completions
+from . import words, check, cut, steps, run, streams, tcpdump, examples, manual, completions, install
 
-MODULES = [words, check, cut, steps, run, streams, tcpdump, examples, manual, completions]
+MODULES = [words, check, cut, steps, run, streams, tcpdump, examples, manual, completions, install]
 GROUPS = {module.__name__.rpartition(".")[2]: module for module in MODULES}
