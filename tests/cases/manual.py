@@ -1,4 +1,4 @@
-"""The manual pages, `--help` and the completions: they name the same commands and options, and the examples print what they say."""
+"""The manual pages: they, `--help` and the completions name the same, and their examples print what they say."""
 import re
 import shutil
 import subprocess
@@ -153,18 +153,22 @@ def options_offered(shell, command):
     return alone + [name for names in re.findall(r"\{([^}]+)\}'\[", body) for name in names.split(",")]
 
 
-def blocks(page):
-    """The examples of a page: of each its commands as a script, and what it prints, as the reader sees both."""
+def session(lines):
+    """A shell's session as a page shows it: its commands, each behind a `$` and over several lines at times, and the rest."""
+    script, printed, goes_on = "", "", False
+    for line in lines:
+        if goes_on or line.startswith("$ "):
+            script += line if goes_on else line.removeprefix("$ ")
+            goes_on = line.endswith(("\\\n", "|\n"))
+        else:
+            printed += line
+    return script, printed
+
+
+def examples(page):
+    """The examples of a page, as the reader sees them."""
     for text in re.findall(r"^\.Bd -literal.*?\n(.*?)^\.Ed", page.read_text(), re.S | re.M):
-        lines = text.replace("\\-", "-").replace("\\&", "").replace("\\e", "\\").splitlines(keepends=True)
-        script, printed, goes_on = "", "", False
-        for line in lines:
-            if goes_on or line.startswith("$ "):
-                script += line.removeprefix("$ ") if not goes_on else line
-                goes_on = line.endswith(("\\\n", "|\n"))
-            else:
-                printed += line
-        yield script, printed
+        yield session(text.replace("\\-", "-").replace("\\&", "").replace("\\e", "\\").splitlines(keepends=True))
 
 
 @case
@@ -175,7 +179,7 @@ def examples_print_what_they_say(scene):
         (scene.folder / "bin").mkdir()
         (scene.folder / "bin" / "bpftap").symlink_to(PROGRAM)
         (scene.folder / "examples").symlink_to(ROOT / "examples")
-        for script, printed in blocks(page):
+        for script, printed in examples(page):
             done = subprocess.run(
                 ["bash", "-c", f'PATH="$PWD/bin:$PATH"\n{script}'], cwd=scene.folder, stdin=subprocess.DEVNULL,
                 stdout=subprocess.PIPE, stderr=subprocess.STDOUT, timeout=LIMIT)
