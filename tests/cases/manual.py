@@ -129,12 +129,12 @@ def completions_offer_the_same(scene):
     for command in ["", *told]:
         if command == "help":
             continue
-        parts = help_of(scene, command)
+        parts, words = help_of(scene, command), [command] if command else []
         wanted = sorted(help_options(parts))
         for shell in ["bash", "fish", "zsh"]:
             scene.check(f"{shell}, options of {command!r}", sorted(options_offered(shell, command)), wanted)
         for name, values in re.findall(r"^ +(-\w) .*\[possible values: ([^]]+)\]", "\n".join(parts["Options"]), re.M):
-            scene.check(f"values of {command} {name}", sorted(offered(command, name, "")), sorted(values.split(", ")))
+            scene.check(f"values of {command} {name}", sorted(offered(*words, name, "")), sorted(values.split(", ")))
 
 
 def options_offered(shell, command):
@@ -184,6 +184,14 @@ def examples_print_what_they_say(scene):
                 ["bash", "-c", f'PATH="$PWD/bin:$PATH"\n{script}'], cwd=scene.folder, stdin=subprocess.DEVNULL,
                 stdout=subprocess.PIPE, stderr=subprocess.STDOUT, timeout=LIMIT)
             scene.check(f"{page.name}: {script}", done.stdout.decode(), printed)
+
+
+@case
+def faults_of_expressions_are_those_of_the_language(scene):
+    """The page of `check` has the faults of the table in docs/LANGUAGE.md, and no others."""
+    listed = [line.split()[2] for line in section(page_of("check"), "DIAGNOSTICS") if line.startswith(".It Li")]
+    table = (ROOT / "docs" / "LANGUAGE.md").read_text().split("\n## Faults\n")[1].split("\n## ")[0]
+    scene.check("faults", sorted(listed), sorted(re.findall(r"^\| `(\w+)` \|", table, re.M)))
 
 
 @case
