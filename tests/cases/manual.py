@@ -22,45 +22,30 @@ def section(page, name):
     return re.search(rf"^\.Sh {name}\n(.*?)(?=^\.Sh |\Z)", page.read_text(), re.S | re.M).group(1).splitlines()
 
 
-def options_named(line):
-    """The options of a line of mdoc, each with the name of its value, or nothing: `-s` is `Fl s`, `--help` is `Fl -help`."""
-    return dict(re.findall(r"\bFl (-?[\w-]+)(?: Ar (\w+))?", line))
+def options_named(lines):
+    """The options of lines of mdoc, each with the name of its value, or nothing: `-s` is `Fl s`, `--help` is `Fl -help`."""
+    return {f"-{name}": value for line in lines for name, value in re.findall(r"\bFl (-?[\w-]+)(?: Ar (\w+))?", line)}
 
 
 def manual_options(command):
     """The options of a page's lists."""
-    found = {}
-    for line in page_of(command).read_text().splitlines():
-        if line.startswith(".It Fl"):
-            found.update(options_named(line))
-    return {f"-{name}": value for name, value in found.items()}
+    return options_named(line for line in page_of(command).read_text().splitlines() if line.startswith(".It Fl"))
+
+
+def forms(command):
+    """The forms of a page's synopsis, of each the lines behind the name."""
+    text = "\n".join(section(page_of(command), "SYNOPSIS"))
+    return [form.splitlines()[1:] for form in re.split(r"^\.Nm", text, flags=re.M)[1:]]
 
 
 def synopsis_options(command):
-    """The options of a page's synopsis; of the program's page those that stand behind no command."""
-    form, found = "", {}
-    for line in section(page_of(command), "SYNOPSIS"):
-        if line.startswith(".Nm"):
-            form = ""
-        elif line.startswith(".Cm"):
-            form = line
-        elif command or not form:
-            found.update(options_named(line))
-    return {f"-{name}": value for name, value in found.items()}
+    """The options of a page's synopsis; of the program's page those of the forms without a command."""
+    return options_named(line for form in forms(command) if not form[0].startswith(".Cm") for line in form)
 
 
 def form_options(command):
     """The options that the program's page gives behind a command in its synopsis."""
-    form, found = "", {}
-    for line in section(page_of(""), "SYNOPSIS"):
-        if line.startswith(".Nm"):
-            form = ""
-        elif line.startswith(".Cm"):
-            form = line.split()[1]
-            found.update(options_named(line) if form == command else {})
-        elif form == command:
-            found.update(options_named(line))
-    return {f"-{name}": value for name, value in found.items()}
+    return options_named(line for form in forms("") if form[0] == f".Cm {command}" for line in form)
 
 
 def synopsis_arguments(command):
