@@ -1,0 +1,51 @@
+# Completions of bpftap for bash. Source this file, or let bash-completion find it under the name bpftap.
+
+_bpftap_commands='check cut steps run help'
+
+# Whether the value of an option is wanted behind it, and then what it may be: words, the name of a file, or anything.
+_bpftap_value() {
+  case $1,$2 in
+    cut,-o) mapfile -t COMPREPLY < <(compgen -W 'little big' -- "$3") ;;
+    cut,-u) mapfile -t COMPREPLY < <(compgen -W 'micro nano' -- "$3") ;;
+    cut,-f) compopt -o default ;;
+    cut,-s | cut,-e) ;;
+    *) return 1 ;;
+  esac
+}
+
+# The options of a command, or of the program where there is none so far.
+_bpftap_options() {
+  case $1 in
+    '') echo '-h --help -V --version' ;;
+    check | run) echo '-h --help' ;;
+    cut) echo '-s -e -f -o -u -h --help' ;;
+    steps) echo '-v -h --help' ;;
+  esac
+}
+
+_bpftap() {
+  local word=${COMP_WORDS[COMP_CWORD]} before=${COMP_WORDS[COMP_CWORD - 1]} command='' ended='' n
+  COMPREPLY=()
+  for ((n = 1; n < COMP_CWORD; n++)); do
+    case ${COMP_WORDS[n]} in
+      --) ended=yes ;;
+      -*) ;;
+      *) [ -n "$command" ] || command=${COMP_WORDS[n]} ;;
+    esac
+  done
+  if [ -z "$ended" ]; then
+    _bpftap_value "$command" "$before" "$word" && return
+    if [[ $word == -* ]]; then
+      mapfile -t COMPREPLY < <(compgen -W "$(_bpftap_options "$command")" -- "$word")
+      return
+    fi
+  fi
+  case $command in
+    '') mapfile -t COMPREPLY < <(compgen -W "$_bpftap_commands" -- "$word") ;;
+    help) mapfile -t COMPREPLY < <(compgen -W "${_bpftap_commands% help}" -- "$word") ;;
+    # The word of `check` is an expression.
+    cut | steps | run) compopt -o default ;;
+  esac
+}
+
+complete -F _bpftap bpftap

@@ -1,0 +1,29 @@
+# Completions of bpftap for fish.
+
+complete -c bpftap -f
+complete -c bpftap -n __fish_use_subcommand -s h -l help -d 'Print help'
+complete -c bpftap -n __fish_use_subcommand -s V -l version -d 'Print the version'
+complete -c bpftap -n __fish_use_subcommand -a check -d 'Print the program of an expression'
+complete -c bpftap -n __fish_use_subcommand -a cut -d 'Write what the filter accepts, cut'
+complete -c bpftap -n __fish_use_subcommand -a steps -d 'Play a script to listeners'
+complete -c bpftap -n __fish_use_subcommand -a run -d 'Replay captures in threads'
+complete -c bpftap -n __fish_use_subcommand -a help -d 'Print help of a command'
+
+complete -c bpftap -n '__fish_seen_subcommand_from help' -a 'check cut steps run'
+
+complete -c bpftap -n '__fish_seen_subcommand_from check' -s h -l help -d 'Print help'
+
+complete -c bpftap -n '__fish_seen_subcommand_from cut' -F
+complete -c bpftap -n '__fish_seen_subcommand_from cut' -s s -x -d 'Keep at most so many bytes of a packet; 0 means 262144'
+complete -c bpftap -n '__fish_seen_subcommand_from cut' -s e -x -d 'Filter expression'
+complete -c bpftap -n '__fish_seen_subcommand_from cut' -s f -r -F -d 'Filter program'
+complete -c bpftap -n '__fish_seen_subcommand_from cut' -s o -x -a 'little big' -d 'Byte order of OUT'
+complete -c bpftap -n '__fish_seen_subcommand_from cut' -s u -x -a 'micro nano' -d 'Unit of the time stamps of OUT'
+complete -c bpftap -n '__fish_seen_subcommand_from cut' -s h -l help -d 'Print help'
+
+complete -c bpftap -n '__fish_seen_subcommand_from steps' -F
+complete -c bpftap -n '__fish_seen_subcommand_from steps' -s v -d 'Print the answers first, and why'
+complete -c bpftap -n '__fish_seen_subcommand_from steps' -s h -l help -d 'Print help'
+
+complete -c bpftap -n '__fish_seen_subcommand_from run' -F
+complete -c bpftap -n '__fish_seen_subcommand_from run' -s h -l help -d 'Print help'

@@ -1,0 +1,111 @@
+"""The completions: what bash offers at each place of a command line, and that the other shells can read theirs."""
+import os
+import pty
+import select
+import shutil
+import subprocess
+import time
+
+from .common import LIMIT, ROOT, case
+
+FOLDER = ROOT / "completions"
+
+# Asks the completions' function as bash does, for the words that are given, the last one unfinished. In place of the names of
+# files, which bash itself finds, it prints `FILES`.
+ASK = """
+source "$0"
+compopt() { [ "$*" = '-o default' ] && echo FILES; }
+COMP_WORDS=(bpftap "$@") COMP_CWORD=$#
+COMPREPLY=()
+_bpftap bpftap "${@: -1}" "${COMP_WORDS[COMP_CWORD - 1]}"
+[ ${#COMPREPLY[@]} -eq 0 ] || printf '%s\\n' "${COMPREPLY[@]}"
+"""
+
+
+def offered(*words):
+    """What bash offers for the last of these words behind the program's name."""
+    done = subprocess.run(
+        ["bash", "--norc", "-c", ASK, str(FOLDER / "bpftap.bash"), *words], stdin=subprocess.DEVNULL, capture_output=True,
+        text=True, timeout=LIMIT)
+    if done.stderr:
+        raise AssertionError(f"completing {words}: {done.stderr}")
+    return done.stdout.split("\n")[:-1]
+
+
+# Words, the last one unfinished, and what is offered for it.
+OFFERED = [
+    ([""], ["check", "cut", "steps", "run", "help"]),
+    (["c"], ["check", "cut"]),
+    (["steps"], ["steps"]),
+    (["x"], []),
+    (["--v"], ["--version"]),
+    (["help", ""], ["check", "cut", "steps", "run"]),
+    (["cut", "--"], ["--help"]),
+    (["cut", "-o", ""], ["little", "big"]),
+    (["cut", "-s", "0", "-o", "b"], ["big"]),
+    (["cut", "-u", "n"], ["nano"]),
+    # A number and an expression are anything, a listing is a file.
+    (["cut", "-s", ""], []),
+    (["cut", "-s", "0", "-e", "r"], []),
+    (["cut", "-f", ""], ["FILES"]),
+    (["cut", "-s", "0", ""], ["FILES"]),
+    (["cut", "-s", "0", "in.pcap", "o"], ["FILES"]),
+    (["cut", "-s", "0", "--", "-"], ["FILES"]),
+    (["steps", "-v", ""], ["FILES"]),
+    # The name of a command is a file where a file is wanted.
+    (["steps", "run"], ["FILES"]),
+    (["run", "listeners.txt", "in.pcap", "+", ""], ["FILES"]),
+    (["check", ""], []),
+    (["check", "--", "-"], []),
+]
+
+
+@case
+def bash_offers_what_fits(scene):
+    """At each place the commands, options, values or files that may stand there are offered, and nothing else."""
+    for words, wanted in OFFERED:
+        scene.check(f"offered for {words}", offered(*words), wanted)
+
+
+def typed(keys, wanted, folder):
+    """What a bash at a terminal shows when keys are typed, up to where it shows the wanted text; at most so many seconds."""
+    child, terminal = pty.fork()
+    if child == 0:
+        os.chdir(folder)
+        os.environ.update({"TERM": "dumb", "PS1": "> ", "HISTFILE": "/dev/null"})
+        os.environ.pop("INPUTRC", None)
+        os.execvp("bash", ["bash", "--norc", "--noprofile", "-i"])
+    shown, end = b"", time.monotonic() + 20
+    try:
+        os.write(terminal, keys)
+        while wanted not in shown and time.monotonic() < end:
+            if select.select([terminal], [], [], 0.2)[0]:
+                shown += os.read(terminal, 4096)
+    except OSError:
+        pass
+    os.close(terminal)
+    os.waitpid(child, 0)
+    return shown
+
+
+@case
+def a_terminal_completes(scene):
+    """In a bash at a terminal a tab completes a command, a value, and a file's name with a blank."""
+    (scene.folder / "a listing.bpf").touch()
+    # What is completed is shown by echo: the word bpftap stands before the words alone.
+    source = f"source '{FOLDER / 'bpftap.bash'}'; bpftap() {{ printf 'got'; printf ' <%s>' \"$@\"; echo; }}\n".encode()
+    for keys, wanted in [
+        (b"bpftap che\t\n", b"got <check>\r\n"),
+        (b"bpftap cut -o l\t\n", b"got <cut> <-o> <little>\r\n"),
+        (b"bpftap cut -f a\t\n", b"got <cut> <-f> <a listing.bpf>\r\n"),
+    ]:
+        scene.check(f"{wanted} behind {keys}", wanted in typed(source + keys, wanted, scene.folder), True)
+
+
+@case
+def their_shells_read_them(scene):
+    """Each of bash, fish and zsh that is there finds no fault in its file."""
+    for shell, name in [("bash", "bpftap.bash"), ("fish", "bpftap.fish"), ("zsh", "_bpftap")]:
+        if shutil.which(shell):
+            done = subprocess.run([shell, "-n", str(FOLDER / name)], capture_output=True, timeout=LIMIT)
+            scene.check(f"{shell} -n {name}", (done.stdout, done.stderr, done.returncode), (b"", b"", 0))

@@ -1,0 +1,201 @@
+"""The manual pages: they, `--help` and the completions name the same, and their examples print what they say."""
+import re
+import shutil
+import subprocess
+
+from .common import LIMIT, PROGRAM, ROOT, case
+from .completions import offered
+
+MAN = ROOT / "man"
+PAGES = sorted(MAN.glob("*.1"))
+SECTIONS = ["NAME", "SYNOPSIS", "DESCRIPTION", "EXIT STATUS", "EXAMPLES", "DIAGNOSTICS", "SEE ALSO"]
+HELP_ALONE = {"-h", "--help"}
+
+
+def page_of(command):
+    """The page of a command, of the program itself where there is none."""
+    return MAN / (f"bpftap-{command}.1" if command else "bpftap.1")
+
+
+def section(page, name):
+    """The lines of a section."""
+    return re.search(rf"^\.Sh {name}\n(.*?)(?=^\.Sh |\Z)", page.read_text(), re.S | re.M).group(1).splitlines()
+
+
+def options_named(lines):
+    """The options of lines of mdoc, each with the name of its value, or nothing: `-s` is `Fl s`, `--help` is `Fl -help`."""
+    return {f"-{name}": value for line in lines for name, value in re.findall(r"\bFl (-?[\w-]+)(?: Ar (\w+))?", line)}
+
+
+def manual_options(command):
+    """The options of a page's lists."""
+    return options_named(line for line in page_of(command).read_text().splitlines() if line.startswith(".It Fl"))
+
+
+def forms(command):
+    """The forms of a page's synopsis, of each the lines behind the name."""
+    text = "\n".join(section(page_of(command), "SYNOPSIS"))
+    return [form.splitlines()[1:] for form in re.split(r"^\.Nm", text, flags=re.M)[1:]]
+
+
+def synopsis_options(command):
+    """The options of a page's synopsis; of the program's page those of the forms without a command."""
+    return options_named(line for form in forms(command) if not form[0].startswith(".Cm") for line in form)
+
+
+def form_options(command):
+    """The options that the program's page gives behind a command in its synopsis."""
+    return options_named(line for form in forms("") if form[0] == f".Cm {command}" for line in form)
+
+
+def synopsis_arguments(command):
+    """The words of a synopsis that are no options, in order."""
+    lines = [line for line in section(page_of(command), "SYNOPSIS") if line.startswith(".Ar")]
+    return [word for line in lines for word in line.split()[1:] if word != "..."]
+
+
+def help_of(scene, command):
+    """What `--help` prints, by its parts: the lines below `Options:`, `Arguments:` and `Commands:`."""
+    text = scene.run([command, "--help"] if command else ["--help"]).out.decode()
+    parts = re.findall(r"^(Options|Arguments|Commands):\n((?:[ ].*\n|\n(?= ))*)", text, re.M)
+    return {name: lines.splitlines() for name, lines in parts}
+
+
+def help_options(parts):
+    """The options that `--help` tells, each with the name of its value, or nothing."""
+    found = {}
+    for line in parts["Options"]:
+        told = re.match(r" +(-\w)?(?:, )?(--[\w-]+)?(?:[ =]<(\w+)>)?(?:  |$)", line)
+        if told and (told[1] or told[2]):
+            found.update({name: told[3] or "" for name in (told[1], told[2]) if name})
+    return found
+
+
+def first_words(lines):
+    """The first word of each line that begins one of a list, without its signs: of `  <IN>...  Captures` it is `IN`."""
+    return [re.match(r" +[\[<]?([\w-]+)", line)[1] for line in lines if re.match(r" {2}\S", line)]
+
+
+def commands(scene):
+    """The commands of the program, `help` last among them."""
+    return first_words(help_of(scene, "")["Commands"])
+
+
+@case
+def pages_and_help_name_the_same_options(scene):
+    """The options, with their values, and the other words are the same in `--help`, in a page's list and in its synopsis."""
+    for command in ["", *commands(scene)]:
+        if command == "help":
+            continue
+        parts, listed = help_of(scene, command), manual_options(command)
+        scene.check(f"options of the page of {command!r}", listed, help_options(parts))
+        scene.check(f"options of the synopsis of {command!r}", synopsis_options(command), listed)
+        if command:
+            scene.check(f"words of the synopsis of {command}", synopsis_arguments(command), first_words(parts["Arguments"]))
+            taken = {name: value for name, value in listed.items() if name not in HELP_ALONE}
+            scene.check(f"options of {command} in the program's synopsis", form_options(command), taken)
+
+
+@case
+def pages_and_help_name_the_same_commands(scene):
+    """The commands of `--help` are those of the program's page, each has a page of its own, and there is no other page."""
+    told = commands(scene)
+    listed = [line.split()[2] for line in page_of("").read_text().splitlines() if line.startswith(".It Cm")]
+    scene.check("commands of the page", sorted(listed), sorted(told))
+    wanted = sorted(page_of("" if command == "help" else command).name for command in told)
+    scene.check("pages", [page.name for page in PAGES], wanted)
+
+
+@case
+def completions_offer_the_same(scene):
+    """Each shell's completions have the options of `--help`; bash offers the commands and the values that it tells too."""
+    told = commands(scene)
+    scene.check("commands", sorted(offered("")), sorted(told))
+    for command in ["", *told]:
+        if command == "help":
+            continue
+        parts, words = help_of(scene, command), [command] if command else []
+        wanted = sorted(help_options(parts))
+        for shell in ["bash", "fish", "zsh"]:
+            scene.check(f"{shell}, options of {command!r}", sorted(options_offered(shell, command)), wanted)
+        for name, values in re.findall(r"^ +(-\w) .*\[possible values: ([^]]+)\]", "\n".join(parts["Options"]), re.M):
+            scene.check(f"values of {command} {name}", sorted(offered(*words, name, "")), sorted(values.split(", ")))
+
+
+def options_offered(shell, command):
+    """The options that a shell's completions offer for a command: bash is asked, the text of the others is read."""
+    if shell == "bash":
+        return offered(*([command] if command else []), "-")
+    if shell == "fish":
+        place = f"'__fish_seen_subcommand_from {command}'" if command else "__fish_use_subcommand"
+        lines = (ROOT / "completions" / "bpftap.fish").read_text().splitlines()
+        of_place = "\n".join(line for line in lines if f"-n {place} " in line)
+        return [f"-{name}" for name in re.findall(r" -s (\w)", of_place)] + [
+            f"--{name}" for name in re.findall(r" -l ([\w-]+)", of_place)]
+    name = f"_bpftap_{command}" if command else "_bpftap"
+    body = re.search(rf"^{name}\(\) \{{\n(.*?)^\}}", (ROOT / "completions" / "_bpftap").read_text(), re.S | re.M)[1]
+    alone = re.findall(r"'(?:\([^)]*\))?(--?[A-Za-z][\w-]*)\+?\[", body)
+    return alone + [name for names in re.findall(r"\{([^}]+)\}'\[", body) for name in names.split(",")]
+
+
+def session(lines):
+    """A shell's session as a page shows it: its commands, each behind a `$` and over several lines at times, and the rest."""
+    script, printed, goes_on = "", "", False
+    for line in lines:
+        if goes_on or line.startswith("$ "):
+            script += line if goes_on else line.removeprefix("$ ")
+            goes_on = line.endswith(("\\\n", "|\n"))
+        else:
+            printed += line
+    return script, printed
+
+
+def examples(page):
+    """The examples of a page, as the reader sees them."""
+    for text in re.findall(r"^\.Bd -literal.*?\n(.*?)^\.Ed", page.read_text(), re.S | re.M):
+        yield session(text.replace("\\-", "-").replace("\\&", "").replace("\\e", "\\").splitlines(keepends=True))
+
+
+@case
+def examples_print_what_they_say(scene):
+    """Each example of each page is run in a folder that has `examples`, and prints what stands below it."""
+    for page in PAGES:
+        scene.start({})
+        (scene.folder / "bin").mkdir()
+        (scene.folder / "bin" / "bpftap").symlink_to(PROGRAM)
+        (scene.folder / "examples").symlink_to(ROOT / "examples")
+        for script, printed in examples(page):
+            done = subprocess.run(
+                ["bash", "-c", f'PATH="$PWD/bin:$PATH"\n{script}'], cwd=scene.folder, stdin=subprocess.DEVNULL,
+                stdout=subprocess.PIPE, stderr=subprocess.STDOUT, timeout=LIMIT)
+            scene.check(f"{page.name}: {script}", done.stdout.decode(), printed)
+
+
+@case
+def faults_of_expressions_are_those_of_the_language(scene):
+    """The page of `check` has the faults of the table in docs/LANGUAGE.md, and no others."""
+    listed = [line.split()[2] for line in section(page_of("check"), "DIAGNOSTICS") if line.startswith(".It Li")]
+    table = (ROOT / "docs" / "LANGUAGE.md").read_text().split("\n## Faults\n")[1].split("\n## ")[0]
+    scene.check("faults", sorted(listed), sorted(re.findall(r"^\| `(\w+)` \|", table, re.M)))
+
+
+@case
+def pages_are_well_formed(scene):
+    """Each page has its sections, in order, and `mandoc` or `man`, whichever is there, finds nothing wrong with it."""
+    for page in PAGES:
+        found = [name for name in re.findall(r"^\.Sh (.*)$", page.read_text(), re.M) if name in SECTIONS]
+        scene.check(f"sections of {page.name}", found, SECTIONS)
+        scene.check(f"complaints of {page.name}", complaints(page), [])
+
+
+def complaints(page):
+    """What is wrong with a page. That a page which it names is not installed here is no fault of it."""
+    if shutil.which("mandoc"):
+        words = ["mandoc", "-Tlint", str(page)]
+    elif shutil.which("man"):
+        words = ["man", "--warnings", "-l", "-Tutf8", "-Z", str(page)]
+    else:
+        return []
+    done = subprocess.run(words, stdin=subprocess.DEVNULL, capture_output=True, text=True, timeout=LIMIT)
+    lines = (done.stdout if words[0] == "mandoc" else done.stderr).splitlines()
+    return [line for line in lines if "referenced manual not found" not in line]
