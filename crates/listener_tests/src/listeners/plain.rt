@@ -166,12 +166,12 @@ fn cut(bytes: &[u8], place: u64, len: usize) -> Option<Kept> {
 }
 
 /// The data of a packet: the first byte is the program's answer.
-fn data_of(place: u64, verdict: u64) -> [u8; 96] {
+fn data_of(place: u64, verdict: u8) -> [u8; 96] {
     let mut data = [0; 96];
     for (i, byte) in data.iter_mut().enumerate() {
         *byte = (place.wrapping_add(i as u64) % 251) as u8;
     }
-    data[0] = verdict as u8;
+    data[0] = verdict;
     data
 }
 
@@ -201,7 +201,7 @@ fn arrive_at_both(
 ) -> Result<(), AllocError> {
     let captured = random.below(97) as usize;
     let verdict = random.below(100).saturating_sub(9);
-    let data = data_of(place, verdict);
+    let data = data_of(place, verdict as u8);
     let bytes = &data[..captured];
     let kept = cut(bytes, place, captured.min(verdict as usize).min(snap));
     bytes_arrive(rt, listener, slow, place, bytes, kept)
