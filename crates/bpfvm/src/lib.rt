@@ -19,8 +19,3 @@ pub use insn::Insn;
 pub use listing::{read_listing, write_listing};
 pub use machine::run;
 pub use program::{MAX_INSNS, Program};
-
-#[cfg(test)]
-mod page_tests;
-#[cfg(test)]
-mod tests;

@@ -19,6 +19,3 @@ pub use listener::{Listener, check_range};
 pub use message::{Message, Record};
 pub use mode::Mode;
 pub use records::Records;
-
-#[cfg(test)]
-mod tests;

@@ -35,10 +35,3 @@ pub use reader::Reader;
 pub use reading::read_all;
 pub use record::MOST_CAPTURED;
 pub use writing::Writer;
-
-#[cfg(test)]
-mod calling_tests;
-#[cfg(test)]
-mod reader_tests;
-#[cfg(test)]
-mod tests;

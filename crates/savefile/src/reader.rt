@@ -259,6 +259,3 @@ impl<R: Source> Reader<R> {
         Ok(true)
     }
 }
-
-#[cfg(test)]
-mod tests;

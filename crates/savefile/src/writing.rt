@@ -261,6 +261,3 @@ impl<W: Sink> Writer<W> {
         (sink, sent)
     }
 }
-
-#[cfg(test)]
-mod tests;

@@ -27,6 +27,3 @@ pub use playlist::Placed;
 pub use report::{Report, Trace};
 pub use run::{MOST_CAPTURES, MOST_LISTENERS, replay, trace};
 pub use step::Step;
-
-#[cfg(test)]
-mod tests;

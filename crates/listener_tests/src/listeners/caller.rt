@@ -1,10 +1,10 @@
-//! The example of the crate's page, README.md.
+//! The caller of `listener`'s page, README.md.
 
 ghost use Rattle.std.specs.Prelude.{◌≡◌, []};
 ghost use Rattle.listener.specs.Buffers.{filled};
 
-use crate::{Buffer, Fed, Listener, Read};
 use bpfvm::read_listing;
+use listener::{Buffer, Fed, Listener, Read};
 use savefile::read_all;
 use std::alloc::Global;
 use std::test::Fail;

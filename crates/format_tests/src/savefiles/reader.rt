@@ -1,7 +1,7 @@
 //! A reader over sources that give their bytes in pieces, and that fail in mid-stream.
 
-use super::tests::{Drip, HEADER_LITTLE_MICRO, TCP_FRAME, dripping, joined, sevens};
-use super::*;
+use super::{Drip, HEADER_LITTLE_MICRO, TCP_FRAME, dripping, joined, sevens};
+use savefile::{Counted, Fault, Reader, Source};
 use std::alloc::{AllocError, Global};
 use std::process::Abort;
 use std::test::Fail;
@@ -78,14 +78,24 @@ fn both_tell(
     Ok(())
 }
 
+/// Both readers give a record, and tell once that the other one is torn.
+fn both_tell_once(
+    rt: &(impl Abort + AllocGlobal),
+    owning: &mut Reader<Counted<Drip>>,
+    lending: &mut Reader<Counted<Drip>>,
+) -> Result<(), AllocError> {
+    for want in ["1.000005000 60 [7, 8]", "TornRecord 1", "Failed", "Failed"] {
+        both_tell(rt, owning, lending, want)?;
+    }
+    Ok(())
+}
+
 /// A text of a record and a torn one, in pieces of at most so many bytes, gives the one and tells of the other once.
 fn is_told_once(rt: &(impl Abort + AllocGlobal), text: &[u8], at_once: usize) -> Result<(), Fail> {
     let mut owning = over(rt.alloc(), text, at_once)?;
     let mut lending = over(rt.alloc(), text, at_once)?;
     assert_eq!(rt; owning.header().snap, 262_144);
-    for want in ["1.000005000 60 [7, 8]", "TornRecord 1", "Failed", "Failed"] {
-        both_tell(rt, &mut owning, &mut lending, want)?;
-    }
+    both_tell_once(rt, &mut owning, &mut lending)?;
     assert_eq!(rt; owning.close().failures, 0);
     Ok(())
 }
@@ -133,20 +143,56 @@ fn has_fate<R: Source + Drop>(
     Ok(())
 }
 
+/// What becomes of a text of one packet of which the first bytes are left, so many.
+fn fate_of_part(n: usize) -> &'static str {
+    match n {
+        0..24 => "open ShortHeader",
+        24 => "0 end end",
+        25..78 => "0 TornRecord 0 Failed",
+        _ => "1 end end",
+    }
+}
+
+/// A part of a text of one packet has its fate, in one piece and byte by byte.
+fn part_has_fate(
+    rt: &(impl Abort + AllocGlobal),
+    part: &[u8],
+    want: &str,
+) -> Result<(), AllocError> {
+    has_fate(rt, part, want)?;
+    has_fate(rt, source_of(rt.alloc(), part, 1, 0)?, want)
+}
+
+/// So does each part that begins a text.
+fn parts_have_fates(rt: &(impl Abort + AllocGlobal), text: &[u8]) -> Result<(), AllocError> {
+    for n in 0..79_usize {
+        part_has_fate(rt, text.get(..n).unwrap_or(&[]), fate_of_part(n))?;
+    }
+    Ok(())
+}
+
 #[test]
 fn a_text_cut_short_anywhere_is_torn(rt: HostRuntime) -> Result<(), Fail> {
     let text = one_packet(rt.alloc())?;
     assert_eq!(rt; text.len(), 78);
-    for n in 0..79_usize {
-        let want = match n {
-            0..24 => "open ShortHeader",
-            24 => "0 end end",
-            25..78 => "0 TornRecord 0 Failed",
-            _ => "1 end end",
-        };
-        let part = text.as_slice().get(..n).unwrap_or(&[]);
-        has_fate(&rt, part, want)?;
-        has_fate(&rt, source_of(rt.alloc(), part, 1, 0)?, want)?;
+    parts_have_fates(&rt, text.as_slice())?;
+    Ok(())
+}
+
+/// What becomes of a source that fails at this call, where each call gives a byte.
+fn fate_of_failure(call: usize) -> &'static str {
+    match call {
+        1..25 => "open Device",
+        25..79 => "0 Device Failed",
+        _ => "1 Device Failed",
+    }
+}
+
+/// A source of a text fails at each of its calls, one after the other.
+fn fails_anywhere(rt: &(impl Abort + AllocGlobal), text: &[u8]) -> Result<(), AllocError> {
+    for call in 1..80_usize {
+        let source = source_of(rt.alloc(), text, 1, call)?;
+        has_fate(rt, source, fate_of_failure(call))?;
     }
     Ok(())
 }
@@ -154,14 +200,7 @@ fn a_text_cut_short_anywhere_is_torn(rt: HostRuntime) -> Result<(), Fail> {
 #[test]
 fn a_source_that_fails_anywhere_is_told(rt: HostRuntime) -> Result<(), Fail> {
     let text = one_packet(rt.alloc())?;
-    for k in 1..80_usize {
-        let want = match k {
-            1..25 => "open Device",
-            25..79 => "0 Device Failed",
-            _ => "1 Device Failed",
-        };
-        has_fate(&rt, source_of(rt.alloc(), &text, 1, k)?, want)?;
-    }
+    fails_anywhere(&rt, text.as_slice())?;
     Ok(())
 }
 
@@ -252,14 +291,19 @@ fn comes_whole(rt: &(impl Abort + AllocGlobal), text: &[u8], at_once: usize) -> 
     Ok(())
 }
 
+/// The same twice, so that the second stands behind what was read ahead.
+fn longest_twice(alloc: Global) -> Result<Vec<u8>, AllocError> {
+    let mut text = longest(alloc)?;
+    let again = longest(alloc)?;
+    text.extend_from_slice(again.as_slice().get(24..).unwrap_or(&[]))?;
+    Ok(text)
+}
+
 #[test]
 fn the_longest_record_comes_whole_in_all_pieces(rt: HostRuntime) -> Result<(), Fail> {
-    let mut text = longest(rt.alloc())?;
-    // twice, so that the second stands behind what was read ahead
-    let again = longest(rt.alloc())?;
-    text.extend_from_slice(again.as_slice().get(24..).unwrap_or(&[]))?;
+    let text = longest_twice(rt.alloc())?;
     for at_once in PIECES {
-        comes_whole(&rt, &text, at_once)?;
+        comes_whole(&rt, text.as_slice(), at_once)?;
     }
     Ok(())
 }

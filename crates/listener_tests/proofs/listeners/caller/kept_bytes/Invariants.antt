@@ -1,6 +1,6 @@
 use Rattle.std.proofs.Common.{◌≡◌, []}
 use Rattle.listener.specs.Buffers.{filled}
-use Rattle.listener.proofs.tests.caller.kept_bytes.Given as goal
+use Rattle.listener_tests.proofs.listeners.caller.kept_bytes.Given as goal
 
 -- the spare buffer is empty, and of the listener's capacity
 abbrev pub invariant-loop-place : goal.invariant-loop-place

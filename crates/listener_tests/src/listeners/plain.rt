@@ -2,8 +2,12 @@
 
 ghost use Rattle.std.specs.Prelude.{◌<◌};
 
-use super::*;
-use std::alloc::AllocError;
+use super::packet;
+use bpfvm::{Insn, Program};
+use listener::{Buffer, Fed, Listener, Mode, Read};
+use std::alloc::{AllocError, Global};
+use std::process::Abort;
+use std::test::Fail;
 
 /// A message: its place, how many bytes are kept of it, and the last of them.
 #[derive(Clone, Copy, Debug, PartialEq, Eq)]
@@ -161,7 +165,32 @@ fn cut(bytes: &[u8], place: u64, len: usize) -> Option<Kept> {
     Some(Kept { place, len, last })
 }
 
-/// A packet arrives at both. Its first byte is the program's answer, 0 at times.
+/// The data of a packet: the first byte is the program's answer.
+fn data_of(place: u64, verdict: u8) -> [u8; 96] {
+    let mut data = [0; 96];
+    for (i, byte) in data.iter_mut().enumerate() {
+        *byte = (place.wrapping_add(i as u64) % 251) as u8;
+    }
+    data[0] = verdict;
+    data
+}
+
+/// A packet of these bytes, of which so much is to be kept, arrives at both.
+fn bytes_arrive(
+    rt: &impl Abort,
+    listener: &mut Listener,
+    slow: &mut Slow,
+    place: u64,
+    bytes: &[u8],
+    kept: Option<Kept>,
+) -> Result<(), AllocError> {
+    assert!(rt; listener.counts().received < u64::MAX);
+    let fed = listener.arrive(0, place, &packet(bytes));
+    assert_eq!(rt; fed, slow.arrive(kept)?);
+    Ok(())
+}
+
+/// A packet arrives at both. The program's answer is 0 at times.
 fn arrive_at_both(
     rt: &impl Abort,
     listener: &mut Listener,
@@ -169,20 +198,22 @@ fn arrive_at_both(
     random: &mut Random,
     place: u64,
     snap: usize,
-) -> Result<(), Fail> {
+) -> Result<(), AllocError> {
     let captured = random.below(97) as usize;
     let verdict = random.below(100).saturating_sub(9);
-    let mut data = [0; 96];
-    for (i, byte) in data.iter_mut().enumerate() {
-        *byte = (place.wrapping_add(i as u64) % 251) as u8;
-    }
-    data[0] = verdict as u8;
+    let data = data_of(place, verdict as u8);
     let bytes = &data[..captured];
     let kept = cut(bytes, place, captured.min(verdict as usize).min(snap));
-    assert!(rt; listener.counts().received < u64::MAX);
-    let fed = listener.arrive(0, place, &packet(bytes));
-    assert_eq!(rt; fed, slow.arrive(kept)?);
-    Ok(())
+    bytes_arrive(rt, listener, slow, place, bytes, kept)
+}
+
+/// The messages that a read takes, if it takes any.
+fn read_of(alloc: Global, listener: &mut Listener) -> Result<Option<Vec<Kept>>, Fail> {
+    let empty = Buffer::new(alloc, listener.capacity())?;
+    match listener.read(empty) {
+        Read::Full(buffer) => Ok(Some(messages(alloc, &buffer)?)),
+        Read::Nothing(_) => Ok(None),
+    }
 }
 
 /// A read at both.
@@ -191,16 +222,11 @@ fn read_at_both(
     listener: &mut Listener,
     slow: &mut Slow,
 ) -> Result<(), Fail> {
-    let empty = Buffer::new(rt.alloc(), listener.capacity())?;
     let batch = slow.read(rt.alloc())?;
-    match listener.read(empty) {
-        Read::Full(buffer) => {
-            let Some(batch) = batch else {
-                return Err(Fail::from("a batch too many"));
-            };
-            assert!(rt; messages(rt.alloc(), &buffer)?.as_slice() == batch.as_slice());
-        }
-        Read::Nothing(_) => assert!(rt; batch.is_none()),
+    match (read_of(rt.alloc(), listener)?, batch) {
+        (Some(taken), Some(batch)) => assert!(rt; taken.as_slice() == batch.as_slice()),
+        (None, None) => {}
+        _ => assert!(rt; false, "a batch of one alone"),
     }
     Ok(())
 }
@@ -229,10 +255,10 @@ fn compare(
     listener: &Listener,
     slow: &Slow,
 ) -> Result<(), AllocError> {
+    compare_counts(rt, listener, slow);
     let (pending, held) = pending_of(rt.alloc(), listener)?;
     assert_eq!(rt; held, slow.held);
     assert!(rt; pending.as_slice() == slow.pending.as_slice());
-    compare_counts(rt, listener, slow);
     Ok(())
 }
 
@@ -275,17 +301,28 @@ fn first_byte() -> Result<Program, bpfvm::Invalid> {
     ])
 }
 
+/// Forty random steps at both.
+fn steps_at_both(
+    rt: &(impl Abort + AllocGlobal),
+    listener: &mut Listener,
+    slow: &mut Slow,
+    random: &mut Random,
+    snap: usize,
+) -> Result<(), Fail> {
+    for place in 0..40 {
+        step_at_both(rt, listener, slow, random, place, snap)?;
+        compare(rt, listener, slow)?;
+    }
+    Ok(())
+}
+
 /// One random list of steps.
 fn run_both(rt: &(impl Abort + AllocGlobal), random: &mut Random, mode: Mode) -> Result<(), Fail> {
     let snap = random.below(64) as u32 + 1;
     let capacity = size_of(snap as usize).wrapping_add(random.below(200) as usize);
     let mut listener = Listener::open_as(rt.alloc(), first_byte()?, snap, capacity, mode)?;
     let mut slow = Slow::new(rt.alloc(), capacity, mode);
-    for place in 0..40 {
-        step_at_both(rt, &mut listener, &mut slow, random, place, snap as usize)?;
-        compare(rt, &listener, &slow)?;
-    }
-    Ok(())
+    steps_at_both(rt, &mut listener, &mut slow, random, snap as usize)
 }
 
 #[test]

@@ -1,21 +1,15 @@
-//! Worked examples, and replays beside a slow program of the definitions.
+//! `tap`: worked examples, and replays beside a slow program of the definitions.
 
 mod caller;
 mod random;
 
-use crate::answer::Answer;
-use crate::fault::Fault;
-use crate::filters::{Filter, Spec};
-use crate::report::{Report, Trace};
-use crate::run::{replay, trace};
-use crate::step::Step;
 use bpfvm::read_listing;
 use filtergen::Refusal;
 use listener::{Fed, Message, Mode, OpenFault};
 use std::alloc::{AllocError, Global};
 use std::process::Abort;
 use std::rt::Env;
-use std::test::Fail;
+use tap::{Answer, Fault, Filter, Report, Spec, Step, Trace, replay, trace};
 
 /// Little-endian, microseconds, snapshot length 262,144, Ethernet.
 const HEADER: [u8; 24] = [
@@ -164,6 +158,22 @@ fn four_packets_rotate_and_drop(rt: HostRuntime) {
     );
 }
 
+/// What a replay answers.
+type Answered = Result<(Vec<Report>, Option<(u32, savefile::Fault)>), Fault>;
+
+/// Both calls tell the same of one listener.
+fn are_alike(rt: &(impl Abort + AllocGlobal), plain: &Answered, trace: &Result<Trace, Fault>) {
+    match (plain, trace) {
+        (Ok((reports, torn)), Ok(trace)) => {
+            let plain = at(rt, reports.as_slice(), 0);
+            assert_eq!(rt; counts(plain), counts(at(rt, trace.reports.as_slice(), 0)));
+            assert_eq!(rt; *torn, trace.torn);
+        }
+        (Err(plain), Err(trace)) => assert_eq!(rt; plain, trace),
+        _ => assert!(rt; false, "one of the two calls refused"),
+    }
+}
+
 /// A replay of one capture to one listener.
 fn replayed(
     rt: &(impl Abort + AllocGlobal),
@@ -174,15 +184,7 @@ fn replayed(
     let specs = [spec];
     let plain = replay(rt.alloc(), &[text], &specs, steps);
     let trace = trace(rt.alloc(), &[text], &specs, steps);
-    match (&plain, &trace) {
-        (Ok((reports, torn)), Ok(trace)) => {
-            let plain = at(rt, reports.as_slice(), 0);
-            assert_eq!(rt; counts(plain), counts(at(rt, trace.reports.as_slice(), 0)));
-            assert_eq!(rt; *torn, trace.torn);
-        }
-        (Err(plain), Err(trace)) => assert_eq!(rt; plain, trace),
-        _ => assert!(rt; false, "one of the two calls refused"),
-    }
+    are_alike(rt, &plain, &trace);
     trace
 }
 
@@ -323,28 +325,40 @@ fn read_of_tcp(rt: &(impl Abort + AllocGlobal), expression: &str) -> Trace {
     replayed(rt, text.as_slice(), spec, &steps).expect(rt, "a trace")
 }
 
+/// One packet was kept with ten bytes.
+fn has_ten_bytes(rt: &(impl Abort + AllocGlobal), report: &Report) {
+    assert_eq!(rt; counts(report), (1, 1, 0));
+    assert_eq!(rt; report.batches.len(), 1);
+    let message = at(rt, at(rt, report.batches.as_slice(), 0).as_slice(), 0);
+    assert_eq!(rt; message.bytes.as_slice(), &UDP[..10]);
+    assert_eq!(rt; (message.sec, message.nanos, message.len), (1, 0, 38));
+}
+
+/// One packet arrived and was passed over.
+fn has_passed_one(rt: &(impl Abort + AllocGlobal), trace: &Trace) {
+    assert_eq!(rt; counts(at(rt, trace.reports.as_slice(), 0)), (1, 0, 0));
+    assert_eq!(rt; fates(rt, trace, 0).as_slice(), [Fed::Passed].as_slice());
+}
+
 #[test]
 fn an_expression_keeps_what_it_accepts_cut(rt: HostRuntime) {
     let trace = read_of_tcp(&rt, "tcp");
-    let report = at(&rt, trace.reports.as_slice(), 0);
-    assert_eq!(rt; counts(report), (1, 1, 0));
-    assert_eq!(rt; report.batches.len(), 1);
-    let message = at(&rt, at(&rt, report.batches.as_slice(), 0).as_slice(), 0);
-    assert_eq!(rt; message.bytes.as_slice(), &UDP[..10]);
-    assert_eq!(rt; (message.sec, message.nanos, message.len), (1, 0, 38));
-    let trace = read_of_tcp(&rt, "udp");
-    assert_eq!(rt; counts(at(&rt, trace.reports.as_slice(), 0)), (1, 0, 0));
-    assert_eq!(rt; fates(&rt, &trace, 0).as_slice(), [Fed::Passed].as_slice());
+    has_ten_bytes(&rt, at(&rt, trace.reports.as_slice(), 0));
+    has_passed_one(&rt, &read_of_tcp(&rt, "udp"));
+}
+
+/// Nothing was counted, read or held.
+fn has_nothing(rt: &impl Abort, report: &Report) {
+    assert_eq!(rt; counts(report), (0, 0, 0));
+    assert!(rt; report.batches.is_empty());
+    assert!(rt; report.held.is_empty());
 }
 
 #[test]
 fn past_the_last_packet_nothing_arrives(rt: HostRuntime) {
     let steps = [Step::Arrive, Step::Flush(0), Step::Arrive, Step::Read(0)];
     let trace = replayed_at_32(&rt, 0, 64, Mode::Buffered, &steps);
-    let report = at(&rt, trace.reports.as_slice(), 0);
-    assert_eq!(rt; counts(report), (0, 0, 0));
-    assert!(rt; report.batches.is_empty());
-    assert!(rt; report.held.is_empty());
+    has_nothing(&rt, at(&rt, trace.reports.as_slice(), 0));
     assert_eq!(rt; at(&rt, trace.answers.as_slice(), 0).len(), 2);
     assert!(rt; trace.playlist.is_empty());
 }
@@ -437,9 +451,6 @@ fn a_header_behind_a_tear_counts(rt: HostRuntime) {
     is_refused(&rt, answer, Fault::Capture(2, savefile::Fault::ShortHeader));
 }
 
-/// What a replay answers.
-type Answered = Result<(Vec<Report>, Option<(u32, savefile::Fault)>), Fault>;
-
 /// A replay was refused so.
 fn is_refused(rt: &impl Abort, answer: Answered, want: Fault) {
     match answer {
@@ -529,6 +540,28 @@ fn prepared(alloc: Global) -> Result<(Vec<u8>, Spec), AllocError> {
     Ok((one_tcp(alloc)?, spec))
 }
 
+/// The steps of a listener that is read once.
+const READ_ONCE: [Step; 3] = [Step::Arrive, Step::Flush(0), Step::Read(0)];
+
+/// A replay reports the one packet, or says that memory was refused.
+fn replays_or_tells(rt: &(impl Abort + AllocGlobal), captures: &[&[u8]], specs: &[Spec]) {
+    match replay(rt.alloc(), captures, specs, &READ_ONCE) {
+        Ok((reports, torn)) => {
+            assert_eq!(rt; counts(at(rt, reports.as_slice(), 0)), (1, 1, 0));
+            assert!(rt; torn.is_none());
+        }
+        Err(fault) => assert_eq!(rt; fault, Fault::NoMemory),
+    }
+}
+
+/// So does a replay with answers.
+fn traces_or_tells(rt: &(impl Abort + AllocGlobal), captures: &[&[u8]], specs: &[Spec]) {
+    match trace(rt.alloc(), captures, specs, &READ_ONCE) {
+        Ok(trace) => assert_eq!(rt; at(rt, trace.answers.as_slice(), 0).as_slice().len(), 3),
+        Err(fault) => assert_eq!(rt; fault, Fault::NoMemory),
+    }
+}
+
 /// This one passes too where any one request for memory is refused.
 #[test]
 fn want_of_memory_gives_no_report(rt: HostRuntime) {
@@ -536,16 +569,6 @@ fn want_of_memory_gives_no_report(rt: HostRuntime) {
         return;
     };
     let (captures, specs) = ([text.as_slice()], [spec]);
-    let steps = [Step::Arrive, Step::Flush(0), Step::Read(0)];
-    match replay(rt.alloc(), &captures, &specs, &steps) {
-        Ok((reports, torn)) => {
-            assert_eq!(rt; counts(at(&rt, reports.as_slice(), 0)), (1, 1, 0));
-            assert!(rt; torn.is_none());
-        }
-        Err(fault) => assert_eq!(rt; fault, Fault::NoMemory),
-    }
-    match trace(rt.alloc(), &captures, &specs, &steps) {
-        Ok(trace) => assert_eq!(rt; at(&rt, trace.answers.as_slice(), 0).as_slice().len(), 3),
-        Err(fault) => assert_eq!(rt; fault, Fault::NoMemory),
-    }
+    replays_or_tells(&rt, &captures, &specs);
+    traces_or_tells(&rt, &captures, &specs);
 }

@@ -1,6 +1,10 @@
-//! Worked examples over the public functions.
+//! The filter machine: worked examples of its programs, their validator and their listings.
 
-use super::*;
+mod caller;
+
+use bpfvm::{
+    Insn, Invalid, ListingFault, NoMemory, Program, code, read_listing, run, write_listing,
+};
 use std::alloc::{AllocError, Global};
 use std::process::Abort;
 use std::test::Fail;

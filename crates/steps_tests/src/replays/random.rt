@@ -1,12 +1,12 @@
 //! Replays that look random, beside a slow program of the definitions: what each listener keeps, looking back.
 
 use super::{HEADER, UDP, at, put_record, tcp, wanted};
-use crate::{Report, Spec, Step, replay};
-use listener::Mode;
+use listener::{Message, Mode};
 use std::alloc::{AllocError, Global};
 use std::process::Abort;
 use std::rt::Env;
 use std::test::Fail;
+use tap::{Report, Spec, Step, replay};
 
 /// Numbers that look random, the same in each run.
 #[derive(Drop)]
@@ -186,19 +186,22 @@ fn looked_back(
     Ok((kept, (received, matched, dropped)))
 }
 
+/// Adds what is kept of messages.
+fn tell(told: &mut Vec<Kept>, messages: &[Message]) -> Result<(), AllocError> {
+    for message in messages {
+        let kept = message.bytes.as_slice().len();
+        told.push((message.capture, message.place, kept))?;
+    }
+    Ok(())
+}
+
 /// What a report says was read, and then what is held.
 fn told(alloc: Global, report: &Report) -> Result<Vec<Kept>, AllocError> {
     let mut told = Vec::new(alloc);
     for batch in &report.batches {
-        for message in batch {
-            let kept = message.bytes.as_slice().len();
-            told.push((message.capture, message.place, kept))?;
-        }
+        tell(&mut told, batch.as_slice())?;
     }
-    for message in &report.held {
-        let kept = message.bytes.as_slice().len();
-        told.push((message.capture, message.place, kept))?;
-    }
+    tell(&mut told, report.held.as_slice())?;
     Ok(told)
 }
 
@@ -292,11 +295,26 @@ fn tells(
     rt: &(impl Abort + AllocGlobal),
     report: &Report,
     asked: Asked,
-    own: Vec<Own>,
+    own: &[Own],
 ) -> Result<(), AllocError> {
-    let (kept, counts) = looked_back(rt.alloc(), own.as_slice(), asked)?;
-    assert_eq!(rt; told(rt.alloc(), report)?.as_slice(), kept.as_slice());
+    let (kept, counts) = looked_back(rt.alloc(), own, asked)?;
     assert_eq!(rt; (report.received, report.matched, report.dropped), counts);
+    assert_eq!(rt; told(rt.alloc(), report)?.as_slice(), kept.as_slice());
+    Ok(())
+}
+
+/// The reports tell this, each of its listener.
+fn all_tell(
+    rt: &(impl Abort + AllocGlobal),
+    reports: &[Report],
+    playlist: &[Known],
+    asked: [Asked; 2],
+    steps: &[Step],
+) -> Result<(), AllocError> {
+    for (l, one) in asked.iter().enumerate() {
+        let own = own_steps(rt.alloc(), l as u32, *one, steps, playlist)?;
+        tells(rt, at(rt, reports, l), *one, own.as_slice())?;
+    }
     Ok(())
 }
 
@@ -311,11 +329,13 @@ fn play(
     let specs = asked.map(|one| one.spec(rt));
     let (reports, fault) = replay(rt.alloc(), &texts, &specs, steps)?;
     assert_eq!(rt; fault.is_some(), captures.is_torn);
-    for (l, one) in asked.iter().enumerate() {
-        let playlist = captures.playlist.as_slice();
-        let own = own_steps(rt.alloc(), l as u32, *one, steps, playlist)?;
-        tells(rt, at(rt, reports.as_slice(), l), *one, own)?;
-    }
+    all_tell(
+        rt,
+        reports.as_slice(),
+        captures.playlist.as_slice(),
+        asked,
+        steps,
+    )?;
     Ok(())
 }
 

@@ -1,11 +1,10 @@
-//! The caller of the crate's page.
+//! The caller of `tap`'s page, README.md.
 
-use crate::{Fault, Filter, Spec, Step, replay};
+use super::{HEADER, put_record, tcp};
 use listener::Mode;
-use std::alloc::Global;
-use std::process::Abort;
-use std::rt::Env;
+use std::alloc::{AllocError, Global};
 use std::test::Fail;
+use tap::{Fault, Filter, Spec, Step, replay};
 
 /// How many TCP packets of a capture are lost to a reader that reads after each burst of four packets.
 fn lost(alloc: Global, capture: &[u8], bursts: u32) -> Result<u64, Fault> {
@@ -27,15 +26,20 @@ fn lost(alloc: Global, capture: &[u8], bursts: u32) -> Result<u64, Fault> {
     }
 }
 
+/// A capture of eight TCP frames.
+fn eight(alloc: Global) -> Result<Vec<u8>, AllocError> {
+    let mut text = Vec::from_slice(alloc, &HEADER)?;
+    for sec in 0..8 {
+        put_record(&mut text, sec, 38, &tcp())?;
+    }
+    Ok(text)
+}
+
 #[test]
 fn a_slow_reader_loses_packets(rt: HostRuntime) -> Result<(), Fail> {
-    let alloc = rt.alloc();
-    let mut text = Vec::from_slice(alloc, &super::HEADER)?;
-    for sec in 0..8 {
-        super::put_record(&mut text, sec, 38, &super::tcp())?;
-    }
+    let text = eight(rt.alloc())?;
     // A record has 72 bytes, so the store has room for one. Of the first burst two are lost, of the second three, since
     // its first packet finds the store full.
-    assert_eq!(rt; lost(alloc, text.as_slice(), 2)?, 5);
+    assert_eq!(rt; lost(rt.alloc(), text.as_slice(), 2)?, 5);
     Ok(())
 }

@@ -1,6 +1,9 @@
-//! Worked examples, and devices that fail in mid-stream.
+//! Savefiles: worked examples, and devices that fail in mid-stream.
 
-use super::*;
+mod caller;
+mod reader;
+
+use savefile::{Counted, Data, Fault, Header, Order, Packet, Sink, Unit, Writer, read_all};
 use std::alloc::{AllocError, Global};
 use std::io;
 use std::io::{Read, Write};
@@ -8,18 +11,18 @@ use std::process::Abort;
 use std::test::Fail;
 
 /// Little-endian, microseconds, snapshot length 262,144.
-pub(crate) const HEADER_LITTLE_MICRO: [u8; 24] = [
+const HEADER_LITTLE_MICRO: [u8; 24] = [
     0xd4, 0xc3, 0xb2, 0xa1, 2, 0, 4, 0, 0, 0, 0, 0, 0, 0, 0, 0, 0, 0, 4, 0, 1, 0, 0, 0,
 ];
 
 /// An IPv4 packet of TCP, without options or data, between two hosts of 10.0.0.0.
-pub(crate) const TCP_FRAME: [u8; 38] = [
+const TCP_FRAME: [u8; 38] = [
     0xff, 0xff, 0xff, 0xff, 0xff, 0xff, 0, 1, 2, 3, 4, 5, 8, 0, 0x45, 0, 0, 0x18, 0, 0, 0, 0, 0x40,
     6, 0, 0, 10, 0, 0, 1, 10, 0, 0, 2, 0, 0x35, 0, 0x35,
 ];
 
 /// The parts, one behind the other.
-pub(crate) fn joined(alloc: Global, parts: &[&[u8]]) -> Result<Vec<u8>, AllocError> {
+fn joined(alloc: Global, parts: &[&[u8]]) -> Result<Vec<u8>, AllocError> {
     let mut text = Vec::new(alloc);
     for part in parts {
         text.extend_from_slice(part)?;
@@ -37,21 +40,39 @@ fn push_packet(alloc: Global, out: &mut String, packet: &Packet) -> Result<(), A
     out.push_str(line.as_str())
 }
 
+/// Adds the packets, and the fault that ended them.
+fn push_packets(
+    alloc: Global,
+    out: &mut String,
+    packets: &[Packet],
+    fault: Option<Fault>,
+) -> Result<(), AllocError> {
+    for packet in packets {
+        push_packet(alloc, out, packet)?;
+    }
+    let Some(fault) = fault else { return Ok(()) };
+    let line = format!(in alloc; "; {fault}")?;
+    out.push_str(line.as_str())
+}
+
+/// The header, the packets and the fault that ended them.
+fn told_read(
+    alloc: Global,
+    header: Header,
+    packets: &[Packet],
+    fault: Option<Fault>,
+) -> Result<String, AllocError> {
+    let mut out = format!(in alloc; "{:?} {:?} {}", header.order, header.unit, header.snap)?;
+    push_packets(alloc, &mut out, packets, fault)?;
+    Ok(out)
+}
+
 /// What a text is read as: a fault, or the header, the packets and the fault that ended them.
 fn told(alloc: Global, text: &[u8]) -> Result<String, AllocError> {
-    let (header, packets, fault) = match read_all(alloc, text) {
-        Ok(read) => read,
-        Err(fault) => return format!(in alloc; "{fault}"),
-    };
-    let mut out = format!(in alloc; "{:?} {:?} {}", header.order, header.unit, header.snap)?;
-    for packet in &packets {
-        push_packet(alloc, &mut out, packet)?;
+    match read_all(alloc, text) {
+        Ok((header, packets, fault)) => told_read(alloc, header, packets.as_slice(), fault),
+        Err(fault) => format!(in alloc; "{fault}"),
     }
-    if let Some(fault) = fault {
-        let line = format!(in alloc; "; {fault}")?;
-        out.push_str(line.as_str())?;
-    }
-    Ok(out)
 }
 
 /// The parts, one behind the other, are read as this.
@@ -171,18 +192,22 @@ fn fraction_of_a_million_is_refused(rt: HostRuntime) {
     );
 }
 
-pub(crate) fn sevens(alloc: Global, len: usize) -> Result<Vec<u8>, AllocError> {
+fn sevens(alloc: Global, len: usize) -> Result<Vec<u8>, AllocError> {
     vec![in alloc; 7; len]
+}
+
+/// The data of a packet are these bytes.
+fn is_of(rt: &impl Abort, packet: Packet, bytes: &[u8]) {
+    let data = packet.bytes.into_vec();
+    assert!(rt; data.as_slice() == bytes);
 }
 
 /// A text has one packet, of these bytes, and no fault.
 fn has_one_packet(rt: &(impl Abort + AllocGlobal), text: &[u8], bytes: &[u8]) -> Result<(), Fault> {
     let (_, packets, fault) = read_all(rt.alloc(), text)?;
-    assert_eq!(rt; fault, None);
-    assert_eq!(rt; packets.len(), 1);
+    assert_eq!(rt; (packets.len(), fault), (1, None));
     for packet in packets {
-        let data = packet.bytes.into_vec();
-        assert!(rt; data.as_slice() == bytes);
+        is_of(rt, packet, bytes);
     }
     Ok(())
 }
@@ -195,33 +220,50 @@ fn of_record(alloc: Global, captured: &[u8; 4], bytes: &[u8]) -> Result<Vec<u8>,
     )
 }
 
-#[test]
-fn captured_length_is_refused_above_262144(rt: HostRuntime) -> Result<(), Fail> {
-    let bytes = sevens(rt.alloc(), 262_144)?;
-    let text = of_record(rt.alloc(), &[0, 0, 4, 0], bytes.as_slice())?;
-    has_one_packet(&rt, text.as_slice(), bytes.as_slice())?;
-    let longer = sevens(rt.alloc(), 262_145)?;
-    let text = of_record(rt.alloc(), &[1, 0, 4, 0], longer.as_slice())?;
-    reads(&rt, &[text.as_slice()], "Little Micro 262144; TooLong 0");
+/// A record of these bytes, 262,144 of them, is read.
+fn is_short_enough(rt: &(impl Abort + AllocGlobal), bytes: &[u8]) -> Result<(), Fail> {
+    let text = of_record(rt.alloc(), &[0, 0, 4, 0], bytes)?;
+    has_one_packet(rt, text.as_slice(), bytes)?;
     Ok(())
 }
 
-/// Writes a savefile into memory.
+/// A record of these bytes, 262,145 of them, is refused.
+fn is_too_long(rt: &(impl Abort + AllocGlobal), bytes: &[u8]) -> Result<(), Fail> {
+    let text = of_record(rt.alloc(), &[1, 0, 4, 0], bytes)?;
+    reads(rt, &[text.as_slice()], "Little Micro 262144; TooLong 0");
+    Ok(())
+}
+
+#[test]
+fn captured_length_is_refused_above_262144(rt: HostRuntime) -> Result<(), Fail> {
+    is_short_enough(&rt, sevens(rt.alloc(), 262_144)?.as_slice())?;
+    is_too_long(&rt, sevens(rt.alloc(), 262_145)?.as_slice())
+}
+
+/// Puts a packet, whose numbers are in their ranges.
+fn put(
+    rt: &impl Abort,
+    writer: &mut Writer<Counted<Vec<u8>>>,
+    packet: (u32, u32, u32, &[u8]),
+) -> Result<(), Fault> {
+    let (sec, nanos, len, bytes) = packet;
+    assert!(rt; nanos < 1_000_000_000);
+    assert!(rt; bytes.len() <= 262_144);
+    writer.put(sec, nanos, len, bytes)
+}
+
+/// Writes a savefile of one packet into memory.
 fn written(
     rt: &(impl Abort + AllocGlobal),
     order: Order,
     unit: Unit,
     snap: u32,
-    packets: &[(u32, u32, u32, &[u8])],
-) -> Result<Vec<u8>, Fail> {
+    packet: (u32, u32, u32, &[u8]),
+) -> Result<Vec<u8>, Fault> {
     let memory = Counted::new(Vec::new(rt.alloc()));
     let (mut writer, opened) = Writer::open(memory, order, unit, snap);
     opened?;
-    for (sec, nanos, len, bytes) in packets {
-        assert!(rt; *nanos < 1_000_000_000);
-        assert!(rt; bytes.len() <= 262_144);
-        writer.put(*sec, *nanos, *len, *bytes)?;
-    }
+    put(rt, &mut writer, packet)?;
     let (sink, _) = writer.close();
     Ok(sink.into_inner())
 }
@@ -235,7 +277,7 @@ fn writes(
     packet: (u32, u32, u32, &[u8]),
     want: &[u8],
 ) -> Result<(), Fail> {
-    let got = written(rt, order, unit, snap, &[packet])?;
+    let got = written(rt, order, unit, snap, packet)?;
     assert_eq!(rt; got.as_slice(), want);
     Ok(())
 }
@@ -330,9 +372,9 @@ fn each_form_is_written_as_it_stands(rt: HostRuntime) -> Result<(), Fail> {
 
 /// A device that moves few bytes a call, and fails at one of its calls.
 #[derive(Drop)]
-pub(crate) struct Drip {
-    pub(crate) bytes: Vec<u8>,
-    pub(crate) place: usize,
+struct Drip {
+    bytes: Vec<u8>,
+    place: usize,
     at_once: usize,
     calls: usize,
     fails_at: usize,
@@ -373,7 +415,7 @@ impl Write for Drip {
     }
 }
 
-pub(crate) fn dripping(bytes: Vec<u8>, at_once: usize, fails_at: usize) -> Counted<Drip> {
+fn dripping(bytes: Vec<u8>, at_once: usize, fails_at: usize) -> Counted<Drip> {
     Counted::new(Drip {
         bytes,
         place: 0,
@@ -389,16 +431,20 @@ fn puts(rt: &impl Abort, writer: &mut Writer<Counted<Drip>>, want: Result<(), Fa
     assert_eq!(rt; writer.sent(), sent);
 }
 
-/// A sink that fails in a record's header has what stands before it, and gets nothing more.
-fn fails_in_a_record(rt: &(impl Abort + AllocGlobal)) -> Result<(), AllocError> {
+/// A sink that failed in a record's header, and how many bytes its writer says that it took.
+fn broken_in_a_record(rt: &(impl Abort + AllocGlobal)) -> (Counted<Drip>, u64) {
     let sink = dripping(Vec::new(rt.alloc()), 1, 31);
     let (mut writer, opened) = Writer::open(sink, Order::Little, Unit::Micro, 262_144);
     assert_eq!(rt; opened, Ok(()));
     puts(rt, &mut writer, Err(Fault::Device), 30);
     puts(rt, &mut writer, Err(Fault::Failed), 30);
-    let (sink, sent) = writer.close();
-    assert_eq!(rt; sent, 30);
-    assert_eq!(rt; sink.failures, 1);
+    writer.close()
+}
+
+/// A sink that fails in a record's header has what stands before it, and gets nothing more.
+fn fails_in_a_record(rt: &(impl Abort + AllocGlobal)) -> Result<(), AllocError> {
+    let (sink, sent) = broken_in_a_record(rt);
+    assert_eq!(rt; (sent, sink.failures), (30, 1));
     let text = joined(rt.alloc(), &[&HEADER_LITTLE_MICRO, &[1, 0, 0, 0, 0, 0]])?;
     assert_eq!(rt; sink.inner.bytes.as_slice(), text.as_slice());
     Ok(())
@@ -454,6 +500,12 @@ fn faults_are_told_by_name_and_place(rt: HostRuntime) -> Result<(), Fail> {
     Ok(())
 }
 
+/// These are the time and the length of the packet below, and its bytes.
+fn are_its(rt: &impl Abort, numbers: (u32, u32, u32), bytes: &[u8]) {
+    assert_eq!(rt; numbers, (1, 2, 60));
+    assert!(rt; bytes == TCP_FRAME.as_slice());
+}
+
 /// This one passes too where any one request for memory is refused.
 #[test]
 fn a_packet_is_lent_and_copied(rt: HostRuntime) -> Result<(), Fail> {
@@ -468,11 +520,10 @@ fn a_packet_is_lent_and_copied(rt: HostRuntime) -> Result<(), Fail> {
         bytes: Data::new(bytes),
     };
     let lent = packet.as_ref();
-    assert_eq!(rt; (lent.sec, lent.nanos, lent.len), (1, 2, 60));
-    assert!(rt; lent.bytes == TCP_FRAME.as_slice());
+    are_its(&rt, (lent.sec, lent.nanos, lent.len), lent.bytes);
     if let Ok(copy) = lent.to_packet(rt.alloc()) {
-        assert_eq!(rt; (copy.sec, copy.nanos, copy.len), (1, 2, 60));
-        assert!(rt; copy.bytes.as_slice() == TCP_FRAME.as_slice());
+        let bytes = copy.bytes.as_slice();
+        are_its(&rt, (copy.sec, copy.nanos, copy.len), bytes);
     }
     Ok(())
 }
@@ -490,8 +541,7 @@ const TORN: [u8; 77] = [
 fn want_of_memory_is_named(rt: HostRuntime) {
     match read_all(rt.alloc(), &TORN) {
         Ok((_, packets, fault)) => {
-            assert_eq!(rt; packets.len(), 2);
-            assert_eq!(rt; fault, Some(Fault::TornRecord(2)));
+            assert_eq!(rt; (packets.len(), fault), (2, Some(Fault::TornRecord(2))));
             for packet in &packets {
                 assert_eq!(rt; packet.bytes.as_slice(), [7, 8].as_slice());
             }

@@ -1,14 +1,14 @@
-//! Worked examples over the public functions.
+//! Worked examples of buffers and listeners.
 
-use super::*;
+mod caller;
+mod plain;
+
 use bpfvm::{Insn, Program};
+use listener::{Buffer, Fed, Listener, Mode, OpenFault, Read, Record, kept_of};
 use savefile::PacketRef;
 use std::alloc::{AllocError, Global};
 use std::process::Abort;
 use std::test::Fail;
-
-mod caller;
-mod plain;
 
 /// A program that accepts each packet, with at most so many bytes.
 fn keeping(most: u32) -> Result<Program, bpfvm::Invalid> {
@@ -292,19 +292,31 @@ fn takes(
     Ok(())
 }
 
+/// How many bytes of data, the capacity of a buffer, and how many bytes of it the record takes.
+const SIZES: [(u32, usize, usize); 9] = [
+    (0, 40, 32),
+    (1, 40, 40),
+    (24, 56, 56),
+    (24, 55, 0),
+    (25, 64, 64),
+    (25, 63, 0),
+    (32, 64, 64),
+    (262_144, 262_176, 262_176),
+    (262_144, 262_175, 0),
+];
+
+/// Records of a packet take their sizes.
+fn take_their_sizes(rt: &(impl Abort + AllocGlobal), packet: &PacketRef<'_>) -> Result<(), Fail> {
+    for (kept, capacity, want) in SIZES {
+        takes(rt, packet, kept, capacity, want)?;
+    }
+    Ok(())
+}
+
 #[test]
 fn a_record_takes_its_size(rt: HostRuntime) -> Result<(), Fail> {
     let data = numbered(rt.alloc(), 262_144)?;
-    let packet = packet(&data);
-    takes(&rt, &packet, 0, 40, 32)?;
-    takes(&rt, &packet, 1, 40, 40)?;
-    takes(&rt, &packet, 24, 56, 56)?;
-    takes(&rt, &packet, 24, 55, 0)?;
-    takes(&rt, &packet, 25, 64, 64)?;
-    takes(&rt, &packet, 25, 63, 0)?;
-    takes(&rt, &packet, 32, 64, 64)?;
-    takes(&rt, &packet, 262_144, 262_176, 262_176)?;
-    takes(&rt, &packet, 262_144, 262_175, 0)
+    take_their_sizes(&rt, &packet(&data))
 }
 
 /// The fault of an answer, or `Ok`.
@@ -400,15 +412,20 @@ fn made<T: Drop>(rt: &impl Abort, answer: Result<T, OpenFault>) -> T {
     }
 }
 
+/// Six packets arrive.
+fn six_arrive(rt: &impl Abort, listener: &mut Listener) {
+    for place in 0..6 {
+        assert!(rt; listener.counts().received < u64::MAX);
+        listener.arrive(0, place, &packet(&[7; 60]));
+    }
+}
+
 // By hand: with `rt try --test --fail-alloc N` this tells NoMemory for N of 1 and 2, the two buffers of the listener, and
 // of 3, the buffer that is brought; for every other N it passes, since nothing else takes memory.
 #[test]
 fn only_opening_takes_memory(rt: HostRuntime) -> Result<(), Fail> {
     let mut listener = made(&rt, Listener::open(rt.alloc(), keeping(64)?, 32, 128));
-    for place in 0..6 {
-        assert!(rt; listener.counts().received < u64::MAX);
-        listener.arrive(0, place, &packet(&[7; 60]));
-    }
+    six_arrive(&rt, &mut listener);
     let Ok(empty) = Buffer::new(rt.alloc(), listener.capacity()) else {
         panic!(rt; "NoMemory")
     };

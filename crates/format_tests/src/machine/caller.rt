@@ -1,9 +1,9 @@
-//! The caller of this crate's page, README.md.
+//! The caller of `bpfvm`'s page, README.md.
 
 ghost use Rattle.std.specs.Prelude.{◌≡◌, min, length};
 ghost use Rattle.bpfvm.specs.Machine.{verdict};
 
-use crate::{Program, read_listing, run};
+use bpfvm::{Program, read_listing, run};
 
 /// How many captured bytes of a packet a program keeps, 0 where it rejects the packet.
 fn kept(program: &Program, packet: &[u8], wire: u32) -> usize

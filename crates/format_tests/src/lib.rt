@@ -1,0 +1,7 @@
+//! Tests of `savefile` and `bpfvm`: savefiles that are read and written, programs of the filter machine and their listings.
+#![tactic(auto)]
+
+#[cfg(test)]
+mod machine;
+#[cfg(test)]
+mod savefiles;
