@@ -1,9 +1,9 @@
 //! Worked examples over the public functions, in one thread.
 
-ghost use Rattle.std.specs.Prelude.{◌≡◌};
+ghost use Rattle.std.specs.Prelude.{◌≡◌, IfOk};
 
 use bpfvm::{Insn, Program};
-use handover::{Drain, Feeder, Link, Read, Settled, pair, pair_as, settle};
+use handover::{Drain, DrainEnd, FeedEnd, Feeder, Link, Read, Settled, pair, pair_as, settle};
 use listener::{Buffer, Fed, Mode, OpenFault};
 use savefile::PacketRef;
 use std::alloc::{AllocError, Global};
@@ -173,6 +173,41 @@ fn left(alloc: Global, settled: &Settled, out: &mut String) -> Result<(), Fail> 
     Ok(())
 }
 
+/// Plays a script, ends the feeder, and reads on.
+fn until_ended(
+    alloc: Global,
+    link: &Link,
+    mut feeder: Feeder,
+    drain: &mut Drain,
+    script: &str,
+    reads: usize,
+    out: &mut String,
+) -> Result<FeedEnd, Fail>
+    requires { (feeder.pair ≡ link.now) × (drain.old.pair ≡ link.now) }
+    ensures end { IfOk result (λ end. end.pair ≡ feeder.pair) }
+    ensures drain { drain.new.pair ≡ drain.old.pair }
+{
+    together(alloc, link, &mut feeder, drain, script, out)?;
+    let feeder = feeder.end(link);
+    out.push_str("end, ")?;
+    reads_on(alloc, link, drain, reads, out)?;
+    Ok(feeder)
+}
+
+/// What is left of a pair of snapshot length 32 and capacity 64 whose feeder ended.
+fn left_of_ended(
+    alloc: Global,
+    mode: Mode,
+    script: &str,
+    reads: usize,
+    out: &mut String,
+) -> Result<Settled, Fail> {
+    let (link, feeder, mut drain) = pair_as(alloc, keeping(32)?, 32, 64, mode)?;
+    let feeder = until_ended(alloc, &link, feeder, &mut drain, script, reads, out)?;
+    let drain = drain.close(&link);
+    Ok(settle(link, feeder, drain))
+}
+
 /// What a pair of snapshot length 32 and capacity 64 answers to a script, then, once its feeder has ended, to so many reads,
 /// and what is left of it.
 fn ended(
@@ -182,17 +217,46 @@ fn ended(
     reads: usize,
     want: &str,
 ) -> Result<(), Fail> {
-    let alloc = rt.alloc();
-    let (link, mut feeder, mut drain) = pair_as(alloc, keeping(32)?, 32, 64, mode)?;
-    let mut out = String::new(alloc);
-    together(alloc, &link, &mut feeder, &mut drain, script, &mut out)?;
-    let feeder = feeder.end(&link);
-    out.push_str("end, ")?;
-    reads_on(alloc, &link, &mut drain, reads, &mut out)?;
-    let drain = drain.close(&link);
-    left(alloc, &settle(link, feeder, drain), &mut out)?;
+    let mut out = String::new(rt.alloc());
+    let settled = left_of_ended(rt.alloc(), mode, script, reads, &mut out)?;
+    left(rt.alloc(), &settled, &mut out)?;
     assert_eq!(rt; out.as_str(), want);
     Ok(())
+}
+
+/// Plays a script, closes the drain, and feeds on by a second script.
+fn until_closed(
+    alloc: Global,
+    link: &Link,
+    feeder: &mut Feeder,
+    mut drain: Drain,
+    script: &str,
+    behind: &str,
+    out: &mut String,
+) -> Result<DrainEnd, Fail>
+    requires { (feeder.old.pair ≡ link.now) × (drain.pair ≡ link.now) }
+    ensures end { IfOk result (λ end. end.pair ≡ drain.pair) }
+    ensures feeder { feeder.new.pair ≡ feeder.old.pair }
+{
+    let place = together(alloc, link, feeder, &mut drain, script, out)?;
+    let drain = drain.close(link);
+    out.push_str("close, ")?;
+    feeds_on(alloc, link, feeder, behind, place, out)?;
+    Ok(drain)
+}
+
+/// What is left of a pair of snapshot length 32 and capacity 64 whose drain closed first.
+fn left_of_closed(
+    alloc: Global,
+    most: u32,
+    script: &str,
+    behind: &str,
+    out: &mut String,
+) -> Result<Settled, Fail> {
+    let (link, mut feeder, drain) = pair(alloc, keeping(most)?, 32, 64)?;
+    let drain = until_closed(alloc, &link, &mut feeder, drain, script, behind, out)?;
+    let feeder = feeder.end(&link);
+    Ok(settle(link, feeder, drain))
 }
 
 /// The same, where the drain closes first, and the feeder goes on with a second script.
@@ -203,15 +267,9 @@ fn closed(
     behind: &str,
     want: &str,
 ) -> Result<(), Fail> {
-    let alloc = rt.alloc();
-    let (link, mut feeder, mut drain) = pair(alloc, keeping(most)?, 32, 64)?;
-    let mut out = String::new(alloc);
-    let place = together(alloc, &link, &mut feeder, &mut drain, script, &mut out)?;
-    let drain = drain.close(&link);
-    out.push_str("close, ")?;
-    feeds_on(alloc, &link, &mut feeder, behind, place, &mut out)?;
-    let feeder = feeder.end(&link);
-    left(alloc, &settle(link, feeder, drain), &mut out)?;
+    let mut out = String::new(rt.alloc());
+    let settled = left_of_closed(rt.alloc(), most, script, behind, &mut out)?;
+    left(rt.alloc(), &settled, &mut out)?;
     assert_eq!(rt; out.as_str(), want);
     Ok(())
 }
@@ -305,14 +363,37 @@ const PAIRS: [(u32, usize, &str); 8] = [
     (1, 1_048_577, "BadCapacity"),
 ];
 
+/// Tests how a pair with a snapshot length and a capacity is made, in this mode.
+fn is_made(
+    rt: &(impl Abort + AllocGlobal),
+    snap: u32,
+    capacity: usize,
+    mode: Mode,
+    want: &str,
+) -> Result<(), Fail> {
+    let made = pair_as(rt.alloc(), keeping(1)?, snap, capacity, mode);
+    let got = told(rt.alloc(), made)?;
+    assert_eq!(rt; got.as_str(), want, "at {snap} {capacity}");
+    Ok(())
+}
+
+/// The same by `pair`.
+fn is_made_buffered(
+    rt: &(impl Abort + AllocGlobal),
+    snap: u32,
+    capacity: usize,
+    want: &str,
+) -> Result<(), Fail> {
+    let got = told(rt.alloc(), pair(rt.alloc(), keeping(1)?, snap, capacity))?;
+    assert_eq!(rt; got.as_str(), want, "at {snap} {capacity}");
+    Ok(())
+}
+
 #[test]
 fn capacities_and_snapshot_lengths_have_their_ranges(rt: HostRuntime) -> Result<(), Fail> {
     for (snap, capacity, want) in PAIRS {
-        let got = told(rt.alloc(), pair(rt.alloc(), keeping(1)?, snap, capacity))?;
-        assert_eq!(rt; got.as_str(), want, "at {snap} {capacity}");
-        let made = pair_as(rt.alloc(), keeping(1)?, snap, capacity, Mode::Immediate);
-        let got = told(rt.alloc(), made)?;
-        assert_eq!(rt; got.as_str(), want, "at {snap} {capacity}");
+        is_made_buffered(&rt, snap, capacity, want)?;
+        is_made(&rt, snap, capacity, Mode::Immediate, want)?;
     }
     Ok(())
 }
