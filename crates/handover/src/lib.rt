@@ -16,6 +16,3 @@ pub use drain::{Drain, DrainEnd, Read};
 pub use feeder::{FeedEnd, Feeder};
 pub use link::{Link, Past, Settled, pair, pair_as, settle};
 pub use view::{Profile, Role, Sight, View};
-
-#[cfg(test)]
-mod tests;

@@ -30,6 +30,3 @@ pub use gate::{Gate, Open};
 pub use report::{InterfaceEnd, InterfaceReport, ListenerReport, TaskEnd};
 pub use running::run;
 pub use task::{Interface, Task};
-
-#[cfg(test)]
-mod tests;

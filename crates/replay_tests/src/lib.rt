@@ -1,0 +1,7 @@
+//! Tests of `handover` and `replay`.
+#![tactic(auto)]
+
+#[cfg(test)]
+mod pairs;
+#[cfg(test)]
+mod replays;

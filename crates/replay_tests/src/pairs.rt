@@ -1,0 +1,452 @@
+//! Worked examples over the public functions, in one thread.
+
+ghost use Rattle.std.specs.Prelude.{◌≡◌, IfOk};
+
+use bpfvm::{Insn, Program};
+use handover::{Drain, DrainEnd, FeedEnd, Feeder, Link, Read, Settled, pair, pair_as, settle};
+use listener::{Buffer, Fed, Mode, OpenFault};
+use savefile::PacketRef;
+use std::alloc::{AllocError, Global};
+use std::process::Abort;
+use std::test::Fail;
+
+mod caller;
+mod past;
+mod threads;
+
+/// A program that accepts each packet, with at most so many bytes.
+fn keeping(most: u32) -> Result<Program, bpfvm::Invalid> {
+    Program::new(&[Insn {
+        code: bpfvm::code::RET_K,
+        jt: 0,
+        jf: 0,
+        k: most,
+    }])
+}
+
+/// The bytes of a packet, no two of them alike.
+const BYTES: [u8; 60] = [
+    0, 1, 2, 3, 4, 5, 6, 7, 8, 9, 10, 11, 12, 13, 14, 15, 16, 17, 18, 19, 20, 21, 22, 23, 24, 25,
+    26, 27, 28, 29, 30, 31, 32, 33, 34, 35, 36, 37, 38, 39, 40, 41, 42, 43, 44, 45, 46, 47, 48, 49,
+    50, 51, 52, 53, 54, 55, 56, 57, 58, 59,
+];
+
+/// A packet of one second, with 60 bytes.
+fn packet() -> PacketRef<'static> {
+    PacketRef {
+        sec: 1,
+        nanos: 0,
+        len: 60,
+        bytes: &BYTES,
+    }
+}
+
+/// The places of a buffer's messages, each with a `?` where its bytes aren't the first 32 of the packet.
+fn places(alloc: Global, buffer: &Buffer) -> Result<String, AllocError> {
+    let mut out = String::new(alloc);
+    for record in buffer.records() {
+        let place = format!(in alloc; " {}", record.place)?;
+        out.push_str(place.as_str())?;
+        if record.bytes.len() != 32 || !BYTES.starts_with(record.bytes) {
+            out.push('?')?;
+        }
+    }
+    Ok(out)
+}
+
+/// What the feeder answers to one step of a script: `a` is an arrival, and `f` a flush.
+fn fed(
+    alloc: Global,
+    link: &Link,
+    feeder: &mut Feeder,
+    step: char,
+    place: u64,
+) -> Result<String, Fail>
+    requires { feeder.old.pair ≡ link.now }
+    ensures { feeder.new.pair ≡ feeder.old.pair }
+{
+    if step == 'f' {
+        return Ok(format!(in alloc; "{}, ", feeder.flush(link))?);
+    }
+    if feeder.counts().received == u64::MAX {
+        return Ok(format!(in alloc; "full")?);
+    }
+    let fed = feeder.arrive(link, 0, place, &packet());
+    Ok(format!(in alloc; "{fed:?}, ")?)
+}
+
+/// What the drain answers to a read.
+fn read(alloc: Global, link: &Link, drain: &mut Drain) -> Result<String, Fail>
+    requires { drain.old.pair ≡ link.now }
+    ensures { drain.new.pair ≡ drain.old.pair }
+{
+    let empty = Buffer::new(alloc, drain.capacity())?;
+    match drain.read(link, empty) {
+        Read::Full(buffer) => Ok(format!(in alloc; "Full{}, ", places(alloc, &buffer)?)?),
+        Read::Nothing(buffer) => {
+            let left = buffer.len();
+            Ok(format!(in alloc; "Nothing {left}, ")?)
+        }
+        Read::Ended(buffer) => {
+            let left = buffer.len();
+            Ok(format!(in alloc; "Ended {left}, ")?)
+        }
+    }
+}
+
+/// The steps of a script while both ends are open: `a` is an arrival, `f` a flush and `r` a read. Tells the next place.
+fn together(
+    alloc: Global,
+    link: &Link,
+    feeder: &mut Feeder,
+    drain: &mut Drain,
+    script: &str,
+    out: &mut String,
+) -> Result<u64, Fail>
+    requires { (feeder.old.pair ≡ link.now) × (drain.old.pair ≡ link.now) }
+    ensures { (feeder.new.pair ≡ feeder.old.pair) × (drain.new.pair ≡ drain.old.pair) }
+{
+    let mut place = 0u64;
+    for step in script.chars() {
+        let line = if step == 'r' {
+            read(alloc, link, drain)?
+        } else {
+            fed(alloc, link, feeder, step, place)?
+        };
+        out.push_str(line.as_str())?;
+        if step == 'a' {
+            place = place.wrapping_add(1);
+        }
+    }
+    Ok(place)
+}
+
+/// The steps of a script at a feeder whose drain has closed.
+fn feeds_on(
+    alloc: Global,
+    link: &Link,
+    feeder: &mut Feeder,
+    script: &str,
+    place: u64,
+    out: &mut String,
+) -> Result<(), Fail>
+    requires { feeder.old.pair ≡ link.now }
+    ensures { feeder.new.pair ≡ feeder.old.pair }
+{
+    for step in script.chars() {
+        let line = fed(alloc, link, feeder, step, place)?;
+        out.push_str(line.as_str())?;
+    }
+    Ok(())
+}
+
+/// So many reads of a drain whose feeder has ended.
+fn reads_on(
+    alloc: Global,
+    link: &Link,
+    drain: &mut Drain,
+    reads: usize,
+    out: &mut String,
+) -> Result<(), Fail>
+    requires { drain.old.pair ≡ link.now }
+    ensures { drain.new.pair ≡ drain.old.pair }
+{
+    for _ in 0..reads {
+        let line = read(alloc, link, drain)?;
+        out.push_str(line.as_str())?;
+    }
+    Ok(())
+}
+
+/// What is left of a pair, behind what was told so far.
+fn left(alloc: Global, settled: &Settled, out: &mut String) -> Result<(), Fail> {
+    let counts = settled.counts;
+    let line = format!(in alloc;
+        "held{}, stored{}; {} {} {}",
+        places(alloc, &settled.hold)?,
+        places(alloc, &settled.rest)?,
+        counts.received,
+        counts.matched,
+        counts.dropped
+    )?;
+    out.push_str(line.as_str())?;
+    Ok(())
+}
+
+/// Plays a script, ends the feeder, and reads on.
+fn until_ended(
+    alloc: Global,
+    link: &Link,
+    mut feeder: Feeder,
+    drain: &mut Drain,
+    script: &str,
+    reads: usize,
+    out: &mut String,
+) -> Result<FeedEnd, Fail>
+    requires { (feeder.pair ≡ link.now) × (drain.old.pair ≡ link.now) }
+    ensures end { IfOk result (λ end. end.pair ≡ feeder.pair) }
+    ensures drain { drain.new.pair ≡ drain.old.pair }
+{
+    together(alloc, link, &mut feeder, drain, script, out)?;
+    let feeder = feeder.end(link);
+    out.push_str("end, ")?;
+    reads_on(alloc, link, drain, reads, out)?;
+    Ok(feeder)
+}
+
+/// What is left of a pair of snapshot length 32 and capacity 64 whose feeder ended.
+fn left_of_ended(
+    alloc: Global,
+    mode: Mode,
+    script: &str,
+    reads: usize,
+    out: &mut String,
+) -> Result<Settled, Fail> {
+    let (link, feeder, mut drain) = pair_as(alloc, keeping(32)?, 32, 64, mode)?;
+    let feeder = until_ended(alloc, &link, feeder, &mut drain, script, reads, out)?;
+    let drain = drain.close(&link);
+    Ok(settle(link, feeder, drain))
+}
+
+/// What a pair of snapshot length 32 and capacity 64 answers to a script, then, once its feeder has ended, to so many reads,
+/// and what is left of it.
+fn ended(
+    rt: &(impl Abort + AllocGlobal),
+    mode: Mode,
+    script: &str,
+    reads: usize,
+    want: &str,
+) -> Result<(), Fail> {
+    let mut out = String::new(rt.alloc());
+    let settled = left_of_ended(rt.alloc(), mode, script, reads, &mut out)?;
+    left(rt.alloc(), &settled, &mut out)?;
+    assert_eq!(rt; out.as_str(), want);
+    Ok(())
+}
+
+/// Plays a script, closes the drain, and feeds on by a second script.
+fn until_closed(
+    alloc: Global,
+    link: &Link,
+    feeder: &mut Feeder,
+    mut drain: Drain,
+    script: &str,
+    behind: &str,
+    out: &mut String,
+) -> Result<DrainEnd, Fail>
+    requires { (feeder.old.pair ≡ link.now) × (drain.pair ≡ link.now) }
+    ensures end { IfOk result (λ end. end.pair ≡ drain.pair) }
+    ensures feeder { feeder.new.pair ≡ feeder.old.pair }
+{
+    let place = together(alloc, link, feeder, &mut drain, script, out)?;
+    let drain = drain.close(link);
+    out.push_str("close, ")?;
+    feeds_on(alloc, link, feeder, behind, place, out)?;
+    Ok(drain)
+}
+
+/// What is left of a pair of snapshot length 32 and capacity 64 whose drain closed first.
+fn left_of_closed(
+    alloc: Global,
+    most: u32,
+    script: &str,
+    behind: &str,
+    out: &mut String,
+) -> Result<Settled, Fail> {
+    let (link, mut feeder, drain) = pair(alloc, keeping(most)?, 32, 64)?;
+    let drain = until_closed(alloc, &link, &mut feeder, drain, script, behind, out)?;
+    let feeder = feeder.end(&link);
+    Ok(settle(link, feeder, drain))
+}
+
+/// The same, where the drain closes first, and the feeder goes on with a second script.
+fn closed(
+    rt: &(impl Abort + AllocGlobal),
+    most: u32,
+    script: &str,
+    behind: &str,
+    want: &str,
+) -> Result<(), Fail> {
+    let mut out = String::new(rt.alloc());
+    let settled = left_of_closed(rt.alloc(), most, script, behind, &mut out)?;
+    left(rt.alloc(), &settled, &mut out)?;
+    assert_eq!(rt; out.as_str(), want);
+    Ok(())
+}
+
+#[test]
+fn a_full_store_rotates_and_then_drops(rt: HostRuntime) -> Result<(), Fail> {
+    ended(
+        &rt,
+        Mode::Buffered,
+        "araarfa",
+        2,
+        "Stored, Nothing 0, Rotated, Dropped, Full 0, true, Stored, end, Full 1, Ended 0, held, stored 3; 4 4 1",
+    )
+}
+
+#[test]
+fn an_immediate_pair_hands_over_at_once(rt: HostRuntime) -> Result<(), Fail> {
+    ended(
+        &rt,
+        Mode::Immediate,
+        "arraaa",
+        2,
+        "Held, Full 0, Nothing 0, Held, Stored, Dropped, end, Full 1, Ended 0, held, stored 2; 4 4 1",
+    )
+}
+
+#[test]
+fn a_flush_wants_a_full_store_and_an_empty_hold(rt: HostRuntime) -> Result<(), Fail> {
+    ended(
+        &rt,
+        Mode::Buffered,
+        "fafafr",
+        0,
+        "false, Stored, true, Stored, false, Full 0, end, held, stored 1; 2 2 0",
+    )?;
+    ended(
+        &rt,
+        Mode::Immediate,
+        "afaf",
+        1,
+        "Held, false, Stored, false, end, Full 0, held, stored 1; 2 2 0",
+    )
+}
+
+#[test]
+fn a_closed_pair_takes_nothing(rt: HostRuntime) -> Result<(), Fail> {
+    closed(
+        &rt,
+        262_144,
+        "",
+        "af",
+        "close, Closed, false, held, stored; 0 0 0",
+    )?;
+    closed(
+        &rt,
+        262_144,
+        "aaa",
+        "afa",
+        "Stored, Rotated, Dropped, close, Closed, false, Closed, held 0, stored 1; 3 3 1",
+    )
+}
+
+#[test]
+fn a_rejected_packet_is_received_and_no_more(rt: HostRuntime) -> Result<(), Fail> {
+    closed(
+        &rt,
+        0,
+        "aar",
+        "a",
+        "Passed, Passed, Nothing 0, close, Closed, held, stored; 2 0 0",
+    )
+}
+
+/// The fault of an answer, or `Ok`.
+fn told<T: Drop>(alloc: Global, answer: Result<T, OpenFault>) -> Result<String, AllocError> {
+    match answer {
+        Ok(_) => format!(in alloc; "Ok"),
+        Err(fault) => format!(in alloc; "{fault}"),
+    }
+}
+
+/// Snapshot lengths and capacities, and how a pair with each is made.
+const PAIRS: [(u32, usize, &str); 8] = [
+    (0, 64, "BadSnap"),
+    (262_145, 0, "BadSnap"),
+    (1, 40, "Ok"),
+    (1, 39, "BadCapacity"),
+    (10, 47, "BadCapacity"),
+    (262_144, 262_176, "Ok"),
+    (262_144, 1_048_576, "Ok"),
+    (1, 1_048_577, "BadCapacity"),
+];
+
+/// Tests how a pair with a snapshot length and a capacity is made, in this mode.
+fn is_made(
+    rt: &(impl Abort + AllocGlobal),
+    snap: u32,
+    capacity: usize,
+    mode: Mode,
+    want: &str,
+) -> Result<(), Fail> {
+    let made = pair_as(rt.alloc(), keeping(1)?, snap, capacity, mode);
+    let got = told(rt.alloc(), made)?;
+    assert_eq!(rt; got.as_str(), want, "at {snap} {capacity}");
+    Ok(())
+}
+
+/// The same by `pair`.
+fn is_made_buffered(
+    rt: &(impl Abort + AllocGlobal),
+    snap: u32,
+    capacity: usize,
+    want: &str,
+) -> Result<(), Fail> {
+    let got = told(rt.alloc(), pair(rt.alloc(), keeping(1)?, snap, capacity))?;
+    assert_eq!(rt; got.as_str(), want, "at {snap} {capacity}");
+    Ok(())
+}
+
+#[test]
+fn capacities_and_snapshot_lengths_have_their_ranges(rt: HostRuntime) -> Result<(), Fail> {
+    for (snap, capacity, want) in PAIRS {
+        is_made_buffered(&rt, snap, capacity, want)?;
+        is_made(&rt, snap, capacity, Mode::Immediate, want)?;
+    }
+    Ok(())
+}
+
+/// One arrival.
+fn arrive(link: &Link, feeder: &mut Feeder, place: u64) -> Option<Fed>
+    requires { feeder.old.pair ≡ link.now }
+    ensures { feeder.new.pair ≡ feeder.old.pair }
+{
+    if feeder.counts().received == u64::MAX {
+        return None;
+    }
+    Some(feeder.arrive(link, 0, place, &packet()))
+}
+
+// By hand: with `rt try --test --fail-alloc N` this tells NoMemory for N of 1 to 5, what the pair takes (two buffers, the row of
+// slots that the table is given, its words and its slot), and of 6, the buffer that is brought; for every other N it passes,
+// since nothing else takes memory.
+#[test]
+fn only_the_pair_takes_memory(rt: HostRuntime) -> Result<(), Fail> {
+    let Ok((link, mut feeder, mut drain)) = pair(rt.alloc(), keeping(64)?, 32, 64) else {
+        panic!(rt; "NoMemory")
+    };
+    let Ok(empty) = Buffer::new(rt.alloc(), drain.capacity()) else {
+        panic!(rt; "NoMemory")
+    };
+    assert_eq!(rt; arrive(&link, &mut feeder, 0), Some(Fed::Stored));
+    assert_eq!(rt; arrive(&link, &mut feeder, 1), Some(Fed::Rotated));
+    assert_eq!(rt; arrive(&link, &mut feeder, 2), Some(Fed::Dropped));
+    drain.read(&link, empty);
+    assert!(rt; feeder.flush(&link));
+    let drain = drain.close(&link);
+    let feeder = feeder.end(&link);
+    let settled = settle(link, feeder, drain);
+    assert_eq!(rt; settled.counts.dropped, 1);
+    Ok(())
+}
+
+/// Takes what may be sent to another thread and dropped there.
+fn takes_what_is_sent<T: Send + Drop>(_value: T) {}
+
+/// Takes what threads may share.
+fn takes_what_is_shared<T: Sync>(_value: &T) {}
+
+#[test]
+fn ends_may_be_sent_and_links_shared(rt: HostRuntime) -> Result<(), Fail> {
+    let (link, feeder, drain) = pair(rt.alloc(), keeping(1)?, 1, 40)?;
+    takes_what_is_shared(&link);
+    takes_what_is_sent(feeder.end(&link));
+    takes_what_is_sent(drain.close(&link));
+    takes_what_is_sent(link);
+    let (_link, feeder, drain) = pair(rt.alloc(), keeping(1)?, 1, 40)?;
+    takes_what_is_sent(feeder);
+    takes_what_is_sent(drain);
+    Ok(())
+}
