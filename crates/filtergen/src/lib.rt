@@ -26,14 +26,3 @@ pub use expression::{ExpressionFault, compile_text};
 pub use refusal::Refusal;
 pub use verdict::Verdict;
 pub use weighing::{MAX_NEED, MAX_WEIGHT, need, weight};
-
-#[cfg(test)]
-mod caller_tests;
-#[cfg(test)]
-mod comparison_tests;
-#[cfg(test)]
-mod random_relation_tests;
-#[cfg(test)]
-mod relation_tests;
-#[cfg(test)]
-mod tests;

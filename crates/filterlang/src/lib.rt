@@ -21,6 +21,3 @@ pub use token::{
     TypeWord,
 };
 pub use tree::{Direction, Expr, Layer, Network, Plain, Primitive, Size, Transport, Value};
-
-#[cfg(test)]
-mod tests;

@@ -1,9 +1,9 @@
 //! Which tokens a text has, and how faults are printed.
 
-use super::chain;
-use crate::fault::Fault;
-use crate::lexer::lex;
-use crate::token::{
+use crate::reading::chain;
+use filterlang::fault::Fault;
+use filterlang::lexer::lex;
+use filterlang::token::{
     Comparison, EthernetAddress, Joint, Kind, Operator, Parts, Protocol, Side, Token, TypeWord,
 };
 use std::process::Abort;
@@ -205,7 +205,7 @@ fn has_tokens(
 
 #[test]
 fn texts_have_these_tokens(rt: HostRuntime) -> Result<(), Fail> {
-    for (text, wanted) in TEXTS {
+    for (text, wanted) in TEXTS.as_slice() {
         has_tokens(&rt, text, wanted)?;
     }
     Ok(())
@@ -401,8 +401,8 @@ fn refuses(rt: &(impl Abort + AllocGlobal), text: &str, fault: Fault) {
 
 #[test]
 fn the_first_failing_place_is_named(rt: HostRuntime) {
-    for (text, fault) in FAILING {
-        refuses(&rt, text, fault);
+    for (text, fault) in FAILING.as_slice() {
+        refuses(&rt, text, *fault);
     }
 }
 

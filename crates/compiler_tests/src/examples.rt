@@ -1,10 +1,9 @@
-//! Worked examples, and programs compared with the evaluator.
+//! Worked examples from their text, by the program and by the evaluator, and what programs look like.
 
-use super::*;
 use bpfvm::{Program, read_listing, run, write_listing};
+use filtergen::{MAX_SNAP, Refusal, Verdict, compile, evaluate, weight};
 use filterlang::{Expr, parse};
 use std::process::Abort;
-use std::test::Fail;
 
 /// An Ethernet, IPv4 and UDP header, 38 bytes: 10.0.0.1 port 53 to 10.0.0.2 port 53.
 pub(crate) const UDP_FRAME: [u8; 38] = [
@@ -117,11 +116,15 @@ fn worked_examples_on_two_frames(rt: HostRuntime) {
 fn twelve_ports_weigh_480_and_compile(rt: HostRuntime) {
     let text = "port (1 or 2 or 3 or 4 or 5 or 6 or 7 or 8 or 9 or 10 or 11 or 12)";
     assert_eq!(rt; weight(&tree_of(&rt, text)), 480);
-    let program = program_of(&rt, text, 96);
-    assert_eq!(rt; run(&program, &UDP_FRAME, 38), 0);
-    for number in [12, 1] {
-        let frame = to_port(number);
-        assert_eq!(rt; run(&program, &frame, 38), 96, "port {number}");
+    accepts_ports(&rt, &program_of(&rt, text, 96), &[12, 1]);
+}
+
+// A program rejects the UDP frame, and accepts it where it goes to one of these ports.
+fn accepts_ports(rt: &impl Abort, program: &Program, numbers: &[u8]) {
+    assert_eq!(rt; run(program, &UDP_FRAME, 38), 0);
+    for number in numbers {
+        let frame = to_port(*number);
+        assert_eq!(rt; run(program, &frame, 38), 96, "port {number}");
     }
 }
 
@@ -132,18 +135,24 @@ fn thirteen_ports_weigh_520(rt: HostRuntime) {
     assert_eq!(rt; weight(&tree), 520);
     // They may be too long. They fit.
     let program = compile(&tree, 96).expect(&rt, "they fit");
-    assert_eq!(rt; run(&program, &UDP_FRAME, 38), 0);
-    assert_eq!(rt; run(&program, &to_port(13), 38), 96);
+    accepts_ports(&rt, &program, &[13]);
+}
+
+// A text, another one so many times, and a last one.
+fn repeated(
+    rt: &(impl Abort + AllocGlobal),
+    first: &str,
+    next: &str,
+    times: usize,
+    last: &str,
+) -> String {
+    let between = next.repeat(rt.alloc(), times).expect(rt, "there is memory");
+    format!(in rt.alloc(); "{first}{between}{last}").expect(rt, "there is memory")
 }
 
 // `ip`, and so many times `||ip` behind it.
 fn chain(rt: &(impl Abort + AllocGlobal), more: usize) -> Expr {
-    let mut text = String::new(rt.alloc());
-    text.push_str("ip").expect(rt, "there is memory");
-    for _ in 0..more {
-        text.push_str("||ip").expect(rt, "there is memory");
-    }
-    tree_of(rt, text.as_str())
+    tree_of(rt, repeated(rt, "ip", "||ip", more, "").as_str())
 }
 
 #[test]
@@ -169,18 +178,12 @@ fn counted(rt: &(impl Abort + AllocGlobal), text: &str, code: u16, k: u32) -> us
 }
 
 #[test]
-fn what_a_chain_has_shown_is_not_tested_again(rt: HostRuntime) -> Result<(), Fail> {
+fn what_a_chain_has_shown_is_not_tested_again(rt: HostRuntime) {
     for (between, tests) in [(0, 1), (16, 1), (17, 2)] {
-        let mut text = String::new(rt.alloc());
-        text.push_str("tcp")?;
-        for _ in 0..between {
-            text.push_str(" and greater 1")?;
-        }
-        text.push_str(" and tcp[13] = 2")?;
+        let text = repeated(&rt, "tcp", " and greater 1", between, " and tcp[13] = 2");
         let found = counted(&rt, text.as_str(), bpfvm::code::JEQ_K, 6);
         assert_eq!(rt; found, tests, "{between}");
     }
-    Ok(())
 }
 
 #[test]
@@ -209,17 +212,12 @@ fn lengths(rt: &(impl Abort + AllocGlobal), text: &str) -> (usize, usize) {
 }
 
 #[test]
-fn a_jump_reaches_over_255_instructions(rt: HostRuntime) -> Result<(), Fail> {
-    let mut text = String::new(rt.alloc());
-    text.push_str("ip")?;
-    for _ in 0..127 {
-        text.push_str("&&ip")?;
-    }
+fn a_jump_reaches_over_255_instructions(rt: HostRuntime) {
+    let text = repeated(&rt, "ip", "&&ip", 127, "");
     assert_eq!(rt; lengths(&rt, text.as_str()), (258, 0));
-    text.push_str("&&ip")?;
+    let text = repeated(&rt, "ip", "&&ip", 128, "");
     let (_, long) = lengths(&rt, text.as_str());
     assert_eq!(rt; long, 1);
-    Ok(())
 }
 
 #[test]

@@ -1,13 +1,13 @@
 //! Which tree a text reads as.
 
-use super::{chain, nested, read_alike, read_unless_no_memory, reads_as, tree_of};
-use crate::parser::parse;
-use crate::token::EthernetAddress;
-use crate::tree::Direction::{Dst, Src, SrcAndDst, SrcOrDst};
-use crate::tree::Network::{Arp, Ip, Rarp};
-use crate::tree::Primitive::{EtherBroadcast, EtherMulticast, Greater, IpMulticast, Less};
-use crate::tree::Transport::{Sctp, Tcp, Udp};
-use crate::tree::{Direction, Expr, Network, Plain, Primitive, Transport};
+use crate::reading::{chain, nested, read_alike, read_unless_no_memory, reads_as, tree_of};
+use filterlang::parser::parse;
+use filterlang::token::EthernetAddress;
+use filterlang::tree::Direction::{Dst, Src, SrcAndDst, SrcOrDst};
+use filterlang::tree::Network::{Arp, Ip, Rarp};
+use filterlang::tree::Primitive::{EtherBroadcast, EtherMulticast, Greater, IpMulticast, Less};
+use filterlang::tree::Transport::{Sctp, Tcp, Udp};
+use filterlang::tree::{Direction, Expr, Network, Plain, Primitive, Transport};
 use std::process::Abort;
 
 fn host(network: Option<Network>, direction: Direction, address: u32) -> Primitive {

@@ -1,7 +1,7 @@
 //! The fault of a relation that is none, and its place.
 
-use super::{chain, nested, refused, refuses};
-use crate::fault::Fault;
+use crate::reading::{nested, refused, refuses, surrounded};
+use filterlang::fault::Fault;
 
 /// Where a relation breaks off, or goes on as none does.
 const BROKEN_OFF: [(&str, Fault); 73] = [
@@ -219,14 +219,9 @@ const TOO_NESTED: [(&str, usize, &str, &str, &str, &str, Fault); 19] = [
 
 #[test]
 fn more_than_64_open_signs_are_too_many(rt: HostRuntime) {
-    for (before, times, sign, inner, closing, behind, fault) in TOO_NESTED {
-        let text = chain(
-            &rt,
-            before,
-            nested(&rt, times, sign, inner, closing).as_str(),
-            1,
-        );
-        let text = chain(&rt, text.as_str(), behind, 1);
-        refuses(&rt, text.as_str(), fault);
+    for (before, times, sign, inner, closing, behind, fault) in TOO_NESTED.as_slice() {
+        let text = nested(&rt, *times, sign, inner, closing);
+        let text = surrounded(&rt, before, text.as_str(), behind);
+        refuses(&rt, text.as_str(), *fault);
     }
 }

@@ -2,13 +2,13 @@
 
 ghost use Rattle.std.specs.Prelude.{◌<◌};
 
-use super::*;
-use crate::random_relation_tests::random_relation;
+use crate::random_relations::random_relation;
 use bpfvm::{Program, run};
+use filtergen::{MAX_WEIGHT, Refusal, Verdict, compile, evaluate, weight};
 use filterlang::{Direction, EthernetAddress, Expr, Network, Plain, Primitive, Transport};
+use fixtures::captures::bytes_of;
 use std::alloc::{AllocError, Global};
 use std::process::Abort;
-use std::test::Fail;
 
 /// Frames that come to each branch of each primitive, as hexadecimal digits.
 const FRAMES: [&str; 12] = [
@@ -34,27 +34,6 @@ const FRAMES: [&str; 12] = [
     // IPv6
     "333300000001 000102030405 86dd 6000000000081140 00000000000000000000000000000001",
 ];
-
-// The bytes that a text of hexadecimal digits stands for; blanks are passed over.
-fn bytes_of(alloc: Global, hex: &str) -> Result<Vec<u8>, AllocError> {
-    let mut bytes = Vec::new(alloc);
-    let mut high: Option<u8> = None;
-    for c in hex.bytes() {
-        let digit = match c {
-            b'0'..=b'9' => c - b'0',
-            b'a'..=b'f' => c - b'a' + 10,
-            _ => continue,
-        };
-        match high {
-            None => high = Some(digit),
-            Some(first) => {
-                bytes.push(first.wrapping_mul(16).wrapping_add(digit))?;
-                high = None;
-            }
-        }
-    }
-    Ok(bytes)
-}
 
 pub(crate) fn frames(rt: &(impl Abort + AllocGlobal)) -> Vec<Vec<u8>> {
     let mut frames = Vec::new(rt.alloc());
@@ -160,16 +139,21 @@ pub(crate) fn compare(rt: &impl Abort, expr: &Expr, program: &Program, packet: &
     );
 }
 
+// On a frame, cut at each byte.
+pub(crate) fn compare_cut(rt: &impl Abort, expr: &Expr, program: &Program, frame: &[u8]) {
+    let wire = wire_of(frame);
+    for end in 0..=frame.len() {
+        compare(rt, expr, program, &frame[..end], wire);
+    }
+}
+
 // A primitive on every frame, cut at each byte, and its length on the wire at both bounds.
 fn compare_everywhere(rt: &impl Abort, frames: &[Vec<u8>], primitive: Primitive) {
     let expr = Expr::Test(primitive);
     let program = program_of(rt, &expr).expect(rt, "a primitive compiles");
     for frame in frames {
         let frame = frame.as_slice();
-        let wire = wire_of(frame);
-        for end in 0..=frame.len() {
-            compare(rt, &expr, &program, &frame[..end], wire);
-        }
+        compare_cut(rt, &expr, &program, frame);
         compare(rt, &expr, &program, frame, u32::MAX);
         compare(rt, &expr, &program, frame, 0);
     }
@@ -282,6 +266,21 @@ fn random_primitive(random: &mut Random) -> Primitive {
     }
 }
 
+// Two trees joined by `and` or by `or`, in either order.
+fn joined(alloc: Global, random: &mut Random, one: Expr, other: Expr) -> Result<Expr, AllocError> {
+    let (left, right) = if random.below(2) == 0 {
+        (one, other)
+    } else {
+        (other, one)
+    };
+    let (left, right) = (Box::new(alloc, left)?, Box::new(alloc, right)?);
+    if random.below(2) == 0 {
+        Ok(Expr::And(left, right))
+    } else {
+        Ok(Expr::Or(left, right))
+    }
+}
+
 // A tree, and so many others joined to it, negated or not.
 fn joined_trees(
     alloc: Global,
@@ -290,18 +289,7 @@ fn joined_trees(
     others: Vec<Expr>,
 ) -> Result<Expr, AllocError> {
     for other in others {
-        let (left, right) = if random.below(2) == 0 {
-            (tree, other)
-        } else {
-            (other, tree)
-        };
-        let left = Box::new(alloc, left)?;
-        let right = Box::new(alloc, right)?;
-        tree = if random.below(2) == 0 {
-            Expr::And(left, right)
-        } else {
-            Expr::Or(left, right)
-        };
+        tree = joined(alloc, random, tree, other)?;
         if random.below(4) == 0 {
             tree = Expr::Not(Box::new(alloc, tree)?);
         }
@@ -338,6 +326,40 @@ fn random_tree(alloc: Global, random: &mut Random, most: u32) -> Result<Expr, Al
     joined_trees(alloc, random, first, branches)
 }
 
+// A tree and its program on every frame, cut anywhere and whole; how many whole frames it accepts.
+fn accepted_by(
+    rt: &impl Abort,
+    random: &mut Random,
+    expr: &Expr,
+    program: &Program,
+    frames: &[Vec<u8>],
+) -> u32 {
+    let mut accepted = 0u32;
+    for frame in frames {
+        let frame = frame.as_slice();
+        let wire = wire_of(frame);
+        let end = random.below(frame.len() + 1);
+        compare(rt, expr, program, &frame[..end], wire);
+        compare(rt, expr, program, frame, wire);
+        if evaluate(expr, frame, wire) == Verdict::Yes {
+            accepted = accepted.saturating_add(1);
+        }
+    }
+    accepted
+}
+
+// A random tree compared, and how many frames it accepts; nothing where it is too long.
+fn compared(
+    rt: &(impl Abort + AllocGlobal),
+    random: &mut Random,
+    most: u32,
+    frames: &[Vec<u8>],
+) -> Option<u32> {
+    let expr = random_tree(rt.alloc(), random, most).expect(rt, "there is memory");
+    let program = program_of(rt, &expr)?;
+    Some(accepted_by(rt, random, &expr, &program, frames))
+}
+
 #[test]
 fn two_thousand_random_trees(rt: HostRuntime) {
     let frames = frames(&rt);
@@ -345,21 +367,9 @@ fn two_thousand_random_trees(rt: HostRuntime) {
     let mut compiled = 0u32;
     let mut accepted = 0u32;
     for number in 0..2000u32 {
-        let tree = random_tree(rt.alloc(), &mut random, 1 + number % 12);
-        let expr = tree.expect(&rt, "there is memory");
-        let Some(program) = program_of(&rt, &expr) else {
-            continue;
-        };
-        compiled = compiled.saturating_add(1);
-        for frame in frames.as_slice() {
-            let frame = frame.as_slice();
-            let wire = wire_of(frame);
-            let end = random.below(frame.len() + 1);
-            compare(&rt, &expr, &program, &frame[..end], wire);
-            compare(&rt, &expr, &program, frame, wire);
-            if evaluate(&expr, frame, wire) == Verdict::Yes {
-                accepted = accepted.saturating_add(1);
-            }
+        if let Some(more) = compared(&rt, &mut random, 1 + number % 12, frames.as_slice()) {
+            compiled = compiled.saturating_add(1);
+            accepted = accepted.saturating_add(more);
         }
     }
     // Most of them compile, and they accept some frames and reject others.

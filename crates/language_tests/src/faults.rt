@@ -1,7 +1,8 @@
 //! The fault of a text that is no expression, and its place.
 
-use super::{chain, nested, refused, refuses};
-use crate::fault::Fault;
+use crate::reading::{chain, nested, refused, refuses};
+use filterlang::fault::Fault;
+use std::process::Abort;
 
 /// Where a text breaks off, or goes on as no expression does.
 const BROKEN_OFF: [(&str, Fault); 98] = [
@@ -360,15 +361,23 @@ const TOO_NESTED: [(usize, &str, &str, &str, Fault); 21] = [
 
 #[test]
 fn more_than_64_levels_are_too_many(rt: HostRuntime) {
-    for (times, sign, inner, closing, fault) in TOO_NESTED {
-        let text = nested(&rt, times, sign, inner, closing);
-        refuses(&rt, text.as_str(), fault);
+    for (times, sign, inner, closing, fault) in TOO_NESTED.as_slice() {
+        let text = nested(&rt, *times, sign, inner, closing);
+        refuses(&rt, text.as_str(), *fault);
     }
-    let text = chain(&rt, "port ", nested(&rt, 65, "(", "80", "").as_str(), 1);
-    refuses(&rt, text.as_str(), Fault::TooNested(5 + 64));
+}
+
+// A text, and 65 times a sign behind it, are refused with this fault.
+fn refuses_65_behind(rt: &(impl Abort + AllocGlobal), before: &str, sign: &str, fault: Fault) {
+    let signs = nested(rt, 65, sign, "80", "");
+    refuses(rt, chain(rt, before, signs.as_str(), 1).as_str(), fault);
+}
+
+#[test]
+fn more_than_64_levels_of_a_group_are_too_many(rt: HostRuntime) {
+    refuses_65_behind(&rt, "port ", "(", Fault::TooNested(5 + 64));
     // The `(` is the first of these levels, so that the 64th `not` is one too many.
-    let text = chain(&rt, "port (", nested(&rt, 65, "not ", "80", "").as_str(), 1);
-    refuses(&rt, text.as_str(), Fault::TooNested(6 + 4 * 63));
+    refuses_65_behind(&rt, "port (", "not ", Fault::TooNested(6 + 4 * 63));
 }
 
 #[test]

@@ -1,11 +1,13 @@
 //! Which tree a text with relations reads as.
 
-use super::{chain, nested, read_alike, read_unless_no_memory, reads_as, refuses, tree_of};
-use crate::fault::Fault;
-use crate::parser::parse;
-use crate::token::Comparison::{Equal, Greater, GreaterOrEqual, Less, LessOrEqual, NotEqual};
-use crate::token::{Comparison, Operator};
-use crate::tree::{Expr, Layer, Size, Value};
+use crate::reading::{
+    chain, nested, read_alike, read_unless_no_memory, reads_as, refuses, surrounded, tree_of,
+};
+use filterlang::fault::Fault;
+use filterlang::parser::parse;
+use filterlang::token::Comparison::{Equal, Greater, GreaterOrEqual, Less, LessOrEqual, NotEqual};
+use filterlang::token::{Comparison, Operator};
+use filterlang::tree::{Expr, Layer, Size, Value};
 use std::process::Abort;
 
 fn boxed(rt: &(impl Abort + AllocGlobal), value: Value) -> Box<Value> {
@@ -242,14 +244,9 @@ const SIXTY_FOUR_OPEN: [(usize, &str, &str, &str, &str, &str); 12] = [
 
 #[test]
 fn sixty_four_open_signs_are_read(rt: HostRuntime) {
-    for (times, before, sign, inner, closing, behind) in SIXTY_FOUR_OPEN {
-        let text = chain(
-            &rt,
-            before,
-            nested(&rt, times, sign, inner, closing).as_str(),
-            1,
-        );
-        let text = chain(&rt, text.as_str(), behind, 1);
+    for (times, before, sign, inner, closing, behind) in SIXTY_FOUR_OPEN.as_slice() {
+        let text = nested(&rt, *times, sign, inner, closing);
+        let text = surrounded(&rt, before, text.as_str(), behind);
         is_read(&rt, text.as_str());
     }
 }
@@ -257,21 +254,13 @@ fn sixty_four_open_signs_are_read(rt: HostRuntime) {
 /// Signs that are closed count no more.
 #[test]
 fn sixty_four_open_signs_are_read_thrice(rt: HostRuntime) {
-    let text = nested(&rt, 64, "(", "len", ")");
-    let text = chain(&rt, text.as_str(), " = ", 1);
-    let text = chain(
-        &rt,
-        text.as_str(),
-        nested(&rt, 64, "(", "1", ")").as_str(),
-        1,
+    let (one, two) = (
+        nested(&rt, 64, "(", "1", ")"),
+        nested(&rt, 64, "(", "2", ")"),
     );
-    let text = chain(&rt, text.as_str(), " + ", 1);
-    let text = chain(
-        &rt,
-        text.as_str(),
-        nested(&rt, 64, "(", "2", ")").as_str(),
-        1,
-    );
+    let sum = surrounded(&rt, one.as_str(), " + ", two.as_str());
+    let left = nested(&rt, 64, "(", "len", ")");
+    let text = surrounded(&rt, left.as_str(), " = ", sum.as_str());
     read_alike(&rt, &[(text.as_str(), "len = 1 + 2")]);
 }
 

@@ -1,8 +1,10 @@
 //! Worked examples of relations, each by its program and by the evaluator. Most trees are put together by hand.
 
-use super::*;
-use crate::tests::{ARP_FRAME, UDP_FRAME};
-use bpfvm::{Program, code, run};
+use crate::examples::{ARP_FRAME, UDP_FRAME};
+use bpfvm::{Insn, Program, code, run};
+use filtergen::{
+    MAX_NEED, MAX_SNAP, MAX_WEIGHT, Refusal, Verdict, compile, evaluate, need, weight,
+};
 use filterlang::{Comparison, Expr, Layer, Operator, Size, Value, parse};
 use std::process::Abort;
 
@@ -62,12 +64,36 @@ fn answer(rt: &impl Abort, expr: &Expr, packet: &[u8], wire: u32) -> Verdict {
     verdict
 }
 
-// That an expression answers so on the UDP frame, and its negation the opposite.
+// What the negation of an expression answers: an Abort stays one.
+fn opposite(verdict: Verdict) -> Verdict {
+    match verdict {
+        Verdict::Yes => Verdict::No,
+        Verdict::No => Verdict::Yes,
+        Verdict::Abort => Verdict::Abort,
+    }
+}
+
+// That an expression answers so to a packet, and its negation the opposite.
+fn answers_to(
+    rt: &(impl Abort + AllocGlobal),
+    expr: Expr,
+    packet: &[u8],
+    wire: u32,
+    expected: Verdict,
+) {
+    assert_eq!(rt;
+        answer(rt, &expr, packet, wire),
+        expected,
+        "{expr:?} at {wire}"
+    );
+    let expr = negated(rt, expr);
+    let verdict = answer(rt, &expr, packet, wire);
+    assert_eq!(rt; verdict, opposite(expected), "{expr:?} at {wire}");
+}
+
+// The same on the UDP frame.
 fn answers(rt: &(impl Abort + AllocGlobal), expr: Expr, expected: Verdict) {
-    assert_eq!(rt; answer(rt, &expr, &UDP_FRAME, 38), expected, "{expr:?}");
-    let opposite = negated(rt, expr);
-    let verdict = answer(rt, &opposite, &UDP_FRAME, 38);
-    assert_eq!(rt; verdict, expected.opposite(), "{opposite:?}");
+    answers_to(rt, expr, &UDP_FRAME, 38, expected);
 }
 
 #[test]
@@ -231,13 +257,7 @@ fn a_divisor_of_zero_aborts_under_a_negation_too(rt: HostRuntime) {
     for (operator, number, wire, expected) in rows {
         let divisor = binary(&rt, Value::Length, Operator::Minus, Value::Number(60));
         let expr = equal(binary(&rt, Value::Number(number), operator, divisor), 1);
-        assert_eq!(rt;
-            answer(&rt, &expr, &[], wire),
-            expected,
-            "{expr:?} at {wire}"
-        );
-        let opposite = negated(&rt, expr);
-        assert_eq!(rt; answer(&rt, &opposite, &[], wire), expected.opposite());
+        answers_to(&rt, expr, &[], wire, expected);
     }
     // a tree that no text reads as: len / 0 = 1, len % 0 = 1
     for operator in [Operator::Divide, Operator::Modulo] {
@@ -353,25 +373,50 @@ fn operands(rt: &(impl Abort + AllocGlobal), form: u32, a: u32, b: u32) -> (Valu
     }
 }
 
+// That a relation over operands in this form answers so of two numbers.
+fn answers_of(rt: &impl Abort, expr: &Expr, form: u32, a: u32, b: u32, expected: Verdict) {
+    let wire = if form == 3 { a } else { b };
+    let verdict = answer(rt, expr, &frame_of(a, b), wire);
+    assert_eq!(rt; verdict, expected, "{expr:?} of {a} and {b}");
+}
+
+// An operator over two numbers, in each form of operands.
+fn operator_of(rt: &(impl Abort + AllocGlobal), operator: Operator, a: u32, b: u32) {
+    let (number, expected) = match made(operator, a, b) {
+        Some(number) => (number, Verdict::Yes),
+        None => (0, Verdict::Abort),
+    };
+    for form in 0..6u32 {
+        let (left, right) = operands(rt, form, a, b);
+        let expr = equal(binary(rt, left, operator, right), number);
+        answers_of(rt, &expr, form, a, b, expected);
+    }
+}
+
 #[test]
 fn every_operator_at_the_bounds(rt: HostRuntime) {
     for operator in OPERATORS {
         for a in NUMBERS {
             for b in NUMBERS {
-                for form in 0..6u32 {
-                    let (left, right) = operands(&rt, form, a, b);
-                    let wire = if form == 3 { a } else { b };
-                    let value = binary(&rt, left, operator, right);
-                    let (number, expected) = match made(operator, a, b) {
-                        Some(number) => (number, Verdict::Yes),
-                        None => (0, Verdict::Abort),
-                    };
-                    let expr = equal(value, number);
-                    let verdict = answer(&rt, &expr, &frame_of(a, b), wire);
-                    assert_eq!(rt; verdict, expected, "{expr:?} of {a} and {b}");
-                }
+                operator_of(&rt, operator, a, b);
             }
         }
+    }
+}
+
+// A comparison of two numbers, in each form of operands.
+fn comparison_of(
+    rt: &(impl Abort + AllocGlobal),
+    comparison: Comparison,
+    a: u32,
+    b: u32,
+    holds: bool,
+) {
+    let expected = if holds { Verdict::Yes } else { Verdict::No };
+    for form in 0..6u32 {
+        let (left, right) = operands(rt, form, a, b);
+        let expr = Expr::Relation(comparison, left, right);
+        answers_of(rt, &expr, form, a, b, expected);
     }
 }
 
@@ -379,23 +424,12 @@ fn every_operator_at_the_bounds(rt: HostRuntime) {
 fn every_comparison_at_the_bounds(rt: HostRuntime) {
     for a in NUMBERS {
         for b in NUMBERS {
-            let rows = [
-                (Comparison::Equal, a == b),
-                (Comparison::NotEqual, a != b),
-                (Comparison::Less, a < b),
-                (Comparison::Greater, a > b),
-                (Comparison::LessOrEqual, a <= b),
-                (Comparison::GreaterOrEqual, a >= b),
-            ];
-            for (comparison, holds) in rows {
-                for form in 0..6u32 {
-                    let (left, right) = operands(&rt, form, a, b);
-                    let wire = if form == 3 { a } else { b };
-                    let expr = Expr::Relation(comparison, left, right);
-                    let verdict = answer(&rt, &expr, &frame_of(a, b), wire);
-                    assert_eq!(rt; verdict, Verdict::of(holds), "{expr:?} of {a} and {b}");
-                }
-            }
+            comparison_of(&rt, Comparison::Equal, a, b, a == b);
+            comparison_of(&rt, Comparison::NotEqual, a, b, a != b);
+            comparison_of(&rt, Comparison::Less, a, b, a < b);
+            comparison_of(&rt, Comparison::Greater, a, b, a > b);
+            comparison_of(&rt, Comparison::LessOrEqual, a, b, a <= b);
+            comparison_of(&rt, Comparison::GreaterOrEqual, a, b, a >= b);
         }
     }
 }
@@ -409,6 +443,12 @@ fn nested(rt: &(impl Abort + AllocGlobal), signs: u32) -> Value {
     value
 }
 
+// That an expression of this need is refused as too deep.
+fn too_deep(rt: &impl Abort, expr: &Expr, cells: u64) {
+    assert_eq!(rt; need(expr), cells);
+    assert_eq!(rt; compile(expr, 96), Err(Refusal::TooDeep));
+}
+
 #[test]
 fn sixteen_cells_are_enough_and_seventeen_are_too_deep(rt: HostRuntime) {
     let fits = equal(nested(&rt, 16), 17);
@@ -416,26 +456,35 @@ fn sixteen_cells_are_enough_and_seventeen_are_too_deep(rt: HostRuntime) {
     assert_eq!(rt; weight(&fits), 170);
     answers(&rt, fits, Verdict::Yes);
     let deep = equal(nested(&rt, 17), 18);
-    assert_eq!(rt; need(&deep), 17);
-    assert_eq!(rt; compile(&deep, 96), Err(Refusal::TooDeep));
+    too_deep(&rt, &deep, 17);
     assert_eq!(rt; evaluate(&deep, &[], 0), Verdict::Yes);
+}
+
+#[test]
+fn the_need_is_looked_at_between_two_lengths(rt: HostRuntime) {
     // The snapshot length is looked at before it, the length of the program behind it.
+    let deep = equal(nested(&rt, 17), 18);
     assert_eq!(rt; compile(&deep, 0), Err(Refusal::BadSnap));
     let heavy = equal(nested(&rt, 60), 61);
     assert_eq!(rt; weight(&heavy), 610);
     assert_eq!(rt; compile(&heavy, 96), Err(Refusal::TooDeep));
     assert_eq!(rt; compile(&heavy, MAX_SNAP + 1), Err(Refusal::BadSnap));
-    // A comparison keeps its left value in a cell too.
+}
+
+#[test]
+fn a_comparison_keeps_its_left_value_in_a_cell_too(rt: HostRuntime) {
     let relation = Expr::Relation(Comparison::Equal, Value::Number(16), nested(&rt, 15));
     assert_eq!(rt; need(&relation), 16);
     answers(&rt, relation, Verdict::Yes);
     let relation = Expr::Relation(Comparison::Equal, Value::Number(17), nested(&rt, 16));
-    assert_eq!(rt; compile(&relation, 96), Err(Refusal::TooDeep));
-    // The need is the most that a relation has, wherever it stands.
+    too_deep(&rt, &relation, 17);
+}
+
+#[test]
+fn the_need_is_the_most_that_a_relation_has_wherever_it_stands(rt: HostRuntime) {
     let ip = parse(rt.alloc(), "ip").expect(&rt, "the text is an expression");
     let inside = negated(&rt, either(&rt, ip, equal(nested(&rt, 17), 18)));
-    assert_eq!(rt; need(&inside), 17);
-    assert_eq!(rt; compile(&inside, 96), Err(Refusal::TooDeep));
+    too_deep(&rt, &inside, 17);
 }
 
 // A left-nested sum needs one cell, whatever its length.
@@ -447,27 +496,31 @@ fn sum(rt: &(impl Abort + AllocGlobal), signs: u32, term: u32) -> Value {
     value
 }
 
+/// A frame of the numbers from 1 on.
+const COUNTING: [u8; 16] = [1, 2, 3, 4, 5, 6, 7, 8, 9, 10, 11, 12, 13, 14, 15, 16];
+
+// b0 - (b1 - (b2 - .. (b14 - b15))), of a frame's bytes: 16 of them wait in the cells while the next one is computed.
+fn differences(rt: &(impl Abort + AllocGlobal)) -> Value {
+    let mut value = byte_of(rt, Layer::Ether, 15);
+    for place in 0..15u32 {
+        let left = byte_of(rt, Layer::Ether, 14u32.wrapping_sub(place));
+        value = binary(rt, left, Operator::Minus, value);
+    }
+    value
+}
+
+// That a relation of this need is a Yes on the frame that counts.
+fn holds_of_counting(rt: &(impl Abort + AllocGlobal), left: Value, right: Value, cells: u64) {
+    let expr = Expr::Relation(Comparison::Equal, left, right);
+    assert_eq!(rt; need(&expr), cells);
+    assert_eq!(rt; answer(rt, &expr, &COUNTING, 16), Verdict::Yes);
+}
+
 #[test]
 fn full_cells_are_kept(rt: HostRuntime) {
-    // 16 values of the frame wait in the cells while the next one is computed
-    let mut value = byte_of(&rt, Layer::Ether, 15);
-    for place in 0..15u32 {
-        let index = 14u32.wrapping_sub(place);
-        value = binary(
-            &rt,
-            byte_of(&rt, Layer::Ether, index),
-            Operator::Minus,
-            value,
-        );
-    }
-    let expr = Expr::Relation(Comparison::Equal, Value::Number(4_294_967_288), value);
-    assert_eq!(rt; need(&expr), 16);
-    let frame = [1, 2, 3, 4, 5, 6, 7, 8, 9, 10, 11, 12, 13, 14, 15, 16];
     // 1 - (2 - (3 - .. (15 - 16))) is -8
-    assert_eq!(rt; answer(&rt, &expr, &frame, 16), Verdict::Yes);
-    let opposite = Expr::Relation(Comparison::Equal, sum(&rt, 7, 1), sum(&rt, 3, 3));
-    assert_eq!(rt; need(&opposite), 2);
-    assert_eq!(rt; answer(&rt, &opposite, &frame, 16), Verdict::Yes);
+    holds_of_counting(&rt, Value::Number(4_294_967_288), differences(&rt), 16);
+    holds_of_counting(&rt, sum(&rt, 7, 1), sum(&rt, 3, 3), 2);
 }
 
 #[test]
@@ -481,30 +534,42 @@ fn twelve_ports_and_a_relation_weigh_500_and_compile(rt: HostRuntime) {
     assert_eq!(rt; answer(&rt, &expr, &UDP_FRAME, u32::MAX), Verdict::Yes);
 }
 
+// udp[udp[.. udp[len] ..]], with so many accessors.
+fn accessors(rt: &(impl Abort + AllocGlobal), times: u32) -> Value {
+    let mut value = Value::Length;
+    for _ in 0..times {
+        value = accessor(rt, Layer::Udp, value, Size::One);
+    }
+    value
+}
+
+// That an expression of this weight is refused as too long.
+fn too_long(rt: &impl Abort, expr: &Expr, heavy: u64) {
+    assert_eq!(rt; weight(expr), heavy);
+    assert_eq!(rt; compile(expr, 96), Err(Refusal::TooLong));
+}
+
 #[test]
 fn heavy_relations_are_too_long(rt: HostRuntime) {
     // Of accessors whose index is computed, and of operators over them
-    let mut value = Value::Length;
-    for _ in 0..200 {
-        value = accessor(&rt, Layer::Udp, value, Size::One);
-    }
-    let deep = equal(value, 0);
-    assert_eq!(rt; weight(&deep), 4_010);
+    let deep = equal(accessors(&rt, 200), 0);
     assert_eq!(rt; need(&deep), 1);
-    assert_eq!(rt; compile(&deep, 96), Err(Refusal::TooLong));
-    let wide = equal(sum(&rt, 300, 1), 0);
-    assert_eq!(rt; weight(&wide), 9_030);
-    assert_eq!(rt; compile(&wide, 96), Err(Refusal::TooLong));
+    too_long(&rt, &deep, 4_010);
+    too_long(&rt, &equal(sum(&rt, 300, 1), 0), 9_030);
 }
 
-// The codes of a program, without those of its two returns.
-fn has_codes(rt: &impl Abort, expr: &Expr, codes: &[u16]) {
-    let program = program_of(rt, expr);
-    let insns = program.insns();
+// That an expression's instructions have these codes, but for two returns at their end.
+fn codes_are(rt: &impl Abort, expr: &Expr, insns: &[Insn], codes: &[u16]) {
     assert_eq!(rt; insns.len(), codes.len().saturating_add(2), "{expr:?}");
     for (insn, code) in insns.iter().zip(codes.iter()) {
         assert_eq!(rt; insn.code, *code, "{expr:?}");
     }
+}
+
+// The codes of an expression's program, without those of its two returns.
+fn has_codes(rt: &impl Abort, expr: &Expr, codes: &[u16]) {
+    let program = program_of(rt, expr);
+    codes_are(rt, expr, program.insns(), codes);
 }
 
 #[test]
@@ -559,27 +624,36 @@ fn joined(rt: &(impl Abort + AllocGlobal), lists: &[&[u16]]) -> Vec<u16> {
     codes
 }
 
+// That a program's codes are those of these lists.
+fn has_lists(rt: &(impl Abort + AllocGlobal), expr: Expr, lists: &[&[u16]]) {
+    let codes = joined(rt, lists);
+    has_codes(rt, &expr, codes.as_slice());
+}
+
+// tcp[INDEX] = 0
+fn tcp_is_0(rt: &(impl Abort + AllocGlobal), index: u32) -> Expr {
+    equal(byte_of(rt, Layer::Tcp, index), 0)
+}
+
 #[test]
 fn a_layer_that_was_tested_is_not_tested_again(rt: HostRuntime) {
     let first: &[u16] = &FIRST_OF_TCP;
     let byte: &[u16] = &BYTE_BEHIND_HEADER;
-    // tcp[0] = 0 and tcp[1] = 53
-    let tcp = |index| equal(byte_of(&rt, Layer::Tcp, index), 0);
-    let twice = both(&rt, tcp(0), tcp(1));
-    has_codes(&rt, &twice, joined(&rt, &[first, byte, byte]).as_slice());
+    // tcp[0] = 0 and tcp[1] = 0
+    let twice = both(&rt, tcp_is_0(&rt, 0), tcp_is_0(&rt, 1));
+    has_lists(&rt, twice, &[first, byte, byte]);
     // ip[0] = 0 and tcp[0] = 0: the type alone is known
     let ip: &[u16] = &[code::LD_H_ABS, code::JEQ_K, code::LD_B_ABS, code::JEQ_K];
-    let narrower = both(&rt, equal(byte_of(&rt, Layer::Ip, 0), 0), tcp(0));
-    has_codes(
-        &rt,
-        &narrower,
-        joined(&rt, &[ip, &first[2..], byte]).as_slice(),
-    );
+    let narrower = both(&rt, equal(byte_of(&rt, Layer::Ip, 0), 0), tcp_is_0(&rt, 0));
+    has_lists(&rt, narrower, &[ip, &first[2..], byte]);
     // tcp and tcp[0] = 0: later fragments are not left out yet
     let word = parse(rt.alloc(), "tcp").expect(&rt, "the text is an expression");
-    let behind = both(&rt, word, tcp(0));
-    has_codes(&rt, &behind, joined(&rt, &[first, byte]).as_slice());
-    // ip[0] = ip[1]: within a relation
+    has_lists(&rt, both(&rt, word, tcp_is_0(&rt, 0)), &[first, byte]);
+}
+
+#[test]
+fn a_layer_is_tested_once_within_a_relation(rt: HostRuntime) {
+    // ip[0] = ip[1]
     let (left, right) = (byte_of(&rt, Layer::Ip, 0), byte_of(&rt, Layer::Ip, 1));
     let relation = Expr::Relation(Comparison::Equal, left, right);
     let codes = [
@@ -593,19 +667,18 @@ fn a_layer_that_was_tested_is_not_tested_again(rt: HostRuntime) {
         code::JEQ_X,
     ];
     has_codes(&rt, &relation, &codes);
-    // not tcp[0] = 0 and tcp[0] = 0, tcp[0] = 0 or tcp[0] = 0: nothing is known
-    let after_not = both(&rt, negated(&rt, tcp(0)), tcp(0));
-    has_codes(
-        &rt,
-        &after_not,
-        joined(&rt, &[first, byte, first, byte]).as_slice(),
-    );
-    let after_or = either(&rt, tcp(0), tcp(0));
-    has_codes(
-        &rt,
-        &after_or,
-        joined(&rt, &[first, byte, first, byte]).as_slice(),
-    );
+}
+
+#[test]
+fn nothing_is_known_behind_a_not_or_an_or(rt: HostRuntime) {
+    let first: &[u16] = &FIRST_OF_TCP;
+    let byte: &[u16] = &BYTE_BEHIND_HEADER;
+    // not tcp[0] = 0 and tcp[0] = 0
+    let after_not = both(&rt, negated(&rt, tcp_is_0(&rt, 0)), tcp_is_0(&rt, 0));
+    has_lists(&rt, after_not, &[first, byte, first, byte]);
+    // tcp[0] = 0 or tcp[0] = 0
+    let after_or = either(&rt, tcp_is_0(&rt, 0), tcp_is_0(&rt, 0));
+    has_lists(&rt, after_or, &[first, byte, first, byte]);
 }
 
 #[test]

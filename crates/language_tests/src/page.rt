@@ -1,6 +1,6 @@
 //! The caller of this crate's page, README.md.
 
-use crate::{Expr, Fault, parse};
+use filterlang::{Expr, Fault, parse};
 use std::alloc::Global;
 
 /// The expression of a configuration's line, without the comment behind `#`.

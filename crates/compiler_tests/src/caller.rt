@@ -1,7 +1,7 @@
-//! The caller that the crate's README shows.
+//! The caller that the page of `filtergen` shows, crates/filtergen/README.md.
 
-use crate::{Refusal, compile};
 use bpfvm::{Program, run};
+use filtergen::{Refusal, compile};
 use filterlang::parse;
 use std::alloc::Global;
 use thiserror::Error;

@@ -1,9 +1,10 @@
 //! Random relations, by their programs and by the evaluator, on frames that are cut at each byte.
 
-use super::*;
-use crate::comparison_tests::{Random, compare, frames, program_of, wire_of};
+use crate::comparisons::{Random, compare_cut, frames, program_of, wire_of};
+use filtergen::{Verdict, evaluate};
 use filterlang::{Comparison, Expr, Layer, Operator, Size, Value};
 use std::alloc::{AllocError, Global};
+use std::process::Abort;
 
 const LAYERS: [Layer; 7] = [
     Layer::Ether,
@@ -129,32 +130,56 @@ pub(crate) fn random_relation(alloc: Global, random: &mut Random) -> Result<Expr
     Ok(Expr::Relation(comparison, left, right))
 }
 
+/// How often each answer came.
+#[derive(Clone, Copy)]
+struct Answers {
+    yes: u32,
+    no: u32,
+    abort: u32,
+}
+
+impl Answers {
+    fn count(&mut self, verdict: Verdict) {
+        match verdict {
+            Verdict::Yes => self.yes = self.yes.saturating_add(1),
+            Verdict::No => self.no = self.no.saturating_add(1),
+            Verdict::Abort => self.abort = self.abort.saturating_add(1),
+        }
+    }
+}
+
+// A random relation compared on every frame, and its answers to whole ones counted, unless it is too long.
+fn compared(
+    rt: &(impl Abort + AllocGlobal),
+    random: &mut Random,
+    frames: &[Vec<u8>],
+    answers: &mut Answers,
+) {
+    let expr = random_relation(rt.alloc(), random).expect(rt, "there is memory");
+    let Some(program) = program_of(rt, &expr) else {
+        return;
+    };
+    for frame in frames {
+        let frame = frame.as_slice();
+        compare_cut(rt, &expr, &program, frame);
+        answers.count(evaluate(&expr, frame, wire_of(frame)));
+    }
+}
+
 #[test]
 fn two_thousand_random_relations_on_frames_cut_at_each_byte(rt: HostRuntime) {
     let frames = frames(&rt);
     let mut random = Random { state: 1997 };
-    let mut yes = 0u32;
-    let mut no = 0u32;
-    let mut abort = 0u32;
+    let mut answers = Answers {
+        yes: 0,
+        no: 0,
+        abort: 0,
+    };
     for _ in 0..2000u32 {
-        let expr = random_relation(rt.alloc(), &mut random).expect(&rt, "there is memory");
-        let Some(program) = program_of(&rt, &expr) else {
-            continue;
-        };
-        for frame in frames.as_slice() {
-            let frame = frame.as_slice();
-            let wire = wire_of(frame);
-            for end in 0..=frame.len() {
-                compare(&rt, &expr, &program, &frame[..end], wire);
-            }
-            match evaluate(&expr, frame, wire) {
-                Verdict::Yes => yes = yes.saturating_add(1),
-                Verdict::No => no = no.saturating_add(1),
-                Verdict::Abort => abort = abort.saturating_add(1),
-            }
-        }
+        compared(&rt, &mut random, frames.as_slice(), &mut answers);
     }
     // Each answer comes often.
+    let Answers { yes, no, abort } = answers;
     assert!(rt;
         yes > 2_000 && no > 8_000 && abort > 500,
         "{yes} {no} {abort}"
