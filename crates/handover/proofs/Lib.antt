@@ -10,3 +10,4 @@ pub mod Feeders
 pub mod Endings
 pub mod Orders
 pub mod Fresh
+pub mod Foresight

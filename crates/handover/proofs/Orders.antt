@@ -96,18 +96,18 @@ same_latest order a b c d p q (inr is) = inr (is ∙ q)
 
 -- ---- Whatever a step does, its load was fresh
 
-feeder_parts : (xs ys : List Made) → of_feeder (xs ++ ys) ≡ of_feeder xs ++ of_feeder ys
+pub feeder_parts : (xs ys : List Made) → of_feeder (xs ++ ys) ≡ of_feeder xs ++ of_feeder ys
 feeder_parts [] ys = refl
 feeder_parts (OfFeeder x ∷ xs) ys = ap (λ (l : List Step). x ∷ l) (feeder_parts xs ys)
 feeder_parts (OfDrain x ∷ xs) ys = feeder_parts xs ys
 
-drain_parts : (xs ys : List Made) → of_drain (xs ++ ys) ≡ of_drain xs ++ of_drain ys
+pub drain_parts : (xs ys : List Made) → of_drain (xs ++ ys) ≡ of_drain xs ++ of_drain ys
 drain_parts [] ys = refl
 drain_parts (OfFeeder x ∷ xs) ys = drain_parts xs ys
 drain_parts (OfDrain x ∷ xs) ys = ap (λ (l : List Step). x ∷ l) (drain_parts xs ys)
 
 -- what was added to a list is what stands behind it
-added : (xs ys zs : List Step) → xs ++ ys ≡ xs ++ zs → ys ≡ zs
+pub added : (xs ys zs : List Step) → xs ++ ys ≡ xs ++ zs → ys ≡ zs
 added [] ys zs is = is
 added (x ∷ xs) ys zs is = added xs ys zs (cc (is))
 

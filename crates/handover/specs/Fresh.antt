@@ -1,16 +1,17 @@
 -- What a step may tell, whatever private code says of it: the rule holds before the step and behind it.
-use Rattle.std.specs.Prelude.{◌≡◌, ℕ, [], ◌∷◌, ◌++◌, slice_index}
+use Rattle.std.specs.Prelude.{◌≡◌, ℕ, false, List, [], ◌∷◌, ◌++◌, slice_index}
 use mathlib.Core.List.{IsPrefix}
 use Rattle.atomic_table.specs.Table.{State}
 use Rattle.listener.specs.Buffers.{Filled}
 use Rattle.handover.specs.declared.calls.Word.{Word}
 use Rattle.handover.specs.declared.calls.Word.TheVariants.{Turn, Closed, Ended}
+use Rattle.handover.specs.declared.calls.Made.{Made}
 use Rattle.handover.specs.declared.calls.Step.{Step}
 use Rattle.handover.specs.declared.calls.Step.TheVariants.{Load, Store}
 use Rattle.handover.specs.declared.view.Role.TheVariants.{Feeds}
 use Rattle.handover.specs.declared.view.Profile.{Profile}
 use Rattle.handover.specs.declared.view.Sight.{Sight}
-use Rattle.handover.specs.Orders.{place_of, Finds, behind}
+use Rattle.handover.specs.Orders.{place_of, Finds, behind, store_to, of_feeder, HasOneOrder}
 use Rattle.handover.specs.Rule.{Kept}
 
 abbrev pub Pair : Type 0
@@ -52,7 +53,7 @@ FeederStepsAreFresh = (p : Profile) (s t : Pair) (e : Step) → FeederTells p s 
 abbrev pub DrainStepsAreFresh : Type 0
 DrainStepsAreFresh = (p : Profile) (s t : Pair) (e : Step) → DrainTells p s t e → Finds s.words e × (t.words ≡ behind s.words e)
 
--- A step that is not told changes no word. So a call may look at a word without an entry, but never store.
+-- Where neither list grew, no word has changed. So a call may look at a word without an entry, or store what is there, and no more.
 abbrev pub SilentStepsChangeNothing : Type 0
 SilentStepsChangeNothing =
     (p : Profile) (s t : Pair) (f g d e : Sight) → HasEnds p s f d → HasEnds p t g e → IsPrefix f.feeder_saw g.feeder_saw → IsPrefix d.drain_saw e.drain_saw
@@ -82,3 +83,16 @@ NoEndIsMadeUp = (p : Profile) (s t : Pair) → number_of Ended s ≡ 0 → t.wor
 
 abbrev pub NoCloseIsMadeUp : Type 0
 NoCloseIsMadeUp = (p : Profile) (s t : Pair) → number_of Closed s ≡ 0 → t.words ≡ s.words → DrainTells p s t (Store Closed 1) → ⊥
+
+-- ---- What an end has seen can't foretell what the other one will do
+
+-- What the feeder has seen when it has ended suits a drain that makes these steps: the two can be settled.
+abbrev pub Suits : List Made → List Step → List Step → Type 0
+Suits seen feeder_steps drain_steps = (drain_seen : List Made) × HasOneOrder seen drain_seen feeder_steps drain_steps
+
+-- The feeder has ended, and the drain has made these steps. No one list of what the feeder has seen suits both a drain that closes
+-- next and one whose next read finds 0 in `ended`, as each that answers Nothing, whatever that drain does then.
+abbrev pub NoSightSuitsBoth : Type 0
+NoSightSuitsBoth =
+    (seen : List Made) (fed taken later : List Step) → of_feeder seen ≡ fed ++ Store Ended 1 ∷ [] → store_to Ended taken ≡ false
+    → Suits seen (fed ++ Store Ended 1 ∷ []) (taken ++ Store Closed 1 ∷ []) → Suits seen (fed ++ Store Ended 1 ∷ []) (taken ++ Load Ended 0 ∷ later) → ⊥

@@ -14,7 +14,7 @@ place_of Turn = 0
 place_of Closed = 1
 place_of Ended = 2
 
--- a load answers the word's number, and a store leaves its own
+-- a load answers the word's number; of a store nothing is asked
 abbrev pub Finds : List ℕ → Step → Type 0
 Finds words (Load w n) = slice_index words (place_of w) ≡ n
 Finds words (Store w n) = Unit {0}

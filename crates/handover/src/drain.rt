@@ -27,7 +27,8 @@ pub enum Read {
 
 /// The end of a pair that batches are read from.
 ///
-/// Contracts see which pair it is of, its reads with their answers, and the steps that these took.
+/// Contracts see which pair it is of, its terms, its reads with their answers, its steps, and the steps of both ends that
+/// it has seen.
 #[derive(Drop)]
 pub struct Drain {
     pub(crate) seat: Place,

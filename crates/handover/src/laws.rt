@@ -2,7 +2,7 @@
 //! law.
 
 ghost use Rattle.handover.specs.Laws.{MergesHaveBoth, HistoriesAreSettled, StoredAreReadOrPend, KeptAreStored, OnlyDroppedAreMissing, OwnRunsAreRight, SeatsKeepTheRule, FeederLooksAtClosed, FeederLooksAtTurn, FeederGives, FeederEnds, DrainLooksAtEnded, DrainLooksAtTurn, DrainClears, DrainCloses};
-ghost use Rattle.handover.specs.Fresh.{FeederStepsAreFresh, DrainStepsAreFresh, SilentStepsChangeNothing, NoEndIsOverlooked, NoHoldIsOverlooked, NoCloseIsOverlooked, NoHoldIsMadeUp, NoEndIsMadeUp, NoCloseIsMadeUp};
+ghost use Rattle.handover.specs.Fresh.{FeederStepsAreFresh, DrainStepsAreFresh, SilentStepsChangeNothing, NoEndIsOverlooked, NoHoldIsOverlooked, NoCloseIsOverlooked, NoHoldIsMadeUp, NoEndIsMadeUp, NoCloseIsMadeUp, NoSightSuitsBoth};
 
 /// Each call of the feeder and each read of the drain stands in the merged list once, in its order, and the close in its
 /// place.
@@ -26,7 +26,8 @@ pub fn own_runs()
     ensures { OwnRunsAreRight }
 {}
 
-/// The rule of the table holds at its start, where the seat is cut in two, and where the two are joined.
+/// The rule of the table holds at its start, and stays where the seat is cut in two, where the two are joined, and where what the
+/// joined one knows is copied.
 pub fn seats()
     ensures { SeatsKeepTheRule }
 {}
@@ -55,8 +56,9 @@ pub fn fresh_steps()
     ensures silent { SilentStepsChangeNothing }
 {}
 
-/// So there is no proof of a drain that answers Nothing for ever after the end or while the hold is full, of a feeder that
-/// stores after the close or drops without a look, or of an `end` or a `close` that stores nothing.
+/// So, where the rule holds before a step and behind it, none can tell what these would have to: a drain that answers Nothing for
+/// ever after the end or while the hold is full, a feeder that stores after the close or drops without a look, an `end` or a
+/// `close` that stores nothing.
 pub fn wrong_steps()
     ensures end_overlooked { NoEndIsOverlooked }
     ensures hold_overlooked { NoHoldIsOverlooked }
@@ -64,4 +66,11 @@ pub fn wrong_steps()
     ensures hold_made_up { NoHoldIsMadeUp }
     ensures end_made_up { NoEndIsMadeUp }
     ensures close_made_up { NoCloseIsMadeUp }
+{}
+
+/// What a feeder has seen when it has ended was fixed before the drain's next call: it doesn't suit both a drain that closes then and
+/// one whose next read finds 0 in `ended`, as each read does that answers Nothing. So no body whose calls keep their clauses,
+/// whatever is called next, answers Nothing to a read behind `end`.
+pub fn no_foresight()
+    ensures { NoSightSuitsBoth }
 {}

@@ -47,7 +47,7 @@ impl Model for Link {
 /// What was done with a pair that is settled. It has no bytes, and only [`settle`] makes one: so these calls were made, by the
 /// two ends of one pair.
 ///
-/// Contracts see which pair it was, the calls of both ends with their answers, and the steps that these took.
+/// Contracts see which pair it was, its terms, the calls of both ends with their answers, and the steps that these took.
 #[derive(Drop)]
 pub struct Past {
     seat: Place,
@@ -171,7 +171,7 @@ fn parted(
 /// The feeder's calls and the drain's reads make one legal history of the plain list, and the buffers have what then
 /// pends: what was read, then the hold, then the rest is exactly what was kept, and this is the messages of the arrivals
 /// that were answered Stored, Held or Rotated, in order. The steps of both have one order, in which each load answered what the last
-/// store before it left: one of the ends has seen it all, and the other a beginning of it.
+/// store to its word left, or 0 where there is none: one of the ends has seen it all, and the other a beginning of it.
 pub fn settle(link: Link, feeder: FeedEnd, drain: DrainEnd) -> Settled
     requires { (feeder.pair ≡ link) × (drain.pair ≡ link) }
     ensures history { LegalHistory (terms_of feeder.profile) feeder.feeds drain.takes (merge feeder.feeds drain.takes) }

@@ -24,7 +24,7 @@ pub struct Profile {
 pub struct View {
     pub role: Role,
     pub profile: Profile,
-    /// The feeder's calls and steps; whether it is between its exchange and its store, and whether it has ended.
+    /// The feeder's calls and steps; whether it has loaded 0 from `turn` and not yet stored 1 there, and whether it has ended.
     pub feeds: LinkedList<Feed>,
     pub feed_steps: LinkedList<Step>,
     pub rotating: bool,

@@ -8,6 +8,7 @@ use Rattle.handover.specs.Asks.{asks}
 use Rattle.handover.specs.Ends.{FeedingEnded}
 use Rattle.handover.specs.History.{by_kind, finds, kind}
 use Rattle.handover.specs.Own.{arrivals}
+use Rattle.handover.specs.Rule.{profile_of}
 use Rattle.handover.specs.declared.calls.Feed.{Feed}
 use Rattle.handover.specs.declared.calls.Feed.TheVariants as call
 use Rattle.handover.specs.declared.calls.Take.{Take}
@@ -43,8 +44,10 @@ all-arrived (call.FlushClosed ∷ fs) open' = absurd cc
 -- a task that was settled was served with the playlist that its feeder was asked for
 pub served : {W : Type 0} (taken : W → Option (List ℕ)) (failures : W → ℕ) (playlist : List Arrival) (task : Task W) (feeds : List Feed) (takes : List Take)
     (r : ListenerReport W) → asks feeds ≡ asked (asking_of task) playlist → (r.past.feeds ≡ feeds) × (r.past.takes ≡ takes)
+    → r.past.profile ≡ profile_of task.capacity task.mode
     → IsReported taken failures task feeds takes r → IsServed taken failures playlist task r
-served taken failures playlist task feeds takes r fed past reported = record {
+served taken failures playlist task feeds takes r fed past profile reported = record {
+  profile = profile;
   asked_for = ap asks past.0 ∙ fed;
   reported = subst (λ (fs : List Feed). IsReported taken failures task fs r.past.takes r) (sym past.0)
       (subst (λ (ts : List Take). IsReported taken failures task feeds ts r) (sym past.1) reported);

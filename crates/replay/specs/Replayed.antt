@@ -3,6 +3,7 @@ use Rattle.std.specs.Prelude.{◌≡◌, ℕ, ◌+◌, List, length, Option}
 use Rattle.std.specs.List.{AllZip}
 use Rattle.listener.specs.Messages.{Arrival}
 use Rattle.handover.specs.Asks.{asks}
+use Rattle.handover.specs.Rule.{profile_of}
 use Rattle.replay.specs.Captures.{Plays}
 use Rattle.replay.specs.Playing.{asked, asking_of}
 use Rattle.replay.specs.Reports.{IsReported}
@@ -13,9 +14,10 @@ use Rattle.replay.specs.declared.task.Interface.{Interface}
 use Rattle.replay.specs.declared.task.Task.{Task}
 
 -- A task's feeder was asked for the playlist and the flushes that are due; its calls and the drain's reads make the history that
--- the report tells. They are those of the report's past, which a settled pair alone gives. Where the task ends Clean, the whole
--- playlist was received, and what matched was written or dropped.
+-- the report tells. They are those of the report's past, which a settled pair alone gives, and which has the task's capacity and
+-- mode. Where the task ends Clean, the whole playlist was received, and what matched was written or dropped.
 pub record IsServed {W : Type 0} (taken : W → Option (List ℕ)) (failures : W → ℕ) (playlist : List Arrival) (task : Task W) (r : ListenerReport W) : Type 0 where
+  pub profile : r.past.profile ≡ profile_of task.capacity task.mode
   pub asked_for : asks r.past.feeds ≡ asked (asking_of task) playlist
   pub reported : IsReported taken failures task r.past.feeds r.past.takes r
   pub whole : r.end ≡ Clean → (r.received ≡ length playlist) × (r.matched ≡ r.written + r.dropped)

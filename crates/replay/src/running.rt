@@ -61,11 +61,12 @@ fn in_threads<
 /// a report for each interface, in order, with the sources, and in it one for each listener, in order, with the sinks. The
 /// sources that were not read come back as they were.
 ///
-/// What is promised, whatever the order of the threads. *Of an interface*: the packets that arrive are those of its captures, one
-/// capture behind the other, each with its capture's number and its place there, from 0; the first capture with a fault ends
-/// them, behind its packets before the fault, and the end names it. *Of a listener*: the report's `past` is that of a pair that
-/// was settled. The feeder of this pair was asked for each of these packets and for the flushes that are due, and its calls with
-/// the drain's reads make one legal history of the tap's list, whose counts are the report's. Its sink took exactly `sent` bytes. Where it ends [`Clean`](crate::TaskEnd::Clean), all
+/// What is promised, whatever the order of the threads. *Of an interface*: the packets that arrive are those of its captures,
+/// one capture behind the other, each with its capture's number and its place there, from 0; the first capture with a fault
+/// ends them, behind its packets before the fault, and the end names it. *Of a listener*: the report's `past` is that of a
+/// pair that was settled, and was made with the task's capacity and mode. The feeder of this pair was asked for each of these
+/// packets and for the flushes that are due, and its calls with the drain's reads make one legal history of the tap's list,
+/// whose counts are the report's. Its sink took exactly `sent` bytes. Where it ends [`Clean`](crate::TaskEnd::Clean), all
 /// packets were received, and the sink took the text of all that looking back keeps of that history; after
 /// [`Write`](crate::TaskEnd::Write) it took a beginning of that text, and the sink failed or the text would have 2^64 bytes.
 /// Which packets find no room depends on the threads; where the end is Clean, each that matched is written or dropped.

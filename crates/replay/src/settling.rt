@@ -84,7 +84,8 @@ pub(crate) fn settled<W: Sink + Drop>(link: Link, feed: FeedEnd, done: Done<W>) 
     requires prompt { All IsPrompt (all_accepted (asks feed.feeds)) }
     requires done { IsDone W.taken W.failures done }
     ensures report { IsReported W.taken W.failures done.task.value feed.feeds done.read.drain.takes result }
-    ensures past { (result.past.pair ≡ done.read.drain.pair) × (result.past.feeds ≡ feed.feeds) × (result.past.takes ≡ done.read.drain.takes) }
+    ensures past { (result.past.pair ≡ done.read.drain.pair) × (result.past.feeds ≡ feed.feeds) × (result.past.takes ≡ done.read.drain.takes)
+        × (result.past.profile ≡ feed.profile) }
 {
     let Done {
         task: _,

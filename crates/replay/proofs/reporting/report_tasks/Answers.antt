@@ -32,6 +32,7 @@ loop-crew-preserved g c =
                 (ap (λ cs. map crew_task cs) c.in-Some.ensures.steps.0) c.push_reserved.ensures.items
                 (served g.W.Sink.taken g.W.Sink.failures playlist (crew_task c.in-Some.crew) c.in-Some-next-2.feed.feeds c.finish-done.result.read.drain.takes c.settled.result
                 (ap (λ (l : EndedLine). l.asks) n.0) (c.settled.ensures.past.1, c.settled.ensures.past.2)
+                (c.settled.ensures.past.3 ∙ ap (λ (l : EndedLine). l.profile) n.0)
                 (subst (λ (t : Task _). IsReported g.W.Sink.taken g.W.Sink.failures t c.in-Some-next-2.feed.feeds c.finish-done.result.read.drain.takes c.settled.result)
                 c.finish-done.ensures.task c.settled.ensures.report)),
           )),
