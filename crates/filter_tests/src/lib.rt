@@ -1,7 +1,18 @@
-//! Tests of `filtergen` and `cutting`: expressions from their text to their program.
+//! Tests of `filtergen` and of `cutting`'s filter: expressions from their text to their program, and programs compared with the
+//! evaluator.
 #![tactic(auto)]
 
 #[cfg(test)]
+mod caller;
+#[cfg(test)]
+mod comparisons;
+#[cfg(test)]
 mod compiled_relations;
 #[cfg(test)]
+mod examples;
+#[cfg(test)]
 mod expressions;
+#[cfg(test)]
+mod random_relations;
+#[cfg(test)]
+mod relations;

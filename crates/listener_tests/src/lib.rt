@@ -1,5 +1,7 @@
-//! Tests of `listener`: buffers of records, and listeners beside their plain list.
+//! Tests of `listener` and `handover`: buffers of records, listeners beside their plain list, and pairs in one thread and in two.
 #![tactic(auto)]
 
 #[cfg(test)]
 mod listeners;
+#[cfg(test)]
+mod pairs;

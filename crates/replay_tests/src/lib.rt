@@ -1,7 +1,5 @@
-//! Tests of `handover` and `replay`.
+//! Tests of `replay`.
 #![tactic(auto)]
 
-#[cfg(test)]
-mod pairs;
 #[cfg(test)]
 mod replays;

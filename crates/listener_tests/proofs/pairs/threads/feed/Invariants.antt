@@ -1,5 +1,5 @@
 use Rattle.std.proofs.Common.{◌≡◌}
-use Rattle.replay_tests.proofs.pairs.caller.feed.Given as goal
+use Rattle.listener_tests.proofs.pairs.threads.feed.Given as goal
 
 abbrev pub invariant-loop-place : goal.invariant-loop-place
 invariant-loop-place l = l.feeder.pair ≡ l.initial.feeder.pair
