@@ -1,0 +1,73 @@
+"""The pages: their commands behind a `$` print what stands below them, and their links lead somewhere."""
+import os
+import re
+import subprocess
+
+from .common import LIMIT, PROGRAM, ROOT, case
+from .manual import session
+
+# Pages whose commands need no other program than the system's own; docs/SCALE.md has a group of its own.
+RUN = ["README.md", "docs/LANGUAGE.md", "docs/FAULTS.md", "examples/README.md"]
+
+# A block between two lines of three backticks, or one that is indented by four blanks.
+BLOCK = re.compile(r"^```\w*\n(?P<fenced>(?s:.*?))^```$|^(?P<indented>(?:    .*\n)+)", re.M)
+
+
+def sessions(page):
+    """The blocks of a page that begin with a `$`: the commands of each one, and what they print."""
+    for block in BLOCK.finditer(page.read_text()):
+        lines = (block["fenced"] or block["indented"]).splitlines(keepends=True)
+        if block["indented"]:
+            lines = [line[4:] for line in lines]
+        if lines and lines[0].startswith("$ "):
+            yield session(lines)
+
+
+def run_page(scene, page):
+    """Runs the commands of a page, one block behind the other, in a folder that has `examples` and the program."""
+    scene.start({})
+    (scene.folder / "bin").mkdir()
+    (scene.folder / "bin" / "bpftap").symlink_to(PROGRAM)
+    (scene.folder / "bpftap").symlink_to(PROGRAM)
+    (scene.folder / "examples").symlink_to(ROOT / "examples")
+    environment = {**os.environ, "HOME": str(scene.folder), "PATH": f"{scene.folder}/bin:{os.environ['PATH']}"}
+    for script, printed in sessions(page):
+        done = subprocess.run(
+            ["bash", "-c", script], cwd=scene.folder, env=environment, stdin=subprocess.DEVNULL, stdout=subprocess.PIPE,
+            stderr=subprocess.STDOUT, timeout=LIMIT)
+        scene.check(f"{page.name}: {script}", done.stdout.decode(), printed)
+
+
+@case
+def commands_print_what_they_say(scene):
+    """The commands of each page are run, and print what stands below them."""
+    for name in RUN:
+        page = ROOT / name
+        scene.check(f"{name} has commands", any(True for _ in sessions(page)), True)
+        run_page(scene, page)
+
+
+def pages():
+    """All pages of the repository."""
+    named = [ROOT / "README.md", ROOT / "CONTRIBUTING.md"]
+    return named + [page for place in ("docs/*.md", "crates/*/README.md", "examples/**/README.md")
+                    for page in sorted(ROOT.glob(place))]
+
+
+def links(page):
+    """The files of the repository that a page links to."""
+    for target in re.findall(r"\]\(([^)#\s]+)(?:#[^)]*)?\)", page.read_text()):
+        if "://" not in target:
+            yield (page.parent / target).resolve()
+
+
+@case
+def links_lead_somewhere(scene):
+    """Each link of each page is a file of the repository, and from README each page is two links away at most."""
+    near = set(links(ROOT / "README.md"))
+    near |= {target for page in near if page.suffix == ".md" for target in links(page)}
+    for page in pages():
+        missing = [str(target) for target in links(page) if not target.exists()]
+        scene.check(f"links of {page.relative_to(ROOT)} that lead nowhere", missing, [])
+        if page != ROOT / "README.md":
+            scene.check(f"{page.relative_to(ROOT)} within two links of README", page in near, True)
