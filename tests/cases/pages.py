@@ -71,3 +71,28 @@ def links_lead_somewhere(scene):
         scene.check(f"links of {page.relative_to(ROOT)} that lead nowhere", missing, [])
         if page != ROOT / "README.md":
             scene.check(f"{page.relative_to(ROOT)} within two links of README", page in near, True)
+
+
+def public_items(crate):
+    """The names of a library's public items: those that `lib.rt` tells on, and those of its public modules."""
+    lib = (crate / "src" / "lib.rt").read_text()
+    for names in re.findall(r"^pub use [\w:]+?(?:::(\w+)|::\{([^}]+)\});", lib, re.M):
+        yield from re.findall(r"\w+", " ".join(names))
+    for module in re.findall(r"^pub mod (\w+);", lib, re.M):
+        # Laws are told together.
+        if module == "laws":
+            yield module
+        else:
+            text = (crate / "src" / f"{module}.rt").read_text()
+            yield from re.findall(r"^pub (?:fn|struct|enum|trait|const|type) (\w+)", text, re.M)
+
+
+@case
+def public_items_stand_on_their_pages(scene):
+    """Each public item of each library is named on the library's page."""
+    for lib in sorted(ROOT.glob("crates/*/src/lib.rt")):
+        crate = lib.parent.parent
+        if crate.name.endswith("_tests"):
+            continue
+        named = set(re.findall(r"\w+", (crate / "README.md").read_text()))
+        scene.check(f"items of {crate.name} that its page has not", sorted(set(public_items(crate)) - named), [])
