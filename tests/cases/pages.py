@@ -96,3 +96,15 @@ def public_items_stand_on_their_pages(scene):
             continue
         named = set(re.findall(r"\w+", (crate / "README.md").read_text()))
         scene.check(f"items of {crate.name} that its page has not", sorted(set(public_items(crate)) - named), [])
+
+
+@case
+def code_of_pages_stands_in_the_sources(scene):
+    """Each item of the code on a library's page, its `use` lines aside, stands in a source to the letter, where it is proved."""
+    sources = [path.read_text() for path in ROOT.glob("crates/*/src/**/*.rt")]
+    for page in sorted(ROOT.glob("crates/*/README.md")):
+        for block in re.findall(r"^```rust\n(.*?)^```$", page.read_text(), re.S | re.M):
+            for item in re.split(r"\n\n(?=\S)", block.rstrip("\n")):
+                if not item.startswith(("use ", "ghost use ")):
+                    is_there = any(item + "\n" in source for source in sources)
+                    scene.check(f"{page.relative_to(ROOT)}: {item.splitlines()[0]}, in a source", is_there, True)
