@@ -7,7 +7,7 @@ from .common import LIMIT, PROGRAM, ROOT, case
 from .manual import session
 
 # Pages whose commands need no other program than the system's own; docs/SCALE.md has a group of its own.
-RUN = ["README.md", "docs/LANGUAGE.md", "docs/FAULTS.md", "examples/README.md"]
+RUN = ["README.md", "docs/RECIPES.md", "docs/LANGUAGE.md", "docs/FAULTS.md", "examples/README.md"]
 
 # A block between two lines of three backticks, or one that is indented by four blanks.
 BLOCK = re.compile(r"^```\w*\n(?P<fenced>(?s:.*?))^```$|^(?P<indented>(?:    .*\n)+)", re.M)
@@ -45,6 +45,14 @@ def commands_print_what_they_say(scene):
         page = ROOT / name
         scene.check(f"{name} has commands", any(True for _ in sessions(page)), True)
         run_page(scene, page)
+
+
+@case
+def pages_name_what_the_program_was_proved_with(scene):
+    """README and the page of promises name the toolchain that `--version` does."""
+    kit = scene.run("--version").out.decode().rpartition(", proved with ")[2].strip()
+    for name in ["README.md", "docs/PROMISES.md"]:
+        scene.check(f"{kit} in {name}", kit != "" and kit in (ROOT / name).read_text(), True)
 
 
 def pages():
