@@ -2,7 +2,8 @@
 import re
 from dataclasses import dataclass
 
-from .common import ALL, HEADER, IP_RECORD, ROOT, TORN, WHOLE, case, header
+from .common import ALL, ROOT, TORN, WHOLE, case, header
+from .manual import PAGES, section
 
 PAGE = ROOT / "docs" / "FAULTS.md"
 
@@ -239,3 +240,18 @@ def the_page_has_the_faults_of_the_sources(scene):
         if "_tests" not in str(path):
             names = set(re.findall(r'#\[error\("([A-Z]\w+)', path.read_text()))
             scene.check(f"faults of {path.relative_to(ROOT)}", names - named - UNTOLD, set())
+
+
+def names(line):
+    """The words of a line that stand for themselves."""
+    return tuple(word for word in line.split() if not re.fullmatch(r"[A-Z]+", word))
+
+
+@case
+def the_manual_has_no_other_faults(scene):
+    """Each fault that a manual page lists stands on the page too."""
+    told = {names(row.line.removeprefix("bpftap: ")) for row in rows()}
+    for page in PAGES:
+        items = [line.removeprefix(".It Li ") for line in section(page, "DIAGNOSTICS") if line.startswith(".It Li ")]
+        listed = {names(re.sub(r"\b(Li|Ar) ", "", item)) for item in items}
+        scene.check(f"faults of {page.name} that the page has not", listed - told, set())
