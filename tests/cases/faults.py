@@ -1,0 +1,257 @@
+"""`docs/FAULTS.md`: the program prints each of its lines, with its status, and no fault of the sources is missing there."""
+import re
+from dataclasses import dataclass
+
+from .common import ALL, ROOT, TORN, WHOLE, case, header
+from .manual import PAGES, section
+
+PAGE = ROOT / "docs" / "FAULTS.md"
+
+
+def record(fraction, captured):
+    """A little-endian record's header with this fraction of a second and this captured length."""
+    return b"".join(field.to_bytes(4, "little") for field in (1, fraction, captured, 60))
+
+
+def listing(*lines):
+    return "".join(f"{line}\n" for line in lines)
+
+
+# The largest snapshot length in a header, and link type 113, Linux cooked.
+COOKED = header()[:20] + (113).to_bytes(4, "little")
+
+FILES = {
+    "in.pcap": WHOLE, "torn.pcap": TORN, "empty.pcap": "", "text.pcap": "no savefile, but a text",
+    "old.pcap": header()[:6] + bytes([3, 0]) + header()[8:], "cooked.pcap": COOKED,
+    "fraction.pcap": WHOLE + record(1000000, 0), "long.pcap": WHOLE + record(0, 262145),
+    "all.bpf": ALL, "line.bpf": "x\n", "line3.bpf": listing(2, "6 0 0 1", "6 0 0"), "count.bpf": listing(2, "6 0 0 1"),
+    "empty.bpf": "0\n", "many.bpf": listing(513, *["6 0 0 0"] * 513), "code.bpf": listing(1, "8 0 0 1"),
+    "jump.bpf": listing(3, "40 0 0 12", "21 0 1 2048", "6 0 0 1"), "cell.bpf": listing(2, "96 0 0 16", "6 0 0 0"),
+    "zero.bpf": listing(2, "52 0 0 0", "6 0 0 0"), "end.bpf": listing(1, "0 0 0 1"),
+    "arrive.txt": "arrive\n", "wait.txt": "arrive\nwait\n", "read1.txt": "arrive\nread 1\n",
+    "one.txt": "0 1048576\n", "comment.txt": "# SNAP CAPACITY EXPRESSION\n0 1048576\n", "crlf.txt": "0 1048576\r\n",
+    "65.txt": "0 1048576\n" * 65, "small.txt": "0 1048576\n10 47\n",
+}
+
+# 17 additions, each in the right operand of the one before; an expression of weight 81,920.
+DEEP = "1+(" * 16 + "1+1" + ")" * 16 + " = 18"
+LONG = "ip" + "||ip" * 2047
+
+# Expressions that are refused, and their faults. The last two are read, and not compiled.
+EXPRESSIONS = [
+    ("#" * 8193, "TextTooLong"),
+    ("tcp # udp", "BadByte 4"),
+    ("port http", "BadWord 5"),
+    ("tcp and vlan", "BadWord 8"),
+    ("host 10.0.0.256", "BadNumber 5"),
+    ("port 80 and", "Syntax 11"),
+    ("tcp and 80", "NoQualifier 8"),
+    ("tcp host 10.0.0.1", "BadQualifier 0"),
+    ("host 10.0", "BadIdentifier 5"),
+    ("net 10.0.0.1/8", "NetBits 4"),
+    ("port 65536", "OutOfRange 5"),
+    ("len / 0 = 1", "DivideByZero 6"),
+    ("(" * 65 + "tcp", "TooNested 64"),
+    (DEEP, "TooDeep"),
+    (LONG, "TooLong"),
+]
+COMPILED = {"TooDeep", "TooLong"}
+
+# The words of a command, the fault and the status.
+REFUSED = [
+    ("cut -s 0 -e ip -f all.bpf in.pcap out.pcap", "FilterTwice", 1),
+    ("cut -s 0 -f line.bpf in.pcap out.pcap", "BadLine 1", 1),
+    ("cut -s 0 -f line3.bpf in.pcap out.pcap", "BadLine 3", 1),
+    ("cut -s 0 -f count.bpf in.pcap out.pcap", "Count", 1),
+    ("cut -s 0 -f empty.bpf in.pcap out.pcap", "Program Empty", 1),
+    ("cut -s 0 -f many.bpf in.pcap out.pcap", "Program TooMany", 1),
+    ("cut -s 0 -f code.bpf in.pcap out.pcap", "Program UnknownCode 0", 1),
+    ("cut -s 0 -f jump.bpf in.pcap out.pcap", "Program JumpOut 1", 1),
+    ("cut -s 0 -f cell.bpf in.pcap out.pcap", "Program Cell 0", 1),
+    ("cut -s 0 -f zero.bpf in.pcap out.pcap", "Program ZeroDivisor 0", 1),
+    ("cut -s 0 -f end.bpf in.pcap out.pcap", "Program NoReturn", 1),
+    ("cut -s 0 -f none.bpf in.pcap out.pcap", "Device none.bpf", 3),
+    ("cut -s 0 none.pcap out.pcap", "Device none.pcap", 3),
+    ("cut -s 0 in.pcap none/out.pcap", "Device none/out.pcap", 3),
+    ("cut -s 0 . out.pcap", "Device .", 3),
+    ("cut -s 0 in.pcap ./in.pcap", "SameFile ./in.pcap", 1),
+    ("steps one.txt arrive.txt none.pcap", "Device none.pcap", 3),
+    ("steps comment.txt arrive.txt in.pcap", "Listeners 1", 1),
+    ("steps crlf.txt arrive.txt in.pcap", "Listeners 1", 1),
+    ("steps one.txt wait.txt in.pcap", "Script 2", 1),
+    ("steps 65.txt arrive.txt in.pcap", "TooMany", 1),
+    ("steps one.txt read1.txt in.pcap", "NoListener 1", 1),
+    ("steps small.txt arrive.txt in.pcap", "Open 1 BadCapacity", 1),
+    ("steps none.txt arrive.txt in.pcap", "Device none.txt", 3),
+    ("run none.txt in.pcap", "Device none.txt", 3),
+    (["check", b"\xff"], "a word of the command line is not UTF-8", 1),
+]
+
+# A file LISTENERS of `run`, the captures behind it, the fault and the status.
+RUNS = [
+    ("0 0 0 1048576 2\n", "in.pcap", "Listeners 1", 1),
+    ("1 0 0 1048576 2 out.pcap\n", "in.pcap", "Listeners 1", 1),
+    ("0 0 0 1048576 2 out.pcap\n0 0 0 1048576 2 out.pcap\n", "in.pcap", "Listeners 2", 1),
+    ("0 0 0 1048576 2 in.pcap\n", "in.pcap", "SameFile in.pcap", 1),
+    ("0 0 0 1048576 2 out.pcap\n", "+ " * 16, "TooMany", 1),
+    ("0 0 0 1048576 0 out.pcap\n", "in.pcap", "Open 0 0 BadCapacity", 1),
+    ("0 0 10 47 2 out.pcap\n", "in.pcap", "Open 0 0 BadCapacity", 1),
+]
+
+# Captures that `cut`, `steps` and `run` tell, and the status.
+CAPTURES = [
+    ("empty.pcap", "ShortHeader", 1),
+    ("text.pcap", "NotSavefile", 1),
+    ("old.pcap", "Version", 1),
+    ("cooked.pcap", "LinkType", 1),
+    ("torn.pcap", "TornRecord 1", 2),
+    ("fraction.pcap", "BadFraction 1", 2),
+    ("long.pcap", "TooLong 1", 2),
+]
+
+# What stands for a number, a path or another line on the page, as it is found in a line.
+PLACES = {"N": r"\d+", "C": r"\d+", "L": r"\d+", "I": r"\d+", "B": r"\d+", "PATH": r"\S+", "FAULT": r"(?P<inner>.+)"}
+
+
+# The sections of the page that have the lines of a command; those of faults inside a line.
+SHARED = "Files and words"
+SECTIONS = {
+    "check": {SHARED, "Expressions"},
+    "cut": {SHARED, "Expressions", "Captures", "`cut`: the filter"},
+    "steps": {SHARED, "`steps`"},
+    "run": {SHARED, "`run`"},
+}
+INNER = {"Captures", "Expressions"}
+
+
+@dataclass(frozen=True)
+class Row:
+    """A line of a table of the page: the statuses behind it, and whether a test makes it."""
+    section: str
+    line: str
+    statuses: frozenset
+    is_made: bool
+
+    def match(self, line):
+        """The match of a line that the program printed: the words in capital letters stand for others."""
+        words = [PLACES.get(word, re.escape(word)) for word in self.line.split(" ")]
+        return re.fullmatch(" ".join(words), line)
+
+
+def rows():
+    """The lines of the page's tables."""
+    for part in PAGE.read_text().split("\n## ")[1:]:
+        found = re.findall(r"^\| `((?:bpftap: |interface )[^`]+)` \| ([\d, ]+?)( \*)? \|", part, re.M)
+        for line, statuses, star in found:
+            yield Row(part.splitlines()[0], line, frozenset(map(int, statuses.split(", "))), not star)
+
+
+class Page:
+    """The rows of the page, and which of them the program has printed."""
+
+    def __init__(self):
+        self.rows = list(rows())
+        self.seen = set()
+
+    def statuses(self, line, sections):
+        """The statuses that a line has by the rows of these sections, which are seen then: those of a fault inside it too."""
+        found = set()
+        for row in self.rows:
+            match = row.match(line) if row.section in sections else None
+            if match is None:
+                continue
+            inner = match.groupdict().get("inner")
+            statuses = row.statuses if inner is None else row.statuses & self.statuses(f"bpftap: {inner}", INNER)
+            if statuses:
+                self.seen.add(row)
+                found |= statuses
+        return found
+
+    def amiss(self):
+        """The rows that a test is said to make and has not, and those that it has made and is said not to."""
+        return [row for row in self.rows if row.is_made != (row in self.seen)]
+
+
+def tells(scene, page, words, fault, status, streams=""):
+    """The program tells this fault alone with this status, and the page has it so among the lines of the command."""
+    seen = scene.run(words, streams)
+    line = f"bpftap: {fault}"
+    scene.check(f"told by {words}", (seen.err.decode(), seen.status), (line + "\n", status))
+    command = words[0] if isinstance(words, list) else words.split()[0]
+    scene.check(f"{line}, status {status}, on the page of {command}", status in page.statuses(line, SECTIONS[command]), True)
+
+
+def tell_captures(scene, page):
+    """Faults of captures, by each command that reads them."""
+    scene.put({"run.txt": "0 0 0 1048576 2 run.pcap\n"})
+    for path, fault, status in CAPTURES:
+        tells(scene, page, f"cut -s 0 {path} out.pcap", fault, status)
+        tells(scene, page, f"steps one.txt arrive.txt in.pcap {path}", f"Capture 1 {fault}", status)
+        tells(scene, page, f"run run.txt in.pcap {path}", f"Interface 0 Capture 1 {fault}", status)
+    tells(scene, page, "run run.txt in.pcap none.pcap", "Interface 0 Capture 1 Device", 3)
+
+
+def tell_expressions(scene, page):
+    """Faults of expressions, by each command that reads them."""
+    for text, fault in EXPRESSIONS:
+        where = "Compile" if fault in COMPILED else "Expression"
+        scene.put({"steps.txt": f"0 1048576\n0 1048576 {text}\n", "run.txt": f"0 0 0 1048576 2 out.pcap {text}\n"})
+        tells(scene, page, ["check", text], fault, 1)
+        tells(scene, page, ["cut", "-s", "0", "-e", text, "none.pcap", "out.pcap"], fault, 1)
+        tells(scene, page, "steps steps.txt arrive.txt in.pcap", f"{where} 1 {fault}", 1)
+        tells(scene, page, "run run.txt in.pcap", f"{where} 0 {fault}", 1)
+
+
+def tell_runs(scene, page):
+    """What `run` refuses, and the end of a listener whose OUT fails."""
+    for listeners, captures, fault, status in RUNS:
+        scene.put({"run.txt": listeners})
+        tells(scene, page, f"run run.txt {captures}", fault, status)
+    scene.put({"run.txt": "0 0 0 1048576 2 none/out.pcap\n"})
+    seen = scene.run("run run.txt in.pcap")
+    printed = seen.out.decode().rstrip("\n")
+    scene.check("end of a failed OUT", (printed[-8:], seen.status), (" Write 0", 3))
+    scene.check(f"{printed}, status 3, on the page", 3 in page.statuses(printed, SECTIONS["run"]), True)
+
+
+@case
+def the_program_prints_the_lines_of_the_page(scene):
+    """Each line of the page that a test can make is printed, with its status, and each line that is printed stands there."""
+    page = Page()
+    scene.start(FILES)
+    for words, fault, status in REFUSED:
+        tells(scene, page, words, fault, status)
+    tells(scene, page, "check ip", "Device standard output", 3, ">/dev/full")
+    tell_captures(scene, page)
+    tell_expressions(scene, page)
+    tell_runs(scene, page)
+    scene.check("lines that were not printed, or are said not to be", page.amiss(), [])
+
+
+# Faults that no command tells: a call behind a fault, and numbers that the command line refuses before.
+UNTOLD = {"Failed", "BadSnap"}
+
+
+@case
+def the_page_has_the_faults_of_the_sources(scene):
+    """Each name of a fault in the sources stands on the page, but for those that no command tells."""
+    named = {word for row in rows() for word in row.line.split()}
+    for path in sorted((ROOT / "crates").glob("*/src/*.rt")):
+        if "_tests" not in str(path):
+            names = set(re.findall(r'#\[error\("([A-Z]\w+)', path.read_text()))
+            scene.check(f"faults of {path.relative_to(ROOT)}", names - named - UNTOLD, set())
+
+
+def names(line):
+    """The words of a line that stand for themselves."""
+    return tuple(word for word in line.split() if not re.fullmatch(r"[A-Z]+", word))
+
+
+@case
+def the_manual_has_no_other_faults(scene):
+    """Each fault that a manual page lists stands on the page too."""
+    told = {names(row.line.removeprefix("bpftap: ")) for row in rows()}
+    for page in PAGES:
+        items = [line.removeprefix(".It Li ") for line in section(page, "DIAGNOSTICS") if line.startswith(".It Li ")]
+        listed = {names(re.sub(r"\b(Li|Ar) ", "", item)) for item in items}
+        scene.check(f"faults of {page.name} that the page has not", listed - told, set())

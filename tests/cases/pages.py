@@ -1,0 +1,124 @@
+"""The pages: their commands behind a `$` print what stands below them, and their links lead somewhere."""
+import os
+import re
+import subprocess
+
+from .common import LIMIT, PROGRAM, ROOT, case
+from .manual import session
+
+# Pages whose commands need no other program than the system's own; docs/SCALE.md has a group of its own.
+RUN = ["README.md", "docs/RECIPES.md", "docs/LANGUAGE.md", "docs/FAULTS.md", "examples/README.md"]
+
+# A block between two lines of three backticks, or one that is indented by four blanks.
+BLOCK = re.compile(r"^```\w*\n(?P<fenced>(?s:.*?))^```$|^(?P<indented>(?:    .*\n)+)", re.M)
+
+
+def sessions(page):
+    """The blocks of a page that begin with a `$`: the commands of each one, and what they print."""
+    for block in BLOCK.finditer(page.read_text()):
+        lines = (block["fenced"] or block["indented"]).splitlines(keepends=True)
+        if block["indented"]:
+            lines = [line[4:] for line in lines]
+        if lines and lines[0].startswith("$ "):
+            yield session(lines)
+
+
+def run_page(scene, page):
+    """Runs the commands of a page, one block behind the other, in a folder that has `examples` and the program."""
+    scene.start({})
+    (scene.folder / "bin").mkdir()
+    (scene.folder / "bin" / "bpftap").symlink_to(PROGRAM)
+    (scene.folder / "bpftap").symlink_to(PROGRAM)
+    (scene.folder / "examples").symlink_to(ROOT / "examples")
+    environment = {**os.environ, "HOME": str(scene.folder), "PATH": f"{scene.folder}/bin:{os.environ['PATH']}"}
+    for script, printed in sessions(page):
+        done = subprocess.run(
+            ["bash", "-c", script], cwd=scene.folder, env=environment, stdin=subprocess.DEVNULL, stdout=subprocess.PIPE,
+            stderr=subprocess.STDOUT, timeout=LIMIT)
+        scene.check(f"{page.name}: {script}", done.stdout.decode(), printed)
+
+
+@case
+def commands_print_what_they_say(scene):
+    """The commands of each page are run, and print what stands below them."""
+    for name in RUN:
+        page = ROOT / name
+        run_page(scene, page)
+
+
+@case
+def commands_of_all_pages_are_run(scene):
+    """A page that has commands behind a `$` is one of those that are run."""
+    with_commands = {str(page.relative_to(ROOT)) for page in pages() if any(sessions(page))}
+    scene.check("pages with commands", sorted(with_commands), sorted([*RUN, "docs/SCALE.md"]))
+
+
+@case
+def pages_name_what_the_program_was_proved_with(scene):
+    """README and the page of promises name the toolchain that `--version` does."""
+    kit = scene.run("--version").out.decode().rpartition(", proved with ")[2].strip()
+    for name in ["README.md", "docs/PROMISES.md"]:
+        scene.check(f"{kit} in {name}", kit != "" and kit in (ROOT / name).read_text(), True)
+
+
+def pages():
+    """All pages of the repository."""
+    named = [ROOT / "README.md", ROOT / "CONTRIBUTING.md"]
+    return named + [page for place in ("docs/*.md", "crates/*/README.md", "examples/**/README.md")
+                    for page in sorted(ROOT.glob(place))]
+
+
+def links(page):
+    """The files of the repository that a page links to."""
+    for target in re.findall(r"\]\(([^)#\s]+)(?:#[^)]*)?\)", page.read_text()):
+        if "://" not in target:
+            yield (page.parent / target).resolve()
+
+
+@case
+def links_lead_somewhere(scene):
+    """Each link of each page is a file of the repository, and from README each page is two links away at most."""
+    near = set(links(ROOT / "README.md"))
+    near |= {target for page in near if page.suffix == ".md" for target in links(page)}
+    for page in pages():
+        missing = [str(target) for target in links(page) if not target.exists()]
+        scene.check(f"links of {page.relative_to(ROOT)} that lead nowhere", missing, [])
+        if page != ROOT / "README.md":
+            scene.check(f"{page.relative_to(ROOT)} within two links of README", page in near, True)
+
+
+def public_items(crate):
+    """The names of a library's public items: those that `lib.rt` tells on, and those of its public modules."""
+    lib = (crate / "src" / "lib.rt").read_text()
+    for names in re.findall(r"^pub use [\w:]+?(?:::(\w+)|::\{([^}]+)\});", lib, re.M):
+        yield from re.findall(r"\w+", " ".join(names))
+    for module in re.findall(r"^pub mod (\w+);", lib, re.M):
+        # Laws are told together.
+        if module == "laws":
+            yield module
+        else:
+            text = (crate / "src" / f"{module}.rt").read_text()
+            yield from re.findall(r"^pub (?:fn|struct|enum|trait|const|type) (\w+)", text, re.M)
+
+
+@case
+def public_items_stand_on_their_pages(scene):
+    """Each public item of each library is named on the library's page."""
+    for lib in sorted(ROOT.glob("crates/*/src/lib.rt")):
+        crate = lib.parent.parent
+        if crate.name.endswith("_tests"):
+            continue
+        named = set(re.findall(r"\w+", (crate / "README.md").read_text()))
+        scene.check(f"items of {crate.name} that its page has not", sorted(set(public_items(crate)) - named), [])
+
+
+@case
+def code_of_pages_stands_in_the_sources(scene):
+    """Each item of the code on a library's page, its `use` lines aside, stands in a source to the letter, where it is proved."""
+    sources = [path.read_text() for path in ROOT.glob("crates/*/src/**/*.rt")]
+    for page in sorted(ROOT.glob("crates/*/README.md")):
+        for block in re.findall(r"^```rust\n(.*?)^```$", page.read_text(), re.S | re.M):
+            for item in re.split(r"\n\n(?=\S)", block.rstrip("\n")):
+                if not item.startswith(("use ", "ghost use ")):
+                    is_there = any(item + "\n" in source for source in sources)
+                    scene.check(f"{page.relative_to(ROOT)}: {item.splitlines()[0]}, in a source", is_there, True)
