@@ -28,11 +28,11 @@ fn record_size(spec: &Spec, placed: &Placed) -> u64 {
     32u64.wrapping_add(kept.wrapping_add(7) / 8 * 8)
 }
 
-/// The steps of a replay as one listener sees them, in order.
+/// How a listener stands between the steps of a replay.
+#[derive(Drop)]
 pub struct Columns<'a> {
     listener: u32,
     spec: &'a Spec,
-    steps: Iter<'a, Step>,
     packets: Iter<'a, Placed>,
     answers: Iter<'a, Answered>,
     count: u64,
@@ -41,18 +41,16 @@ pub struct Columns<'a> {
 }
 
 impl<'a> Columns<'a> {
-    /// Those of a listener, whose answers these are.
+    /// Before the first step, of a listener whose answers these are.
     pub fn new(
         listener: u32,
         spec: &'a Spec,
-        steps: &'a [Step],
         trace: &'a Trace,
         answers: &'a [Answered],
     ) -> Columns<'a> {
         Columns {
             listener,
             spec,
-            steps: steps.iter(),
             packets: trace.playlist.iter(),
             answers: answers.iter(),
             count: 0,
@@ -61,9 +59,8 @@ impl<'a> Columns<'a> {
         }
     }
 
-    /// The next step.
-    pub fn next_column(&mut self) -> Option<Column<'a>> {
-        let step = *self.steps.next()?;
+    /// What the next step finds, and what becomes of it.
+    pub fn next(&mut self, step: Step) -> Column<'a> {
         let packet = match step {
             Step::Arrive => self.packets.next(),
             Step::Flush(_) | Step::Read(_) | Step::Close(_) => None,
@@ -87,7 +84,7 @@ impl<'a> Columns<'a> {
         };
         self.count = self.count.wrapping_add(1);
         self.go_on(&column);
-        Some(column)
+        column
     }
 
     /// How the buffers stand behind a step.

@@ -131,28 +131,40 @@ fn write_column<O: Write>(
     writeln!(out, "</g>")
 }
 
+/// The room of a buffer, behind its bars.
+fn write_room<O: Write>(
+    width: u64,
+    floor: u64,
+    scale: &Scale,
+    out: &mut O,
+) -> io::Result<()> {
+    let (y, capacity) = (floor.saturating_sub(scale.capacity), scale.capacity);
+    writeln!(
+        out,
+        "<rect class=\"room\" x=\"0\" y=\"{y}\" width=\"{width}\" height=\"{capacity}\"/>"
+    )
+}
+
 /// The bars of all steps, in a frame of so many pixels.
 pub fn write_bars<O: Write>(
     mut columns: Columns<'_>,
-    steps: usize,
+    steps: &[Step],
     scale: &Scale,
     width: u64,
     out: &mut O,
 ) -> io::Result<()> {
-    let (wide, high) = ((steps as u64).saturating_mul(STEP), scale.store_floor());
+    let (wide, high) = (
+        (steps.len() as u64).saturating_mul(STEP),
+        scale.store_floor(),
+    );
     writeln!(
         out,
         "<svg x=\"{MARGIN}\" y=\"24\" width=\"{width}\" height=\"{BARS}\" viewBox=\"0 0 {wide} {high}\" preserveAspectRatio=\"none\">"
     )?;
-    for floor in [scale.hold_floor(), scale.store_floor()] {
-        let (y, capacity) = (floor.saturating_sub(scale.capacity), scale.capacity);
-        writeln!(
-            out,
-            "<rect class=\"room\" x=\"0\" y=\"{y}\" width=\"{wide}\" height=\"{capacity}\"/>"
-        )?;
-    }
-    while let Some(column) = columns.next_column() {
-        write_column(&column, scale, out)?;
+    write_room(wide, scale.hold_floor(), scale, out)?;
+    write_room(wide, scale.store_floor(), scale, out)?;
+    for step in steps {
+        write_column(&columns.next(*step), scale, out)?;
     }
     writeln!(out, "</svg>")
 }
@@ -180,11 +192,12 @@ fn write_name<O: Write>(column: &Column<'_>, step_width: u64, out: &mut O) -> io
 /// The names of all steps that concern the listener.
 pub fn write_names<O: Write>(
     mut columns: Columns<'_>,
+    steps: &[Step],
     step_width: u64,
     out: &mut O,
 ) -> io::Result<()> {
-    while let Some(column) = columns.next_column() {
-        write_name(&column, step_width, out)?;
+    for step in steps {
+        write_name(&columns.next(*step), step_width, out)?;
     }
     Ok(())
 }

@@ -49,14 +49,15 @@ fn write_escaped<O: Write>(text: &str, out: &mut O) -> io::Result<()> {
 }
 
 fn write_legend<O: Write>(out: &mut O) -> io::Result<()> {
-    let mut x = 10;
+    let mut x: u64 = 10;
     for (class, words) in LEGEND {
         writeln!(
             out,
             "<rect class=\"{class}\" x=\"{x}\" y=\"14\" width=\"12\" height=\"12\"/><text x=\"{}\" y=\"24\">{words}</text>",
-            x + 16
+            x.saturating_add(16)
         )?;
-        x = (x + 40).saturating_add((words.len() as u64).saturating_mul(6));
+        let width = (words.len() as u64).saturating_mul(6);
+        x = x.saturating_add(width).saturating_add(40);
     }
     Ok(())
 }
@@ -78,7 +79,7 @@ fn write_head<O: Write>(width: u64, listeners: usize, out: &mut O) -> io::Result
 }
 
 /// What a listener was asked for.
-fn write_asked<O: Write>(l: usize, spec: &Spec, out: &mut O) -> io::Result<()> {
+fn write_asked<O: Write>(l: u32, spec: &Spec, out: &mut O) -> io::Result<()> {
     let mode = match spec.mode {
         Mode::Buffered => "",
         Mode::Immediate => ", immediate",
@@ -103,22 +104,22 @@ fn write_asked<O: Write>(l: usize, spec: &Spec, out: &mut O) -> io::Result<()> {
 
 /// Writes the lane of the l-th listener.
 fn write_lane<O: Write>(
-    l: usize,
+    l: u32,
     spec: &Spec,
     steps: &[Step],
     trace: &Trace,
     answers: &[Answered],
     out: &mut O,
 ) -> io::Result<()> {
-    let y = (l as u64).saturating_mul(LANE).saturating_add(HEAD);
+    let y = u64::from(l).saturating_mul(LANE).saturating_add(HEAD);
     let pixels = step_width(steps.len());
     let width = (steps.len() as u64).saturating_mul(pixels);
-    let columns = || Columns::new(l as u32, spec, steps, trace, answers);
+    let columns = || Columns::new(l, spec, trace, answers);
     writeln!(out, "<g transform=\"translate(0,{y})\">")?;
     write_asked(l, spec, out)?;
-    write_bars(columns(), steps.len(), &Scale::new(spec.capacity), width, out)?;
+    write_bars(columns(), steps, &Scale::new(spec.capacity), width, out)?;
     if are_named(steps.len()) {
-        write_names(columns(), pixels, out)?;
+        write_names(columns(), steps, pixels, out)?;
     }
     writeln!(out, "</g>")
 }
@@ -137,8 +138,10 @@ pub fn write_picture<O: Write>(
 ) -> io::Result<()> {
     let width = (steps.len() as u64).saturating_mul(step_width(steps.len()));
     write_head(width, specs.len(), out)?;
-    for (l, (spec, answers)) in specs.iter().zip(&trace.answers).enumerate() {
+    let mut l: u32 = 0;
+    for (spec, answers) in specs.iter().zip(&trace.answers) {
         write_lane(l, spec, steps, trace, answers.as_slice(), out)?;
+        l = l.wrapping_add(1);
     }
     writeln!(out, "</svg>")
 }
