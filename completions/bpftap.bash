@@ -7,8 +7,8 @@ _bpftap_value() {
   case $1,$2 in
     cut,-o) mapfile -t COMPREPLY < <(compgen -W 'little big' -- "$3") ;;
     cut,-u) mapfile -t COMPREPLY < <(compgen -W 'micro nano' -- "$3") ;;
-    cut,-f) compopt -o default ;;
-    cut,-s | cut,-e) ;;
+    check,-f | cut,-f | steps,-p) compopt -o default ;;
+    check,-s | cut,-s | cut,-e) ;;
     *) return 1 ;;
   esac
 }
@@ -17,9 +17,10 @@ _bpftap_value() {
 _bpftap_options() {
   case $1 in
     '') echo '-h --help -V --version' ;;
-    check | run) echo '-h --help' ;;
+    check) echo '-d -s -f -h --help' ;;
+    run) echo '-h --help' ;;
     cut) echo '-s -e -f -o -u -h --help' ;;
-    steps) echo '-v -h --help' ;;
+    steps) echo '-v -p -h --help' ;;
   esac
 }
 

@@ -11,6 +11,9 @@ complete -c bpftap -n __fish_use_subcommand -a help -d 'Print help of a command'
 
 complete -c bpftap -n '__fish_seen_subcommand_from help' -a 'check cut steps run'
 
+complete -c bpftap -n '__fish_seen_subcommand_from check' -s d -d 'Print instructions by their names'
+complete -c bpftap -n '__fish_seen_subcommand_from check' -s s -x -d 'Snapshot length that the program answers'
+complete -c bpftap -n '__fish_seen_subcommand_from check' -s f -r -F -d 'Filter program'
 complete -c bpftap -n '__fish_seen_subcommand_from check' -s h -l help -d 'Print help'
 
 complete -c bpftap -n '__fish_seen_subcommand_from cut' -F
@@ -23,6 +26,7 @@ complete -c bpftap -n '__fish_seen_subcommand_from cut' -s h -l help -d 'Print h
 
 complete -c bpftap -n '__fish_seen_subcommand_from steps' -F
 complete -c bpftap -n '__fish_seen_subcommand_from steps' -s v -d 'Print the answers first, and why'
+complete -c bpftap -n '__fish_seen_subcommand_from steps' -s p -r -F -d 'Draw what each step found'
 complete -c bpftap -n '__fish_seen_subcommand_from steps' -s h -l help -d 'Print help'
 
 complete -c bpftap -n '__fish_seen_subcommand_from run' -F

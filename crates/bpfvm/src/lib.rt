@@ -3,11 +3,12 @@
 //! A [`Program`] is a list of instructions that [`Program::new`] has found valid, or that [`read_listing`] has read;
 //! contracts see it as that list. [`run`] says how many bytes of a packet it keeps. The machine is that of McCanne and
 //! Jacobson, "The BSD Packet Filter" (1993), and of bpf(4), with the modulo and the exclusive or that libpcap has beside
-//! them. Nothing here takes memory but [`write_listing`].
+//! them. Nothing here takes memory but [`write_listing`] and [`write_image`].
 #![tactic(auto)]
 
 pub mod code;
 mod fault;
+mod image;
 mod insn;
 pub mod laws;
 mod listing;
@@ -15,6 +16,7 @@ mod machine;
 mod program;
 
 pub use fault::{Invalid, ListingFault, NoMemory};
+pub use image::write_image;
 pub use insn::Insn;
 pub use listing::{read_listing, write_listing};
 pub use machine::run;

@@ -1,11 +1,12 @@
 //! A filter expression that is looked at: the function under `bpftap check`.
 
-ghost use Rattle.std.specs.Prelude.{◌≡◌, ◌⊎◌};
+ghost use Rattle.std.specs.Prelude.{◌≡◌, ◌⊎◌, IfOk};
 ghost use Rattle.std.specs.Io.KnownBytes.{Appends, Keeps};
 ghost use Rattle.bpfvm.specs.Listing.{listing_of};
 ghost use Rattle.cutting.specs.Filter.{Prints};
+ghost use Rattle.cutting.specs.declared.check.Form.TheVariants.{Listing};
 
-use bpfvm::{Program, write_listing};
+use bpfvm::{NoMemory, Program, write_image, write_listing};
 use filtergen::compile_text;
 use lines::MAX_SNAP;
 use lines::telling::{DEVICE, REFUSED, tell_device, tell_fault};
@@ -22,19 +23,44 @@ pub fn check<O: Write, E: Write>(alloc: Global, expr: &str, out: &mut O, err: &m
     ensures status { (result ≡ 0) ⊎ (result ≡ REFUSED) ⊎ (result ≡ DEVICE) }
 {
     match compile_text(alloc, expr, MAX_SNAP) {
-        Ok(program) => print(alloc, &program, out, err),
+        Ok(program) => show(alloc, &program, Form::Listing, out, err),
         Err(fault) => tell_fault(fault, REFUSED, err),
     }
 }
 
-/// Prints the listing of a program, and answers the exit status.
-fn print<O: Write, E: Write>(alloc: Global, program: &Program, out: &mut O, err: &mut E) -> u8
-    ensures printed { result ≡ 0 → Appends (O.contents out.old) (O.contents out.new) (listing_of program.now) }
+/// How a program is printed.
+#[derive(Clone, Copy, Debug, PartialEq, Eq)]
+pub enum Form {
+    /// As numbers, for a program to read: what `tcpdump -ddd` prints.
+    Listing,
+    /// By the names of its instructions, for a person: what `tcpdump -d` prints.
+    Image,
+}
+
+fn text_of(alloc: Global, program: &Program, form: Form) -> Result<Vec<u8>, NoMemory>
+    ensures { form ≡ Listing → IfOk result (λ text. text.items ≡ listing_of program.now) }
+{
+    match form {
+        Form::Listing => write_listing(alloc, program),
+        Form::Image => write_image(alloc, program),
+    }
+}
+
+/// Prints a program in one of two forms, and answers the exit status: 0; 1 for want of memory, where nothing is printed; 3
+/// where `out` fails, and then a beginning may have been printed.
+pub fn show<O: Write, E: Write>(
+    alloc: Global,
+    program: &Program,
+    form: Form,
+    out: &mut O,
+    err: &mut E,
+) -> u8
+    ensures printed { form ≡ Listing → result ≡ 0 → Appends (O.contents out.old) (O.contents out.new) (listing_of program.now) }
     ensures nothing { result ≡ REFUSED → Keeps (O.contents out.old) (O.contents out.new) }
     ensures status { (result ≡ 0) ⊎ (result ≡ REFUSED) ⊎ (result ≡ DEVICE) }
 {
-    match write_listing(alloc, program) {
-        Ok(listing) => match out.write_all(listing.as_slice()) {
+    match text_of(alloc, program, form) {
+        Ok(text) => match out.write_all(text.as_slice()) {
             Ok(()) => 0,
             Err(_) => tell_device("standard output", err),
         },

@@ -1,4 +1,5 @@
 //! The words of the command line, by `clap`.
+use crate::check::{CheckWords, check_command, check_words};
 use crate::run::{RunWords, run_command, run_words};
 use crate::steps::{StepsWords, steps_command, steps_words};
 use clap::error::ErrorKind;
@@ -28,8 +29,7 @@ pub struct CutWords<'a> {
 /// What the words ask for.
 #[derive(Drop)]
 pub enum Request<'a> {
-    /// `bpftap check`, of this expression.
-    Check(&'a str),
+    Check(CheckWords<'a>),
     Cut(CutWords<'a>),
     Steps(StepsWords<'a>),
     Run(RunWords<'a>),
@@ -60,19 +60,6 @@ const CUT_EXAMPLES: &str = "Examples:
 
 Exit status: 0 clean; 1 wrong words, a refused expression, file or listing, or want of memory;
 2 a torn or bad record, after the packets before it; 3 a file or device failed.";
-
-const CHECK_EXAMPLES: &str = "Examples:
-  bpftap check 'tcp dst port 80 or 443'
-  bpftap check 'tcp and 80'       prints bpftap: NoQualifier 8
-  bpftap check ''                 the empty expression accepts every packet
-
-What is printed is a line with the number of instructions, and a line code jt jf k for each:
-tcpdump -ddd prints the same form, and cut -f reads it. An expression that begins with - is
-written in parentheses. The number behind a fault's name is the byte of the expression that
-it stands at, from 0; docs/LANGUAGE.md has the language.
-
-Exit status: 0 the expression is accepted; 1 it is refused or its program is too long, wrong
-words, or want of memory; 3 standard output failed.";
 
 fn snap_arg<'a>(alloc: Global) -> Arg<'a> {
     Arg::new(alloc, "snap")
@@ -115,17 +102,6 @@ fn unit_arg<'a>(alloc: Global) -> Arg<'a> {
 
 fn path_arg<'a>(alloc: Global, name: &'a str, help: &'a str) -> Arg<'a> {
     Arg::new(alloc, name).required(true).help(help)
-}
-
-fn check_command<'a>(alloc: Global) -> Result<Command<'a>, AllocError> {
-    Command::new(alloc, "check")
-        .about("Print the program of a filter expression, or tell what is wrong with it")
-        .after_help(CHECK_EXAMPLES)
-        .arg(
-            Arg::new(alloc, "EXPR").required(true).help(
-                "Filter expression of pcap-filter(7), as one word; it may be empty",
-            ),
-        )
 }
 
 fn cut_command<'a>(alloc: Global) -> Result<Command<'a>, AllocError> {
@@ -183,7 +159,7 @@ fn request_of<'a>(
     words: &ArgMatches<'a>,
 ) -> Result<Option<Request<'a>>, AllocError> {
     match name {
-        "check" => Ok(words.get_str("EXPR").map(|expr| Request::Check(expr))),
+        "check" => Ok(check_words(words).map(|words| Request::Check(words))),
         "cut" => Ok(cut_words(words).map(|words| Request::Cut(words))),
         "steps" => Ok(steps_words(alloc, words)?.map(|words| Request::Steps(words))),
         "run" => Ok(run_words(alloc, words)?.map(|words| Request::Run(words))),
@@ -191,11 +167,11 @@ fn request_of<'a>(
     }
 }
 
-/// What is wrong with words of a subcommand that `clap` took: of `cut` the snapshot length; of the others a word is
+/// What is wrong with words of a subcommand that `clap` took: of `cut` and `check` the snapshot length; of the others a word is
 /// missing, which `clap` has told.
 fn bad_words(alloc: Global, name: &str, program: &mut Command<'_>) -> Result<Error, AllocError> {
     match name {
-        "cut" => bad_snap(alloc),
+        "check" | "cut" => bad_snap(alloc, name),
         _ => program.error(ErrorKind::MissingRequiredArgument, "a word is wanted"),
     }
 }
@@ -213,9 +189,13 @@ pub fn read_words<'a, S: AsStr>(alloc: Global, words: &'a [S]) -> Result<Request
     }
 }
 
-/// The error of a snapshot length that is not digits alone, with the usage of `cut`.
-fn bad_snap(alloc: Global) -> Result<Error, AllocError> {
-    cut_command(alloc)?.bin_name("bpftap cut")?.error(
+/// The error of a snapshot length that is not digits alone, with the usage of its subcommand.
+fn bad_snap(alloc: Global, name: &str) -> Result<Error, AllocError> {
+    let mut command = match name {
+        "check" => check_command(alloc)?.bin_name("bpftap check")?,
+        _ => cut_command(alloc)?.bin_name("bpftap cut")?,
+    };
+    command.error(
         ErrorKind::ValueValidation,
         "-s takes a number from 0 to 262144",
     )

@@ -8,6 +8,8 @@ use std::alloc::{AllocError, Global};
 pub struct StepsWords<'a> {
     /// Whether each answer is explained.
     pub explained: bool,
+    /// The path of the picture, where `-p` is given.
+    pub picture: Option<&'a str>,
     /// The path of LISTENERS.
     pub listeners: &'a str,
     /// The path of SCRIPT.
@@ -27,6 +29,7 @@ counted from 0.
 Examples:
   bpftap steps examples/steps/listeners.txt examples/steps/script.txt examples/veth.pcap
   bpftap steps -v examples/steps/listeners.txt examples/steps/script.txt examples/veth.pcap
+  bpftap steps -p steps.svg examples/steps/listeners.txt examples/steps/script.txt examples/veth.pcap
 
 Exit status: 0 clean; 1 wrong words, a refused line, expression or file, or want of memory;
 2 a torn or bad record, after the reports; 3 a file or device failed.";
@@ -41,6 +44,12 @@ pub fn steps_command<'a>(alloc: Global) -> Result<Command<'a>, AllocError> {
                 .short('v')
                 .action(ArgAction::SetTrue)
                 .help("Print each step's answers first, and why they were given"),
+        )?
+        .arg(
+            Arg::new(alloc, "picture")
+                .short('p')
+                .value_name("FILE")
+                .help("Draw what each step found in the buffers to FILE, as SVG"),
         )?
         .arg(
             Arg::new(alloc, "LISTENERS").required(true).help(
@@ -73,6 +82,7 @@ pub fn steps_words<'a>(
     };
     Ok(Some(StepsWords {
         explained: matches.get_flag("explained"),
+        picture: matches.get_str("picture"),
         listeners,
         script,
         inputs: Vec::from_slice(alloc, inputs)?,

@@ -1,0 +1,47 @@
+//! `bpftap check`, of an expression or of a listing's file.
+
+use crate::program::tell_io;
+use bpfvm::Program;
+use cutting::check::{Form, check, show};
+use cutting::filter::filter;
+use std::fs;
+use std::fs::Files;
+use std::io::Write;
+use words::check::CheckWords;
+
+/// The program that is asked for: a listing's file, or an expression's.
+fn program_of<R: Files + AllocGlobal, E: Write>(
+    rt: &R,
+    words: &CheckWords<'_>,
+    err: &mut E,
+) -> Result<Program, u8> {
+    let alloc = rt.alloc();
+    match words.listing {
+        Some(path) => match fs::read(rt, path) {
+            Ok(listing) => filter(alloc, Some(listing.as_slice()), None, words.snap, err),
+            Err(error) => Err(tell_io(&error, path, err)),
+        },
+        None => filter(alloc, None, words.expr, words.snap, err),
+    }
+}
+
+/// Prints the program in the form that is asked for.
+pub fn check_files<R: Files + AllocGlobal, O: Write, E: Write>(
+    rt: &R,
+    words: &CheckWords<'_>,
+    out: &mut O,
+    err: &mut E,
+) -> u8 {
+    if let (Some(expr), false, lines::MAX_SNAP) = (words.expr, words.named, words.snap) {
+        return check(rt.alloc(), expr, out, err);
+    }
+    let form = if words.named {
+        Form::Image
+    } else {
+        Form::Listing
+    };
+    match program_of(rt, words, err) {
+        Ok(program) => show(rt.alloc(), &program, form, out, err),
+        Err(status) => status,
+    }
+}

@@ -1,0 +1,111 @@
+//! What each step found in a listener, and what became of it.
+
+use listener::Fed;
+use std::slice::Iter;
+use tap::{Answer, Answered, Placed, Spec, Step, Trace};
+
+/// A step as one listener sees it.
+#[derive(Clone, Copy)]
+pub struct Column<'a> {
+    /// Which step it is, from 0.
+    pub index: u64,
+    pub step: Step,
+    /// The packet that an arrival took.
+    pub packet: Option<&'a Placed>,
+    /// What the listener answered, where the step concerns it.
+    pub answer: Option<Answer>,
+    /// The bytes of the store before the step.
+    pub load: u64,
+    /// The bytes of the hold before the step.
+    pub held: u64,
+    /// The bytes of the record that the listener would keep of the packet.
+    pub more: u64,
+}
+
+/// The bytes of the record that a listener keeps of a packet.
+fn record_size(spec: &Spec, placed: &Placed) -> u64 {
+    let kept = placed.packet.bytes.as_slice().len().min(spec.snap as usize) as u64;
+    32u64.wrapping_add(kept.wrapping_add(7) / 8 * 8)
+}
+
+/// How a listener stands between the steps of a replay.
+#[derive(Drop)]
+pub struct Columns<'a> {
+    listener: u32,
+    spec: &'a Spec,
+    packets: Iter<'a, Placed>,
+    answers: Iter<'a, Answered>,
+    count: u64,
+    load: u64,
+    held: u64,
+}
+
+impl<'a> Columns<'a> {
+    /// Before the first step, of a listener whose answers these are.
+    pub fn new(
+        listener: u32,
+        spec: &'a Spec,
+        trace: &'a Trace,
+        answers: &'a [Answered],
+    ) -> Columns<'a> {
+        Columns {
+            listener,
+            spec,
+            packets: trace.playlist.iter(),
+            answers: answers.iter(),
+            count: 0,
+            load: 0,
+            held: 0,
+        }
+    }
+
+    /// What the next step finds, and what becomes of it.
+    pub fn next(&mut self, step: Step) -> Column<'a> {
+        let packet = match step {
+            Step::Arrive => self.packets.next(),
+            Step::Flush(_) | Step::Read(_) | Step::Close(_) => None,
+        };
+        let is_own = match step {
+            Step::Arrive => packet.is_some(),
+            Step::Flush(l) | Step::Read(l) | Step::Close(l) => l == self.listener,
+        };
+        let answered = if is_own { self.answers.next() } else { None };
+        if let Some(before) = answered {
+            self.load = before.load as u64;
+        }
+        let column = Column {
+            index: self.count,
+            step,
+            packet,
+            answer: answered.map(|before| before.answer),
+            load: self.load,
+            held: self.held,
+            more: packet.map_or(0, |placed| record_size(self.spec, placed)),
+        };
+        self.count = self.count.wrapping_add(1);
+        self.go_on(&column);
+        column
+    }
+
+    /// How the buffers stand behind a step.
+    fn go_on(&mut self, column: &Column<'a>) {
+        let (load, more) = (column.load, column.more);
+        match column.answer {
+            Some(Answer::Arrived(Fed::Stored)) => self.load = load.wrapping_add(more),
+            Some(Answer::Arrived(Fed::Held)) => {
+                self.held = load.wrapping_add(more);
+                self.load = 0;
+            }
+            Some(Answer::Arrived(Fed::Rotated)) => {
+                self.held = load;
+                self.load = more;
+            }
+            Some(Answer::Flushed(true)) => {
+                self.held = load;
+                self.load = 0;
+            }
+            Some(Answer::Read(true)) => self.held = 0,
+            _ => {}
+        }
+    }
+}

@@ -1,0 +1,76 @@
+//! The words of `bpftap check`, by `clap`.
+
+use clap::{Arg, ArgAction, ArgMatches, Command};
+use lines::fields::snapshot_length;
+use std::alloc::{AllocError, Global};
+
+/// What one call of `bpftap check` asks for.
+#[derive(Clone, Copy, Debug)]
+pub struct CheckWords<'a> {
+    /// The expression, where no listing is given.
+    pub expr: Option<&'a str>,
+    /// The path of the listing, where `-f` is given.
+    pub listing: Option<&'a str>,
+    /// The snapshot length of an expression's program, 1 to [`lines::MAX_SNAP`].
+    pub snap: u32,
+    /// Whether the program is printed by the names of its instructions.
+    pub named: bool,
+}
+
+const CHECK_EXAMPLES: &str = "Examples:
+  bpftap check 'tcp dst port 80 or 443'
+  bpftap check -d 'tcp dst port 80 or 443'    the same program, for a person to read
+  tcpdump -ddd 'udp port 53' | bpftap check -d -f /dev/stdin
+  bpftap check 'tcp and 80'       prints bpftap: NoQualifier 8
+  bpftap check ''                 the empty expression accepts every packet
+
+What is printed is a line with the number of instructions, and a line code jt jf k for each:
+tcpdump -ddd prints the same form, and cut -f reads it. With -d it is a line for each
+instruction by its name, as tcpdump -d prints it. An expression that begins with - is written
+in parentheses. The number behind a fault's name is the byte of the expression that it stands
+at, from 0; docs/LANGUAGE.md has the language.
+
+Exit status: 0 the expression is accepted; 1 it is refused or its program is too long, wrong
+words, or want of memory; 3 a file or standard output failed.";
+
+/// The subcommand.
+pub fn check_command<'a>(alloc: Global) -> Result<Command<'a>, AllocError> {
+    Command::new(alloc, "check")
+        .about("Print the program of a filter expression, or tell what is wrong with it")
+        .after_help(CHECK_EXAMPLES)
+        .arg(
+            Arg::new(alloc, "named")
+                .short('d')
+                .action(ArgAction::SetTrue)
+                .help("Print instructions by their names, as tcpdump -d does"),
+        )?
+        .arg(
+            Arg::new(alloc, "snap")
+                .short('s')
+                .value_name("N")
+                .default_value("262144")
+                .help("Snapshot length that the program answers, 0 to 262144 (0 means 262144)"),
+        )?
+        .arg(
+            Arg::new(alloc, "listing")
+                .short('f')
+                .value_name("LISTING")
+                .help("Print the program of this file, which is in the form of tcpdump -ddd"),
+        )?
+        .arg(
+            Arg::new(alloc, "EXPR")
+                .required_unless_present("listing")?
+                .conflicts_with("listing")?
+                .help("Filter expression of pcap-filter(7), as one word; it may be empty"),
+        )
+}
+
+/// The words that were found, nothing where one is missing or the snapshot length is none.
+pub fn check_words<'a>(matches: &ArgMatches<'a>) -> Option<CheckWords<'a>> {
+    Some(CheckWords {
+        expr: matches.get_str("EXPR"),
+        listing: matches.get_str("listing"),
+        snap: snapshot_length(matches.get_str("snap")?)?,
+        named: matches.get_flag("named"),
+    })
+}

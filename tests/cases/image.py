@@ -1,0 +1,52 @@
+"""`bpftap check -d`: a program by the names of its instructions, as `tcpdump -d` prints it.
+
+`tests/vectors/codes.image` is what libpcap 1.10.3 prints (`bpf_image`) of the program of `codes.listing`, which has every code
+but 0x81, for which it has no name; `expression.*` are what `tcpdump -ddd` and `tcpdump -d` print of one expression."""
+from .common import IP, ROOT, case
+
+VECTORS = ROOT / "tests" / "vectors"
+
+IP_IMAGE = (
+    "(000) ldh      [12]\n"
+    "(001) jeq      #0x800           jt 2\tjf 3\n"
+    "(002) ret      #262144\n"
+    "(003) ret      #0\n")
+
+
+@case
+def a_listing_is_printed_as_tcpdump_prints_it(scene):
+    """The program of a listing has the bytes of tcpdump's own print, and as numbers it is the listing again."""
+    for name in "codes", "expression":
+        listing, image = VECTORS / f"{name}.listing", (VECTORS / f"{name}.image").read_text()
+        scene.expect(["check", "-d", "-f", listing], out=image)
+        scene.expect(["check", "-f", listing], out=listing.read_text())
+
+
+@case
+def the_length_has_a_name_in_the_index_register(scene):
+    """Of the code that libpcap's printer has no name for, the name is that of the other load."""
+    scene.put({"length.txt": "2\n129 0 0 0\n6 0 0 0\n"})
+    scene.expect("check -d -f length.txt", out="(000) ldx      #pktlen\n(001) ret      #0\n")
+
+
+@case
+def an_expression_is_printed_by_names(scene):
+    """Of an expression that tcpdump compiles to the same program the print is the same; `-s` is what the program answers."""
+    scene.put({"ip.txt": IP})
+    scene.expect("check -d ip", out=IP_IMAGE)
+    scene.expect("check -d -f ip.txt", out=IP_IMAGE)
+    scene.expect("check -d -s 96 ip", out=IP_IMAGE.replace("262144", "96"))
+    scene.expect("check -s 0 ip", out=IP)
+
+
+@case
+def a_program_that_is_none_is_told(scene):
+    """A refused expression and a bad listing are told as `cut` tells them; an expression and a listing exclude each other."""
+    scene.put({"bad.txt": "1\n6 0 0\n", "ip.txt": IP})
+    scene.refuse("check -d 'tcp and 80'", 1, "NoQualifier 8")
+    scene.refuse("check -d -f bad.txt", 1, "BadLine 2")
+    scene.refuse("check -f none.txt", 3, "Device none.txt")
+    for words in "check -d", "check -f ip.txt ip", "check -s 262145 ip":
+        seen = scene.run(words)
+        scene.check(f"usage behind {words}", b"Usage: bpftap check" in seen.err, True)
+        scene.check(f"printed of {words}, and its status", (seen.out, seen.status), (b"", 1))
