@@ -1,6 +1,9 @@
 //! An expression's program.
 
-ghost use Rattle.std.specs.Prelude.{◌≡◌, IfOk, IfErr};
+ghost use Rattle.std.specs.Prelude.{◌≡◌, ◌<◌, ◌≤◌, length, IfOk, IfErr, IsErr, IsOkUnless};
+ghost use Rattle.filterlang.specs.Texts.{ReadsAs};
+ghost use Rattle.filterlang.specs.Trees.{Tree};
+ghost use Rattle.filtergen.specs.Compiling.{need, Fits, IsBadSnap};
 ghost use Rattle.filtergen.specs.Expressions.{IsProgramOf, IsUncompiled};
 
 use crate::compiler::compile;
@@ -22,9 +25,17 @@ pub enum ExpressionFault {
 }
 
 /// The program of an expression: it answers the snapshot length where the expression accepts a packet, and else 0.
+///
+/// The text is read first, and refused as [`parse`] refuses it, for want of memory too. Its tree is refused as [`compile`]
+/// refuses it, and only where it reads: the first that stands of `BadSnap`, `TooDeep` and `TooLong`.
 pub fn compile_text(alloc: Global, text: &str, snap: u32) -> Result<Program, ExpressionFault>
     ensures program { IfOk result (λ program. IsProgramOf text.now snap program) }
+    // Why there is none, and when there is one: a snapshot length out of range gives none, nor does a tree that is too deep.
     ensures fault { IfErr result (IsUncompiled text.now snap) }
+    ensures bad_snap { IsBadSnap snap → IsErr result }
+    ensures too_deep { (tree : Tree) → ReadsAs text.now tree → 16 < need tree → IsErr result }
+    ensures fits { (tree : Tree) → length text.now ≤ 8192 → ReadsAs text.now tree → Fits tree snap →
+        IsOkUnless result (ExpressionFault.Text Fault.NoMemory) }
 {
     match parse(alloc, text) {
         Ok(expr) => match compile(&expr, snap) {

@@ -90,7 +90,7 @@ module _ {W : Type 0} (taken : W → Option (List ℕ)) (failures : W → ℕ) (
         text = s.0;
         took = s.1;
         all_sent = s.2;
-        clean = λ e. ((ends e).1, back.2 ∙ all.0, ap (encoded task.order task.unit task.snap) as-they-are);
+        clean = λ e. ((ends e).1, back.2 ∙ all.0, ap (encoded task.order task.unit task.snap) as-they-are, ap failures back.0 ∙ all.2);
         broke = λ n e. let bad = sym is ∙ (breaks n e).0 in absurd cc;
         unfinished = λ _. (_, inl (back.2 ∙ all.0 ∙ sym (length-map (kept_for task feeds takes) as_written), refl));
       }

@@ -47,8 +47,9 @@ WroteSoFar order unit snap packets n text =
     ((n ≡ length packets) × (text ≡ encoded order unit snap packets)) ⊎ BreaksBehind order unit snap packets n text
 
 -- The two lists make a legal history, and the counts are its counts. The sink took exactly `sent` bytes, in which `written`
--- packets are whole: where the end is Clean, the text of all that was kept; after Write a beginning of it, and the sink failed or
--- the next packet's record would make the text too long; after Unfinished the text of some packets, or a beginning of it.
+-- packets are whole: where the end is Clean, the text of all that was kept, and the sink never failed; after Write a beginning of
+-- it, and the sink failed or the next packet's record would make the text too long; after Unfinished the text of some packets, or
+-- a beginning of it.
 pub record IsReported {W : Type 0} (taken : W → Option (List ℕ)) (failures : W → ℕ) (task : Task W) (feeds : List Feed) (takes : List Take)
     (r : ListenerReport W) : Type 0 where
   pub history : LegalHistory (terms_of (profile_of task.capacity task.mode)) feeds takes (merge feeds takes)
@@ -60,6 +61,7 @@ pub record IsReported {W : Type 0} (taken : W → Option (List ℕ)) (failures :
   pub took : Appends (taken task.sink) (taken r.sink) text
   pub all_sent : r.sent ≡ length text
   pub clean : r.end ≡ Clean → (finds feeds ≡ false) × (r.written ≡ length (kept_for task feeds takes)) × (text ≡ text_for task feeds takes)
+      × (failures r.sink ≡ failures task.sink)
   pub broke : (n : ℕ) → r.end ≡ Write n → (n ≡ r.sent)
       × BreaksBehind task.order task.unit task.snap (map packet_of (kept_for task feeds takes)) r.written text
       × ((failures r.sink ≢ failures task.sink) ⊎ IsFull r.sent (drop r.written (kept_for task feeds takes)))

@@ -1,6 +1,6 @@
 //! What is left once the threads of a task have ended.
 
-ghost use Rattle.std.specs.Prelude.{◌≡◌, List, ◌++◌, length, true, false, All};
+ghost use Rattle.std.specs.Prelude.{◌≡◌, ◌↔◌, ◌⊎◌, List, ◌++◌, length, true, false, All};
 ghost use Rattle.handover.specs.Asks.{asks};
 ghost use Rattle.handover.specs.Rule.{profile_of};
 ghost use Rattle.listener.specs.LookingBack.{all_accepted};
@@ -35,10 +35,12 @@ fn write_left<W: Sink>(written: &mut Written<W>, full: &mut Consumer<Buffer>, le
     }
 }
 
-/// How a task ended, by why its reading stopped and whether its savefile works, of which so many bytes were sent.
+/// How a task ended, by why its reading stopped and whether its savefile works, of which so many bytes were sent. A
+/// buffer of another capacity comes before a fault of the savefile, and that before an end that was not handed over.
 fn end_of(stop: Stop, works: bool, sent: u64) -> TaskEnd
     ensures clean { result ≡ TaskEnd.Clean → (stop ≡ Stop.Ended) × (works ≡ true) }
     ensures broke { (n : _) → result ≡ TaskEnd.Write n → (works ≡ false) × (n ≡ sent) }
+    ensures unfinished { (result ≡ TaskEnd.Unfinished) ↔ ((stop ≡ Stop.Foreign) ⊎ ((stop ≡ Stop.Abandoned) × (works ≡ true))) }
 {
     match stop {
         Stop::Foreign => TaskEnd::Unfinished,

@@ -97,7 +97,7 @@ impl<R: Source> Reader<R> {
         }
     }
 
-    /// The header of the savefile.
+    /// The header of the savefile. No call changes it.
     pub fn header(&self) -> Header
         ensures { result ≡ header_told self.now }
     {
@@ -131,6 +131,7 @@ impl<R: Source> Reader<R> {
         ensures count_full { (result ≡ Err Fault.CountFull) ↔ (GoesOn self.old × (count_given self.old ≡ 2 ^ 64 - 1)) }
         ensures ended { HasEnded self.old → (result ≡ Ok false) × (self.new ≡ self.old) }
         ensures leaves { Leaves self.old self.new result }
+        ensures header { header_told self.new ≡ header_told self.old }
 
         // The next bytes of the source are taken, and none where the next record was taken whole already.
         ensures taken { (bytes : List ℕ) × Consumes (R.left (source_of self.old)) (R.left (source_of self.new)) bytes }
@@ -197,6 +198,7 @@ impl<R: Source> Reader<R> {
         ensures count_full { (result ≡ Err Fault.CountFull) ↔ (GoesOn self.old × (count_given self.old ≡ 2 ^ 64 - 1)) }
         ensures ended { HasEnded self.old → (result ≡ Ok None) × (self.new ≡ self.old) }
         ensures leaves { LeavesNext self.old self.new result }
+        ensures header { header_told self.new ≡ header_told self.old }
 
         // The next bytes of the source are taken, and none where the next record was taken whole already.
         ensures taken { (bytes : List ℕ) × Consumes (R.left (source_of self.old)) (R.left (source_of self.new)) bytes }
