@@ -12,3 +12,4 @@ pub mod Verdicts
 pub mod Computing
 pub mod Bounds
 pub mod Knowing
+pub mod Reached

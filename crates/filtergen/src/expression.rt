@@ -1,6 +1,7 @@
 //! An expression's program.
 
 ghost use Rattle.std.specs.Prelude.{◌≡◌, IfOk, IfErr};
+ghost use Rattle.filtergen.specs.Reaching.{IsAllReached};
 ghost use Rattle.filtergen.specs.Expressions.{IsProgramOf, IsUncompiled};
 
 use crate::compiler::compile;
@@ -21,9 +22,11 @@ pub enum ExpressionFault {
     Tree(Refusal),
 }
 
-/// The program of an expression: it answers the snapshot length where the expression accepts a packet, and else 0.
+/// The program of an expression: it answers the snapshot length where the expression accepts a packet, and else 0. Some
+/// path of jumps leads from its first instruction to each of the others.
 pub fn compile_text(alloc: Global, text: &str, snap: u32) -> Result<Program, ExpressionFault>
     ensures program { IfOk result (λ program. IsProgramOf text.now snap program) }
+    ensures reached { IfOk result IsAllReached }
     ensures fault { IfErr result (IsUncompiled text.now snap) }
 {
     match parse(alloc, text) {
