@@ -15,3 +15,11 @@ value_bound (accessor layer v size) = omega (arith, value_bound v)
 -- a relation takes no more instructions than it weighs, with those that renew its exits
 pub relation_bound : (v w : Amount) → 2 + relation_cost v w ≤ 10 + (value_weight v + value_weight w)
 relation_bound v w = omega (arith, value_bound v, value_bound w)
+
+-- each value takes an instruction
+pub value_positive : (v : Amount) → 1 ≤ value_cost v
+value_positive (number n) = omega arith
+value_positive wire_length = omega arith
+value_positive (minus v) = omega arith
+value_positive (binary o v w) = omega arith
+value_positive (accessor layer v size) = omega arith

@@ -1,5 +1,5 @@
 -- Code that computes values.
-use Rattle.std.proofs.Common.{◌≡◌, ◌≢◌, ℕ, ◌+◌, ◌*◌, ◌%◌, ◌^◌, ◌<◌, ◌≤◌, Bool, true, false, List, ◌∷◌, length, Option, Some, None, refl, ap, ◌∙◌, subst, arith, bit_and, option_map, option_and_then, get_or-set_same, get_or-set_other, length-set, if◌then◌else◌, not, nat_lt, nat_le, ◌==◌, ◌⊎◌, inl, inr}
+use Rattle.std.proofs.Common.{◌≡◌, ◌≢◌, ℕ, ◌+◌, ◌*◌, ◌%◌, ◌^◌, ◌<◌, ◌≤◌, Bool, true, false, List, ◌∷◌, length, Option, Some, None, refl, sym, ap, ◌∙◌, subst, arith, bit_and, option_map, option_and_then, get_or-set_same, get_or-set_other, length-set, if◌then◌else◌, not, nat_lt, nat_le, ◌==◌, ◌⊎◌, inl, inr}
 use Rattle.std.specs.Prelude.{slice_index, slice_set}
 use Rattle.std.proofs.lemmas.Nat.{and_le_r}
 use Rattle.std.proofs.lemmas.Bool.{cases_lt}
@@ -7,6 +7,7 @@ use Rattle.std.proofs.lemmas.Bool.Decides.{nat_tests}
 use Rattle.bpfvm.specs.declared.insn.Insn.{Insn}
 use Rattle.bpfvm.specs.Codes.{Register, Accumulator, Index, Subtract, operation_of}
 use Rattle.bpfvm.specs.Machine.{Registers, with_value, with_cell, Goes, loaded, effect, number_at, calculated}
+use Rattle.filterlang.specs.Trees.{Amount, number, wire_length, minus, binary, accessor}
 use Rattle.filterlang.specs.declared.token.Operator.{Operator}
 use Rattle.filterlang.specs.declared.token.Operator.TheVariants as operators
 use Rattle.filterlang.specs.declared.tree.Layer.{Layer}
@@ -20,9 +21,10 @@ use Rattle.filtergen.specs.declared.values.Base.TheVariants as bases
 use Rattle.filtergen.specs.declared.values.Leaf.{Leaf}
 use Rattle.filtergen.specs.declared.values.Leaf.TheVariants as leaves
 use Rattle.filtergen.specs.Meaning.{Packet, byte, decided, arithmetic_of, bytes_of, accessed, value, check_both}
-use Rattle.filtergen.specs.Parts.{amount_of_leaf, leaf_value, base_of, read_from}
+use Rattle.filtergen.specs.Parts.{constant_of, IsLeaf, leaf_value, base_of, read_from, value_cost}
 use Rattle.filtergen.specs.Insns.{plain_insn, calculation_insn, absolute_code, indirect_code}
 use Rattle.filtergen.specs.Emission.{AreExits, HasCells, run_from, Answers, outcome, Chooses, Decides, value_of, front, Loads, Keeps, Computed, Computes, Applies, Paired, Pairs}
+use Rattle.filtergen.proofs.Bounds.{value_positive}
 use Rattle.filtergen.proofs.Runs.{after, answer-first, front-place, extends-one, extends-both, extends-more, header-effect}
 
 tax-effect : (p : Packet) (r : Registers) → effect p.captured p.wire (plain_insn 0x07 0) r ≡ loaded Index r (Some r.accumulator)
@@ -205,10 +207,32 @@ computes-behind s i cell old near = record {
         (computed-same _ _ cell p r1 old _ (ap (λ o. number_at p.captured o (bytes_of s)) at)
         (loaded-computed (number_at p.captured (h + (14 + i)) (bytes_of s)) cell p r1 (plain_insn (indirect_code s) (14 + i)) old cells (indirect-effect s (14 + i) p r1)))
 
+-- a constant has its value on every packet
+pub constant-value : (v : Amount) (n : ℕ) (p : Packet) → constant_of v ≡ Some n → value v p ≡ Some n
+constant-value (number m) n p is = is
+constant-value wire_length n p is = absurd cc
+constant-value (minus v) n p is = by_operand (constant_of v) (λ m. constant-value v m p) is
+  where
+    by_operand : (x : Option ℕ) → ((m : ℕ) → x ≡ Some m → value v p ≡ Some m) → option_and_then (calculated Subtract 0) x ≡ Some n → option_and_then (calculated Subtract 0) (value v p) ≡ Some n
+    by_operand None known is = absurd cc
+    by_operand (Some m) known is = ap (option_and_then (calculated Subtract 0)) (known m refl) ∙ is
+constant-value (binary o v w) n p is = by_operands (constant_of v) (constant_of w) (λ m. constant-value v m p) (λ m. constant-value w m p) is
+  where
+    by_operands : (x y : Option ℕ) → ((m : ℕ) → x ≡ Some m → value v p ≡ Some m) → ((m : ℕ) → y ≡ Some m → value w p ≡ Some m)
+        → option_and_then (λ b. option_and_then (λ a. calculated (arithmetic_of o) a b) x) y ≡ Some n
+        → option_and_then (λ a. option_and_then (λ b. calculated (arithmetic_of o) a b) (value w p)) (value v p) ≡ Some n
+    by_operands x None left right is = absurd cc
+    by_operands None (Some b) left right is = absurd cc
+    by_operands (Some a) (Some b) left right is =
+        ap (option_and_then (λ c. option_and_then (λ d. calculated (arithmetic_of o) c d) (value w p))) (left a refl)
+        ∙ ap (option_and_then (λ d. calculated (arithmetic_of o) a d)) (right b refl)
+        ∙ is
+constant-value (accessor layer v size) n p is = absurd cc
+
 -- the value of a leaf is there
-pub leaf-valued : (l : Leaf) → value (amount_of_leaf l) ≡ (λ p. Some (leaf_value l p))
-leaf-valued (leaves.Number n) = refl
-leaf-valued leaves.Length = refl
+pub leaf-valued : (l : Leaf) (v : Amount) → IsLeaf l v → (p : Packet) → value v p ≡ Some (leaf_value l p)
+leaf-valued (leaves.Number n) v is p = constant-value v n p is
+leaf-valued leaves.Length v is p = ap (λ x. value x p) is
 
 -- the index of an accessor is counted from its layer's base
 pub read-accessed : (l : Layer) (size : ℕ) → read_from (base_of l) size ≡ accessed l size
@@ -225,6 +249,27 @@ applies-more n more first = record { extends = extends-more n more first.extends
 
 pub computes-more : {m : ℕ} (n : ℕ) {v : Packet → Option ℕ} {cell : ℕ} {old new : List Insn} → m ≤ n → Computes m v cell old new → Computes n v cell old new
 computes-more n more first = record { extends = extends-more n more first.extends; computes = first.computes }
+
+-- the same values in other words
+pub computes-same : {m cell : ℕ} (v w : Packet → Option ℕ) {old new : List Insn} → ((p : Packet) → v p ≡ w p) → Computes m v cell old new → Computes m w cell old new
+computes-same {m} {cell} v w {old} {new} same first = record {
+  extends = first.extends;
+  computes = λ p r cells. computed-same (v p) (w p) cell p r old new (same p) (first.computes p r cells);
+}
+
+-- a constant is loaded as a whole
+pub computes-constant : {old new : List Insn} (v : Amount) (n cell : ℕ) → constant_of v ≡ Some n → Loads Accumulator (λ p. n) old new → Computes (value_cost v) (value v) cell old new
+computes-constant v n cell is loads =
+    computes-more (value_cost v) (value_positive v) (computes-same (λ p. Some n) (value v) (λ p. sym (constant-value v n p is)) (computes-loaded (λ p. n) cell loads))
+
+-- an operator with a constant behind it
+pub constant-behind : (o : Operator) (v w : Amount) (n : ℕ) (p : Packet) → constant_of w ≡ Some n
+    → option_and_then (λ a. calculated (arithmetic_of o) a n) (value v p) ≡ value (binary o v w) p
+constant-behind o v w n p is = sym (ap (λ x. option_and_then (λ a. option_and_then (λ b. calculated (arithmetic_of o) a b) x) (value v p)) (constant-value w n p is))
+
+-- an accessor with a constant as its index
+pub index-known : (l : Layer) (size : ℕ) (v : Amount) (n : ℕ) (p : Packet) → constant_of v ≡ Some n → accessed l size p n ≡ option_and_then (accessed l size p) (value v p)
+index-known l size v n p is = sym (ap (option_and_then (accessed l size p)) (constant-value v n p is))
 
 -- what stands in front goes on over what stands behind
 pub computes-applied : {m n cell : ℕ} {f : Packet → ℕ → Option ℕ} {v : Packet → Option ℕ} {old mid new : List Insn} → Applies m f old mid → Computes n v cell mid new
@@ -317,6 +362,14 @@ pairs-left {m} {cell} n {w} {base} {mid} {new} second first = record {
 
 pub pairs-more : {m : ℕ} (n : ℕ) {v w : Packet → Option ℕ} {cell : ℕ} {old new : List Insn} → m ≤ n → Pairs m v w cell old new → Pairs n v w cell old new
 pairs-more n more first = record { extends = extends-more n more first.extends; pairs = first.pairs }
+
+pub pairs-same : {m cell : ℕ} (v v' w w' : Packet → Option ℕ) {old new : List Insn} → ((p : Packet) → v p ≡ v' p) → ((p : Packet) → w p ≡ w' p) → Pairs m v w cell old new → Pairs m v' w' cell old new
+pairs-same {m} {cell} v v' w w' {old} {new} left right first = record {
+  extends = first.extends;
+  pairs = λ p r cells.
+      subst (λ (x : Option ℕ). Paired x (w' p) cell p r old new) (left p)
+      (subst (λ (y : Option ℕ). Paired (v p) y cell p r old new) (right p) (first.pairs p r cells));
+}
 
 -- an operator over two values
 pub computes-paired : {m cell : ℕ} (o : Operator) {v w : Packet → Option ℕ} {old new : List Insn} → Pairs m v w cell (calculation_insn o operands.Index ∷ old) new

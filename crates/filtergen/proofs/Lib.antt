@@ -13,3 +13,4 @@ pub mod Computing
 pub mod Bounds
 pub mod Knowing
 pub mod Snaps
+pub mod Reached

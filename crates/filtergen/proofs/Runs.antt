@@ -88,7 +88,7 @@ four-true true true false d is = absurd cc
 four-true true false c d is = absurd cc
 four-true false b c d is = absurd cc
 
-equal-true : (m n : ℕ) → (m == n) ≡ true → m ≡ n
+pub equal-true : (m n : ℕ) → (m == n) ≡ true → m ≡ n
 equal-true m n is = grind (arith, nat_tests)
 
 -- instructions whose fields are the same are the same

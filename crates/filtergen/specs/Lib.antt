@@ -5,4 +5,6 @@ pub mod Emission
 pub mod Ways
 pub mod Parts
 pub mod Knowing
+pub mod Reaching
+pub mod Trimming
 pub mod Expressions

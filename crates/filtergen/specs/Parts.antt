@@ -1,5 +1,7 @@
 -- The parts of the code of primitives and relations, and how many instructions it has at most. Private clauses alone say this.
-use Rattle.std.specs.Prelude.{ℕ, ◌==◌, ◌+◌, ◌<◌, Option, Some, None, bit_and}
+use Rattle.std.specs.Prelude.{◌≡◌, ℕ, ◌==◌, ◌+◌, ◌<◌, Option, Some, None, bit_and, option_and_then}
+use Rattle.bpfvm.specs.Codes.{Subtract}
+use Rattle.bpfvm.specs.Machine.{calculated}
 use Rattle.filterlang.specs.Trees.{Amount, number, wire_length, minus, binary, accessor}
 use Rattle.filterlang.specs.declared.token.Operator.{Operator}
 use Rattle.filterlang.specs.declared.token.Operator.TheVariants as operators
@@ -20,7 +22,7 @@ use Rattle.filtergen.specs.declared.values.Leaf.{Leaf}
 use Rattle.filtergen.specs.declared.values.Leaf.TheVariants as leaves
 use Rattle.filtergen.specs.declared.values.Base.{Base}
 use Rattle.filtergen.specs.declared.values.Base.TheVariants as bases
-use Rattle.filtergen.specs.Meaning.{Packet, in_frame, behind_ethernet, behind_header, Test, and_then, or_else, both, either, check, byte, half, is_type, has_address, is_address, within}
+use Rattle.filtergen.specs.Meaning.{Packet, arithmetic_of, in_frame, behind_ethernet, behind_header, Test, and_then, or_else, both, either, check, byte, half, is_type, has_address, is_address, within}
 
 -- the verdict of the source, that of the destination, or that of both
 abbrev pub directed : Direction → Verdict → Verdict → Verdict
@@ -85,12 +87,20 @@ cost IpMulticast = 8
 cost (Less n) = 4
 cost (Greater n) = 4
 
--- the value that a leaf is
-abbrev pub amount_of_leaf : Leaf → Amount
-amount_of_leaf (leaves.Number n) = number n
-amount_of_leaf leaves.Length = wire_length
+-- the number that a value is on every packet, where it has no accessor and no `len`, and divides by no 0
+abbrev pub constant_of : Amount → Option ℕ
+constant_of (number n) = Some n
+constant_of wire_length = None
+constant_of (minus v) = option_and_then (calculated Subtract 0) (constant_of v)
+constant_of (binary o v w) = option_and_then (λ b. option_and_then (λ a. calculated (arithmetic_of o) a b) (constant_of v)) (constant_of w)
+constant_of (accessor layer v size) = None
 
--- what it is of a packet
+-- the value is this leaf
+abbrev pub IsLeaf : Leaf → Amount → Type 0
+IsLeaf (leaves.Number n) v = constant_of v ≡ Some n
+IsLeaf leaves.Length v = v ≡ wire_length
+
+-- what a leaf is of a packet
 abbrev pub leaf_value : Leaf → Packet → ℕ
 leaf_value (leaves.Number n) p = n
 leaf_value leaves.Length p = p.wire

@@ -1,14 +1,16 @@
 //! Code that is written from its end, so that what a jump leads to is there before the jump.
 
-ghost use Rattle.std.specs.Prelude.{◌≡◌, ℕ, ◌+◌, ◌-◌, ◌<◌, ◌≤◌, [], ◌∷◌, length, None, reverse, bit_and, MatchResult};
+ghost use Rattle.std.specs.Prelude.{◌≡◌, ℕ, ◌+◌, ◌-◌, ◌<◌, ◌≤◌, List, [], ◌∷◌, length, None, reverse, bit_and, MatchResult};
 ghost use Rattle.bpfvm.specs.declared.insn.Insn.{Insn};
 ghost use Rattle.bpfvm.specs.Validity.{fault_of, IsValidProgram};
-ghost use Rattle.bpfvm.specs.Machine.{holds};
+ghost use Rattle.bpfvm.specs.Machine.{holds, verdict};
 ghost use Rattle.filtergen.specs.Meaning.{check, within};
+ghost use Rattle.filtergen.specs.Reaching.{IsAllReached};
 ghost use Rattle.filtergen.specs.Insns.{plain_insn};
 ghost use Rattle.filtergen.specs.Emission.{IsPlace, AreExits, comparison_of, condition, field_of, Passes, Nears, Chooses, Decides};
 
 use crate::insns::{Field, Jump, Operand, branch_insn, load_insn, plain_insn};
+use crate::trimming::without_unreached;
 use arrayvec::ArrayVec;
 use bpfvm::{Insn, MAX_INSNS, Program, code};
 use std::marker::Model;
@@ -213,12 +215,14 @@ impl Code {
         self.len()
     }
 
-    /// The program that this code is.
+    /// The program that this code is, without the instructions that nothing reaches.
     pub fn into_program(mut self) -> Program
-        ensures { result ≡ self }
+        ensures same { (packet : List ℕ) (wire : ℕ) → verdict result packet wire ≡ verdict self packet wire }
+        ensures reached { IsAllReached result }
     {
         self.insns.reverse();
-        match Program::new(self.insns.as_slice()) {
+        let reached = without_unreached(self.insns.as_slice());
+        match Program::new(reached.as_slice()) {
             Ok(program) => program,
             Err(_) => unreachable!(),
         }

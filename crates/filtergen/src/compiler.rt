@@ -6,6 +6,7 @@ ghost use Rattle.filtergen.specs.Knowing.{rest_of_tree};
 ghost use Rattle.filtergen.specs.Meaning.{primitive_test};
 ghost use Rattle.filtergen.specs.Parts.{cost};
 ghost use Rattle.filtergen.specs.Compiling.{weight, need, StandsFor, IsBadSnap};
+ghost use Rattle.filtergen.specs.Reaching.{IsAllReached};
 ghost use Rattle.filtergen.specs.Emission.{OrFull};
 ghost use Rattle.filtergen.specs.Ways.{AreWays, DecidesBy, RenewsBoth};
 
@@ -97,7 +98,7 @@ impl Code {
 fn program_of(expr: &Expr, snap: u32) -> Result<Program, Full>
     requires { need (tree_of expr.now) ≤ 16 }
     ensures { MatchResult result
-        (λ program. StandsFor program (tree_of expr.now) snap) (λ _. 500 < weight (tree_of expr.now)) }
+        (λ program. StandsFor program (tree_of expr.now) snap × IsAllReached program) (λ _. 500 < weight (tree_of expr.now)) }
 {
     let mut code = Code::new(snap);
     let (yes, no) = (Way::to(2), Way::to(1));
@@ -111,13 +112,14 @@ fn program_of(expr: &Expr, snap: u32) -> Result<Program, Full>
 ///
 /// What an expression means is told in docs/LANGUAGE.md, after pcap-filter(7). A packet is what was captured of it and
 /// its length on the wire, in bytes; where a test wants a byte past the captured ones, or divides by 0, the packet is
-/// rejected, also under a `not`.
+/// rejected, also under a `not`. Some path of jumps leads from the program's first instruction to each of the others.
 ///
 /// `BadSnap` comes exactly where `snap` is not from 1 to [`MAX_SNAP`] bytes; else `TooDeep` exactly where the
 /// expression needs more than 16 cells of the scratch memory (see [`need`](crate::need)). `TooLong` comes only where its
 /// weight exceeds 500 (see [`weight`](crate::weight)). `NoMemory` does not come: it takes none.
 pub fn compile(expr: &Expr, snap: u32) -> Result<Program, Refusal>
     ensures program { IfOk result (λ program. StandsFor program (tree_of expr.now) snap) }
+    ensures reached { IfOk result IsAllReached }
     ensures bad_snap { (result ≡ Err Refusal.BadSnap) ↔ IsBadSnap snap }
     ensures too_deep { (result ≡ Err Refusal.TooDeep) ↔ ((0 < snap) × (snap ≤ 262144) × (16 < need (tree_of expr.now))) }
     ensures too_long { result ≡ Err Refusal.TooLong → 500 < weight (tree_of expr.now) }

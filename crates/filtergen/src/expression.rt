@@ -4,6 +4,7 @@ ghost use Rattle.std.specs.Prelude.{◌≡◌, ◌<◌, ◌≤◌, length, IfOk,
 ghost use Rattle.filterlang.specs.Texts.{ReadsAs};
 ghost use Rattle.filterlang.specs.Trees.{Tree};
 ghost use Rattle.filtergen.specs.Compiling.{need, Fits, IsBadSnap};
+ghost use Rattle.filtergen.specs.Reaching.{IsAllReached};
 ghost use Rattle.filtergen.specs.Expressions.{IsProgramOf, IsUncompiled};
 
 use crate::compiler::compile;
@@ -24,12 +25,14 @@ pub enum ExpressionFault {
     Tree(Refusal),
 }
 
-/// The program of an expression: it answers the snapshot length where the expression accepts a packet, and else 0.
+/// The program of an expression: it answers the snapshot length where the expression accepts a packet, and else 0. Some
+/// path of jumps leads from its first instruction to each of the others.
 ///
 /// The text is read first, and refused as [`parse`] refuses it, for want of memory too. Its tree is refused as [`compile`]
 /// refuses it, and only where it reads: the first that stands of `BadSnap`, `TooDeep` and `TooLong`.
 pub fn compile_text(alloc: Global, text: &str, snap: u32) -> Result<Program, ExpressionFault>
     ensures program { IfOk result (λ program. IsProgramOf text.now snap program) }
+    ensures reached { IfOk result IsAllReached }
     // Why there is none, and when there is one: a snapshot length out of range gives none, nor does a tree that is too deep.
     ensures fault { IfErr result (IsUncompiled text.now snap) }
     ensures bad_snap { IsBadSnap snap → IsErr result }

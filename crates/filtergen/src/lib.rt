@@ -6,6 +6,7 @@
 //! [`compile_text`] reads the text too, and takes memory for its tree.
 #![tactic(auto)]
 
+mod arithmetic;
 mod code;
 mod compiler;
 mod evaluator;
@@ -15,6 +16,7 @@ mod known;
 mod primitives;
 mod refusal;
 mod relations;
+mod trimming;
 mod values;
 mod verdict;
 mod ways;

@@ -8,11 +8,11 @@ ghost use Rattle.filtergen.specs.Knowing.{rest_of_type, rest_of_number, rest_of_
 ghost use Rattle.filtergen.specs.Parts.{layers_cost, compare_cost, relation_cost};
 ghost use Rattle.filtergen.specs.Emission.{AreExits, value_of, Chooses, Decides, OrFull};
 
+use crate::arithmetic::constant;
 use crate::code::{Code, Exits, Full};
 use crate::insns::{Jump, Operand};
 use crate::known::Known;
 use crate::primitives::IP;
-use crate::values::literal;
 use filterlang::{Comparison, Value};
 
 impl Code {
@@ -139,7 +139,7 @@ impl Code {
             self.old self.new) }
     {
         self.room(3)?;
-        if let Some(n) = literal(right) {
+        if let Some(n) = constant(right) {
             self.compare_with(comparison, Operand::Constant(n), exits);
             self.value(left, 0)?;
             return Ok(self.len());

@@ -3,13 +3,14 @@
 ghost use Rattle.std.specs.Prelude.{◌≡◌, ℕ, ◌+◌, ◌<◌, ◌≤◌, ◌^◌, ◌∷◌, length, max, None, Some, IfSome};
 ghost use Rattle.std.specs.Bool.{OnTrue};
 ghost use Rattle.bpfvm.specs.Codes.{Accumulator, Index};
-ghost use Rattle.filterlang.specs.Trees.{amount_of, number};
+ghost use Rattle.filterlang.specs.Trees.{amount_of};
 ghost use Rattle.filtergen.specs.Meaning.{bytes_of, value};
 ghost use Rattle.filtergen.specs.Compiling.{value_need};
 ghost use Rattle.filtergen.specs.Insns.{plain_insn, calculation_insn, indirect_code};
-ghost use Rattle.filtergen.specs.Parts.{amount_of_leaf, leaf_value, MayStandBehind, MayBeOperand, base_of, read_from, farthest, value_cost, pair_cost};
+ghost use Rattle.filtergen.specs.Parts.{constant_of, IsLeaf, leaf_value, MayStandBehind, MayBeOperand, base_of, read_from, farthest, value_cost, pair_cost};
 ghost use Rattle.filtergen.specs.Emission.{Loads, Applies, Computes, Pairs, OrFull};
 
+use crate::arithmetic::constant;
 use crate::code::{Code, Full};
 use crate::insns::{Operand, absolute_code, calculation_code, constant_of, indirect_code};
 use bpfvm::code;
@@ -55,24 +56,16 @@ fn farthest(base: Base) -> u32
     }
 }
 
-/// The number that a value is as it is written.
-pub(crate) fn literal(value: &Value) -> Option<u32>
-    ensures { IfSome result (λ n. amount_of value.now ≡ number n) }
-{
-    match value {
-        Value::Number(n) => Some(*n),
-        _ => None,
-    }
-}
-
 /// The leaf that a value is.
-fn leaf_of(value: &Value) -> Option<Leaf>
-    ensures { IfSome result (λ leaf. amount_of value.now ≡ amount_of_leaf leaf) }
+fn leaf_of(amount: &Value) -> Option<Leaf>
+    ensures { IfSome result (λ leaf. IsLeaf leaf (amount_of amount.now)) }
 {
-    match value {
-        Value::Number(n) => Some(Leaf::Number(*n)),
+    match amount {
         Value::Length => Some(Leaf::Length),
-        _ => None,
+        _ => match constant(amount) {
+            Some(n) => Some(Leaf::Number(n)),
+            None => None,
+        },
     }
 }
 
@@ -88,19 +81,19 @@ fn may_stand_behind(operator: Operator, n: u32) -> bool
 
 /// The number of a right operand that can be the constant of its operator's instruction.
 fn constant_behind(operator: Operator, right: &Value) -> Option<u32>
-    ensures { IfSome result (λ n. (amount_of right.now ≡ number n) × MayStandBehind operator n) }
+    ensures { IfSome result (λ n. (constant_of (amount_of right.now) ≡ Some n) × MayStandBehind operator n) }
 {
-    match literal(right) {
+    match constant(right) {
         Some(n) if may_stand_behind(operator, n) => Some(n),
         _ => None,
     }
 }
 
-/// The index of an accessor, where it is a number so low that no sum of the address can wrap.
-fn near_literal(base: Base, index: &Value) -> Option<u32>
-    ensures { IfSome result (λ n. (amount_of index.now ≡ number n) × (farthest base + n < 2 ^ 32)) }
+/// The index of an accessor, where it is a constant so low that no sum of the address can wrap.
+fn near_constant(base: Base, index: &Value) -> Option<u32>
+    ensures { IfSome result (λ n. (constant_of (amount_of index.now) ≡ Some n) × (farthest base + n < 2 ^ 32)) }
 {
-    let n = literal(index)?;
+    let n = constant(index)?;
     farthest(base).checked_add(n)?;
     Some(n)
 }
@@ -185,9 +178,25 @@ impl Code {
     }
 
     /// Computes a value, and leaves the cells below one alone.
-    #[tactic(auto, unfolding(bpfvm::specs::Validity::fault_of, bpfvm::specs::Codes::operation_of))]
+    #[tactic(auto, using(crate::proofs::Bounds::value_positive))]
     #[cycle(value)]
     pub fn value(&mut self, amount: &Value, cell: u32) -> Result<(), Full>
+        requires { cell + value_need (amount_of amount.now) ≤ 16 }
+        ensures { OrFull (value_cost (amount_of amount.now)) self.old result
+            (λ _. Computes (value_cost (amount_of amount.now)) (value (amount_of amount.now)) cell self.old self.new) }
+    {
+        if let Some(n) = constant(amount) {
+            self.room(1)?;
+            self.load_leaf(Leaf::Number(n));
+            return Ok(());
+        }
+        self.variable(amount, cell)
+    }
+
+    /// Computes a value that is no constant as a whole, or divides by 0.
+    #[tactic(auto, unfolding(bpfvm::specs::Validity::fault_of, bpfvm::specs::Codes::operation_of))]
+    #[cycle(value)]
+    fn variable(&mut self, amount: &Value, cell: u32) -> Result<(), Full>
         requires { cell + value_need (amount_of amount.now) ≤ 16 }
         ensures { OrFull (value_cost (amount_of amount.now)) self.old result
             (λ _. Computes (value_cost (amount_of amount.now)) (value (amount_of amount.now)) cell self.old self.new) }
@@ -206,13 +215,13 @@ impl Code {
             Value::Negation(operand) => {
                 self.room(1)?;
                 self.put(code::NEG, 0);
-                self.value(operand, cell)
+                self.variable(operand, cell)
             }
             Value::Binary(operator, left, right) => {
                 self.room(1)?;
                 if let Some(n) = constant_behind(*operator, right) {
                     self.calculate(*operator, Operand::Constant(n));
-                    return self.value(left, cell);
+                    return self.variable(left, cell);
                 }
                 self.calculate(*operator, Operand::Index);
                 self.pair(left, right, cell)
@@ -220,7 +229,7 @@ impl Code {
             Value::Accessor(layer, index, size) => {
                 self.room(4)?;
                 let base = base_of(*layer);
-                if let Some(n) = near_literal(base, index) {
+                if let Some(n) = near_constant(base, index) {
                     self.access_at(base, *size, n);
                     return Ok(());
                 }
@@ -247,13 +256,13 @@ impl Code {
         if let Some(leaf) = leaf_of(left) {
             self.load_leaf(leaf);
             self.put(code::TAX, 0);
-            return self.value(right, cell);
+            return self.variable(right, cell);
         }
         self.put(code::LD_MEM, cell);
         self.put(code::TAX, 0);
-        self.value(right, cell + 1)?;
+        self.variable(right, cell + 1)?;
         self.room(1)?;
         self.put(code::ST, cell);
-        self.value(left, cell)
+        self.variable(left, cell)
     }
 }

@@ -1,14 +1,20 @@
-use Rattle.std.proofs.Common.{arith}
-use Rattle.filtergen.specs.Meaning.{compared}
-use Rattle.filtergen.proofs.Computing.{decides-compared, decides-valued}
-use Rattle.filtergen.proofs.Deciding.{decides-more}
+use Rattle.std.proofs.Common.{Some, ap, sym, arith}
+use Rattle.filterlang.specs.Trees.{amount_of}
+use Rattle.filtergen.specs.Meaning.{compared, check_both, value}
+use Rattle.filtergen.proofs.Computing.{constant-value, decides-compared, decides-valued}
+use Rattle.filtergen.proofs.Deciding.{decides-more, decides-same}
 use Rattle.filtergen.proofs.code.Code.compare.Goals as goal
 
 pub returns-in-Some : goal.returns-in-Some
 returns-in-Some c =
-    rw c.in-Some.ensures
+    let f = compared c.args.comparison in
+    let left = amount_of c.args.left.now in
+    let right = amount_of c.args.right.now in
+    let n = c.in-Some.n in
+    decides-same (λ p. check_both f (value left p) (Some n)) (λ p. check_both f (value left p) (value right p))
+    (λ p bytes. ap (check_both f (value left p)) (sym (constant-value right n p (sym c.in-Some.ensures))))
     (decides-more _ (omega arith)
-    (decides-valued (compared c.args.comparison) c.in-Some.n c.len.result c.requires.exits c.len.ensures.value c.compare_with.ensures c.in_ok-value.ensures))
+    (decides-valued f n c.len.result c.requires.exits c.len.ensures.value c.compare_with.ensures c.in_ok-value.ensures))
 
 pub returns : goal.returns
 returns c = decides-compared (compared c.args.comparison) c.len-2.result c.requires.exits c.len-2.ensures.value c.compare_with-2.ensures c.in_ok-pair.ensures
