@@ -79,7 +79,8 @@ pub fn tell_device<E: Write>(path: &str, err: &mut E) -> u8
     tell_fault(format_args!("Device {}", Path(path)), DEVICE, err)
 }
 
-/// Tells that standard output failed, or that memory was refused, and answers the exit status.
+/// Tells that standard output failed, or that memory was refused, and answers the exit status. Where nobody reads what is
+/// printed any more, as behind `| head`, there is nobody to tell it to either.
 pub fn tell_written<E: Write>(written: io::Result<()>, err: &mut E) -> u8
     ensures clean { OnOk written (result ≡ 0) }
     ensures failed { OnErr written ((result ≡ REFUSED) ⊎ (result ≡ DEVICE)) }
@@ -91,6 +92,7 @@ pub fn tell_written<E: Write>(written: io::Result<()>, err: &mut E) -> u8
         Err(error) if error.kind() == ErrorKind::OutOfMemory => {
             tell_fault(Fault::NoMemory, REFUSED, err)
         }
+        Err(error) if error.kind() == ErrorKind::BrokenPipe => DEVICE,
         Err(_) => tell_device("standard output", err),
     }
 }

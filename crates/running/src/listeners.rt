@@ -1,11 +1,17 @@
 //! The file LISTENERS of `bpftap run`: the listeners that are wanted, and the captures that they write.
 
+ghost use Rattle.std.specs.Prelude.{◌≤◌, length, IfOk, ◌+◌};
+
 use lines::LineFault;
 use lines::fields::{capacity_and_mode, first_line, number, number_u32, snapshot_length};
 use listener::Mode;
+use replay::{MOST_INTERFACES, MOST_TASKS};
 use std::alloc::Global;
 use std::collections::BTreeSet;
 use std::str;
+
+/// The most lines that a replay takes: so many interfaces, each with so many listeners.
+pub const MOST_LINES: usize = MOST_INTERFACES * MOST_TASKS;
 
 /// What a line asks for.
 #[derive(Clone, Copy, Debug)]
@@ -56,26 +62,42 @@ fn line_of(line: &str, interfaces: usize) -> Option<RunLine<'_>> {
     })
 }
 
+/// What a line asks for, where it is text of its form.
+fn read_line(line: &[u8], interfaces: usize) -> Option<RunLine<'_>> {
+    match str::from_utf8(line) {
+        Ok(line) => line_of(line, interfaces),
+        Err(_) => None,
+    }
+}
+
 /// Reads the file LISTENERS, a listener on each line: `INTERFACE FLUSH SNAP CAPACITY SPARES OUT EXPRESSION`.
 ///
-/// [`LineFault::Listeners`] names the first line that has not this form, or whose OUT an earlier line has too.
+/// [`LineFault::Listeners`] names the first line that has not this form, or whose OUT one of the lines that are kept has.
+/// Of the lines beyond [`MOST_LINES`] one is kept, so that their number is seen to be too large, and of each further one
+/// nothing: it is looked at alone.
 pub fn read_run_lines(
     alloc: Global,
     text: &[u8],
     interfaces: usize,
-) -> Result<Vec<RunLine<'_>>, LineFault> {
+) -> Result<Vec<RunLine<'_>>, LineFault>
+    ensures few { IfOk result (λ lines. length lines.items ≤ MOST_LINES + 1) }
+{
     let mut lines = Vec::new(alloc);
     let mut outputs = BTreeSet::new(alloc);
+    let mut number = 0;
     let mut rest = text;
     while !rest.is_empty() {
         let (line, after) = first_line(rest);
-        let read = match str::from_utf8(line) {
-            Ok(line) => line_of(line, interfaces),
-            Err(_) => None,
+        number += 1;
+        let Some(read) = read_line(line, interfaces) else {
+            return Err(LineFault::Listeners(number));
         };
-        match read {
-            Some(read) if outputs.insert(read.output)? => lines.push(read)?,
-            _ => return Err(LineFault::Listeners(lines.len() + 1)),
+        if outputs.contains(read.output) {
+            return Err(LineFault::Listeners(number));
+        }
+        if lines.len() <= MOST_LINES {
+            outputs.insert(read.output)?;
+            lines.push(read)?;
         }
         rest = after;
     }
