@@ -109,3 +109,17 @@ impl<'a> Columns<'a> {
         }
     }
 }
+
+/// The most bytes that a step finds in a buffer, or would make it have.
+pub fn highest(mut columns: Columns<'_>, steps: &[Step]) -> u64 {
+    let mut most: u64 = 0;
+    for step in steps {
+        let column = columns.next(*step);
+        let store = match column.answer {
+            Some(Answer::Arrived(Fed::Passed | Fed::Closed)) => column.load,
+            _ => column.load.saturating_add(column.more),
+        };
+        most = most.max(store).max(column.held);
+    }
+    most
+}

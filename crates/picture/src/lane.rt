@@ -11,33 +11,35 @@ use tap::{Answer, Step};
 /// and the store with room above it for a record that exceeds the capacity.
 #[derive(Clone, Copy)]
 pub struct Scale {
-    pub capacity: u64,
-    pub mark: u64,
+    /// The bytes that are drawn of a buffer: its capacity, or less where little of it is ever filled.
+    pub drawn: u64,
+    mark: u64,
 }
 
 /// How far apart two steps are.
 const STEP: u64 = 10;
 
 impl Scale {
-    pub fn new(capacity: usize) -> Scale {
-        let capacity = (capacity as u64).clamp(1, 1 << 32);
+    /// Of buffers of this capacity that have at most `highest` bytes.
+    pub fn new(capacity: usize, highest: u64) -> Scale {
+        let drawn = highest.saturating_mul(4).min(capacity as u64).max(1);
         Scale {
-            capacity,
-            mark: capacity / 8 + 1,
+            drawn,
+            mark: drawn / 8 + 1,
         }
     }
 
     /// Where the bars of the hold stand.
     fn hold_floor(&self) -> u64 {
-        self.mark.saturating_mul(2).saturating_add(self.capacity)
+        self.mark.saturating_mul(2).saturating_add(self.drawn)
     }
 
     /// Where the bars of the store stand.
     fn store_floor(&self) -> u64 {
-        let room = self.capacity / 2;
+        let room = self.drawn / 2;
         self.hold_floor()
             .saturating_add(room)
-            .saturating_add(self.capacity)
+            .saturating_add(self.drawn)
     }
 }
 
@@ -109,7 +111,7 @@ fn write_record<O: Write>(
         _ => return Ok(()),
     };
     let floor = scale.store_floor().saturating_sub(column.load);
-    let room = scale.capacity.saturating_add(scale.capacity / 2);
+    let room = scale.drawn.saturating_add(scale.drawn / 2);
     let most = room.saturating_sub(column.load);
     write_bar(class, column, floor, column.more.min(most), out)
 }
@@ -138,10 +140,10 @@ fn write_room<O: Write>(
     scale: &Scale,
     out: &mut O,
 ) -> io::Result<()> {
-    let (y, capacity) = (floor.saturating_sub(scale.capacity), scale.capacity);
+    let (y, drawn) = (floor.saturating_sub(scale.drawn), scale.drawn);
     writeln!(
         out,
-        "<rect class=\"room\" x=\"0\" y=\"{y}\" width=\"{width}\" height=\"{capacity}\"/>"
+        "<rect class=\"room\" x=\"0\" y=\"{y}\" width=\"{width}\" height=\"{drawn}\"/>"
     )
 }
 

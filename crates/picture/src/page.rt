@@ -1,6 +1,6 @@
 //! The picture as a whole.
 
-use crate::columns::Columns;
+use crate::columns::{Columns, highest};
 use crate::frame::{BARS, HEAD, LANE, MARGIN, are_named, step_width};
 use crate::lane::{Scale, write_bars, write_names};
 use listener::Mode;
@@ -79,7 +79,7 @@ fn write_head<O: Write>(width: u64, listeners: usize, out: &mut O) -> io::Result
 }
 
 /// What a listener was asked for.
-fn write_asked<O: Write>(l: u32, spec: &Spec, out: &mut O) -> io::Result<()> {
+fn write_asked<O: Write>(l: u32, spec: &Spec, drawn: u64, out: &mut O) -> io::Result<()> {
     let mode = match spec.mode {
         Mode::Buffered => "",
         Mode::Immediate => ", immediate",
@@ -93,6 +93,9 @@ fn write_asked<O: Write>(l: u32, spec: &Spec, out: &mut O) -> io::Result<()> {
         Filter::Text(text) if text.is_empty() => write!(out, "all packets")?,
         Filter::Text(text) => write_escaped(text, out)?,
         Filter::Program(_) => write!(out, "a program")?,
+    }
+    if drawn < spec.capacity as u64 {
+        write!(out, " (drawn up to {drawn} bytes)")?;
     }
     writeln!(out, "</text>")?;
     let (hold, store) = (24 + BARS / 3, 24 + BARS - BARS / 4);
@@ -116,8 +119,9 @@ fn write_lane<O: Write>(
     let width = (steps.len() as u64).saturating_mul(pixels);
     let columns = || Columns::new(l, spec, trace, answers);
     writeln!(out, "<g transform=\"translate(0,{y})\">")?;
-    write_asked(l, spec, out)?;
-    write_bars(columns(), steps, &Scale::new(spec.capacity), width, out)?;
+    let scale = Scale::new(spec.capacity, highest(columns(), steps));
+    write_asked(l, spec, scale.drawn, out)?;
+    write_bars(columns(), steps, &scale, width, out)?;
     if are_named(steps.len()) {
         write_names(columns(), steps, pixels, out)?;
     }
@@ -128,7 +132,7 @@ fn write_lane<O: Write>(
 /// the hold, and a mark of what became of it. `trace` is what [`tap::trace`] answers for these listeners and steps.
 ///
 /// In a lane the height of a bar is a number of bytes (`viewBox`), so bars of listeners of different capacities are scaled
-/// apart. Each step has a `title` with its line of SCRIPT, its packet, and both loads. With at most 60 steps the place of each
+/// apart; where little of a buffer is ever filled, only its lower part is drawn. Each step has a `title` with its line of SCRIPT, its packet, and both loads. With at most 60 steps the place of each
 /// packet stands below it. An error is that of `out`.
 pub fn write_picture<O: Write>(
     specs: &[Spec],
