@@ -12,4 +12,5 @@ pub mod Verdicts
 pub mod Computing
 pub mod Bounds
 pub mod Knowing
+pub mod Narrowed
 pub mod Reached
