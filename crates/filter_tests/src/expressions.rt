@@ -11,7 +11,7 @@ use std::process::Abort;
 
 /// An expression, and what `check` prints of it.
 const PRINTED: [(&str, &str); 4] = [
-    ("", "2\n6 0 0 262144\n6 0 0 0\n"),
+    ("", "1\n6 0 0 262144\n"),
     ("ip", "4\n40 0 0 12\n21 0 1 2048\n6 0 0 262144\n6 0 0 0\n"),
     (
         "ip multicast",

@@ -13,6 +13,8 @@ mod examples;
 #[cfg(test)]
 mod expressions;
 #[cfg(test)]
+mod programs;
+#[cfg(test)]
 mod random_relations;
 #[cfg(test)]
 mod relations;

@@ -14,16 +14,16 @@ use Rattle.filtergen.specs.declared.known.Known.{Known}
 use Rattle.filtergen.specs.declared.known.Known.TheVariants as known
 use Rattle.filtergen.specs.declared.verdict.Verdict.{Verdict}
 use Rattle.filtergen.specs.declared.verdict.Verdict.TheVariants.{Yes, No, Abort}
-use Rattle.filtergen.specs.Meaning.{Packet, Test, and_then, or_else, opposite, check, check_both, compared, byte, half, is_type, is_protocol, is_first, value, in_layer, in_layers, relation_test, primitive_test, meaning}
-use Rattle.filtergen.specs.Knowing.{shows, has_type, has_number, has_first, implies, narrowed, unless_known, rest_of_type, rest_of_number, rest_of_first, rest_of, of_layer, behind_layers, rest_of_layers, rest_of_relation, of_primitive, behind, LOOK_BACK, rest_of_tree}
+use Rattle.filtergen.specs.Meaning.{Packet, Test, and_then, check, check_both, compared, byte, half, is_type, is_protocol, is_first, value, in_layer, in_layers, relation_test, primitive_test, meaning}
+use Rattle.filtergen.specs.Knowing.{shows, has_type, has_number, has_first, implies, narrowed, unless_known, rest_of_type, rest_of_number, rest_of_first, rest_of, of_layer, behind_layers, rest_of_layers, rest_of_relation, of_primitive, behind}
 
 -- where both are Yes, each is
-and-left : (v w : Verdict) → and_then v w ≡ Yes → v ≡ Yes
+pub and-left : (v w : Verdict) → and_then v w ≡ Yes → v ≡ Yes
 and-left Yes w is = refl
 and-left No w is = absurd cc
 and-left Abort w is = absurd cc
 
-and-right : (v w : Verdict) → and_then v w ≡ Yes → w ≡ Yes
+pub and-right : (v w : Verdict) → and_then v w ≡ Yes → w ≡ Yes
 and-right Yes w is = is
 and-right No w is = absurd cc
 and-right Abort w is = absurd cc
@@ -41,19 +41,19 @@ equal-true : (m n : ℕ) → (m == n) ≡ true → m ≡ n
 equal-true m n is = grind (arith, nat_tests)
 
 -- what is known holds
-type-from : (k : Known) (n : ℕ) (p : Packet) → shows k p ≡ Yes → has_type k n ≡ true → is_type n p ≡ Yes
+pub type-from : (k : Known) (n : ℕ) (p : Packet) → shows k p ≡ Yes → has_type k n ≡ true → is_type n p ≡ Yes
 type-from known.Nothing n p holds is = absurd cc
 type-from (known.Type m) n p holds is = subst (λ x. is_type x p ≡ Yes) (sym (equal-true n m is)) holds
 type-from (known.Number m) n p holds is = subst (λ x. is_type x p ≡ Yes) (sym (equal-true n 0x0800 is)) (and-left _ _ holds)
 type-from (known.First m) n p holds is = subst (λ x. is_type x p ≡ Yes) (sym (equal-true n 0x0800 is)) (and-left _ _ (and-left (is_protocol m p) _ holds))
 
-number-from : (k : Known) (n : ℕ) (p : Packet) → shows k p ≡ Yes → has_number k n ≡ true → is_protocol n p ≡ Yes
+pub number-from : (k : Known) (n : ℕ) (p : Packet) → shows k p ≡ Yes → has_number k n ≡ true → is_protocol n p ≡ Yes
 number-from known.Nothing n p holds is = absurd cc
 number-from (known.Type m) n p holds is = absurd cc
 number-from (known.Number m) n p holds is = subst (λ x. is_protocol x p ≡ Yes) (sym (equal-true n m is)) holds
 number-from (known.First m) n p holds is = subst (λ x. is_protocol x p ≡ Yes) (sym (equal-true n m is)) (and-left (is_protocol m p) _ holds)
 
-first-from : (k : Known) (n : ℕ) (p : Packet) → shows k p ≡ Yes → has_first k n ≡ true → is_first n p ≡ Yes
+pub first-from : (k : Known) (n : ℕ) (p : Packet) → shows k p ≡ Yes → has_first k n ≡ true → is_first n p ≡ Yes
 first-from known.Nothing n p holds is = absurd cc
 first-from (known.Type m) n p holds is = absurd cc
 first-from (known.Number m) n p holds is = absurd cc
@@ -127,7 +127,7 @@ relation-known k c v w p holds passed =
     let both = and-left (and_then (in_layers v p) (in_layers w p)) (check_both (compared c) (value v p) (value w p)) passed in
     layers-known (behind_layers k v) w p (layers-known k v p holds (and-left _ (in_layers w p) both)) (and-right (in_layers v p) _ both)
 
-rest-relation : (k : Known) (c : Comparison) (v w : Amount) (p : Packet) → shows k p ≡ Yes → rest_of_relation k c v w p ≡ relation_test c v w p
+pub rest-relation : (k : Known) (c : Comparison) (v w : Amount) (p : Packet) → shows k p ≡ Yes → rest_of_relation k c v w p ≡ relation_test c v w p
 rest-relation k c v w p holds =
     ap (λ x. and_then x (check_both (compared c) (value v p) (value w p)))
     (and-same _ (in_layers v p) _ (in_layers w p) (rest-layers k v p holds) (λ passed. rest-layers (behind_layers k v) w p (layers-known k v p holds passed)))
@@ -157,7 +157,7 @@ primitive-known (Less n) p passed = refl
 primitive-known (Greater n) p passed = refl
 
 -- an expression that is Yes
-tree-known : (levels : ℕ) (k : Known) (t : Tree) (p : Packet) → shows k p ≡ Yes → meaning t p ≡ Yes → shows (behind levels k t) p ≡ Yes
+pub tree-known : (levels : ℕ) (k : Known) (t : Tree) (p : Packet) → shows k p ≡ Yes → meaning t p ≡ Yes → shows (behind levels k t) p ≡ Yes
 tree-known levels k trees.everything p holds passed = holds
 tree-known levels k (trees.test primitive) p holds passed = narrowed-holds k (of_primitive primitive) p holds (primitive-known primitive p passed)
 tree-known levels k (trees.relation c v w) p holds passed = relation-known k c v w p holds passed
@@ -166,14 +166,3 @@ tree-known levels k (trees.both t u) p holds passed =
     let front = tree-known (levels - 1) k t p holds (and-left _ (meaning u p) passed) in
     one-holds (levels == 0) k _ p holds (tree-known (levels - 1) (behind (levels - 1) k t) u p front (and-right (meaning t p) _ passed))
 tree-known levels k (trees.either t u) p holds passed = holds
-
--- what is left of an expression is the whole, where what is known holds
-pub rest-tree : (k : Known) (t : Tree) (p : Packet) → shows k p ≡ Yes → rest_of_tree k t p ≡ meaning t p
-rest-tree k trees.everything p holds = refl
-rest-tree k (trees.test primitive) p holds = refl
-rest-tree k (trees.relation c v w) p holds = rest-relation k c v w p holds
-rest-tree k (trees.negation t) p holds = ap opposite (rest-tree k t p holds)
-rest-tree k (trees.both t u) p holds =
-    and-same _ (meaning t p) _ (meaning u p) (rest-tree k t p holds) (λ passed. rest-tree (behind LOOK_BACK k t) u p (tree-known LOOK_BACK k t p holds passed))
-rest-tree k (trees.either t u) p holds =
-    ap (λ x. or_else x (rest_of_tree k u p)) (rest-tree k t p holds) ∙ ap (or_else (meaning t p)) (rest-tree k u p holds)

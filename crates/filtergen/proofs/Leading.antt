@@ -16,7 +16,7 @@ use Rattle.filtergen.proofs.Runs.{extends-both, extends-more, answers-kept}
 use Rattle.filtergen.proofs.Deciding.{outcome-both, outcome-either, outcome-opposite, answers-same}
 
 -- what serves for any packet serves where something is known
-suits-any : {code : List Insn} {place n : ℕ} {p : Packet} (X : Type 0) → Answers code place p n → Suits code place p n X
+pub suits-any : {code : List Insn} {place n : ℕ} {p : Packet} (X : Type 0) → Answers code place p n → Suits code place p n X
 suits-any X before = record { found = _; answers = before; right = λ known. refl }
 
 suits-kept : {k : ℕ} (place n : ℕ) (p : Packet) (X : Type 0) {a b : List Insn} → Extends k a b → place ≤ length a → Suits a place p n X → Suits b place p n X
@@ -264,7 +264,7 @@ decides-guarded {k} {inner} {e} {u} ways {a} {b} {c} are second first =
 abbrev pub IsFor : Option Transport → ℕ → Way → Type 0
 IsFor transport place way = (place ≡ way.ip) ⊎ ((place ≡ way.first_fragment) × ((way.transport ≡ None) ⊎ (way.transport ≡ transport)))
 
-suits-first : {code : List Insn} {way : Way} {p : Packet} {n : ℕ} (place : ℕ) (transport : Option Transport) → IsFor transport place way
+pub suits-first : {code : List Insn} {way : Way} {p : Packet} {n : ℕ} (place : ℕ) (transport : Option Transport) → IsFor transport place way
     → Serves code way p n → Suits code place p n (is_first_fragment transport p ≡ Yes)
 suits-first {code} {way} {p} place transport (inl is) before =
     rw is (record { found = before.ip.found; answers = before.ip.answers; right = λ known. before.ip.right (first-ip transport p known) })

@@ -13,4 +13,5 @@ pub mod Computing
 pub mod Bounds
 pub mod Knowing
 pub mod Snaps
+pub mod Narrowed
 pub mod Reached

@@ -5,13 +5,13 @@ use Rattle.std.proofs.lemmas.Bool.{cases_lt, cases_eq}
 use Rattle.std.proofs.lemmas.Option.{slice_get_within, slice_get-get_or}
 use Rattle.std.proofs.lemmas.List.{get_or-set_same, get_or-set_other}
 use Rattle.std.specs.Prelude.{slice_index}
-use Rattle.std.proofs.lemmas.List.{append-nil, drop_all, get_or-take, length-append, length-drop, length-take, length-take-le, take_all}
+use Rattle.std.proofs.lemmas.List.{append-nil, drop_all, get_or-take, length-append, length-drop, length-take, take_all}
 use Rattle.std.proofs.Math.ListN.{set}
 use Rattle.std.proofs.Math.Seq.{drop-cons}
 use Rattle.std.specs.List.{slice_get, AllByRecursion}
 use Rattle.bpfvm.specs.declared.insn.Insn.{Insn}
 use Rattle.bpfvm.specs.declared.fault.Invalid.TheVariants.{JumpOut, Cell, ZeroDivisor}
-use Rattle.bpfvm.specs.Codes.{Register, Accumulator, Index, Operand, Constant, InIndex, Add, Subtract, Multiply, Divide, Or, And, ShiftLeft, ShiftRight, Modulo, ExclusiveOr, Operation, LoadAbsolute, LoadIndirect, LoadImmediate, LoadMemory, LoadLength, LoadHeaderLength, Store, Calculate, Negate, Jump, Branch, ReturnConstant, ReturnAccumulator, Transfer, codes, operation_in, operation_of}
+use Rattle.bpfvm.specs.Codes.{Register, Accumulator, Index, Constant, InIndex, Add, Subtract, Multiply, Divide, Or, And, ShiftLeft, ShiftRight, Modulo, ExclusiveOr, Operation, LoadAbsolute, LoadIndirect, LoadImmediate, LoadMemory, LoadLength, LoadHeaderLength, Store, Calculate, Negate, Jump, Branch, ReturnConstant, ReturnAccumulator, Transfer, codes, operation_in, operation_of}
 use Rattle.bpfvm.specs.Machine.{Registers, Effect, Goes, Ends, loaded, holds, operand, number_at, calculated, effect_if, effect, answer, initial, verdict}
 use Rattle.bpfvm.specs.Validity.{fault_in, fault_of, is_return_code, is_return, SoundBefore, IsValidProgram}
 use Rattle.filtergen.specs.declared.trimming.Onward.{Onward}

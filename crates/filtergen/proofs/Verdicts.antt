@@ -11,7 +11,8 @@ use Rattle.filterlang.specs.Trees.{Tree}
 use Rattle.filtergen.specs.Compiling.{StandsFor}
 use Rattle.filtergen.specs.declared.ways.Way.{Way}
 use Rattle.filtergen.specs.Emission.{run_from, Answers, outcome, Nears}
-use Rattle.filtergen.specs.Ways.{DecidesBy}
+use Rattle.filtergen.specs.declared.known.Known.TheVariants as known
+use Rattle.filtergen.specs.Ways.{DecidesBehind}
 use Rattle.filtergen.proofs.Leading.{serves-any}
 use Rattle.filtergen.proofs.Runs.{answer-first, front-place}
 
@@ -38,13 +39,15 @@ abbrev pub way_to : ℕ → Way
 way_to place = record { any = place; ip = place; other = place; first_fragment = place; transport = None }
 
 pub stands : (t : Tree) (snap most near : ℕ) (entry : Way) (old mid program : List Insn) → old ≡ returns_of snap
-    → DecidesBy most (meaning t) (record { yes = way_to 2; no = way_to 1 }) entry old mid → Nears entry.any 0 near mid program → StandsFor program t snap
+    → DecidesBehind known.Nothing most (meaning t) (record { yes = way_to 2; no = way_to 1 }) entry old mid → Nears entry.any 0 near mid program → StandsFor program t snap
 unfolding verdict
 stands t snap most near entry old mid program is decides nears p bytes =
     let at : near ≡ length program = omega (arith, nears.here, nears.reached) in
     let yes' : Answers old 2 p snap = rw is (accepting snap p) in
     let no' : Answers old 1 p 0 = rw is (rejecting snap p) in
+    let found = decides.decides p snap 0 bytes (serves-any old 2 snap p yes') (serves-any old 1 0 p no') in
     sym (ap (λ n. run_from program n p initial) at ∙ front-place program p initial)
     ∙ nears.leads p initial
-    ∙ (decides.decides p snap 0 bytes (serves-any old 2 snap p yes') (serves-any old 1 0 p no')).any.always initial refl
+    ∙ found.serves.any.always initial refl
+    ∙ found.right refl
     ∙ by_verdict (meaning t p) snap

@@ -14,7 +14,7 @@ use Rattle.filterlang.specs.declared.tree.Primitive.TheVariants.{Protocol, Net, 
 use Rattle.filtergen.specs.declared.known.Known.{Known}
 use Rattle.filtergen.specs.declared.known.Known.TheVariants as known
 use Rattle.filtergen.specs.declared.verdict.Verdict.TheVariants.{Yes}
-use Rattle.filtergen.specs.Meaning.{Test, both, either, negation, check, check_both, compared, byte, is_type, is_protocol, is_first, protocol_number, value, primitive_test}
+use Rattle.filtergen.specs.Meaning.{Test, both, check, check_both, compared, byte, is_type, is_protocol, is_first, protocol_number, value}
 use Rattle.filtergen.specs.Parts.{is_unfragmented}
 
 abbrev pub always : Test
@@ -150,12 +150,3 @@ behind levels k (trees.either t u) = k
 -- how deep operands are asked
 abbrev pub LOOK_BACK : ℕ
 LOOK_BACK = 16
-
--- what is left of an expression
-abbrev pub rest_of_tree : Known → Tree → Test
-rest_of_tree k trees.everything = always
-rest_of_tree k (trees.test primitive) = primitive_test primitive
-rest_of_tree k (trees.relation c v w) = rest_of_relation k c v w
-rest_of_tree k (trees.negation t) = negation (rest_of_tree k t)
-rest_of_tree k (trees.both t u) = both (rest_of_tree k t) (rest_of_tree (behind LOOK_BACK k t) u)
-rest_of_tree k (trees.either t u) = either (rest_of_tree k t) (rest_of_tree k u)

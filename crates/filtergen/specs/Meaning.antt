@@ -1,4 +1,5 @@
--- What filter expressions mean, after pcap-filter(7). Nothing here knows of instructions.
+-- What filter expressions mean, after pcap-filter(7). Nothing here knows of instructions. Of the filter machine it takes the
+-- arithmetic modulo 2 ^ 32 (`calculated`), and what number some bytes are (`number_at`).
 use Rattle.std.specs.Prelude.{ℕ, ◌+◌, ◌*◌, ◌%◌, ◌^◌, ◌<◌, ◌==◌, ◌&&◌, Bool, true, false, not, List, Option, Some, None, nat_lt, nat_le, bit_and, option_and_then, slice_index}
 use Rattle.std.specs.List.{AllByRecursion}
 use Rattle.bpfvm.specs.Codes.{Arithmetic, Add, Subtract, Multiply, Divide, Modulo, Or, And, ExclusiveOr, ShiftLeft, ShiftRight}

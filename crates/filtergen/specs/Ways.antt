@@ -8,6 +8,8 @@ use Rattle.filtergen.specs.declared.verdict.Verdict.TheVariants.{Yes, No}
 use Rattle.filtergen.specs.Meaning.{Packet, HasBytes, Test, is_type, is_first, protocol_number}
 use Rattle.filtergen.specs.Parts.{is_any_first}
 use Rattle.filtergen.specs.Emission.{IsPlace, Answers, Extends, outcome}
+use Rattle.filtergen.specs.declared.known.Known.{Known}
+use Rattle.filtergen.specs.Knowing.{shows}
 
 -- IPv4 of this protocol, or of any that has ports, and no later fragment
 abbrev pub is_first_fragment : Option Transport → Test
@@ -53,3 +55,16 @@ pub record DecidesBy (most : ℕ) (test : Test) (ways : Ways) (entry : Way) (old
   pub extends : Extends most old new
   pub here : IsWay new entry
   pub decides : (p : Packet) (m n : ℕ) → HasBytes p → Serves old ways.yes p m → Serves old ways.no p n → Serves new entry p (outcome (test p) m n)
+
+-- the run from each place of the way has one answer, and where something is known it is this one
+pub record ServesKnown (code : List Insn) (way : Way) (p : Packet) (n : ℕ) (is_known : Type 0) : Type 0 where
+  pub found : ℕ
+  pub serves : Serves code way p found
+  pub right : is_known → found ≡ n
+
+-- from the places of an entry a run of new decides a test of a packet of which something is known, and goes on by the ways
+pub record DecidesBehind (known : Known) (most : ℕ) (test : Test) (ways : Ways) (entry : Way) (old new : List Insn) : Type 0 where
+  pub extends : Extends most old new
+  pub here : IsWay new entry
+  pub decides : (p : Packet) (m n : ℕ) → HasBytes p → Serves old ways.yes p m → Serves old ways.no p n
+      → ServesKnown new entry p (outcome (test p) m n) (shows known p ≡ Yes)

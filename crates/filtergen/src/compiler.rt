@@ -2,13 +2,12 @@
 
 ghost use Rattle.std.specs.Prelude.{◌≡◌, ◌≢◌, ◌↔◌, ℕ, ◌+◌, ◌<◌, ◌≤◌, length, Err, IfOk, MatchResult};
 ghost use Rattle.filterlang.specs.Trees.{tree_of};
-ghost use Rattle.filtergen.specs.Knowing.{rest_of_tree};
-ghost use Rattle.filtergen.specs.Meaning.{primitive_test};
+ghost use Rattle.filtergen.specs.Meaning.{primitive_test, meaning};
 ghost use Rattle.filtergen.specs.Parts.{cost};
 ghost use Rattle.filtergen.specs.Compiling.{weight, need, StandsFor, IsBadSnap};
 ghost use Rattle.filtergen.specs.Reaching.{IsAllReached};
 ghost use Rattle.filtergen.specs.Emission.{OrFull};
-ghost use Rattle.filtergen.specs.Ways.{AreWays, DecidesBy, RenewsBoth};
+ghost use Rattle.filtergen.specs.Ways.{AreWays, DecidesBehind, RenewsBoth};
 
 use crate::code::{Code, Full};
 use crate::known::Known;
@@ -32,25 +31,25 @@ struct Emitted {
 }
 
 impl Code {
-    /// A primitive. Its ways are renewed first, so that its jumps and those in front of it reach them.
-    fn reached_primitive(&mut self, primitive: Primitive, ways: Ways) -> Emitted
+    /// What is left of a primitive. Its ways are renewed first, so that its jumps and those in front of it reach them.
+    fn reached_primitive(&mut self, known: Known, primitive: Primitive, ways: Ways) -> Emitted
         requires room { length self.old + (2 + cost primitive) ≤ 512 }
         requires ways { AreWays self.old ways }
-        ensures { DecidesBy (2 + cost primitive) (primitive_test primitive) ways result.entry self.old self.new
+        ensures { DecidesBehind known (2 + cost primitive) (primitive_test primitive) ways result.entry self.old self.new
             × RenewsBoth ways result.ways self.old self.new }
     {
         let ways = self.renew(ways);
-        let entry = self.primitive(primitive, ways);
+        let entry = self.primitive_behind(known, primitive, ways);
         Emitted { entry, ways }
     }
 
-    /// What is left of an expression, which goes on by its ways. The right operand is there before the left one.
+    /// What is left of an expression behind what is known. It goes on by its ways. The right operand is there before the left one.
     #[tactic(auto, using(crate::proofs::Bounds::relation_bound))]
     fn expression(&mut self, known: Known, expr: &Expr, ways: Ways) -> Result<Emitted, Full>
         requires need { need (tree_of expr.now) ≤ 16 }
         requires ways { AreWays self.old ways }
         ensures { OrFull (weight (tree_of expr.now)) self.old result (λ emitted.
-            DecidesBy (weight (tree_of expr.now)) (rest_of_tree known (tree_of expr.now)) ways emitted.entry self.old self.new
+            DecidesBehind known (weight (tree_of expr.now)) (meaning (tree_of expr.now)) ways emitted.entry self.old self.new
             × RenewsBoth ways emitted.ways self.old self.new) }
     {
         match expr {
@@ -60,7 +59,7 @@ impl Code {
             }
             Expr::Test(primitive) => {
                 self.room(2 + cost(*primitive))?;
-                Ok(self.reached_primitive(*primitive, ways))
+                Ok(self.reached_primitive(known, *primitive, ways))
             }
             Expr::Relation(comparison, left, right) => {
                 self.room(2)?;

@@ -1,11 +1,12 @@
 //! What tests that were passed have shown of a packet, so that they need not be made again.
 
-ghost use Rattle.std.specs.Prelude.{◌≡◌};
+ghost use Rattle.std.specs.Prelude.{◌≡◌, ◌⊎◌, true, Some, None, IfSome};
+ghost use Rattle.filtergen.specs.Meaning.{protocol_number};
 ghost use Rattle.filterlang.specs.Trees.{amount_of, tree_of};
 ghost use Rattle.filtergen.specs.Knowing.{has_type, has_number, has_first, implies, narrowed, of_layer, of_plain, of_network, of_primitive, behind_layers, behind, LOOK_BACK};
 
 use crate::primitives::{ARP, IP, RARP, protocol_number};
-use filterlang::{Expr, Layer, Network, Plain, Primitive, Value};
+use filterlang::{Expr, Layer, Network, Plain, Primitive, Transport, Value};
 
 /// How many levels of `and` deep an operand is asked what it shows. Each operand asks those in front of it, so that without a
 /// bound the time of a chain would grow with the square of its length.
@@ -132,6 +133,24 @@ impl Known {
             Primitive::EtherHost { .. } | Primitive::EtherBroadcast => Known::Nothing,
             Primitive::EtherMulticast | Primitive::Less(_) | Primitive::Greater(_) =>
                 Known::Nothing,
+        }
+    }
+
+    /// The protocol of the packet, where it is known to be one whose ports are asked for. `None` asks for any that has ports.
+    pub fn transport_of(self, asked: Option<Transport>) -> Option<Transport>
+        ensures { IfSome result
+            (λ t. (has_number self (protocol_number t) ≡ true) × ((asked ≡ None) ⊎ (asked ≡ Some t))) }
+    {
+        let transport = match asked {
+            Some(transport) => transport,
+            None if self.has_number(6) => Transport::Tcp,
+            None if self.has_number(17) => Transport::Udp,
+            None => Transport::Sctp,
+        };
+        if self.has_number(protocol_number(transport)) {
+            Some(transport)
+        } else {
+            None
         }
     }
 

@@ -7,6 +7,7 @@
 #![tactic(auto)]
 
 mod arithmetic;
+mod behind;
 mod code;
 mod compiler;
 mod evaluator;

@@ -27,7 +27,7 @@ pub(crate) const RARP: u32 = 0x8035;
 pub(crate) const BROADCAST: EthernetAddress = EthernetAddress { octets: [255; 6] };
 
 /// Where a frame has the source's and the destination's address of IPv4.
-const IP_ADDRESSES: (u32, u32) = (26, 30);
+pub(crate) const IP_ADDRESSES: (u32, u32) = (26, 30);
 
 /// Where it has the sender's and the target's address of ARP and RARP.
 const ARP_ADDRESSES: (u32, u32) = (28, 38);
@@ -136,7 +136,7 @@ impl Code {
     }
 
     /// IPv4 with this protocol number.
-    fn ip_protocol(&mut self, number: u32, ways: Ways) -> Way
+    pub fn ip_protocol(&mut self, number: u32, ways: Ways) -> Way
         requires room { length self.old + 8 ≤ 512 }
         requires ways { AreWays self.old ways }
         ensures { DecidesBy 8 (is_protocol number) ways result self.old self.new }
@@ -234,7 +234,7 @@ impl Code {
 
     /// The ports that a direction chooses, behind the IPv4 header. An exit that begins with the same header's length is passed:
     /// it is still in the index register.
-    fn ports_behind_header(
+    pub fn ports_behind_header(
         &mut self,
         direction: Direction,
         low: u32,
@@ -393,7 +393,7 @@ impl Code {
     }
 
     /// The addresses of IPv4 that a direction chooses, at these offsets of the frame.
-    fn addresses(
+    pub fn addresses(
         &mut self,
         offsets: (u32, u32),
         direction: Direction,
@@ -511,7 +511,7 @@ impl Code {
 
     /// A protocol word.
     #[tactic(auto, using(crate::proofs::Leading::decides_any))]
-    fn plain(&mut self, word: Plain, ways: Ways) -> Way
+    pub fn plain(&mut self, word: Plain, ways: Ways) -> Way
         requires room { length self.old + plain_cost word ≤ 512 }
         requires ways { AreWays self.old ways }
         ensures { DecidesBy (plain_cost word) (plain_test word) ways result self.old self.new }

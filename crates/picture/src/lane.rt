@@ -22,7 +22,7 @@ const STEP: u64 = 10;
 impl Scale {
     /// Of buffers of this capacity that have at most `highest` bytes.
     pub fn new(capacity: usize, highest: u64) -> Scale {
-        let drawn = highest.saturating_mul(4).min(capacity as u64).max(1);
+        let drawn = highest.saturating_mul(2).min(capacity as u64).max(1);
         Scale {
             drawn,
             mark: drawn / 8 + 1,

@@ -1,4 +1,4 @@
-use Rattle.std.proofs.Common.{◌≡◌, ◌≤◌}
+use Rattle.std.proofs.Common.{◌≡◌}
 use Rattle.filtergen.specs.Trimming.{marked}
 use Rattle.filtergen.proofs.trimming.kept.Given as goal
 

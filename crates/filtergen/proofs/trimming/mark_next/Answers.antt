@@ -1,6 +1,4 @@
-use Rattle.std.proofs.Common.{◌≡◌, ℕ, ◌+◌, ◌<◌, length, refl, arith, inl, inr, true, length-set}
-use Rattle.filtergen.specs.declared.trimming.Onward.TheVariants as onward
-use Rattle.filtergen.proofs.Reached.{marks-none, marks-one, marks-two}
+use Rattle.std.proofs.Common.{◌+◌, ◌<◌, length, refl, arith, inl, inr, true, length-set}
 use Rattle.filtergen.proofs.trimming.mark_next.Goals as goal
 
 pub overflow_add-marks : goal.overflow_add-marks

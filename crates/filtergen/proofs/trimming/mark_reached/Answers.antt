@@ -1,4 +1,4 @@
-use Rattle.std.proofs.Common.{◌≡◌, ◌<◌, ◌∙◌, length, arith, refl, length-set, true}
+use Rattle.std.proofs.Common.{◌∙◌, arith, length-set, true}
 use Rattle.filtergen.proofs.Reached.{next-inside, next-sound, next-marked, marks-begin, marks-skip, marks-all}
 use Rattle.filtergen.proofs.trimming.mark_reached.Goals as goal
 use Rattle.filtergen.proofs.trimming.mark_reached.Goals.{then-marks-place, else-marks-place}

@@ -1,4 +1,4 @@
-use Rattle.std.proofs.Common.{◌≡◌, ◌<◌, length, arith, refl}
+use Rattle.std.proofs.Common.{arith, refl}
 use Rattle.filtergen.proofs.Reached.{next-inside, next-sound, behind-inside, kept-step, pushed-length, skip-step, kept-all}
 use Rattle.filtergen.proofs.trimming.marked_insns.Goals as goal
 use Rattle.filtergen.proofs.trimming.marked_insns.Goals.{then-marks-place, else-marks-place}

@@ -1,4 +1,4 @@
-use Rattle.std.proofs.Common.{◌≤◌, length, arith, refl, inl, inr}
+use Rattle.std.proofs.Common.{refl, inl, inr}
 use Rattle.filtergen.proofs.trimming.moved.Goals as goal
 
 pub kept-requires : goal.kept-requires

@@ -4,7 +4,7 @@ use Rattle.bpfvm.specs.Codes.{Subtract}
 use Rattle.bpfvm.specs.Machine.{calculated}
 use Rattle.filterlang.specs.Trees.{amount_of}
 use Rattle.filtergen.specs.declared.insns.Operand.TheVariants as operands
-use Rattle.filtergen.specs.Meaning.{arithmetic_of, bytes_of, value, accessed}
+use Rattle.filtergen.specs.Meaning.{arithmetic_of, bytes_of, value}
 use Rattle.filtergen.specs.Insns.{plain_insn, calculation_insn}
 use Rattle.filtergen.specs.Parts.{constant_of, leaf_value}
 use Rattle.filtergen.proofs.Computing.{applies-one, computes-applied, computes-paired, computes-more, computes-same, computes-constant, constant-behind, index-known, pairs-right, pairs-left, pairs-kept, pairs-more, pairs-same, negate-effect, calculation-effect, leaf-valued, read-accessed}
