@@ -20,7 +20,7 @@ use Rattle.tap.specs.declared.step.Step.TheVariants.{Arrive, Flush, Read, Close}
 use Rattle.tap.specs.declared.answer.Answered.{Answered}
 use Rattle.savefile.specs.declared.fault.Fault.{Fault as Misread}
 use Rattle.tap.specs.Answers.{all_answered, AreLegal, Traces}
-use Rattle.tap.specs.Filters.{kept_of, Told}
+use Rattle.tap.specs.Filters.{kept_of, FiltersAs}
 use Rattle.tap.specs.Headline.{run_of, terms_of, Reports, Replays}
 use Rattle.tap.specs.OwnSteps.{own, arrival_of}
 use Rattle.tap.specs.Watching.{AllPackets}
@@ -118,14 +118,18 @@ kept_alike program tree snap some stands p real = kept_alike_if program tree sna
 -- ---- The headline, for one listener
 
 -- what holds of the program's own steps is told of the filter's
-told : (Holds : List Request → Type 0) (filter : Filter) (program : List Insn) (snap l : ℕ) (steps : List Step) (playlist : List Placed) → 0 < snap → AllPackets playlist →
-    ProgramOf filter snap program → Holds (own (kept_by program snap) l steps playlist) → Told filter snap (λ keeps. Holds (own keeps l steps playlist))
-told Holds (Program p) program snap l steps playlist some real made holds =
-    subst (λ (q : List Insn). Holds (own (kept_by q snap) l steps playlist)) made holds
-told Holds (Text text) program snap l steps playlist some real made holds = (
-  made.0,
-  made.1,
-  subst Holds (own_alike (kept_by program snap) (kept_of made.0 snap) l steps playlist (kept_alike program made.0 snap some made.2) real) holds,
+told : (Says : List Request → Type 0) (filter : Filter) (program : List Insn) (snap l : ℕ) (steps : List Step) (playlist : List Placed) → 0 < snap → AllPackets playlist →
+    ProgramOf filter snap program → Says (own (kept_by program snap) l steps playlist) →
+    (keeps : Arrival → Option Message) × FiltersAs filter snap keeps × Says (own keeps l steps playlist)
+told Says (Program p) program snap l steps playlist some real made says = (
+  kept_by p snap,
+  refl,
+  subst (λ (q : List Insn). Says (own (kept_by q snap) l steps playlist)) made says,
+)
+told Says (Text text) program snap l steps playlist some real made says = (
+  kept_of made.0 snap,
+  (made.0, made.1, refl),
+  subst Says (own_alike (kept_by program snap) (kept_of made.0 snap) l steps playlist (kept_alike program made.0 snap some made.2) real) says,
 )
 
 zip_at : {A B : Type 0} (R : A → B → Type 0) (xs : List A) (ys : List B) (l : ℕ) (x : A) → AllZip R xs ys → slice_get xs l ≡ Some x → (y : B) × (slice_get ys l ≡ Some y) × R x y
@@ -147,32 +151,28 @@ ended_at R traced specs ws done ys steps playlist opened is tells l spec here =
 module _ (legal_law : AnswersAreLegal) (kept_law : RunsAreKept) (fit_law : KeptFits) (traced : Bool) (specs : List Spec) (ws done : List Watch) (steps : List Step) (playlist : List Placed)
     (opened : AllZip (Opened traced) specs ws) (is : done ≡ played steps playlist ws) (real : AllPackets playlist) where
   pub headline_at : (reports : List Report) → AllZip Tells done reports → (l : ℕ) (spec : Spec) → slice_get specs l ≡ Some spec →
-      (report : Report) × (slice_get reports l ≡ Some report) × Told spec.filter spec.snap (λ keeps. Reports (terms_of spec) (own keeps l steps playlist) report)
+      (report : Report) × (slice_get reports l ≡ Some report) × (keeps : Arrival → Option Message) × FiltersAs spec.filter spec.snap keeps × Reports (terms_of spec) (own keeps l steps playlist) report
   headline_at reports tells l spec here =
       let e = ended_at Tells traced specs ws done reports steps playlist opened is tells l spec here in
       let o = e.1 in
       let r : Tells (came_to traced o.program spec.snap (terms_of spec) (own (kept_by o.program spec.snap) l steps playlist)) e.2 =
-      subst (λ (w : Watch). Tells (goes l steps playlist w) e.2) o.is e.4 in (
-        e.2,
-        e.3,
-        told (λ rs. Reports (terms_of spec) rs e.2) spec.filter o.program spec.snap l steps playlist o.range.least real o.made
-            (reports_by legal_law kept_law fit_law traced o.program spec.snap (terms_of spec) l steps playlist e.2 o.range.room r),
-      )
+      subst (λ (w : Watch). Tells (goes l steps playlist w) e.2) o.is e.4 in
+      let k = told (λ rs. Reports (terms_of spec) rs e.2) spec.filter o.program spec.snap l steps playlist o.range.least real o.made
+      (reports_by legal_law kept_law fit_law traced o.program spec.snap (terms_of spec) l steps playlist e.2 o.range.room r) in
+      (e.2, e.3, k.0, k.1, k.2)
 
 module _ (legal_law : AnswersAreLegal) (specs : List Spec) (ws done : List Watch) (steps : List Step) (playlist : List Placed)
     (opened : AllZip (Opened true) specs ws) (is : done ≡ played steps playlist ws) (real : AllPackets playlist) where
   pub answers_at : (all : List (List Answered)) → AllZip IsFollowed done all → (l : ℕ) (spec : Spec) → slice_get specs l ≡ Some spec →
-      (own_answers : List Answered) × (slice_get all l ≡ Some own_answers) × Told spec.filter spec.snap (λ keeps. AreLegal (terms_of spec) (own keeps l steps playlist) own_answers)
+      (own_answers : List Answered) × (slice_get all l ≡ Some own_answers) × (keeps : Arrival → Option Message) × FiltersAs spec.filter spec.snap keeps × AreLegal (terms_of spec) (own keeps l steps playlist) own_answers
   answers_at all followed l spec here =
       let e = ended_at IsFollowed true specs ws done all steps playlist opened is followed l spec here in
       let o = e.1 in
       let f : IsFollowed (came_to true o.program spec.snap (terms_of spec) (own (kept_by o.program spec.snap) l steps playlist)) e.2 =
-      subst (λ (w : Watch). IsFollowed (goes l steps playlist w) e.2) o.is e.4 in (
-        e.2,
-        e.3,
-        told (λ rs. AreLegal (terms_of spec) rs e.2) spec.filter o.program spec.snap l steps playlist o.range.least real o.made
-            (legal_by legal_law o.program spec.snap (terms_of spec) (own (kept_by o.program spec.snap) l steps playlist) e.2 f),
-      )
+      subst (λ (w : Watch). IsFollowed (goes l steps playlist w) e.2) o.is e.4 in
+      let k = told (λ rs. AreLegal (terms_of spec) rs e.2) spec.filter o.program spec.snap l steps playlist o.range.least real o.made
+      (legal_by legal_law o.program spec.snap (terms_of spec) (own (kept_by o.program spec.snap) l steps playlist) e.2 f) in
+      (e.2, e.3, k.0, k.1, k.2)
 
 pub length_played : (steps : List Step) (playlist : List Placed) (ws : List Watch) → length (played steps playlist ws) ≡ length ws
 length_played [] playlist ws = refl
@@ -191,9 +191,8 @@ ended_many R traced specs ws done ys steps playlist opened is tells =
 -- what the reports of a replay's end tell
 pub replays_by : (legal_law : AnswersAreLegal) (kept_law : RunsAreKept) (fit_law : KeptFits) (traced : Bool) (captures : List (List ℕ)) (specs : List Spec) (steps : List Step) (playlist : List Placed)
     (torn : Option (ℕ × Misread)) (done : List Watch) → ComesTo traced captures specs steps playlist torn done →
-    (reports : List Report) → AllZip Tells done reports → Replays captures specs steps reports torn
+    (reports : List Report) → AllZip Tells done reports → Replays captures specs steps playlist torn reports
 replays_by legal_law kept_law fit_law traced captures specs steps playlist torn done c reports tells = record {
-  playlist = playlist;
   of_captures = c.of_captures;
   one_each = ended_many Tells traced specs c.began done reports steps playlist c.opened c.ends tells;
   each = headline_at legal_law kept_law fit_law traced specs c.began done steps playlist c.opened c.ends c.packets reports tells;

@@ -2,6 +2,8 @@
 use Rattle.std.specs.Prelude.{◌≡◌, ℕ, List, [], ◌∷◌, Option, Some, None, true, false, length}
 use Rattle.std.specs.List.{slice_get}
 use Rattle.savefile.specs.declared.fault.Fault.{Fault}
+use Rattle.listener.specs.declared.message.Message.{Message}
+use Rattle.listener.specs.Messages.{Arrival}
 use Rattle.listener.specs.PlainList.{Terms, PlainList, Event, Request, arrived, flushed, read, closed, load, next, empty, Legal, requests}
 use Rattle.tap.specs.declared.answer.Answer.{Answer}
 use Rattle.tap.specs.declared.answer.Answer.TheVariants.{Arrived, Flushed, Read, Closed}
@@ -9,7 +11,7 @@ use Rattle.tap.specs.declared.answer.Answered.{Answered}
 use Rattle.tap.specs.declared.playlist.Placed.{Placed}
 use Rattle.tap.specs.declared.step.Step.{Step}
 use Rattle.tap.specs.declared.filters.Spec.{Spec}
-use Rattle.tap.specs.Filters.{Told}
+use Rattle.tap.specs.Filters.{FiltersAs}
 use Rattle.tap.specs.Headline.{terms_of}
 use Rattle.tap.specs.OwnSteps.{own}
 use Rattle.tap.specs.Playlist.{IsPlaylist}
@@ -44,4 +46,4 @@ pub record Traces (captures : List (List ℕ)) (specs : List Spec) (steps : List
   pub one_each : length answers ≡ length specs
   pub each : (l : ℕ) (spec : Spec) → slice_get specs l ≡ Some spec →
       (own_answers : List Answered) × (slice_get answers l ≡ Some own_answers)
-      × Told spec.filter spec.snap (λ keeps. AreLegal (terms_of spec) (own keeps l steps playlist) own_answers)
+      × (keeps : Arrival → Option Message) × FiltersAs spec.filter spec.snap keeps × AreLegal (terms_of spec) (own keeps l steps playlist) own_answers

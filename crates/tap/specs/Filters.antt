@@ -18,8 +18,8 @@ pub record ReadsOnlyAs (text : List ℕ) (tree : Tree) : Type 0 where
   pub reads : ReadsAs text tree
   pub only : (other : Tree) → ReadsAs text other → other ≡ tree
 
--- What is said holds of what the filter keeps, at this snapshot length. A filter is a program, or a text that reads as
--- one tree.
-abbrev pub Told : Filter → ℕ → ((Arrival → Option Message) → Type 0) → Type 0
-Told (Program program) snap Holds = Holds (kept_by program snap)
-Told (Text text) snap Holds = (tree : Tree) × ReadsOnlyAs (string_bytes text) tree × Holds (kept_of tree snap)
+-- What a filter keeps of each arrival, at this snapshot length: a program what it answers, and an expression what the one
+-- tree that it reads as accepts.
+abbrev pub FiltersAs : Filter → ℕ → (Arrival → Option Message) → Type 0
+FiltersAs (Program program) snap keeps = keeps ≡ kept_by program snap
+FiltersAs (Text text) snap keeps = (tree : Tree) × ReadsOnlyAs (string_bytes text) tree × (keeps ≡ kept_of tree snap)

@@ -3,6 +3,7 @@ use Rattle.std.specs.Prelude.{◌≡◌, ℕ, List, ◌++◌, Option, Some, leng
 use Rattle.std.specs.List.{slice_get}
 use Rattle.savefile.specs.declared.fault.Fault.{Fault}
 use Rattle.listener.specs.declared.message.Message.{Message}
+use Rattle.listener.specs.Messages.{Arrival}
 use Rattle.listener.specs.Laws.{joined}
 use Rattle.listener.specs.LookingBack.{kept, dropped, received, matched}
 use Rattle.listener.specs.PlainList.{Terms, terms, PlainList, Request, answers, run, empty}
@@ -11,7 +12,7 @@ use Rattle.tap.specs.declared.playlist.Placed.{Placed}
 use Rattle.tap.specs.declared.report.Report.{Report}
 use Rattle.tap.specs.declared.step.Step.{Step}
 use Rattle.tap.specs.declared.filters.Spec.{Spec}
-use Rattle.tap.specs.Filters.{Told}
+use Rattle.tap.specs.Filters.{FiltersAs}
 use Rattle.tap.specs.OwnSteps.{own}
 use Rattle.tap.specs.Playlist.{IsPlaylist}
 
@@ -52,11 +53,10 @@ pub record Reports (t : Terms) (steps : List Request) (report : Report) : Type 0
 abbrev pub terms_of : Spec → Terms
 terms_of spec = terms spec.capacity spec.mode
 
--- For each listener there is a report of its own steps over the playlist of the captures.
-pub record Replays (captures : List (List ℕ)) (specs : List Spec) (steps : List Step) (reports : List Report) (torn : Option (ℕ × Fault)) : Type 0 where
-  pub playlist : List Placed
+-- For each listener there is a report of its own steps over this playlist, which is that of the captures.
+pub record Replays (captures : List (List ℕ)) (specs : List Spec) (steps : List Step) (playlist : List Placed) (torn : Option (ℕ × Fault)) (reports : List Report) : Type 0 where
   pub of_captures : IsPlaylist 0 captures playlist torn
   pub one_each : length reports ≡ length specs
   pub each : (l : ℕ) (spec : Spec) → slice_get specs l ≡ Some spec →
       (report : Report) × (slice_get reports l ≡ Some report)
-      × Told spec.filter spec.snap (λ keeps. Reports (terms_of spec) (own keeps l steps playlist) report)
+      × (keeps : Arrival → Option Message) × FiltersAs spec.filter spec.snap keeps × Reports (terms_of spec) (own keeps l steps playlist) report

@@ -1,12 +1,13 @@
 //! The replay of captures to listeners.
 
-ghost use Rattle.std.specs.Prelude.{◌≡◌, map, IfOk, IfErr, OnOk};
+ghost use Rattle.std.specs.Prelude.{◌≡◌, List, map, IfOk, IfErr, OnOk};
 ghost use Rattle.std.specs.List.{AllZip};
 ghost use Rattle.tap.specs.Answers.{Traces};
 ghost use Rattle.tap.specs.Headline.{Replays};
 ghost use Rattle.tap.specs.Refusals.{IsFirst, NoneStands};
 ghost use Rattle.tap.specs.Watching.{ComesTo, Tells, IsFollowed};
 ghost use Rattle.tap.specs.declared.fault.Fault.TheVariants.{NoMemory};
+ghost use Rattle.tap.specs.declared.playlist.Placed.{Placed};
 
 use crate::answer::Answered;
 use crate::fault::Fault;
@@ -112,7 +113,7 @@ pub fn replay(
     steps: &[Step],
 ) -> Result<(Vec<Report>, Option<(u32, savefile::Fault)>), Fault>
     // The headline.
-    ensures tells { IfOk result (λ r. Replays (map (λ c. c.now) captures.now) specs.now steps.now r.0.items r.1) }
+    ensures tells { IfOk result (λ r. (playlist : List Placed) × Replays (map (λ c. c.now) captures.now) specs.now steps.now playlist r.1 r.0.items) }
     // No fault stands where there are reports, and each fault is the first that stands.
     ensures stands { OnOk result (NoneStands (map (λ c. c.now) captures.now) specs.now steps.now) }
     ensures first { IfErr result (IsFirst (map (λ c. c.now) captures.now) specs.now steps.now) }
@@ -128,16 +129,17 @@ pub fn replay(
 /// Replays captures as [`replay`] does, with the same reports and faults, and also tells what each listener answered to
 /// each of its steps, with the load of its store and the number of held messages before it.
 ///
-/// Each step has one right answer, that of the plain list, and this is the one told. The answers take memory for each step.
+/// Each step has one right answer, that of the plain list, and this is the one told. The answers take memory for each step, so
+/// that [`Fault::NoMemory`] can come where [`replay`] gives reports.
 pub fn trace(
     alloc: Global,
     captures: &[&[u8]],
     specs: &[Spec],
     steps: &[Step],
 ) -> Result<Trace, Fault>
-    // The headline.
-    ensures tells { IfOk result (λ r. Replays (map (λ c. c.now) captures.now) specs.now steps.now r.reports.items r.torn) }
-    // The answers.
+    // The headline, over the playlist that is told.
+    ensures tells { IfOk result (λ r. Replays (map (λ c. c.now) captures.now) specs.now steps.now r.playlist.items r.torn r.reports.items) }
+    // The answers, over the same playlist.
     ensures answers { IfOk result (λ r. Traces (map (λ c. c.now) captures.now) specs.now steps.now r.playlist.items r.torn (map (λ a. a.items) r.answers.items)) }
     // No fault stands where there are reports, and each fault is the first that stands.
     ensures stands { OnOk result (NoneStands (map (λ c. c.now) captures.now) specs.now steps.now) }
