@@ -5,3 +5,4 @@ pub mod Kept
 pub mod Decoding
 pub mod Filling
 pub mod ArriveSteps
+pub mod Positions

@@ -6,3 +6,4 @@ pub mod Buffers
 pub mod RecordBytes
 pub mod Decoded
 pub mod Listening
+pub mod Positions

@@ -1,6 +1,7 @@
 //! Laws of the plain list. Each function is empty, and its contract is the law.
 
 ghost use Rattle.listener.specs.Laws.{AnswersAreFair, AnswersAreLegal, ImmediateIsFlushed, RunsAppend, LegalAppends, BatchesAppend, HeldStaysWithin, BuffersFollow, BuffersStayWithin, KeptFits, CountsFollow, CountsStayOrdered, ReadsCommute, RunsAreKept, MatchedAreKeptOrDropped, KeptIsThinned, KeptAreAccepted};
+ghost use Rattle.listener.specs.Positions.{LoadIsByPositions, HeldIsByPositions, DropIsByPositions};
 
 /// Each request has one right answer, and a list of requests one legal run.
 pub fn answers()
@@ -48,6 +49,14 @@ pub fn reads()
 /// each message fits the capacity.
 pub fn looking_back()
     ensures { RunsAreKept }
+{}
+
+/// Looking back by positions is the same: what is still in the store, whether the hold is full, and what is a drop, told by
+/// which earlier steps they come from.
+pub fn positions()
+    ensures load { LoadIsByPositions }
+    ensures held { HeldIsByPositions }
+    ensures drops { DropIsByPositions }
 {}
 
 /// What is kept are accepted arrivals, in order, each once; the others that matched were dropped.

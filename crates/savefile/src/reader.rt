@@ -32,8 +32,8 @@ enum State {
 /// out of the reader's own memory, without a copy. [`Reader::next`] gives a copy of its own.
 ///
 /// It reads what [`read_all`](crate::read_all) reads, in whatever pieces the source gives its bytes. It asks the source
-/// only where the next record is not whole in what it has taken already, for as many bytes as it has room for, which
-/// is mostly half a mebibyte. So a fault, of the source too, stands behind all packets that came whole.
+/// only where the next record is not whole in what it has taken already, for as many bytes as it has room for; how many
+/// these are no clause says. So a fault, of the source too, stands behind all packets that came whole.
 #[derive(Debug, Drop)]
 pub struct Reader<R> {
     ahead: Ahead<R>,

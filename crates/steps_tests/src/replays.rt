@@ -2,6 +2,7 @@
 
 mod caller;
 mod random;
+mod refused;
 
 use bpfvm::read_listing;
 use filtergen::Refusal;
