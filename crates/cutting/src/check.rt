@@ -10,7 +10,7 @@ use filtergen::compile_text;
 use lines::MAX_SNAP;
 use lines::telling::{DEVICE, REFUSED, tell_device, tell_fault};
 use std::alloc::Global;
-use std::io::Write;
+use std::io::{ErrorKind, Write};
 
 /// Prints the listing of an expression's program at the largest snapshot length, 262,144, with status 0.
 ///
@@ -36,6 +36,8 @@ fn print<O: Write, E: Write>(alloc: Global, program: &Program, out: &mut O, err:
     match write_listing(alloc, program) {
         Ok(listing) => match out.write_all(listing.as_slice()) {
             Ok(()) => 0,
+            // Nobody reads there any more.
+            Err(error) if error.kind() == ErrorKind::BrokenPipe => DEVICE,
             Err(_) => tell_device("standard output", err),
         },
         Err(fault) => tell_fault(fault, REFUSED, err),
