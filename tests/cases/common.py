@@ -131,11 +131,11 @@ class Scene:
         """All that stands in the folder: the bytes of each file, and nothing for each folder."""
         return {str(path.relative_to(self.folder)): self.read(path) for path in self.folder.rglob("*")}
 
-    def run(self, words, streams=""):
-        """Runs the program on words, with redirections as a shell has them."""
+    def run(self, words, streams="", first=""):
+        """Runs the program on words, with redirections as a shell has them, behind what the shell is to do first."""
         command = [PROGRAM, *words_of(words)]
-        if streams:
-            command = ["bash", "-c", f'exec "$0" "$@" {streams}', *command]
+        if streams or first:
+            command = ["bash", "-c", f'{first}\nexec "$0" "$@" {streams}', *command]
         done = subprocess.run(command, cwd=self.folder, stdin=subprocess.DEVNULL, capture_output=True, timeout=LIMIT)
         return Seen(done.stdout, done.stderr, done.returncode)
 
@@ -151,10 +151,20 @@ class Scene:
                 stderr=subprocess.PIPE, timeout=LIMIT, preexec_fn=narrow)
         return Seen(output.read_bytes(), done.stderr, done.returncode)
 
-    def expect(self, words, status=0, err="", out="", streams=""):
+    def run_unread(self, words):
+        """The same with a standard output that is a pipe which nobody reads."""
+        reader, writer = os.pipe()
+        os.close(reader)
+        done = subprocess.run(
+            [PROGRAM, *words_of(words)], cwd=self.folder, stdin=subprocess.DEVNULL, stdout=writer,
+            stderr=subprocess.PIPE, timeout=LIMIT)
+        os.close(writer)
+        return Seen(b"", done.stderr, done.returncode)
+
+    def expect(self, words, status=0, err="", out="", streams="", first=""):
         """Runs the program, and checks all that it printed and told, and its status."""
         wanted = Seen(as_bytes(out), as_bytes(err), status)
-        self.check(f"{text_of(words)} {streams}".strip(), self.run(words, streams), wanted)
+        self.check(f"{first} {text_of(words)} {streams}".strip(), self.run(words, streams, first), wanted)
 
     def refuse(self, words, status, *faults):
         """Checks that words are refused: faults are told, nothing is printed, and no file is made, changed or lost."""

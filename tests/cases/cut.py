@@ -47,6 +47,11 @@ def out_is_no_file_that_is_read(scene):
     os.symlink("in.pcap", scene.folder / "symbolic.pcap")
     for out in ["in.pcap", "./in.pcap", "linked.pcap", "symbolic.pcap", "all.bpf", "./all.bpf", "linked.bpf"]:
         scene.refuse(f"cut -s 0 -f all.bpf in.pcap {out}", 1, f"SameFile {out}")
+    # Also where neither is there, and a fifo, which nobody opens.
+    os.symlink("new.pcap", scene.folder / "link")
+    os.mkfifo(scene.folder / "fifo")
+    for read, out in [("new.pcap", "./new.pcap"), ("new.pcap", "link"), ("link", "new.pcap"), ("fifo", "./fifo")]:
+        scene.refuse(f"cut -s 0 {read} {out}", 1, f"SameFile {out}")
     # What is no regular file loses nothing, so that the capture's own fault is told; but the same text is one file.
     scene.refuse("cut -s 0 -f all.bpf /dev/null /dev/./null", 1, "ShortHeader")
     scene.refuse("cut -s 0 -f all.bpf /dev/null /dev/null", 1, "SameFile /dev/null")

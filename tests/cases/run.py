@@ -1,5 +1,11 @@
 """`bpftap run`: what is refused before a file is opened, when each file is opened, and what is printed and written."""
-from .common import HEADER, IP_RECORD, TCP_RECORD, TORN, UDP_RECORD, case, header, told
+import os
+import re
+import subprocess
+import time
+
+from .common import (
+    HEADER, IP_RECORD, LIMIT, PROGRAM, TCP_RECORD, TORN, UDP_RECORD, VETH, case, header, records, told)
 
 T, U = TCP_RECORD, UDP_RECORD
 CAPTURES = {"t.pcap": HEADER + T, "tu.pcap": HEADER + T + U, "torn.pcap": TORN, "empty.pcap": "", "kept.pcap": "kept"}
@@ -18,11 +24,19 @@ REFUSED = [
     ("0 0 0 1048576 0 kept.pcap tcp\n", "none.pcap", "Open 0 0 BadCapacity"),
     ("0 0 0 1048576 0 kept.pcap tcp\n", "+ " * 16, "TooMany"),
     # An OUT that is a file that is read, or the OUT of another line.
-    ("0 0 0 1048576 0 ./none.pcap\n0 0 0 96 2 none.pcap", "none.pcap", "SameFile none.pcap"),
+    ("0 0 0 1048576 0 ./none.pcap\n0 0 0 96 2 none.pcap", "none.pcap", "SameFile ./none.pcap"),
     ("0 0 0 1048576 0 kept.pcap\n0 0 0 96 2 ./kept.pcap", "none.pcap", "SameFile ./kept.pcap"),
     ("0 0 0 1048576 2 new.pcap\n0 0 0 1048576 2 ./tu.pcap\n", "tu.pcap", "SameFile ./tu.pcap"),
     ("0 0 0 1048576 2 kept.pcap\n0 0 0 1048576 2 ./kept.pcap\n", "tu.pcap", "SameFile ./kept.pcap"),
     ("0 0 0 1048576 2 listeners.txt\n", "tu.pcap", "SameFile listeners.txt"),
+    # Of each line and each capture, of each interface, there or not.
+    ("0 0 0 1048576 2 new.pcap\n0 0 0 1048576 2 ./kept.pcap\n", "tu.pcap t.pcap kept.pcap", "SameFile ./kept.pcap"),
+    ("0 0 0 1048576 2 ./t.pcap\n", "tu.pcap t.pcap torn.pcap", "SameFile ./t.pcap"),
+    ("0 0 0 1048576 2 ./t.pcap\n", "tu.pcap + t.pcap", "SameFile ./t.pcap"),
+    ("0 0 0 1048576 2 t.pcap\n", "tu.pcap + torn.pcap tu.pcap t.pcap", "SameFile t.pcap"),
+    ("1 0 0 1048576 2 ./tu.pcap\n", "tu.pcap + t.pcap", "SameFile ./tu.pcap"),
+    ("1 0 0 1048576 2 ./none.pcap\n", "tu.pcap + t.pcap none.pcap", "SameFile ./none.pcap"),
+    ("1 0 0 1048576 2 kept.pcap\n0 0 0 1048576 2 ./kept.pcap\n", "tu.pcap + t.pcap", "SameFile ./kept.pcap"),
 ]
 
 
@@ -36,11 +50,66 @@ def no_file_is_touched_where_a_run_is_refused(scene):
     scene.refuse("run none.txt none.pcap", 3, "Device none.txt")
 
 
-def report(listener, received, matched, end="Clean"):
+# Symbolic links and their targets, and names of the file `new.pcap` that is not there; `far` leads to it by a full path.
+LINKS = [("link", "new.pcap"), ("chain", "link"), ("here", "."), ("sub/up", "../new.pcap")]
+NEW_NAMES = [
+    "./new.pcap", ".//new.pcap", "sub/../new.pcap", "link", "chain", "here/new.pcap", "here/link", "sub/up", "far", "here/far"]
+
+
+@case
+def two_names_of_a_new_file_are_one_file(scene):
+    """An OUT that is not there yet is told by its folder and its name, behind symbolic links."""
+    scene.put(CAPTURES)
+    (scene.folder / "sub").mkdir()
+    for link, target in LINKS:
+        os.symlink(target, scene.folder / link)
+    os.symlink(scene.folder / "sub" / "up", scene.folder / "far")
+    for name in [*NEW_NAMES, str(scene.folder / "new.pcap")]:
+        for first, second in [("new.pcap", name), (name, "new.pcap")]:
+            scene.put({"listeners.txt": f"0 0 0 1048576 2 {first}\n1 0 0 1048576 2 {second}\n"})
+            scene.refuse("run listeners.txt t.pcap + tu.pcap", 1, f"SameFile {second}")
+    # One name in two folders is two files, and a link may be the one OUT of its target.
+    scene.put({"listeners.txt": "0 0 0 1048576 2 sub/new.pcap\n0 0 0 1048576 2 chain\n"})
+    scene.expect("run listeners.txt t.pcap", out=report((0, 0), 1, 1) + report((0, 1), 1, 1))
+    scene.check("both", (scene.read("sub/new.pcap"), scene.read("new.pcap")), (HEADER + T, HEADER + T))
+
+
+@case
+def a_fifo_is_a_file_too(scene):
+    """A fifo is the OUT of one line, and no OUT is a fifo that is read; what goes to a device is no file's."""
+    scene.put(CAPTURES)
+    os.mkfifo(scene.folder / "fifo")
+    for listeners, captures, path in [
+        ("0 0 0 1048576 2 fifo\n0 0 0 1048576 2 ./fifo\n", "t.pcap", "./fifo"),
+        ("0 0 0 1048576 2 ./fifo\n", "t.pcap fifo", "./fifo"),
+    ]:
+        scene.put({"listeners.txt": listeners})
+        scene.refuse(f"run listeners.txt {captures}", 1, f"SameFile {path}")
+    scene.put({"listeners.txt": "0 0 0 1048576 2 /dev/null\n0 0 0 1048576 2 /dev/./null\n"})
+    scene.expect("run listeners.txt t.pcap", out=report((0, 0), 1, 1) + report((0, 1), 1, 1))
+
+
+@case
+def lines_beyond_the_most_take_no_memory(scene):
+    """Of 60,000 lines too many are refused with little memory, behind bad lines and refused expressions."""
+    lines = [f"0 0 8 40 1 {line}\n" for line in range(60000)]
+    scene.put({"t.pcap": HEADER + T})
+    for last in ["x\n", "0 0 8 40 1 7\n", "1 0 8 40 1 x\n"]:
+        scene.put({"listeners.txt": "".join(lines) + last})
+        scene.expect("run listeners.txt t.pcap", 1, told("Listeners 60001"), first="ulimit -v 200000")
+    scene.put({"listeners.txt": "".join(lines)})
+    scene.expect("run listeners.txt t.pcap", 1, told("TooMany"), first="ulimit -v 200000")
+    scene.put({"listeners.txt": "".join(lines).replace(" 1 9\n", " 1 9 tcp and 80\n")})
+    scene.expect("run listeners.txt t.pcap", 1, told("Expression 9 NoQualifier 8"), first="ulimit -v 200000")
+    scene.check("files", sorted(scene.files()), ["listeners.txt", "t.pcap"])
+
+
+def report(listener, received, matched, end="Clean", written=None):
     """The line of a listener that drops nothing, which is named by its interface and itself."""
     interface, number = listener
+    written = matched if written is None else written
     return (f"interface {interface} listener {number} "
-            f"received {received} matched {matched} dropped 0 written {matched} {end}\n")
+            f"received {received} matched {matched} dropped 0 written {written} {end}\n")
 
 
 def replays(scene, listeners, captures, reports, files, *faults, status=0):
@@ -112,19 +181,68 @@ def files_are_opened_as_they_are_replayed(scene):
 @case
 def a_file_that_cannot_be_written_is_told_by_its_line(scene):
     """The report of its listener tells where OUT failed, and other listeners write theirs."""
-    # The packets went into the buffer, which is emptied at the end.
-    for out, end, files, status in [
-        ("no/a.pcap", "Write 0", {}, 3),
-        (".", "Write 0", {}, 3),
-        ("/dev/full", "Write 0", {}, 3),
-        ("a", "Clean", {"a": HEADER + T}, 0),
-    ]:
-        replays(scene, f"0 0 0 1048576 2 {out}\n", "t.pcap", [report((0, 0), 1, 1, end)], files, status=status)
-    replays(scene, "0 0 0 1048576 2 /dev/full\n", "tu.pcap", [report((0, 0), 2, 2, "Write 0")], {}, status=3)
+    # The packets went into the buffer, which is emptied at the end, and none of them into OUT.
+    for out in ["no/a.pcap", ".", "t.pcap/a", "new/", "/dev/full"]:
+        replays(scene, f"0 0 0 1048576 2 {out}\n", "t.pcap", [report((0, 0), 1, 1, "Write 0", 0)], {}, status=3)
+    replays(scene, "0 0 0 1048576 2 a\n", "t.pcap", [report((0, 0), 1, 1)], {"a": HEADER + T})
+    replays(scene, "0 0 0 1048576 2 /dev/full\n", "tu.pcap", [report((0, 0), 2, 2, "Write 0", 0)], {}, status=3)
     nowhere = "0 0 0 1048576 2 no/out.pcap\n0 0 0 1048576 2 all.pcap\n"
     replays(
-        scene, nowhere, "tu.pcap t.pcap", [report((0, 0), 3, 3, "Write 0"), report((0, 1), 3, 3)],
+        scene, nowhere, "tu.pcap t.pcap", [report((0, 0), 3, 3, "Write 0", 0), report((0, 1), 3, 3)],
         {"all.pcap": HEADER + T + U + T}, status=3)
     replays(
-        scene, nowhere, "tu.pcap none.pcap", [report((0, 0), 2, 2, "Write 0"), report((0, 1), 2, 2)],
+        scene, nowhere, "tu.pcap none.pcap", [report((0, 0), 2, 2, "Write 0", 0), report((0, 1), 2, 2)],
         {"all.pcap": HEADER + T + U}, "Interface 0 Capture 1 Device", status=3)
+
+
+def whole_in(text, length):
+    """How many records are whole in the front of a capture."""
+    ends, end = [], 24
+    for record in records(text):
+        end += len(record)
+        ends.append(end)
+    return sum(end <= length for end in ends)
+
+
+@case
+def a_failed_out_is_told_by_what_it_has(scene):
+    """Where a write of OUT fails, N and B are the packets and the bytes that OUT has, and nothing follows them."""
+    text = VETH.read_bytes()
+    thrice = text + text[24:] + text[24:]
+    cases = [("veth.pcap", text, 118), *(("veth.pcap " * 3, thrice, blocks) for blocks in [1, 63, 64, 65, 100, 300])]
+    for captures, wanted, blocks in cases:
+        scene.start({"veth.pcap": text, "listeners.txt": "0 0 0 1048576 64 out.pcap\n"})
+        room = blocks * 1024
+        seen = scene.run(f"run listeners.txt {captures}", first=f"trap '' XFSZ\nulimit -f {blocks}")
+        # How many packets arrived before the listener was found closed is the threads' to say.
+        line = rf"interface 0 listener 0 received \d+ matched \d+ dropped 0 written {whole_in(wanted, room)} Write {room}\n"
+        scene.check(f"{blocks}: a line of {seen.out}", bool(re.fullmatch(line, seen.out.decode())), True)
+        scene.check(f"{blocks}: faults", (seen.err, seen.status), (b"", 3))
+        scene.check(f"{blocks}: OUT", scene.read("out.pcap"), wanted[:room])
+
+
+def size_while_open(scene, flush, seconds):
+    """The size of OUT while the fifo of 5,000 packets that fit into a store is still open, or once it is above 0."""
+    scene.start({"listeners.txt": f"0 {flush} 0 1048576 2 out.pcap\n"})
+    os.mkfifo(scene.folder / "fifo")
+    out = scene.folder / "out.pcap"
+    size = 0
+    with subprocess.Popen([PROGRAM, "run", "listeners.txt", "fifo"], cwd=scene.folder, stdout=subprocess.PIPE) as running:
+        with open(scene.folder / "fifo", "wb") as fifo:
+            fifo.write(HEADER + T * 5000)
+            fifo.flush()
+            end = time.monotonic() + seconds
+            while size == 0 and time.monotonic() < end:
+                time.sleep(0.01)
+                size = out.stat().st_size if out.exists() else 0
+        printed = running.communicate(timeout=LIMIT)[0].decode()
+    scene.check(f"FLUSH {flush}: printed", printed, report((0, 0), 5000, 5000))
+    scene.check(f"FLUSH {flush}: OUT", scene.read("out.pcap"), HEADER + T * 5000)
+    return size
+
+
+@case
+def a_flush_of_0_is_none(scene):
+    """With FLUSH 0 nothing is written of a store that is not full, and with another one behind so many packets."""
+    scene.check("FLUSH 4096 writes", size_while_open(scene, 4096, 60) > 0, True)
+    scene.check("FLUSH 0 writes", size_while_open(scene, 0, 1), 0)

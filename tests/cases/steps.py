@@ -33,6 +33,11 @@ def files_are_looked_at_in_order(scene):
     scene.put(FILES)
     for words, status, fault in REFUSED:
         scene.refuse(f"steps {words}", status, fault)
+    # Too many captures are refused behind bad lines, and before one of them is read.
+    many = ["none.pcap"] * 65537
+    scene.refuse(["steps", "l.txt", "s.txt", *many], 1, "TooMany")
+    scene.refuse(["steps", "l.txt", "s.txt", *many[1:]], 3, "Device none.pcap")
+    scene.refuse(["steps", "l.txt", "bad.txt", *many], 1, "Script 1")
 
 
 @case

@@ -1,7 +1,7 @@
 """Standard streams that are closed or full: no file of a command gets what is told or printed there."""
 import itertools
 
-from .common import ALL, HEADER, IP, TCP_RECORD, TORN, UDP_RECORD, WHOLE, as_bytes, case, header, told
+from .common import ALL, HEADER, IP, TCP_RECORD, TORN, UDP_RECORD, WHOLE, Seen, as_bytes, case, header, told
 from .steps import EXPLAINED, REPORT
 
 FILES = {
@@ -68,3 +68,49 @@ def a_full_device_is_told(scene):
     scene.expect("run two.txt tu.pcap torn.pcap", 3, told(FULL, "Interface 0 Capture 1 TornRecord 1"), streams=">/dev/full")
     scene.check("one OUT", scene.read("tcp.pcap"), header(64) + TCP_RECORD)
     scene.check("the other OUT", scene.read("all.pcap"), HEADER + TCP_RECORD + UDP_RECORD + WHOLE[24:])
+
+
+@case
+def a_pipe_that_nobody_reads_is_no_fault_to_tell(scene):
+    """What a broken pipe does not take ends with status 3, of which nothing is told; other faults are."""
+    scene.put(FILES)
+    steps = ["steps l.txt s.txt whole.pcap", "steps -v l.txt s.txt whole.pcap"]
+    for words in ["--help", "check ip", *steps, "run r.txt whole.pcap"]:
+        scene.check(f"{words} |", scene.run_unread(words), Seen(b"", b"", 3))
+    scene.check("OUT", scene.read("out.pcap"), WHOLE)
+    torn = as_bytes(told("Capture 0 TornRecord 1"))
+    scene.check("steps of a torn capture |", scene.run_unread("steps l.txt s.txt torn.pcap"), Seen(b"", torn, 3))
+
+
+# Words whose OUT, or a file of theirs that is read, is a file that a stream goes to; the stream, and the fault.
+SHARED = [
+    ("run r.txt whole.pcap", ">>out.pcap", "out.pcap"),
+    ("run r.txt whole.pcap", ">>./out.pcap", "out.pcap"),
+    ("run r.txt whole.pcap", ">>whole.pcap", "whole.pcap"),
+    ("run r.txt torn.pcap + torn.pcap whole.pcap", ">>whole.pcap", "whole.pcap"),
+    ("run r.txt whole.pcap", ">>r.txt", "r.txt"),
+    ("run stdout.txt whole.pcap", ">>out.pcap", "/dev/stdout"),
+    ("run stdout.txt whole.pcap", "", "/dev/stdout"),
+    ("steps l.txt s.txt whole.pcap", ">>l.txt", "l.txt"),
+    ("steps l.txt s.txt whole.pcap", ">>s.txt", "s.txt"),
+    ("steps l.txt s.txt torn.pcap whole.pcap", ">>./whole.pcap", "whole.pcap"),
+]
+
+
+@case
+def a_stream_is_a_file_too(scene):
+    """No OUT, and no file that is read, is the file that is printed to; and no OUT the one that faults are told to."""
+    scene.put({**FILES, "stdout.txt": "0 0 0 1048576 2 /dev/stdout\n", "out.pcap": "kept"})
+    before = scene.files()
+    for words, streams, path in SHARED:
+        scene.expect(words, 1, told(f"SameFile {path}"), streams=streams)
+        scene.check(f"files behind {words} {streams}", scene.files(), before)
+    for words in ["run r.txt whole.pcap", "cut -s 0 whole.pcap out.pcap", "cut -s 0 whole.pcap /dev/stderr"]:
+        path = words.split()[-1] if words.startswith("cut") else "out.pcap"
+        scene.expect(words, 1, streams="2>out.pcap")
+        scene.check(f"{words} 2>out.pcap", scene.read("out.pcap"), as_bytes(told(f"SameFile {path}")))
+    # A cut prints nothing, so that its OUT may be what standard output goes to.
+    scene.expect("cut -s 0 whole.pcap /dev/stdout", streams=">out.pcap")
+    scene.check("cut to standard output", scene.read("out.pcap"), WHOLE)
+    scene.expect("cut -s 0 whole.pcap out.pcap", streams=">out.pcap")
+    scene.check("cut to the file of standard output", scene.read("out.pcap"), WHOLE)

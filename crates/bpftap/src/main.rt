@@ -2,9 +2,12 @@
 #![tactic(auto)]
 
 mod files;
+mod paths;
 mod program;
+mod retried;
 mod run_files;
 mod steps_files;
+mod tally;
 
 use lines::telling::tell_words;
 use std::process::ExitCode;

@@ -1,6 +1,10 @@
 //! The commands, over files.
 
-use crate::files::{LateFile, hold_stream, is_same_file};
+ghost use Rattle.std.specs.Prelude.{◌≤◌, IfErr, MatchResult};
+
+use crate::files::{LateFile, hold_stream};
+use crate::paths::all_apart;
+use crate::retried::Retried;
 use crate::run_files::{NamesFiles, run_files};
 use crate::steps_files::steps_files;
 use bpfvm::Program;
@@ -9,7 +13,7 @@ use cutting::check::check;
 use cutting::cut::{CutEnd, End, cut};
 use cutting::filter::filter;
 use cutting::tell::tell;
-use lines::telling::{Path, REFUSED, tell_device, tell_fault};
+use lines::telling::{REFUSED, tell_device, tell_fault, tell_written};
 use savefile::{Counted, Fault};
 use std::convert::AsStr;
 use std::fs::Files;
@@ -29,42 +33,42 @@ pub fn run<
     S: AsStr,
     O: Write,
     E: Write,
->(rt: &R, words: &[S], out: &mut O, err: &mut E) -> u8 {
+>(rt: &R, words: &[S], out: &mut O, err: &mut E) -> u8
+    ensures { result ≤ 3 }
+{
     let _input = hold_stream(rt);
     let _output = hold_stream(rt);
     let _error = hold_stream(rt);
-    match read_words(rt.alloc(), words) {
-        Ok(Request::Check(expr)) => check(rt.alloc(), expr, out, err),
+    let ended = match read_words(rt.alloc(), words) {
+        Ok(Request::Check(expr)) => Ok(check(rt.alloc(), expr, out, err)),
         Ok(Request::Cut(words)) => cut_files(rt, &words, err),
-        Ok(Request::Steps(words)) => match steps_files(rt, &words, out, err) {
-            Ok(status) => status,
-            Err(status) => status,
-        },
-        Ok(Request::Run(words)) => match run_files(rt, &words, out, err) {
-            Ok(status) => status,
-            Err(status) => status,
-        },
-        Err(error) => tell_clap(&error, out, err),
+        Ok(Request::Steps(words)) => steps_files(rt, &words, out, err),
+        Ok(Request::Run(words)) => run_files(rt, &words, out, err),
+        Err(error) => Err(tell_clap(&error, out, err)),
+    };
+    match ended {
+        Ok(status) | Err(status) => status,
     }
 }
 
 /// Help goes to `out` with status 0, what is wrong with the words to `err` with status 1.
-fn tell_clap<O: Write, E: Write>(error: &Error, out: &mut O, err: &mut E) -> u8 {
+fn tell_clap<O: Write, E: Write>(error: &Error, out: &mut O, err: &mut E) -> u8
+    ensures { result ≤ 3 }
+{
     if error.kind() == clap::error::ErrorKind::OutOfMemory {
         tell_fault(Fault::NoMemory, REFUSED, err)
     } else if error.use_stderr() {
         let _ = write!(err, "{error}");
         REFUSED
     } else {
-        match write!(out, "{error}") {
-            Ok(()) => 0,
-            Err(_) => tell_device("standard output", err),
-        }
+        tell_written(write!(out, "{error}"), err)
     }
 }
 
 /// Tells that a file could not be opened or read, or that memory was refused.
-pub fn tell_io<E: Write>(error: &io::Error, path: &str, err: &mut E) -> u8 {
+pub fn tell_io<E: Write>(error: &io::Error, path: &str, err: &mut E) -> u8
+    ensures { result ≤ 3 }
+{
     if error.kind() == ErrorKind::OutOfMemory {
         tell_fault(Fault::NoMemory, REFUSED, err)
     } else {
@@ -77,7 +81,9 @@ pub fn read_file<R: Files + AllocGlobal, E: Write>(
     rt: &R,
     path: &str,
     err: &mut E,
-) -> Result<Vec<u8>, u8> {
+) -> Result<Vec<u8>, u8>
+    ensures { IfErr result (λ status. status ≤ 3) }
+{
     match fs::read(rt, path) {
         Ok(text) => Ok(text),
         Err(error) => Err(tell_io(&error, path, err)),
@@ -89,7 +95,9 @@ fn filter_of<R: Files + AllocGlobal, E: Write>(
     rt: &R,
     words: &CutWords<'_>,
     err: &mut E,
-) -> Result<Program, u8> {
+) -> Result<Program, u8>
+    ensures { IfErr result (λ status. status ≤ 3) }
+{
     let alloc = rt.alloc();
     match words.listing {
         Some(path) if words.expr.is_none() => match fs::read(rt, path) {
@@ -101,30 +109,24 @@ fn filter_of<R: Files + AllocGlobal, E: Write>(
     }
 }
 
-/// Whether OUT is one of the files that are read.
-fn loses_a_file<R: Files + AllocGlobal>(rt: &R, words: &CutWords<'_>) -> bool {
+/// `bpftap cut`: the filter is accepted, and the paths are compared, before IN is opened. OUT is made at its first write.
+#[tactic(auto, using(crate::proofs::Statuses::cut_bound))]
+fn cut_files<R: Files + AllocGlobal, E: Write>(
+    rt: &R,
+    words: &CutWords<'_>,
+    err: &mut E,
+) -> Result<u8, u8>
+    ensures { MatchResult result (λ status. status ≤ 3) (λ status. status ≤ 3) }
+{
+    let program = filter_of(rt, words, err)?;
+    // Nothing may be lost: OUT is neither of the files that are read, nor the one that faults are told to.
     let listing = words.listing.unwrap_or(words.input);
-    is_same_file(rt, words.input, words.output) || is_same_file(rt, listing, words.output)
-}
-
-/// `bpftap cut`: the filter is accepted before IN is opened, and OUT is made at its first write.
-fn cut_files<R: Files + AllocGlobal, E: Write>(rt: &R, words: &CutWords<'_>, err: &mut E) -> u8 {
-    let program = match filter_of(rt, words, err) {
-        Ok(program) => program,
-        Err(status) => return status,
-    };
+    let read = [listing, words.input];
+    all_apart(rt, None, &read, &[words.output], err)?;
     let input = match fs::open(rt, words.input) {
-        Ok(input) => input,
-        Err(error) => return tell_io(&error, words.input, err),
+        Ok(input) => Retried::new(input),
+        Err(error) => return Err(tell_io(&error, words.input, err)),
     };
-    // Nothing may be lost: OUT is neither of the files that are read.
-    if loses_a_file(rt, words) {
-        return tell_fault(
-            format_args!("SameFile {}", Path(words.output)),
-            REFUSED,
-            err,
-        );
-    }
     let late = LateFile::new(rt, words.output);
     match BufWriter::with_capacity(rt.alloc(), OUTPUT_BUFFER, late) {
         Ok(output) => {
@@ -138,9 +140,9 @@ fn cut_files<R: Files + AllocGlobal, E: Write>(rt: &R, words: &CutWords<'_>, err
                 words.unit,
                 to,
             );
-            tell(&flushed(end), words.input, words.output, err)
+            Ok(tell(&flushed(end), words.input, words.output, err))
         }
-        Err(error) => tell_io(&error, words.output, err),
+        Err(error) => Err(tell_io(&error, words.output, err)),
     }
 }
 

@@ -1,9 +1,13 @@
 //! `bpftap run`, over files.
 
-use crate::files::{LateFile, LateInput, lost_file};
+ghost use Rattle.std.specs.Prelude.{◌≤◌, IfErr, MatchResult};
+
+use crate::files::{LateFile, LateInput};
+use crate::paths::{STANDARD_OUTPUT, all_apart};
 use crate::program::read_file;
-use lines::telling::{Path, REFUSED, tell_fault};
-use replay::{InterfaceReport, ListenerReport, RunFault, TaskEnd};
+use crate::tally::{Output, Tallied, flush_all};
+use lines::telling::{REFUSED, tell_fault};
+use replay::RunFault;
 use running::reports::tell_run;
 use running::run::{Plan, read_plan, replay_plan};
 use savefile::{Counted, Fault};
@@ -22,7 +26,7 @@ const OUTPUT_BUFFER: usize = 1 << 16;
 type Input<'r, 'p> = Counted<LateInput<'r, 'p, HostRuntime>>;
 
 /// A capture that is written.
-type Output<'r, 'p> = Counted<BufWriter<LateFile<'r, 'p, HostRuntime>>>;
+type LateOutput<'r, 'p> = Output<LateFile<'r, 'p, HostRuntime>>;
 
 /// The captures of an interface, none of them opened.
 fn sources<'r, 'p>(
@@ -55,30 +59,13 @@ fn sinks<'r, 'p>(
     files: &'r HostRuntime,
     alloc: Global,
     outputs: &[&'p str],
-) -> io::Result<Vec<Output<'r, 'p>>> {
+) -> io::Result<Vec<LateOutput<'r, 'p>>> {
     let mut sinks = Vec::with_capacity(alloc, outputs.len())?;
     for path in outputs {
-        let late = LateFile::new(files, *path);
-        sinks.push(Counted::new(BufWriter::with_capacity(alloc, OUTPUT_BUFFER, late)?))?;
+        let out = Tallied::new(LateFile::new(files, *path));
+        sinks.push(Counted::new(BufWriter::with_capacity(alloc, OUTPUT_BUFFER, out)?))?;
     }
     Ok(sinks)
-}
-
-/// Empties the buffer before an OUT. What fails only now is a failed write too, and what was written is what the file took.
-fn flush_one(report: &mut ListenerReport<Output<'_, '_>>) {
-    let flushed = report.sink.inner.flush();
-    if flushed.is_err() || matches!(&report.end, TaskEnd::Write(_)) {
-        report.end = TaskEnd::Write(report.sink.inner.get_ref().taken());
-    }
-}
-
-/// Empties the buffers before all captures that are written.
-fn flush_all(reports: &mut [InterfaceReport<Input<'_, '_>, Output<'_, '_>>]) {
-    for report in reports {
-        for listener in report.listeners.as_mut_slice() {
-            flush_one(listener);
-        }
-    }
 }
 
 /// All paths that are read.
@@ -96,38 +83,44 @@ fn written_paths<'a>(alloc: Global, plan: &Plan<'a>) -> Result<Vec<&'a str>, All
     plan.lines.iter().map(|line| line.output).collect(alloc)
 }
 
-/// The path that is written and is one of those that are read, or is written twice.
-fn lost_path<'p>(
+/// Nothing may be lost: no OUT is a file that is read, the file of another OUT, or the one that the lines are printed to.
+fn looked_at<E: Write>(
     files: &HostRuntime,
     alloc: Global,
     words: &RunWords<'_>,
-    plan: &Plan<'p>,
-) -> Result<Option<&'p str>, AllocError> {
-    let (inputs, outputs) = (read_paths(alloc, words)?, written_paths(alloc, plan)?);
-    lost_file(files, alloc, inputs.as_slice(), outputs.as_slice())
+    plan: &Plan<'_>,
+    err: &mut E,
+) -> Result<(), u8>
+    ensures { IfErr result (λ status. status ≤ 3) }
+{
+    let (Ok(read), Ok(written)) = (read_paths(alloc, words), written_paths(alloc, plan)) else {
+        return Err(tell_fault(Fault::NoMemory, REFUSED, err));
+    };
+    all_apart(
+        files,
+        Some(STANDARD_OUTPUT),
+        read.as_slice(),
+        written.as_slice(),
+        err,
+    )
 }
 
-/// Looks at the lines of LISTENERS and compiles the expressions. Nothing may be lost: no OUT is a file that is read, or the
-/// file of another OUT.
+/// Looks at the lines of LISTENERS, compiles the expressions, and looks at the paths.
 fn accepted<'p, E: Write>(
     files: &HostRuntime,
     alloc: Global,
     words: &RunWords<'_>,
     listeners: &'p [u8],
     err: &mut E,
-) -> Result<Plan<'p>, u8> {
+) -> Result<Plan<'p>, u8>
+    ensures { IfErr result (λ status. status ≤ 3) }
+{
     let plan = match read_plan(alloc, listeners, words.inputs.len()) {
         Ok(plan) => plan,
         Err(fault) => return Err(tell_fault(fault, REFUSED, err)),
     };
-    match lost_path(files, alloc, words, &plan) {
-        Ok(None) => Ok(plan),
-        Ok(Some(path)) => {
-            let fault = format_args!("SameFile {}", Path(path));
-            Err(tell_fault(fault, REFUSED, err))
-        }
-        Err(_) => Err(tell_fault(Fault::NoMemory, REFUSED, err)),
-    }
+    looked_at(files, alloc, words, &plan, err)?;
+    Ok(plan)
 }
 
 /// What is replayed over files, each of which is opened when it is first read or written.
@@ -135,7 +128,7 @@ fn accepted<'p, E: Write>(
 pub struct LateFiles<'r, 'i, 'o> {
     plan: Plan<'o>,
     captures: Vec<Vec<Input<'r, 'i>>>,
-    sinks: Vec<Output<'r, 'o>>,
+    sinks: Vec<LateOutput<'r, 'o>>,
 }
 
 /// The files that are replayed, and those that are written.
@@ -167,7 +160,8 @@ pub trait NamesFiles {
         words: &RunWords<'i>,
         listeners: &'o [u8],
         err: &mut E,
-    ) -> Result<LateFiles<'r, 'i, 'o>, u8>;
+    ) -> Result<LateFiles<'r, 'i, 'o>, u8>
+        ensures { IfErr result (λ status. status ≤ 3) };
 }
 
 impl NamesFiles for HostRuntime {
@@ -192,7 +186,9 @@ pub fn run_files<R: Files + AllocGlobal + NamesFiles + Threads + Wait + Sync, O:
     words: &RunWords<'_>,
     out: &mut O,
     err: &mut E,
-) -> Result<u8, u8> {
+) -> Result<u8, u8>
+    ensures { MatchResult result (λ status. status ≤ 3) (λ status. status ≤ 3) }
+{
     let alloc = rt.alloc();
     let listeners = read_file(rt, words.listeners, err)?;
     let LateFiles {

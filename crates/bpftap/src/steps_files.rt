@@ -1,5 +1,8 @@
 //! `bpftap steps`, over files.
 
+ghost use Rattle.std.specs.Prelude.{◌≤◌, IfErr, MatchResult};
+
+use crate::paths::{STANDARD_OUTPUT, all_apart};
 use crate::program::read_file;
 use lines::telling::{REFUSED, tell_fault};
 use savefile::Fault;
@@ -7,6 +10,7 @@ use std::alloc::{AllocError, Global};
 use std::fs::Files;
 use std::io::{BufWriter, Write};
 use stepping::steps::{play_asked, read_asked};
+use tap::MOST_CAPTURES;
 use words::steps::StepsWords;
 
 /// How many bytes of output are gathered before they are written.
@@ -17,7 +21,9 @@ fn read_captures<R: Files + AllocGlobal, E: Write>(
     rt: &R,
     paths: &[&str],
     err: &mut E,
-) -> Result<Vec<Vec<u8>>, u8> {
+) -> Result<Vec<Vec<u8>>, u8>
+    ensures { IfErr result (λ status. status ≤ 3) }
+{
     let mut texts = Vec::new(rt.alloc());
     for path in paths {
         let text = read_file(rt, path, err)?;
@@ -32,13 +38,40 @@ fn lent(alloc: Global, texts: &[Vec<u8>]) -> Result<Vec<&[u8]>, AllocError> {
     texts.iter().map(|text| text.as_slice()).collect(alloc)
 }
 
+/// Looks at the captures before one of them is read: there may not be too many, and no file that is read may be the one that the
+/// reports are printed to.
+fn looked_at<R: Files + AllocGlobal, E: Write>(
+    rt: &R,
+    words: &StepsWords<'_>,
+    err: &mut E,
+) -> Result<(), u8>
+    ensures { IfErr result (λ status. status ≤ 3) }
+{
+    if words.inputs.len() > MOST_CAPTURES {
+        return Err(tell_fault(tap::Fault::TooMany, REFUSED, err));
+    }
+    let Ok(read) = read_paths(rt.alloc(), words) else {
+        return Err(tell_fault(Fault::NoMemory, REFUSED, err));
+    };
+    all_apart(rt, Some(STANDARD_OUTPUT), read.as_slice(), &[], err)
+}
+
+/// All paths that are read.
+fn read_paths<'a>(alloc: Global, words: &StepsWords<'a>) -> Result<Vec<&'a str>, AllocError> {
+    let mut paths = Vec::from_slice(alloc, &[words.listeners, words.script])?;
+    paths.extend_from_slice(words.inputs.as_slice())?;
+    Ok(paths)
+}
+
 /// Reads LISTENERS and SCRIPT, looks at their lines, reads the captures, and plays the script.
 pub fn steps_files<R: Files + AllocGlobal, O: Write, E: Write>(
     rt: &R,
     words: &StepsWords<'_>,
     out: &mut O,
     err: &mut E,
-) -> Result<u8, u8> {
+) -> Result<u8, u8>
+    ensures { MatchResult result (λ status. status ≤ 3) (λ status. status ≤ 3) }
+{
     let alloc = rt.alloc();
     let listeners = read_file(rt, words.listeners, err)?;
     let script = read_file(rt, words.script, err)?;
@@ -46,6 +79,7 @@ pub fn steps_files<R: Files + AllocGlobal, O: Write, E: Write>(
         Ok(asked) => asked,
         Err(fault) => return Err(tell_fault(fault, REFUSED, err)),
     };
+    looked_at(rt, words, err)?;
     let texts = read_captures(rt, words.inputs.as_slice(), err)?;
     let (Ok(captures), Ok(mut out)) = (
         lent(alloc, texts.as_slice()),

@@ -11,7 +11,7 @@ use filtergen::compile_text;
 use lines::MAX_SNAP;
 use lines::telling::{DEVICE, REFUSED, tell_device, tell_fault};
 use std::alloc::Global;
-use std::io::Write;
+use std::io::{ErrorKind, Write};
 
 /// Prints the listing of an expression's program at the largest snapshot length, 262,144, with status 0.
 ///
@@ -62,6 +62,8 @@ pub fn show<O: Write, E: Write>(
     match text_of(alloc, program, form) {
         Ok(text) => match out.write_all(text.as_slice()) {
             Ok(()) => 0,
+            // Nobody reads there any more.
+            Err(error) if error.kind() == ErrorKind::BrokenPipe => DEVICE,
             Err(_) => tell_device("standard output", err),
         },
         Err(fault) => tell_fault(fault, REFUSED, err),

@@ -1,21 +1,19 @@
-//! The files of a command over a made system, whose descriptors are numbers and whose files break; and which files are
-//! one.
+//! The files of a command over a made system, whose descriptors are numbers, whose files break, and whose calls a signal
+//! breaks.
 
-use super::{FileId, LateFile, file_at};
+use super::LateFile;
 use crate::program::run;
 use crate::run_files::{LateFiles, NamesFiles};
 use lines::telling::REFUSED;
 use std::alloc::{Allocator, Global};
 use std::fs::{Files, Metadata, OpenFile, OpenOptions};
+use std::io;
 use std::io::{ErrorKind, Read, Seek, SeekFrom, Write};
-use std::os::unix::fs::MetadataExt;
 use std::process::Abort;
 use std::sync::Wait;
 use std::sync::atomic::Ordering::SeqCst;
 use std::sync::atomic::{AtomicBool, AtomicU32, AtomicUsize};
-use std::test::Fail;
 use std::thread::Threads;
-use std::{fs, io, process};
 use words::run::RunWords;
 
 /// Enough for the standard streams, and all files of a command at once.
@@ -27,13 +25,16 @@ const LISTING: &[u8] = b"1\n6 0 0 262144\n";
 const TORN: &[u8] =
     b"\xd4\xc3\xb2\xa1\x02\0\x04\0\0\0\0\0\0\0\0\0\0\0\x04\0\x01\0\0\0\x02\0\0\0\0\0\0";
 
-/// Which descriptors are taken, and which one OUT was given; how many of the next calls that make or write a file are
-/// refused, and how many calls there were.
+/// Which descriptors are taken, and which one OUT was given; whether it is told what stands at a path; how many of the next
+/// calls that make or write a file are refused, whether the one that is refused answers that it took nothing, and how many
+/// calls there were.
 #[derive(Drop)]
 struct Table {
     taken: [AtomicBool; DESCRIPTORS],
     output: AtomicUsize,
+    is_told: AtomicBool,
     refused: AtomicU32,
+    takes_nothing: AtomicBool,
     calls: AtomicU32,
 }
 
@@ -56,7 +57,9 @@ impl Table {
                 AtomicBool::new(false),
             ],
             output: AtomicUsize::new(NONE),
+            is_told: AtomicBool::new(true),
             refused: AtomicU32::new(0),
+            takes_nothing: AtomicBool::new(false),
             calls: AtomicU32::new(0),
         }
     }
@@ -107,11 +110,24 @@ impl<T> NamesFiles for (System<'_, T>, Global) {
     }
 }
 
-/// A file of it, whose descriptor is free again when it is let go.
+/// A file of it, whose descriptor is free again when it is let go. A signal breaks its calls in turn, the first one too.
 struct Numbered<'a> {
     number: usize,
     table: &'a Table,
     left: &'static [u8],
+    is_broken_off: bool,
+}
+
+impl Numbered<'_> {
+    /// Breaks off each call but every second one.
+    fn turn(&mut self) -> io::Result<()> {
+        self.is_broken_off = !self.is_broken_off;
+        if self.is_broken_off {
+            Err(io::Error::from(ErrorKind::Interrupted))
+        } else {
+            Ok(())
+        }
+    }
 }
 
 impl Drop for Numbered<'_> {
@@ -120,6 +136,7 @@ impl Drop for Numbered<'_> {
             number,
             table,
             left: _,
+            is_broken_off: _,
         } = self;
         table.set(number, false);
     }
@@ -127,14 +144,19 @@ impl Drop for Numbered<'_> {
 
 impl Read for Numbered<'_> {
     fn read(&mut self, buf: &mut [u8]) -> io::Result<usize> {
+        self.turn()?;
         self.left.read(buf)
     }
 }
 
 impl Write for Numbered<'_> {
     fn write(&mut self, buf: &[u8]) -> io::Result<usize> {
-        self.table.call()?;
-        Ok(buf.len())
+        self.turn()?;
+        match self.table.call() {
+            Ok(()) => Ok(buf.len()),
+            Err(_) if self.table.takes_nothing.load(SeqCst) => Ok(0),
+            Err(error) => Err(error),
+        }
     }
 
     fn flush(&mut self) -> io::Result<()> {
@@ -190,6 +212,7 @@ impl<'a, T> Files for System<'a, T> {
             number,
             table,
             left,
+            is_broken_off: false,
         })
     }
 
@@ -198,7 +221,11 @@ impl<'a, T> Files for System<'a, T> {
     }
 
     fn metadata(&self, _path: &str) -> io::Result<Metadata> {
-        Err(io::Error::from(ErrorKind::NotFound))
+        if self.table.is_told.load(SeqCst) {
+            Err(io::Error::from(ErrorKind::NotFound))
+        } else {
+            Err(io::Error::from(ErrorKind::Other))
+        }
     }
 
     fn symlink_metadata(&self, _path: &str) -> io::Result<Metadata> {
@@ -230,24 +257,27 @@ impl<'a, T> Files for System<'a, T> {
     }
 }
 
-/// Cuts the torn capture with these of the standard streams open, and looks where OUT went.
-fn cut_with(rt: &(impl Abort + AllocGlobal + Threads + Wait + Sync), open: [bool; 3]) {
-    let table = Table::new(open);
-    let system = (
-        System {
-            table: &table,
-            threads: rt,
-        },
-        rt.alloc(),
-    );
+/// Cuts the torn capture on a system, and looks what is told and answered.
+fn cut_on(
+    rt: &(impl Abort + AllocGlobal + Threads + Wait + Sync),
+    table: &Table,
+    fault: &[u8],
+    status: u8,
+) {
+    let system = (System { table, threads: rt }, rt.alloc());
     let mut out: Vec<u8> = Vec::new(rt.alloc());
     let mut err: Vec<u8> = Vec::new(rt.alloc());
     let words = [
         "bpftap", "cut", "-s", "0", "-f", "all.bpf", "in.pcap", "out.pcap",
     ];
-    let status = run(&system, &words, &mut out, &mut err);
-    assert_eq!(rt; status, 2, "{open:?}");
-    assert_eq!(rt; err.as_slice(), b"bpftap: TornRecord 0\n".as_slice());
+    assert_eq!(rt; run(&system, &words, &mut out, &mut err), status);
+    assert_eq!(rt; err.as_slice(), fault);
+}
+
+/// Cuts the torn capture with these of the standard streams open, and looks where OUT went.
+fn cut_with(rt: &(impl Abort + AllocGlobal + Threads + Wait + Sync), open: [bool; 3]) {
+    let table = Table::new(open);
+    cut_on(rt, &table, b"bpftap: TornRecord 0\n", 2);
     let output = table.output.load(SeqCst);
     assert!(rt;
         output > 2 && output != NONE,
@@ -266,6 +296,17 @@ fn no_file_takes_the_place_of_a_closed_stream(rt: HostRuntime) {
     }
 }
 
+#[test]
+fn nothing_is_made_where_a_path_is_not_told(rt: HostRuntime) {
+    let table = Table::new([true; 3]);
+    table.is_told.store(false, SeqCst);
+    cut_on(&rt, &table, b"bpftap: Device all.bpf\n", 3);
+    assert_eq!(rt;
+        (table.output.load(SeqCst), table.calls.load(SeqCst)),
+        (NONE, 0)
+    );
+}
+
 /// Writes a file of which the next call to be made is refused, and looks that no further one is.
 fn fail_once<R: Files>(rt: &impl Abort, system: &R, table: &Table, is_made: bool) {
     let mut file = LateFile::new(system, "out.pcap");
@@ -274,7 +315,8 @@ fn fail_once<R: Files>(rt: &impl Abort, system: &R, table: &Table, is_made: bool
     }
     let before = table.calls.load(SeqCst);
     table.refused.store(1, SeqCst);
-    assert!(rt; file.write(b"b").is_err());
+    let takes_nothing = table.takes_nothing.load(SeqCst);
+    assert_eq!(rt; file.write(b"b").ok(), takes_nothing.then_some(0));
     assert!(rt; file.write(b"c").is_err());
     assert!(rt; file.flush().is_err());
     assert_eq!(rt; table.calls.load(SeqCst), before.wrapping_add(1));
@@ -282,36 +324,14 @@ fn fail_once<R: Files>(rt: &impl Abort, system: &R, table: &Table, is_made: bool
 
 #[test]
 fn a_file_that_failed_is_not_touched_again(rt: HostRuntime) {
-    // The call that makes the file is refused, or the one that writes it.
-    for is_made in [false, true] {
+    // The call that makes the file is refused; or the one that writes it, or that one takes nothing.
+    for (is_made, takes_nothing) in [(false, false), (true, false), (true, true)] {
         let table = Table::new([false; 3]);
+        table.takes_nothing.store(takes_nothing, SeqCst);
         let system = System {
             table: &table,
             threads: &rt,
         };
         fail_once(&rt, &system, &table, is_made);
     }
-}
-
-#[test]
-fn a_file_is_told_by_its_device_and_its_inode(rt: HostRuntime) -> Result<(), Fail> {
-    let path = format!(in rt.alloc(); "/tmp/bpftap-file-{}", process::id(rt.process()))?;
-    fs::write(&rt, path.as_str(), b"".as_slice())?;
-    let metadata = fs::metadata(&rt, path.as_str())?;
-    let file = FileId {
-        device: metadata.dev(),
-        inode: metadata.ino(),
-    };
-    assert_eq!(rt; file_at(&rt, path.as_str()), Some(file));
-    // A file of another device may have the same inode.
-    let other = FileId {
-        device: file.device ^ 1,
-        inode: file.inode,
-    };
-    assert!(rt; file != other);
-    assert_eq!(rt; file_at(&rt, "/dev/null"), None);
-    assert_eq!(rt; file_at(&rt, "/tmp"), None);
-    fs::remove_file(&rt, path.as_str())?;
-    assert_eq!(rt; file_at(&rt, path.as_str()), None);
-    Ok(())
 }

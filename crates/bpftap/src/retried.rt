@@ -1,0 +1,61 @@
+//! Calls that a signal broke, which are made again.
+
+ghost use Rattle.std.specs.Prelude.{◌≡◌, ◌≢◌, ◌↔◌, IfErr, IsTrue};
+ghost use Rattle.std.specs.Io.{ReadsAtMost, WritesAtMost};
+ghost use Rattle.std.specs.IoError.{error_kind};
+
+use std::io;
+use std::io::{ErrorKind, Read, Write};
+
+/// A reader or a writer whose calls are made again where a signal broke them: that is no fault of a device.
+#[derive(Debug, Drop)]
+pub struct Retried<T> {
+    inner: T,
+}
+
+impl<T> Retried<T> {
+    pub fn new(inner: T) -> Retried<T> {
+        Retried { inner }
+    }
+}
+
+/// Whether a signal broke a call.
+fn is_broken_off(error: &io::Error) -> bool
+    ensures { IsTrue result ↔ (error_kind error.now ≡ ErrorKind.Interrupted) }
+{
+    error.kind() == ErrorKind::Interrupted
+}
+
+impl<T: Read> Read for Retried<T> {
+    fn read(&mut self, to: &mut [u8]) -> io::Result<usize>
+        ensures bound { ReadsAtMost result to.new }
+        ensures retried { IfErr result (λ error. error_kind error ≢ ErrorKind.Interrupted) }
+    {
+        for _ in 0..u64::MAX {
+            match self.inner.read(to) {
+                Err(error) if is_broken_off(&error) => {}
+                read => return read,
+            }
+        }
+        Err(io::Error::from(ErrorKind::TimedOut))
+    }
+}
+
+impl<T: Write> Write for Retried<T> {
+    fn write(&mut self, from: &[u8]) -> io::Result<usize>
+        ensures bound { WritesAtMost result from.now }
+        ensures retried { IfErr result (λ error. error_kind error ≢ ErrorKind.Interrupted) }
+    {
+        for _ in 0..u64::MAX {
+            match self.inner.write(from) {
+                Err(error) if is_broken_off(&error) => {}
+                written => return written,
+            }
+        }
+        Err(io::Error::from(ErrorKind::TimedOut))
+    }
+
+    fn flush(&mut self) -> io::Result<()> {
+        self.inner.flush()
+    }
+}

@@ -1,0 +1,170 @@
+//! How many packets of a capture are whole in what a file took of it.
+
+ghost use Rattle.std.specs.Prelude.{◌≡◌, ◌≤◌};
+
+use replay::{InterfaceReport, ListenerReport, TaskEnd};
+use savefile::Counted;
+use std::io;
+use std::io::{BufWriter, Write};
+
+/// What the next byte of a capture belongs to.
+#[derive(Clone, Copy, Debug, PartialEq, Eq)]
+enum Part {
+    /// The capture's header, of which so many bytes are missing.
+    FileHeader(usize),
+    /// A record's header, of which so many bytes came, and the captured length as far as it came.
+    RecordHeader(usize, u32),
+    /// The bytes of a packet, of which so many are missing.
+    Packet(usize),
+}
+
+/// How many bytes the header of a capture has.
+const FILE_HEADER: usize = 24;
+
+/// The place of the last byte of a record's header, and those of the captured length's first and last one.
+const HEADER_END: usize = 15;
+
+const LENGTH_START: usize = 8;
+
+const LENGTH_END: usize = 11;
+
+/// What a byte of a record's header, at this place, adds to the captured length, which is little-endian.
+fn length_part(place: usize, byte: u8) -> u32 {
+    if place < LENGTH_START || place > LENGTH_END {
+        return 0;
+    }
+    u32::from(byte) << (8 * (place - LENGTH_START))
+}
+
+/// Counts the packets that are whole in the bytes of a little-endian capture, which come in pieces of any length.
+#[derive(Clone, Copy, Debug)]
+struct Tally {
+    whole: u64,
+    part: Part,
+}
+
+impl Tally {
+    fn new() -> Tally {
+        Tally {
+            whole: 0,
+            part: Part::FileHeader(FILE_HEADER),
+        }
+    }
+
+    /// Begins a record behind a packet that is whole.
+    fn end_packet(&mut self) -> Part {
+        self.whole = self.whole.wrapping_add(1);
+        Part::RecordHeader(0, 0)
+    }
+
+    fn add_byte(&mut self, byte: u8) {
+        self.part = match self.part {
+            Part::FileHeader(missing) if missing > 1 => Part::FileHeader(missing - 1),
+            Part::FileHeader(_) => Part::RecordHeader(0, 0),
+            Part::RecordHeader(came, captured) if came < HEADER_END => {
+                Part::RecordHeader(came + 1, captured | length_part(came, byte))
+            }
+            Part::RecordHeader(_, captured) if captured > 0 => Part::Packet(captured as usize),
+            Part::RecordHeader(_, _) => self.end_packet(),
+            Part::Packet(missing) if missing > 1 => Part::Packet(missing - 1),
+            Part::Packet(_) => self.end_packet(),
+        };
+    }
+
+    /// Passes over bytes of a packet, but its last one and at most so many, and answers how many.
+    fn pass(&mut self, most: usize) -> usize
+        ensures { result ≤ most }
+    {
+        let Part::Packet(missing) = self.part else {
+            return 0;
+        };
+        if missing == 0 {
+            return 0;
+        }
+        let passed = most.min(missing - 1);
+        self.part = Part::Packet(missing - passed);
+        passed
+    }
+
+    fn add(&mut self, bytes: &[u8]) {
+        let mut rest = bytes;
+        while let Some((byte, after)) = rest.split_first() {
+            self.add_byte(*byte);
+            let passed = self.pass(after.len());
+            rest = &after[passed..];
+        }
+    }
+}
+
+/// A writer of a capture, little-endian, that counts what is taken of it: the bytes, and the packets that are whole in them.
+#[derive(Debug, Drop)]
+pub struct Tallied<W> {
+    inner: W,
+    /// How many bytes were taken, modulo 2^64.
+    bytes: u64,
+    tally: Tally,
+}
+
+impl<W> Tallied<W> {
+    pub fn new(inner: W) -> Tallied<W> {
+        Tallied {
+            inner,
+            bytes: 0,
+            tally: Tally::new(),
+        }
+    }
+
+    /// How many bytes were taken, modulo 2^64.
+    pub fn bytes(&self) -> u64 {
+        self.bytes
+    }
+
+    /// How many packets are whole in them.
+    pub fn packets(&self) -> u64 {
+        self.tally.whole
+    }
+}
+
+impl<W: Write> Write for Tallied<W> {
+    fn write(&mut self, from: &[u8]) -> io::Result<usize> {
+        let taken = self.inner.write(from)?;
+        self.bytes = self.bytes.wrapping_add(taken as u64);
+        self.tally.add(&from[..taken]);
+        Ok(taken)
+    }
+
+    fn flush(&mut self) -> io::Result<()> {
+        self.inner.flush()
+    }
+}
+
+/// The writer of an OUT.
+pub type Output<W> = Counted<BufWriter<Tallied<W>>>;
+
+/// Empties the buffer before an OUT. Where that fails, or a write has failed before, what is told as written is what OUT itself
+/// has. A listener that did not hand over its end stays Unfinished.
+fn flush_one<W: Write + Drop>(report: &mut ListenerReport<Output<W>>)
+    ensures { report.old.end ≡ TaskEnd.Unfinished → report.new.end ≡ TaskEnd.Unfinished }
+{
+    let flushed = report.sink.inner.flush();
+    if flushed.is_ok() && !matches!(&report.end, TaskEnd::Write(_)) {
+        return;
+    }
+    let out = report.sink.inner.get_ref();
+    report.written = out.packets();
+    if report.end != TaskEnd::Unfinished {
+        report.end = TaskEnd::Write(out.bytes());
+    }
+}
+
+/// Empties the buffers before all captures that are written.
+pub fn flush_all<R, W: Write + Drop>(reports: &mut [InterfaceReport<R, Output<W>>]) {
+    for report in reports {
+        for listener in report.listeners.as_mut_slice() {
+            flush_one(listener);
+        }
+    }
+}
+
+#[cfg(test)]
+mod tests;
