@@ -1,5 +1,7 @@
 //! `bpftap check`, of an expression or of a listing's file.
 
+ghost use Rattle.std.specs.Prelude.{◌≤◌, IfErr};
+
 use crate::program::tell_io;
 use bpfvm::Program;
 use cutting::check::{Form, check, show};
@@ -14,7 +16,9 @@ fn program_of<R: Files + AllocGlobal, E: Write>(
     rt: &R,
     words: &CheckWords<'_>,
     err: &mut E,
-) -> Result<Program, u8> {
+) -> Result<Program, u8>
+    ensures { IfErr result (λ status. status ≤ 3) }
+{
     let alloc = rt.alloc();
     match words.listing {
         Some(path) => match fs::read(rt, path) {
@@ -31,7 +35,9 @@ pub fn check_files<R: Files + AllocGlobal, O: Write, E: Write>(
     words: &CheckWords<'_>,
     out: &mut O,
     err: &mut E,
-) -> u8 {
+) -> u8
+    ensures { result ≤ 3 }
+{
     if let (Some(expr), false, lines::MAX_SNAP) = (words.expr, words.named, words.snap) {
         return check(rt.alloc(), expr, out, err);
     }

@@ -1,8 +1,11 @@
 //! The program `bpftap`: the BSD packet tap, replayed from capture files.
 #![tactic(auto)]
 
+mod check_files;
 mod files;
 mod paths;
+mod picture_files;
+mod piped;
 mod program;
 mod retried;
 mod run_files;

@@ -2,6 +2,7 @@
 
 ghost use Rattle.std.specs.Prelude.{◌≤◌, IfErr, MatchResult};
 
+use crate::check_files::check_files;
 use crate::files::{LateFile, hold_stream};
 use crate::paths::all_apart;
 use crate::retried::Retried;
@@ -9,7 +10,6 @@ use crate::run_files::{NamesFiles, run_files};
 use crate::steps_files::steps_files;
 use bpfvm::Program;
 use clap::Error;
-use cutting::check::check;
 use cutting::cut::{CutEnd, End, cut};
 use cutting::filter::filter;
 use cutting::tell::tell;
@@ -40,7 +40,7 @@ pub fn run<
     let _output = hold_stream(rt);
     let _error = hold_stream(rt);
     let ended = match read_words(rt.alloc(), words) {
-        Ok(Request::Check(expr)) => Ok(check(rt.alloc(), expr, out, err)),
+        Ok(Request::Check(words)) => Ok(check_files(rt, &words, out, err)),
         Ok(Request::Cut(words)) => cut_files(rt, &words, err),
         Ok(Request::Steps(words)) => steps_files(rt, &words, out, err),
         Ok(Request::Run(words)) => run_files(rt, &words, out, err),

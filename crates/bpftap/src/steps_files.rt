@@ -3,18 +3,23 @@
 ghost use Rattle.std.specs.Prelude.{◌≤◌, IfErr, MatchResult};
 
 use crate::paths::{STANDARD_OUTPUT, all_apart};
+use crate::picture_files::draw;
+use crate::piped::Piped;
 use crate::program::read_file;
 use lines::telling::{REFUSED, tell_fault};
 use savefile::Fault;
 use std::alloc::{AllocError, Global};
 use std::fs::Files;
 use std::io::{BufWriter, Write};
-use stepping::steps::{play_asked, read_asked};
+use stepping::steps::{Asked, play_asked, read_asked};
 use tap::MOST_CAPTURES;
 use words::steps::StepsWords;
 
 /// How many bytes of output are gathered before they are written.
 const OUTPUT_BUFFER: usize = 1 << 16;
+
+/// How many bytes of memory what is told has from the start, so that want of memory can be told.
+const TOLD: usize = 256;
 
 /// The bytes of all captures.
 fn read_captures<R: Files + AllocGlobal, E: Write>(
@@ -39,7 +44,7 @@ fn lent(alloc: Global, texts: &[Vec<u8>]) -> Result<Vec<&[u8]>, AllocError> {
 }
 
 /// Looks at the captures before one of them is read: there may not be too many, and no file that is read may be the one that the
-/// reports are printed to.
+/// reports are printed to, or the one that the picture is drawn to.
 fn looked_at<R: Files + AllocGlobal, E: Write>(
     rt: &R,
     words: &StepsWords<'_>,
@@ -53,7 +58,8 @@ fn looked_at<R: Files + AllocGlobal, E: Write>(
     let Ok(read) = read_paths(rt.alloc(), words) else {
         return Err(tell_fault(Fault::NoMemory, REFUSED, err));
     };
-    all_apart(rt, Some(STANDARD_OUTPUT), read.as_slice(), &[], err)
+    let picture = words.picture.as_slice();
+    all_apart(rt, Some(STANDARD_OUTPUT), read.as_slice(), picture, err)
 }
 
 /// All paths that are read.
@@ -61,6 +67,32 @@ fn read_paths<'a>(alloc: Global, words: &StepsWords<'a>) -> Result<Vec<&'a str>,
     let mut paths = Vec::from_slice(alloc, &[words.listeners, words.script])?;
     paths.extend_from_slice(words.inputs.as_slice())?;
     Ok(paths)
+}
+
+/// Plays the script, and prints by pieces. Where nobody reads what is printed any more nothing is told.
+fn play<O: Write, E: Write>(
+    alloc: Global,
+    asked: &Asked,
+    captures: &[&[u8]],
+    explained: bool,
+    out: &mut O,
+    err: &mut E,
+) -> u8
+    ensures { result ≤ 3 }
+{
+    let mut piped = Piped::new(out);
+    let (Ok(mut told), Ok(mut printed)) = (
+        Vec::with_capacity(alloc, TOLD),
+        BufWriter::with_capacity(alloc, OUTPUT_BUFFER, &mut piped),
+    ) else {
+        return tell_fault(Fault::NoMemory, REFUSED, err);
+    };
+    let ended = play_asked(alloc, asked, captures, explained, &mut printed, &mut told);
+    drop(printed);
+    if !piped.is_unread() {
+        let _ = err.write_all(told.as_slice());
+    }
+    ended.status
 }
 
 /// Reads LISTENERS and SCRIPT, looks at their lines, reads the captures, and plays the script.
@@ -81,19 +113,14 @@ pub fn steps_files<R: Files + AllocGlobal, O: Write, E: Write>(
     };
     looked_at(rt, words, err)?;
     let texts = read_captures(rt, words.inputs.as_slice(), err)?;
-    let (Ok(captures), Ok(mut out)) = (
-        lent(alloc, texts.as_slice()),
-        BufWriter::with_capacity(alloc, OUTPUT_BUFFER, out),
-    ) else {
+    let Ok(captures) = lent(alloc, texts.as_slice()) else {
         return Err(tell_fault(Fault::NoMemory, REFUSED, err));
     };
-    let ended = play_asked(
-        alloc,
-        &asked,
-        captures.as_slice(),
-        words.explained,
-        &mut out,
-        err,
-    );
-    Ok(ended.status)
+    let status = play(alloc, &asked, captures.as_slice(), words.explained, out, err);
+    match words.picture {
+        Some(path) if status != REFUSED => {
+            Ok(status.max(draw(rt, &asked, captures.as_slice(), path, err)))
+        }
+        _ => Ok(status),
+    }
 }

@@ -70,7 +70,7 @@ pub fn check_words<'a>(matches: &ArgMatches<'a>) -> Option<CheckWords<'a>> {
     Some(CheckWords {
         expr: matches.get_str("EXPR"),
         listing: matches.get_str("listing"),
-        snap: snapshot_length(matches.get_str("snap")?)?,
+        snap: snapshot_length(matches.get_str("snap")?.as_bytes())?,
         named: matches.get_flag("named"),
     })
 }
