@@ -109,7 +109,7 @@ fn two_interfaces<'a>(
     rt: &(impl Abort + AllocGlobal),
 ) -> Result<Vec<Interface<&'a [u8], i32>>, Fail> {
     let alloc = rt.alloc();
-    let text = b"1 7 64 4096i 3 a tcp\n0 9 10 96 64 b\n";
+    let text = b"1 7 64 4096i 3 a tcp\n0 0 10 96 64 b\n";
     let Plan { lines, programs } = read_plan(alloc, text, 2).expect(rt, "the lines are well");
     let (captures, sinks) = (no_captures(alloc)?, Vec::from_slice(alloc, &[1, 2])?);
     Ok(interfaces_of(alloc, lines.as_slice(), programs, captures, sinks)?)
@@ -119,7 +119,7 @@ fn two_interfaces<'a>(
 fn each_listener_gets_the_numbers_of_its_line(rt: HostRuntime) -> Result<(), Fail> {
     let interfaces = two_interfaces(&rt)?;
     let wanted = [
-        (9, 10, 96, Mode::Buffered, 64, 2),
+        (0, 10, 96, Mode::Buffered, 64, 2),
         (7, 64, 4096, Mode::Immediate, 3, 1),
     ];
     assert_eq!(rt; interfaces.len(), wanted.len());
