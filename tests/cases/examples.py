@@ -7,7 +7,7 @@ EXAMPLES = ROOT / "examples"
 def page(name, *begins):
     """The lines of an example's page that stand apart and begin so."""
     lines = (EXAMPLES / name / "README.md").read_text().splitlines()
-    told = [line.strip() for line in lines if line.startswith("    ") and line.strip().startswith(begins)]
+    told = [line[4:] for line in lines if line.startswith("    ") and line[4:].startswith(begins)]
     return "".join(line + "\n" for line in told)
 
 
@@ -36,5 +36,5 @@ def the_example_of_steps(scene):
     scene.expect(["steps", *words], out=reports)
     explained = scene.run(["steps", "-v", *words]).out.decode()
     scene.check("reports behind -v", explained.endswith(reports), True)
-    answers = [line.split(": listener ")[1].split()[:2] for line in explained.splitlines() if line.startswith("step")]
+    answers = [line.split()[1:3] for line in explained.splitlines() if line.startswith("  listener")]
     scene.check("answers", " ".join(" ".join(answer) for answer in answers), ANSWERS)

@@ -22,8 +22,8 @@ REFUSED = [
 
 # What is printed of the one packet of `whole.pcap` and of `torn.pcap`, which nobody reads.
 EXPLAINED = (
-    "step 1 arrive capture 0 place 0 time 2.000000000 len 14: "
-    "listener 0 Stored, 0 stored and 48 more are within 64\n")
+    "step 1 arrive capture 0 place 0 time 2.000000000 len 14\n"
+    "  listener 0 Stored, 0 stored and 48 more are within 64\n")
 REPORT = "listener 0 received 1 matched 1 dropped 0\nheld\ncapture 0 place 0 time 2.000000000 len 14 kept 14\n"
 
 

@@ -87,12 +87,13 @@ pub fn steps_files<R: Files + AllocGlobal, O: Write, E: Write>(
     ) else {
         return Err(tell_fault(Fault::NoMemory, REFUSED, err));
     };
-    Ok(play_asked(
+    let ended = play_asked(
         alloc,
         &asked,
         captures.as_slice(),
         words.explained,
         &mut out,
         err,
-    ))
+    );
+    Ok(ended.status)
 }

@@ -1,2 +1,5 @@
 pub mod Snapshot
 pub mod Telling
+pub mod Sending
+pub mod Files
+pub mod Fields

@@ -1,6 +1,7 @@
 //! Why the lines of a file are not taken.
 
-ghost use Rattle.std.specs.Prelude.{◌≡◌};
+ghost use Rattle.std.specs.Prelude.{◌≡◌, Some};
+ghost use Rattle.lines.specs.Telling.{line_fault_text};
 ghost use Rattle.lines.specs.declared.fault.LineFault.TheVariants.{NoMemory};
 
 use std::alloc::{AllocError, AllocFailed};
@@ -18,6 +19,8 @@ pub enum LineFault {
 }
 
 impl Display for LineFault {
+    ghost output = { λ fault. Some (line_fault_text fault) };
+
     fn fmt<W: fmt::Write>(&self, f: &mut Formatter<W>) -> fmt::Result {
         match self {
             LineFault::Listeners(line) => write!(f, "Listeners {line}"),

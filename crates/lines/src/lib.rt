@@ -1,11 +1,14 @@
-//! The lines that the program reads and tells: the fields of a line of LISTENERS or SCRIPT, the line of a fault on standard
-//! error, and the exit statuses.
+//! The lines that the program reads, prints and tells: the lines of a file and their fields, texts that are sent to a writer,
+//! the line of a fault on standard error, and the exit statuses.
 #![tactic(auto)]
 
 pub mod fault;
 pub mod fields;
+pub mod line;
+pub mod sending;
 pub mod snapshot;
 pub mod telling;
 
 pub use fault::LineFault;
+pub use line::Line;
 pub use snapshot::{MAX_SNAP, meant};

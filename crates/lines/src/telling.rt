@@ -1,11 +1,14 @@
 //! What the program tells on standard error, and the exit statuses.
 
-ghost use Rattle.std.specs.Prelude.{◌≡◌, ◌≤◌, ◌⊎◌, OnOk, OnErr};
-ghost use Rattle.lines.specs.Telling.{fault_status};
+ghost use Rattle.std.specs.Prelude.{◌≡◌, ◌≤◌, ◌⊎◌, OnOk, OnErr, IfOk, IfSome};
+ghost use Rattle.lines.specs.Sending.{Takes};
+ghost use Rattle.lines.specs.Telling.{fault_status, told_line};
 
+use crate::line::Line;
+use crate::sending::send;
 use savefile::Fault;
 use std::fmt::{Display, Formatter};
-use std::io::{Cursor, ErrorKind, Write};
+use std::io::{ErrorKind, Write};
 use std::{fmt, io};
 
 /// The exit status of wrong words, a refusal and want of memory.
@@ -17,27 +20,34 @@ pub const BAD_RECORD: u8 = 2;
 /// The exit status of a failed device.
 pub const DEVICE: u8 = 3;
 
-/// The most bytes of a fault's line that are put together first, so that it goes out in one write.
-const LINE: usize = 512;
+/// The line of a fault, where it has at most 512 bytes.
+fn line_of<D: Display + Drop>(fault: D) -> io::Result<Line>
+    ensures { IfOk result (λ line. IfSome (D.output fault) (λ text. line ≡ told_line text)) }
+{
+    let mut line = Line::new();
+    writeln!(line, "bpftap: {fault}")?;
+    Ok(line)
+}
 
-/// Tells a fault in a line of its own, and gives the status back. Where standard error itself fails, the status
-/// is all that is left to tell.
+/// Tells a fault in a line of its own, which goes out in one piece. Where standard error fails it took a beginning of the line.
+/// A line of more than 512 bytes is not told.
+pub fn tell_line<E: Write, D: Display + Drop>(fault: D, err: &mut E) -> io::Result<()>
+    ensures { IfSome (D.output fault) (λ text. Takes (E.contents err.old) (E.contents err.new) result (told_line text)) }
+{
+    let line = line_of(fault)?;
+    send(line.as_bytes(), err)
+}
+
+/// Tells a fault in a line of its own, whatever its length, and gives the status back. Where standard error itself fails, the
+/// status is all that is left to tell.
 pub fn tell_fault<E: Write, D: Display + Drop>(fault: D, status: u8, err: &mut E) -> u8
     ensures { result ≡ status }
 {
-    let _ = write_line(fault, err);
+    let _ = match line_of(&fault) {
+        Ok(line) => send(line.as_bytes(), err),
+        Err(_) => writeln!(err, "bpftap: {fault}"),
+    };
     status
-}
-
-/// The line, in one write where it is not too long. It takes no memory, which may be the fault that is told.
-fn write_line<E: Write, D: Display + Drop>(fault: D, err: &mut E) -> io::Result<()> {
-    let mut line = Cursor::new([0; LINE]);
-    let put = writeln!(line, "bpftap: {fault}");
-    let length = line.position() as usize;
-    match (put, line.into_inner().get(..length)) {
-        (Ok(()), Some(line)) => err.write_all(line),
-        _ => writeln!(err, "bpftap: {fault}"),
-    }
 }
 
 /// Tells why the words of the command line could not be taken.
@@ -79,19 +89,16 @@ pub fn tell_device<E: Write>(path: &str, err: &mut E) -> u8
     tell_fault(format_args!("Device {}", Path(path)), DEVICE, err)
 }
 
-/// Tells that standard output failed, or that memory was refused, and answers the exit status. Where nobody reads what is
-/// printed any more, as behind `| head`, there is nobody to tell it to either.
+/// Tells that standard output failed, if it did, and answers the exit status. Where nobody reads what is printed any more, as
+/// behind `| head`, there is nobody to tell it to either.
 pub fn tell_written<E: Write>(written: io::Result<()>, err: &mut E) -> u8
     ensures clean { OnOk written (result ≡ 0) }
-    ensures failed { OnErr written ((result ≡ REFUSED) ⊎ (result ≡ DEVICE)) }
+    ensures failed { OnErr written (result ≡ DEVICE) }
     ensures status { (result ≡ 0) ⊎ (result ≡ REFUSED) ⊎ (result ≡ DEVICE) }
     ensures bound { result ≤ 3 }
 {
     match written {
         Ok(()) => 0,
-        Err(error) if error.kind() == ErrorKind::OutOfMemory => {
-            tell_fault(Fault::NoMemory, REFUSED, err)
-        }
         Err(error) if error.kind() == ErrorKind::BrokenPipe => DEVICE,
         Err(_) => tell_device("standard output", err),
     }

@@ -3,7 +3,7 @@
 ghost use Rattle.std.specs.Prelude.{◌≤◌, length, IfOk, ◌+◌};
 
 use lines::LineFault;
-use lines::fields::{capacity_and_mode, first_line, number, number_u32, snapshot_length};
+use lines::fields::{capacity_and_mode, first_line, number, snapshot_length};
 use listener::Mode;
 use replay::{MOST_INTERFACES, MOST_TASKS};
 use std::alloc::Global;
@@ -42,11 +42,11 @@ fn line_of(line: &str, interfaces: usize) -> Option<RunLine<'_>> {
     let (capacity, rest) = rest.split_once(' ')?;
     let (spares, rest) = rest.split_once(' ')?;
     let (output, expression) = rest.split_once(' ').unwrap_or((rest, ""));
-    let interface = number(interface)? as usize;
-    let flush_every = number_u32(flush_every)?;
-    let snap = snapshot_length(snap)?;
-    let (capacity, mode) = capacity_and_mode(capacity)?;
-    let spares = number(spares)? as usize;
+    let interface = number(interface.as_bytes(), u64::MAX)? as usize;
+    let flush_every = number(flush_every.as_bytes(), u64::from(u32::MAX))? as u32;
+    let snap = snapshot_length(snap.as_bytes())?;
+    let (capacity, mode) = capacity_and_mode(capacity.as_bytes())?;
+    let spares = number(spares.as_bytes(), u64::MAX)? as usize;
     if interface >= interfaces || output.is_empty() {
         return None;
     }

@@ -1,153 +1,210 @@
-//! Why each packet was kept or dropped: what `bpftap steps -v` prints before the reports.
+//! What listeners answered, and why: what `bpftap steps -v` prints before the reports.
 
+ghost use Rattle.std.specs.Prelude.{◌≡◌, OnOk};
+ghost use Rattle.listener.specs.Messages.{cut_to, size_of};
+ghost use Rattle.tap.specs.OwnSteps.{arrival_of};
+ghost use Rattle.stepping.specs.Playing.{Grows};
+ghost use Rattle.stepping.specs.Reasons.{answer_line, reason};
+
+use crate::reasons::{Arrival, Standing, flush_end, read_end};
+use crate::reports::NineDigits;
 use crate::steps::Asked;
+use lines::Line;
+use lines::sending::send;
 use listener::Fed;
-use std::alloc::Global;
+use std::alloc::{AllocError, Global};
 use std::io;
 use std::io::Write;
 use std::slice::Iter;
 use tap::{Answer, Answered, Placed, Spec, Step, Trace};
 
-/// The bytes of the record that a listener keeps of a packet.
-fn size_kept(spec: &Spec, placed: &Placed) -> usize {
-    let kept = placed.packet.bytes.as_slice().len().min(spec.snap as usize);
-    // The length of a slice is below half the address space.
-    32usize.saturating_add(kept.saturating_add(7) / 8 * 8)
+/// The bytes of the record that a listener has or would have of a packet that its expression accepts.
+fn size_kept(spec: &Spec, placed: &Placed) -> usize
+    ensures { result ≡ size_of (cut_to spec.now.snap (arrival_of placed.now)) }
+{
+    let kept = (spec.snap as usize).min(placed.packet.bytes.as_slice().len());
+    32 + (kept + 7) / 8 * 8
 }
 
-/// The answer to an arrival, and why it was that.
-fn write_arrival<O: Write>(
-    spec: &Spec,
-    placed: &Placed,
-    before: &Answered,
-    fed: Fed,
-    out: &mut O,
-) -> io::Result<()> {
-    let (load, more, capacity) = (before.load, size_kept(spec, placed), spec.capacity);
-    match fed {
-        Fed::Passed => writeln!(out, "Passed, the filter rejects it"),
-        Fed::Stored => writeln!(
-            out,
-            "Stored, {load} stored and {more} more are within {capacity}"
-        ),
-        Fed::Held => writeln!(
-            out,
-            "Held, {load} stored and {more} more are within {capacity}, and the empty hold takes them at once"
-        ),
-        Fed::Rotated => writeln!(
-            out,
-            "Rotated, {load} stored and {more} more exceed {capacity}, and the empty hold takes the {load}"
-        ),
-        Fed::Dropped => writeln!(
-            out,
-            "Dropped, {load} stored and {more} more exceed {capacity}, the hold is not read"
-        ),
-        Fed::Closed => writeln!(out, "Closed"),
+/// Puts the answer of the l-th listener, and why it was given, in place of what the line has. The record of an arrival has, or
+/// would have, so many bytes.
+fn put_answer(
+    line: &mut Line,
+    l: usize,
+    before: Standing,
+    more: usize,
+    answer: Answer,
+) -> io::Result<()>
+    ensures { OnOk result (line.new ≡ answer_line l (reason before more answer)) }
+{
+    line.clear();
+    match answer {
+        Answer::Arrived(fed) => writeln!(line, "  listener {l} {}", Arrival { before, more, fed }),
+        Answer::Flushed(_) => writeln!(line, "  listener {l} {}", flush_end(&before)),
+        Answer::Read(_) => writeln!(line, "  listener {l} {}", read_end(&before)),
+        Answer::Closed => writeln!(line, "  listener {l} closed"),
     }
 }
 
-/// The answer to a flush, a read or a close, and why it was that.
-fn write_other<O: Write>(before: &Answered, out: &mut O) -> io::Result<()> {
-    let (load, held) = (before.load, before.held);
-    match before.answer {
-        Answer::Arrived(_) => Ok(()),
-        Answer::Flushed(true) => writeln!(out, "flushed, the empty hold takes the {load} stored"),
-        Answer::Flushed(false) if held > 0 => writeln!(out, "not flushed, the hold is not read"),
-        Answer::Flushed(false) if load == 0 => writeln!(out, "not flushed, nothing is stored"),
-        Answer::Flushed(false) => writeln!(out, "not flushed, closed"),
-        Answer::Read(true) => writeln!(out, "read, {held} held"),
-        Answer::Read(false) if held == 0 => writeln!(out, "nothing read, nothing is held"),
-        Answer::Read(false) => writeln!(out, "nothing read, closed"),
-        Answer::Closed => writeln!(out, "closed"),
-    }
-}
-
-/// What is left of each listener's answers.
+/// What is left of a listener's answers.
 #[derive(Drop)]
-struct Cursor<'a> {
-    answers: Vec<Iter<'a, Answered>>,
+struct Watching<'a> {
+    spec: &'a Spec,
+    answers: Iter<'a, Answered>,
+    /// The step that made the store the hold last, from 1.
+    held_since: usize,
+}
+
+impl Watching<'_> {
+    /// The answer to the n-th step, how the listener stood before it, and that answer's place.
+    fn next(&mut self, n: usize) -> Option<(Standing, Answer)> {
+        let answered = self.answers.next()?;
+        let before = Standing::before(answered, self.held_since, self.spec.capacity);
+        if let Answer::Arrived(Fed::Rotated | Fed::Held) | Answer::Flushed(true) = answered.answer {
+            self.held_since = n;
+        }
+        Some((before, answered.answer))
+    }
+}
+
+/// What is left of all listeners' answers.
+#[derive(Drop)]
+pub struct Cursor<'a> {
+    listeners: Vec<Watching<'a>>,
 }
 
 impl<'a> Cursor<'a> {
-    fn new(alloc: Global, trace: &'a Trace) -> io::Result<Cursor<'a>> {
-        let mut answers = Vec::new(alloc);
-        for own in &trace.answers {
-            answers.push(own.iter())?;
+    /// All answers of a trace of what was asked for. No call behind it takes memory.
+    pub fn new(
+        alloc: Global,
+        asked: &'a Asked,
+        trace: &'a Trace,
+    ) -> Result<Cursor<'a>, AllocError> {
+        let mut listeners = Vec::with_capacity(alloc, asked.specs.len())?;
+        for (spec, answers) in asked.specs.iter().zip(trace.answers.iter()) {
+            listeners.push(Watching {
+                spec,
+                answers: answers.iter(),
+                held_since: 0,
+            })?;
         }
-        Ok(Cursor { answers })
-    }
-
-    /// The next answer of the l-th listener.
-    fn next_of(&mut self, l: usize) -> Option<&'a Answered> {
-        self.answers.get_mut(l)?.next()
+        Ok(Cursor { listeners })
     }
 }
 
-/// The answers to an arrival, a line for each listener.
+/// Writes the line of the l-th listener below the n-th step, of an arrival with its packet.
+fn write_answer<O: Write>(
+    n: usize,
+    l: usize,
+    placed: Option<&Placed>,
+    watching: &mut Watching<'_>,
+    line: &mut Line,
+    out: &mut O,
+) -> io::Result<()>
+    ensures { Grows (O.contents out.old) (O.contents out.new) }
+{
+    let Some((before, answer)) = watching.next(n) else {
+        return Ok(());
+    };
+    let more = match placed {
+        Some(placed) => size_kept(watching.spec, placed),
+        None => 0,
+    };
+    put_answer(line, l, before, more, answer)?;
+    send(line.as_bytes(), out)
+}
+
+/// Writes the head of the n-th step, and the line of each listener below it.
 fn write_arrivals<O: Write>(
-    line: usize,
-    specs: &[Spec],
+    n: usize,
     placed: &Placed,
     cursor: &mut Cursor<'_>,
+    line: &mut Line,
     out: &mut O,
-) -> io::Result<()> {
-    for (l, spec) in specs.iter().enumerate() {
-        let Some(before) = cursor.next_of(l) else {
-            continue;
-        };
-        if let Answer::Arrived(fed) = before.answer {
-            write!(
-                out,
-                "step {line} arrive capture {} place {} time {}.{:09} len {}: listener {l} ",
-                placed.capture,
-                placed.place,
-                placed.packet.sec,
-                placed.packet.nanos,
-                placed.packet.len
-            )?;
-            write_arrival(spec, placed, before, fed, out)?;
-        }
+) -> io::Result<()>
+    ensures { Grows (O.contents out.old) (O.contents out.new) }
+{
+    line.clear();
+    let packet = &placed.packet;
+    writeln!(
+        line,
+        "step {n} arrive capture {} place {} time {}.{} len {}",
+        placed.capture,
+        placed.place,
+        packet.sec,
+        NineDigits(packet.nanos),
+        packet.len
+    )?;
+    send(line.as_bytes(), out)?;
+    for (l, watching) in cursor.listeners.iter_mut().enumerate() {
+        write_answer(n, l, Some(placed), watching, line, out)?;
     }
     Ok(())
 }
 
-/// The answer to a step of one listener.
+/// Writes the head of the n-th step, which names the l-th listener, and that listener's line below it.
 fn write_own<O: Write>(
-    line: usize,
+    n: usize,
     word: &str,
     l: u32,
     cursor: &mut Cursor<'_>,
+    line: &mut Line,
     out: &mut O,
-) -> io::Result<()> {
-    let Some(before) = cursor.next_of(l as usize) else {
-        return Ok(());
-    };
-    write!(out, "step {line} {word}: listener {l} ")?;
-    write_other(before, out)
+) -> io::Result<()>
+    ensures { Grows (O.contents out.old) (O.contents out.new) }
+{
+    line.clear();
+    writeln!(line, "step {n} {word} {l}")?;
+    send(line.as_bytes(), out)?;
+    match cursor.listeners.get_mut(l as usize) {
+        Some(watching) => write_answer(n, l as usize, None, watching, line, out),
+        None => Ok(()),
+    }
 }
 
-/// Writes what was answered to each step, a line for each listener, and why. A step is counted as a line of SCRIPT, from 1.
+/// Writes what was answered to a step, and the packets that are left behind it.
+fn write_step<'a, O: Write>(
+    n: usize,
+    step: Step,
+    packets: &'a [Placed],
+    cursor: &mut Cursor<'_>,
+    line: &mut Line,
+    out: &mut O,
+) -> io::Result<&'a [Placed]>
+    ensures { Grows (O.contents out.old) (O.contents out.new) }
+{
+    match step {
+        Step::Arrive => {
+            let Some((placed, left)) = packets.split_first() else {
+                line.clear();
+                writeln!(line, "step {n} arrive, no packet is left")?;
+                send(line.as_bytes(), out)?;
+                return Ok(packets);
+            };
+            write_arrivals(n, placed, cursor, line, out)?;
+            return Ok(left);
+        }
+        Step::Flush(l) => write_own(n, "flush", l, cursor, line, out)?,
+        Step::Read(l) => write_own(n, "read", l, cursor, line, out)?,
+        Step::Close(l) => write_own(n, "close", l, cursor, line, out)?,
+    }
+    Ok(packets)
+}
+
+/// Writes for each step a head line, and below it a line for each listener that it reaches: what it answered, and why. A step is
+/// counted as a line of SCRIPT, from 1. It takes no memory.
 pub fn write_answers<O: Write>(
-    alloc: Global,
     asked: &Asked,
     trace: &Trace,
+    cursor: &mut Cursor<'_>,
     out: &mut O,
-) -> io::Result<()> {
-    let mut cursor = Cursor::new(alloc, trace)?;
-    let mut packets = trace.playlist.iter();
+) -> io::Result<()>
+    ensures { Grows (O.contents out.old) (O.contents out.new) }
+{
+    let mut line = Line::new();
+    let mut packets = trace.playlist.as_slice();
     for (n, step) in asked.steps.iter().enumerate() {
-        let line = n + 1;
-        match *step {
-            Step::Arrive => match packets.next() {
-                Some(placed) => {
-                    write_arrivals(line, asked.specs.as_slice(), placed, &mut cursor, out)?;
-                }
-                None => writeln!(out, "step {line} arrive: no packet is left")?,
-            },
-            Step::Flush(l) => write_own(line, "flush", l, &mut cursor, out)?,
-            Step::Read(l) => write_own(line, "read", l, &mut cursor, out)?,
-            Step::Close(l) => write_own(line, "close", l, &mut cursor, out)?,
-        }
+        packets = write_step(n + 1, *step, packets, cursor, &mut line, out)?;
     }
     Ok(())
 }

@@ -2,7 +2,10 @@
 #![tactic(auto)]
 
 pub mod answers;
+pub mod faults;
+pub mod laws;
 pub mod listeners;
+pub mod reasons;
 pub mod reports;
 pub mod script;
 pub mod steps;

@@ -1,57 +1,62 @@
 //! The file LISTENERS of `bpftap steps`: the listeners that are wanted.
 
+ghost use Rattle.std.specs.Prelude.{ℕ, List, IfOk, IfErr, IfSome, IfNone};
+ghost use Rattle.tap.specs.declared.filters.Spec.{Spec};
+ghost use Rattle.lines.specs.Files.{IsFileOf};
+ghost use Rattle.stepping.specs.Listeners.{AreFields, IsListenerLine, IsRefusedListeners};
+
 use lines::LineFault;
-use lines::fields::{capacity_and_mode, first_line, snapshot_length};
-use listener::Mode;
+use lines::fields::{capacity_and_mode, first_line, snapshot_length, split_once};
 use std::alloc::{AllocError, Global};
 use std::str;
 use tap::{Filter, Spec};
 
-/// What a line says, but for its expression.
-#[derive(Clone, Copy)]
-struct Terms {
-    snap: u32,
-    capacity: usize,
-    mode: Mode,
-}
-
-/// The terms and the expression of a line `SNAP CAPACITY EXPRESSION`. Where the expression is empty the space before it
-/// may be missing.
-fn fields(line: &str) -> Option<(Terms, &str)> {
-    let (snap, rest) = line.split_once(' ')?;
-    let (capacity, expression) = rest.split_once(' ').unwrap_or((rest, ""));
-    let snap = snapshot_length(snap)?;
-    let (capacity, mode) = capacity_and_mode(capacity)?;
-    Some((
-        Terms {
-            snap,
-            capacity,
-            mode,
-        },
-        expression,
-    ))
+/// What stands before the first space, between it and the second, and behind that.
+fn fields(line: &[u8]) -> Option<(&[u8], &[u8], &[u8])>
+    ensures some { IfSome result (λ f. AreFields line.now f.0.now f.1.now f.2.now) }
+    ensures none { IfNone result ((snap capacity expression : List ℕ) → AreFields line.now snap capacity expression → ⊥) }
+{
+    let (snap, rest) = split_once(line, b' ')?;
+    match split_once(rest, b' ') {
+        Some((capacity, expression)) => Some((snap, capacity, expression)),
+        None => Some((snap, rest, &[])),
+    }
 }
 
 /// The listener of a line, nothing where the line has not its form.
-fn spec_of(alloc: Global, line: &[u8]) -> Result<Option<Spec>, AllocError> {
-    let Ok(line) = str::from_utf8(line) else {
+fn spec_of(alloc: Global, line: &[u8]) -> Result<Option<Spec>, AllocError>
+    ensures some { IfOk result (λ found. IfSome found (λ spec. IsListenerLine line.now spec)) }
+    ensures none { IfOk result (λ found. IfNone found ((spec : Spec) → IsListenerLine line.now spec → ⊥)) }
+{
+    let Some((snap, capacity, expression)) = fields(line) else {
         return Ok(None);
     };
-    let Some((terms, expression)) = fields(line) else {
+    let Some(snap) = snapshot_length(snap) else {
+        return Ok(None);
+    };
+    let Some((capacity, mode)) = capacity_and_mode(capacity) else {
+        return Ok(None);
+    };
+    let Ok(expression) = str::from_utf8(expression) else {
         return Ok(None);
     };
     Ok(Some(Spec {
         filter: Filter::Text(String::from_str(alloc, expression)?),
-        snap: terms.snap,
-        capacity: terms.capacity,
-        mode: terms.mode,
+        snap,
+        capacity,
+        mode,
     }))
 }
 
 /// Reads the file LISTENERS, a listener on each line: `SNAP CAPACITY EXPRESSION`.
 ///
-/// [`LineFault::Listeners`] names the first line that has not this form.
-pub fn read_listeners(alloc: Global, text: &[u8]) -> Result<Vec<Spec>, LineFault> {
+/// CAPACITY may have an `i` behind its digits, for the mode Immediate. Where EXPRESSION is empty the space before it may be
+/// missing. The listeners are those of the lines, in order; or else [`LineFault::Listeners`] names the first line, from 1, that has
+/// not this form.
+pub fn read_listeners(alloc: Global, text: &[u8]) -> Result<Vec<Spec>, LineFault>
+    ensures ok { IfOk result (λ specs. IsFileOf IsListenerLine text.now specs.items) }
+    ensures fault { IfErr result (λ fault. IsRefusedListeners text.now fault) }
+{
     let mut specs = Vec::new(alloc);
     let mut rest = text;
     while !rest.is_empty() {

@@ -1,14 +1,25 @@
 //! Listeners that are played a script over captures: the function under `bpftap steps`.
 
-ghost use Rattle.std.specs.Prelude.{◌≤◌};
+ghost use Rattle.std.specs.Prelude.{◌≡◌, ◌++◌, ℕ, List, max, map, true, IfOk, IfErr};
+ghost use Rattle.lines.specs.Files.{IsFileOf};
+ghost use Rattle.lines.specs.Sending.{Takes};
+ghost use Rattle.lines.specs.Telling.{told_line};
+ghost use Rattle.stepping.specs.Listeners.{IsListenerLine};
+ghost use Rattle.stepping.specs.Script.{IsStepLine};
+ghost use Rattle.stepping.specs.Faults.{fault_text};
+ghost use Rattle.stepping.specs.Printed.{printed_reports};
+ghost use Rattle.stepping.specs.Playing.{streams, printed_status, torn_status, output_line, torn_line, TellsBoth, Plays};
+ghost use Rattle.stepping.specs.Stepping.{IsRefusedFiles, Steps, StepsTo};
 
-use crate::answers::write_answers;
+use crate::answers::{Cursor, write_answers};
+use crate::faults::FaultText;
 use crate::listeners::read_listeners;
 use crate::reports::write_reports;
 use crate::script::read_script;
 use lines::LineFault;
-use lines::telling::{BAD_RECORD, REFUSED, tell_fault, tell_written};
+use lines::telling::{BAD_RECORD, DEVICE, REFUSED, tell_line};
 use std::alloc::Global;
+use std::io;
 use std::io::Write;
 use tap::{Fault, Report, Spec, Step, Trace, replay, trace};
 
@@ -19,60 +30,121 @@ pub struct Asked {
     pub steps: Vec<Step>,
 }
 
+/// What playing came to.
+#[derive(Drop)]
+pub struct Ended {
+    /// The exit status.
+    pub status: u8,
+    /// Whether standard error took what was told.
+    pub told: io::Result<()>,
+}
+
 /// Reads what LISTENERS and SCRIPT ask for. A bad line of LISTENERS goes before one of SCRIPT.
-pub fn read_asked(alloc: Global, listeners: &[u8], script: &[u8]) -> Result<Asked, LineFault> {
+pub fn read_asked(alloc: Global, listeners: &[u8], script: &[u8]) -> Result<Asked, LineFault>
+    ensures listeners { IfOk result (λ asked. IsFileOf IsListenerLine listeners.now asked.specs.items) }
+    ensures script { IfOk result (λ asked. IsFileOf IsStepLine script.now asked.steps.items) }
+    ensures fault { IfErr result (λ fault. IsRefusedFiles listeners.now script.now fault) }
+{
     let specs = read_listeners(alloc, listeners)?;
     let steps = read_script(alloc, script)?;
     Ok(Asked { specs, steps })
 }
 
-/// Tells the capture that ended with a record fault, if any, and answers the exit status.
-fn tell_torn<E: Write>(torn: Option<(u32, savefile::Fault)>, err: &mut E) -> u8
-    ensures { result ≤ 3 }
+/// The exit status of printing.
+fn printed_status(printed: &io::Result<()>) -> u8
+    ensures { result ≡ printed_status printed.now }
+{
+    match printed {
+        Ok(()) => 0,
+        Err(_) => DEVICE,
+    }
+}
+
+/// The exit status of a capture that ended with a record fault, if one did.
+fn torn_status(torn: Option<(u32, savefile::Fault)>) -> u8
+    ensures { result ≡ torn_status torn }
 {
     match torn {
-        Some((n, fault)) => tell_fault(Fault::Capture(n, fault), BAD_RECORD, err),
+        Some(_) => BAD_RECORD,
         None => 0,
     }
 }
 
-/// Prints the reports, tells a torn capture, and answers the exit status: the greatest that stands.
-fn tell_reports<O: Write, E: Write>(
-    reports: &[Report],
-    torn: Option<(u32, savefile::Fault)>,
-    out: &mut O,
-    err: &mut E,
-) -> u8
-    ensures { result ≤ 3 }
+/// Tells that standard output failed, if this is the status of that.
+fn tell_output<E: Write>(printed: u8, err: &mut E) -> io::Result<()>
+    ensures { Takes (E.contents err.old) (E.contents err.new) result (output_line printed) }
 {
-    let mut written = write_reports(reports, out);
-    if written.is_ok() {
-        written = out.flush();
+    if printed == 0 {
+        return Ok(());
     }
-    let status = tell_written(written, err);
-    status.max(tell_torn(torn, err))
+    tell_line("Device standard output", err)
 }
 
-/// Prints the answers, and then what is printed of reports.
-fn tell_trace<O: Write, E: Write>(
-    alloc: Global,
+/// Tells the capture that ended with a record fault, if one did.
+fn tell_torn<E: Write>(torn: Option<(u32, savefile::Fault)>, err: &mut E) -> io::Result<()>
+    ensures { Takes (E.contents err.old) (E.contents err.new) result (torn_line torn) }
+{
+    match torn {
+        Some((n, fault)) => tell_line(FaultText(Fault::Capture(n, fault)), err),
+        None => Ok(()),
+    }
+}
+
+/// Tells standard output that failed and then a torn capture, and answers the greatest status that stands.
+fn end<E: Write>(
+    printed: io::Result<()>,
+    torn: Option<(u32, savefile::Fault)>,
+    err: &mut E,
+) -> Ended
+    ensures greatest { result.status ≡ max (printed_status printed) (torn_status torn) }
+    ensures tells { TellsBoth (E.contents err.old) (E.contents err.new) result.told (output_line (printed_status printed)) (torn_line torn) }
+{
+    let status = printed_status(&printed);
+    let output_told = tell_output(status, err);
+    let torn_told = tell_torn(torn, err);
+    Ended {
+        status: status.max(torn_status(torn)),
+        told: output_told.and(torn_told),
+    }
+}
+
+/// Tells why there is no replay.
+fn refuse<E: Write>(fault: Fault, err: &mut E) -> Ended
+    ensures tells { Takes (E.contents err.old) (E.contents err.new) result.told (told_line (fault_text fault)) }
+    ensures status { result.status ≡ REFUSED }
+{
+    Ended {
+        status: REFUSED,
+        told: tell_line(FaultText(fault), err),
+    }
+}
+
+/// Prints the reports, and all that the writer has gathered of them.
+fn print_reports<O: Write>(reports: &[Report], out: &mut O) -> io::Result<()>
+    ensures { Takes (O.contents out.old) (O.contents out.new) result (printed_reports reports.now) }
+{
+    write_reports(reports, out)?;
+    out.flush()
+}
+
+/// Prints the answers, and then the reports.
+fn print_trace<O: Write>(
     asked: &Asked,
     trace: &Trace,
+    cursor: &mut Cursor<'_>,
     out: &mut O,
-    err: &mut E,
-) -> u8
-    ensures { result ≤ 3 }
+) -> io::Result<()>
+    ensures { (answers : List ℕ) × Takes (O.contents out.old) (O.contents out.new) result (answers ++ printed_reports trace.now.reports.items) }
 {
-    let written = write_answers(alloc, asked, trace, out);
-    if written.is_err() {
-        let status = tell_written(written, err);
-        return status.max(tell_torn(trace.torn, err));
-    }
-    tell_reports(trace.reports.as_slice(), trace.torn, out, err)
+    write_answers(asked, trace, cursor, out)?;
+    print_reports(trace.reports.as_slice(), out)
 }
 
 /// Plays what was asked for over captures, and prints what each listener came to. Where it is `explained`, a line for each
-/// step and listener goes before, with what the listener answered, and why.
+/// step goes before, and below it one for each listener that it reaches, with what it answered, and why.
+///
+/// What is printed, told and answered is as [`steps`] says. With `explained` memory may also be wanting behind the replay; then
+/// that alone is told, and nothing is printed.
 pub fn play_asked<O: Write, E: Write>(
     alloc: Global,
     asked: &Asked,
@@ -80,19 +152,72 @@ pub fn play_asked<O: Write, E: Write>(
     explained: bool,
     out: &mut O,
     err: &mut E,
-) -> u8
-    ensures { result ≤ 3 }
+) -> Ended
+    ensures { Plays explained (map (λ c. c.now) captures.now) asked.now.specs.items asked.now.steps.items
+        (streams (O.contents out.old) (E.contents err.old)) (streams (O.contents out.new) (E.contents err.new)) result }
 {
-    let (specs, steps) = (asked.specs.as_slice(), asked.steps.as_slice());
     if explained {
-        return match trace(alloc, captures, specs, steps) {
-            Ok(trace) => tell_trace(alloc, asked, &trace, out, err),
-            Err(fault) => tell_fault(fault, REFUSED, err),
-        };
+        return play_explained(alloc, asked, captures, out, err);
     }
-    match replay(alloc, captures, specs, steps) {
-        Ok((reports, torn)) => tell_reports(reports.as_slice(), torn, out, err),
-        Err(fault) => tell_fault(fault, REFUSED, err),
+    match replay(
+        alloc,
+        captures,
+        asked.specs.as_slice(),
+        asked.steps.as_slice(),
+    ) {
+        Ok((reports, torn)) => {
+            let printed = print_reports(reports.as_slice(), out);
+            end(printed, torn, err)
+        }
+        Err(fault) => refuse(fault, err),
+    }
+}
+
+/// Plays what was asked for, and prints the answers too.
+fn play_explained<O: Write, E: Write>(
+    alloc: Global,
+    asked: &Asked,
+    captures: &[&[u8]],
+    out: &mut O,
+    err: &mut E,
+) -> Ended
+    ensures { Plays true (map (λ c. c.now) captures.now) asked.now.specs.items asked.now.steps.items
+        (streams (O.contents out.old) (E.contents err.old)) (streams (O.contents out.new) (E.contents err.new)) result }
+{
+    let traced = match trace(
+        alloc,
+        captures,
+        asked.specs.as_slice(),
+        asked.steps.as_slice(),
+    ) {
+        Ok(traced) => traced,
+        Err(fault) => return refuse(fault, err),
+    };
+    let Ok(mut cursor) = Cursor::new(alloc, asked, &traced) else {
+        return refuse(Fault::NoMemory, err);
+    };
+    let printed = print_trace(asked, &traced, &mut cursor, out);
+    end(printed, traced.torn, err)
+}
+
+/// [`steps`], with whether standard error took what was told.
+pub fn steps_told<O: Write, E: Write>(
+    alloc: Global,
+    listeners: &[u8],
+    script: &[u8],
+    captures: &[&[u8]],
+    out: &mut O,
+    err: &mut E,
+) -> Ended
+    ensures { Steps listeners.now script.now (map (λ c. c.now) captures.now)
+        (streams (O.contents out.old) (E.contents err.old)) (streams (O.contents out.new) (E.contents err.new)) result }
+{
+    match read_asked(alloc, listeners, script) {
+        Ok(asked) => play_asked(alloc, &asked, captures, false, out, err),
+        Err(fault) => Ended {
+            status: REFUSED,
+            told: tell_line(fault, err),
+        },
     }
 }
 
@@ -103,8 +228,9 @@ pub fn play_asked<O: Write, E: Write>(
 /// 262,144 bytes, and 0 stands for the largest. A line of SCRIPT is `arrive`, `flush L`, `read L` or `close L`. The first
 /// bad line is told as `Listeners N` or `Script N`, N from 1.
 ///
-/// The exit status is 0; 1 for a refusal or want of memory, where nothing is printed on `out`; 2 where a capture ended with
-/// a record fault, which is told behind the reports; 3 where `out` failed. What is printed is what [`tap::replay`] answers.
+/// The exit status is 0 where all went well; 1 for a refusal or want of memory, where nothing is printed on `out`; 2 where a
+/// capture ended with a record fault, which is told behind the reports; 3 where `out` failed. What is printed are the reports of
+/// [`tap::replay`], whole for 0 and 2.
 pub fn steps<O: Write, E: Write>(
     alloc: Global,
     listeners: &[u8],
@@ -113,10 +239,8 @@ pub fn steps<O: Write, E: Write>(
     out: &mut O,
     err: &mut E,
 ) -> u8
-    ensures { result ≤ 3 }
+    ensures { StepsTo listeners.now script.now (map (λ c. c.now) captures.now)
+        (streams (O.contents out.old) (E.contents err.old)) (streams (O.contents out.new) (E.contents err.new)) result }
 {
-    match read_asked(alloc, listeners, script) {
-        Ok(asked) => play_asked(alloc, &asked, captures, false, out, err),
-        Err(fault) => tell_fault(fault, REFUSED, err),
-    }
+    steps_told(alloc, listeners, script, captures, out, err).status
 }

@@ -142,7 +142,7 @@ fn is_not_taken(
     let taken = Vec::new(rt.alloc());
     let mut out = BreakingWriter { taken, room };
     let mut err: Vec<u8> = Vec::new(rt.alloc());
-    let status = play_asked(rt.alloc(), asked, &[text], explained, &mut out, &mut err);
+    let ended = play_asked(rt.alloc(), asked, &[text], explained, &mut out, &mut err);
     assert_eq!(rt; err.as_slice(), told.as_bytes());
-    assert_eq!(rt; status, 3);
+    assert_eq!(rt; ended.status, 3);
 }

@@ -4,6 +4,8 @@
 #[cfg(test)]
 mod devices;
 #[cfg(test)]
+mod faults;
+#[cfg(test)]
 mod replays;
 #[cfg(test)]
 mod steps;

@@ -67,7 +67,7 @@ fn holds(rt: &(impl Abort + AllocGlobal), captures: &[&[u8]], row: Row) {
 }
 
 /// Worked examples over one TCP frame.
-const TCP_ROWS: [Row; 5] = [
+const TCP_ROWS: [Row; 6] = [
     Row {
         listeners: "10 48 tcp",
         script: "arrive\nflush 1\n",
@@ -101,6 +101,14 @@ const TCP_ROWS: [Row; 5] = [
         script: "",
         out: "",
         err: "bpftap: Expression 0 NoQualifier 8\n",
+        status: 1,
+    },
+    // A blank before the expression is a part of it.
+    Row {
+        listeners: "10 48  tcp and 80\n",
+        script: "",
+        out: "",
+        err: "bpftap: Expression 0 NoQualifier 9\n",
         status: 1,
     },
 ];
@@ -143,26 +151,12 @@ fn both_modes_are_told(rt: HostRuntime) -> Result<(), Fail> {
     Ok(())
 }
 
-/// Lines that have not their form, with the fault of each.
-const BAD_LINES: [(&str, &str, &str); 18] = [
-    ("", "arrives\n", "bpftap: Script 1\n"),
-    ("", "arrive\narrive \n", "bpftap: Script 2\n"),
-    ("", "arrive\r\n", "bpftap: Script 1\n"),
-    ("", "\n", "bpftap: Script 1\n"),
-    ("", "read\n", "bpftap: Script 1\n"),
-    ("", "read  0\n", "bpftap: Script 1\n"),
-    ("", "read +0\n", "bpftap: Script 1\n"),
-    ("", "close 4294967296\n", "bpftap: Script 1\n"),
-    ("", "flush 0 \n", "bpftap: Script 1\n"),
-    ("262145 96\n", "", "bpftap: Listeners 1\n"),
+/// Files of which one has a bad line, with what is told.
+const BAD_LINES: [(&str, &str, &str); 4] = [
     ("32\n", "read\n", "bpftap: Listeners 1\n"),
-    ("32 64\n32 \n", "", "bpftap: Listeners 2\n"),
-    ("32 64 tcp\n\n", "", "bpftap: Listeners 2\n"),
-    ("32  64\n", "", "bpftap: Listeners 1\n"),
-    ("32 18446744073709551616\n", "", "bpftap: Listeners 1\n"),
-    ("32 64I\n", "", "bpftap: Listeners 1\n"),
-    ("32 i\n", "", "bpftap: Listeners 1\n"),
-    ("-1 64\n", "", "bpftap: Listeners 1\n"),
+    ("32 64\r\n", "", "bpftap: Listeners 1\n"),
+    ("32 64 tcp\r\n\n", "arrive", "bpftap: Listeners 2\n"),
+    ("", "arrive\narrive\r\n", "bpftap: Script 2\n"),
 ];
 
 #[test]
@@ -215,15 +209,21 @@ fn a_torn_capture_is_told_behind_the_reports(rt: HostRuntime) -> Result<(), Fail
     Ok(())
 }
 
-const EXPLAINED: &str =
-    "step 1 arrive capture 0 place 0 time 1.000000000 len 60: listener 0 Stored, 0 stored and 64 more are within 64
-step 2 arrive capture 0 place 1 time 2.000000000 len 60: listener 0 Rotated, 64 stored and 64 more exceed 64, and the empty hold takes the 64
-step 3 arrive capture 0 place 2 time 3.000000000 len 60: listener 0 Dropped, 64 stored and 64 more exceed 64, the hold is not read
-step 4 read: listener 0 read, 1 held
-step 5 flush: listener 0 flushed, the empty hold takes the 64 stored
-step 6 flush: listener 0 not flushed, the hold is not read
-step 7 close: listener 0 closed
-step 8 arrive: no packet is left
+const EXPLAINED: &str = "step 1 arrive capture 0 place 0 time 1.000000000 len 60
+  listener 0 Stored, 0 stored and 64 more are within 64
+step 2 arrive capture 0 place 1 time 2.000000000 len 60
+  listener 0 Rotated, 64 stored and 64 more exceed 64, and the empty hold takes the 64
+step 3 arrive capture 0 place 2 time 3.000000000 len 60
+  listener 0 Dropped, 64 stored and 64 more exceed 64; the hold of step 2 with 1 packet is not read
+step 4 read 0
+  listener 0 read, it takes the hold of step 2 with 1 packet
+step 5 flush 0
+  listener 0 flushed, the empty hold takes the 64 stored
+step 6 flush 0
+  listener 0 not flushed, the hold of step 5 with 1 packet is not read
+step 7 close 0
+  listener 0 closed
+step 8 arrive, no packet is left
 listener 0 received 3 matched 3 dropped 1
 batch 0
 capture 0 place 0 time 1.000000000 len 60 kept 32
@@ -232,23 +232,34 @@ capture 0 place 1 time 2.000000000 len 60 kept 32
 ";
 
 /// Each answer that the one listener above does not give.
-const OTHERS_EXPLAINED: &str =
-    "step 1 arrive capture 0 place 0 time 1.000000000 len 60: listener 0 Passed, the filter rejects it
-step 1 arrive capture 0 place 0 time 1.000000000 len 60: listener 1 Held, 0 stored and 64 more are within 128, and the empty hold takes them at once
-step 1 arrive capture 0 place 0 time 1.000000000 len 60: listener 2 Stored, 0 stored and 64 more are within 64
-step 2 arrive capture 0 place 1 time 2.000000000 len 60: listener 0 Passed, the filter rejects it
-step 2 arrive capture 0 place 1 time 2.000000000 len 60: listener 1 Stored, 0 stored and 64 more are within 128
-step 2 arrive capture 0 place 1 time 2.000000000 len 60: listener 2 Rotated, 64 stored and 64 more exceed 64, and the empty hold takes the 64
-step 3 flush: listener 0 not flushed, nothing is stored
-step 4 read: listener 0 nothing read, nothing is held
-step 5 read: listener 1 read, 1 held
-step 6 close: listener 1 closed
-step 7 flush: listener 1 not flushed, closed
-step 8 close: listener 2 closed
-step 9 read: listener 2 nothing read, closed
-step 10 arrive capture 0 place 2 time 3.000000000 len 60: listener 0 Passed, the filter rejects it
-step 10 arrive capture 0 place 2 time 3.000000000 len 60: listener 1 Closed
-step 10 arrive capture 0 place 2 time 3.000000000 len 60: listener 2 Closed
+const OTHERS_EXPLAINED: &str = "step 1 arrive capture 0 place 0 time 1.000000000 len 60
+  listener 0 Passed, the filter rejects it
+  listener 1 Held, 0 stored and 64 more are within 128, and the empty hold takes them at once
+  listener 2 Stored, 0 stored and 64 more are within 64
+step 2 arrive capture 0 place 1 time 2.000000000 len 60
+  listener 0 Passed, the filter rejects it
+  listener 1 Stored, 0 stored and 64 more are within 128
+  listener 2 Rotated, 64 stored and 64 more exceed 64, and the empty hold takes the 64
+step 3 flush 0
+  listener 0 not flushed, nothing is stored
+step 4 read 0
+  listener 0 nothing read, nothing is held
+step 5 read 1
+  listener 1 read, it takes the hold of step 1 with 1 packet
+step 6 close 1
+  listener 1 closed
+step 7 flush 1
+  listener 1 not flushed, closed
+step 8 close 2
+  listener 2 closed
+step 9 flush 2
+  listener 2 not flushed, closed
+step 10 read 2
+  listener 2 nothing read, closed
+step 11 arrive capture 0 place 2 time 3.000000000 len 60
+  listener 0 Passed, the filter rejects it
+  listener 1 Closed
+  listener 2 Closed
 listener 0 received 3 matched 0 dropped 0
 held
 listener 1 received 2 matched 2 dropped 0
@@ -262,43 +273,88 @@ capture 0 place 0 time 1.000000000 len 60 kept 32
 capture 0 place 1 time 2.000000000 len 60 kept 32
 ";
 
-/// Plays a script over three packets of zeros, and compares what is explained.
+/// Plays a script over captures, and compares what is explained.
 fn explains(
     rt: &(impl Abort + AllocGlobal),
+    captures: &[&[u8]],
     listeners: &[u8],
     script: &[u8],
     expected: &str,
 ) -> Result<(), Fail> {
-    let text = zeros(rt.alloc(), 3)?;
     let asked = read_asked(rt.alloc(), listeners, script)?;
     let mut out: Vec<u8> = Vec::new(rt.alloc());
     let mut err: Vec<u8> = Vec::new(rt.alloc());
-    let status = play_asked(
-        rt.alloc(),
-        &asked,
-        &[text.as_slice()],
-        true,
-        &mut out,
-        &mut err,
-    );
+    let ended = play_asked(rt.alloc(), &asked, captures, true, &mut out, &mut err);
     assert_eq!(rt; out.as_slice(), expected.as_bytes());
     assert!(rt; err.is_empty());
-    assert_eq!(rt; status, 0);
+    assert_eq!(rt; ended.status, 0);
     Ok(())
 }
 
 #[test]
 fn each_answer_is_explained(rt: HostRuntime) -> Result<(), Fail> {
+    let text = zeros(rt.alloc(), 3)?;
+    let captures = [text.as_slice()];
     explains(
         &rt,
+        &captures,
         b"32 64",
         b"arrive\narrive\narrive\nread 0\nflush 0\nflush 0\nclose 0\narrive\n",
         EXPLAINED,
     )?;
     explains(
         &rt,
+        &captures,
         b"32 64 arp\n32 128i\n32 64\n",
-        b"arrive\narrive\nflush 0\nread 0\nread 1\nclose 1\nflush 1\nclose 2\nread 2\narrive\n",
+        b"arrive\narrive\nflush 0\nread 0\nread 1\nclose 1\nflush 1\nclose 2\nflush 2\nread 2\narrive\n",
         OTHERS_EXPLAINED,
+    )
+}
+
+/// The header of a capture in nanoseconds, little-endian.
+const NANO_HEADER: [u8; 24] = [
+    0x4d, 0x3c, 0xb2, 0xa1, 2, 0, 4, 0, 0, 0, 0, 0, 0, 0, 0, 0, 0, 0, 4, 0, 1, 0, 0, 0,
+];
+
+/// A capture of packets of zeros: second, nanoseconds, captured length and length on the wire of each.
+fn nano_capture(alloc: Global, packets: &[(u32, u32, u32, u32)]) -> Result<Vec<u8>, AllocError> {
+    let mut text = Vec::from_slice(alloc, &NANO_HEADER)?;
+    for (sec, nanos, captured, wire) in packets {
+        for number in [*sec, *nanos, *captured, *wire] {
+            text.extend_from_slice(&number.to_le_bytes())?;
+        }
+        for _ in 0..*captured {
+            text.push(0)?;
+        }
+    }
+    Ok(text)
+}
+
+const TWO_EXPLAINED: &str = "step 1 arrive capture 0 place 0 time 1.000000007 len 1500
+  listener 0 Stored, 0 stored and 80 more are within 160
+step 2 arrive capture 0 place 1 time 2.123456789 len 60
+  listener 0 Stored, 80 stored and 40 more are within 160
+step 3 arrive capture 1 place 0 time 3.999999999 len 46
+  listener 0 Rotated, 120 stored and 80 more exceed 160, and the empty hold takes the 120
+step 4 read 0
+  listener 0 read, it takes the hold of step 3 with 2 packets
+listener 0 received 3 matched 3 dropped 0
+batch 0
+capture 0 place 0 time 1.000000007 len 1500 kept 45
+capture 0 place 1 time 2.123456789 len 60 kept 3
+held
+capture 1 place 0 time 3.999999999 len 46 kept 45
+";
+
+#[test]
+fn two_captures_in_nanoseconds_are_told(rt: HostRuntime) -> Result<(), Fail> {
+    let first = nano_capture(rt.alloc(), &[(1, 7, 47, 1500), (2, 123_456_789, 3, 60)])?;
+    let second = nano_capture(rt.alloc(), &[(3, 999_999_999, 46, 46)])?;
+    explains(
+        &rt,
+        &[first.as_slice(), second.as_slice()],
+        b"45 160 \r\n",
+        b"arrive\narrive\narrive\nread 0\n",
+        TWO_EXPLAINED,
     )
 }

@@ -1,5 +1,5 @@
 -- A listener's call is a step of a replay.
-use Rattle.std.proofs.Common.{◌≡◌, ℕ, List, [], ◌∷◌, ◌++◌, Option, Some, None, option_map, refl, ap, sym, ◌∙◌, append_assoc, append-nil}
+use Rattle.std.proofs.Common.{◌≡◌, ℕ, Bool, List, [], ◌∷◌, ◌++◌, Option, Some, None, option_map, refl, ap, sym, ◌∙◌, append_assoc, append-nil}
 use Rattle.bpfvm.specs.declared.insn.Insn.{Insn}
 use Rattle.listener.specs.declared.message.Message.{Message}
 use Rattle.listener.specs.Listening.{Listening, listening, Takes}
@@ -10,8 +10,8 @@ use Rattle.tap.specs.Answers.{answer_in, answered, all_answered}
 use Rattle.tap.specs.Watching.{watch, with_answer, after, stepped, all_stepped}
 
 -- an answer as the code writes it
-pub told_as : (s : PlainList) (e : Event) (bytes many : ℕ) → bytes ≡ load s → many ≡ s.held → record { load = bytes; held = many; answer = answer_in e } ≡ answered s e
-told_as s e bytes many loaded held = λ i. record { load = loaded i; held = held i; answer = answer_in e }
+pub told_as : (s : PlainList) (e : Event) (shut : Bool) (bytes many : ℕ) → shut ≡ s.closed → bytes ≡ load s → many ≡ s.held → record { closed = shut; load = bytes; held = many; answer = answer_in e } ≡ answered s e
+told_as s e shut bytes many closed loaded held = λ i. record { closed = closed i; load = loaded i; held = held i; answer = answer_in e }
 
 -- the one right answer is what the listener answers
 pub step_is : (law : AnswersAreFair) (old new : Listening) (bs : List (List Message)) (before : Option (List Answered)) (e : Event) (r : Request) →
@@ -33,11 +33,11 @@ step_without law old new bs before e r is none takes =
 
 -- the same, with the answer as the code writes it
 pub step_told : (law : AnswersAreFair) (old new : Listening) (bs : List (List Message)) (before after : Option (List Answered)) (told : Answered) (e : Event) (r : Request) →
-    request_of e ≡ r → batch_in e ≡ [] → (bytes many : ℕ) → bytes ≡ load old.list → many ≡ old.list.held →
-    told ≡ record { load = bytes; held = many; answer = answer_in e } → Takes old e new → after ≡ with_answer told before →
+    request_of e ≡ r → batch_in e ≡ [] → (shut : Bool) (bytes many : ℕ) → shut ≡ old.list.closed → bytes ≡ load old.list → many ≡ old.list.held →
+    told ≡ record { closed = shut; load = bytes; held = many; answer = answer_in e } → Takes old e new → after ≡ with_answer told before →
     watch new bs after ≡ stepped r (watch old bs before)
-step_told law old new bs before after told e r is none bytes many loaded held same takes adds =
-    ap (watch new bs) (adds ∙ ap (λ (a : Answered). with_answer a before) (same ∙ told_as old.list e bytes many loaded held))
+step_told law old new bs before after told e r is none shut bytes many closed loaded held same takes adds =
+    ap (watch new bs) (adds ∙ ap (λ (a : Answered). with_answer a before) (same ∙ told_as old.list e shut bytes many closed loaded held))
     ∙ step_without law old new bs before e r is none takes
 
 -- the answers behind others

@@ -24,9 +24,9 @@ answer_in (read (Some batch)) = Read true
 answer_in (read None) = Read false
 answer_in closed = Closed
 
--- the answer of an event, with the load and the number of held messages before it
+-- the answer of an event, with how the listener stood before it: whether it was closed, the load and the number of held messages
 abbrev pub answered : PlainList → Event → Answered
-answered s e = record { load = load s; held = s.held; answer = answer_in e }
+answered s e = record { closed = s.closed; load = load s; held = s.held; answer = answer_in e }
 
 -- the same of each event, from a state on
 abbrev pub all_answered : PlainList → List Event → List Answered

@@ -17,6 +17,8 @@ pub enum Answer {
 /// A listener's answer to a step, with how the listener stood before it.
 #[derive(Clone, Copy, Debug, PartialEq, Eq)]
 pub struct Answered {
+    /// Whether the listener was closed before the step.
+    pub closed: bool,
     /// The bytes of the records in the store before the step.
     pub load: usize,
     /// The number of messages in the hold before the step.

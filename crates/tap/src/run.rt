@@ -127,7 +127,7 @@ pub fn replay(
 }
 
 /// Replays captures as [`replay`] does, with the same reports and faults, and also tells what each listener answered to
-/// each of its steps, with the load of its store and the number of held messages before it.
+/// each of its steps, and before it whether it was closed, the load of its store and the number of held messages.
 ///
 /// Each step has one right answer, that of the plain list, and this is the one told. The answers take memory for each step, so
 /// that [`Fault::NoMemory`] can come where [`replay`] gives reports.

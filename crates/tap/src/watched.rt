@@ -1,6 +1,6 @@
 //! A listener with what was read from it, and what it answered.
 
-ghost use Rattle.std.specs.Prelude.{◌≡◌, ◌<◌, ◌-◌, ◌^◌, ◌++◌, [], Option, IfOk, IfErr, OnOk, option_map};
+ghost use Rattle.std.specs.Prelude.{◌≡◌, ◌<◌, ◌-◌, ◌^◌, ◌++◌, [], Option, IfOk, IfErr, OnOk, option_map, false};
 ghost use Rattle.listener.specs.Buffers.{filled};
 ghost use Rattle.listener.specs.PlainList.{load};
 ghost use Rattle.listener.specs.PlainList as P;
@@ -19,6 +19,7 @@ use std::marker::Model;
 #[derive(Drop)]
 pub struct Watched {
     listener: Listener,
+    closed: bool,
     batches: Vec<Vec<Message>>,
     answers: Option<Vec<Answered>>,
     // An empty buffer for the next read, once there was a read.
@@ -35,32 +36,36 @@ impl Model for Watched {
 
     ghost view = { λ w. watch w.listener (map (λ b. b.items) w.batches.items) (option_map (λ a. a.items) w.answers) };
 
-    ghost invariant = { λ w. ForSome w.spare (λ b. b ≡ filled w.listener.terms.capacity []) };
+    ghost invariant = { λ w. ForSome w.spare (λ b. b ≡ filled w.listener.terms.capacity []) × (w.closed ≡ w.listener.list.closed) };
 }
 
 /// How a listener stands before a step.
 #[derive(Clone, Copy)]
 struct Standing {
+    closed: bool,
     load: usize,
     held: usize,
 }
 
 impl Standing {
-    fn of(listener: &Listener) -> Standing
+    fn of(listener: &Listener, closed: bool) -> Standing
+        ensures closed { result.closed ≡ closed }
         ensures load { result.load ≡ load listener.now.list }
         ensures held { result.held ≡ listener.now.list.held }
     {
         let (hold, store) = listener.buffers();
         Standing {
+            closed,
             load: store.bytes().len(),
             held: hold.len(),
         }
     }
 
     fn answered(self, answer: Answer) -> Answered
-        ensures { result ≡ record { load = self.load; held = self.held; answer = answer } }
+        ensures { result ≡ record { closed = self.closed; load = self.load; held = self.held; answer = answer } }
     {
         Answered {
+            closed: self.closed,
             load: self.load,
             held: self.held,
             answer,
@@ -79,11 +84,14 @@ fn follow(answers: &mut Option<Vec<Answered>>, answered: Answered) -> Result<(),
 }
 
 impl Watched {
+    /// A listener that is open.
     pub fn new(alloc: Global, listener: Listener, traced: bool) -> Watched
+        requires { listener.list.closed ≡ false }
         ensures { result ≡ watch listener [] (no_answers traced) }
     {
         Watched {
             listener,
+            closed: false,
             batches: Vec::new(alloc),
             answers: if traced { Some(Vec::new(alloc)) } else { None },
             spare: None,
@@ -97,7 +105,7 @@ impl Watched {
         ensures err { IfErr result (λ f. f ≡ NoMemory) }
     {
         listener::laws::answers();
-        let before = Standing::of(&self.listener);
+        let before = Standing::of(&self.listener, self.closed);
         let packet = placed.packet.as_ref();
         let fed = self.listener.arrive(placed.capture, placed.place, &packet);
         follow(&mut self.answers, before.answered(Answer::Arrived(fed)))?;
@@ -109,7 +117,7 @@ impl Watched {
         ensures err { IfErr result (λ f. f ≡ NoMemory) }
     {
         listener::laws::answers();
-        let before = Standing::of(&self.listener);
+        let before = Standing::of(&self.listener, self.closed);
         let full = self.listener.flush();
         follow(&mut self.answers, before.answered(Answer::Flushed(full)))?;
         Ok(())
@@ -120,8 +128,9 @@ impl Watched {
         ensures err { IfErr result (λ f. f ≡ NoMemory) }
     {
         listener::laws::answers();
-        let before = Standing::of(&self.listener);
+        let before = Standing::of(&self.listener, self.closed);
         self.listener.close();
+        self.closed = true;
         follow(&mut self.answers, before.answered(Answer::Closed))?;
         Ok(())
     }
@@ -148,7 +157,7 @@ impl Watched {
     {
         listener::laws::answers();
         let empty = self.empty_buffer(alloc)?;
-        let before = Standing::of(&self.listener);
+        let before = Standing::of(&self.listener, self.closed);
         match self.listener.read(empty) {
             Read::Full(mut full) => {
                 let mut batch = Vec::with_capacity(alloc, full.len())?;

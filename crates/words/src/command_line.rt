@@ -203,7 +203,7 @@ fn bad_snap(alloc: Global, name: &str) -> Result<Error, AllocError> {
 
 fn cut_words<'a>(matches: &ArgMatches<'a>) -> Option<CutWords<'a>> {
     Some(CutWords {
-        snap: snapshot_length(matches.get_str("snap")?)?,
+        snap: snapshot_length(matches.get_str("snap")?.as_bytes())?,
         listing: matches.get_str("listing"),
         expr: matches.get_str("expr"),
         order: order_of(matches),

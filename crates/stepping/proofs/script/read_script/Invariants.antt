@@ -1,9 +1,11 @@
-use Rattle.std.proofs.Common.{◌+◌, ◌≤◌, length, vec_len}
+use Rattle.std.proofs.Common.{length}
+use Rattle.bpfvm.specs.Listing.{further_lines}
+use Rattle.stepping.specs.Script.{IsStepLine}
+use Rattle.stepping.proofs.Reading.{IsRead}
 use Rattle.stepping.proofs.script.read_script.Given as goal
 
--- each line that was read has left the text
 abbrev pub invariant-loop-rest : goal.invariant-loop-rest
-invariant-loop-rest l = vec_len l.steps + length l.rest ≤ length l.text
+invariant-loop-rest l = IsRead IsStepLine (further_lines l.text) (further_lines l.rest) l.steps.items
 
 abbrev pub decreases-loop-rest : goal.decreases-loop-rest
 decreases-loop-rest l = length l.rest

@@ -1,4 +1,4 @@
-use Rattle.std.proofs.Common.{refl}
+use Rattle.std.proofs.Common.{refl, ◌∙◌}
 use Rattle.listener.specs.PlainList.{flushed}
 use Rattle.tap.proofs.Stepping.{step_told}
 use Rattle.tap.proofs.watched.Watched.flush.Goals as goal
@@ -6,4 +6,4 @@ use Rattle.tap.proofs.watched.Watched.flush.Goals as goal
 pub returns-clause-ok : goal.returns-clause-ok
 returns-clause-ok c =
     rw (← c.self.view_is) (step_told c.answers.ensures.fair c.self.inside.listener c.flush-full.new.self _ _ _ _ (flushed c.flush-full.result) _ refl refl
-    _ _ c.of-before.ensures.load c.of-before.ensures.held c.answered.ensures c.flush-full.ensures c.in_ok-follow.ensures)
+    _ _ _ (c.of-before.ensures.closed ∙ c.self.invariant.1) c.of-before.ensures.load c.of-before.ensures.held c.answered.ensures c.flush-full.ensures c.in_ok-follow.ensures)

@@ -1,0 +1,4 @@
+pub mod Lines
+pub mod Capacities
+pub mod Left
+pub mod Added

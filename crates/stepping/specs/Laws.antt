@@ -1,0 +1,7 @@
+-- Laws of the files LISTENERS and SCRIPT.
+use Rattle.std.specs.Prelude.{ℕ, List}
+use Rattle.lines.specs.Files.{IsFileOf, IsFirstBad}
+
+-- a file whose lines all have their form has no bad line
+abbrev pub NoneIsBad : {X : Type 0} → (List ℕ → X → Type 0) → Type 0
+NoneIsBad {X} Is = (text : List ℕ) (items : List X) (n : ℕ) → IsFileOf Is text items → IsFirstBad Is text n → ⊥

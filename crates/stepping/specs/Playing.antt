@@ -1,0 +1,85 @@
+-- What is printed and told of steps that are played, and the exit status.
+use Rattle.std.specs.Prelude.{◌≡◌, ℕ, zero, suc, ◌⊎◌, max, Bool, false, List, [], ◌++◌, Option, Some, None, Result, Ok, Err, OnOk, codes}
+use Rattle.std.specs.Io.KnownBytes.{Appends, Keeps}
+use Rattle.savefile.specs.declared.fault.Fault.{Fault as RecordFault}
+use Rattle.tap.specs.declared.fault.Fault.{Fault}
+use Rattle.tap.specs.declared.fault.Fault.TheVariants.{Capture}
+use Rattle.tap.specs.declared.filters.Spec.{Spec}
+use Rattle.tap.specs.declared.step.Step.{Step}
+use Rattle.tap.specs.declared.report.Report.{Report}
+use Rattle.tap.specs.Headline.{Replays}
+use Rattle.tap.specs.Refusals.{IsFirst}
+use Rattle.lines.specs.Sending.{Takes, TakesPart}
+use Rattle.lines.specs.Telling.{told_line}
+use Rattle.stepping.specs.declared.steps.Ended.{Ended}
+use Rattle.stepping.specs.Faults.{fault_text}
+use Rattle.stepping.specs.Printed.{printed_reports}
+
+-- What standard output and standard error took so far, where they tell it.
+pub record Streams : Type 0 where
+  pub out : Option (List ℕ)
+  pub err : Option (List ℕ)
+
+abbrev pub streams : Option (List ℕ) → Option (List ℕ) → Streams
+streams out err = record { out = out; err = err }
+
+-- some text was taken
+abbrev pub Grows : Option (List ℕ) → Option (List ℕ) → Type 0
+Grows old new = (text : List ℕ) × Appends old new text
+
+-- the status of printing: 3 where the writer failed
+abbrev pub printed_status : {A E : Type 0} → Result A E → ℕ
+printed_status (Ok done) = 0
+printed_status (Err fault) = 3
+
+-- How the printing of a text ended, as a status: 0 where the writer took the text, 3 where it failed, and took a beginning of it.
+abbrev pub Printed : Option (List ℕ) → Option (List ℕ) → List ℕ → ℕ → Type 0
+Printed old new text printed = ((printed ≡ 0) × Appends old new text) ⊎ ((printed ≡ 3) × TakesPart old new text)
+
+-- the status of a capture that ended with a record fault
+abbrev pub torn_status : Option (ℕ × RecordFault) → ℕ
+torn_status None = 0
+torn_status (Some torn) = 2
+
+-- the line of standard output that failed
+abbrev pub output_line : ℕ → List ℕ
+output_line zero = []
+output_line (suc status) = told_line (codes "Device standard output")
+
+-- the line of a capture that ended with a record fault
+abbrev pub torn_line : Option (ℕ × RecordFault) → List ℕ
+torn_line None = []
+torn_line (Some torn) = told_line (fault_text (Capture torn.0 torn.1))
+
+-- Two lines, either of which may be empty, were told one behind the other: both where the call answers Ok, else a beginning of
+-- each.
+pub record TellsBoth {A E : Type 0} (old new : Option (List ℕ)) (result : Result A E) (first second : List ℕ) : Type 0 where
+  pub between : Option (List ℕ)
+  pub first_begun : TakesPart old between first
+  pub second_begun : TakesPart between new second
+  pub both : OnOk result (Appends old new (first ++ second))
+
+-- A replay gave reports. They were printed, behind the answers where these are explained; the capture that was torn was told;
+-- the status is the greatest that stands.
+pub record Reported (explained : Bool) (captures : List (List ℕ)) (specs : List Spec) (steps : List Step) (old new : Streams) (ended : Ended) : Type 0 where
+  pub reports : List Report
+  pub torn : Option (ℕ × RecordFault)
+  pub replays : Replays captures specs steps reports torn
+  pub answers : List ℕ
+  pub unexplained : explained ≡ false → answers ≡ []
+  pub printed : ℕ
+  pub prints : Printed old.out new.out (answers ++ printed_reports reports) printed
+  pub tells : TellsBoth old.err new.err ended.told (output_line printed) (torn_line torn)
+  pub greatest : ended.status ≡ max printed (torn_status torn)
+
+-- There is no replay: the first fault that stands was told, and nothing was printed.
+pub record Refused (captures : List (List ℕ)) (specs : List Spec) (steps : List Step) (old new : Streams) (ended : Ended) : Type 0 where
+  pub fault : Fault
+  pub first : IsFirst captures specs steps fault
+  pub nothing : Keeps old.out new.out
+  pub tells : Takes old.err new.err ended.told (told_line (fault_text fault))
+  pub refused : ended.status ≡ 1
+
+abbrev pub Plays : Bool → List (List ℕ) → List Spec → List Step → Streams → Streams → Ended → Type 0
+Plays explained captures specs steps old new ended =
+    Reported explained captures specs steps old new ended ⊎ Refused captures specs steps old new ended
