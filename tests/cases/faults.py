@@ -21,7 +21,7 @@ def listing(*lines):
 COOKED = header()[:20] + (113).to_bytes(4, "little")
 
 FILES = {
-    "in.pcap": WHOLE, "torn.pcap": TORN, "empty.pcap": "", "text.pcap": "no savefile, but a text",
+    "in.pcap": WHOLE, "torn.pcap": TORN, "empty.pcap": "", "text.pcap": "no savefile, but a text of some length",
     "old.pcap": header()[:6] + bytes([3, 0]) + header()[8:], "cooked.pcap": COOKED,
     "fraction.pcap": WHOLE + record(1000000, 0), "long.pcap": WHOLE + record(0, 262145),
     "all.bpf": ALL, "line.bpf": "x\n", "line3.bpf": listing(2, "6 0 0 1", "6 0 0"), "count.bpf": listing(2, "6 0 0 1"),
@@ -60,17 +60,6 @@ COMPILED = {"TooDeep", "TooLong"}
 # The words of a command, the fault and the status.
 REFUSED = [
     ("cut -s 0 -e ip -f all.bpf in.pcap out.pcap", "FilterTwice", 1),
-    ("cut -s 0 -f line.bpf in.pcap out.pcap", "BadLine 1", 1),
-    ("cut -s 0 -f line3.bpf in.pcap out.pcap", "BadLine 3", 1),
-    ("cut -s 0 -f count.bpf in.pcap out.pcap", "Count", 1),
-    ("cut -s 0 -f empty.bpf in.pcap out.pcap", "Program Empty", 1),
-    ("cut -s 0 -f many.bpf in.pcap out.pcap", "Program TooMany", 1),
-    ("cut -s 0 -f code.bpf in.pcap out.pcap", "Program UnknownCode 0", 1),
-    ("cut -s 0 -f jump.bpf in.pcap out.pcap", "Program JumpOut 1", 1),
-    ("cut -s 0 -f cell.bpf in.pcap out.pcap", "Program Cell 0", 1),
-    ("cut -s 0 -f zero.bpf in.pcap out.pcap", "Program ZeroDivisor 0", 1),
-    ("cut -s 0 -f end.bpf in.pcap out.pcap", "Program NoReturn", 1),
-    ("cut -s 0 -f none.bpf in.pcap out.pcap", "Device none.bpf", 3),
     ("cut -s 0 none.pcap out.pcap", "Device none.pcap", 3),
     ("cut -s 0 in.pcap none/out.pcap", "Device none/out.pcap", 3),
     ("cut -s 0 . out.pcap", "Device .", 3),
@@ -85,6 +74,21 @@ REFUSED = [
     ("steps none.txt arrive.txt in.pcap", "Device none.txt", 3),
     ("run none.txt in.pcap", "Device none.txt", 3),
     (["check", b"\xff"], "a word of the command line is not UTF-8", 1),
+]
+
+# Listings that `cut` and `check` refuse, and the status.
+LISTED = [
+    ("line.bpf", "BadLine 1", 1),
+    ("line3.bpf", "BadLine 3", 1),
+    ("count.bpf", "Count", 1),
+    ("empty.bpf", "Program Empty", 1),
+    ("many.bpf", "Program TooMany", 1),
+    ("code.bpf", "Program UnknownCode 0", 1),
+    ("jump.bpf", "Program JumpOut 1", 1),
+    ("cell.bpf", "Program Cell 0", 1),
+    ("zero.bpf", "Program ZeroDivisor 0", 1),
+    ("end.bpf", "Program NoReturn", 1),
+    ("none.bpf", "Device none.bpf", 3),
 ]
 
 # A file LISTENERS of `run`, the captures behind it, the fault and the status.
@@ -115,9 +119,10 @@ PLACES = {"N": r"\d+", "C": r"\d+", "L": r"\d+", "I": r"\d+", "B": r"\d+", "PATH
 
 # The sections of the page that have the lines of a command; those of faults inside a line.
 SHARED = "Files and words"
+LISTINGS = "Listings: `cut -f` and `check -f`"
 SECTIONS = {
-    "check": {SHARED, "Expressions"},
-    "cut": {SHARED, "Expressions", "Captures", "`cut`: the filter"},
+    "check": {SHARED, "Expressions", LISTINGS},
+    "cut": {SHARED, "Expressions", "Captures", LISTINGS},
     "steps": {SHARED, "`steps`"},
     "run": {SHARED, "`run`"},
 }
@@ -202,6 +207,13 @@ def tell_expressions(scene, page):
         tells(scene, page, "run run.txt in.pcap", f"{where} 0 {fault}", 1)
 
 
+def tell_listings(scene, page):
+    """Faults of listings, by both commands that read them."""
+    for path, fault, status in LISTED:
+        tells(scene, page, f"cut -s 0 -f {path} in.pcap out.pcap", fault, status)
+        tells(scene, page, f"check -f {path}", fault, status)
+
+
 def tell_runs(scene, page):
     """What `run` refuses, and the end of a listener whose OUT fails."""
     for listeners, captures, fault, status in RUNS:
@@ -222,6 +234,7 @@ def the_program_prints_the_lines_of_the_page(scene):
     for words, fault, status in REFUSED:
         tells(scene, page, words, fault, status)
     tells(scene, page, "check ip", "Device standard output", 3, ">/dev/full")
+    tell_listings(scene, page)
     tell_captures(scene, page)
     tell_expressions(scene, page)
     tell_runs(scene, page)
