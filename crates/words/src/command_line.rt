@@ -39,7 +39,7 @@ pub enum Request<'a> {
 const VERSION: &str = "0.1.0, proved with rattle-kit-13f logic dac8208d650f15bf";
 
 const ABOUT: &str =
-    "Filters captures offline, and replays them to listeners, as the BSD packet tap would have";
+    "Filters captures offline, and replays them to listeners that keep and drop packets";
 
 const EXAMPLES: &str = "Examples:
   bpftap check 'tcp dst port 80 or 443'
