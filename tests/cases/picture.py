@@ -21,8 +21,12 @@ def lanes(picture):
 
 def told_loads(explained):
     """The bytes that each step found in the store of each listener, where `steps -v` tells them."""
-    for line, listener, load in re.findall(r"^step (\d+) .*?listener (\d+) (?:Stored|Held|Rotated|Dropped), (\d+) stored", explained, re.M):
-        yield int(line), int(listener), int(load)
+    step = 0
+    for line in explained.splitlines():
+        if head := re.match(r"step (\d+) ", line):
+            step = int(head[1])
+        elif answer := re.match(r"  listener (\d+) (?:Stored|Held|Rotated|Dropped), (\d+) stored", line):
+            yield step, int(answer[1]), int(answer[2])
 
 
 @case
