@@ -114,8 +114,9 @@ fn breaks_off(rt: &(impl Abort + AllocGlobal), place: usize, byte: u8, want: Unr
         *there = byte;
     }
     let specs = [wanted(rt, "", 64, 1_000, Mode::Buffered)];
-    let (reports, torn) =
-        replay(rt.alloc(), &[text.as_slice()], &specs, &[Step::Arrive]).expect(rt, "a report");
+    let (reports, torn) = replay(rt.alloc(), &[text.as_slice()], &specs, &[Step::Arrive]).expect(
+        rt, "a report",
+    );
     assert_eq!(rt; torn, Some((0, want)));
     has_nothing(rt, at(rt, reports.as_slice(), 0));
 }
