@@ -56,7 +56,7 @@ struct Watching<'a> {
 }
 
 impl Watching<'_> {
-    /// The answer to the n-th step, how the listener stood before it, and that answer's place.
+    /// How the listener stood before the n-th step, and its answer to it.
     fn next(&mut self, n: usize) -> Option<(Standing, Answer)> {
         let answered = self.answers.next()?;
         let before = Standing::before(answered, self.held_since, self.spec.capacity);
