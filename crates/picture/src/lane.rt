@@ -100,11 +100,7 @@ fn write_title<O: Write>(column: &Column<'_>, out: &mut O) -> io::Result<()> {
 }
 
 /// The record of a packet that the filter accepts, on top of the store.
-fn write_record<O: Write>(
-    column: &Column<'_>,
-    scale: &Scale,
-    out: &mut O,
-) -> io::Result<()> {
+fn write_record<O: Write>(column: &Column<'_>, scale: &Scale, out: &mut O) -> io::Result<()> {
     let class = match column.answer {
         Some(Answer::Arrived(Fed::Dropped)) => "over",
         Some(Answer::Arrived(Fed::Stored | Fed::Held | Fed::Rotated)) => "record",
@@ -117,11 +113,7 @@ fn write_record<O: Write>(
 }
 
 /// The bars of a step.
-fn write_column<O: Write>(
-    column: &Column<'_>,
-    scale: &Scale,
-    out: &mut O,
-) -> io::Result<()> {
+fn write_column<O: Write>(column: &Column<'_>, scale: &Scale, out: &mut O) -> io::Result<()> {
     writeln!(out, "<g>")?;
     write_title(column, out)?;
     if let Some(answer) = column.answer {
@@ -134,12 +126,7 @@ fn write_column<O: Write>(
 }
 
 /// The room of a buffer, behind its bars.
-fn write_room<O: Write>(
-    width: u64,
-    floor: u64,
-    scale: &Scale,
-    out: &mut O,
-) -> io::Result<()> {
+fn write_room<O: Write>(width: u64, floor: u64, scale: &Scale, out: &mut O) -> io::Result<()> {
     let (y, drawn) = (floor.saturating_sub(scale.drawn), scale.drawn);
     writeln!(
         out,

@@ -7,6 +7,7 @@ use Rattle.lines.specs.Sending.{Takes, TakesPart}
 use Rattle.savefile.specs.declared.fault.Fault.{Fault as RecordFault}
 use Rattle.tap.specs.declared.filters.Spec.{Spec}
 use Rattle.tap.specs.declared.step.Step.{Step}
+use Rattle.tap.specs.declared.playlist.Placed.{Placed}
 use Rattle.tap.specs.declared.report.Report.{Report}
 use Rattle.tap.specs.Headline.{Replays}
 use Rattle.stepping.specs.declared.steps.Ended.{Ended}
@@ -52,13 +53,14 @@ Printed-status old new text (Ok x) taken = inl (refl, taken)
 Printed-status old new text (Err e) taken = inr (refl, taken)
 
 pub Reported-plain : {A E : Type 0} (explained : Bool) (captures : List (List ℕ)) (specs : List Spec) (steps : List Step) (old new : Streams) (ended : Ended) (reports : List Report) (torn : Option (ℕ × RecordFault)) (r : Result A E) →
-    Replays captures specs steps reports torn → Takes old.out new.out r (printed_reports reports) →
+    (playlist : List Placed) × Replays captures specs steps playlist torn reports → Takes old.out new.out r (printed_reports reports) →
     TellsBoth old.err new.err ended.told (output_line (printed_status r)) (torn_line torn) → ended.status ≡ max (printed_status r) (torn_status torn) →
     Reported explained captures specs steps old new ended
 Reported-plain explained captures specs steps old new ended reports torn r replays taken tells greatest = record {
   reports = reports;
   torn = torn;
-  replays = replays;
+  playlist = replays.0;
+  replays = replays.1;
   answers = [];
   unexplained = λ _. refl;
   printed = printed_status r;

@@ -6,6 +6,7 @@ use Rattle.tap.specs.declared.fault.Fault.{Fault}
 use Rattle.tap.specs.declared.fault.Fault.TheVariants.{Capture}
 use Rattle.tap.specs.declared.filters.Spec.{Spec}
 use Rattle.tap.specs.declared.step.Step.{Step}
+use Rattle.tap.specs.declared.playlist.Placed.{Placed}
 use Rattle.tap.specs.declared.report.Report.{Report}
 use Rattle.tap.specs.Headline.{Replays}
 use Rattle.tap.specs.Refusals.{IsFirst}
@@ -64,7 +65,8 @@ pub record TellsBoth {A E : Type 0} (old new : Option (List ℕ)) (result : Resu
 pub record Reported (explained : Bool) (captures : List (List ℕ)) (specs : List Spec) (steps : List Step) (old new : Streams) (ended : Ended) : Type 0 where
   pub reports : List Report
   pub torn : Option (ℕ × RecordFault)
-  pub replays : Replays captures specs steps reports torn
+  pub playlist : List Placed
+  pub replays : Replays captures specs steps playlist torn reports
   pub answers : List ℕ
   pub unexplained : explained ≡ false → answers ≡ []
   pub printed : ℕ
