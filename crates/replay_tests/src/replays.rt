@@ -1,5 +1,6 @@
 //! Replays in threads: worked examples, devices that fail in mid-stream, and want of memory.
 
+mod batches;
 mod caller;
 mod endings;
 mod overlap;

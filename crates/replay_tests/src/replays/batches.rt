@@ -1,0 +1,92 @@
+//! What a gate is told of a batch of several packets, and when.
+
+use super::*;
+use replay::Gate;
+use std::sync::atomic::AtomicU64;
+use std::sync::atomic::Ordering::SeqCst;
+use std::thread;
+use std::time::{Clock, Duration};
+
+/// A sink that counts the bytes that it takes.
+#[derive(Drop)]
+struct Weighed<'a> {
+    bytes: &'a AtomicU64,
+}
+
+impl Write for Weighed<'_> {
+    fn write(&mut self, from: &[u8]) -> io::Result<usize> {
+        self.bytes.fetch_add(from.len() as u64, SeqCst);
+        Ok(from.len())
+    }
+
+    fn flush(&mut self) -> io::Result<()> {
+        Ok(())
+    }
+}
+
+/// Counts the batches that are told and their packets, and those of which something was written before they were told.
+#[derive(Drop)]
+struct Batches<'a, R> {
+    rt: &'a R,
+    bytes: &'a AtomicU64,
+    told: AtomicU64,
+    packets: AtomicU64,
+    late: AtomicU64,
+}
+
+impl<R: Clock> Gate for Batches<'_, R> {
+    fn before_arrive(&self, _interface: u32, _n: u64) {}
+
+    fn after_arrive(&self, _interface: u32, _n: u64) {}
+
+    fn before_read(&self, _interface: u32, _listener: u32) {}
+
+    fn after_read(&self, _interface: u32, _listener: u32, packets: u32) {
+        if packets == 0 {
+            return;
+        }
+        self.told.fetch_add(1, SeqCst);
+        self.packets.fetch_add(packets as u64, SeqCst);
+        // Time for the writer thread, had it the batch already. Of an empty savefile 24 bytes are written.
+        thread::sleep(self.rt, Duration::from_millis(50));
+        if self.bytes.load(SeqCst) > 24 {
+            self.late.fetch_add(1, SeqCst);
+        }
+    }
+}
+
+#[test]
+fn a_batch_is_told_with_its_packets_before_it_is_handed_on(rt: HostRuntime) -> Result<(), Fail> {
+    let alloc = rt.alloc();
+    let bytes = AtomicU64::new(0);
+    let gate = Batches {
+        rt: &rt,
+        bytes: &bytes,
+        told: AtomicU64::new(0),
+        packets: AtomicU64::new(0),
+        late: AtomicU64::new(0),
+    };
+    // The store becomes the hold behind the third packet, and not before.
+    let mut one = task(
+        keeping_all()?,
+        64,
+        1_000,
+        Counted::new(Weighed { bytes: &bytes }),
+    );
+    one.flush_every = 3;
+    let captures = vec![in alloc;
+        source_of(capture(alloc, 1, &[TCP_FRAME, UDP_FRAME, TCP_FRAME])?),
+    ]?;
+    let tasks = vec![in alloc; one]?;
+    let reports = run(
+        &rt,
+        alloc,
+        vec![in alloc; Interface { captures, tasks }]?,
+        &gate,
+    )?;
+    assert_eq!(rt; reports.len(), 1);
+    assert_eq!(rt; (gate.told.load(SeqCst), gate.packets.load(SeqCst)), (1, 3));
+    assert_eq!(rt; gate.late.load(SeqCst), 0);
+    assert_eq!(rt; bytes.load(SeqCst), 24 + 3 * (16 + 38));
+    Ok(())
+}
