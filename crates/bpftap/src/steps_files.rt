@@ -116,7 +116,14 @@ pub fn steps_files<R: Files + AllocGlobal, O: Write, E: Write>(
     let Ok(captures) = lent(alloc, texts.as_slice()) else {
         return Err(tell_fault(Fault::NoMemory, REFUSED, err));
     };
-    let status = play(alloc, &asked, captures.as_slice(), words.explained, out, err);
+    let status = play(
+        alloc,
+        &asked,
+        captures.as_slice(),
+        words.explained,
+        out,
+        err,
+    );
     match words.picture {
         Some(path) if status != REFUSED => {
             Ok(status.max(draw(rt, &asked, captures.as_slice(), path, err)))
