@@ -2,10 +2,10 @@
 
 ghost use Rattle.std.specs.Prelude.{◌≤◌, IfErr};
 
-use crate::program::tell_io;
 use bpfvm::Program;
 use cutting::check::{Form, check, show};
 use cutting::filter::filter;
+use files::reading::tell_io;
 use std::fs;
 use std::fs::Files;
 use std::io::Write;

@@ -2,14 +2,12 @@
 #![tactic(auto)]
 
 mod check_files;
-mod files;
-mod paths;
 mod picture_files;
-mod piped;
 mod program;
-mod retried;
 mod run_files;
 mod steps_files;
+#[cfg(test)]
+mod system_tests;
 mod tally;
 
 use lines::telling::tell_words;

@@ -2,7 +2,7 @@
 
 ghost use Rattle.std.specs.Prelude.{◌≤◌};
 
-use crate::program::tell_io;
+use files::reading::tell_io;
 use lines::telling::{REFUSED, tell_fault};
 use picture::write_picture;
 use savefile::Fault;

@@ -3,9 +3,6 @@
 ghost use Rattle.std.specs.Prelude.{◌≤◌, IfErr, MatchResult};
 
 use crate::check_files::check_files;
-use crate::files::{LateFile, hold_stream};
-use crate::paths::all_apart;
-use crate::retried::Retried;
 use crate::run_files::{NamesFiles, run_files};
 use crate::steps_files::steps_files;
 use bpfvm::Program;
@@ -13,14 +10,18 @@ use clap::Error;
 use cutting::cut::{CutEnd, End, cut};
 use cutting::filter::filter;
 use cutting::tell::tell;
-use lines::telling::{REFUSED, tell_device, tell_fault, tell_written};
+use files::late::{LateFile, hold_stream};
+use files::paths::all_apart;
+use files::reading::tell_io;
+use files::retried::Retried;
+use lines::telling::{REFUSED, tell_fault, tell_written};
 use savefile::{Counted, Fault};
 use std::convert::AsStr;
+use std::fs;
 use std::fs::Files;
-use std::io::{BufWriter, ErrorKind, Write};
+use std::io::{BufWriter, Write};
 use std::sync::Wait;
 use std::thread::Threads;
-use std::{fs, io};
 use words::command_line::{CutWords, Request, read_words};
 
 /// How many bytes of output are gathered before they are written.
@@ -62,31 +63,6 @@ fn tell_clap<O: Write, E: Write>(error: &Error, out: &mut O, err: &mut E) -> u8
         REFUSED
     } else {
         tell_written(write!(out, "{error}"), err)
-    }
-}
-
-/// Tells that a file could not be opened or read, or that memory was refused.
-pub fn tell_io<E: Write>(error: &io::Error, path: &str, err: &mut E) -> u8
-    ensures { result ≤ 3 }
-{
-    if error.kind() == ErrorKind::OutOfMemory {
-        tell_fault(Fault::NoMemory, REFUSED, err)
-    } else {
-        tell_device(path, err)
-    }
-}
-
-/// The bytes of a file, or, told on `err`, why there are none, and the exit status.
-pub fn read_file<R: Files + AllocGlobal, E: Write>(
-    rt: &R,
-    path: &str,
-    err: &mut E,
-) -> Result<Vec<u8>, u8>
-    ensures { IfErr result (λ status. status ≤ 3) }
-{
-    match fs::read(rt, path) {
-        Ok(text) => Ok(text),
-        Err(error) => Err(tell_io(&error, path, err)),
     }
 }
 
@@ -158,6 +134,8 @@ fn flushed<R, W: Write>(mut end: CutEnd<R, Counted<W>>) -> CutEnd<R, Counted<W>>
 mod tests {
     use super::*;
     use std::alloc::AllocError;
+    use std::io;
+    use std::io::ErrorKind;
 
     #[test]
     fn want_of_memory_is_told_by_its_name(rt: HostRuntime) {

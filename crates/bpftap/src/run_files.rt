@@ -2,10 +2,10 @@
 
 ghost use Rattle.std.specs.Prelude.{◌≤◌, IfErr, MatchResult};
 
-use crate::files::{LateFile, LateInput};
-use crate::paths::{STANDARD_OUTPUT, all_apart};
-use crate::program::read_file;
 use crate::tally::{Output, Tallied, flush_all};
+use files::late::{LateFile, LateInput};
+use files::paths::{STANDARD_OUTPUT, all_apart};
+use files::reading::read_file;
 use lines::telling::{REFUSED, tell_fault};
 use replay::RunFault;
 use running::reports::tell_run;

@@ -2,10 +2,10 @@
 
 ghost use Rattle.std.specs.Prelude.{◌≤◌, IfErr, MatchResult};
 
-use crate::paths::{STANDARD_OUTPUT, all_apart};
 use crate::picture_files::draw;
-use crate::piped::Piped;
-use crate::program::read_file;
+use files::paths::{STANDARD_OUTPUT, all_apart};
+use files::piped::Piped;
+use files::reading::read_file;
 use lines::telling::{REFUSED, tell_fault};
 use savefile::Fault;
 use std::alloc::{AllocError, Global};

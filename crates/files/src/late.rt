@@ -1,4 +1,4 @@
-//! The files that the program reads and writes, opened when they are needed first.
+//! Files that are opened or made when they are needed first.
 
 ghost use Rattle.std.specs.Io.{ReadsAtMost, WritesAtMost};
 
@@ -126,6 +126,3 @@ impl<R: Files> Read for LateInput<'_, '_, R> {
         read
     }
 }
-
-#[cfg(test)]
-mod tests;

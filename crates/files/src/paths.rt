@@ -3,7 +3,7 @@
 
 ghost use Rattle.std.specs.Prelude.{◌≤◌, IfErr};
 
-use crate::program::tell_io;
+use crate::reading::tell_io;
 use lines::telling::{Path, REFUSED, tell_fault};
 use savefile::Fault;
 use std::alloc::{AllocError, AllocFailed, Global};

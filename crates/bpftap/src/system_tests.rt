@@ -1,9 +1,9 @@
 //! The files of a command over a made system, whose descriptors are numbers, whose files break, and whose calls a signal
 //! breaks.
 
-use super::LateFile;
 use crate::program::run;
 use crate::run_files::{LateFiles, NamesFiles};
+use files::late::LateFile;
 use lines::telling::REFUSED;
 use std::alloc::{Allocator, Global};
 use std::fs::{Files, Metadata, OpenFile, OpenOptions};
