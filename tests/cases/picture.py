@@ -2,7 +2,7 @@
 import re
 import xml.etree.ElementTree as tree
 
-from .common import ROOT, VETH, case
+from .common import ROOT, VETH, WHOLE, case
 
 STEPS = ROOT / "examples" / "steps"
 SVG = "{http://www.w3.org/2000/svg}"
@@ -47,8 +47,18 @@ def bars_are_as_high_as_the_loads(scene):
 
 @case
 def a_picture_that_cannot_be_made_is_told(scene):
-    """The reports are printed, and FILE is told with status 3; a file that is read is no FILE."""
+    """The reports are printed, and FILE is told with status 3."""
     files = [STEPS / "listeners.txt", STEPS / "script.txt", VETH]
     report = scene.run(["steps", *files]).out
     seen = scene.run(["steps", "-p", "none/steps.svg", *files])
     scene.check("all", (seen.out, seen.err, seen.status), (report, b"bpftap: Device none/steps.svg\n", 3))
+
+
+@case
+def a_file_that_is_read_is_no_picture(scene):
+    """FILE is none of the files that are read, by whatever spelling; then nothing is printed, and all files stay."""
+    scene.put({"l.txt": "32 64\n", "s.txt": "arrive\n", "in.pcap": WHOLE})
+    before = scene.files()
+    for path in "l.txt", "./s.txt", "in.pcap":
+        scene.refuse(f"steps -p {path} l.txt s.txt in.pcap", 1, f"SameFile {path}")
+    scene.check("files", scene.files(), before)
