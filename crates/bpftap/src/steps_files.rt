@@ -21,6 +21,9 @@ const OUTPUT_BUFFER: usize = 1 << 16;
 /// How many bytes of memory what is told has from the start, so that want of memory can be told.
 const TOLD: usize = 256;
 
+/// What is told of standard output that failed.
+const OUTPUT_FAILED: &[u8] = b"bpftap: Device standard output\n";
+
 /// The bytes of all captures.
 fn read_captures<R: Files + AllocGlobal, E: Write>(
     rt: &R,
@@ -69,7 +72,7 @@ fn read_paths<'a>(alloc: Global, words: &StepsWords<'a>) -> Result<Vec<&'a str>,
     Ok(paths)
 }
 
-/// Plays the script, and prints by pieces. Where nobody reads what is printed any more nothing is told.
+/// Plays the script, and prints by pieces. That nobody reads what is printed any more is not told.
 fn play<O: Write, E: Write>(
     alloc: Global,
     asked: &Asked,
@@ -89,9 +92,11 @@ fn play<O: Write, E: Write>(
     };
     let ended = play_asked(alloc, asked, captures, explained, &mut printed, &mut told);
     drop(printed);
-    if !piped.is_unread() {
-        let _ = err.write_all(told.as_slice());
+    let mut told = told.as_slice();
+    if piped.is_unread() && told.starts_with(OUTPUT_FAILED) {
+        told = &told[OUTPUT_FAILED.len()..];
     }
+    let _ = err.write_all(told);
     ended.status
 }
 

@@ -30,8 +30,8 @@ instruction by its name, as tcpdump -d prints it. An expression that begins with
 in parentheses. The number behind a fault's name is the byte of the expression that it stands
 at, from 0; docs/LANGUAGE.md has the language.
 
-Exit status: 0 the expression is accepted; 1 it is refused or its program is too long, wrong
-words, or want of memory; 3 a file or standard output failed.";
+Exit status: 0 the program is printed; 1 the expression or listing is refused or the program is
+too long, wrong words, or want of memory; 3 a file or standard output failed.";
 
 /// The subcommand.
 pub fn check_command<'a>(alloc: Global) -> Result<Command<'a>, AllocError> {

@@ -21,7 +21,8 @@ pub struct StepsWords<'a> {
 const STEPS_EXAMPLES: &str =
     "LISTENERS has a line SNAP CAPACITY EXPRESSION for each listener: the most bytes that are kept of
 a packet (0 means 262144), the bytes of each of its two buffers, and its filter. An i behind
-CAPACITY makes the listener Immediate: a packet that is stored can be read at once.
+CAPACITY makes the listener Immediate: a packet that is stored can be read at once, where nothing
+is held.
 
 SCRIPT has a line for each step: arrive, flush L, read L or close L. Listeners and packets are
 counted from 0.
