@@ -9,7 +9,8 @@
 An edit puts one wrong body into one function. Here many of them, in functions that don't call one another, go into one copy
 of the crate, which is checked once: each of these functions has to come back as not proved, with a goal of its own. An edit
 that does not come back so is tried alone, and so is one that changes something else than one function. An edit that is
-still proved is a failure: then a contract says too little, or the edit is none.
+still proved is a failure: then a contract says too little, or the edit is none. So is one that is refused only since a
+proof names what it takes away: that tells nothing of the contract.
 
 The copies lie in a temporary folder and take the work along that `rt check` kept in out/; so run `rt all check` before,
 or each crate is first proved from nothing. The last line is `N passed, M failed`.
@@ -360,7 +361,7 @@ class Trial:
         elif re.search(r"^logic=proved\b", log, re.M):
             self.end(edit, False, "it is still PROVED")
         elif not found and any(NAMES_GONE.search(it) for it in re.findall(r"^\./proofs/.* error: .*", log, re.M)):
-            self.end(edit, True, "only since a proof names what the edit took away, which says little of the contract")
+            self.end(edit, False, "only since a proof names what it takes away, which says nothing of the contract")
         elif not found:
             self.end(edit, False, "no function is named as not proved with a goal of its own")
         else:

@@ -112,17 +112,11 @@ def public_items_stand_on_their_pages(scene):
         scene.check(f"items of {crate.name} that its page has not", sorted(set(public_items(crate)) - named), [])
 
 
-# Pages whose callers have no copy in a crate yet, and so are not proved.
-NO_COPY = {"lines", "picture", "stepping"}
-
-
 @case
 def code_of_pages_stands_in_the_sources(scene):
     """Each item of the code on a library's page, its `use` lines aside, stands in a source to the letter, where it is proved."""
     sources = [path.read_text() for path in ROOT.glob("crates/*/src/**/*.rt")]
     for page in sorted(ROOT.glob("crates/*/README.md")):
-        if page.parent.name in NO_COPY:
-            continue
         for block in re.findall(r"^```rust\n(.*?)^```$", page.read_text(), re.S | re.M):
             for item in re.split(r"\n\n(?=\S)", block.rstrip("\n")):
                 if not item.startswith(("use ", "ghost use ")):

@@ -1,11 +1,13 @@
 """`bpftap run`: what is refused before a file is opened, when each file is opened, and what is printed and written."""
 import os
 import re
+import resource
+import shutil
 import subprocess
 import time
 
 from .common import (
-    HEADER, IP_RECORD, LIMIT, PROGRAM, TCP_RECORD, TORN, UDP_RECORD, VETH, case, header, records, told)
+    HEADER, IP_RECORD, LIMIT, PROGRAM, ROOT, TCP_RECORD, TORN, UDP_RECORD, VETH, case, header, records, told)
 
 T, U = TCP_RECORD, UDP_RECORD
 CAPTURES = {"t.pcap": HEADER + T, "tu.pcap": HEADER + T + U, "torn.pcap": TORN, "empty.pcap": "", "kept.pcap": "kept"}
@@ -246,3 +248,37 @@ def a_flush_of_0_is_none(scene):
     """With FLUSH 0 nothing is written of a store that is not full, and with another one behind so many packets."""
     scene.check("FLUSH 4096 writes", size_while_open(scene, 4096, 60) > 0, True)
     scene.check("FLUSH 0 writes", size_while_open(scene, 0, 1), 0)
+
+
+# A user who has no processes, so that a limit on his counts those of a run alone.
+NOBODY = 54321
+
+
+def run_with_threads(scene, most):
+    """What a run tells that may have so many threads, its first one among them, and the status; only root can try it."""
+    def limited():
+        resource.setrlimit(resource.RLIMIT_NPROC, (most, most))
+        os.setgid(NOBODY)
+        os.setuid(NOBODY)
+    done = subprocess.run(
+        ["./bpftap", "run", "listeners.txt", "t.pcap", "+", "tu.pcap"], cwd=scene.folder, stdin=subprocess.DEVNULL,
+        capture_output=True, timeout=LIMIT, preexec_fn=limited)
+    return done.stdout.decode(), done.stderr.decode(), done.returncode
+
+
+@case
+def each_thread_is_refused_in_turn(scene):
+    """Where one of the threads of a run is refused, that alone is told; with as many as it takes, all is written."""
+    if os.geteuid() != 0:
+        return
+    program = PROGRAM if PROGRAM != str(ROOT / "bpftap") else ROOT / "crates" / "bpftap" / "out" / "bpftap"
+    shutil.copy(program, scene.folder / "bpftap")
+    for folder in [scene.folder, scene.folder.parent]:
+        folder.chmod(0o777)
+    scene.put({**CAPTURES, "listeners.txt": "0 0 0 1048576 2 left.pcap\n1 0 0 1048576 2 right.pcap\n1 0 96 1048576 2 /dev/null tcp\n"})
+    reports = report((0, 0), 1, 1) + report((1, 0), 2, 2) + report((1, 1), 2, 1)
+    # One replays each interface, and for each listener one reads and one writes.
+    for most in range(1, 9):
+        scene.check(f"{most} threads", run_with_threads(scene, most), ("", told("NoStart"), 1))
+    scene.check("9 threads", run_with_threads(scene, 9), (reports, "", 0))
+    scene.check("OUT", (scene.read("left.pcap"), scene.read("right.pcap")), (HEADER + T, HEADER + T + U))

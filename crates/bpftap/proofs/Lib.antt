@@ -1,1 +1,2 @@
+pub mod Playlists
 pub mod Statuses

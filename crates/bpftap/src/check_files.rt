@@ -5,6 +5,7 @@ ghost use Rattle.std.specs.Prelude.{◌≤◌, IfErr};
 use bpfvm::Program;
 use cutting::check::{Form, check, show};
 use cutting::filter::filter;
+use cutting::tell::{tell_filter, tell_print};
 use files::reading::tell_io;
 use std::fs;
 use std::fs::Files;
@@ -22,10 +23,13 @@ fn program_of<R: Files + AllocGlobal, E: Write>(
     let alloc = rt.alloc();
     match words.listing {
         Some(path) => match fs::read(rt, path) {
-            Ok(listing) => filter(alloc, Some(listing.as_slice()), None, words.snap, err),
+            Ok(listing) => {
+                let found = filter(alloc, Some(listing.as_slice()), None, words.snap);
+                tell_filter(found, err)
+            }
             Err(error) => Err(tell_io(&error, path, err)),
         },
-        None => filter(alloc, None, words.expr, words.snap, err),
+        None => tell_filter(filter(alloc, None, words.expr, words.snap), err),
     }
 }
 
@@ -39,7 +43,7 @@ pub fn check_files<R: Files + AllocGlobal, O: Write, E: Write>(
     ensures { result ≤ 3 }
 {
     if let (Some(expr), false, lines::MAX_SNAP) = (words.expr, words.named, words.snap) {
-        return check(rt.alloc(), expr, out, err);
+        return tell_print(check(rt.alloc(), expr, out), err);
     }
     let form = if words.named {
         Form::Image
@@ -47,7 +51,7 @@ pub fn check_files<R: Files + AllocGlobal, O: Write, E: Write>(
         Form::Listing
     };
     match program_of(rt, words, err) {
-        Ok(program) => show(rt.alloc(), &program, form, out, err),
+        Ok(program) => tell_print(show(rt.alloc(), &program, form, out), err),
         Err(status) => status,
     }
 }

@@ -2,6 +2,7 @@
 #![tactic(auto)]
 
 mod check_files;
+mod laws;
 mod picture_files;
 mod program;
 mod run_files;

@@ -9,7 +9,7 @@ use bpfvm::Program;
 use clap::Error;
 use cutting::cut::{CutEnd, End, cut};
 use cutting::filter::filter;
-use cutting::tell::tell;
+use cutting::tell::{tell, tell_filter};
 use files::late::{LateFile, hold_stream};
 use files::paths::all_apart;
 use files::reading::tell_io;
@@ -77,11 +77,14 @@ fn filter_of<R: Files + AllocGlobal, E: Write>(
     let alloc = rt.alloc();
     match words.listing {
         Some(path) if words.expr.is_none() => match fs::read(rt, path) {
-            Ok(listing) => filter(alloc, Some(listing.as_slice()), None, words.snap, err),
+            Ok(listing) => {
+                let found = filter(alloc, Some(listing.as_slice()), None, words.snap);
+                tell_filter(found, err)
+            }
             Err(error) => Err(tell_io(&error, path, err)),
         },
-        Some(_) => filter(alloc, Some(&[]), words.expr, words.snap, err),
-        None => filter(alloc, None, words.expr, words.snap, err),
+        Some(_) => tell_filter(filter(alloc, Some(&[]), words.expr, words.snap), err),
+        None => tell_filter(filter(alloc, None, words.expr, words.snap), err),
     }
 }
 

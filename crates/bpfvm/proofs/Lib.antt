@@ -8,3 +8,4 @@ pub mod Reading
 pub mod Listings
 pub mod Written
 pub mod Outcomes
+pub mod Traces

@@ -1,6 +1,6 @@
 //! Why a list of instructions is no program, and a text no listing.
 
-use std::alloc::AllocError;
+use std::alloc::{AllocError, AllocFailed};
 use thiserror::Error;
 
 /// Why a list of instructions is no program. A place counts instructions from 0.
@@ -52,6 +52,12 @@ pub struct NoMemory;
 
 impl From<AllocError> for NoMemory {
     fn from(_e: AllocError) -> NoMemory {
+        NoMemory
+    }
+}
+
+impl<T: Drop> From<AllocFailed<T>> for NoMemory {
+    fn from(_e: AllocFailed<T>) -> NoMemory {
         NoMemory
     }
 }

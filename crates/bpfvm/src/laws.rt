@@ -1,6 +1,6 @@
 //! Laws of the definitions that the contracts cite. Each function is empty, and its contract is the law.
 
-ghost use Rattle.bpfvm.specs.Laws.{EffectsAreUnique, StepsAreUnique, AnswersAreUnique, ValidProgramsGoOn, ValidProgramsAnswer, VerdictIsReached, FrontsArePassed, WrittenIsRead, ListingsAreUnique};
+ghost use Rattle.bpfvm.specs.Laws.{EffectsAreUnique, StepsAreUnique, AnswersAreUnique, ValidProgramsGoOn, ValidProgramsAnswer, VerdictIsReached, FrontsArePassed, TracesAreUnique, TracesReach, WrittenIsRead, ListingsAreUnique};
 
 /// A step of the machine has one outcome, and a run has one answer.
 pub fn runs_have_one_outcome()
@@ -20,6 +20,12 @@ pub fn valid_programs_answer()
 /// A run over a program that goes on at a place is the run over the rest of it.
 pub fn runs_go_on_over_the_rest()
     ensures { FrontsArePassed }
+{}
+
+/// A state has one trace, which has an entry for each step of its run.
+pub fn traces_are_unique()
+    ensures one { TracesAreUnique }
+    ensures steps { TracesReach }
 {}
 
 /// The listing that is written of a program is read as that program, and as no other.

@@ -1,9 +1,9 @@
 //! The BSD packet filter's machine of 1993: its programs, their validator and their listings.
 //!
 //! A [`Program`] is a list of instructions that [`Program::new`] has found valid, or that [`read_listing`] has read;
-//! contracts see it as that list. [`run`] says how many bytes of a packet it keeps. The machine is that of McCanne and
-//! Jacobson, "The BSD Packet Filter" (1993), and of bpf(4), with the modulo and the exclusive or that libpcap has beside
-//! them. Nothing here takes memory but [`write_listing`] and [`write_image`].
+//! contracts see it as that list. [`run`] says how many bytes of a packet it keeps, and [`trace`] what it executes. The
+//! machine is that of McCanne and Jacobson, "The BSD Packet Filter" (1993), and of bpf(4), with the modulo and the exclusive or
+//! that libpcap has beside them. Nothing here takes memory but [`trace`], [`write_listing`] and [`write_image`].
 #![tactic(auto)]
 
 pub mod code;
@@ -14,6 +14,7 @@ pub mod laws;
 mod listing;
 mod machine;
 mod program;
+mod tracing;
 
 pub use fault::{Invalid, ListingFault, NoMemory};
 pub use image::write_image;
@@ -21,3 +22,4 @@ pub use insn::Insn;
 pub use listing::{read_listing, write_listing};
 pub use machine::run;
 pub use program::{MAX_INSNS, Program};
+pub use tracing::{Executed, Stored, Traced, trace};

@@ -3,7 +3,7 @@
 use bpfvm::Program;
 use cutting::cut::{CutEnd, End, cut};
 use cutting::filter::filter;
-use cutting::tell::tell;
+use cutting::tell::{tell, tell_filter};
 use fixtures::captures::{ARP_RECORD, HEADER, IP_RECORD, bytes_of, concat};
 use fixtures::devices::{BreakingWriter, PiecesReader};
 use fixtures::frames::capture;
@@ -17,8 +17,7 @@ const ALL: &[u8] = b"1\n6 0 0 262144\n";
 const ETHERTYPE: &[u8] = b"4\n40 0 0 12\n21 0 1 2048\n6 0 0 262144\n6 0 0 0\n";
 
 fn program_of(rt: &(impl Abort + AllocGlobal), listing: &[u8]) -> Program {
-    let mut err: Vec<u8> = Vec::new(rt.alloc());
-    filter(rt.alloc(), Some(listing), None, 0, &mut err).expect(rt, "the listing is a program's")
+    filter(rt.alloc(), Some(listing), None, 0).expect(rt, "the listing is a program's")
 }
 
 /// What a cut of a text gives: what was written, the number of bytes told, the line on standard error, the status.
@@ -300,17 +299,15 @@ fn a_refused_listing_is_told(rt: HostRuntime) -> Result<(), Fail> {
     ];
     for (listing, line) in cases {
         let mut err: Vec<u8> = Vec::new(alloc);
-        let refused = filter(alloc, Some(listing), None, 0, &mut err).err();
+        let refused = tell_filter(filter(alloc, Some(listing), None, 0), &mut err).err();
         assert_eq!(rt; refused, Some(1), "{line}");
         assert_eq!(rt; err.as_slice(), line.as_bytes());
     }
     // Without a filter every packet is accepted.
-    let mut err: Vec<u8> = Vec::new(alloc);
-    let all = filter(alloc, None, None, 96, &mut err).expect(&rt, "the empty filter");
+    let all = filter(alloc, None, None, 96).expect(&rt, "the empty filter");
     assert_eq!(rt; bpfvm::run(&all, b"", 60), 96);
-    let all = filter(alloc, None, None, 0, &mut err).expect(&rt, "the empty filter");
+    let all = filter(alloc, None, None, 0).expect(&rt, "the empty filter");
     assert_eq!(rt; bpfvm::run(&all, b"", 60), 262_144);
-    assert!(rt; err.is_empty());
     Ok(())
 }
 

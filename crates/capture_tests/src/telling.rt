@@ -1,6 +1,7 @@
 //! `bpftap check`: the line and the status of each fault, and how lines go out.
 
 use cutting::check::check;
+use cutting::tell::tell_print;
 use lines::telling::{REFUSED, tell_device, tell_fault, tell_words};
 use std::io;
 use std::io::{Cursor, ErrorKind, Write};
@@ -11,7 +12,11 @@ use std::test::Fail;
 fn refused(rt: &(impl Abort + AllocGlobal), expr: &str, line: &str) {
     let mut out: Vec<u8> = Vec::new(rt.alloc());
     let mut err: Vec<u8> = Vec::new(rt.alloc());
-    assert_eq!(rt; check(rt.alloc(), expr, &mut out, &mut err), 1, "{expr:?}");
+    assert_eq!(rt;
+        tell_print(check(rt.alloc(), expr, &mut out), &mut err),
+        1,
+        "{expr:?}"
+    );
     assert_eq!(rt; err.as_slice(), line.as_bytes(), "{expr:?}");
     assert!(rt; out.is_empty(), "{expr:?}");
 }
@@ -79,7 +84,7 @@ fn a_line_that_is_not_taken_leaves_the_status(rt: HostRuntime) {
         let mut out: Vec<u8> = Vec::new(rt.alloc());
         let mut err = Counting { room, calls: 0 };
         assert_eq!(rt;
-            check(rt.alloc(), "tcp and 80", &mut out, &mut err),
+            tell_print(check(rt.alloc(), "tcp and 80", &mut out), &mut err),
             1,
             "{room}"
         );
@@ -122,7 +127,8 @@ fn want_of_memory_is_told(rt: HostRuntime) {
         calls: 0,
     };
     let mut line = Cursor::new([0; 100]);
-    let status = check(rt.alloc(), "not port 80 and tcp", &mut out, &mut line);
+    let printed = check(rt.alloc(), "not port 80 and tcp", &mut out);
+    let status = tell_print(printed, &mut line);
     let length = line.position() as usize;
     let line = line.into_inner();
     let told = line.get(..length).unwrap_or(b"");

@@ -5,7 +5,7 @@ use Rattle.std.proofs.lemmas.List.Elements.{filter-append}
 use Rattle.savefile.specs.declared.packet.Packet.{Packet}
 use Rattle.savefile.specs.Savefile.{packet}
 use Rattle.bpfvm.specs.declared.insn.Insn.{Insn}
-use Rattle.cutting.specs.Cut.{answer, accepts, cut_to, accepted}
+use Rattle.cutting.specs.Cut.{answer, accepts, cut_packet, accepted}
 
 -- nothing is accepted of nothing
 pub accepted-nil : (program : List Insn) (snap : ℕ) → accepted program snap [] ≡ []
@@ -17,7 +17,7 @@ pub accepted-append : (program : List Insn) (snap : ℕ) (ps qs : List Packet) �
     accepted program snap (ps ++ qs) ≡ accepted program snap ps ++ accepted program snap qs
 unfolding accepted
 accepted-append program snap ps qs =
-    let f : Packet → Packet = λ p. cut_to (min (answer program p) snap) p in
+    let f : Packet → Packet = λ p. cut_packet (min (answer program p) snap) p in
     ap (map f) (filter-append (accepts program) ps qs) ∙ map-append f (filter (accepts program) ps) (filter (accepts program) qs)
 
 -- one packet more

@@ -10,15 +10,15 @@ use Rattle.savefile.specs.declared.header.Unit.{Unit as TimeUnit}
 use Rattle.savefile.specs.declared.packet.Packet.{Packet}
 use Rattle.savefile.specs.declared.writing.Writer.{Writer}
 use Rattle.savefile.specs.Reader.{WasRead, WasRefused, WasTaken}
-use Rattle.savefile.specs.Savefile.{encoded}
-use Rattle.savefile.specs.Writer.{IsBeginning, Sent, sent_by, sink_of}
+use Rattle.savefile.specs.Savefile.{encoded, IsCapture}
+use Rattle.savefile.specs.Writer.{IsBeginning, Sent}
 use Rattle.bpfvm.specs.declared.insn.Insn.{Insn}
 use Rattle.cutting.specs.declared.cut.End.{End}
 use Rattle.cutting.specs.declared.cut.End.TheVariants.{Clean, Input, Output}
 use Rattle.cutting.specs.Copying.{Copied}
 use Rattle.lines.specs.Snapshot.{meant}
 use Rattle.cutting.specs.Cut.{accepted, cut_text}
-use Rattle.cutting.specs.Outcome.{AllSent, BrokeOff, IsRead, StopsBehind, Took}
+use Rattle.cutting.specs.Outcome.{AllSent, BrokeOff, StopsBehind, Took}
 use Rattle.cutting.proofs.Accepted.{accepted-append}
 use Rattle.cutting.proofs.Writing.{goes-further}
 
@@ -40,7 +40,7 @@ IsOutcome taken from left to sink count program snap order unit end =
     × (AllSent text program snap order unit end sent ⊎ BrokeOff text given program snap order unit end sent)
 
 -- a reader read the text
-is-read : (from : Option (List ℕ)) (header : Header) (packets : List Packet) (fault : Option Fault) (w : WasRead from header packets fault) → IsRead w.text packets fault
+is-read : (from : Option (List ℕ)) (header : Header) (packets : List Packet) (fault : Option Fault) (w : WasRead from header packets fault) → IsCapture w.text packets fault
 is-read from header packets fault w = record { order = header.order; unit = header.unit; snap = header.snap; holds = w.holds }
 
 -- what was taken stops behind the packets that a reader gave
@@ -49,7 +49,7 @@ stops-behind from left header packets w =
     record { order = header.order; unit = header.unit; snap = header.snap; rest = w.rest; reads = w.reads; no_more = w.no_more }
 
 -- what the closed writer's sink took
-took : {W : Type 0} (taken : W → Option (List ℕ)) (to sink : W) (count : ℕ) (sent : List ℕ) (writer : Writer W) → sink ≡ sink_of writer → count ≡ sent_by writer → Sent taken (taken to) sent writer → Took taken to sink count sent
+took : {W : Type 0} (taken : W → Option (List ℕ)) (to sink : W) (count : ℕ) (sent : List ℕ) (writer : Writer W) → sink ≡ writer.sink → count ≡ writer.sent → Sent taken (taken to) sent writer → Took taken to sink count sent
 took taken to sink count sent writer is told s =
     record { appends = subst (λ x. Appends (taken to) (taken x) sent) (sym is) s.bytes; counts = told ∙ s.count }
 
@@ -84,7 +84,7 @@ Growing = (order : Order) (unit : TimeUnit) (snap : ℕ) (packets more : List Pa
 
 -- the packets were copied up to this end
 pub copied-outcome : {W : Type 0} (taken : W → Option (List ℕ)) (from left : Option (List ℕ)) (header : Header) (to sink : W) (count : ℕ) (program : List Insn) (snap : ℕ) (order : Order) (unit : TimeUnit) (end : End) (writer : Writer W) →
-    Growing → sink ≡ sink_of writer → count ≡ sent_by writer → (given : List ℕ) × Consumes from left given →
+    Growing → sink ≡ writer.sink → count ≡ writer.sent → (given : List ℕ) × Consumes from left given →
     Copied taken from left header (taken to) order unit (meant snap) program (meant snap) end writer →
     IsOutcome taken from left to sink count program snap order unit end
 unfolding cut_text
@@ -106,25 +106,25 @@ copied-outcome taken from left header to sink count program snap order unit (Inp
   took taken to sink count _ writer is told written.sent,
   inl (record { packets = packets; fault = Some fault; reads = is-read from header packets (Some fault) w; ends = refl; whole = refl }),
 )
-copied-outcome taken from left header to sink count program snap order unit (Input fault) writer growing is told _ (packets, written, inr ((more, torn, w), inl (broke, t))) = (
+copied-outcome taken from left header to sink count program snap order unit (Input fault) writer growing is told _ (packets, written, inr ((more, record_fault, w), inl (broke, t))) = (
   w.text,
   w.told,
   t.text,
   t.taken,
   cut_text program snap order unit packets,
   took taken to sink count _ writer is told written.sent,
-  inr (inr (packets, more, torn, is-read from header (packets ++ more) torn w, refl, inl (broke, stops-behind from left header packets t))),
+  inr (inr (packets, more, record_fault, is-read from header (packets ++ more) record_fault w, refl, inl (broke, stops-behind from left header packets t))),
 )
-copied-outcome taken from left header to sink count program snap order unit (Input fault) writer growing is told (given, gave) (packets, written, inr ((more, torn, w), inr full)) = (
+copied-outcome taken from left header to sink count program snap order unit (Input fault) writer growing is told (given, gave) (packets, written, inr ((more, record_fault, w), inr full)) = (
   w.text,
   w.told,
   given,
   gave,
   cut_text program snap order unit packets,
   took taken to sink count _ writer is told written.sent,
-  inr (inr (packets, more, torn, is-read from header (packets ++ more) torn w, refl, inr full)),
+  inr (inr (packets, more, record_fault, is-read from header (packets ++ more) record_fault w, refl, inr full)),
 )
-copied-outcome taken from left header to sink count program snap order unit (Output fault) writer growing is told (given, gave) (packets, (more, torn, w), wrote) =
+copied-outcome taken from left header to sink count program snap order unit (Output fault) writer growing is told (given, gave) (packets, (more, record_fault, w), wrote) =
     let further = goes-further taken (taken to) order unit (meant snap) (accepted program (meant snap) packets) (accepted program (meant snap) more) fault writer (growing order unit (meant snap) _ _) wrote in
     let (sent, sends, begins, why) = rw (sym (accepted-append program (meant snap) packets more)) at further in (
       w.text,
@@ -133,5 +133,5 @@ copied-outcome taken from left header to sink count program snap order unit (Out
       gave,
       sent,
       took taken to sink count sent writer is told sends,
-      inr (packets ++ more, torn, is-read from header (packets ++ more) torn w, begins, why),
+      inr (packets ++ more, record_fault, is-read from header (packets ++ more) record_fault w, begins, why),
     )

@@ -8,7 +8,7 @@ use Rattle.savefile.specs.declared.header.Unit.{Unit as TimeUnit}
 use Rattle.savefile.specs.declared.packet.Packet.{Packet}
 use Rattle.savefile.specs.declared.writing.Writer.{Writer}
 use Rattle.savefile.specs.Savefile.{encoded, packet}
-use Rattle.savefile.specs.Writer.{IsBeginning, HasWritten, BrokeOff, Sent, has_failed, sent_by}
+use Rattle.savefile.specs.Writer.{IsBeginning, HasWritten, HasWrittenPart, Sent}
 use Rattle.bpfvm.specs.declared.insn.Insn.{Insn}
 use Rattle.cutting.specs.Cut.{answer, accepted}
 use Rattle.cutting.specs.Copying.{Wrote}
@@ -29,9 +29,9 @@ Adds order unit snap ps p = length (encoded order unit snap (ps ++ p ∷ [])) �
 -- the end of a put that failed, by the fault
 fault-goes-on : {W : Type 0} (taken : W → Option (List ℕ)) (start : Option (List ℕ)) (order : Order) (unit : TimeUnit) (snap : ℕ) (ps : List Packet) (p : Packet) (old new : Writer W) (fault : Fault) →
     Begins order unit snap ps (p ∷ []) → Adds order unit snap ps p → HasWritten taken start order unit snap ps old →
-    (fault ≡ Device → BrokeOff taken start order unit snap (ps ++ p ∷ []) new) →
-    (fault ≡ Failed → has_failed old ≡ true) →
-    (fault ≡ CountFull → 2 ^ 64 ≤ sent_by old + 16 + length p.bytes) →
+    (fault ≡ Device → HasWrittenPart taken start order unit snap (ps ++ p ∷ []) new) →
+    (fault ≡ Failed → old.failed ≡ true) →
+    (fault ≡ CountFull → 2 ^ 64 ≤ old.sent + 16 + length p.bytes) →
     (fault ≡ CountFull → new ≡ old) →
     (fault ≡ Device) ⊎ (fault ≡ Failed) ⊎ (fault ≡ CountFull) →
     Wrote taken start order unit snap (ps ++ p ∷ []) (Err fault) new
@@ -52,9 +52,9 @@ fault-goes-on taken start order unit snap ps p old new fault begins adds written
 pub put-goes-on : {W : Type 0} (taken : W → Option (List ℕ)) (start : Option (List ℕ)) (order : Order) (unit : TimeUnit) (snap : ℕ) (ps : List Packet) (p : Packet) (old new : Writer W) (result : Result (Unit {0}) Fault) →
     Begins order unit snap ps (p ∷ []) → Adds order unit snap ps p → HasWritten taken start order unit snap ps old →
     OnOk result (HasWritten taken start order unit snap (ps ++ p ∷ []) new) →
-    (result ≡ Err Device → BrokeOff taken start order unit snap (ps ++ p ∷ []) new) →
-    (result ≡ Err Failed → has_failed old ≡ true) →
-    (result ≡ Err CountFull → 2 ^ 64 ≤ sent_by old + 16 + length p.bytes) →
+    (result ≡ Err Device → HasWrittenPart taken start order unit snap (ps ++ p ∷ []) new) →
+    (result ≡ Err Failed → old.failed ≡ true) →
+    (result ≡ Err CountFull → 2 ^ 64 ≤ old.sent + 16 + length p.bytes) →
     ((result ≡ Err Failed) ⊎ (result ≡ Err CountFull) → new ≡ old) →
     IfErr result (λ fault. (fault ≡ Device) ⊎ (fault ≡ Failed) ⊎ (fault ≡ CountFull)) →
     Wrote taken start order unit snap (ps ++ p ∷ []) result new
@@ -103,7 +103,7 @@ opened (Err fault) x P is p = absurd (cc)
 
 -- a writer that could not be opened
 pub not-opened : {W : Type 0} (taken : W → Option (List ℕ)) (start : Option (List ℕ)) (order : Order) (unit : TimeUnit) (snap : ℕ) (result : Result (Unit {0}) Fault) (fault : Fault) (w : Writer W) →
-    result ≡ Err fault → OnErr result (BrokeOff taken start order unit snap [] w) → IfErr result (λ why. why ≡ Device) → Wrote taken start order unit snap [] (Err fault) w
+    result ≡ Err fault → OnErr result (HasWrittenPart taken start order unit snap [] w) → IfErr result (λ why. why ≡ Device) → Wrote taken start order unit snap [] (Err fault) w
 not-opened taken start order unit snap (Ok x) fault w is broke only = absurd (cc)
 not-opened taken start order unit snap (Err why) fault w is broke only = (broke.text, broke.sent, broke.begins, inl (cc))
 

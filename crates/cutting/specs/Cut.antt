@@ -17,13 +17,13 @@ abbrev pub accepts : List Insn → Packet → Bool
 accepts program p = nat_lt 0 (answer program p)
 
 -- a packet with its first bytes alone, at most n; its time and its length on the wire stay
-abbrev pub cut_to : ℕ → Packet → Packet
-cut_to n p = record p { bytes = take n p.bytes }
+abbrev pub cut_packet : ℕ → Packet → Packet
+cut_packet n p = record p { bytes = take n p.bytes }
 
 -- the packets that a program accepts, each cut to the lesser of the program's answer and the snapshot length
 unfoldable pub accepted : List Insn → ℕ → List Packet → List Packet
 accepted program snap packets =
-    map (λ p. cut_to (min (answer program p) snap) p) (filter (accepts program) packets)
+    map (λ p. cut_packet (min (answer program p) snap) p) (filter (accepts program) packets)
 
 -- the capture that is written of these packets
 unfoldable pub cut_text : List Insn → ℕ → Order → TimeUnit → List Packet → List ℕ

@@ -1,12 +1,16 @@
 -- The filter that a command is given.
-use Rattle.std.specs.Prelude.{ℕ, List, [], Option, Some, None}
-use Rattle.std.specs.Io.KnownBytes.{Appends}
+use Rattle.std.specs.Prelude.{◌≡◌, ℕ, List, [], Option, Some, None}
+use Rattle.std.specs.Io.KnownBytes.{Appends, Keeps}
 use Rattle.bpfvm.specs.declared.insn.Insn.{Insn}
-use Rattle.bpfvm.specs.Listing.{IsListing, listing_of}
+use Rattle.bpfvm.specs.Listing.{IsListing, IsRefusedListing, listing_of}
 use Rattle.bpfvm.specs.Validity.{IsValidProgram}
 use Rattle.filtergen.specs.declared.expression.ExpressionFault.{ExpressionFault}
 use Rattle.filtergen.specs.Expressions.{IsProgramOf, IsUncompiled}
 use Rattle.lines.specs.Snapshot.{meant}
+use Rattle.cutting.specs.declared.filter.FilterFault.{FilterFault}
+use Rattle.cutting.specs.declared.filter.FilterFault.TheVariants.{Twice, Listing, Expression}
+use Rattle.cutting.specs.declared.check.PrintFault.{PrintFault}
+use Rattle.cutting.specs.declared.check.PrintFault.TheVariants as print
 
 -- without an expression the empty one is meant
 abbrev pub expression_of : Option (List ℕ) → List ℕ
@@ -19,12 +23,25 @@ IsFilter (Some listing) (Some expr) snap program = ⊥
 IsFilter (Some listing) None snap program = IsListing listing program × IsValidProgram program
 IsFilter None expr snap program = IsProgramOf (expression_of expr) (meant snap) program
 
--- Why a command has no filter: two are given, the listing is none of a valid program, the expression has no program.
-abbrev pub HasNoFilter : Option (List ℕ) → Option (List ℕ) → ℕ → Type 0
-HasNoFilter (Some listing) (Some expr) snap = Unit {0}
-HasNoFilter (Some listing) None snap = (program : List Insn) → IsListing listing program → IsValidProgram program → ⊥
-HasNoFilter None expr snap = (fault : ExpressionFault) × IsUncompiled (expression_of expr) (meant snap) fault
+-- Why a command has no filter: two are given; the listing is none of a valid program; the expression has no program.
+abbrev pub IsNoFilter : Option (List ℕ) → Option (List ℕ) → ℕ → FilterFault → Type 0
+IsNoFilter (Some listing) (Some expr) snap fault = fault ≡ Twice
+IsNoFilter (Some listing) None snap (Listing fault) = IsRefusedListing listing fault
+IsNoFilter None expr snap (Expression fault) = IsUncompiled (expression_of expr) (meant snap) fault
+IsNoFilter listing expr snap fault = ⊥
 
 -- what is printed of an expression: the listing of its program at the largest snapshot length
 abbrev pub Prints : Option (List ℕ) → Option (List ℕ) → List ℕ → Type 0
 Prints old new text = (program : List Insn) × IsProgramOf text 262144 program × Appends old new (listing_of program)
+
+-- why the listing of an expression's program is not printed
+abbrev pub IsUnchecked : Option (List ℕ) → Option (List ℕ) → List ℕ → PrintFault → Type 0
+IsUnchecked old new text (print.Expression fault) = IsUncompiled text 262144 fault × Keeps old new
+IsUnchecked old new text print.NoMemory = Keeps old new
+IsUnchecked old new text (print.Output error) = Unit {0}
+
+-- why a program is not printed
+abbrev pub IsUnshown : Option (List ℕ) → Option (List ℕ) → PrintFault → Type 0
+IsUnshown old new (print.Expression fault) = ⊥
+IsUnshown old new print.NoMemory = Keeps old new
+IsUnshown old new (print.Output error) = Unit {0}

@@ -6,20 +6,13 @@ use Rattle.savefile.specs.declared.fault.Fault.TheVariants.{Device, NoMemory, Co
 use Rattle.savefile.specs.declared.header.Order.{Order}
 use Rattle.savefile.specs.declared.header.Unit.{Unit as TimeUnit}
 use Rattle.savefile.specs.declared.packet.Packet.{Packet}
-use Rattle.savefile.specs.Savefile.{Holds, IsSavefile, NoRecord, RefusesHeader}
+use Rattle.savefile.specs.Savefile.{IsSavefile, NoRecord, RefusesHeader, IsCapture}
 use Rattle.savefile.specs.Writer.{IsBeginning}
 use Rattle.bpfvm.specs.declared.insn.Insn.{Insn}
 use Rattle.cutting.specs.declared.cut.End.{End}
 use Rattle.cutting.specs.declared.cut.End.TheVariants.{Clean, Input, Output}
 use Rattle.cutting.specs.declared.cut.CutEnd.{CutEnd}
 use Rattle.cutting.specs.Cut.{cut_text}
-
--- A capture, in whatever order and unit, holds these packets, and this fault or none ends them.
-pub record IsRead (text : List ℕ) (packets : List Packet) (fault : Option Fault) : Type 0 where
-  pub order : Order
-  pub unit : TimeUnit
-  pub snap : ℕ
-  pub holds : Holds text order unit snap packets fault
 
 -- A capture, in whatever order and unit, stops behind these packets: its rest has no whole record.
 pub record StopsBehind (text : List ℕ) (packets : List Packet) : Type 0 where
@@ -40,7 +33,7 @@ end_behind (Some fault) = Input fault
 pub record AllSent (text : List ℕ) (program : List Insn) (snap : ℕ) (order : Order) (unit : TimeUnit) (end : End) (sent : List ℕ) : Type 0 where
   pub packets : List Packet
   pub fault : Option Fault
-  pub reads : IsRead text packets fault
+  pub reads : IsCapture text packets fault
   pub ends : end ≡ end_behind fault
   pub whole : sent ≡ cut_text program snap order unit packets
 
@@ -52,12 +45,12 @@ BrokeOff text given program snap order unit Clean sent = ⊥
 -- these packets, or no more packets can be counted.
 BrokeOff text given program snap order unit (Input fault) sent =
     ((RefusesHeader text fault ⊎ (fault ≡ NoMemory) ⊎ ((fault ≡ Device) × (length given < 24))) × (sent ≡ []))
-    ⊎ ((before after : List Packet) × (torn : Option Fault) × IsRead text (before ++ after) torn
+    ⊎ ((before after : List Packet) × (record_fault : Option Fault) × IsCapture text (before ++ after) record_fault
     × (sent ≡ cut_text program snap order unit before)
     × (((fault ≡ Device) × StopsBehind given before) ⊎ ((fault ≡ CountFull) × (length before ≡ 2 ^ 64 - 1))))
 -- At the sink. A beginning was sent: the sink broke, or the whole has more bytes than can be counted.
 BrokeOff text given program snap order unit (Output fault) sent =
-    (packets : List Packet) × (torn : Option Fault) × IsRead text packets torn
+    (packets : List Packet) × (record_fault : Option Fault) × IsCapture text packets record_fault
     × IsBeginning sent (cut_text program snap order unit packets)
     × ((fault ≡ Device) ⊎ ((fault ≡ CountFull) × (2 ^ 64 ≤ length (cut_text program snap order unit packets))))
 

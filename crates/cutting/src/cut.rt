@@ -6,8 +6,8 @@ ghost use Rattle.savefile.specs.Savefile.{IsWritable};
 ghost use Rattle.savefile.specs.declared.header.Header.{Header};
 ghost use Rattle.savefile.specs.declared.packet.Packet.{Packet};
 ghost use Rattle.savefile.specs.declared.writing.Writer.{Writer};
-ghost use Rattle.savefile.specs.Reader.{HasGiven, source_of};
-ghost use Rattle.savefile.specs.Writer.{HasWritten, sent_by, sink_of};
+ghost use Rattle.savefile.specs.Reader.{HasGiven};
+ghost use Rattle.savefile.specs.Writer.{HasWritten};
 ghost use Rattle.cutting.specs.Copying.{Copied, Wrote};
 ghost use Rattle.cutting.specs.Cut.{accepted};
 ghost use Rattle.lines.specs.Snapshot.{meant};
@@ -102,10 +102,10 @@ fn write_accepted<R: Source, W: Sink>(
     to: W,
 ) -> (W, u64, End)
     ensures writes { (from : Option (List ℕ)) (header : Header) → HasGiven R.left from header [] reader.old →
-        (writer : Writer W) × (result.0 ≡ sink_of writer) × (result.1 ≡ sent_by writer)
-        × Copied W.taken from (R.left (source_of reader.new)) header (W.taken to) order unit (meant snap) program.now (meant snap) result.2 writer }
-    ensures taken { (bytes : List ℕ) × Consumes (R.left (source_of reader.old)) (R.left (source_of reader.new)) bytes }
-    ensures source_broke { (result.2 ≡ End.Input Fault.Device) ↔ (R.failures (source_of reader.new) ≢ R.failures (source_of reader.old)) }
+        (writer : Writer W) × (result.0 ≡ writer.sink) × (result.1 ≡ writer.sent)
+        × Copied W.taken from (R.left reader.new.source) header (W.taken to) order unit (meant snap) program.now (meant snap) result.2 writer }
+    ensures taken { (bytes : List ℕ) × Consumes (R.left reader.old.source) (R.left reader.new.source) bytes }
+    ensures source_broke { (result.2 ≡ End.Input Fault.Device) ↔ (R.failures reader.new.source ≢ R.failures reader.old.source) }
     ensures sink_broke { (result.2 ≡ End.Output Fault.Device) ↔ (W.failures result.0 ≢ W.failures to) }
 {
     let snap = meant(snap);
@@ -130,10 +130,10 @@ fn copy_accepted<R: Source, W: Sink>(
 ) -> End
     ensures copies { (from : Option (List ℕ)) (header : Header) (to : Option (List ℕ)) (order : Order) (unit : Unit) (head : ℕ) →
         HasGiven R.left from header [] reader.old → HasWritten W.taken to order unit head [] writer.old →
-        Copied W.taken from (R.left (source_of reader.new)) header to order unit head program.now snap result writer.new }
-    ensures taken { (bytes : List ℕ) × Consumes (R.left (source_of reader.old)) (R.left (source_of reader.new)) bytes }
-    ensures source_broke { (result ≡ End.Input Fault.Device) ↔ (R.failures (source_of reader.new) ≢ R.failures (source_of reader.old)) }
-    ensures sink_broke { (result ≡ End.Output Fault.Device) ↔ (W.failures (sink_of writer.new) ≢ W.failures (sink_of writer.old)) }
+        Copied W.taken from (R.left reader.new.source) header to order unit head program.now snap result writer.new }
+    ensures taken { (bytes : List ℕ) × Consumes (R.left reader.old.source) (R.left reader.new.source) bytes }
+    ensures source_broke { (result ≡ End.Input Fault.Device) ↔ (R.failures reader.new.source ≢ R.failures reader.old.source) }
+    ensures sink_broke { (result ≡ End.Output Fault.Device) ↔ (W.failures writer.new.sink ≢ W.failures writer.old.sink) }
 {
     loop {
         match reader.advance() {
@@ -163,7 +163,7 @@ fn put_one<W: Sink>(
     ensures writes { (start : Option (List ℕ)) (order : Order) (unit : Unit) (head : ℕ) (before : List Packet) →
         HasWritten W.taken start order unit head before writer.old →
         Wrote W.taken start order unit head (before ++ accepted program.now snap (packet.now ∷ [])) result writer.new }
-    ensures sink_broke { (result ≡ Err Fault.Device) ↔ (W.failures (sink_of writer.new) ≢ W.failures (sink_of writer.old)) }
+    ensures sink_broke { (result ≡ Err Fault.Device) ↔ (W.failures writer.new.sink ≢ W.failures writer.old.sink) }
 {
     // The text grows by this packet's record.
     growing_text();

@@ -1,11 +1,14 @@
-//! How a cut ended, as it is told.
+//! How a cut or a print ended, or why there is no filter, as it is told.
 
-ghost use Rattle.std.specs.Prelude.{◌≡◌};
+ghost use Rattle.std.specs.Prelude.{◌≡◌, Ok, IfOk, IfErr, IsErr};
 ghost use Rattle.lines.specs.Telling.{fault_status};
-ghost use Rattle.cutting.specs.Telling.{status_of};
+ghost use Rattle.cutting.specs.Telling.{print_status, status_of};
 
+use crate::check::PrintFault;
 use crate::cut::{CutEnd, End};
-use lines::telling::{fault_status, tell_device, tell_fault};
+use crate::filter::FilterFault;
+use bpfvm::Program;
+use lines::telling::{REFUSED, fault_status, tell_device, tell_fault, tell_written};
 use savefile::Fault;
 use std::io::Write;
 
@@ -27,5 +30,30 @@ pub fn tell<R, W, E: Write>(end: &CutEnd<R, W>, from: &str, to: &str, err: &mut 
         End::Clean => 0,
         End::Input(fault) => tell_of(fault, from, err),
         End::Output(fault) => tell_of(fault, to, err),
+    }
+}
+
+/// Tells why a program was not printed, if it was not, and answers the exit status.
+pub fn tell_print<E: Write>(printed: Result<(), PrintFault>, err: &mut E) -> u8
+    ensures { result ≡ print_status printed }
+{
+    match printed {
+        Ok(()) => 0,
+        Err(PrintFault::Output(error)) => tell_written(Err(error), err),
+        Err(fault) => tell_fault(fault, REFUSED, err),
+    }
+}
+
+/// Tells why there is no filter, if there is none, and answers the exit status then.
+pub fn tell_filter<E: Write>(
+    found: Result<Program, FilterFault>,
+    err: &mut E,
+) -> Result<Program, u8>
+    ensures found { IfOk result (λ program. found ≡ Ok program) }
+    ensures refused { IfErr result (λ status. (status ≡ REFUSED) × IsErr found) }
+{
+    match found {
+        Ok(program) => Ok(program),
+        Err(fault) => Err(tell_fault(fault, REFUSED, err)),
     }
 }

@@ -33,7 +33,7 @@ struct FileId {
 
 /// Where a path leads.
 #[derive(Debug, Drop, PartialEq, Eq, PartialOrd, Ord)]
-enum Place {
+enum Target {
     /// A regular file or a fifo that is there.
     File(FileId),
     /// A file that is not there yet: the folder that it would be made in, and its name.
@@ -117,7 +117,7 @@ fn link_target<R: Files + AllocGlobal>(rt: &R, path: &str) -> io::Result<Option<
 }
 
 /// Where a file would be made by a path at which none stands: a symbolic link at its end is followed.
-fn new_file<R: Files + AllocGlobal>(rt: &R, path: &str) -> io::Result<Option<Place>> {
+fn new_file<R: Files + AllocGlobal>(rt: &R, path: &str) -> io::Result<Option<Target>> {
     let mut path = String::from_str(rt.alloc(), path)?;
     for _ in 0..MOST_LINKS {
         match link_target(rt, path.as_str())? {
@@ -128,13 +128,13 @@ fn new_file<R: Files + AllocGlobal>(rt: &R, path: &str) -> io::Result<Option<Pla
     Err(io::Error::from(ErrorKind::FilesystemLoop))
 }
 
-/// The place of a new file. None can be made in a folder that is not there, nor without a name.
-fn in_folder<R: Files + AllocGlobal>(rt: &R, path: &str) -> io::Result<Option<Place>> {
+/// The target that a new file would be. None can be made in a folder that is not there, nor without a name.
+fn in_folder<R: Files + AllocGlobal>(rt: &R, path: &str) -> io::Result<Option<Target>> {
     let (folder, name) = folder_and_name(path);
     match standing(rt, folder)? {
         Some(metadata) if metadata.is_dir() && !name.is_empty() => {
             let name = String::from_str(rt.alloc(), name)?;
-            Ok(Some(Place::New(id_of(&metadata), name)))
+            Ok(Some(Target::New(id_of(&metadata), name)))
         }
         _ => Ok(None),
     }
@@ -142,31 +142,31 @@ fn in_folder<R: Files + AllocGlobal>(rt: &R, path: &str) -> io::Result<Option<Pl
 
 /// Where a path leads; nothing where no file stands or can be made, and at a device or a folder, which lose nothing. An error
 /// says that the system does not tell.
-fn place_of<R: Files + AllocGlobal>(rt: &R, path: &str) -> io::Result<Option<Place>> {
+fn target_of<R: Files + AllocGlobal>(rt: &R, path: &str) -> io::Result<Option<Target>> {
     match standing(rt, path)? {
         Some(metadata) => {
             let is_lost = metadata.is_file() || metadata.file_type().is_fifo();
-            Ok(is_lost.then_some(Place::File(id_of(&metadata))))
+            Ok(is_lost.then_some(Target::File(id_of(&metadata))))
         }
         None => new_file(rt, path),
     }
 }
 
 /// The same, with the path in the error.
-fn told_place<'a, R: Files + AllocGlobal>(
+fn told_target<'a, R: Files + AllocGlobal>(
     rt: &R,
     path: &'a str,
-) -> Result<Option<Place>, PathFault<'a>> {
-    match place_of(rt, path) {
-        Ok(place) => Ok(place),
+) -> Result<Option<Target>, PathFault<'a>> {
+    match target_of(rt, path) {
+        Ok(target) => Ok(target),
         Err(error) => Err(PathFault::Untold(path, error)),
     }
 }
 
 /// The regular file that standard error goes to. What is told in a pipe loses nothing of what goes there too.
-fn told_file<R: Files>(rt: &R) -> Result<Option<Place>, PathFault<'static>> {
+fn told_file<R: Files>(rt: &R) -> Result<Option<Target>, PathFault<'static>> {
     match standing(rt, STANDARD_ERROR) {
-        Ok(Some(metadata)) if metadata.is_file() => Ok(Some(Place::File(id_of(&metadata)))),
+        Ok(Some(metadata)) if metadata.is_file() => Ok(Some(Target::File(id_of(&metadata)))),
         Ok(_) => Ok(None),
         Err(error) => Err(PathFault::Untold(STANDARD_ERROR, error)),
     }
@@ -176,14 +176,14 @@ fn told_file<R: Files>(rt: &R) -> Result<Option<Place>, PathFault<'static>> {
 #[derive(Drop)]
 struct Taken<'a> {
     texts: BTreeSet<&'a str>,
-    places: BTreeSet<Place>,
+    targets: BTreeSet<Target>,
 }
 
 impl<'a> Taken<'a> {
     fn new(alloc: Global) -> Taken<'a> {
         Taken {
             texts: BTreeSet::new(alloc),
-            places: BTreeSet::new(alloc),
+            targets: BTreeSet::new(alloc),
         }
     }
 
@@ -192,22 +192,22 @@ impl<'a> Taken<'a> {
     fn add_read<R: Files + AllocGlobal>(
         &mut self,
         rt: &R,
-        printed: Option<&'a str>,
+        standard_output: Option<&'a str>,
         paths: &[&'a str],
     ) -> Result<(), PathFault<'a>> {
-        let printed = match printed {
-            Some(path) => told_place(rt, path)?,
+        let standard_output = match standard_output {
+            Some(path) => told_target(rt, path)?,
             None => None,
         };
         for path in paths {
             self.texts.insert(*path)?;
-            let place = told_place(rt, *path)?;
-            if place.is_some() && place == printed {
+            let target = told_target(rt, *path)?;
+            if target.is_some() && target == standard_output {
                 return Err(PathFault::Same(*path));
             }
-            self.add(place)?;
+            self.add(target)?;
         }
-        self.add(printed)?;
+        self.add(standard_output)?;
         self.add(told_file(rt)?)?;
         Ok(())
     }
@@ -219,18 +219,18 @@ impl<'a> Taken<'a> {
         paths: &[&'b str],
     ) -> Result<(), PathFault<'b>> {
         for path in paths {
-            let place = told_place(rt, *path)?;
-            if self.texts.contains(*path) || !self.add(place)? {
+            let target = told_target(rt, *path)?;
+            if self.texts.contains(*path) || !self.add(target)? {
                 return Err(PathFault::Same(*path));
             }
         }
         Ok(())
     }
 
-    /// Takes a place, and answers whether it was not taken yet.
-    fn add(&mut self, place: Option<Place>) -> Result<bool, AllocFailed<Place>> {
-        match place {
-            Some(place) => self.places.insert(place),
+    /// Takes a target, and answers whether it was not taken yet.
+    fn add(&mut self, target: Option<Target>) -> Result<bool, AllocFailed<Target>> {
+        match target {
+            Some(target) => self.targets.insert(target),
             None => Ok(true),
         }
     }
@@ -254,10 +254,10 @@ fn tell_path<E: Write>(fault: &PathFault<'_>, err: &mut E) -> u8
 /// the exit status.
 ///
 /// Two paths are one file where they lead to one regular file or fifo, or to one new file; one that is read and one that is
-/// written also where they have the same text. `printed` is the path of standard output, where the command prints there.
+/// written also where they have the same text. `standard_output` is its path, where the command prints there.
 pub fn all_apart<R: Files + AllocGlobal, E: Write>(
     rt: &R,
-    printed: Option<&str>,
+    standard_output: Option<&str>,
     read: &[&str],
     written: &[&str],
     err: &mut E,
@@ -265,7 +265,7 @@ pub fn all_apart<R: Files + AllocGlobal, E: Write>(
     ensures { IfErr result (λ status. status ≤ 3) }
 {
     let mut taken = Taken::new(rt.alloc());
-    if let Err(fault) = taken.add_read(rt, printed, read) {
+    if let Err(fault) = taken.add_read(rt, standard_output, read) {
         return Err(tell_path(&fault, err));
     }
     match taken.add_written(rt, written) {

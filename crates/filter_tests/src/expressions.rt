@@ -3,6 +3,7 @@
 use bpfvm::read_listing;
 use cutting::check::check;
 use cutting::filter::filter;
+use cutting::tell::{tell_filter, tell_print};
 use filtergen::{ExpressionFault, Refusal, compile_text};
 use fixtures::captures::bytes_of;
 use fixtures::devices::BreakingWriter;
@@ -28,7 +29,11 @@ fn an_expression_is_printed_as_its_program(rt: HostRuntime) {
     for (expr, listing) in PRINTED {
         let mut out: Vec<u8> = Vec::new(rt.alloc());
         let mut err: Vec<u8> = Vec::new(rt.alloc());
-        assert_eq!(rt; check(rt.alloc(), expr, &mut out, &mut err), 0, "{expr}");
+        assert_eq!(rt;
+            tell_print(check(rt.alloc(), expr, &mut out), &mut err),
+            0,
+            "{expr}"
+        );
         assert_eq!(rt; out.as_slice(), listing.as_bytes(), "{expr}");
         assert!(rt; err.is_empty(), "{expr}");
     }
@@ -63,7 +68,11 @@ fn each_printed_listing_is_the_program(rt: HostRuntime) {
     for expr in ACCEPTED {
         let mut out: Vec<u8> = Vec::new(rt.alloc());
         let mut err: Vec<u8> = Vec::new(rt.alloc());
-        assert_eq!(rt; check(rt.alloc(), expr, &mut out, &mut err), 0, "{expr:?}");
+        assert_eq!(rt;
+            tell_print(check(rt.alloc(), expr, &mut out), &mut err),
+            0,
+            "{expr:?}"
+        );
         assert!(rt; err.is_empty(), "{expr:?}");
         let read = read_listing(out.as_slice()).expect(&rt, "a listing");
         let compiled = compile_text(rt.alloc(), expr, 262_144).expect(&rt, "it compiles");
@@ -86,7 +95,10 @@ fn a_program_that_is_too_long_is_told(rt: HostRuntime) {
     let text = long_text(&rt);
     let mut out: Vec<u8> = Vec::new(rt.alloc());
     let mut err: Vec<u8> = Vec::new(rt.alloc());
-    assert_eq!(rt; check(rt.alloc(), text.as_str(), &mut out, &mut err), 1);
+    assert_eq!(rt;
+        tell_print(check(rt.alloc(), text.as_str(), &mut out), &mut err),
+        1
+    );
     assert!(rt; out.is_empty());
     assert_eq!(rt; err.as_slice(), b"bpftap: TooLong\n".as_slice());
     let fault = compile_text(rt.alloc(), text.as_str(), 1).err();
@@ -101,7 +113,7 @@ fn a_listing_that_is_not_taken_is_a_device_fault(rt: HostRuntime) {
         let taken = Vec::new(rt.alloc());
         let mut out = BreakingWriter { taken, room };
         let mut err: Vec<u8> = Vec::new(rt.alloc());
-        assert_eq!(rt; check(rt.alloc(), "ip", &mut out, &mut err), 3);
+        assert_eq!(rt; tell_print(check(rt.alloc(), "ip", &mut out), &mut err), 3);
         assert_eq!(rt;
             err.as_slice(),
             b"bpftap: Device standard output\n".as_slice()
@@ -112,13 +124,12 @@ fn a_listing_that_is_not_taken_is_a_device_fault(rt: HostRuntime) {
 #[test]
 fn an_expression_is_a_filter(rt: HostRuntime) {
     let frame = [0, 0, 0, 0, 0, 0, 0, 0, 0, 0, 0, 0, 8, 0];
-    let mut err: Vec<u8> = Vec::new(rt.alloc());
     for (expr, answer) in [("ip", 96), ("arp", 0), ("", 96)] {
-        let program = filter(rt.alloc(), None, Some(expr), 96, &mut err).expect(&rt, "a filter");
+        let program = filter(rt.alloc(), None, Some(expr), 96).expect(&rt, "a filter");
         assert_eq!(rt; bpfvm::run(&program, &frame, 60), answer, "{expr}");
     }
-    assert!(rt; err.is_empty());
-    let refused = filter(rt.alloc(), None, Some("tcp and 80"), 96, &mut err).err();
+    let mut err: Vec<u8> = Vec::new(rt.alloc());
+    let refused = tell_filter(filter(rt.alloc(), None, Some("tcp and 80"), 96), &mut err).err();
     assert_eq!(rt; refused, Some(1));
     assert_eq!(rt; err.as_slice(), b"bpftap: NoQualifier 8\n".as_slice());
 }
@@ -126,7 +137,8 @@ fn an_expression_is_a_filter(rt: HostRuntime) {
 #[test]
 fn two_filters_are_one_too_many(rt: HostRuntime) {
     let mut err: Vec<u8> = Vec::new(rt.alloc());
-    let refused = filter(rt.alloc(), Some(b"1\n6 0 0 1\n"), Some("ip"), 0, &mut err).err();
+    let found = filter(rt.alloc(), Some(b"1\n6 0 0 1\n"), Some("ip"), 0);
+    let refused = tell_filter(found, &mut err).err();
     assert_eq!(rt; refused, Some(1));
     assert_eq!(rt; err.as_slice(), b"bpftap: FilterTwice\n".as_slice());
 }
@@ -134,8 +146,7 @@ fn two_filters_are_one_too_many(rt: HostRuntime) {
 #[test]
 fn real_frames_are_kept_as_tcpdump_keeps_them(rt: HostRuntime) {
     for (expr, kept) in KEPT {
-        let mut err: Vec<u8> = Vec::new(rt.alloc());
-        let program = filter(rt.alloc(), None, Some(expr), 0, &mut err).expect(&rt, "a filter");
+        let program = filter(rt.alloc(), None, Some(expr), 0).expect(&rt, "a filter");
         let mut left = kept;
         for (place, (wire, hex)) in VETH.iter().enumerate() {
             let frame = bytes_of(rt.alloc(), hex).expect(&rt, "there is memory");

@@ -1,5 +1,5 @@
-//! Tests of `filtergen` and of `cutting`'s filter: expressions from their text to their program, and programs compared with the
-//! evaluator.
+//! Tests of `filtergen`, of `explaining` and of `cutting`'s filter: expressions from their text to their program, and programs
+//! compared with the evaluator.
 #![tactic(auto)]
 
 #[cfg(test)]
@@ -11,7 +11,11 @@ mod compiled_relations;
 #[cfg(test)]
 mod examples;
 #[cfg(test)]
+mod explained;
+#[cfg(test)]
 mod expressions;
+#[cfg(test)]
+mod lists;
 #[cfg(test)]
 mod programs;
 #[cfg(test)]

@@ -6,7 +6,7 @@ use Rattle.bpfvm.specs.Machine.{Registers, with_value, Goes, loaded, effect}
 use Rattle.filtergen.specs.declared.code.Exits.{Exits}
 use Rattle.filtergen.specs.declared.verdict.Verdict.{Verdict}
 use Rattle.filtergen.specs.declared.verdict.Verdict.TheVariants.{Yes, No, Abort}
-use Rattle.filtergen.specs.Meaning.{Packet, HasBytes, Test, and_then, or_else, opposite, both, either, negation, check, decided}
+use Rattle.filtergen.specs.Meaning.{Packet, HasBytes, Test, and_then, or_else, opposite, and_test, or_test, not_test, check, decided}
 use Rattle.filtergen.specs.Insns.{plain_insn}
 use Rattle.filtergen.specs.Emission.{AreExits, HasCells, Answers, Passes, outcome, Chooses, with_loaded, Decides}
 use Rattle.filtergen.proofs.Runs.{after, answer-first, front-place, extends-none, extends-one, extends-both, extends-more, answers-kept, mask-effect}
@@ -32,7 +32,7 @@ answers-same code place m n p same before = record { always = λ r cells. before
 
 -- the second test is there first, and the first one goes on to it
 pub decides-both : {k l e f : ℕ} {t u : Test} {exits : Exits} {a b c : List Insn} → AreExits a exits
-    → Decides k u exits e a b → Decides l t (record { yes = e; no = exits.no }) f b c → Decides (k + l) (both t u) exits f a c
+    → Decides k u exits e a b → Decides l t (record { yes = e; no = exits.no }) f b c → Decides (k + l) (and_test t u) exits f a c
 decides-both {k} {l} {e} {f} {t} {u} {exits} {a} {b} {c} are second first = record {
   extends = extends-both second.extends first.extends;
   here = first.here;
@@ -42,7 +42,7 @@ decides-both {k} {l} {e} {f} {t} {u} {exits} {a} {b} {c} are second first = reco
 }
 
 pub decides-either : {k l e f : ℕ} {t u : Test} {exits : Exits} {a b c : List Insn} → AreExits a exits
-    → Decides k u exits e a b → Decides l t (record { yes = exits.yes; no = e }) f b c → Decides (k + l) (either t u) exits f a c
+    → Decides k u exits e a b → Decides l t (record { yes = exits.yes; no = e }) f b c → Decides (k + l) (or_test t u) exits f a c
 decides-either {k} {l} {e} {f} {t} {u} {exits} {a} {b} {c} are second first = record {
   extends = extends-both second.extends first.extends;
   here = first.here;
@@ -51,7 +51,7 @@ decides-either {k} {l} {e} {f} {t} {u} {exits} {a} {b} {c} are second first = re
       (first.decides p m (outcome (u p) m n) bytes (answers-kept exits.yes m p second.extends are.0.1 yes') (second.decides p m n bytes yes' no'));
 }
 
-pub decides-not : {k e : ℕ} {t : Test} {exits : Exits} {a b : List Insn} → Decides k t (record { yes = exits.no; no = exits.yes }) e a b → Decides k (negation t) exits e a b
+pub decides-not : {k e : ℕ} {t : Test} {exits : Exits} {a b : List Insn} → Decides k t (record { yes = exits.no; no = exits.yes }) e a b → Decides k (not_test t) exits e a b
 decides-not {k} {e} {t} {exits} {a} {b} first = record {
   extends = first.extends;
   here = first.here;

@@ -14,8 +14,8 @@ use Rattle.filtergen.specs.declared.known.Known.{Known}
 use Rattle.filtergen.specs.declared.known.Known.TheVariants as known
 use Rattle.filtergen.specs.declared.verdict.Verdict.{Verdict}
 use Rattle.filtergen.specs.declared.verdict.Verdict.TheVariants.{Yes, No, Abort}
-use Rattle.filtergen.specs.Meaning.{Packet, Test, and_then, check, check_both, compared, byte, half, is_type, is_protocol, is_first, value, in_layer, in_layers, relation_test, primitive_test, meaning}
-use Rattle.filtergen.specs.Knowing.{shows, has_type, has_number, has_first, implies, narrowed, unless_known, rest_of_type, rest_of_number, rest_of_first, rest_of, of_layer, behind_layers, rest_of_layers, rest_of_relation, of_primitive, behind}
+use Rattle.filtergen.specs.Meaning.{Packet, Test, and_then, check, check_both, compared, byte, half, is_type, is_protocol, is_first_fragment_of, value, in_layer, in_layers, relation_test, primitive_test, meaning}
+use Rattle.filtergen.specs.Knowing.{shows, has_type, has_protocol, has_first_fragment, implies, narrowed, unless_known, rest_of_type, rest_of_protocol, rest_of_first_fragment, rest_of, of_layer, behind_layers, rest_of_layers, rest_of_relation, of_primitive, behind}
 
 -- where both are Yes, each is
 pub and-left : (v w : Verdict) → and_then v w ≡ Yes → v ≡ Yes
@@ -44,20 +44,20 @@ equal-true m n is = grind (arith, nat_tests)
 pub type-from : (k : Known) (n : ℕ) (p : Packet) → shows k p ≡ Yes → has_type k n ≡ true → is_type n p ≡ Yes
 type-from known.Nothing n p holds is = absurd cc
 type-from (known.Type m) n p holds is = subst (λ x. is_type x p ≡ Yes) (sym (equal-true n m is)) holds
-type-from (known.Number m) n p holds is = subst (λ x. is_type x p ≡ Yes) (sym (equal-true n 0x0800 is)) (and-left _ _ holds)
-type-from (known.First m) n p holds is = subst (λ x. is_type x p ≡ Yes) (sym (equal-true n 0x0800 is)) (and-left _ _ (and-left (is_protocol m p) _ holds))
+type-from (known.Protocol m) n p holds is = subst (λ x. is_type x p ≡ Yes) (sym (equal-true n 0x0800 is)) (and-left _ _ holds)
+type-from (known.FirstFragment m) n p holds is = subst (λ x. is_type x p ≡ Yes) (sym (equal-true n 0x0800 is)) (and-left _ _ (and-left (is_protocol m p) _ holds))
 
-pub number-from : (k : Known) (n : ℕ) (p : Packet) → shows k p ≡ Yes → has_number k n ≡ true → is_protocol n p ≡ Yes
+pub number-from : (k : Known) (n : ℕ) (p : Packet) → shows k p ≡ Yes → has_protocol k n ≡ true → is_protocol n p ≡ Yes
 number-from known.Nothing n p holds is = absurd cc
 number-from (known.Type m) n p holds is = absurd cc
-number-from (known.Number m) n p holds is = subst (λ x. is_protocol x p ≡ Yes) (sym (equal-true n m is)) holds
-number-from (known.First m) n p holds is = subst (λ x. is_protocol x p ≡ Yes) (sym (equal-true n m is)) (and-left (is_protocol m p) _ holds)
+number-from (known.Protocol m) n p holds is = subst (λ x. is_protocol x p ≡ Yes) (sym (equal-true n m is)) holds
+number-from (known.FirstFragment m) n p holds is = subst (λ x. is_protocol x p ≡ Yes) (sym (equal-true n m is)) (and-left (is_protocol m p) _ holds)
 
-pub first-from : (k : Known) (n : ℕ) (p : Packet) → shows k p ≡ Yes → has_first k n ≡ true → is_first n p ≡ Yes
+pub first-from : (k : Known) (n : ℕ) (p : Packet) → shows k p ≡ Yes → has_first_fragment k n ≡ true → is_first_fragment_of n p ≡ Yes
 first-from known.Nothing n p holds is = absurd cc
 first-from (known.Type m) n p holds is = absurd cc
-first-from (known.Number m) n p holds is = absurd cc
-first-from (known.First m) n p holds is = subst (λ x. is_first x p ≡ Yes) (sym (equal-true n m is)) holds
+first-from (known.Protocol m) n p holds is = absurd cc
+first-from (known.FirstFragment m) n p holds is = subst (λ x. is_first_fragment_of x p ≡ Yes) (sym (equal-true n m is)) holds
 
 -- one of two that are known
 one-holds : (b : Bool) (j k : Known) (p : Packet) → shows j p ≡ Yes → shows k p ≡ Yes → shows (if b then j else k) p ≡ Yes
@@ -76,21 +76,21 @@ unless-same false t u p holds same = same
 rest-type : (k : Known) (n : ℕ) (p : Packet) → shows k p ≡ Yes → rest_of_type k n p ≡ is_type n p
 rest-type k n p holds = unless-same (has_type k n) (is_type n) (is_type n) p (type-from k n p holds) refl
 
-rest-number : (k : Known) (n : ℕ) (p : Packet) → shows k p ≡ Yes → rest_of_number k n p ≡ is_protocol n p
+rest-number : (k : Known) (n : ℕ) (p : Packet) → shows k p ≡ Yes → rest_of_protocol k n p ≡ is_protocol n p
 rest-number k n p holds =
-    unless-same (has_number k n) _ (is_protocol n) p (number-from k n p holds)
+    unless-same (has_protocol k n) _ (is_protocol n) p (number-from k n p holds)
     (ap (λ v. and_then v (check (λ b. b == n) (byte 23 p))) (rest-type k 0x0800 p holds))
 
-rest-first : (k : Known) (n : ℕ) (p : Packet) → shows k p ≡ Yes → rest_of_first k n p ≡ is_first n p
+rest-first : (k : Known) (n : ℕ) (p : Packet) → shows k p ≡ Yes → rest_of_first_fragment k n p ≡ is_first_fragment_of n p
 rest-first k n p holds =
-    unless-same (has_first k n) _ (is_first n) p (first-from k n p holds)
+    unless-same (has_first_fragment k n) _ (is_first_fragment_of n) p (first-from k n p holds)
     (ap (λ v. and_then v (check (λ b. bit_and b 0x1fff == 0) (half 20 p))) (rest-number k n p holds))
 
 rest-same : (k fact : Known) (p : Packet) → shows k p ≡ Yes → rest_of k fact p ≡ shows fact p
 rest-same k known.Nothing p holds = refl
 rest-same k (known.Type n) p holds = rest-type k n p holds
-rest-same k (known.Number n) p holds = rest-number k n p holds
-rest-same k (known.First n) p holds = rest-first k n p holds
+rest-same k (known.Protocol n) p holds = rest-number k n p holds
+rest-same k (known.FirstFragment n) p holds = rest-first k n p holds
 
 layer-shown : (l : Layer) (p : Packet) → shows (of_layer l) p ≡ in_layer l p
 layer-shown layers.Ether p = refl

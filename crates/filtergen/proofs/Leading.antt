@@ -8,10 +8,10 @@ use Rattle.filtergen.specs.declared.ways.Way.{Way}
 use Rattle.filtergen.specs.declared.ways.Ways.{Ways}
 use Rattle.filtergen.specs.declared.verdict.Verdict.{Verdict}
 use Rattle.filtergen.specs.declared.verdict.Verdict.TheVariants.{Yes, No, Abort}
-use Rattle.filtergen.specs.Meaning.{Packet, HasBytes, Test, and_then, or_else, both, either, negation, check, decided, byte, is_type, protocol_number}
+use Rattle.filtergen.specs.Meaning.{Packet, HasBytes, Test, and_then, or_else, and_test, or_test, not_test, check, decided, byte, is_type, protocol_number}
 use Rattle.filtergen.specs.Emission.{IsPlace, Answers, Extends, outcome, Nears, Decides}
 use Rattle.filtergen.specs.Parts.{is_unfragmented, has_port_number, is_any_first}
-use Rattle.filtergen.specs.Ways.{is_first_fragment, Suits, Serves, IsWay, AreWays, Renews, RenewsBoth, DecidesBy}
+use Rattle.filtergen.specs.Ways.{is_first_fragment, Suits, Serves, IsWay, AreWays, Renews, RenewsBoth, DecidesBy, IsFor}
 use Rattle.filtergen.proofs.Runs.{extends-both, extends-more, answers-kept}
 use Rattle.filtergen.proofs.Deciding.{outcome-both, outcome-either, outcome-opposite, answers-same}
 
@@ -142,7 +142,7 @@ decides-renewed extends renews first = record {
 
 -- the second test is there first; the first one goes on to it, or by the ways as the second one renewed them
 pub decides-both-renewed : {k l : ℕ} {t u : Test} {ways renewed : Ways} {second first : Way} {a b c : List Insn} → RenewsBoth ways renewed a b
-    → DecidesBy k u ways second a b → DecidesBy l t (record { yes = second; no = renewed.no }) first b c → DecidesBy (k + l) (both t u) ways first a c
+    → DecidesBy k u ways second a b → DecidesBy l t (record { yes = second; no = renewed.no }) first b c → DecidesBy (k + l) (and_test t u) ways first a c
 decides-both-renewed {k} {l} {t} {u} {ways} {renewed} {second} {first} {a} {b} {c} renews later before = record {
   extends = extends-both later.extends before.extends;
   here = before.here;
@@ -152,7 +152,7 @@ decides-both-renewed {k} {l} {t} {u} {ways} {renewed} {second} {first} {a} {b} {
 }
 
 pub decides-either-renewed : {k l : ℕ} {t u : Test} {ways renewed : Ways} {second first : Way} {a b c : List Insn} → RenewsBoth ways renewed a b
-    → DecidesBy k u ways second a b → DecidesBy l t (record { yes = renewed.yes; no = second }) first b c → DecidesBy (k + l) (either t u) ways first a c
+    → DecidesBy k u ways second a b → DecidesBy l t (record { yes = renewed.yes; no = second }) first b c → DecidesBy (k + l) (or_test t u) ways first a c
 decides-either-renewed {k} {l} {t} {u} {ways} {renewed} {second} {first} {a} {b} {c} renews later before = record {
   extends = extends-both later.extends before.extends;
   here = before.here;
@@ -161,7 +161,7 @@ decides-either-renewed {k} {l} {t} {u} {ways} {renewed} {second} {first} {a} {b}
       (before.decides p m (outcome (u p) m n) bytes (renews.yes.serves p m yes') (later.decides p m n bytes yes' no'));
 }
 
-pub decides-not : {k : ℕ} {t : Test} {ways : Ways} {entry : Way} {a b : List Insn} → DecidesBy k t (record { yes = ways.no; no = ways.yes }) entry a b → DecidesBy k (negation t) ways entry a b
+pub decides-not : {k : ℕ} {t : Test} {ways : Ways} {entry : Way} {a b : List Insn} → DecidesBy k t (record { yes = ways.no; no = ways.yes }) entry a b → DecidesBy k (not_test t) ways entry a b
 decides-not {k} {t} {ways} {entry} {a} {b} first = record {
   extends = first.extends;
   here = first.here;
@@ -224,13 +224,13 @@ first-of-any (Some transport) p is =
     all-yes (is_type 0x0800 p) (check (λ b. b == protocol_number transport) (byte 23 p)) (has_port_number p) (is_unfragmented p) (has-port-number transport (byte 23 p)) is
 
 pub first-ip : (transport : Option Transport) (p : Packet) → is_first_fragment transport p ≡ Yes → is_type 0x0800 p ≡ Yes
-first-ip transport p is = left-yes (is_type 0x0800 p) _ (left-yes (both (is_type 0x0800) has_port_number p) _ (first-of-any transport p is))
+first-ip transport p is = left-yes (is_type 0x0800 p) _ (left-yes (and_test (is_type 0x0800) has_port_number p) _ (first-of-any transport p is))
 
 -- a test behind that of IPv4
 pub decides-guarded : {k inner e : ℕ} {u : Test} (ways : Ways) {a b c : List Insn} → AreWays a ways
     → Decides k u (record { yes = ways.yes.ip; no = ways.no.ip }) inner a b
     → Decides 4 (is_type 0x0800) (record { yes = inner; no = ways.no.other }) e b c
-    → DecidesBy (k + 4) (both (is_type 0x0800) u) ways (record { any = e; ip = inner; other = ways.no.other; first_fragment = inner; transport = None }) a c
+    → DecidesBy (k + 4) (and_test (is_type 0x0800) u) ways (record { any = e; ip = inner; other = ways.no.other; first_fragment = inner; transport = None }) a c
 decides-guarded {k} {inner} {e} {u} ways {a} {b} {c} are second first =
     let whole = extends-both second.extends first.extends in
     let ip' = place-kept inner first.extends second.here in
@@ -259,10 +259,6 @@ decides-guarded {k} {inner} {e} {u} ways {a} {b} {c} are second first =
             };
           };
     }
-
--- a place for IPv4, or one for first fragments of this protocol or of any
-abbrev pub IsFor : Option Transport → ℕ → Way → Type 0
-IsFor transport place way = (place ≡ way.ip) ⊎ ((place ≡ way.first_fragment) × ((way.transport ≡ None) ⊎ (way.transport ≡ transport)))
 
 pub suits-first : {code : List Insn} {way : Way} {p : Packet} {n : ℕ} (place : ℕ) (transport : Option Transport) → IsFor transport place way
     → Serves code way p n → Suits code place p n (is_first_fragment transport p ≡ Yes)
@@ -310,7 +306,7 @@ outside-first Abort b f w m n n3 is same = absurd cc
 
 -- IPv4, a protocol that this test tells, and no later fragment
 abbrev pub first_by : Test → Test
-first_by protocol = both (both (is_type 0x0800) protocol) is_unfragmented
+first_by protocol = and_test (and_test (is_type 0x0800) protocol) is_unfragmented
 
 -- a test behind those of a first fragment
 pub decides-first : {k l first inner ip any : ℕ} {u : Test} (transport : Option Transport) (protocol : Test) (ways : Ways) {exits : Exits} {a b c d e : List Insn} → AreWays a ways
@@ -320,7 +316,7 @@ pub decides-first : {k l first inner ip any : ℕ} {u : Test} (transport : Optio
     → Decides 4 is_unfragmented (record { yes = first; no = ways.no.ip }) inner b c
     → Decides l protocol (record { yes = inner; no = ways.no.ip }) ip c d
     → Decides 4 (is_type 0x0800) (record { yes = ip; no = ways.no.other }) any d e
-    → DecidesBy (k + l + 8) (both (first_by protocol) u) ways (record { any = any; ip = ip; other = ways.no.other; first_fragment = first; transport = transport }) a e
+    → DecidesBy (k + l + 8) (and_test (first_by protocol) u) ways (record { any = any; ip = ip; other = ways.no.other; first_fragment = first; transport = transport }) a e
 decides-first {k} {l} {first} {inner} {ip} {any} {u} transport protocol ways {exits} {a} {b} {c} {d} {e} are which of_yes of_no tested unfragmented numbered typed =
     let to_c = extends-both tested.extends unfragmented.extends in
     let to_d = extends-both to_c numbered.extends in

@@ -15,3 +15,7 @@ pub mod Knowing
 pub mod Snaps
 pub mod Narrowed
 pub mod Reached
+pub mod Neighbours
+pub mod Taking
+pub mod Shared
+pub mod Seeking

@@ -12,14 +12,15 @@ use Rattle.filtergen.specs.declared.ways.Way.{Way}
 use Rattle.filtergen.specs.declared.ways.Ways.{Ways}
 use Rattle.filtergen.specs.declared.verdict.Verdict.{Verdict}
 use Rattle.filtergen.specs.declared.verdict.Verdict.TheVariants.{Yes, No, Abort}
-use Rattle.filtergen.specs.Meaning.{Packet, Test, and_then, or_else, both, either, negation, check, decided, byte, half, is_type, is_protocol, is_first, by_direction, has_address, in_any_net, has_port, has_any_ports, protocol_number}
+use Rattle.filtergen.specs.Meaning.{Packet, Test, and_then, or_else, and_test, or_test, not_test, check, decided, byte, half, is_type, is_protocol, is_first_fragment_of, by_direction, has_address, in_any_net, has_port, has_any_ports, protocol_number}
 use Rattle.filtergen.specs.Emission.{Extends, outcome, Decides}
 use Rattle.filtergen.specs.Knowing.{shows}
-use Rattle.filtergen.specs.Parts.{is_unfragmented}
-use Rattle.filtergen.specs.Ways.{is_first_fragment, IsWay, AreWays, RenewsBoth, DecidesBy, DecidesBehind}
+use Rattle.filtergen.specs.Parts.{is_unfragmented, of_transport}
+use Rattle.filtergen.specs.Lists.{of_any_type}
+use Rattle.filtergen.specs.Ways.{is_first_fragment, IsWay, AreWays, RenewsBoth, DecidesBy, DecidesBehind, IsFor}
 use Rattle.filtergen.proofs.Runs.{extends-none, extends-both, extends-more, answers-kept, equal-true}
 use Rattle.filtergen.proofs.Deciding.{outcome-either, outcome-opposite}
-use Rattle.filtergen.proofs.Leading.{IsFor, suits-any, suits-first, serves-any, place-kept}
+use Rattle.filtergen.proofs.Leading.{suits-any, suits-first, serves-any, place-kept}
 use Rattle.filtergen.proofs.Knowing.{and-left, and-right}
 
 -- what decides a test of any packet does so behind what is known, also where it is the whole test only there
@@ -60,7 +61,7 @@ outcome-behind Abort w m n x is = refl
 
 pub behind-both : {k l : ℕ} {known later : Known} {t u : Test} {ways renewed : Ways} {second first : Way} {a b c : List Insn}
     → ((p : Packet) → shows known p ≡ Yes → t p ≡ Yes → shows later p ≡ Yes) → RenewsBoth ways renewed a b
-    → DecidesBehind later k u ways second a b → DecidesBehind known l t (record { yes = second; no = renewed.no }) first b c → DecidesBehind known (k + l) (both t u) ways first a c
+    → DecidesBehind later k u ways second a b → DecidesBehind known l t (record { yes = second; no = renewed.no }) first b c → DecidesBehind known (k + l) (and_test t u) ways first a c
 behind-both {k} {l} {known} {later} {t} {u} shown renews after before = record {
   extends = extends-both after.extends before.extends;
   here = before.here;
@@ -75,7 +76,7 @@ behind-both {k} {l} {known} {later} {t} {u} shown renews after before = record {
 }
 
 pub behind-either : {k l : ℕ} {known : Known} {t u : Test} {ways renewed : Ways} {second first : Way} {a b c : List Insn} → RenewsBoth ways renewed a b
-    → DecidesBehind known k u ways second a b → DecidesBehind known l t (record { yes = renewed.yes; no = second }) first b c → DecidesBehind known (k + l) (either t u) ways first a c
+    → DecidesBehind known k u ways second a b → DecidesBehind known l t (record { yes = renewed.yes; no = second }) first b c → DecidesBehind known (k + l) (or_test t u) ways first a c
 behind-either {k} {l} {known} {t} {u} renews after before = record {
   extends = extends-both after.extends before.extends;
   here = before.here;
@@ -90,7 +91,7 @@ behind-either {k} {l} {known} {t} {u} renews after before = record {
 }
 
 pub behind-not : {k : ℕ} {known : Known} {t : Test} {ways : Ways} {entry : Way} {a b : List Insn} → DecidesBehind known k t (record { yes = ways.no; no = ways.yes }) entry a b
-    → DecidesBehind known k (negation t) ways entry a b
+    → DecidesBehind known k (not_test t) ways entry a b
 behind-not {k} {known} {t} first = record {
   extends = first.extends;
   here = first.here;
@@ -229,15 +230,12 @@ one-form Tcp Yes (Some b) f d is = let same = decided-equal b 6 is in rw same (s
 one-form Udp Yes (Some b) f d is = let same = decided-equal b 17 is in rw same (sym (only-second (and_then f d)))
 one-form Sctp Yes (Some b) f d is = let same = decided-equal b 132 is in rw same refl
 
-pub ports-known : (transport : Transport) (asked : Option Transport) (direction : Direction) (low high : ℕ) (p : Packet) → is_protocol (protocol_number transport) p ≡ Yes
-    → (asked ≡ None) ⊎ (asked ≡ Some transport)
-    → and_then (is_unfragmented p) (by_direction direction (has_port low high 0) (has_port low high 2) p) ≡ has_any_ports asked direction low high p
-ports-known transport asked direction low high p is (inl none) =
-    let d = by_direction direction (has_port low high 0) (has_port low high 2) p in
-    one-form transport (is_type 0x0800 p) (byte 23 p) (is_unfragmented p) d is ∙ sym (ap (λ x. has_any_ports x direction low high p) none)
-ports-known transport asked direction low high p is (inr same) =
-    let d = by_direction direction (has_port low high 0) (has_port low high 2) p in
-    sym (ap (λ v. and_then (and_then v (is_unfragmented p)) d) is) ∙ sym (ap (λ x. has_any_ports x direction low high p) same)
+pub ports-known : (transport : Transport) (asked : Option Transport) (t : Test) (p : Packet) → is_protocol (protocol_number transport) p ≡ Yes
+    → (asked ≡ None) ⊎ (asked ≡ Some transport) → and_then (is_unfragmented p) (t p) ≡ of_transport asked t p
+ports-known transport asked t p is (inl none) =
+    one-form transport (is_type 0x0800 p) (byte 23 p) (is_unfragmented p) (t p) is ∙ sym (ap (λ x. of_transport x t p) none)
+ports-known transport asked t p is (inr same) =
+    sym (ap (λ v. and_then (and_then v (is_unfragmented p)) (t p)) is) ∙ sym (ap (λ x. of_transport x t p) same)
 
 -- a host or a net of a packet that is known to be of IPv4
 one-net : (v : Option ℕ) (x y : Verdict) → check (λ n. n == 0x0800) v ≡ Yes
@@ -254,15 +252,33 @@ net-known network direction address mask p is (inr same) =
     sym (ap (λ v. and_then v (by_direction direction (has_address address mask 26) (has_address address mask 30) p)) is)
     ∙ sym (ap (λ x. in_any_net x direction address mask p) same)
 
+pub nets-known : (t u : Test) (p : Packet) → is_type 0x0800 p ≡ Yes → and_test (is_type 0x0800) t p ≡ of_any_type t u p
+nets-known t u p is = ap (λ v. and_then v (t p)) is ∙ one-net (half 12 p) (t p) (u p) is
+
 -- IPv4 with a protocol number, where the packet is known to be of IPv4
 pub protocol-known : (n : ℕ) (p : Packet) → is_type 0x0800 p ≡ Yes → check (λ b. b == n) (byte 23 p) ≡ is_protocol n p
 protocol-known n p is = sym (ap (λ v. and_then v (check (λ b. b == n) (byte 23 p))) is)
 
 -- the same where it is known to be a first fragment
-pub ports-behind-first : (transport : Transport) (asked : Option Transport) (direction : Direction) (low high : ℕ) (p : Packet) → is_first (protocol_number transport) p ≡ Yes
-    → (asked ≡ None) ⊎ (asked ≡ Some transport)
-    → by_direction direction (has_port low high 0) (has_port low high 2) p ≡ has_any_ports asked direction low high p
-ports-behind-first transport asked direction low high p is which =
+pub ports-behind-first : (transport : Transport) (asked : Option Transport) (t : Test) (p : Packet) → is_first_fragment_of (protocol_number transport) p ≡ Yes
+    → (asked ≡ None) ⊎ (asked ≡ Some transport) → t p ≡ of_transport asked t p
+ports-behind-first transport asked t p is which =
     let number = is_protocol (protocol_number transport) p in
-    sym (ap (λ v. and_then v (by_direction direction (has_port low high 0) (has_port low high 2) p)) (and-right number (is_unfragmented p) is))
-    ∙ ports-known transport asked direction low high p (and-left number (is_unfragmented p) is) which
+    sym (ap (λ v. and_then v (t p)) (and-right number (is_unfragmented p) is)) ∙ ports-known transport asked t p (and-left number (is_unfragmented p) is) which
+
+-- the ports of a protocol, or of any
+pub of-transport-is : (asked : Option Transport) (direction : Direction) (low high : ℕ) (p : Packet)
+    → of_transport asked (by_direction direction (has_port low high 0) (has_port low high 2)) p ≡ has_any_ports asked direction low high p
+of-transport-is None direction low high p = refl
+of-transport-is (Some transport) direction low high p = refl
+
+-- the same test in other words
+pub behind-same : {k : ℕ} (known : Known) (t u : Test) {ways : Ways} {entry : Way} {a b : List Insn} → ((p : Packet) → shows known p ≡ Yes → t p ≡ u p)
+    → DecidesBehind known k t ways entry a b → DecidesBehind known k u ways entry a b
+behind-same known t u same first = record {
+  extends = first.extends;
+  here = first.here;
+  decides = λ p m n bytes yes' no'.
+      let found = first.decides p m n bytes yes' no' in
+      record { found = found.found; serves = found.serves; right = λ holds. found.right holds ∙ ap (λ v. outcome v m n) (same p holds) };
+}

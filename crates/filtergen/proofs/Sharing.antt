@@ -4,7 +4,10 @@ use Rattle.std.proofs.lemmas.Bool.{cases_lt}
 use Rattle.std.proofs.lemmas.Bool.Decides.{nat_tests}
 use Rattle.filtergen.specs.declared.verdict.Verdict.{Verdict}
 use Rattle.filtergen.specs.declared.verdict.Verdict.TheVariants.{Yes, No, Abort}
-use Rattle.filtergen.specs.Meaning.{and_then, or_else, opposite, check, decided}
+use Rattle.filterlang.specs.declared.tree.Transport.{Transport}
+use Rattle.filtergen.specs.Meaning.{Packet, Test, and_then, or_else, opposite, and_test, check, decided, byte, is_type}
+use Rattle.filtergen.specs.Parts.{is_unfragmented, number_of, of_transport}
+use Rattle.filtergen.specs.Ways.{is_first_fragment}
 
 -- no bit is set where the bits are 0
 pub no_bit : (v : Option ℕ) (m : ℕ) → opposite (check (λ n. if bit_and n m == 0 then false else true) v) ≡ check (λ n. bit_and n m == 0) v
@@ -108,3 +111,13 @@ any_bit (Some n) m = by_test (bit_and n m == 0)
     by_test : (b : Bool) → decided (if b then false else true) ≡ decided (not b)
     by_test true = refl
     by_test false = refl
+
+-- a first fragment of a protocol, or of any
+pub number-first : (asked : Option Transport) (p : Packet) → is_first_fragment asked p ≡ and_test (and_test (is_type 0x0800) (number_of asked)) is_unfragmented p
+number-first None p = refl
+number-first (Some transport) p = refl
+
+-- what the forms of any protocol share is tested once
+pub number-shared : (asked : Option Transport) (t : Test) (p : Packet) → and_test (and_test (and_test (is_type 0x0800) (number_of asked)) is_unfragmented) t p ≡ of_transport asked t p
+number-shared None t p = ports_shared (is_type 0x0800 p) (byte 23 p) (λ b. b == 6) (λ b. b == 17) (λ b. b == 132) (is_unfragmented p) (t p)
+number-shared (Some transport) t p = refl

@@ -10,7 +10,7 @@ use Rattle.filterlang.specs.declared.tree.Direction.TheVariants.{Src, Dst, SrcOr
 use Rattle.filtergen.specs.declared.code.Exits.{Exits}
 use Rattle.filtergen.specs.declared.verdict.Verdict.{Verdict}
 use Rattle.filtergen.specs.declared.verdict.Verdict.TheVariants.{Yes, No}
-use Rattle.filtergen.specs.Meaning.{Packet, HasBytes, Test, and_then, or_else, both, either, check, decided, byte, half, within, has_port, by_direction}
+use Rattle.filtergen.specs.Meaning.{Packet, HasBytes, Test, and_then, or_else, and_test, or_test, check, decided, byte, half, within, has_port, by_direction}
 use Rattle.filtergen.specs.Insns.{plain_insn}
 use Rattle.filtergen.specs.Parts.{directed, port_behind}
 use Rattle.filtergen.specs.Emission.{AreExits, HasCells, run_from, Answers, Passes, outcome, ChoosesBehind, with_loaded, same_index, Follows, Decides}
@@ -73,9 +73,9 @@ follows-one-port o low high {exits} {a} are jump =
 pub follows-either-port : {e f : ℕ} (low high : ℕ) {exits : Exits} {a b c : List Insn} → AreExits a exits
     → Follows same_index 7 (λ r. port_behind r.index low high 2) exits f a b
     → ChoosesBehind 6 (plain_insn 0x48 (14 + 0)) (λ r. within low high r.accumulator) (record { yes = exits.yes; no = f }) e b c
-    → Follows same_index 14 (λ r. either (port_behind r.index low high 0) (port_behind r.index low high 2)) exits e a c
+    → Follows same_index 14 (λ r. or_test (port_behind r.index low high 0) (port_behind r.index low high 2)) exits e a c
 follows-either-port low high {exits} {a} are second jump =
-    follows-same _ (λ r. either (port_behind r.index low high 0) (port_behind r.index low high 2)) (λ r p. by_value r p (half (r.index + (14 + 0)) p))
+    follows-same _ (λ r. or_test (port_behind r.index low high 0) (port_behind r.index low high 2)) (λ r p. by_value r p (half (r.index + (14 + 0)) p))
     (follows-port 0 low high (λ r p. Yes) (λ r. port_behind r.index low high 2) (follows-kept (λ r p. Yes) (follows-yes exits a (λ r. refl) are) second.extends) second jump)
   where
     by_choice : (t : Test) (p : Packet) (b : Bool) → one_of b (λ q. Yes) t p ≡ or_else (decided b) (t p)
@@ -89,9 +89,9 @@ follows-either-port low high {exits} {a} are second jump =
 pub follows-both-ports : {e f : ℕ} (low high : ℕ) {exits : Exits} {a b c : List Insn} → AreExits a exits
     → Follows same_index 7 (λ r. port_behind r.index low high 2) exits f a b
     → ChoosesBehind 6 (plain_insn 0x48 (14 + 0)) (λ r. within low high r.accumulator) (record { yes = f; no = exits.no }) e b c
-    → Follows same_index 14 (λ r. both (port_behind r.index low high 0) (port_behind r.index low high 2)) exits e a c
+    → Follows same_index 14 (λ r. and_test (port_behind r.index low high 0) (port_behind r.index low high 2)) exits e a c
 follows-both-ports low high {exits} {a} are second jump =
-    follows-same _ (λ r. both (port_behind r.index low high 0) (port_behind r.index low high 2)) (λ r p. by_value r p (half (r.index + (14 + 0)) p))
+    follows-same _ (λ r. and_test (port_behind r.index low high 0) (port_behind r.index low high 2)) (λ r p. by_value r p (half (r.index + (14 + 0)) p))
     (follows-port 0 low high (λ r. port_behind r.index low high 2) (λ r p. No) second (follows-kept (λ r p. No) (follows-no exits a (λ r. refl) are) second.extends) jump)
   where
     by_choice : (t : Test) (p : Packet) (b : Bool) → one_of b t (λ q. No) p ≡ and_then (decided b) (t p)

@@ -14,7 +14,7 @@ use Rattle.filterlang.specs.declared.tree.Primitive.TheVariants.{Protocol, Net, 
 use Rattle.filtergen.specs.declared.known.Known.{Known}
 use Rattle.filtergen.specs.declared.known.Known.TheVariants as known
 use Rattle.filtergen.specs.declared.verdict.Verdict.TheVariants.{Yes}
-use Rattle.filtergen.specs.Meaning.{Test, both, check, check_both, compared, byte, is_type, is_protocol, is_first, protocol_number, value}
+use Rattle.filtergen.specs.Meaning.{Test, and_test, check, check_both, compared, byte, is_type, is_protocol, is_first_fragment_of, protocol_number, value}
 use Rattle.filtergen.specs.Parts.{is_unfragmented}
 
 abbrev pub always : Test
@@ -24,35 +24,35 @@ always p = Yes
 abbrev pub shows : Known → Test
 shows known.Nothing = always
 shows (known.Type n) = is_type n
-shows (known.Number n) = is_protocol n
-shows (known.First n) = is_first n
+shows (known.Protocol n) = is_protocol n
+shows (known.FirstFragment n) = is_first_fragment_of n
 
 -- the type field is known to be this
 abbrev pub has_type : Known → ℕ → Bool
 has_type known.Nothing n = false
 has_type (known.Type m) n = n == m
-has_type (known.Number m) n = n == 0x0800
-has_type (known.First m) n = n == 0x0800
+has_type (known.Protocol m) n = n == 0x0800
+has_type (known.FirstFragment m) n = n == 0x0800
 
 -- IPv4 with this protocol number
-abbrev pub has_number : Known → ℕ → Bool
-has_number known.Nothing n = false
-has_number (known.Type m) n = false
-has_number (known.Number m) n = n == m
-has_number (known.First m) n = n == m
+abbrev pub has_protocol : Known → ℕ → Bool
+has_protocol known.Nothing n = false
+has_protocol (known.Type m) n = false
+has_protocol (known.Protocol m) n = n == m
+has_protocol (known.FirstFragment m) n = n == m
 
 -- and no later fragment
-abbrev pub has_first : Known → ℕ → Bool
-has_first known.Nothing n = false
-has_first (known.Type m) n = false
-has_first (known.Number m) n = false
-has_first (known.First m) n = n == m
+abbrev pub has_first_fragment : Known → ℕ → Bool
+has_first_fragment known.Nothing n = false
+has_first_fragment (known.Type m) n = false
+has_first_fragment (known.Protocol m) n = false
+has_first_fragment (known.FirstFragment m) n = n == m
 
 abbrev pub implies : Known → Known → Bool
 implies k known.Nothing = true
 implies k (known.Type n) = has_type k n
-implies k (known.Number n) = has_number k n
-implies k (known.First n) = has_first k n
+implies k (known.Protocol n) = has_protocol k n
+implies k (known.FirstFragment n) = has_first_fragment k n
 
 -- what is known behind one more test
 abbrev pub narrowed : Known → Known → Known
@@ -65,17 +65,17 @@ unless_known b t = if b then always else t
 abbrev pub rest_of_type : Known → ℕ → Test
 rest_of_type k n = unless_known (has_type k n) (is_type n)
 
-abbrev pub rest_of_number : Known → ℕ → Test
-rest_of_number k n = unless_known (has_number k n) (both (rest_of_type k 0x0800) (λ p. check (λ b. b == n) (byte 23 p)))
+abbrev pub rest_of_protocol : Known → ℕ → Test
+rest_of_protocol k n = unless_known (has_protocol k n) (and_test (rest_of_type k 0x0800) (λ p. check (λ b. b == n) (byte 23 p)))
 
-abbrev pub rest_of_first : Known → ℕ → Test
-rest_of_first k n = unless_known (has_first k n) (both (rest_of_number k n) is_unfragmented)
+abbrev pub rest_of_first_fragment : Known → ℕ → Test
+rest_of_first_fragment k n = unless_known (has_first_fragment k n) (and_test (rest_of_protocol k n) is_unfragmented)
 
 abbrev pub rest_of : Known → Known → Test
 rest_of k known.Nothing = always
 rest_of k (known.Type n) = rest_of_type k n
-rest_of k (known.Number n) = rest_of_number k n
-rest_of k (known.First n) = rest_of_first k n
+rest_of k (known.Protocol n) = rest_of_protocol k n
+rest_of k (known.FirstFragment n) = rest_of_first_fragment k n
 
 -- what an accessor's layer shows
 abbrev pub of_layer : Layer → Known
@@ -83,9 +83,9 @@ of_layer layers.Ether = known.Nothing
 of_layer layers.Ip = known.Type 0x0800
 of_layer layers.Arp = known.Type 0x0806
 of_layer layers.Rarp = known.Type 0x8035
-of_layer layers.Tcp = known.First 6
-of_layer layers.Udp = known.First 17
-of_layer layers.Icmp = known.First 1
+of_layer layers.Tcp = known.FirstFragment 6
+of_layer layers.Udp = known.FirstFragment 17
+of_layer layers.Icmp = known.FirstFragment 1
 
 -- what is known behind the layers of a value
 abbrev pub behind_layers : Known → Amount → Known
@@ -100,22 +100,22 @@ abbrev pub rest_of_layers : Known → Amount → Test
 rest_of_layers k (trees.number n) = always
 rest_of_layers k trees.wire_length = always
 rest_of_layers k (trees.minus v) = rest_of_layers k v
-rest_of_layers k (trees.binary o v w) = both (rest_of_layers k v) (rest_of_layers (behind_layers k v) w)
-rest_of_layers k (trees.accessor layer v size) = both (rest_of k (of_layer layer)) (rest_of_layers (narrowed k (of_layer layer)) v)
+rest_of_layers k (trees.binary o v w) = and_test (rest_of_layers k v) (rest_of_layers (behind_layers k v) w)
+rest_of_layers k (trees.accessor layer v size) = and_test (rest_of k (of_layer layer)) (rest_of_layers (narrowed k (of_layer layer)) v)
 
 abbrev pub rest_of_relation : Known → Comparison → Amount → Amount → Test
 rest_of_relation k c v w =
-    both (both (rest_of_layers k v) (rest_of_layers (behind_layers k v) w)) (λ p. check_both (compared c) (value v p) (value w p))
+    and_test (and_test (rest_of_layers k v) (rest_of_layers (behind_layers k v) w)) (λ p. check_both (compared c) (value v p) (value w p))
 
 -- what a primitive shows where it is passed
 abbrev pub of_plain : Plain → Known
 of_plain words.Ip = known.Type 0x0800
 of_plain words.Arp = known.Type 0x0806
 of_plain words.Rarp = known.Type 0x8035
-of_plain words.Icmp = known.Number 1
-of_plain words.Tcp = known.Number 6
-of_plain words.Udp = known.Number 17
-of_plain words.Sctp = known.Number 132
+of_plain words.Icmp = known.Protocol 1
+of_plain words.Tcp = known.Protocol 6
+of_plain words.Udp = known.Protocol 17
+of_plain words.Sctp = known.Protocol 132
 
 abbrev pub of_network : Network → Known
 of_network networks.Ip = known.Type 0x0800
@@ -127,9 +127,9 @@ of_primitive (Protocol word) = of_plain word
 of_primitive (Net (Some network) direction address mask) = of_network network
 of_primitive (Net None direction address mask) = known.Nothing
 of_primitive (EtherHost direction address) = known.Nothing
-of_primitive (Ports (Some transport) direction low high) = known.First (protocol_number transport)
+of_primitive (Ports (Some transport) direction low high) = known.FirstFragment (protocol_number transport)
 of_primitive (Ports None direction low high) = known.Nothing
-of_primitive (IpProto n) = known.Number n
+of_primitive (IpProto n) = known.Protocol n
 of_primitive (EtherProto n) = known.Type n
 of_primitive EtherBroadcast = known.Nothing
 of_primitive EtherMulticast = known.Nothing

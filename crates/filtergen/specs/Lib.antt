@@ -7,4 +7,5 @@ pub mod Parts
 pub mod Knowing
 pub mod Reaching
 pub mod Trimming
+pub mod Lists
 pub mod Expressions

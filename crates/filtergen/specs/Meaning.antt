@@ -59,14 +59,14 @@ opposite Yes = No
 opposite No = Yes
 opposite Abort = Abort
 
-abbrev pub both : Test → Test → Test
-both t u p = and_then (t p) (u p)
+abbrev pub and_test : Test → Test → Test
+and_test t u p = and_then (t p) (u p)
 
-abbrev pub either : Test → Test → Test
-either t u p = or_else (t p) (u p)
+abbrev pub or_test : Test → Test → Test
+or_test t u p = or_else (t p) (u p)
 
-abbrev pub negation : Test → Test
-negation t p = opposite (t p)
+abbrev pub not_test : Test → Test
+not_test t p = opposite (t p)
 
 abbrev pub decided : Bool → Verdict
 decided true = Yes
@@ -96,11 +96,11 @@ is_type t p = check (λ n. n == t) (half 12 p)
 
 -- ip proto n: IPv4 with this protocol number
 abbrev pub is_protocol : ℕ → Test
-is_protocol n = both (is_type 0x0800) (λ p. check (λ b. b == n) (byte 23 p))
+is_protocol n = and_test (is_type 0x0800) (λ p. check (λ b. b == n) (byte 23 p))
 
 -- the same, and no later fragment
-abbrev pub is_first : ℕ → Test
-is_first n = both (is_protocol n) (λ p. check (λ b. bit_and b 0x1fff == 0) (half 20 p))
+abbrev pub is_first_fragment_of : ℕ → Test
+is_first_fragment_of n = and_test (is_protocol n) (λ p. check (λ b. bit_and b 0x1fff == 0) (half 20 p))
 
 -- ip, arp, rarp, icmp, tcp, udp, sctp
 abbrev pub plain_test : Plain → Test
@@ -116,8 +116,8 @@ plain_test words.Sctp = is_protocol 132
 abbrev pub by_direction : Direction → Test → Test → Test
 by_direction Src source destination = source
 by_direction Dst source destination = destination
-by_direction SrcOrDst source destination = either source destination
-by_direction SrcAndDst source destination = both source destination
+by_direction SrcOrDst source destination = or_test source destination
+by_direction SrcAndDst source destination = and_test source destination
 
 -- the four bytes of an IPv4 address under a mask; a host has a mask of ones
 abbrev pub has_address : ℕ → ℕ → ℕ → Test
@@ -126,18 +126,18 @@ has_address address mask o p = check (λ w. bit_and w mask == address) (word o p
 -- ip, arp or rarp host and net
 abbrev pub in_net : Network → Direction → ℕ → ℕ → Test
 in_net networks.Ip direction address mask =
-    both (is_type 0x0800) (by_direction direction (has_address address mask 26) (has_address address mask 30))
+    and_test (is_type 0x0800) (by_direction direction (has_address address mask 26) (has_address address mask 30))
 in_net networks.Arp direction address mask =
-    both (is_type 0x0806) (by_direction direction (has_address address mask 28) (has_address address mask 38))
+    and_test (is_type 0x0806) (by_direction direction (has_address address mask 28) (has_address address mask 38))
 in_net networks.Rarp direction address mask =
-    both (is_type 0x8035) (by_direction direction (has_address address mask 28) (has_address address mask 38))
+    and_test (is_type 0x8035) (by_direction direction (has_address address mask 28) (has_address address mask 38))
 
 -- host and net without a protocol: the ip, then the arp, then the rarp form
 abbrev pub in_any_net : Option Network → Direction → ℕ → ℕ → Test
 in_any_net (Some network) direction address mask = in_net network direction address mask
 in_any_net None direction address mask =
-    either
-    (either (in_net networks.Ip direction address mask) (in_net networks.Arp direction address mask))
+    or_test
+    (or_test (in_net networks.Ip direction address mask) (in_net networks.Arp direction address mask))
     (in_net networks.Rarp direction address mask)
 
 -- the number that six octets are in network order
@@ -162,7 +162,7 @@ has_port low high o p = check (within low high) (half_behind_header o p)
 
 -- port and portrange of a protocol number: the source port stands first behind the header, then the destination port
 abbrev pub has_ports : ℕ → Direction → ℕ → ℕ → Test
-has_ports n direction low high = both (is_first n) (by_direction direction (has_port low high 0) (has_port low high 2))
+has_ports n direction low high = and_test (is_first_fragment_of n) (by_direction direction (has_port low high 0) (has_port low high 2))
 
 abbrev pub protocol_number : Transport → ℕ
 protocol_number transports.Tcp = 6
@@ -173,8 +173,8 @@ protocol_number transports.Sctp = 132
 abbrev pub has_any_ports : Option Transport → Direction → ℕ → ℕ → Test
 has_any_ports (Some transport) direction low high = has_ports (protocol_number transport) direction low high
 has_any_ports None direction low high =
-    either
-    (either (has_ports 6 direction low high) (has_ports 17 direction low high))
+    or_test
+    (or_test (has_ports 6 direction low high) (has_ports 17 direction low high))
     (has_ports 132 direction low high)
 
 -- a primitive's test
@@ -188,7 +188,7 @@ primitive_test (IpProto n) = is_protocol n
 primitive_test (EtherProto n) = is_type n
 primitive_test EtherBroadcast = (λ p. check (λ n. n == 0xffffffffffff) (six 0 p))
 primitive_test EtherMulticast = (λ p. check (λ b. not (bit_and b 1 == 0)) (byte 0 p))
-primitive_test IpMulticast = both (is_type 0x0800) (λ p. check (λ b. nat_le 224 b) (byte 30 p))
+primitive_test IpMulticast = and_test (is_type 0x0800) (λ p. check (λ b. nat_le 224 b) (byte 30 p))
 primitive_test (Less n) = (λ p. decided (nat_le p.wire n))
 primitive_test (Greater n) = (λ p. decided (nat_le n p.wire))
 
@@ -248,17 +248,17 @@ in_layer layers.Ether = (λ p. Yes)
 in_layer layers.Ip = is_type 0x0800
 in_layer layers.Arp = is_type 0x0806
 in_layer layers.Rarp = is_type 0x8035
-in_layer layers.Tcp = is_first 6
-in_layer layers.Udp = is_first 17
-in_layer layers.Icmp = is_first 1
+in_layer layers.Tcp = is_first_fragment_of 6
+in_layer layers.Udp = is_first_fragment_of 17
+in_layer layers.Icmp = is_first_fragment_of 1
 
 -- and the layers of all accessors, in the order of their words
 abbrev pub in_layers : Amount → Test
 in_layers (trees.number n) = (λ p. Yes)
 in_layers trees.wire_length = (λ p. Yes)
 in_layers (trees.minus v) = in_layers v
-in_layers (trees.binary o v w) = both (in_layers v) (in_layers w)
-in_layers (trees.accessor layer v size) = both (in_layer layer) (in_layers v)
+in_layers (trees.binary o v w) = and_test (in_layers v) (in_layers w)
+in_layers (trees.accessor layer v size) = and_test (in_layer layer) (in_layers v)
 
 -- the comparisons are of numbers without sign
 abbrev pub compared : Comparison → ℕ → ℕ → Bool
@@ -277,16 +277,16 @@ check_both condition (Some a) (Some b) = decided (condition a b)
 
 -- a relation: first the layers of its accessors, then the left value and the right one
 abbrev pub relation_test : Comparison → Amount → Amount → Test
-relation_test c v w = both (both (in_layers v) (in_layers w)) (λ p. check_both (compared c) (value v p) (value w p))
+relation_test c v w = and_test (and_test (in_layers v) (in_layers w)) (λ p. check_both (compared c) (value v p) (value w p))
 
 -- an expression's test; the empty expression is always Yes
 abbrev pub meaning : Tree → Test
 meaning trees.everything = (λ p. Yes)
 meaning (trees.test primitive) = primitive_test primitive
 meaning (trees.relation c v w) = relation_test c v w
-meaning (trees.negation t) = negation (meaning t)
-meaning (trees.both t u) = both (meaning t) (meaning u)
-meaning (trees.either t u) = either (meaning t) (meaning u)
+meaning (trees.negation t) = not_test (meaning t)
+meaning (trees.both t u) = and_test (meaning t) (meaning u)
+meaning (trees.either t u) = or_test (meaning t) (meaning u)
 
 abbrev pub is_yes : Verdict → Bool
 is_yes Yes = true

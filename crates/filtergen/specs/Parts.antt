@@ -11,6 +11,7 @@ use Rattle.filterlang.specs.declared.tree.Plain.{Plain}
 use Rattle.filterlang.specs.declared.tree.Plain.TheVariants as words
 use Rattle.filterlang.specs.declared.tree.Primitive.{Primitive}
 use Rattle.filterlang.specs.declared.tree.Primitive.TheVariants.{Protocol, Net, EtherHost, Ports, IpProto, EtherProto, EtherBroadcast, EtherMulticast, IpMulticast, Less, Greater}
+use Rattle.filterlang.specs.declared.tree.Transport.{Transport}
 use Rattle.filterlang.specs.declared.tree.Direction.{Direction}
 use Rattle.filterlang.specs.declared.tree.Direction.TheVariants.{Src, Dst, SrcOrDst, SrcAndDst}
 use Rattle.filtergen.specs.declared.verdict.Verdict.{Verdict}
@@ -22,7 +23,7 @@ use Rattle.filtergen.specs.declared.values.Leaf.{Leaf}
 use Rattle.filtergen.specs.declared.values.Leaf.TheVariants as leaves
 use Rattle.filtergen.specs.declared.values.Base.{Base}
 use Rattle.filtergen.specs.declared.values.Base.TheVariants as bases
-use Rattle.filtergen.specs.Meaning.{Packet, arithmetic_of, in_frame, behind_ethernet, behind_header, Test, and_then, or_else, both, either, check, byte, half, is_type, has_address, is_address, within}
+use Rattle.filtergen.specs.Meaning.{Packet, arithmetic_of, in_frame, behind_ethernet, behind_header, Test, and_then, or_else, and_test, or_test, check, byte, half, is_type, is_first_fragment_of, protocol_number, has_address, is_address, within}
 
 -- the verdict of the source, that of the destination, or that of both
 abbrev pub directed : Direction → Verdict → Verdict → Verdict
@@ -54,13 +55,23 @@ is_unfragmented p = check (λ b. bit_and b 0x1fff == 0) (half 20 p)
 -- one of the protocol numbers of IPv4 that have ports
 abbrev pub has_port_number : Test
 has_port_number =
-    either
-    (either (λ p. check (λ b. b == 6) (byte 23 p)) (λ p. check (λ b. b == 17) (byte 23 p)))
+    or_test
+    (or_test (λ p. check (λ b. b == 6) (byte 23 p)) (λ p. check (λ b. b == 17) (byte 23 p)))
     (λ p. check (λ b. b == 132) (byte 23 p))
+
+-- the protocol number of a transport protocol, or of any
+abbrev pub number_of : Option Transport → Test
+number_of None = has_port_number
+number_of (Some transport) = (λ p. check (λ b. b == protocol_number transport) (byte 23 p))
+
+-- a test of a first fragment of a protocol, or of any: the tcp, then the udp, then the sctp form
+abbrev pub of_transport : Option Transport → Test → Test
+of_transport None t = or_test (or_test (and_test (is_first_fragment_of 6) t) (and_test (is_first_fragment_of 17) t)) (and_test (is_first_fragment_of 132) t)
+of_transport (Some transport) t = and_test (is_first_fragment_of (protocol_number transport)) t
 
 -- IPv4 with one of them, and no later fragment
 abbrev pub is_any_first : Test
-is_any_first = both (both (is_type 0x0800) has_port_number) is_unfragmented
+is_any_first = and_test (and_test (is_type 0x0800) has_port_number) is_unfragmented
 
 abbrev pub plain_cost : Plain → ℕ
 plain_cost words.Ip = 4
@@ -77,8 +88,7 @@ cost (Protocol word) = plain_cost word
 cost (Net (Some network) direction address mask) = 14
 cost (Net None direction address mask) = 30
 cost (EtherHost direction address) = 16
-cost (Ports (Some transport) direction low high) = 27
-cost (Ports None direction low high) = 33
+cost (Ports transport direction low high) = 33
 cost (IpProto n) = 8
 cost (EtherProto n) = 4
 cost EtherBroadcast = 8

@@ -1,20 +1,21 @@
 -- What code does that goes on by what is known of the packet. Private clauses alone say this.
-use Rattle.std.specs.Prelude.{◌≡◌, ℕ, List, Option, Some, None}
+use Rattle.std.specs.Prelude.{◌≡◌, ◌⊎◌, ℕ, ◌+◌, List, Option, Some, None}
 use Rattle.bpfvm.specs.declared.insn.Insn.{Insn}
 use Rattle.filterlang.specs.declared.tree.Transport.{Transport}
 use Rattle.filtergen.specs.declared.ways.Way.{Way}
 use Rattle.filtergen.specs.declared.ways.Ways.{Ways}
 use Rattle.filtergen.specs.declared.verdict.Verdict.TheVariants.{Yes, No}
-use Rattle.filtergen.specs.Meaning.{Packet, HasBytes, Test, is_type, is_first, protocol_number}
-use Rattle.filtergen.specs.Parts.{is_any_first}
-use Rattle.filtergen.specs.Emission.{IsPlace, Answers, Extends, outcome}
+use Rattle.filtergen.specs.Meaning.{Packet, HasBytes, Test, and_test, is_type, is_first_fragment_of, protocol_number}
+use Rattle.filtergen.specs.Parts.{is_any_first, of_transport}
+use Rattle.filtergen.specs.Emission.{IsPlace, Answers, Extends, outcome, Decides}
+use Rattle.filtergen.specs.declared.code.Exits.{Exits}
 use Rattle.filtergen.specs.declared.known.Known.{Known}
 use Rattle.filtergen.specs.Knowing.{shows}
 
 -- IPv4 of this protocol, or of any that has ports, and no later fragment
 abbrev pub is_first_fragment : Option Transport → Test
 is_first_fragment None = is_any_first
-is_first_fragment (Some transport) = is_first (protocol_number transport)
+is_first_fragment (Some transport) = is_first_fragment_of (protocol_number transport)
 
 -- The run from a place has one answer, whatever the registers are, and where something is known it is this one. (There is an
 -- answer in any case, since a test wants one of both its exits, also of the exit that it does not take.)
@@ -68,3 +69,25 @@ pub record DecidesBehind (known : Known) (most : ℕ) (test : Test) (ways : Ways
   pub here : IsWay new entry
   pub decides : (p : Packet) (m n : ℕ) → HasBytes p → Serves old ways.yes p m → Serves old ways.no p n
       → ServesKnown new entry p (outcome (test p) m n) (shows known p ≡ Yes)
+
+-- a place for IPv4, or one for first fragments of this protocol or of any
+abbrev pub IsFor : Option Transport → ℕ → Way → Type 0
+IsFor transport place way = (place ≡ way.ip) ⊎ ((place ≡ way.first_fragment) × ((way.transport ≡ None) ⊎ (way.transport ≡ transport)))
+
+-- The test of IPv4, unless it is known, comes in front of whatever test stands at a place.
+pub record GuardsIp (known : Known) (place : ℕ) (ways : Ways) (entry : Way) (old new : List Insn) : Type 0 where
+  pub guards : (most : ℕ) (test : Test) (before : List Insn) → AreWays before ways
+      → Decides most test (record { yes = ways.yes.ip; no = ways.no.ip }) place before old
+      → DecidesBehind known (most + 4) (and_test (is_type 0x0800) test) ways entry before new
+
+-- That of a first fragment does.
+pub record GuardsPorts (asked : Option Transport) (place : ℕ) (ways : Ways) (entry : Way) (old new : List Insn) : Type 0 where
+  pub guards : (most : ℕ) (test : Test) (exits : Exits) (before : List Insn) → AreWays before ways
+      → IsFor asked exits.yes ways.yes → IsFor asked exits.no ways.no → Decides most test exits place before old
+      → DecidesBy (most + 18) (of_transport asked test) ways entry before new
+
+-- It does where the packet is known to be of the protocol.
+pub record GuardsKnown (known : Known) (asked : Option Transport) (transport : Transport) (place : ℕ) (ways : Ways) (entry : Way) (old new : List Insn) : Type 0 where
+  pub guards : (most : ℕ) (test : Test) (exits : Exits) (before : List Insn) → AreWays before ways
+      → IsFor (Some transport) exits.yes ways.yes → IsFor (Some transport) exits.no ways.no → Decides most test exits place before old
+      → DecidesBehind known (most + 4) (of_transport asked test) ways entry before new

@@ -5,9 +5,10 @@ ghost use Rattle.std.specs.Prelude.{◌≡◌, ◌+◌, ◌≤◌, ◌⊎◌, tr
 ghost use Rattle.std.specs.Bool.{OnTrue};
 ghost use Rattle.filterlang.specs.declared.tree.Network.TheVariants as networks;
 ghost use Rattle.filtergen.specs.Meaning.{is_protocol, plain_test, in_any_net, has_any_ports, protocol_number, primitive_test};
-ghost use Rattle.filtergen.specs.Knowing.{has_type, has_number};
+ghost use Rattle.filtergen.specs.Knowing.{has_type, has_protocol};
 ghost use Rattle.filtergen.specs.Parts.{plain_cost, cost};
-ghost use Rattle.filtergen.specs.Ways.{AreWays, DecidesBehind};
+ghost use Rattle.filtergen.specs.Emission.{IsPlace};
+ghost use Rattle.filtergen.specs.Ways.{AreWays, DecidesBehind, GuardsIp, GuardsKnown};
 
 use crate::code::{Code, Exits};
 use crate::known::Known;
@@ -27,26 +28,36 @@ fn may_be_ip(network: Option<Network>) -> bool
 }
 
 impl Code {
-    /// A port from low to high, where the packet is known to be of this protocol.
-    fn ports_known(
+    /// IPv4, unless that is known, and behind it the test at a place, which is for a packet of IPv4.
+    pub fn behind_ip_unless(&mut self, known: Known, inner: usize, ways: Ways) -> Way
+        requires room { length self.old + 4 ≤ 512 }
+        requires inner { IsPlace self.old inner }
+        requires other { IsPlace self.old ways.no.other }
+        ensures { GuardsIp known inner ways result self.old self.new }
+    {
+        if known.has_type(IP) {
+            return Way::to(inner);
+        }
+        self.behind_ip(inner, ways.no.other)
+    }
+
+    /// A first fragment, and behind it the test at a place, where the packet is known to be of this protocol.
+    pub fn behind_known_transport(
         &mut self,
         known: Known,
         asked: Option<Transport>,
         transport: Transport,
-        direction: Direction,
-        low: u32,
-        high: u32,
+        first_fragment: usize,
         ways: Ways,
     ) -> Way
-        requires known { has_number known (protocol_number transport) ≡ true }
+        requires known { has_protocol known (protocol_number transport) ≡ true }
         requires asked { (asked ≡ None) ⊎ (asked ≡ Some transport) }
-        requires room { length self.old + 27 ≤ 512 }
-        requires ways { AreWays self.old ways }
-        ensures { DecidesBehind known 27 (has_any_ports asked direction low high) ways result self.old self.new }
+        requires room { length self.old + 4 ≤ 512 }
+        requires first_fragment { IsPlace self.old first_fragment }
+        requires ip { IsPlace self.old ways.no.ip }
+        ensures { GuardsKnown known asked transport first_fragment ways result self.old self.new }
     {
-        let exits = ways.first_fragment_exits(Some(transport));
-        let first_fragment = self.ports_behind_header(direction, low, high, exits);
-        if known.has_first(protocol_number(transport)) {
+        if known.has_first_fragment(protocol_number(transport)) {
             return Way::to(first_fragment);
         }
         let any = self.unfragmented(Exits {
@@ -58,6 +69,28 @@ impl Code {
             transport: Some(transport),
             ..Way::to(any)
         }
+    }
+
+    /// A port from low to high, where the packet is known to be of this protocol.
+    fn ports_known(
+        &mut self,
+        known: Known,
+        asked: Option<Transport>,
+        transport: Transport,
+        direction: Direction,
+        low: u32,
+        high: u32,
+        ways: Ways,
+    ) -> Way
+        requires known { has_protocol known (protocol_number transport) ≡ true }
+        requires asked { (asked ≡ None) ⊎ (asked ≡ Some transport) }
+        requires room { length self.old + 19 ≤ 512 }
+        requires ways { AreWays self.old ways }
+        ensures { DecidesBehind known 19 (has_any_ports asked direction low high) ways result self.old self.new }
+    {
+        let exits = ways.first_fragment_exits(Some(transport));
+        let first_fragment = self.ports_behind_header(direction, low, high, exits);
+        self.behind_known_transport(known, asked, transport, first_fragment, ways)
     }
 
     /// A host or a net of IPv4, where the packet is known to be of it.
@@ -86,7 +119,7 @@ impl Code {
         requires ways { AreWays self.old ways }
         ensures { DecidesBehind known 8 (is_protocol number) ways result self.old self.new }
     {
-        if known.has_number(number) {
+        if known.has_protocol(number) {
             return ways.yes;
         }
         if known.has_type(IP) {

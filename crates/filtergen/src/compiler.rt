@@ -1,6 +1,6 @@
 //! Expressions to programs.
 
-ghost use Rattle.std.specs.Prelude.{◌≡◌, ◌≢◌, ◌↔◌, ℕ, ◌+◌, ◌<◌, ◌≤◌, length, Err, IfOk, MatchResult};
+ghost use Rattle.std.specs.Prelude.{◌≡◌, ◌≢◌, ◌↔◌, ℕ, ◌+◌, ◌<◌, ◌≤◌, length, Some, None, Err, IfOk, MatchOption, MatchResult};
 ghost use Rattle.filterlang.specs.Trees.{tree_of};
 ghost use Rattle.filtergen.specs.Meaning.{primitive_test, meaning};
 ghost use Rattle.filtergen.specs.Parts.{cost};
@@ -8,9 +8,11 @@ ghost use Rattle.filtergen.specs.Compiling.{weight, need, StandsFor, IsBadSnap};
 ghost use Rattle.filtergen.specs.Reaching.{IsAllReached};
 ghost use Rattle.filtergen.specs.Emission.{OrFull};
 ghost use Rattle.filtergen.specs.Ways.{AreWays, DecidesBehind, RenewsBoth};
+ghost use Rattle.filtergen.specs.Lists.{EmitsList};
 
 use crate::code::{Code, Full};
 use crate::known::Known;
+use crate::lists::Neighbours;
 use crate::primitives::cost;
 use crate::refusal::Refusal;
 use crate::ways::{Way, Ways};
@@ -30,7 +32,42 @@ struct Emitted {
     ways: Ways,
 }
 
+/// A list of which the code is there.
+#[derive(Clone, Copy)]
+struct Listed<'a> {
+    emitted: Emitted,
+    /// What stands to its left.
+    left: Option<&'a Expr>,
+}
+
 impl Code {
+    /// What is left of the list at the right end of an `or` of these two, where one is. The list takes some memory of the stack,
+    /// which is not to be in each frame of the walk down a tree.
+    #[inline(never)]
+    fn list<'a>(
+        &mut self,
+        known: Known,
+        left: &'a Expr,
+        right: &Expr,
+        ways: Ways,
+    ) -> Result<Option<Listed<'a>>, Full>
+        requires ways { AreWays self.old ways }
+        ensures { OrFull (weight (tree_of left.now) + weight (tree_of right.now)) self.old result (λ found.
+            MatchOption found (self.new ≡ self.old) (λ listed. MatchOption listed.left
+            (EmitsList known (tree_of left.now) (tree_of right.now) None ways listed.emitted.ways listed.emitted.entry self.old self.new)
+            (λ rest. EmitsList known (tree_of left.now) (tree_of right.now) (Some (tree_of rest.now)) ways listed.emitted.ways
+            listed.emitted.entry self.old self.new))) }
+    {
+        let Some((list, left)) = Neighbours::at_end(left, right) else {
+            return Ok(None);
+        };
+        self.room(2)?;
+        let ways = self.renew(ways);
+        let entry = self.listed(known, list.kind, list.spans.as_slice(), ways)?;
+        let emitted = Emitted { entry, ways };
+        Ok(Some(Listed { emitted, left }))
+    }
+
     /// What is left of a primitive. Its ways are renewed first, so that its jumps and those in front of it reach them.
     fn reached_primitive(&mut self, known: Known, primitive: Primitive, ways: Ways) -> Emitted
         requires room { length self.old + (2 + cost primitive) ≤ 512 }
@@ -82,6 +119,17 @@ impl Code {
                 Ok(Emitted { entry, ways })
             }
             Expr::Or(left, right) => {
+                if let Some(listed) = self.list(known, left, right, ways)? {
+                    let Some(left) = listed.left else {
+                        return Ok(listed.emitted);
+                    };
+                    let second = listed.emitted;
+                    let (yes, no) = (second.ways.yes, second.entry);
+                    let first = self.expression(known, left, Ways { yes, no })?;
+                    let (yes, no) = (first.ways.yes, second.ways.no);
+                    let (entry, ways) = (first.entry, Ways { yes, no });
+                    return Ok(Emitted { entry, ways });
+                }
                 let second = self.expression(known, right, ways)?;
                 let (yes, no) = (second.ways.yes, second.entry);
                 let first = self.expression(known, left, Ways { yes, no })?;

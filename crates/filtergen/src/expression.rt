@@ -1,6 +1,6 @@
 //! An expression's program.
 
-ghost use Rattle.std.specs.Prelude.{◌≡◌, ◌<◌, ◌≤◌, length, IfOk, IfErr, IsErr, IsOkUnless};
+ghost use Rattle.std.specs.Prelude.{◌≡◌, ◌<◌, ◌≤◌, ◌↔◌, length, IfOk, IfErr, IsErr, IsErrOf, IsOkUnless};
 ghost use Rattle.filterlang.specs.Texts.{ReadsAs};
 ghost use Rattle.filterlang.specs.Trees.{Tree};
 ghost use Rattle.filtergen.specs.Compiling.{need, Fits, IsBadSnap};
@@ -28,13 +28,15 @@ pub enum ExpressionFault {
 /// The program of an expression: it answers the snapshot length where the expression accepts a packet, and else 0. Some
 /// path of jumps leads from its first instruction to each of the others.
 ///
-/// The text is read first, and refused as [`parse`] refuses it, for want of memory too. Its tree is refused as [`compile`]
-/// refuses it, and only where it reads: the first that stands of `BadSnap`, `TooDeep` and `TooLong`.
+/// The text is read first, and refused as [`parse`] refuses it, for want of memory too: exactly a text of more than 8,192
+/// bytes is refused as too long. Its tree is refused as [`compile`] refuses it, and only where it reads: the first that
+/// stands of `BadSnap`, `TooDeep` and `TooLong`.
 pub fn compile_text(alloc: Global, text: &str, snap: u32) -> Result<Program, ExpressionFault>
     ensures program { IfOk result (λ program. IsProgramOf text.now snap program) }
     ensures reached { IfOk result IsAllReached }
     // Why there is none, and when there is one: a snapshot length out of range gives none, nor does a tree that is too deep.
     ensures fault { IfErr result (IsUncompiled text.now snap) }
+    ensures text_too_long { IsErrOf result (ExpressionFault.Text Fault.TextTooLong) ↔ (8192 < length text.now) }
     ensures bad_snap { IsBadSnap snap → IsErr result }
     ensures too_deep { (tree : Tree) → ReadsAs text.now tree → 16 < need tree → IsErr result }
     ensures fits { (tree : Tree) → length text.now ≤ 8192 → ReadsAs text.now tree → Fits tree snap →

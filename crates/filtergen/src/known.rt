@@ -3,7 +3,7 @@
 ghost use Rattle.std.specs.Prelude.{◌≡◌, ◌⊎◌, true, Some, None, IfSome};
 ghost use Rattle.filtergen.specs.Meaning.{protocol_number};
 ghost use Rattle.filterlang.specs.Trees.{amount_of, tree_of};
-ghost use Rattle.filtergen.specs.Knowing.{has_type, has_number, has_first, implies, narrowed, of_layer, of_plain, of_network, of_primitive, behind_layers, behind, LOOK_BACK};
+ghost use Rattle.filtergen.specs.Knowing.{has_type, has_protocol, has_first_fragment, implies, narrowed, of_layer, of_plain, of_network, of_primitive, behind_layers, behind, LOOK_BACK};
 
 use crate::primitives::{ARP, IP, RARP, protocol_number};
 use filterlang::{Expr, Layer, Network, Plain, Primitive, Transport, Value};
@@ -19,9 +19,9 @@ pub(crate) enum Known {
     /// The Ethernet type.
     Type(u32),
     /// That it is IPv4 with this protocol number.
-    Number(u32),
+    Protocol(u32),
     /// The same, and that it is no later fragment.
-    First(u32),
+    FirstFragment(u32),
 }
 
 impl Known {
@@ -32,27 +32,27 @@ impl Known {
         match self {
             Known::Nothing => false,
             Known::Type(own) => number == own,
-            Known::Number(_) | Known::First(_) => number == IP,
+            Known::Protocol(_) | Known::FirstFragment(_) => number == IP,
         }
     }
 
     /// Whether it is known to be IPv4 with this protocol number.
-    pub fn has_number(self, number: u32) -> bool
-        ensures { result ≡ has_number self number }
+    pub fn has_protocol(self, number: u32) -> bool
+        ensures { result ≡ has_protocol self number }
     {
         match self {
             Known::Nothing | Known::Type(_) => false,
-            Known::Number(own) | Known::First(own) => number == own,
+            Known::Protocol(own) | Known::FirstFragment(own) => number == own,
         }
     }
 
     /// The same, and that it is no later fragment.
-    pub fn has_first(self, number: u32) -> bool
-        ensures { result ≡ has_first self number }
+    pub fn has_first_fragment(self, number: u32) -> bool
+        ensures { result ≡ has_first_fragment self number }
     {
         match self {
-            Known::Nothing | Known::Type(_) | Known::Number(_) => false,
-            Known::First(own) => number == own,
+            Known::Nothing | Known::Type(_) | Known::Protocol(_) => false,
+            Known::FirstFragment(own) => number == own,
         }
     }
 
@@ -62,8 +62,8 @@ impl Known {
         match fact {
             Known::Nothing => true,
             Known::Type(number) => self.has_type(number),
-            Known::Number(number) => self.has_number(number),
-            Known::First(number) => self.has_first(number),
+            Known::Protocol(number) => self.has_protocol(number),
+            Known::FirstFragment(number) => self.has_first_fragment(number),
         }
     }
 
@@ -83,9 +83,9 @@ impl Known {
             Layer::Ip => Known::Type(IP),
             Layer::Arp => Known::Type(ARP),
             Layer::Rarp => Known::Type(RARP),
-            Layer::Tcp => Known::First(6),
-            Layer::Udp => Known::First(17),
-            Layer::Icmp => Known::First(1),
+            Layer::Tcp => Known::FirstFragment(6),
+            Layer::Udp => Known::FirstFragment(17),
+            Layer::Icmp => Known::FirstFragment(1),
         }
     }
 
@@ -96,10 +96,10 @@ impl Known {
             Plain::Ip => Known::Type(IP),
             Plain::Arp => Known::Type(ARP),
             Plain::Rarp => Known::Type(RARP),
-            Plain::Icmp => Known::Number(1),
-            Plain::Tcp => Known::Number(6),
-            Plain::Udp => Known::Number(17),
-            Plain::Sctp => Known::Number(132),
+            Plain::Icmp => Known::Protocol(1),
+            Plain::Tcp => Known::Protocol(6),
+            Plain::Udp => Known::Protocol(17),
+            Plain::Sctp => Known::Protocol(132),
         }
     }
 
@@ -124,10 +124,10 @@ impl Known {
                 None => Known::Nothing,
             },
             Primitive::Ports { transport, .. } => match transport {
-                Some(transport) => Known::First(protocol_number(transport)),
+                Some(transport) => Known::FirstFragment(protocol_number(transport)),
                 None => Known::Nothing,
             },
-            Primitive::IpProto(number) => Known::Number(u32::from(number)),
+            Primitive::IpProto(number) => Known::Protocol(u32::from(number)),
             Primitive::EtherProto(number) => Known::Type(u32::from(number)),
             Primitive::IpMulticast => Known::Type(IP),
             Primitive::EtherHost { .. } | Primitive::EtherBroadcast => Known::Nothing,
@@ -139,15 +139,15 @@ impl Known {
     /// The protocol of the packet, where it is known to be one whose ports are asked for. `None` asks for any that has ports.
     pub fn transport_of(self, asked: Option<Transport>) -> Option<Transport>
         ensures { IfSome result
-            (λ t. (has_number self (protocol_number t) ≡ true) × ((asked ≡ None) ⊎ (asked ≡ Some t))) }
+            (λ t. (has_protocol self (protocol_number t) ≡ true) × ((asked ≡ None) ⊎ (asked ≡ Some t))) }
     {
         let transport = match asked {
             Some(transport) => transport,
-            None if self.has_number(6) => Transport::Tcp,
-            None if self.has_number(17) => Transport::Udp,
+            None if self.has_protocol(6) => Transport::Tcp,
+            None if self.has_protocol(17) => Transport::Udp,
             None => Transport::Sctp,
         };
-        if self.has_number(protocol_number(transport)) {
+        if self.has_protocol(protocol_number(transport)) {
             Some(transport)
         } else {
             None

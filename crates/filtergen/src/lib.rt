@@ -6,6 +6,7 @@
 //! [`compile_text`] reads the text too, and takes memory for its tree.
 #![tactic(auto)]
 
+mod among;
 mod arithmetic;
 mod behind;
 mod code;
@@ -14,6 +15,8 @@ mod evaluator;
 mod expression;
 mod insns;
 mod known;
+mod listed;
+mod lists;
 mod primitives;
 mod refusal;
 mod relations;
@@ -24,7 +27,7 @@ mod ways;
 mod weighing;
 
 pub use compiler::{MAX_SNAP, compile};
-pub use evaluator::evaluate;
+pub use evaluator::{evaluate, value_of};
 pub use expression::{ExpressionFault, compile_text};
 pub use refusal::Refusal;
 pub use verdict::Verdict;

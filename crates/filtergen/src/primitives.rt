@@ -2,11 +2,11 @@
 
 ghost use Rattle.std.specs.Prelude.{◌≡◌, ℕ, ◌+◌, ◌≤◌, ◌==◌, None, length};
 ghost use Rattle.filterlang.specs.declared.tree.Primitive.TheVariants.{IpMulticast, Less};
-ghost use Rattle.filtergen.specs.Meaning.{check, byte, both, is_type, is_protocol, plain_test, by_direction, has_address, in_net, in_any_net, is_address, within, has_port, has_any_ports, protocol_number, primitive_test};
+ghost use Rattle.filtergen.specs.Meaning.{check, byte, and_test, is_type, is_protocol, plain_test, by_direction, has_address, in_net, in_any_net, is_address, within, has_port, has_any_ports, protocol_number, primitive_test};
 ghost use Rattle.filtergen.specs.Insns.{plain_insn};
 ghost use Rattle.filtergen.specs.Emission.{IsPlace, AreExits, ChoosesBehind, same_index, Follows, Decides};
-ghost use Rattle.filtergen.specs.Ways.{IsWay, AreWays, DecidesBy};
-ghost use Rattle.filtergen.specs.Parts.{side_cost, side_offset, side_test, port_behind, is_unfragmented, has_port_number, plain_cost, cost};
+ghost use Rattle.filtergen.specs.Ways.{IsWay, AreWays, DecidesBy, GuardsPorts};
+ghost use Rattle.filtergen.specs.Parts.{side_cost, side_offset, side_test, port_behind, is_unfragmented, has_port_number, number_of, plain_cost, cost};
 
 use crate::code::{Code, Exits};
 use crate::insns::{Field, Jump, Operand, load_insn, plain_insn};
@@ -30,7 +30,7 @@ pub(crate) const BROADCAST: EthernetAddress = EthernetAddress { octets: [255; 6]
 pub(crate) const IP_ADDRESSES: (u32, u32) = (26, 30);
 
 /// Where it has the sender's and the target's address of ARP and RARP.
-const ARP_ADDRESSES: (u32, u32) = (28, 38);
+pub(crate) const ARP_ADDRESSES: (u32, u32) = (28, 38);
 
 /// A test of the source or of the destination, at an offset of the frame.
 #[derive(Clone, Copy)]
@@ -82,14 +82,7 @@ pub(crate) fn cost(primitive: Primitive) -> usize
         } => 14,
         Primitive::Net { network: None, .. } => 30,
         Primitive::EtherHost { .. } => 16,
-        Primitive::Ports {
-            transport: Some(_),
-            ..
-        } => 27,
-        Primitive::Ports {
-            transport: None,
-            ..
-        } => 33,
+        Primitive::Ports { .. } => 33,
         Primitive::IpProto(_) | Primitive::EtherBroadcast | Primitive::IpMulticast => 8,
         Primitive::EtherProto(_) => 4,
         Primitive::EtherMulticast | Primitive::Less(_) | Primitive::Greater(_) => 4,
@@ -116,7 +109,7 @@ impl Code {
     }
 
     /// IPv4, and behind it the test at a place, which is for a packet of IPv4; one of another type goes on at the other place.
-    fn behind_ip(&mut self, inner: usize, other: usize) -> Way
+    pub fn behind_ip(&mut self, inner: usize, other: usize) -> Way
         requires room { length self.old + 4 ≤ 512 }
         requires inner { IsPlace self.old inner }
         requires other { IsPlace self.old other }
@@ -253,54 +246,62 @@ impl Code {
         self.len()
     }
 
-    /// A port from low to high of a protocol. Only behind the port is the packet known to be a first fragment.
-    fn ports_of(
+    /// The protocol number of IPv4 that is asked for. `None` is any that has ports.
+    fn transport_number(&mut self, asked: Option<Transport>, exits: Exits) -> usize
+        requires room { length self.old + 10 ≤ 512 }
+        requires exits { AreExits self.old exits }
+        ensures { Decides 10 (number_of asked) exits result self.old self.new }
+    {
+        match asked {
+            None => self.port_number(exits),
+            Some(transport) => self.protocol_number(protocol_number(transport), exits),
+        }
+    }
+
+    /// A first fragment of a protocol, and behind it the test at a place, which is for such a packet. The forms of any protocol
+    /// share all but the protocol number.
+    pub fn behind_transport(
         &mut self,
-        transport: Transport,
+        asked: Option<Transport>,
+        first_fragment: usize,
+        ways: Ways,
+    ) -> Way
+        requires room { length self.old + 18 ≤ 512 }
+        requires first_fragment { IsPlace self.old first_fragment }
+        requires ip { IsPlace self.old ways.no.ip }
+        requires other { IsPlace self.old ways.no.other }
+        ensures { GuardsPorts asked first_fragment ways result self.old self.new }
+    {
+        let no = ways.no.ip;
+        let yes = self.unfragmented(Exits {
+            yes: first_fragment,
+            no,
+        });
+        let ip = self.transport_number(asked, Exits { yes, no });
+        let way = self.behind_ip(ip, ways.no.other);
+        Way {
+            first_fragment,
+            transport: asked,
+            ..way
+        }
+    }
+
+    /// A port from low to high of a protocol, or of any. Only behind the port is the packet known to be a first fragment.
+    fn ports(
+        &mut self,
+        asked: Option<Transport>,
         direction: Direction,
         low: u32,
         high: u32,
         ways: Ways,
     ) -> Way
-        requires room { length self.old + 27 ≤ 512 }
-        requires ways { AreWays self.old ways }
-        ensures { DecidesBy 27 (has_any_ports (Some transport) direction low high) ways result self.old self.new }
-    {
-        let exits = ways.first_fragment_exits(Some(transport));
-        let first_fragment = self.ports_behind_header(direction, low, high, exits);
-        let no = ways.no.ip;
-        let yes = self.unfragmented(Exits {
-            yes: first_fragment,
-            no,
-        });
-        let ip = self.protocol_number(protocol_number(transport), Exits { yes, no });
-        let way = self.behind_ip(ip, ways.no.other);
-        Way {
-            first_fragment,
-            transport: Some(transport),
-            ..way
-        }
-    }
-
-    /// A port from low to high of any protocol. The three forms share all but the protocol number.
-    fn any_ports(&mut self, direction: Direction, low: u32, high: u32, ways: Ways) -> Way
         requires room { length self.old + 33 ≤ 512 }
         requires ways { AreWays self.old ways }
-        ensures { DecidesBy 33 (has_any_ports None direction low high) ways result self.old self.new }
+        ensures { DecidesBy 33 (has_any_ports asked direction low high) ways result self.old self.new }
     {
-        let exits = ways.first_fragment_exits(None);
+        let exits = ways.first_fragment_exits(asked);
         let first_fragment = self.ports_behind_header(direction, low, high, exits);
-        let no = ways.no.ip;
-        let yes = self.unfragmented(Exits {
-            yes: first_fragment,
-            no,
-        });
-        let ip = self.port_number(Exits { yes, no });
-        let way = self.behind_ip(ip, ways.no.other);
-        Way {
-            first_fragment,
-            ..way
-        }
+        self.behind_transport(asked, first_fragment, ways)
     }
 
     /// The bits of an IPv4 address under a mask. A mask of ones takes no instruction.
@@ -435,7 +436,7 @@ impl Code {
     ) -> Way
         requires room { length self.old + 14 ≤ 512 }
         requires ways { AreWays self.old ways }
-        ensures { DecidesBy 14 (both (is_type number)
+        ensures { DecidesBy 14 (and_test (is_type number)
             (by_direction direction (has_address address mask 28) (has_address address mask 38))) ways result
             self.old self.new }
     {
@@ -587,10 +588,7 @@ impl Code {
                 high,
             } => {
                 let (low, high) = (u32::from(low), u32::from(high));
-                match transport {
-                    Some(transport) => self.ports_of(transport, direction, low, high, ways),
-                    None => self.any_ports(direction, low, high, ways),
-                }
+                self.ports(transport, direction, low, high, ways)
             }
             Primitive::IpProto(number) => self.ip_protocol(u32::from(number), ways),
             Primitive::EtherProto(number) => Way::to(self.ether_type(u32::from(number), exits)),

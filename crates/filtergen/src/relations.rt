@@ -4,7 +4,7 @@ ghost use Rattle.std.specs.Prelude.{◌≡◌, ◌+◌, ◌≤◌, length, max};
 ghost use Rattle.filterlang.specs.Trees.{amount_of};
 ghost use Rattle.filtergen.specs.Meaning.{value, compared, check_both};
 ghost use Rattle.filtergen.specs.Compiling.{value_need};
-ghost use Rattle.filtergen.specs.Knowing.{rest_of_type, rest_of_number, rest_of_first, rest_of, rest_of_layers, rest_of_relation};
+ghost use Rattle.filtergen.specs.Knowing.{rest_of_type, rest_of_protocol, rest_of_first_fragment, rest_of, rest_of_layers, rest_of_relation};
 ghost use Rattle.filtergen.specs.Parts.{layers_cost, compare_cost, relation_cost};
 ghost use Rattle.filtergen.specs.Emission.{AreExits, value_of, Chooses, Decides, OrFull};
 
@@ -29,12 +29,12 @@ impl Code {
     }
 
     /// What is left of a test of IPv4 with this protocol number.
-    fn rest_of_number(&mut self, known: Known, number: u32, exits: Exits) -> usize
+    fn rest_of_protocol(&mut self, known: Known, number: u32, exits: Exits) -> usize
         requires room { length self.old + 8 ≤ 512 }
         requires exits { AreExits self.old exits }
-        ensures { Decides 8 (rest_of_number known number) exits result self.old self.new }
+        ensures { Decides 8 (rest_of_protocol known number) exits result self.old self.new }
     {
-        if known.has_number(number) {
+        if known.has_protocol(number) {
             return exits.yes;
         }
         let inner = self.protocol_number(number, exits);
@@ -46,12 +46,12 @@ impl Code {
     }
 
     /// What is left of a test of the same, and of no later fragment.
-    fn rest_of_first(&mut self, known: Known, number: u32, exits: Exits) -> usize
+    fn rest_of_first_fragment(&mut self, known: Known, number: u32, exits: Exits) -> usize
         requires room { length self.old + 12 ≤ 512 }
         requires exits { AreExits self.old exits }
-        ensures { Decides 12 (rest_of_first known number) exits result self.old self.new }
+        ensures { Decides 12 (rest_of_first_fragment known number) exits result self.old self.new }
     {
-        if known.has_first(number) {
+        if known.has_first_fragment(number) {
             return exits.yes;
         }
         let inner = self.unfragmented(exits);
@@ -59,7 +59,7 @@ impl Code {
             yes: inner,
             ..exits
         };
-        self.rest_of_number(known, number, exits)
+        self.rest_of_protocol(known, number, exits)
     }
 
     /// What is left of a test, behind what is known.
@@ -71,8 +71,8 @@ impl Code {
         match fact {
             Known::Nothing => exits.yes,
             Known::Type(number) => self.rest_of_type(known, number, exits),
-            Known::Number(number) => self.rest_of_number(known, number, exits),
-            Known::First(number) => self.rest_of_first(known, number, exits),
+            Known::Protocol(number) => self.rest_of_protocol(known, number, exits),
+            Known::FirstFragment(number) => self.rest_of_first_fragment(known, number, exits),
         }
     }
 

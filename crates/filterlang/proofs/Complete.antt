@@ -14,7 +14,7 @@ use Rattle.filterlang.specs.declared.parser.Start.TheVariants as starts
 use Rattle.filterlang.specs.Phrases.{identifier_at}
 use Rattle.filterlang.specs.Qualifiers.{identified}
 use Rattle.filterlang.specs.Trees.{Tree, test, relation}
-use Rattle.filterlang.specs.Grammar.{begins_relation, Group, group_one, group_and, group_or, GroupTerm, group_not, group_open, group_id, Expr, expr_one, expr_and, expr_or, Term, term_not, term_open, term_prim, term_group, term_relation, Reads, reads_nothing, reads_expr}
+use Rattle.filterlang.specs.Grammar.{begins_relation, Group, group_one, group_and, group_or, GroupTerm, group_not, group_open, group_id, Expression, expr_one, expr_and, expr_or, Term, term_not, term_open, term_prim, term_group, term_relation, Reads, reads_nothing, reads_expr}
 use Rattle.filterlang.specs.Readers.{◌>>=◌, Reader, nothing, chain, closed}
 use Rattle.filterlang.specs.ValueReading.{relation_at}
 use Rattle.filterlang.specs.Reading.{joints, joined_by, negated, identified_at, start_at, started, group_term_by, group_term_at, group_at, logical_by, without_inheritance, term_by, term_at, expr_at, whole, text_at}
@@ -90,7 +90,7 @@ mutual
   unfolding term_at
 
   -- an expression of the grammar is read, up to what follows it
-  pub expr_complete : {n : ℕ} {q r : Option Qualifiers} {ts rest : List Kind} {t : Tree} → Expr n q ts t r rest → Stops rest → expr_at n q ts ≡ chain joints (term_at n) (length rest) t r rest
+  pub expr_complete : {n : ℕ} {q r : Option Qualifiers} {ts rest : List Kind} {t : Tree} → Expression n q ts t r rest → Stops rest → expr_at n q ts ≡ chain joints (term_at n) (length rest) t r rest
   expr_complete (expr_one {n = n} h) stops = ap (λ o. o >>= λ u. chain joints (term_at n) (length u.2) u.0 u.1 u.2) (term_complete h stops)
   expr_complete (expr_and {n = n} {r = r} {s = s} {mid = mid} {rest = rest} {t = t} {u = u} h k) stops = expr_complete h (λ i. refl) ∙ term_turn n And t u r s mid rest (term_complete k stops)
   expr_complete (expr_or {n = n} {r = r} {s = s} {mid = mid} {rest = rest} {t = t} {u = u} h k) stops = expr_complete h (λ i. refl) ∙ term_turn n Or t u r s mid rest (term_complete k stops)

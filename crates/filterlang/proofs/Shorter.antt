@@ -12,7 +12,7 @@ use Rattle.filterlang.specs.declared.phrases.qualifiers.Phrase.{Phrase}
 use Rattle.filterlang.specs.declared.phrases.qualifiers.Qualifiers.{Qualifiers}
 use Rattle.filterlang.specs.Phrases.{protocol_at, type_at, longest, joined, direction_at, phrase_at, dotted_at, identifier_at}
 use Rattle.filterlang.specs.Trees.{Tree}
-use Rattle.filterlang.specs.Grammar.{only_protocol, Prim, prim_plain, prim_broadcast, prim_ether_broadcast, prim_multicast, prim_ether_multicast, prim_ip_multicast, prim_less, prim_greater, prim_portrange, prim_phrase, prim_inherited, Group, group_one, group_and, group_or, GroupTerm, group_not, group_open, group_id, Expr, expr_one, expr_and, expr_or, Term, term_not, term_open, term_prim, term_group, term_relation}
+use Rattle.filterlang.specs.Grammar.{only_protocol, Prim, prim_plain, prim_broadcast, prim_ether_broadcast, prim_multicast, prim_ether_multicast, prim_ip_multicast, prim_less, prim_greater, prim_portrange, prim_phrase, prim_inherited, Group, group_one, group_and, group_or, GroupTerm, group_not, group_open, group_id, Expression, expr_one, expr_and, expr_or, Term, term_not, term_open, term_prim, term_group, term_relation}
 use Rattle.filterlang.specs.Reading.{group_term_at, joints, term_at}
 use Rattle.filterlang.specs.declared.phrases.qualifiers.Identifier.{Identifier}
 use Rattle.filterlang.proofs.Steps.{weaken, at_some}
@@ -98,7 +98,7 @@ mutual
 
 mutual
   -- expressions and their terms
-  Expr-shorter : {n : ℕ} {q r : Option Qualifiers} {ts rest : List Kind} {t : Tree} → Expr n q ts t r rest → length rest ≤ length ts
+  Expr-shorter : {n : ℕ} {q r : Option Qualifiers} {ts rest : List Kind} {t : Tree} → Expression n q ts t r rest → length rest ≤ length ts
   Expr-shorter (expr_one h) = Term-shorter h
   Expr-shorter (expr_and h k) = omega (arith, Expr-shorter h, Term-shorter k)
   Expr-shorter (expr_or h k) = omega (arith, Expr-shorter h, Term-shorter k)

@@ -12,7 +12,7 @@ use Rattle.filterlang.specs.declared.parser.Start.TheVariants as starts
 use Rattle.filterlang.specs.Phrases.{identifier_at}
 use Rattle.filterlang.specs.Qualifiers.{identified}
 use Rattle.filterlang.specs.Trees.{Tree, test, negation}
-use Rattle.filterlang.specs.Grammar.{begins_relation, Group, group_one, group_and, group_or, GroupTerm, group_not, group_open, group_id, Expr, expr_one, expr_and, expr_or, Term, term_not, term_open, term_prim, term_group, term_relation, Reads, reads_nothing, reads_expr}
+use Rattle.filterlang.specs.Grammar.{begins_relation, Group, group_one, group_and, group_or, GroupTerm, group_not, group_open, group_id, Expression, expr_one, expr_and, expr_or, Term, term_not, term_open, term_prim, term_group, term_relation, Reads, reads_nothing, reads_expr}
 use Rattle.filterlang.specs.Readers.{◌>>=◌, nothing, closed}
 use Rattle.filterlang.specs.ValueReading.{relation_at}
 use Rattle.filterlang.specs.Reading.{joint_at, joints, joined_by, negated, identified_at, start_at, started, group_term_by, group_term_at, group_at, logical_by, without_inheritance, term_at, expr_at, whole, text_at}
@@ -76,16 +76,16 @@ abbrev pub TermsRead : ℕ → Type 0
 TermsRead n = (q : Option Qualifiers) (ts : List Kind) → IfSome (term_at n q ts) (λ u. Term n q ts u.0 u.1 u.2)
 
 -- one term more of an expression, by its word
-expr_joined : (n : ℕ) (j : Joint) (q r s : Option Qualifiers) (ts mid rest : List Kind) (t u : Tree) → Expr n q ts t r (kind.Joint j ∷ mid) → Term n r mid u s rest → Expr n q ts (joined_by j t u) s rest
+expr_joined : (n : ℕ) (j : Joint) (q r s : Option Qualifiers) (ts mid rest : List Kind) (t u : Tree) → Expression n q ts t r (kind.Joint j ∷ mid) → Term n r mid u s rest → Expression n q ts (joined_by j t u) s rest
 expr_joined n And q r s ts mid rest t u a b = expr_and a b
 expr_joined n Or q r s ts mid rest t u a b = expr_or a b
 
 -- what is found of an expression is the grammar's, where its terms are
-expr_from_terms : (n : ℕ) → TermsRead n → (q : Option Qualifiers) (ts : List Kind) → IfSome (expr_at n q ts) (λ u. Expr n q ts u.0 u.1 u.2)
+expr_from_terms : (n : ℕ) → TermsRead n → (q : Option Qualifiers) (ts : List Kind) → IfSome (expr_at n q ts) (λ u. Expression n q ts u.0 u.1 u.2)
 expr_from_terms n terms q ts =
-    chained_keeps joints (term_at n) (Expr n q ts)
-    (λ j t v r behind mid u k e f join. subst (λ x. Expr n q ts x u.1 u.2) (same_Some (joined_by j t u.0) v join)
-    (expr_joined n j q r u.1 ts mid u.2 t u.0 (subst (λ x. Expr n q ts t r x) (joint_is j mid behind e) k) (at_some (λ v. Term n r mid v.0 v.1 v.2) (term_at n r mid) u f (terms r mid))))
+    chained_keeps joints (term_at n) (Expression n q ts)
+    (λ j t v r behind mid u k e f join. subst (λ x. Expression n q ts x u.1 u.2) (same_Some (joined_by j t u.0) v join)
+    (expr_joined n j q r u.1 ts mid u.2 t u.0 (subst (λ x. Expression n q ts t r x) (joint_is j mid behind e) k) (at_some (λ v. Term n r mid v.0 v.1 v.2) (term_at n r mid) u f (terms r mid))))
     q ts (λ u e. expr_one (at_some (λ v. Term n q ts v.0 v.1 v.2) (term_at n q ts) u e (terms q ts)))
 
 -- a term that begins with no sign, at the innermost level, where no group may stand
@@ -125,7 +125,7 @@ logical_zero q ts e = start_zero q ts e
 -- a term that may have signs
 logical_within : (n : ℕ) → TermsRead n → (q : Option Qualifiers) (ts : List Kind) → begins_relation ts ≡ false → IfSome (logical_by (term_at n) (group_term_at n) q ts) (λ u. Term (suc n) q ts u.0 u.1 u.2)
 logical_within n terms q (kind.Not ∷ ts) e = negated_sound (Term n q ts) (Term (suc n) q (kind.Not ∷ ts)) (term_at n q ts) (terms q ts) (λ t r rest k. term_not k)
-logical_within n terms q (kind.Open ∷ ts) e = closed_sound (Expr n q ts) (Term (suc n) q (kind.Open ∷ ts)) (expr_at n q ts) (expr_from_terms n terms q ts) (λ t r rest k. term_open e k)
+logical_within n terms q (kind.Open ∷ ts) e = closed_sound (Expression n q ts) (Term (suc n) q (kind.Open ∷ ts)) (expr_at n q ts) (expr_from_terms n terms q ts) (λ t r rest k. term_open e k)
 logical_within n terms q ts e = start_within n q ts e
 
 -- a relation, where one begins, and else the logical form
@@ -154,11 +154,11 @@ pub term_sound : (n : ℕ) (q : Option Qualifiers) (ts : List Kind) (t : Tree) (
 term_sound n q ts t r rest e = at_some (λ u. Term n q ts u.0 u.1 u.2) (term_at n q ts) (t, r, rest) e (terms_read n q ts)
 
 -- an expression up to the end is the text's
-whole_sound : (ts : List Kind) (read : Option (Tree × Option Qualifiers × List Kind)) → IfSome read (λ u. Expr 64 None ts u.0 u.1 u.2) → IfSome (whole read) (λ t. Reads ts t)
+whole_sound : (ts : List Kind) (read : Option (Tree × Option Qualifiers × List Kind)) → IfSome read (λ u. Expression 64 None ts u.0 u.1 u.2) → IfSome (whole read) (λ t. Reads ts t)
 whole_sound ts None h = tt
 whole_sound ts (Some u) h = at_end u.0 u.1 u.2 h
   where
-    at_end : (t : Tree) (r : Option Qualifiers) (rest : List Kind) → Expr 64 None ts t r rest → IfSome (whole (Some (t, r, rest))) (λ t. Reads ts t)
+    at_end : (t : Tree) (r : Option Qualifiers) (rest : List Kind) → Expression 64 None ts t r rest → IfSome (whole (Some (t, r, rest))) (λ t. Reads ts t)
     at_end t r [] h = reads_expr h
     at_end t r (k ∷ rest) h = tt
 

@@ -13,8 +13,8 @@ use Rattle.filterlang.specs.declared.lexer.Cause.{Cause}
 use Rattle.filterlang.specs.declared.lexer.Cause.TheVariants.{BadByte, BadWord, BadNumber}
 use Rattle.filterlang.specs.Words.{Entry, words, names, signs, begins, stands, stands_whole, token_of, whole_word, standing}
 use Rattle.filterlang.specs.Numbers.{is_in_run, run_at, number_or_dotted_at, ethernet_at, number_of, dotted_of, ethernet_of}
-use Rattle.filterlang.specs.Tokens.{is_blank, or_else, token_at, front, front_of}
-use Rattle.filterlang.specs.Finding.{HasBytes, IsWithin}
+use Rattle.filterlang.specs.Tokens.{is_blank, found_or, token_at, front, front_of}
+use Rattle.filterlang.specs.Finding.{IsLengthWithin, IsWithin}
 use Rattle.filterlang.specs.declared.lexer.Front.TheVariants.{Blank}
 
 -- both parts of a test that holds
@@ -42,27 +42,27 @@ abbrev spells_something : Entry → Bool
 spells_something entry = nat_lt 0 (length entry.0)
 
 -- so an entry that is found lies within the text
-entry_within : (p : List ℕ → Bool) (table : List Entry) (text : List ℕ) → list_all spells_something table ≡ true → ((spelling : List ℕ) → p spelling ≡ true → stands text spelling ≡ true) → IfSome (option_map token_of (find (λ e. p e.0) table)) (λ t. HasBytes t.1 (length text))
+entry_within : (p : List ℕ → Bool) (table : List Entry) (text : List ℕ) → list_all spells_something table ≡ true → ((spelling : List ℕ) → p spelling ≡ true → stands text spelling ≡ true) → IfSome (option_map token_of (find (λ e. p e.0) table)) (λ t. IsLengthWithin t.1 (length text))
 entry_within p table text all stands_there = at_found (find (λ e. p e.0) table) refl
   where
-    at_found : (o : Option Entry) → find (λ e. p e.0) table ≡ o → IfSome (option_map token_of o) (λ t. HasBytes t.1 (length text))
+    at_found : (o : Option Entry) → find (λ e. p e.0) table ≡ o → IfSome (option_map token_of o) (λ t. IsLengthWithin t.1 (length text))
     at_found None e = tt
     at_found (Some x) e =
         let passes = found_passes (λ y. p y.0) spells_something table x all e in
         (ltb-true 0 (length x.0) passes.1, length-starts_with text x.0 (stands_there x.0 passes.0))
 
 -- a word lies within the text
-pub word_within : (text : List ℕ) → IfSome (whole_word words text) (λ t. HasBytes t.1 (length text))
+pub word_within : (text : List ℕ) → IfSome (whole_word words text) (λ t. IsLengthWithin t.1 (length text))
 unfolding words
 word_within text = entry_within (stands_whole text) words text refl (λ x h. (both_true (stands text x) _ h).0)
 
 -- a name lies within it
-pub name_within : (text : List ℕ) → IfSome (whole_word names text) (λ t. HasBytes t.1 (length text))
+pub name_within : (text : List ℕ) → IfSome (whole_word names text) (λ t. IsLengthWithin t.1 (length text))
 unfolding names
 name_within text = entry_within (stands_whole text) names text refl (λ x h. (both_true (stands text x) _ h).0)
 
 -- a sign lies within it
-pub sign_within : (text : List ℕ) → IfSome (standing signs text) (λ t. HasBytes t.1 (length text))
+pub sign_within : (text : List ℕ) → IfSome (standing signs text) (λ t. IsLengthWithin t.1 (length text))
 unfolding signs
 sign_within text = entry_within (stands text) signs text refl (λ x h. h)
 
@@ -71,30 +71,30 @@ abbrev with_length : List ℕ → Kind → Kind × ℕ
 with_length run kind = (kind, length run)
 
 -- what is read from a run, which nothing is from an empty one
-run_within : (mark : ℕ) (text : List ℕ) (kind_of : List ℕ → Option Kind) → kind_of [] ≡ None → IfSome (option_map (with_length (run_at mark text)) (kind_of (run_at mark text))) (λ t. HasBytes t.1 (length text))
+run_within : (mark : ℕ) (text : List ℕ) (kind_of : List ℕ → Option Kind) → kind_of [] ≡ None → IfSome (option_map (with_length (run_at mark text)) (kind_of (run_at mark text))) (λ t. IsLengthWithin t.1 (length text))
 run_within mark text kind_of none = at_run (run_at mark text) (length-prefix_len (is_in_run mark) text) (kind_of (run_at mark text)) refl
   where
-    at_run : (run : List ℕ) → length run ≡ prefix_len (is_in_run mark) text → (o : Option Kind) → kind_of run ≡ o → IfSome (option_map (with_length run) o) (λ t. HasBytes t.1 (length text))
+    at_run : (run : List ℕ) → length run ≡ prefix_len (is_in_run mark) text → (o : Option Kind) → kind_of run ≡ o → IfSome (option_map (with_length run) o) (λ t. IsLengthWithin t.1 (length text))
     at_run run len None e = tt
     at_run [] len (Some kind) e = absurd cc
     at_run (b ∷ run) len (Some kind) e = (omega arith, omega (arith, prefix_len-le-length (is_in_run mark) text))
 
 -- an Ethernet address lies within the text
-pub ethernet_within : (text : List ℕ) → IfSome (ethernet_at text) (λ t. HasBytes t.1 (length text))
+pub ethernet_within : (text : List ℕ) → IfSome (ethernet_at text) (λ t. IsLengthWithin t.1 (length text))
 unfolding ethernet_at
 ethernet_within text = run_within 58 text ethernet_of refl
 
 -- a number or dotted address lies within it
-pub number_within : (text : List ℕ) → IfSome (number_or_dotted_at text) (λ t. HasBytes t.1 (length text))
+pub number_within : (text : List ℕ) → IfSome (number_or_dotted_at text) (λ t. IsLengthWithin t.1 (length text))
 unfolding number_or_dotted_at
 number_within text = run_within 46 text (λ run. if list_any (λ b. b == 46) run then dotted_of run else option_map Number (number_of run)) refl
 
 -- each way to a token keeps within the text
 abbrev IsTokenOf : List ℕ → Kind × ℕ → Type 0
-IsTokenOf text token = HasBytes token.1 (length text)
+IsTokenOf text token = IsLengthWithin token.1 (length text)
 
 -- the first way, or else the second
-or_else_within : (text : List ℕ) (o : Option (Kind × ℕ)) (r : Result (Kind × ℕ) Cause) → IfSome o (IsTokenOf text) → IfOk r (IsTokenOf text) → IfOk (or_else o r) (IsTokenOf text)
+or_else_within : (text : List ℕ) (o : Option (Kind × ℕ)) (r : Result (Kind × ℕ) Cause) → IfSome o (IsTokenOf text) → IfOk r (IsTokenOf text) → IfOk (found_or o r) (IsTokenOf text)
 or_else_within text None r first second = second
 or_else_within text (Some x) r first second = first
 

@@ -15,12 +15,12 @@ abbrev pub first_of : (List ℕ → Bool) → List (Bor (List ℕ) × Kind) → 
 first_of test table = option_map (λ e. (e.1, length e.0.now)) (find (λ e. test e.0.now) table)
 
 -- so many bytes of a text, one at least
-abbrev pub HasBytes : ℕ → ℕ → Type 0
-HasBytes n bytes = (0 < n) × (n ≤ bytes)
+abbrev pub IsLengthWithin : ℕ → ℕ → Type 0
+IsLengthWithin n bytes = (0 < n) × (n ≤ bytes)
 
 -- what stands at the front of so many bytes lies within them
 abbrev pub IsWithin : Front → ℕ → Type 0
 IsWithin fronts.End bytes = bytes ≡ 0
 IsWithin fronts.Blank bytes = 0 < bytes
-IsWithin (fronts.Token kind n) bytes = HasBytes n bytes
+IsWithin (fronts.Token kind n) bytes = IsLengthWithin n bytes
 IsWithin (fronts.Stuck cause) bytes = 0 < bytes

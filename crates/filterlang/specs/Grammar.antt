@@ -1,7 +1,7 @@
 -- The grammar of filter expressions after pcap-filter(7), a constructor for each alternative.
 --
 -- Each relation speaks of the tokens from a place on and of those that follow what is read there.
--- `Expr n q ts t r rest` says that ts begin with the expression t, that rest follows it, that at most n signs
+-- `Expression n q ts t r rest` says that ts begin with the expression t, that rest follows it, that at most n signs
 -- are open within one another, and that q and r are the qualifiers that the nearest primitive to the left has
 -- to give, before the expression and behind it.
 use Rattle.std.specs.Prelude.{◌≡◌, ℕ, zero, suc, Bool, ◌||◌, is_some, true, false, List, [], ◌∷◌, Option, Some, None, unwrap_or}
@@ -110,21 +110,21 @@ mutual
 
 mutual
   -- terms joined from the left by `and` and `or`, which bind alike
-  pub data Expr : ℕ → Option Qualifiers → List Kind → Tree → Option Qualifiers → List Kind → Type 0 where
+  pub data Expression : ℕ → Option Qualifiers → List Kind → Tree → Option Qualifiers → List Kind → Type 0 where
     expr_one : {n : ℕ} {q r : Option Qualifiers} {ts rest : List Kind} {t : Tree}
-        → Term n q ts t r rest → Expr n q ts t r rest
+        → Term n q ts t r rest → Expression n q ts t r rest
     expr_and : {n : ℕ} {q r s : Option Qualifiers} {ts mid rest : List Kind} {t u : Tree}
-        → Expr n q ts t r (kind.Joint And ∷ mid) → Term n r mid u s rest
-        → Expr n q ts (both t u) s rest
+        → Expression n q ts t r (kind.Joint And ∷ mid) → Term n r mid u s rest
+        → Expression n q ts (both t u) s rest
     expr_or : {n : ℕ} {q r s : Option Qualifiers} {ts mid rest : List Kind} {t u : Tree}
-        → Expr n q ts t r (kind.Joint Or ∷ mid) → Term n r mid u s rest
-        → Expr n q ts (either t u) s rest
+        → Expression n q ts t r (kind.Joint Or ∷ mid) → Term n r mid u s rest
+        → Expression n q ts (either t u) s rest
 
   pub data Term : ℕ → Option Qualifiers → List Kind → Tree → Option Qualifiers → List Kind → Type 0 where
     term_not : {n : ℕ} {q r : Option Qualifiers} {ts rest : List Kind} {t : Tree}
         → Term n q ts t r rest → Term (suc n) q (kind.Not ∷ ts) (negation t) r rest
     term_open : {n : ℕ} {q r : Option Qualifiers} {ts rest : List Kind} {t : Tree}
-        → begins_relation (kind.Open ∷ ts) ≡ false → Expr n q ts t r (kind.Close ∷ rest)
+        → begins_relation (kind.Open ∷ ts) ≡ false → Expression n q ts t r (kind.Close ∷ rest)
         → Term (suc n) q (kind.Open ∷ ts) t r rest
     term_prim : {n : ℕ} {q r : Option Qualifiers} {ts rest : List Kind} {p : Primitive}
         → begins_relation ts ≡ false → Prim q ts p r rest
@@ -140,4 +140,4 @@ mutual
 -- The tokens of a text read as this tree: nothing accepts all, else they are one expression.
 pub data Reads : List Kind → Tree → Type 0 where
   reads_nothing : Reads [] everything
-  reads_expr : {ts : List Kind} {t : Tree} {r : Option Qualifiers} → Expr 64 None ts t r [] → Reads ts t
+  reads_expr : {ts : List Kind} {t : Tree} {r : Option Qualifiers} → Expression 64 None ts t r [] → Reads ts t

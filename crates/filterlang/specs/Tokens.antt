@@ -13,16 +13,16 @@ abbrev pub is_blank : ℕ → Bool
 is_blank b = b == 32 || b == 9 || b == 13 || b == 10
 
 -- the first value, where there is one
-abbrev pub or_else : {A E : Type 0} → Option A → Result A E → Result A E
-or_else (Some x) other = Ok x
-or_else None other = other
+abbrev pub found_or : {A E : Type 0} → Option A → Result A E → Result A E
+found_or (Some x) other = Ok x
+found_or None other = other
 
 -- The token at the front of a text, and how many bytes it has, by the first rule that applies: an Ethernet
 -- address; at a digit a number or dotted address; at a letter a word; at a backslash a name; else the
 -- longest sign. Where there is none: why.
 unfoldable pub token_at : List ℕ → Result (Kind × ℕ) Cause
 token_at text =
-    or_else (ethernet_at text)
+    found_or (ethernet_at text)
     (if begins is_ascii_digit text then ok_or (number_or_dotted_at text) BadNumber
     else (if begins is_ascii_alphabetic text then ok_or (whole_word words text) BadWord
     else (if begins (λ b. b == 92) text then ok_or (option_map (λ name. (name.0, name.1 + 1)) (whole_word names (drop 1 text))) BadWord

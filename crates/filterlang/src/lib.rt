@@ -3,14 +3,14 @@
 #![tactic(auto)]
 
 mod cursor;
-pub mod fault;
+mod fault;
 pub mod laws;
-pub mod lexer;
+mod lexer;
 mod lookahead;
-pub mod parser;
+mod parser;
 mod phrases;
-pub mod token;
-pub mod tree;
+mod token;
+mod tree;
 mod values;
 
 pub use fault::Fault;

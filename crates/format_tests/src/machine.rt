@@ -1,6 +1,7 @@
 //! The filter machine: worked examples of its programs, their validator and their listings.
 
 mod caller;
+mod traced;
 
 use bpfvm::{
     Insn, Invalid, ListingFault, NoMemory, Program, code, read_listing, run, write_listing,

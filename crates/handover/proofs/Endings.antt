@@ -22,10 +22,10 @@ use Rattle.handover.specs.declared.view.Sight.{Sight}
 use Rattle.handover.specs.Orders.{HasOneOrder}
 use Rattle.handover.specs.Allowed.{AllFit}
 use Rattle.handover.specs.Asks.{asks}
-use Rattle.handover.specs.Ends.{FeedingEnded, feeding_ended, Draining, draining, AreCountsOf, Counted}
+use Rattle.handover.specs.Ends.{FeedingEnded, feeding_ended, Draining, draining, AreCountsOf, AreCountsOfCalls}
 use Rattle.handover.specs.History.{Happening, fed, got, shut, events, feeds_in, merge, finds, ended_in, EndedIsLast, LegalHistory, batches_of}
-use Rattle.handover.specs.Own.{matches, drops, store_of}
-use Rattle.handover.specs.Rule.{Home, IsHeld, last, terms_of, Stands, Facts, Seats, whole, apart, joined as seats_joined, Kept, joint}
+use Rattle.handover.specs.Own.{matched_in, dropped_in, store_of}
+use Rattle.handover.specs.Rule.{Home, IsHeld, last, terms_of, BufferFollowsTurn, Facts, Seats, whole, apart, joined as seats_joined, KeepsRule, joint}
 use Rattle.handover.specs.Settling.{kept_of_both, IsWhole}
 use Rattle.handover.proofs.Keeps.{store_is}
 use Rattle.handover.proofs.Orders.{same_latest}
@@ -52,7 +52,7 @@ joined_at f d u vs id (seats_joined os p q s) at r = two id at
     two zero e = let t = some-injective f u e in (t, sym p ∙ t)
     two (suc k) e = let t : u.view.role ≡ Spent = spent_at os k u s e in absurd (cc)
 
-at_home : (capacity : ℕ) (full : Bool) (home : Home) (s : PlainList) → IsHeld full s.held → Stands capacity full false None home (hold_of s) → home ≡ some (filled capacity (hold_of s))
+at_home : (capacity : ℕ) (full : Bool) (home : Home) (s : PlainList) → IsHeld full s.in_hold → BufferFollowsTurn capacity full false None home (hold_of s) → home ≡ some (filled capacity (hold_of s))
 at_home capacity true home s h p = p
 at_home capacity false home s h p = p ∙ ap (λ (n : ℕ). some (filled capacity (take n s.pending))) (sym h)
 
@@ -65,7 +65,7 @@ pub record Ending (p : Profile) (fs : List Feed) (ts : List Take) (y : Filled) :
   pub hold : y ≡ filled p.capacity (hold_of (last fs ts))
 
 pub ends_well : (p : Profile) (id : ℕ) (v w u : Sight) (ws : List ℕ) (xs : List Filled) (y : Filled) → u ≡ joint v w → v.view.rotating ≡ false → w.view.taking ≡ None
-    → Final (Seen (Kept p) id u) ws xs → get_elem? xs 0 ≡ some y → Ending v.view.profile v.view.feeds w.view.takes y × HasOneOrder v.feeder_saw w.drain_saw v.view.feed_steps w.view.take_steps
+    → Final (Seen (KeepsRule p) id u) ws xs → get_elem? xs 0 ≡ some y → Ending v.view.profile v.view.feeds w.view.takes y × HasOneOrder v.feeder_saw w.drain_saw v.view.feed_steps w.view.take_steps
 ends_well p id v w u ws xs y is calm idle (s, seen, _, _, values) there =
     let k = seen.0 in
     let at = joined_at k.feeder k.drain u s.views id k.seats seen.1 (ap (λ (o : Sight). o.view.role) is) in
@@ -75,10 +75,10 @@ ends_well p id v w u ws xs y is calm idle (s, seen, _, _, values) there =
     let facts : Facts (terms_of v.view.profile) k.full k.home (joint v w).view (joint v w).view =
     subst (λ (x : Profile). Facts (terms_of x) k.full k.home (joint v w).view (joint v w).view) same
     (subst (λ (o : Sight). Facts (terms_of p) k.full k.home (joint v w).view o.view) d (subst (λ (o : Sight). Facts (terms_of p) k.full k.home o.view k.drain.view) f k.facts)) in
-    let place : Stands v.view.profile.capacity k.full false None k.home (hold_of (last v.view.feeds w.view.takes)) =
-    subst (λ (x : Option (List Message)). Stands v.view.profile.capacity k.full false x k.home (hold_of (last v.view.feeds w.view.takes))) idle
-    (subst (λ (b : Bool). Stands v.view.profile.capacity k.full b w.view.taking k.home (hold_of (last v.view.feeds w.view.takes))) calm facts.place) in
-    let home = at_home v.view.profile.capacity k.full k.home (last v.view.feeds w.view.takes) facts.held place in
+    let place : BufferFollowsTurn v.view.profile.capacity k.full false None k.home (hold_of (last v.view.feeds w.view.takes)) =
+    subst (λ (x : Option (List Message)). BufferFollowsTurn v.view.profile.capacity k.full false x k.home (hold_of (last v.view.feeds w.view.takes))) idle
+    (subst (λ (b : Bool). BufferFollowsTurn v.view.profile.capacity k.full b w.view.taking k.home (hold_of (last v.view.feeds w.view.takes))) calm facts.place) in
+    let home = at_home v.view.profile.capacity k.full k.home (last v.view.feeds w.view.takes) facts.in_hold place in
     let found = values 0 (filled v.view.profile.capacity (hold_of (last v.view.feeds w.view.takes))) (ap (λ (l : List Home). get_elem? l 0) k.homes ∙ ap some home) in
     let o = k.steps in (
       record { fits = facts.fits; legal = facts.legal; late = facts.late; unclosed = facts.unclosed; hold = some-injective _ _ (sym there ∙ found) },
@@ -100,7 +100,7 @@ ends_legally p fs ts y e =
     let b = merges_have_both fs ts in
     record { feeds = b.feeds; takes = b.takes; close = b.close; ended = e.late; answers = e.legal }
 
-pub ends_counted : (p : Profile) (fs : List Feed) (ts : List Take) (y : Filled) (counts : Counts) → Ending p fs ts y → Counted counts fs → AreCountsOf counts (last fs ts)
+pub ends_counted : (p : Profile) (fs : List Feed) (ts : List Take) (y : Filled) (counts : Counts) → Ending p fs ts y → AreCountsOfCalls counts fs → AreCountsOf counts (last fs ts)
 ends_counted p fs ts y counts e c =
     let s = histories_are_settled (terms_of p) fs ts e.fits e.legal in
     record { all_received = c.all_received ∙ sym s.all_received; all_matched = c.all_matched ∙ sym s.all_matched; all_dropped = c.all_dropped ∙ sym s.all_dropped }
@@ -116,7 +116,7 @@ accepted_is (got Nothing ∷ hs) = accepted_is hs
 accepted_is (got Ended ∷ hs) = accepted_is hs
 accepted_is (shut ∷ hs) = accepted_is hs
 
-kept_counts : (p : Profile) (fs : List Feed) (ts : List Take) (y : Filled) → Ending p fs ts y → matches fs ≡ length (kept_of_both p fs ts) + drops fs
+kept_counts : (p : Profile) (fs : List Feed) (ts : List Take) (y : Filled) → Ending p fs ts y → matched_in fs ≡ length (kept_of_both p fs ts) + dropped_in fs
 kept_counts p fs ts y e =
     let t : Terms = terms_of p in
     let s = histories_are_settled t fs ts e.fits e.legal in
@@ -124,14 +124,14 @@ kept_counts p fs ts y e =
     sym s.all_matched ∙ (k.all_matched ∙ (matched_are_kept_or_dropped t (requests (events (merge fs ts))) ∙ ap (λ (n : ℕ). length (kept_of_both p fs ts) + n) (sym k.all_dropped ∙ s.all_dropped)))
 
 pub ends_whole : (p : Profile) (fs : List Feed) (ts : List Take) (hold rest : Filled) (counts : Counts) → Ending p fs ts hold
-    → rest ≡ filled p.capacity (stored (last fs ts)) → Counted counts fs → IsWhole p fs ts hold.messages rest.messages counts
+    → rest ≡ filled p.capacity (stored (last fs ts)) → AreCountsOfCalls counts fs → IsWhole p fs ts hold.messages rest.messages counts
 ends_whole p fs ts hold rest counts e r c =
     let t : Terms = terms_of p in
     let s = histories_are_settled t fs ts e.fits e.legal in
     let l : PlainList = last fs ts in
     let read : List Message = joined (batches_of ts) in
     let left : hold.messages ++ rest.messages ≡ l.pending =
-    ap (λ (x : Filled). x.messages ++ rest.messages) e.hold ∙ (ap (λ (x : Filled). hold_of l ++ x.messages) r ∙ take-append-drop l.held l.pending) in
+    ap (λ (x : Filled). x.messages ++ rest.messages) e.hold ∙ (ap (λ (x : Filled). hold_of l ++ x.messages) r ∙ take-append-drop l.in_hold l.pending) in
     let steps = requests (events (merge fs ts)) in
     let same : all_accepted steps ≡ all_accepted (asks fs) = accepted_is (merge fs ts) ∙ ap (λ (x : List Feed). all_accepted (asks x)) (feeds_in-merge false fs ts) in
     let k = kept_counts p fs ts hold e in

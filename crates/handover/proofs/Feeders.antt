@@ -16,9 +16,9 @@ use Rattle.handover.specs.declared.calls.Feed.TheVariants.{Arrive, Flush, FlushC
 use Rattle.handover.specs.declared.calls.Step.{Step}
 use Rattle.handover.specs.declared.calls.Made.{Made}
 use Rattle.handover.specs.declared.view.View.{View}
-use Rattle.handover.specs.Ends.{feeding, own_list, HasOwnRun, AreCountsOf, Counted}
-use Rattle.handover.specs.Own.{arrivals, matches, drops}
-use Rattle.handover.specs.Rule.{Sat, terms_of, Owned}
+use Rattle.handover.specs.Ends.{feeding, own_list, HasOwnRun, AreCountsOf, AreCountsOfCalls}
+use Rattle.handover.specs.Own.{received_in, matched_in, dropped_in}
+use Rattle.handover.specs.Rule.{Sat, terms_of, IsLegalWithReads}
 use Rattle.handover.specs.Seated.{IsFeeder, Offers, Went}
 use Rattle.handover.specs.Steps.{FlushAnswers}
 use Rattle.handover.proofs.Paths.{capacity_is}
@@ -39,7 +39,7 @@ own_run pair program snap n seen c over h =
     let right = own_legal t n.0.feeds h.owned.takes h.owned.fits h.owned.legal in
     record { legal = right; store = ap (λ (k : Filled). k.messages) h.store ∙ sym (own_store t n.0.feeds right) }
 
-pub own_counts : (v : View) (counts : Counts) → Owned v → Counted counts v.feeds → AreCountsOf counts (own_list v.feeds)
+pub own_counts : (v : View) (counts : Counts) → IsLegalWithReads v → AreCountsOfCalls counts v.feeds → AreCountsOf counts (own_list v.feeds)
 own_counts v counts o c =
     let t = terms_of v.profile in
     let s = histories_are_settled t v.feeds o.takes o.fits o.legal in
@@ -52,7 +52,7 @@ own_counts v counts o c =
 
 -- ---- Counts
 
-pub arrivals-append : (fs gs : List Feed) → arrivals (fs ++ gs) ≡ arrivals fs + arrivals gs
+pub arrivals-append : (fs gs : List Feed) → received_in (fs ++ gs) ≡ received_in fs + received_in gs
 arrivals-append [] gs = omega arith
 arrivals-append (Arrive m Passed ∷ fs) gs = omega (arith, arrivals-append fs gs)
 arrivals-append (Arrive m Stored ∷ fs) gs = omega (arith, arrivals-append fs gs)
@@ -63,7 +63,7 @@ arrivals-append (Arrive m Closed ∷ fs) gs = arrivals-append fs gs
 arrivals-append (Flush full ∷ fs) gs = arrivals-append fs gs
 arrivals-append (FlushClosed ∷ fs) gs = arrivals-append fs gs
 
-pub matches-append : (fs gs : List Feed) → matches (fs ++ gs) ≡ matches fs + matches gs
+pub matches-append : (fs gs : List Feed) → matched_in (fs ++ gs) ≡ matched_in fs + matched_in gs
 matches-append [] gs = omega arith
 matches-append (Arrive m Passed ∷ fs) gs = matches-append fs gs
 matches-append (Arrive m Stored ∷ fs) gs = omega (arith, matches-append fs gs)
@@ -74,7 +74,7 @@ matches-append (Arrive m Closed ∷ fs) gs = matches-append fs gs
 matches-append (Flush full ∷ fs) gs = matches-append fs gs
 matches-append (FlushClosed ∷ fs) gs = matches-append fs gs
 
-pub drops-append : (fs gs : List Feed) → drops (fs ++ gs) ≡ drops fs + drops gs
+pub drops-append : (fs gs : List Feed) → dropped_in (fs ++ gs) ≡ dropped_in fs + dropped_in gs
 drops-append [] gs = omega arith
 drops-append (Arrive m Passed ∷ fs) gs = drops-append fs gs
 drops-append (Arrive m Stored ∷ fs) gs = drops-append fs gs
@@ -86,7 +86,7 @@ drops-append (Flush full ∷ fs) gs = drops-append fs gs
 drops-append (FlushClosed ∷ fs) gs = drops-append fs gs
 
 -- no more matched than arrived
-pub matches_most : (fs : List Feed) → matches fs ≤ arrivals fs
+pub matches_most : (fs : List Feed) → matched_in fs ≤ received_in fs
 matches_most [] = omega arith
 matches_most (Arrive m Passed ∷ fs) = omega (arith, matches_most fs)
 matches_most (Arrive m Stored ∷ fs) = omega (arith, matches_most fs)
@@ -98,7 +98,7 @@ matches_most (Flush full ∷ fs) = matches_most fs
 matches_most (FlushClosed ∷ fs) = matches_most fs
 
 -- no more were dropped than matched
-pub drops_most : (fs : List Feed) → drops fs ≤ matches fs
+pub drops_most : (fs : List Feed) → dropped_in fs ≤ matched_in fs
 drops_most [] = omega arith
 drops_most (Arrive m Passed ∷ fs) = drops_most fs
 drops_most (Arrive m Stored ∷ fs) = omega (arith, drops_most fs)
@@ -110,8 +110,8 @@ drops_most (Flush full ∷ fs) = drops_most fs
 drops_most (FlushClosed ∷ fs) = drops_most fs
 
 -- the counts of one call more, by what that call adds
-pub counted_more : (old new : Counts) (fs gs : List Feed) → new.received ≡ old.received + arrivals gs → new.matched ≡ old.matched + matches gs → new.dropped ≡ old.dropped + drops gs
-    → Counted old fs → Counted new (fs ++ gs)
+pub counted_more : (old new : Counts) (fs gs : List Feed) → new.received ≡ old.received + received_in gs → new.matched ≡ old.matched + matched_in gs → new.dropped ≡ old.dropped + dropped_in gs
+    → AreCountsOfCalls old fs → AreCountsOfCalls new (fs ++ gs)
 counted_more old new fs gs r m d c = record {
   all_received = omega (arith, r, c.all_received, arrivals-append fs gs);
   all_matched = omega (arith, m, c.all_matched, matches-append fs gs);
@@ -120,26 +120,26 @@ counted_more old new fs gs r m d c = record {
 
 -- by its answer, and what the code made of the counts so far
 pub counted_passed : (old new : Counts) (fs : List Feed) (m : Option Message) (fed : Fed) → fed ≡ Passed → new.received ≡ old.received + 1 → new.matched ≡ old.matched
-    → new.dropped ≡ old.dropped → Counted old fs → Counted new (fs ++ Arrive m fed ∷ [])
-counted_passed old new fs m fed is r t d c = subst (λ (x : Fed). Counted new (fs ++ Arrive m x ∷ [])) (sym is)
+    → new.dropped ≡ old.dropped → AreCountsOfCalls old fs → AreCountsOfCalls new (fs ++ Arrive m fed ∷ [])
+counted_passed old new fs m fed is r t d c = subst (λ (x : Fed). AreCountsOfCalls new (fs ++ Arrive m x ∷ [])) (sym is)
     (counted_more old new fs (Arrive m Passed ∷ []) (omega (arith, r)) (omega (arith, t)) (omega (arith, d)) c)
 
 pub counted_kept : (old new : Counts) (fs : List Feed) (m : Option Message) (fed : Fed) → (fed ≡ Stored) ⊎ ((fed ≡ Held) ⊎ (fed ≡ Rotated)) → new.received ≡ old.received + 1
-    → new.matched ≡ old.matched + 1 → new.dropped ≡ old.dropped → Counted old fs → Counted new (fs ++ Arrive m fed ∷ [])
-counted_kept old new fs m fed (inl is) r t d c = subst (λ (x : Fed). Counted new (fs ++ Arrive m x ∷ [])) (sym is)
+    → new.matched ≡ old.matched + 1 → new.dropped ≡ old.dropped → AreCountsOfCalls old fs → AreCountsOfCalls new (fs ++ Arrive m fed ∷ [])
+counted_kept old new fs m fed (inl is) r t d c = subst (λ (x : Fed). AreCountsOfCalls new (fs ++ Arrive m x ∷ [])) (sym is)
     (counted_more old new fs (Arrive m Stored ∷ []) (omega (arith, r)) (omega (arith, t)) (omega (arith, d)) c)
-counted_kept old new fs m fed (inr (inl is)) r t d c = subst (λ (x : Fed). Counted new (fs ++ Arrive m x ∷ [])) (sym is)
+counted_kept old new fs m fed (inr (inl is)) r t d c = subst (λ (x : Fed). AreCountsOfCalls new (fs ++ Arrive m x ∷ [])) (sym is)
     (counted_more old new fs (Arrive m Held ∷ []) (omega (arith, r)) (omega (arith, t)) (omega (arith, d)) c)
-counted_kept old new fs m fed (inr (inr is)) r t d c = subst (λ (x : Fed). Counted new (fs ++ Arrive m x ∷ [])) (sym is)
+counted_kept old new fs m fed (inr (inr is)) r t d c = subst (λ (x : Fed). AreCountsOfCalls new (fs ++ Arrive m x ∷ [])) (sym is)
     (counted_more old new fs (Arrive m Rotated ∷ []) (omega (arith, r)) (omega (arith, t)) (omega (arith, d)) c)
 
 pub counted_dropped : (old new : Counts) (fs : List Feed) (m : Option Message) (fed : Fed) → fed ≡ Dropped → new.received ≡ old.received + 1 → new.matched ≡ old.matched + 1
-    → new.dropped ≡ old.dropped + 1 → Counted old fs → Counted new (fs ++ Arrive m fed ∷ [])
-counted_dropped old new fs m fed is r t d c = subst (λ (x : Fed). Counted new (fs ++ Arrive m x ∷ [])) (sym is)
+    → new.dropped ≡ old.dropped + 1 → AreCountsOfCalls old fs → AreCountsOfCalls new (fs ++ Arrive m fed ∷ [])
+counted_dropped old new fs m fed is r t d c = subst (λ (x : Fed). AreCountsOfCalls new (fs ++ Arrive m x ∷ [])) (sym is)
     (counted_more old new fs (Arrive m Dropped ∷ []) (omega (arith, r)) (omega (arith, t)) (omega (arith, d)) c)
 
 -- a flush counts nothing
-pub counted_flush : (full : Bool) (f : Feed) (fs : List Feed) (counts : Counts) → FlushAnswers full f → Counted counts fs → Counted counts (fs ++ f ∷ [])
+pub counted_flush : (full : Bool) (f : Feed) (fs : List Feed) (counts : Counts) → FlushAnswers full f → AreCountsOfCalls counts fs → AreCountsOfCalls counts (fs ++ f ∷ [])
 counted_flush full (Arrive m fed) fs counts answers c = absurd answers
 counted_flush full (Flush made) fs counts answers c = counted_more counts counts fs (Flush made ∷ []) (omega arith) (omega arith) (omega arith) c
 counted_flush full FlushClosed fs counts answers c = counted_more counts counts fs (FlushClosed ∷ []) (omega arith) (omega arith) (omega arith) c
@@ -147,13 +147,13 @@ counted_flush full FlushClosed fs counts answers c = counted_more counts counts 
 -- ---- The fields behind a call
 
 pub fields_after : (m n : Sat) (b c : Filled) (f : Feed) (es : List Step) (snap : ℕ) (mode : Mode) (counts : Counts) → IsFeeder m b false → InRange snap b.capacity
-    → m.0.profile.mode ≡ mode → Went m n c f es → Counted counts (m.0.feeds ++ f ∷ [])
-    → IsFeeder n c false × InRange snap c.capacity × (n.0.profile.mode ≡ mode) × Counted counts n.0.feeds
+    → m.0.profile.mode ≡ mode → Went m n c f es → AreCountsOfCalls counts (m.0.feeds ++ f ∷ [])
+    → IsFeeder n c false × InRange snap c.capacity × (n.0.profile.mode ≡ mode) × AreCountsOfCalls counts n.0.feeds
 fields_after m n b c f es snap mode counts h range is w counted = (
   w.feeder,
   subst (InRange snap) (sym (same_capacity m n b c f es h w)) range,
   ap (λ p. p.mode) w.profile ∙ is,
-  subst (Counted counts) (sym w.feeds) counted,
+  subst (AreCountsOfCalls counts) (sym w.feeds) counted,
 )
 
 -- what the code's numbers say of a packet that the filter accepts

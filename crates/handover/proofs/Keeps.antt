@@ -4,7 +4,7 @@ use mathlib.Core.Option.{some}
 use Rattle.listener.specs.declared.answer.Fed.TheVariants.{Passed, Stored, Held, Rotated, Dropped, Closed}
 use Rattle.listener.specs.declared.message.Message.{Message}
 use Rattle.listener.specs.Buffers.{filled}
-use Rattle.listener.specs.PlainList.{Terms, PlainList, empty, Fair, Legal, stored, next, run, closed}
+use Rattle.listener.specs.PlainList.{Terms, PlainList, empty, IsRight, Legal, stored, next, run, closed}
 use Rattle.listener.specs.Laws.{hold_of}
 use Rattle.handover.specs.declared.calls.Feed.{Feed}
 use Rattle.handover.specs.declared.calls.Feed.TheVariants.{Arrive, Flush, FlushClosed}
@@ -16,8 +16,8 @@ use Rattle.handover.specs.History.{Happening, fed, got, shut, event_of, events, 
 use Rattle.handover.specs.Allowed.{Quiet, Busy, Loud, handed, AllFit}
 use Rattle.handover.specs.Tidy.{by_kind_type, Ends, Begins, Tidy, AllFind}
 use Rattle.handover.specs.Own.{store_of, store_from}
-use Rattle.handover.specs.Rule.{Home, IsHeld, Stands, last, Facts, fed_by, taken_by, idle}
-use Rattle.handover.proofs.Runs.{run_more, legal_join, legal_front, legal_back, within_run, stored_run, open_run, fed_open, quiet_fair, swap_all, Keeps, quiet_state, busy_state, loud_state, late_state}
+use Rattle.handover.specs.Rule.{Home, IsHeld, BufferFollowsTurn, last, Facts, with_feeds, with_takes, idle}
+use Rattle.handover.proofs.Runs.{run_more, legal_join, legal_front, legal_back, within_run, stored_run, open_run, fed_open, quiet_right, swap_all, Keeps, quiet_state, busy_state, loud_state, late_state}
 use Rattle.handover.proofs.Merges.{plain_before, store_last, shut_last, closed_last, Answers, read_last, feeds_in-merge, takes_in-merge}
 
 pub store_is : (t : Terms) (fs : List Feed) (ts : List Take) → Legal t empty (events (merge fs ts)) → stored (last fs ts) ≡ store_of fs
@@ -89,10 +89,10 @@ fits_more capacity (Arrive None answer ∷ fs) f fit all = fits_more capacity fs
 fits_more capacity (Flush full ∷ fs) f fit all = fits_more capacity fs f fit all
 fits_more capacity (FlushClosed ∷ fs) f fit all = fits_more capacity fs f fit all
 
-ends_with : (t : Terms) (m n : List Happening) (h : Happening) → n ≡ m ++ h ∷ [] → Legal t empty (events m) → Fair t (run empty (events m)) (event_of h)
+ends_with : (t : Terms) (m n : List Happening) (h : Happening) → n ≡ m ++ h ∷ [] → Legal t empty (events m) → IsRight t (run empty (events m)) (event_of h)
     → Legal t empty (events n) × (run empty (events n) ≡ next (run empty (events m)) (event_of h))
-ends_with t m n h is legal fair = (
-  subst (λ (l : List Happening). Legal t empty (events l)) (sym is) (legal_join t empty m (h ∷ []) legal (fair, tt)),
+ends_with t m n h is legal is_right = (
+  subst (λ (l : List Happening). Legal t empty (events l)) (sym is) (legal_join t empty m (h ∷ []) legal (is_right, tt)),
   ap (λ (l : List Happening). run empty (events l)) is ∙ run_more empty m (h ∷ []),
 )
 
@@ -143,7 +143,7 @@ quiet_run t full fs ts f none unshut tidy legal q =
     let q' : Quiet t (stored s) f = subst (λ (l : List Message). Quiet t l f) (sym same) q in
     let o : s.closed ≡ false = open_run s reads (ap (λ (u : PlainList). u.closed) (sym end) ∙ unshut) in
     let r = swap_all t s b.reads f w q' back in (
-      subst (λ (l : List Happening). Legal t empty (events l)) (sym b.is) (legal_join t empty b.front (fed f ∷ reads) (legal_front t empty b.front reads whole) (quiet_fair t s f o q', r.0)),
+      subst (λ (l : List Happening). Legal t empty (events l)) (sym b.is) (legal_join t empty b.front (fed f ∷ reads) (legal_front t empty b.front reads whole) (quiet_right t s f o q', r.0)),
       ap (λ (l : List Happening). run empty (events l)) b.is ∙ (run_more empty b.front (fed f ∷ reads) ∙ (r.1 ∙ ap (λ (u : PlainList). next u (event_of (fed f))) (sym end))),
     )
 
@@ -151,23 +151,23 @@ quiet_run t full fs ts f none unshut tidy legal q =
 plain_facts : (t : Terms) (full : Bool) (home : Home) (v d : View) (f : Feed) (e : Step) → kind f ≡ plain → v.rotating ≡ false → v.ended ≡ false → finds v.feeds ≡ false
     → AllFit t.capacity (f ∷ []) → Facts t full home v d
     → Legal t empty (events (merge (v.feeds ++ f ∷ []) d.takes)) → last (v.feeds ++ f ∷ []) d.takes ≡ next (last v.feeds d.takes) (event_of (fed f))
-    → Keeps (last v.feeds d.takes) (next (last v.feeds d.takes) (event_of (fed f))) → Facts t full home (fed_by v (f ∷ []) e false) d
+    → Keeps (last v.feeds d.takes) (next (last v.feeds d.takes) (event_of (fed f))) → Facts t full home (with_feeds v (f ∷ []) e false) d
 plain_facts t full home v d f e is calm going none fit k legal ends keeps = record {
   fits = fits_more t.capacity v.feeds f fit k.fits;
   legal = legal;
   is_open = ap (λ (u : PlainList). u.closed) ends ∙ (fed_open (last v.feeds d.takes) f ∙ (k.is_open ∙ (none ∙ sym (finds_more v.feeds f false (plain_stays f is) none))));
   closer = λ _. finds_more v.feeds f false (plain_stays f is) none;
-  held = subst (IsHeld full) (keeps.held ∙ ap (λ (u : PlainList). u.held) (sym ends)) k.held;
+  in_hold = subst (IsHeld full) (keeps.in_hold ∙ ap (λ (u : PlainList). u.in_hold) (sym ends)) k.in_hold;
   tidy = plain_tidy false v.feeds d.takes f full is none k.tidy;
   late = no_ended (merge (v.feeds ++ f ∷ []) d.takes) (ap ended_in (takes_in-merge false (v.feeds ++ f ∷ []) d.takes) ∙ k.ender going);
   ender = k.ender;
   unclosed = λ _. finds_more v.feeds f false (plain_stays f is) none;
   seen = k.seen;
-  place = subst (Stands t.capacity full false d.taking home) (keeps.hold ∙ ap hold_of (sym ends)) (subst (λ (x : Bool). Stands t.capacity full x d.taking home (hold_of (last v.feeds d.takes))) calm k.place);
+  place = subst (BufferFollowsTurn t.capacity full false d.taking home) (keeps.hold ∙ ap hold_of (sym ends)) (subst (λ (x : Bool). BufferFollowsTurn t.capacity full x d.taking home (hold_of (last v.feeds d.takes))) calm k.place);
 }
 
 pub quiet_keeps : (t : Terms) (full : Bool) (home : Home) (v d : View) (f : Feed) (e : Step) → v.rotating ≡ false → v.ended ≡ false → finds v.feeds ≡ false
-    → AllFit t.capacity (f ∷ []) → Quiet t (store_of v.feeds) f → Facts t full home v d → Facts t full home (fed_by v (f ∷ []) e false) d
+    → AllFit t.capacity (f ∷ []) → Quiet t (store_of v.feeds) f → Facts t full home v d → Facts t full home (with_feeds v (f ∷ []) e false) d
 quiet_keeps t full home v d f e calm going none fit q k =
     let r = quiet_run t full v.feeds d.takes f none (k.is_open ∙ none) k.tidy k.legal q in
     let q' : Quiet t (stored (last v.feeds d.takes)) f = subst (λ (l : List Message). Quiet t l f) (sym (store_is t v.feeds d.takes k.legal)) q in
@@ -193,7 +193,7 @@ busy_plain t store (Flush true) q = absurd q
 busy_plain t store FlushClosed q = absurd q
 
 pub busy_keeps : (t : Terms) (home : Home) (v d : View) (f : Feed) (e : Step) → v.rotating ≡ false → v.ended ≡ false → finds v.feeds ≡ false
-    → AllFit t.capacity (f ∷ []) → Busy t (store_of v.feeds) f → Facts t true home v d → Facts t true home (fed_by v (f ∷ []) e false) d
+    → AllFit t.capacity (f ∷ []) → Busy t (store_of v.feeds) f → Facts t true home v d → Facts t true home (with_feeds v (f ∷ []) e false) d
 busy_keeps t home v d f e calm going none fit q k =
     let fs : List Feed = v.feeds in let ts : List Take = d.takes in
     let is = busy_plain t (store_of fs) f q in
@@ -202,7 +202,7 @@ busy_keeps t home v d f e calm going none fit q k =
     b.is ∙ (ap (λ (l : List Take). b.front ++ fed f ∷ map got l) (b.none refl)
     ∙ ap (λ (l : List Happening). l ++ fed f ∷ []) (sym (b.was ∙ (ap (λ (l : List Take). b.front ++ map got l) (b.none refl) ∙ append-nil b.front)))) in
     let q' : Busy t (stored (last fs ts)) f = subst (λ (l : List Message). Busy t l f) (sym (store_is t fs ts k.legal)) q in
-    let s = busy_state t (last fs ts) f (k.is_open ∙ none) (within_run (merge fs ts)) k.held q' in
+    let s = busy_state t (last fs ts) f (k.is_open ∙ none) (within_run (merge fs ts)) k.in_hold q' in
     let r = ends_with t (merge fs ts) (merge (fs ++ f ∷ []) ts) (fed f) grown k.legal s.0 in
     plain_facts t true home v d f e is calm going none fit k r.0 r.1 s.1
 
@@ -226,26 +226,26 @@ loud_stores t store (Flush false) q = absurd q
 loud_stores t store FlushClosed q = absurd q
 
 pub loud_keeps : (t : Terms) (home : Home) (v d : View) (f : Feed) (e : Step) → v.ended ≡ false → finds v.feeds ≡ false → d.taking ≡ None
-    → AllFit t.capacity (f ∷ []) → Loud t (store_of v.feeds) f → Facts t false home v d → Facts t true (some (filled t.capacity (handed (store_of v.feeds) f))) (fed_by v (f ∷ []) e false) d
+    → AllFit t.capacity (f ∷ []) → Loud t (store_of v.feeds) f → Facts t false home v d → Facts t true (some (filled t.capacity (handed (store_of v.feeds) f))) (with_feeds v (f ∷ []) e false) d
 loud_keeps t home v d f e going none idle fit q k =
     let fs : List Feed = v.feeds in let ts : List Take = d.takes in
     let is = loud_stores t (store_of fs) f q in
     let stays : by_kind (kind f) false false true ≡ false = ap (λ (k : Kind). by_kind k false false true) is in
     let g = store_last false fs ts f is none k.tidy in
     let store = store_is t fs ts k.legal in
-    let s = loud_state t (last fs ts) f (k.is_open ∙ none) k.held (subst (λ (l : List Message). Loud t l f) (sym store) q) in
+    let s = loud_state t (last fs ts) f (k.is_open ∙ none) k.in_hold (subst (λ (l : List Message). Loud t l f) (sym store) q) in
     let r = ends_with t (merge fs ts) (merge (fs ++ f ∷ []) ts) (fed f) g.0 k.legal s.0 in record {
       fits = fits_more t.capacity fs f fit k.fits;
       legal = r.0;
       is_open = ap (λ (u : PlainList). u.closed) r.1 ∙ (fed_open (last fs ts) f ∙ (k.is_open ∙ (none ∙ sym (finds_more fs f false stays none))));
       closer = λ _. finds_more fs f false stays none;
-      held = subst (IsHeld true) (ap (λ (u : PlainList). u.held) (sym r.1)) s.1;
+      in_hold = subst (IsHeld true) (ap (λ (u : PlainList). u.in_hold) (sym r.1)) s.1;
       tidy = g.1;
       late = no_ended (merge (fs ++ f ∷ []) ts) (ap ended_in (takes_in-merge false (fs ++ f ∷ []) ts) ∙ k.ender going);
       ender = k.ender;
       unclosed = λ _. finds_more fs f false stays none;
       seen = k.seen;
-      place = subst (λ (x : Option (List Message)). Stands t.capacity true false x (some (filled t.capacity (handed (store_of fs) f))) (hold_of (last (fs ++ f ∷ []) ts))) (sym idle)
+      place = subst (λ (x : Option (List Message)). BufferFollowsTurn t.capacity true false x (some (filled t.capacity (handed (store_of fs) f))) (hold_of (last (fs ++ f ∷ []) ts))) (sym idle)
           (ap (λ (l : List Message). some (filled t.capacity l)) (ap (λ (l : List Message). handed l f) (sym store) ∙ (s.2 ∙ ap hold_of (sym r.1))));
     }
 
@@ -272,7 +272,7 @@ first_late t full fs ts f is none tidy legal =
     let ends : last (fs ++ f ∷ []) ts ≡ u = ap (λ (l : List Happening). run empty (events l)) g.0 ∙ (run_more empty (merge fs ts) (shut ∷ fed f ∷ []) ∙ l.1) in record {
       legal = subst (λ (l : List Happening). Legal t empty (events l)) (sym g.0) (legal_join t empty (merge fs ts) (shut ∷ fed f ∷ []) legal (tt, (l.0, tt)));
       closes = ap (λ (x : PlainList). x.closed) ends;
-      keeps = record { held = ap (λ (x : PlainList). x.held) (sym ends); hold = ap hold_of (sym ends) };
+      keeps = record { in_hold = ap (λ (x : PlainList). x.in_hold) (sym ends); hold = ap hold_of (sym ends) };
       tidy = g.1;
       found = finds_more fs f true (late_finds f is) none;
     }
@@ -286,7 +286,7 @@ next_late t full fs ts f is had shut' tidy legal =
     let ends : last (fs ++ f ∷ []) ts ≡ last fs ts = r.1 ∙ l.1 in record {
       legal = r.0;
       closes = ap (λ (x : PlainList). x.closed) ends ∙ shut';
-      keeps = record { held = ap (λ (x : PlainList). x.held) (sym ends); hold = ap hold_of (sym ends) };
+      keeps = record { in_hold = ap (λ (x : PlainList). x.in_hold) (sym ends); hold = ap hold_of (sym ends) };
       tidy = g.1;
       found = found_more fs f had;
     }
@@ -300,27 +300,27 @@ later t full fs ts f is o tidy legal = by (finds fs) refl
     by false e = first_late t full fs ts f is e tidy legal
 
 pub late_keeps : (t : Terms) (full : Bool) (home : Home) (v d : View) (f : Feed) (e : Step) → v.rotating ≡ false → v.ended ≡ false → d.closed ≡ true → kind f ≡ finds_closed
-    → AllFit t.capacity (f ∷ []) → Facts t full home v d → Facts t full home (fed_by v (f ∷ []) e false) d
+    → AllFit t.capacity (f ∷ []) → Facts t full home v d → Facts t full home (with_feeds v (f ∷ []) e false) d
 late_keeps t full home v d f e calm going shut' is fit k =
     let l = later t full v.feeds d.takes f is k.is_open k.tidy k.legal in record {
       fits = fits_more t.capacity v.feeds f fit k.fits;
       legal = l.legal;
       is_open = l.closes ∙ sym l.found;
       closer = λ n. absurd (true≢false (sym shut' ∙ n));
-      held = subst (IsHeld full) l.keeps.held k.held;
+      in_hold = subst (IsHeld full) l.keeps.in_hold k.in_hold;
       tidy = l.tidy;
       late = no_ended (merge (v.feeds ++ f ∷ []) d.takes) (ap ended_in (takes_in-merge false (v.feeds ++ f ∷ []) d.takes) ∙ k.ender going);
       ender = k.ender;
       unclosed = λ n. absurd (true≢false (sym n ∙ k.ender going));
       seen = k.seen;
-      place = subst (Stands t.capacity full false d.taking home) l.keeps.hold (subst (λ (x : Bool). Stands t.capacity full x d.taking home (hold_of (last v.feeds d.takes))) calm k.place);
+      place = subst (BufferFollowsTurn t.capacity full false d.taking home) l.keeps.hold (subst (λ (x : Bool). BufferFollowsTurn t.capacity full x d.taking home (hold_of (last v.feeds d.takes))) calm k.place);
     }
 
 -- ---- Reads
 
-idle_fair : (t : Terms) (s : PlainList) (b : Bool) → s.held ≡ 0 → Fair t s (event_of (got (idle b))) × (next s (event_of (got (idle b))) ≡ s)
-idle_fair t s true z = (inr z, refl)
-idle_fair t s false z = (inr z, refl)
+idle_right : (t : Terms) (s : PlainList) (b : Bool) → s.in_hold ≡ 0 → IsRight t s (event_of (got (idle b))) × (next s (event_of (got (idle b))) ≡ s)
+idle_right t s true z = (inr z, refl)
+idle_right t s false z = (inr z, refl)
 
 idle_answers : (b : Bool) → Answers (idle b) false
 idle_answers true = refl
@@ -332,45 +332,45 @@ idle_ender v d true e seen ender n = absurd (true≢false (sym (seen e) ∙ n))
 idle_ender v d false e seen ender n = ended_same d.takes Nothing refl ∙ ender n
 
 pub idle_keeps : (t : Terms) (home : Home) (v d : View) (e : Step) → d.closed ≡ false → d.taking ≡ None → Facts t false home v d
-    → Facts t false home v (taken_by d (idle d.sees_end ∷ []) e None)
+    → Facts t false home v (with_takes d (idle d.sees_end ∷ []) e None)
 idle_keeps t home v d e unshut calm k =
     let fs : List Feed = v.feeds in let ts : List Take = d.takes in let r : Take = idle d.sees_end in
     let none = k.closer unshut in
     let g = read_last false fs ts r false (idle_answers d.sees_end) none k.tidy in
-    let i = idle_fair t (last fs ts) d.sees_end k.held in
+    let i = idle_right t (last fs ts) d.sees_end k.in_hold in
     let l = ends_with t (merge fs ts) (merge fs (ts ++ r ∷ [])) (got r) g.0 k.legal i.0 in
     let ends : last fs (ts ++ r ∷ []) ≡ last fs ts = l.1 ∙ i.1 in record {
       fits = k.fits;
       legal = l.0;
       is_open = ap (λ (u : PlainList). u.closed) ends ∙ k.is_open;
       closer = k.closer;
-      held = subst (IsHeld false) (ap (λ (u : PlainList). u.held) (sym ends)) k.held;
+      in_hold = subst (IsHeld false) (ap (λ (u : PlainList). u.in_hold) (sym ends)) k.in_hold;
       tidy = g.1;
       late = subst EndedIsLast (sym g.0) (ended_more (merge fs ts) r k.late);
       ender = idle_ender v d d.sees_end refl k.seen k.ender;
       unclosed = λ _. none;
       seen = k.seen;
-      place = subst (Stands t.capacity false v.rotating None home) (ap hold_of (sym ends)) (subst (λ (x : Option (List Message)). Stands t.capacity false v.rotating x home (hold_of (last fs ts))) calm k.place);
+      place = subst (BufferFollowsTurn t.capacity false v.rotating None home) (ap hold_of (sym ends)) (subst (λ (x : Option (List Message)). BufferFollowsTurn t.capacity false v.rotating x home (hold_of (last fs ts))) calm k.place);
     }
 
 pub full_keeps : (t : Terms) (home : Home) (v d : View) (batch : List Message) (e : Step) → d.closed ≡ false → d.taking ≡ Some batch → v.rotating ≡ false → Facts t true home v d
-    → Facts t false (some (filled t.capacity [])) v (taken_by d (Full batch ∷ []) e None)
+    → Facts t false (some (filled t.capacity [])) v (with_takes d (Full batch ∷ []) e None)
 full_keeps t home v d batch e unshut busy calm k =
     let fs : List Feed = v.feeds in let ts : List Take = d.takes in let r : Take = Full batch in
     let none = k.closer unshut in
-    let place : Stands t.capacity true false (Some batch) home (hold_of (last fs ts)) =
-    subst (λ (x : Option (List Message)). Stands t.capacity true false x home (hold_of (last fs ts))) busy (subst (λ (x : Bool). Stands t.capacity true x d.taking home (hold_of (last fs ts))) calm k.place) in
+    let place : BufferFollowsTurn t.capacity true false (Some batch) home (hold_of (last fs ts)) =
+    subst (λ (x : Option (List Message)). BufferFollowsTurn t.capacity true false x home (hold_of (last fs ts))) busy (subst (λ (x : Bool). BufferFollowsTurn t.capacity true x d.taking home (hold_of (last fs ts))) calm k.place) in
     let g = read_last false fs ts r true refl none k.tidy in
-    let l = ends_with t (merge fs ts) (merge fs (ts ++ r ∷ [])) (got r) g.0 k.legal (k.is_open ∙ none, k.held, place.1) in record {
+    let l = ends_with t (merge fs ts) (merge fs (ts ++ r ∷ [])) (got r) g.0 k.legal (k.is_open ∙ none, k.in_hold, place.1) in record {
       fits = k.fits;
       legal = l.0;
       is_open = ap (λ (u : PlainList). u.closed) l.1 ∙ k.is_open;
       closer = k.closer;
-      held = ap (λ (u : PlainList). u.held) l.1;
+      in_hold = ap (λ (u : PlainList). u.in_hold) l.1;
       tidy = g.1;
       late = subst EndedIsLast (sym g.0) (ended_more (merge fs ts) r k.late);
       ender = λ n. ended_same ts r refl ∙ k.ender n;
       unclosed = λ _. none;
       seen = k.seen;
-      place = subst (λ (x : Bool). Stands t.capacity false x None (some (filled t.capacity [])) (hold_of (last fs (ts ++ r ∷ [])))) (sym calm) refl;
+      place = subst (λ (x : Bool). BufferFollowsTurn t.capacity false x None (some (filled t.capacity [])) (hold_of (last fs (ts ++ r ∷ [])))) (sym calm) refl;
     }

@@ -5,7 +5,7 @@ use Rattle.listener.specs.declared.mode.Mode.{Mode}
 use Rattle.listener.specs.declared.mode.Mode.TheVariants.{Buffered, Immediate}
 use Rattle.listener.specs.declared.message.Message.{Message}
 use Rattle.listener.specs.Messages.{room}
-use Rattle.listener.specs.PlainList.{Terms, PlainList, empty, closed, stored, Fair, Legal, StaysStored, IsHandedOver, next, run, flushed}
+use Rattle.listener.specs.PlainList.{Terms, PlainList, empty, closed, stored, IsRight, Legal, StaysStored, IsHandedOver, next, run, flushed}
 use Rattle.listener.specs.Laws.{HeldIsWithin}
 use Rattle.handover.specs.declared.calls.Feed.{Feed}
 use Rattle.handover.specs.declared.calls.Feed.TheVariants.{Arrive, Flush, FlushClosed}
@@ -18,39 +18,39 @@ use Rattle.handover.proofs.Merges.{feeds_fed}
 
 -- a state that waits for no read has nothing held, and any other has
 abbrev Holds : Bool → PlainList → Type 0
-Holds true s = 0 < s.held
-Holds false s = s.held ≡ 0
+Holds true s = 0 < s.in_hold
+Holds false s = s.in_hold ≡ 0
 
 -- Two open states with one store: the first is after reads that the second has not made.
 pub record Twin (after : Bool) (s u : PlainList) : Type 0 where
   pub left : HeldIsWithin s
   pub right : HeldIsWithin u
   pub same : stored s ≡ stored u
-  pub idle : after ≡ false → s.held ≡ 0
+  pub idle : after ≡ false → s.in_hold ≡ 0
   pub holds : Holds after u
   pub left_open : s.closed ≡ false
   pub right_open : u.closed ≡ false
 
-stays_held : (mode : Mode) (u : PlainList) → 0 < u.held → StaysStored mode u
+stays_held : (mode : Mode) (u : PlainList) → 0 < u.in_hold → StaysStored mode u
 stays_held Buffered u h = tt
 stays_held Immediate u h = h
 
-stays_alike : (mode : Mode) (s u : PlainList) → s.held ≡ 0 → StaysStored mode s → StaysStored mode u
+stays_alike : (mode : Mode) (s u : PlainList) → s.in_hold ≡ 0 → StaysStored mode s → StaysStored mode u
 stays_alike Buffered s u z h = tt
 stays_alike Immediate s u z h = absurd (omega (arith, z, h))
 
-handed_alike : (mode : Mode) (s u : PlainList) → u.held ≡ 0 → IsHandedOver mode s → IsHandedOver mode u
+handed_alike : (mode : Mode) (s u : PlainList) → u.in_hold ≡ 0 → IsHandedOver mode s → IsHandedOver mode u
 handed_alike Buffered s u z h = absurd h
 handed_alike Immediate s u z h = z
 
-flush_alike : (t : Terms) (s u : PlainList) → Twin false s u → Fair t s (flushed false) → Fair t u (flushed false)
+flush_alike : (t : Terms) (s u : PlainList) → Twin false s u → IsRight t s (flushed false) → IsRight t u (flushed false)
 flush_alike t s u w (inl c) = absurd (true≢false (sym c ∙ w.left_open))
 flush_alike t s u w (inr (inl p)) = absurd (omega (arith, p, w.idle refl))
 flush_alike t s u w (inr (inr e)) = inr (inr (ap (λ (n : ℕ). drop n u.pending) (sym w.holds) ∙ (sym w.same ∙ (ap (λ (n : ℕ). drop n s.pending) (w.idle refl) ∙ e))))
 
 -- a call that neither stores 1 nor finds the pair closed
-plain_step : (t : Terms) (after : Bool) (s u : PlainList) (f : Feed) → kind f ≡ plain → Twin after s u → Fair t s (event_of (fed f))
-    → Fair t u (event_of (fed f)) × Holds after (next u (event_of (fed f))) × (after ≡ false → (next s (event_of (fed f))).held ≡ 0)
+plain_step : (t : Terms) (after : Bool) (s u : PlainList) (f : Feed) → kind f ≡ plain → Twin after s u → IsRight t s (event_of (fed f))
+    → IsRight t u (event_of (fed f)) × Holds after (next u (event_of (fed f))) × (after ≡ false → (next s (event_of (fed f))).in_hold ≡ 0)
 plain_step t true s u (Arrive None Passed) is w h = (w.right_open, w.holds, w.idle)
 plain_step t true s u (Arrive None Stored) is w h = absurd h
 plain_step t true s u (Arrive None Held) is w h = absurd (cc)
@@ -83,8 +83,8 @@ plain_step t false s u (Flush false) is w h = (flush_alike t s u w h, w.holds, w
 plain_step t false s u FlushClosed is w h = absurd (cc)
 
 -- a call that stores 1
-store_step : (t : Terms) (s u : PlainList) (f : Feed) → kind f ≡ stores → stored s ≡ stored u → u.held ≡ 0 → u.closed ≡ false → AllFit t.capacity (f ∷ []) → Fair t s (event_of (fed f))
-    → Fair t u (event_of (fed f)) × (0 < (next u (event_of (fed f))).held)
+store_step : (t : Terms) (s u : PlainList) (f : Feed) → kind f ≡ stores → stored s ≡ stored u → u.in_hold ≡ 0 → u.closed ≡ false → AllFit t.capacity (f ∷ []) → IsRight t s (event_of (fed f))
+    → IsRight t u (event_of (fed f)) × (0 < (next u (event_of (fed f))).in_hold)
 store_step t s u (Arrive None Passed) is same z o fit h = absurd (cc)
 store_step t s u (Arrive None Stored) is same z o fit h = absurd h
 store_step t s u (Arrive None Held) is same z o fit h = absurd h
@@ -102,7 +102,7 @@ store_step t s u (Flush false) is same z o fit h = absurd (cc)
 store_step t s u FlushClosed is same z o fit h = absurd (cc)
 
 -- the answers of a closed list are those of any other
-closed_alike : (t : Terms) (s u : PlainList) (f : Feed) → s.closed ≡ true → u.closed ≡ true → Fair t s (event_of (fed f)) → Fair t u (event_of (fed f))
+closed_alike : (t : Terms) (s u : PlainList) (f : Feed) → s.closed ≡ true → u.closed ≡ true → IsRight t s (event_of (fed f)) → IsRight t u (event_of (fed f))
 closed_alike t s u (Arrive None Passed) c d h = absurd (true≢false (sym c ∙ h))
 closed_alike t s u (Arrive None Stored) c d h = absurd h
 closed_alike t s u (Arrive None Held) c d h = absurd h
@@ -145,7 +145,7 @@ reads_legal : (t : Terms) (s : PlainList) (ts : List Take) (hs : List Happening)
 reads_legal t s [] hs h = tt
 reads_legal t s (r ∷ ts) hs h = (h.0, reads_legal t (next s (event_of (got r))) ts hs h.1)
 
-stored_state : (t : Terms) (s u : PlainList) (f : Feed) → HeldIsWithin s → HeldIsWithin u → stored s ≡ stored u → Fair t s (event_of (fed f)) → Fair t u (event_of (fed f))
+stored_state : (t : Terms) (s u : PlainList) (f : Feed) → HeldIsWithin s → HeldIsWithin u → stored s ≡ stored u → IsRight t s (event_of (fed f)) → IsRight t u (event_of (fed f))
     → stored (next s (event_of (fed f))) ≡ stored (next u (event_of (fed f)))
 stored_state t s u f w v e p q =
     stored_run t s (fed f ∷ []) w (p, tt) ∙ (ap (λ (l : List Message). store_from l (f ∷ [])) e ∙ sym (stored_run t u (fed f ∷ []) v (q, tt)))
@@ -157,8 +157,8 @@ fits_head capacity (Flush full) fs fits = (tt, fits)
 fits_head capacity FlushClosed fs fits = (tt, fits)
 
 -- behind a call that stores 1, from the states z and v
-twin : (t : Terms) (f : Feed) (z v : PlainList) → HeldIsWithin z → HeldIsWithin v → stored z ≡ stored v → z.closed ≡ false → v.closed ≡ false → Fair t z (event_of (fed f))
-    → Fair t v (event_of (fed f)) → 0 < (next v (event_of (fed f))).held → Twin true (next z (event_of (fed f))) (next v (event_of (fed f)))
+twin : (t : Terms) (f : Feed) (z v : PlainList) → HeldIsWithin z → HeldIsWithin v → stored z ≡ stored v → z.closed ≡ false → v.closed ≡ false → IsRight t z (event_of (fed f))
+    → IsRight t v (event_of (fed f)) → 0 < (next v (event_of (fed f))).in_hold → Twin true (next z (event_of (fed f))) (next v (event_of (fed f)))
 twin t f z v w x e o q a b p = record {
   left = within_next z (event_of (fed f)) w;
   right = within_next v (event_of (fed f)) x;

@@ -15,7 +15,7 @@ use Rattle.handover.specs.declared.view.Profile.{Profile}
 use Rattle.handover.specs.Allowed.{handed}
 use Rattle.handover.specs.History.{finds}
 use Rattle.handover.specs.Own.{store_of}
-use Rattle.handover.specs.Rule.{Sat, fed_by, saw_closed, saw_turn, set_turn, Owned}
+use Rattle.handover.specs.Rule.{Sat, with_feeds, saw_closed, saw_turn, set_turn, IsLegalWithReads}
 use Rattle.handover.specs.Seated.{IsFeeder, IsGiving, Went, WentByFlush}
 use Rattle.handover.specs.Steps.{open_alone, found_closed, found_full, gave, kept_steps, flush_steps}
 use Rattle.handover.proofs.Seats.{after_call, one_step, looked, looked_unclosed, longer, Holds, holds, gave_turn}
@@ -27,12 +27,12 @@ capacity_is m b h = ap (λ (k : Filled). k.capacity) h.store
 -- ---- The load of `closed`
 
 -- it found the pair closed
-pub went_late : (m n : Sat) (b : Filled) (gs : List Feed) (f : Feed) (found : ℕ) → IsFeeder m b false → saw_closed gs f m found n → found ≢ 0 → Owned n.0
+pub went_late : (m n : Sat) (b : Filled) (gs : List Feed) (f : Feed) (found : ℕ) → IsFeeder m b false → saw_closed gs f m found n → found ≢ 0 → IsLegalWithReads n.0
     → b ≡ after_call b f → Went m n b f found_closed
 went_late m n b gs f found h saw ne owned same = one_step m n b b f (Load word.Closed 1) h (saw.1 ne).1 owned same
 
 -- it found the pair open, and the store alone decides the call
-pub went_quiet : (m n : Sat) (b c : Filled) (f late : Feed) (found : ℕ) → IsFeeder m b false → saw_closed (f ∷ []) late m found n → found ≡ 0 → Owned n.0
+pub went_quiet : (m n : Sat) (b c : Filled) (f late : Feed) (found : ℕ) → IsFeeder m b false → saw_closed (f ∷ []) late m found n → found ≡ 0 → IsLegalWithReads n.0
     → c ≡ after_call b f → Went m n c f open_alone
 went_quiet m n b c f late found h saw is owned new = one_step m n b c f (Load word.Closed 0) h (saw.0 is).0 owned new
 
@@ -40,11 +40,11 @@ went_quiet m n b c f late found h saw is owned new = one_step m n b c f (Load wo
 pub record Opened (m n : Sat) (b : Filled) : Type 0 where
   pub feeder : IsFeeder n b false
   pub unclosed : finds n.0.feeds ≡ false
-  pub is : n ≡ (fed_by m.0 [] (Load word.Closed 0) false, m.1)
+  pub is : n ≡ (with_feeds m.0 [] (Load word.Closed 0) false, m.1)
   pub profile : m.0.profile ≡ n.0.profile
   pub store : b.messages ≡ store_of n.0.feeds
 
-pub opened : (m n : Sat) (b : Filled) (f : Feed) (found : ℕ) → IsFeeder m b false → saw_closed [] f m found n → found ≡ 0 → Owned n.0 → Opened m n b
+pub opened : (m n : Sat) (b : Filled) (f : Feed) (found : ℕ) → IsFeeder m b false → saw_closed [] f m found n → found ≡ 0 → IsLegalWithReads n.0 → Opened m n b
 opened m n b f found h saw is owned =
     let step = saw.0 is in
     let k = looked m n b (Load word.Closed 0) h step.0 owned in
@@ -63,7 +63,7 @@ still m n b P o p = subst (λ (x : Profile). P x (store_of n.0.feeds)) o.profile
 -- ---- The load of `turn`
 
 -- it found the hold full
-pub went_busy : (m n o : Sat) (b c : Filled) (f : Feed) (found : ℕ) → Opened m n b → saw_turn f n found o → found ≢ 0 → Owned o.0 → c ≡ after_call b f
+pub went_busy : (m n o : Sat) (b c : Filled) (f : Feed) (found : ℕ) → Opened m n b → saw_turn f n found o → found ≢ 0 → IsLegalWithReads o.0 → c ≡ after_call b f
     → Went m o c f found_full
 went_busy m n o b c f found at saw ne owned new =
     longer m n o c f (Load word.Closed 0) (Load word.Turn 1 ∷ []) at.is (one_step n o b c f (Load word.Turn 1) at.feeder (saw.1 ne).1 owned new)
@@ -93,7 +93,7 @@ pub gives : (n p : Sat) (b x : Filled) (f : Feed) → Holds n p b x → x ≡ fi
 gives n p b x f h is = subst (IsGiving p) (is ∙ λ i. filled (h.capacity i) (handed (sym h.store i) f)) h.giving
 
 pub went_loud : (m n o p q : Sat) (b x c : Filled) (f g : Feed) (found : ℕ) → Opened m n b → saw_turn g n found o → found ≡ 0 → p ≡ (o.0, (0, x) ∷ [])
-    → set_turn f p 1 q → Owned q.0 → c ≡ after_call b f → Went m q c f gave
+    → set_turn f p 1 q → IsLegalWithReads q.0 → c ≡ after_call b f → Went m q c f gave
 went_loud m n o p q b x c f g found at saw is swapped set owned new =
     longer m n q c f (Load word.Closed 0) (Load word.Turn 0 ∷ Store word.Turn 1 ∷ []) at.is (gave_turn n o p q b x c f at.feeder (saw.0 is) swapped set owned new)
 
@@ -121,7 +121,7 @@ first_fits b x m fresh small =
 
 -- ---- Flushes
 
-pub flushed_nothing : (m n : Sat) (b : Filled) (found : ℕ) → IsFeeder m b false → saw_closed (Flush false ∷ []) FlushClosed m found n → Owned n.0 → b.messages ≡ []
+pub flushed_nothing : (m n : Sat) (b : Filled) (found : ℕ) → IsFeeder m b false → saw_closed (Flush false ∷ []) FlushClosed m found n → IsLegalWithReads n.0 → b.messages ≡ []
     → WentByFlush m n b.messages b false
 flushed_nothing m n b zero h saw owned none = record {
   call = Flush false;

@@ -7,7 +7,7 @@ use Rattle.listener.specs.declared.answer.Fed.TheVariants.{Passed, Stored, Held,
 use Rattle.listener.specs.declared.mode.Mode.{Mode}
 use Rattle.listener.specs.declared.message.Message.{Message}
 use Rattle.listener.specs.Messages.{room}
-use Rattle.listener.specs.PlainList.{Terms, PlainList, plain, empty, Event, read, stored, Fair, Legal, StaysStored, IsHandedOver, next, run}
+use Rattle.listener.specs.PlainList.{Terms, PlainList, plain, empty, Event, read, stored, IsRight, Legal, StaysStored, IsHandedOver, next, run}
 use Rattle.listener.specs.Laws.{HeldIsWithin, hold_of}
 use Rattle.listener.proofs.Events.{held_stays, buffers_follow}
 use Rattle.listener.proofs.Rooms.{room_nil}
@@ -42,13 +42,13 @@ pub within_run : (hs : List Happening) → HeldIsWithin (run empty (events hs))
 within_run hs = held_stays empty (events hs) (omega arith)
 
 -- the store is told by the feeder's calls
-stored_next : (t : Terms) (s : PlainList) (h : Happening) (hs : List Happening) → HeldIsWithin s → Fair t s (event_of h)
+stored_next : (t : Terms) (s : PlainList) (h : Happening) (hs : List Happening) → HeldIsWithin s → IsRight t s (event_of h)
     → store_from (stored (next s (event_of h))) (feeds_in hs) ≡ store_from (stored s) (feeds_in (h ∷ hs))
-stored_next t s (fed f) hs w fair = ap (λ (l : List Message). store_from l (feeds_in hs)) (buffers_follow t s (event_of (fed f)) w fair).store
-stored_next t s (got (Full b)) hs w fair = ap (λ (l : List Message). store_from l (feeds_in hs)) (buffers_follow t s (read (Some b)) w fair).store
-stored_next t s (got Nothing) hs w fair = refl
-stored_next t s (got Ended) hs w fair = refl
-stored_next t s shut hs w fair = refl
+stored_next t s (fed f) hs w is_right = ap (λ (l : List Message). store_from l (feeds_in hs)) (buffers_follow t s (event_of (fed f)) w is_right).store
+stored_next t s (got (Full b)) hs w is_right = ap (λ (l : List Message). store_from l (feeds_in hs)) (buffers_follow t s (read (Some b)) w is_right).store
+stored_next t s (got Nothing) hs w is_right = refl
+stored_next t s (got Ended) hs w is_right = refl
+stored_next t s shut hs w is_right = refl
 
 pub stored_run : (t : Terms) (s : PlainList) (hs : List Happening) → HeldIsWithin s → Legal t s (events hs) → stored (run s (events hs)) ≡ store_from (stored s) (feeds_in hs)
 stored_run t s [] w legal = refl
@@ -73,47 +73,47 @@ got_open s Ended = refl
 
 -- ---- Calls that the store alone decides
 
-flush_fair : (ms : List Message) (h : ℕ) → drop h ms ≡ [] → (0 < h) ⊎ (ms ≡ [])
-flush_fair ms zero e = inr e
-flush_fair ms (suc h) e = inl (omega arith)
+flush_right : (ms : List Message) (h : ℕ) → drop h ms ≡ [] → (0 < h) ⊎ (ms ≡ [])
+flush_right ms zero e = inr e
+flush_right ms (suc h) e = inl (omega arith)
 
-pub quiet_fair : (t : Terms) (s : PlainList) (f : Feed) → s.closed ≡ false → Quiet t (stored s) f → Fair t s (event_of (fed f))
-quiet_fair t s (Arrive None Passed) o q = o
-quiet_fair t s (Arrive (Some m) Stored) o q = (o, q.1, subst (λ (x : Mode). StaysStored x s) (sym q.0) tt)
-quiet_fair t s (Flush false) o q = inr (flush_fair s.pending s.held q)
-quiet_fair t s (Arrive None Stored) o q = absurd q
-quiet_fair t s (Arrive None Held) o q = absurd q
-quiet_fair t s (Arrive None Rotated) o q = absurd q
-quiet_fair t s (Arrive None Dropped) o q = absurd q
-quiet_fair t s (Arrive None Closed) o q = absurd q
-quiet_fair t s (Arrive (Some m) Passed) o q = absurd q
-quiet_fair t s (Arrive (Some m) Held) o q = absurd q
-quiet_fair t s (Arrive (Some m) Rotated) o q = absurd q
-quiet_fair t s (Arrive (Some m) Dropped) o q = absurd q
-quiet_fair t s (Arrive (Some m) Closed) o q = absurd q
-quiet_fair t s (Flush true) o q = absurd q
-quiet_fair t s FlushClosed o q = absurd q
+pub quiet_right : (t : Terms) (s : PlainList) (f : Feed) → s.closed ≡ false → Quiet t (stored s) f → IsRight t s (event_of (fed f))
+quiet_right t s (Arrive None Passed) o q = o
+quiet_right t s (Arrive (Some m) Stored) o q = (o, q.1, subst (λ (x : Mode). StaysStored x s) (sym q.0) tt)
+quiet_right t s (Flush false) o q = inr (flush_right s.pending s.in_hold q)
+quiet_right t s (Arrive None Stored) o q = absurd q
+quiet_right t s (Arrive None Held) o q = absurd q
+quiet_right t s (Arrive None Rotated) o q = absurd q
+quiet_right t s (Arrive None Dropped) o q = absurd q
+quiet_right t s (Arrive None Closed) o q = absurd q
+quiet_right t s (Arrive (Some m) Passed) o q = absurd q
+quiet_right t s (Arrive (Some m) Held) o q = absurd q
+quiet_right t s (Arrive (Some m) Rotated) o q = absurd q
+quiet_right t s (Arrive (Some m) Dropped) o q = absurd q
+quiet_right t s (Arrive (Some m) Closed) o q = absurd q
+quiet_right t s (Flush true) o q = absurd q
+quiet_right t s FlushClosed o q = absurd q
 
 -- a read, and the call that may stand before it
 pub record Swaps (t : Terms) (s : PlainList) (r : Take) (f : Feed) : Type 0 where
-  pub fair : Fair t (next s (event_of (fed f))) (event_of (got r))
+  pub is_right : IsRight t (next s (event_of (fed f))) (event_of (got r))
   pub same : next (next s (event_of (fed f))) (event_of (got r)) ≡ next (next s (event_of (got r))) (event_of (fed f))
   pub quiet : Quiet t (stored (next s (event_of (got r)))) f
 
-swap_one : (t : Terms) (s : PlainList) (r : Take) (f : Feed) → HeldIsWithin s → Quiet t (stored s) f → Fair t s (event_of (got r)) → Swaps t s r f
+swap_one : (t : Terms) (s : PlainList) (r : Take) (f : Feed) → HeldIsWithin s → Quiet t (stored s) f → IsRight t s (event_of (got r)) → Swaps t s r f
 swap_one t s (Full b) (Arrive (Some m) Stored) w q h = record {
-  fair = (h.0, h.1, h.2 ∙ sym (take-append-le s.held s.pending (m ∷ []) w));
-  same = λ i. plain (drop-append-le s.held s.pending (m ∷ []) w i) 0 (s.received + 1) (s.matched + 1) s.dropped s.closed;
+  is_right = (h.0, h.1, h.2 ∙ sym (take-append-le s.in_hold s.pending (m ∷ []) w));
+  same = λ i. plain (drop-append-le s.in_hold s.pending (m ∷ []) w i) 0 (s.received + 1) (s.matched + 1) s.dropped s.closed;
   quiet = q;
 }
-swap_one t s Nothing (Arrive (Some m) Stored) w q h = record { fair = h; same = refl; quiet = q }
-swap_one t s Ended (Arrive (Some m) Stored) w q h = record { fair = h; same = refl; quiet = q }
-swap_one t s (Full b) (Arrive None Passed) w q h = record { fair = h; same = refl; quiet = q }
-swap_one t s Nothing (Arrive None Passed) w q h = record { fair = h; same = refl; quiet = q }
-swap_one t s Ended (Arrive None Passed) w q h = record { fair = h; same = refl; quiet = q }
-swap_one t s (Full b) (Flush false) w q h = record { fair = h; same = refl; quiet = q }
-swap_one t s Nothing (Flush false) w q h = record { fair = h; same = refl; quiet = q }
-swap_one t s Ended (Flush false) w q h = record { fair = h; same = refl; quiet = q }
+swap_one t s Nothing (Arrive (Some m) Stored) w q h = record { is_right = h; same = refl; quiet = q }
+swap_one t s Ended (Arrive (Some m) Stored) w q h = record { is_right = h; same = refl; quiet = q }
+swap_one t s (Full b) (Arrive None Passed) w q h = record { is_right = h; same = refl; quiet = q }
+swap_one t s Nothing (Arrive None Passed) w q h = record { is_right = h; same = refl; quiet = q }
+swap_one t s Ended (Arrive None Passed) w q h = record { is_right = h; same = refl; quiet = q }
+swap_one t s (Full b) (Flush false) w q h = record { is_right = h; same = refl; quiet = q }
+swap_one t s Nothing (Flush false) w q h = record { is_right = h; same = refl; quiet = q }
+swap_one t s Ended (Flush false) w q h = record { is_right = h; same = refl; quiet = q }
 swap_one t s r (Arrive None Stored) w q h = absurd q
 swap_one t s r (Arrive None Held) w q h = absurd q
 swap_one t s r (Arrive None Rotated) w q h = absurd q
@@ -133,17 +133,17 @@ swap_all t s [] f w q h = (tt, refl)
 swap_all t s (r ∷ rs) f w q h =
     let o = swap_one t s r f w q h.0 in
     let more = swap_all t (next s (event_of (got r))) rs f (within_next s (event_of (got r)) w) o.quiet h.1 in
-    ((o.fair, subst (λ (u : PlainList). Legal t u (events (map got rs))) (sym o.same) more.0), ap (λ (u : PlainList). run u (events (map got rs))) o.same ∙ more.1)
+    ((o.is_right, subst (λ (u : PlainList). Legal t u (events (map got rs))) (sym o.same) more.0), ap (λ (u : PlainList). run u (events (map got rs))) o.same ∙ more.1)
 
 -- a call leaves the hold as it is
 pub record Keeps (s u : PlainList) : Type 0 where
-  pub held : s.held ≡ u.held
+  pub in_hold : s.in_hold ≡ u.in_hold
   pub hold : hold_of s ≡ hold_of u
 
 pub quiet_state : (t : Terms) (s : PlainList) (f : Feed) → HeldIsWithin s → Quiet t (stored s) f → Keeps s (next s (event_of (fed f)))
-quiet_state t s (Arrive None Passed) w q = record { held = refl; hold = refl }
-quiet_state t s (Arrive (Some m) Stored) w q = record { held = refl; hold = sym (take-append-le s.held s.pending (m ∷ []) w) }
-quiet_state t s (Flush false) w q = record { held = refl; hold = refl }
+quiet_state t s (Arrive None Passed) w q = record { in_hold = refl; hold = refl }
+quiet_state t s (Arrive (Some m) Stored) w q = record { in_hold = refl; hold = sym (take-append-le s.in_hold s.pending (m ∷ []) w) }
+quiet_state t s (Flush false) w q = record { in_hold = refl; hold = refl }
 quiet_state t s (Arrive None Stored) w q = absurd q
 quiet_state t s (Arrive None Held) w q = absurd q
 quiet_state t s (Arrive None Rotated) w q = absurd q
@@ -159,11 +159,11 @@ quiet_state t s FlushClosed w q = absurd q
 
 -- ---- Calls that found the hold full
 
-pub busy_state : (t : Terms) (s : PlainList) (f : Feed) → s.closed ≡ false → HeldIsWithin s → 0 < s.held → Busy t (stored s) f
-    → Fair t s (event_of (fed f)) × Keeps s (next s (event_of (fed f)))
-busy_state t s (Arrive (Some m) Stored) o w h q = ((o, q.1, subst (λ (x : Mode). StaysStored x s) (sym q.0) h), record { held = refl; hold = sym (take-append-le s.held s.pending (m ∷ []) w) })
-busy_state t s (Arrive (Some m) Dropped) o w h q = ((o, q, h), record { held = refl; hold = refl })
-busy_state t s (Flush false) o w h q = (inr (inl h), record { held = refl; hold = refl })
+pub busy_state : (t : Terms) (s : PlainList) (f : Feed) → s.closed ≡ false → HeldIsWithin s → 0 < s.in_hold → Busy t (stored s) f
+    → IsRight t s (event_of (fed f)) × Keeps s (next s (event_of (fed f)))
+busy_state t s (Arrive (Some m) Stored) o w h q = ((o, q.1, subst (λ (x : Mode). StaysStored x s) (sym q.0) h), record { in_hold = refl; hold = sym (take-append-le s.in_hold s.pending (m ∷ []) w) })
+busy_state t s (Arrive (Some m) Dropped) o w h q = ((o, q, h), record { in_hold = refl; hold = refl })
+busy_state t s (Flush false) o w h q = (inr (inl h), record { in_hold = refl; hold = refl })
 busy_state t s (Arrive None Passed) o w h q = absurd q
 busy_state t s (Arrive None Stored) o w h q = absurd q
 busy_state t s (Arrive None Held) o w h q = absurd q
@@ -179,15 +179,15 @@ busy_state t s FlushClosed o w h q = absurd q
 
 -- ---- Calls that make the store the hold
 
-drop_none : (s : PlainList) → s.held ≡ 0 → stored s ≡ s.pending
+drop_none : (s : PlainList) → s.in_hold ≡ 0 → stored s ≡ s.pending
 drop_none s e = ap (λ (n : ℕ). drop n s.pending) e
 
 pub full_list : (ms : List Message) → 0 < room ms → 0 < length ms
 full_list [] r = absurd (omega (arith, room_nil))
 full_list (m ∷ ms) r = omega arith
 
-pub loud_state : (t : Terms) (s : PlainList) (f : Feed) → s.closed ≡ false → s.held ≡ 0 → Loud t (stored s) f
-    → Fair t s (event_of (fed f)) × (0 < (next s (event_of (fed f))).held) × (handed (stored s) f ≡ hold_of (next s (event_of (fed f))))
+pub loud_state : (t : Terms) (s : PlainList) (f : Feed) → s.closed ≡ false → s.in_hold ≡ 0 → Loud t (stored s) f
+    → IsRight t s (event_of (fed f)) × (0 < (next s (event_of (fed f))).in_hold) × (handed (stored s) f ≡ hold_of (next s (event_of (fed f))))
 loud_state t s (Arrive (Some m) Held) o z q = (
   (o, q.1, subst (λ (x : Mode). IsHandedOver x s) (sym q.0) z),
   omega (arith, length-append s.pending (m ∷ [])),
@@ -214,7 +214,7 @@ loud_state t s FlushClosed o z q = absurd q
 
 -- ---- Calls that found the pair closed
 
-pub late_state : (t : Terms) (s : PlainList) (f : Feed) → kind f ≡ finds_closed → s.closed ≡ true → Fair t s (event_of (fed f)) × (next s (event_of (fed f)) ≡ s)
+pub late_state : (t : Terms) (s : PlainList) (f : Feed) → kind f ≡ finds_closed → s.closed ≡ true → IsRight t s (event_of (fed f)) × (next s (event_of (fed f)) ≡ s)
 late_state t s (Arrive None Closed) k c = (c, refl)
 late_state t s (Arrive (Some m) Closed) k c = (c, refl)
 late_state t s FlushClosed k c = (inl c, refl)

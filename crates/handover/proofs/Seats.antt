@@ -13,7 +13,7 @@ use Rattle.handover.specs.declared.calls.Step.TheVariants.{Load, Store}
 use Rattle.handover.specs.declared.view.Role.TheVariants.{Drains}
 use Rattle.handover.specs.History.{event_of, fed, finds}
 use Rattle.handover.specs.Own.{store_from, store_of}
-use Rattle.handover.specs.Rule.{Sat, bit, idle, fed_by, taken_by, saw_end, ended_by, closed_by, looked_ended, looked_turn, cleared, Owned}
+use Rattle.handover.specs.Rule.{Sat, bit, idle, with_feeds, with_takes, saw_end, ended_by, closed_by, looked_ended, looked_turn, cleared, IsLegalWithReads}
 use Rattle.handover.specs.Seated.{IsFeeder, IsGiving, Went, IsDrain}
 use Rattle.handover.specs.Steps.{GrewByRead}
 
@@ -28,31 +28,31 @@ after_call b f = filled b.capacity (store_after b.messages (event_of (fed f)))
 -- ---- The feeder's seat
 
 -- a call that one step ended
-pub one_step : (m n : Sat) (b c : Filled) (f : Feed) (e : Step) → IsFeeder m b false → n ≡ (fed_by m.0 (f ∷ []) e false, m.1) → Owned n.0 → c ≡ after_call b f
+pub one_step : (m n : Sat) (b c : Filled) (f : Feed) (e : Step) → IsFeeder m b false → n ≡ (with_feeds m.0 (f ∷ []) e false, m.1) → IsLegalWithReads n.0 → c ≡ after_call b f
     → Went m n c f (e ∷ [])
 one_step m n b c f e h is owned new =
     let store : c ≡ filled m.0.profile.capacity (store_of (m.0.feeds ++ f ∷ [])) =
     new ∙ (ap (λ (x : Filled). after_call x f) h.store ∙ ap (filled m.0.profile.capacity) (sym (store_from-append [] m.0.feeds (f ∷ [])))) in
     subst (λ (u : Sat). Went m u c f (e ∷ [])) (sym is) (record {
-      feeder = record { role = h.role; calm = refl; ended = h.ended; home = h.home; store = store; owned = subst (λ (u : Sat). Owned u.0) is owned };
+      feeder = record { role = h.role; calm = refl; ended = h.ended; home = h.home; store = store; owned = subst (λ (u : Sat). IsLegalWithReads u.0) is owned };
       profile = refl;
       feeds = refl;
       steps = refl;
     })
 
 -- a step that ended no call
-pub looked : (m n : Sat) (b : Filled) (e : Step) → IsFeeder m b false → n ≡ (fed_by m.0 [] e false, m.1) → Owned n.0 → IsFeeder n b false
+pub looked : (m n : Sat) (b : Filled) (e : Step) → IsFeeder m b false → n ≡ (with_feeds m.0 [] e false, m.1) → IsLegalWithReads n.0 → IsFeeder n b false
 looked m n b e h is owned =
     let store : b ≡ filled m.0.profile.capacity (store_of (m.0.feeds ++ [])) = h.store ∙ ap (λ (l : List Feed). filled m.0.profile.capacity (store_of l)) (sym (append-nil m.0.feeds)) in
     subst (λ (u : Sat). IsFeeder u b false) (sym is)
-    (record { role = h.role; calm = refl; ended = h.ended; home = h.home; store = store; owned = subst (λ (u : Sat). Owned u.0) is owned })
+    (record { role = h.role; calm = refl; ended = h.ended; home = h.home; store = store; owned = subst (λ (u : Sat). IsLegalWithReads u.0) is owned })
 
 -- no call was found closed by it
-pub looked_unclosed : (m n : Sat) (e : Step) → n ≡ (fed_by m.0 [] e false, m.1) → finds m.0.feeds ≡ false → finds n.0.feeds ≡ false
+pub looked_unclosed : (m n : Sat) (e : Step) → n ≡ (with_feeds m.0 [] e false, m.1) → finds m.0.feeds ≡ false → finds n.0.feeds ≡ false
 looked_unclosed m n e is none = ap (λ (u : Sat). finds u.0.feeds) is ∙ ap finds (append-nil m.0.feeds) ∙ none
 
 -- a step that ended no call, before the others
-pub longer : (m n o : Sat) (c : Filled) (f : Feed) (e : Step) (es : List Step) → n ≡ (fed_by m.0 [] e false, m.1) → Went n o c f es → Went m o c f (e ∷ es)
+pub longer : (m n o : Sat) (c : Filled) (f : Feed) (e : Step) (es : List Step) → n ≡ (with_feeds m.0 [] e false, m.1) → Went n o c f es → Went m o c f (e ∷ es)
 longer m n o c f e es is w = record {
   feeder = w.feeder;
   profile = w.profile ∙ ap (λ (u : Sat). u.0.profile) is;
@@ -68,7 +68,7 @@ pub record Holds (n p : Sat) (b x : Filled) : Type 0 where
   pub capacity : b.capacity ≡ p.0.profile.capacity
 
 pub holds : (n o p : Sat) (b x : Filled) → IsFeeder n b false → finds n.0.feeds ≡ false
-    → o ≡ (fed_by n.0 [] (Load word.Turn 0) true, (0, filled n.0.profile.capacity []) ∷ n.1) → p ≡ (o.0, (0, x) ∷ []) → Holds n p b x
+    → o ≡ (with_feeds n.0 [] (Load word.Turn 0) true, (0, filled n.0.profile.capacity []) ∷ n.1) → p ≡ (o.0, (0, x) ∷ []) → Holds n p b x
 holds n o p b x h none taken swapped =
     subst (λ (u : Sat). Holds n u b x) (sym swapped) (subst (λ (u : Sat). Holds n (u.0, (0, x) ∷ []) b x) (sym taken) (record {
       giving = record { role = h.role; busy = refl; ended = h.ended; unclosed = ap finds (append-nil n.0.feeds) ∙ none; slot = refl };
@@ -78,22 +78,22 @@ holds n o p b x h none taken swapped =
     }))
 
 -- the empty buffer that came out of the slot
-pub came_out : (n o : Sat) (b c : Filled) → IsFeeder n b false → o ≡ (fed_by n.0 [] (Load word.Turn 0) true, (0, filled n.0.profile.capacity []) ∷ n.1)
+pub came_out : (n o : Sat) (b c : Filled) → IsFeeder n b false → o ≡ (with_feeds n.0 [] (Load word.Turn 0) true, (0, filled n.0.profile.capacity []) ∷ n.1)
     → c ≡ filled o.0.profile.capacity [] → c ≡ filled b.capacity []
 came_out n o b c h taken is = is ∙ (ap (λ (u : Sat). filled u.0.profile.capacity []) taken ∙ ap (λ (k : Filled). filled k.capacity []) (sym h.store))
 
 -- a call that made the store the hold
 pub gave_turn : (n o p q : Sat) (b x c : Filled) (f : Feed) → IsFeeder n b false
-    → o ≡ (fed_by n.0 [] (Load word.Turn 0) true, (0, filled n.0.profile.capacity []) ∷ n.1) → p ≡ (o.0, (0, x) ∷ [])
-    → q ≡ (fed_by p.0 (f ∷ []) (Store word.Turn 1) false, rest p.1) → Owned q.0 → c ≡ after_call b f
+    → o ≡ (with_feeds n.0 [] (Load word.Turn 0) true, (0, filled n.0.profile.capacity []) ∷ n.1) → p ≡ (o.0, (0, x) ∷ [])
+    → q ≡ (with_feeds p.0 (f ∷ []) (Store word.Turn 1) false, rest p.1) → IsLegalWithReads q.0 → c ≡ after_call b f
     → Went n q c f (Load word.Turn 0 ∷ Store word.Turn 1 ∷ [])
 gave_turn n o p q b x c f h taken swapped gave owned new =
-    let P : Sat → Type 0 = λ u. Owned u.0 → Went n u c f (Load word.Turn 0 ∷ Store word.Turn 1 ∷ []) in
-    let Q : Sat → Type 0 = λ u. P (fed_by u.0 (f ∷ []) (Store word.Turn 1) false, rest u.1) in
+    let P : Sat → Type 0 = λ u. IsLegalWithReads u.0 → Went n u c f (Load word.Turn 0 ∷ Store word.Turn 1 ∷ []) in
+    let Q : Sat → Type 0 = λ u. P (with_feeds u.0 (f ∷ []) (Store word.Turn 1) false, rest u.1) in
     let store : c ≡ filled n.0.profile.capacity (store_of ((n.0.feeds ++ []) ++ f ∷ [])) =
     new ∙ (ap (λ (k : Filled). after_call k f) h.store ∙ ap (filled n.0.profile.capacity)
     (sym (store_from-append [] (n.0.feeds ++ []) (f ∷ []) ∙ ap (λ (l : List Feed). store_after (store_of l) (event_of (fed f))) (append-nil n.0.feeds)))) in
-    subst P (sym gave) (subst Q (sym swapped) (subst (λ (u : Sat). Q (u.0, (0, x) ∷ [])) (sym taken) (λ (o' : Owned (fed_by (fed_by n.0 [] (Load word.Turn 0) true) (f ∷ []) (Store word.Turn 1) false)). record {
+    subst P (sym gave) (subst Q (sym swapped) (subst (λ (u : Sat). Q (u.0, (0, x) ∷ [])) (sym taken) (λ (o' : IsLegalWithReads (with_feeds (with_feeds n.0 [] (Load word.Turn 0) true) (f ∷ []) (Store word.Turn 1) false)). record {
       feeder = record { role = h.role; calm = refl; ended = h.ended; home = refl; store = store; owned = o' };
       profile = refl;
       feeds = ap (λ (l : List Feed). l ++ f ∷ []) (append-nil n.0.feeds);
@@ -125,9 +125,9 @@ saw_ended m n seen h is = subst (λ (u : Sat). IsDrain u false) (sym is) (record
 
 -- the hold was empty
 pub took_nothing : (m n o : Sat) (seen : Bool) → IsDrain m false → n ≡ (saw_end m.0 seen, m.1)
-    → o ≡ (taken_by n.0 (idle n.0.sees_end ∷ []) (Load word.Turn 0) None, n.1) → Took m o (idle seen)
+    → o ≡ (with_takes n.0 (idle n.0.sees_end ∷ []) (Load word.Turn 0) None, n.1) → Took m o (idle seen)
 took_nothing m n o seen h looked is =
-    subst (λ (u : Sat). Took m u (idle seen)) (sym is) (subst (λ (u : Sat). Took m (taken_by u.0 (idle u.0.sees_end ∷ []) (Load word.Turn 0) None, u.1) (idle seen)) (sym looked) (record {
+    subst (λ (u : Sat). Took m u (idle seen)) (sym is) (subst (λ (u : Sat). Took m (with_takes u.0 (idle u.0.sees_end ∷ []) (Load word.Turn 0) None, u.1) (idle seen)) (sym looked) (record {
       drain = record { role = h.role; calm = refl; closed = h.closed; home = h.home };
       profile = refl;
       takes = refl;
@@ -142,11 +142,11 @@ pub record Brought (m p : Sat) (batch : List Message) : Type 0 where
   pub slot : p.1 ≡ (0, filled p.0.profile.capacity []) ∷ []
 
 pub brought : (m n o p : Sat) (seen : Bool) (b : Filled) (batch : List Message) → IsDrain m false → b ≡ filled m.0.profile.capacity [] → n ≡ (saw_end m.0 seen, m.1)
-    → o ≡ (taken_by n.0 [] (Load word.Turn 1) (Some batch), (0, filled n.0.profile.capacity batch) ∷ n.1) → p ≡ (o.0, (0, b) ∷ rest o.1) → Brought m p batch
+    → o ≡ (with_takes n.0 [] (Load word.Turn 1) (Some batch), (0, filled n.0.profile.capacity batch) ∷ n.1) → p ≡ (o.0, (0, b) ∷ rest o.1) → Brought m p batch
 brought m n o p seen b batch h empty looked took swapped =
     let P : Sat → Type 0 = λ u. Brought m u batch in
     let Q : Sat → Type 0 = λ u. P (u.0, (0, b) ∷ rest u.1) in
-    let R : Sat → Type 0 = λ u. Q (taken_by u.0 [] (Load word.Turn 1) (Some batch), (0, filled u.0.profile.capacity batch) ∷ u.1) in
+    let R : Sat → Type 0 = λ u. Q (with_takes u.0 [] (Load word.Turn 1) (Some batch), (0, filled u.0.profile.capacity batch) ∷ u.1) in
     subst P (sym swapped) (subst Q (sym took) (subst R (sym looked)
     (record { role = h.role; closed = h.closed; taking = refl; slot = λ i. (0, empty i) ∷ h.home i })))
 
@@ -156,13 +156,13 @@ bit_small true = omega arith
 
 -- the hold was read
 pub took_hold : (m n o p q : Sat) (seen : Bool) (b : Filled) (batch : List Message) → IsDrain m false → b ≡ filled m.0.profile.capacity [] → n ≡ (saw_end m.0 seen, m.1)
-    → o ≡ (taken_by n.0 [] (Load word.Turn 1) (Some batch), (0, filled n.0.profile.capacity batch) ∷ n.1) → p ≡ (o.0, (0, b) ∷ rest o.1) → cleared p 0 q
+    → o ≡ (with_takes n.0 [] (Load word.Turn 1) (Some batch), (0, filled n.0.profile.capacity batch) ∷ n.1) → p ≡ (o.0, (0, b) ∷ rest o.1) → cleared p 0 q
     → Took m q (take.Full batch)
 took_hold m n o p q seen b batch h empty looked took swapped gave =
     let P : Sat → Type 0 = λ u. Took m u (take.Full batch) in
-    let Q : Sat → Type 0 = λ u. P (taken_by u.0 (take.Full batch ∷ []) (Store word.Turn 0) None, rest u.1) in
+    let Q : Sat → Type 0 = λ u. P (with_takes u.0 (take.Full batch ∷ []) (Store word.Turn 0) None, rest u.1) in
     let R : Sat → Type 0 = λ u. Q (u.0, (0, b) ∷ rest u.1) in
-    let S : Sat → Type 0 = λ u. R (taken_by u.0 [] (Load word.Turn 1) (Some batch), (0, filled u.0.profile.capacity batch) ∷ u.1) in
+    let S : Sat → Type 0 = λ u. R (with_takes u.0 [] (Load word.Turn 1) (Some batch), (0, filled u.0.profile.capacity batch) ∷ u.1) in
     let at = brought m n o p seen b batch h empty looked took swapped in
     let steps : GrewByRead (take.Full batch) m.0.take_steps (((m.0.take_steps ++ Load word.Ended (bit seen) ∷ []) ++ Load word.Turn 1 ∷ []) ++ Store word.Turn 0 ∷ []) =
     (bit seen, bit_small seen, append_assoc (m.0.take_steps ++ Load word.Ended (bit seen) ∷ []) (Load word.Turn 1 ∷ []) (Store word.Turn 0 ∷ []) ∙ append_assoc m.0.take_steps (Load word.Ended (bit seen) ∷ []) (Load word.Turn 1 ∷ Store word.Turn 0 ∷ [])) in
@@ -180,9 +180,9 @@ pub took_end : (m n o : Sat) (found full : ℕ) → IsDrain m false → looked_e
 took_end m n o found full h ended turn none ne = took_nothing m n o true h (ended.1 ne).1 (turn.0 none)
 
 -- a seat that has ended or closed
-pub ended_seat : (m n : Sat) (b : Filled) → IsFeeder m b false → n ≡ (ended_by m.0, m.1) → Owned n.0 → IsFeeder n b true
+pub ended_seat : (m n : Sat) (b : Filled) → IsFeeder m b false → n ≡ (ended_by m.0, m.1) → IsLegalWithReads n.0 → IsFeeder n b true
 ended_seat m n b h is owned = subst (λ (u : Sat). IsFeeder u b true) (sym is)
-    (record { role = h.role; calm = h.calm; ended = refl; home = h.home; store = h.store; owned = subst (λ (u : Sat). Owned u.0) is owned })
+    (record { role = h.role; calm = h.calm; ended = refl; home = h.home; store = h.store; owned = subst (λ (u : Sat). IsLegalWithReads u.0) is owned })
 
 pub closed_seat : (m n : Sat) → IsDrain m false → n ≡ (closed_by m.0, m.1) → IsDrain n true
 closed_seat m n h is = subst (λ (u : Sat). IsDrain u true) (sym is) (record { role = h.role; calm = h.calm; closed = refl; home = h.home })

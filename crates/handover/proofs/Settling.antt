@@ -2,7 +2,7 @@
 use Rattle.std.proofs.Common.{◌≡◌, ◌+◌, Bool, true, false, List, [], ◌∷◌, ◌++◌, map, Some, None, drop, refl, sym, ap, ◌∙◌, subst, arith, append_assoc, append-nil, take-append-drop}
 use Rattle.listener.specs.declared.answer.Fed.TheVariants.{Passed, Stored, Held, Rotated, Dropped, Closed}
 use Rattle.listener.specs.declared.message.Message.{Message}
-use Rattle.listener.specs.PlainList.{Terms, PlainList, empty, Fair, Legal, next, run, requests, batches}
+use Rattle.listener.specs.PlainList.{Terms, PlainList, empty, IsRight, Legal, next, run, requests, batches}
 use Rattle.listener.specs.Laws.{AllFitIn, IsKept, joined}
 use Rattle.listener.proofs.KeptRuns.{runs_are_kept}
 use Rattle.handover.specs.declared.calls.Feed.{Feed}
@@ -10,7 +10,7 @@ use Rattle.handover.specs.declared.calls.Feed.TheVariants.{Arrive, Flush, FlushC
 use Rattle.handover.specs.declared.calls.Take.{Take}
 use Rattle.handover.specs.declared.calls.Take.TheVariants.{Full, Nothing, Ended}
 use Rattle.handover.specs.History.{Happening, fed, got, shut, event_of, events, feeds_in, takes_in, plain, stores, finds_closed, kind, by_kind, OnlyFeeds, CloseIsPlaced, turn_of, past_turn, merge_from, merge, batches_of}
-use Rattle.handover.specs.Own.{own, arrivals, matches, drops}
+use Rattle.handover.specs.Own.{own, received_in, matched_in, dropped_in}
 use Rattle.handover.specs.Allowed.{AllFit}
 use Rattle.handover.specs.Rule.{last}
 use Rattle.handover.specs.Settling.{stored_in, undropped_in}
@@ -48,31 +48,31 @@ merges_have_both fs ts = record { feeds = feeds_in-merge false fs ts; takes = ta
 -- ---- The counts
 
 pub record CountsOn (s u : PlainList) (fs gs : List Feed) : Type 0 where
-  pub received : s.received + arrivals fs ≡ u.received + arrivals gs
-  pub matched : s.matched + matches fs ≡ u.matched + matches gs
-  pub dropped : s.dropped + drops fs ≡ u.dropped + drops gs
+  pub received : s.received + received_in fs ≡ u.received + received_in gs
+  pub matched : s.matched + matched_in fs ≡ u.matched + matched_in gs
+  pub dropped : s.dropped + dropped_in fs ≡ u.dropped + dropped_in gs
 
-counts_next : (t : Terms) (s : PlainList) (h : Happening) (hs : List Happening) → Fair t s (event_of h)
+counts_next : (t : Terms) (s : PlainList) (h : Happening) (hs : List Happening) → IsRight t s (event_of h)
     → CountsOn (next s (event_of h)) s (feeds_in hs) (feeds_in (h ∷ hs))
-counts_next t s (fed (Arrive None Passed)) hs fair = record { received = omega arith; matched = omega arith; dropped = omega arith }
-counts_next t s (fed (Arrive None Stored)) hs fair = absurd fair
-counts_next t s (fed (Arrive None Held)) hs fair = absurd fair
-counts_next t s (fed (Arrive None Rotated)) hs fair = absurd fair
-counts_next t s (fed (Arrive None Dropped)) hs fair = absurd fair
-counts_next t s (fed (Arrive None Closed)) hs fair = record { received = omega arith; matched = omega arith; dropped = omega arith }
-counts_next t s (fed (Arrive (Some m) Passed)) hs fair = absurd fair
-counts_next t s (fed (Arrive (Some m) Stored)) hs fair = record { received = omega arith; matched = omega arith; dropped = omega arith }
-counts_next t s (fed (Arrive (Some m) Held)) hs fair = record { received = omega arith; matched = omega arith; dropped = omega arith }
-counts_next t s (fed (Arrive (Some m) Rotated)) hs fair = record { received = omega arith; matched = omega arith; dropped = omega arith }
-counts_next t s (fed (Arrive (Some m) Dropped)) hs fair = record { received = omega arith; matched = omega arith; dropped = omega arith }
-counts_next t s (fed (Arrive (Some m) Closed)) hs fair = record { received = omega arith; matched = omega arith; dropped = omega arith }
-counts_next t s (fed (Flush true)) hs fair = record { received = refl; matched = refl; dropped = refl }
-counts_next t s (fed (Flush false)) hs fair = record { received = refl; matched = refl; dropped = refl }
-counts_next t s (fed FlushClosed) hs fair = record { received = refl; matched = refl; dropped = refl }
-counts_next t s (got (Full b)) hs fair = record { received = refl; matched = refl; dropped = refl }
-counts_next t s (got Nothing) hs fair = record { received = refl; matched = refl; dropped = refl }
-counts_next t s (got Ended) hs fair = record { received = refl; matched = refl; dropped = refl }
-counts_next t s shut hs fair = record { received = refl; matched = refl; dropped = refl }
+counts_next t s (fed (Arrive None Passed)) hs is_right = record { received = omega arith; matched = omega arith; dropped = omega arith }
+counts_next t s (fed (Arrive None Stored)) hs is_right = absurd is_right
+counts_next t s (fed (Arrive None Held)) hs is_right = absurd is_right
+counts_next t s (fed (Arrive None Rotated)) hs is_right = absurd is_right
+counts_next t s (fed (Arrive None Dropped)) hs is_right = absurd is_right
+counts_next t s (fed (Arrive None Closed)) hs is_right = record { received = omega arith; matched = omega arith; dropped = omega arith }
+counts_next t s (fed (Arrive (Some m) Passed)) hs is_right = absurd is_right
+counts_next t s (fed (Arrive (Some m) Stored)) hs is_right = record { received = omega arith; matched = omega arith; dropped = omega arith }
+counts_next t s (fed (Arrive (Some m) Held)) hs is_right = record { received = omega arith; matched = omega arith; dropped = omega arith }
+counts_next t s (fed (Arrive (Some m) Rotated)) hs is_right = record { received = omega arith; matched = omega arith; dropped = omega arith }
+counts_next t s (fed (Arrive (Some m) Dropped)) hs is_right = record { received = omega arith; matched = omega arith; dropped = omega arith }
+counts_next t s (fed (Arrive (Some m) Closed)) hs is_right = record { received = omega arith; matched = omega arith; dropped = omega arith }
+counts_next t s (fed (Flush true)) hs is_right = record { received = refl; matched = refl; dropped = refl }
+counts_next t s (fed (Flush false)) hs is_right = record { received = refl; matched = refl; dropped = refl }
+counts_next t s (fed FlushClosed) hs is_right = record { received = refl; matched = refl; dropped = refl }
+counts_next t s (got (Full b)) hs is_right = record { received = refl; matched = refl; dropped = refl }
+counts_next t s (got Nothing) hs is_right = record { received = refl; matched = refl; dropped = refl }
+counts_next t s (got Ended) hs is_right = record { received = refl; matched = refl; dropped = refl }
+counts_next t s shut hs is_right = record { received = refl; matched = refl; dropped = refl }
 
 counts_run : (t : Terms) (s : PlainList) (hs : List Happening) → Legal t s (events hs) → CountsOn (run s (events hs)) s [] (feeds_in hs)
 counts_run t s [] legal = record { received = refl; matched = refl; dropped = refl }
@@ -116,9 +116,9 @@ histories_are_settled t fs ts fits legal =
     let k = histories_are_kept t fs ts fits legal in
     let c = counts_run t empty hs legal in
     let bs : batches (events hs) ≡ batches_of ts = batches_are hs ∙ ap batches_of (takes_in-merge false fs ts) in
-    let a : arrivals (feeds_in hs) ≡ arrivals fs = ap arrivals fed_is in
-    let m : matches (feeds_in hs) ≡ matches fs = ap matches fed_is in
-    let d : drops (feeds_in hs) ≡ drops fs = ap drops fed_is in
+    let a : received_in (feeds_in hs) ≡ received_in fs = ap received_in fed_is in
+    let m : matched_in (feeds_in hs) ≡ matched_in fs = ap matched_in fed_is in
+    let d : dropped_in (feeds_in hs) ≡ dropped_in fs = ap dropped_in fed_is in
     record {
       whole = ap (λ (b : List (List Message)). joined b ++ (last fs ts).pending) (sym bs) ∙ k.whole;
       all_received = omega (arith, c.received, a);
@@ -154,8 +154,8 @@ read_or_pend t s (got (Full batch) ∷ hs) legal =
     let u = next s (event_of (got (Full batch))) in
     let k : List Message = stored_in (feeds_in hs) in
     append_assoc batch (joined (batches_of (takes_in hs))) ((run u (events hs)).pending)
-    ∙ ap (λ (l : List Message). batch ++ l) (read_or_pend t u hs legal.1) ∙ sym (append_assoc batch (drop s.held s.pending) k)
-    ∙ ap (λ (l : List Message). (l ++ drop s.held s.pending) ++ k) legal.0.2 ∙ ap (λ (l : List Message). l ++ k) (take-append-drop s.held s.pending)
+    ∙ ap (λ (l : List Message). batch ++ l) (read_or_pend t u hs legal.1) ∙ sym (append_assoc batch (drop s.in_hold s.pending) k)
+    ∙ ap (λ (l : List Message). (l ++ drop s.in_hold s.pending) ++ k) legal.0.2 ∙ ap (λ (l : List Message). l ++ k) (take-append-drop s.in_hold s.pending)
 read_or_pend t s (got Nothing ∷ hs) legal = read_or_pend t s hs legal.1
 read_or_pend t s (got Ended ∷ hs) legal = read_or_pend t s hs legal.1
 read_or_pend t s (shut ∷ hs) legal = read_or_pend t (next s (event_of shut)) hs legal.1
@@ -199,9 +199,9 @@ own_runs_are_right t fs ts fits legal =
     let one = counts_run t empty (own fs) right in
     let other = counts_run t empty (merge fs ts) legal in
     let same : feeds_in (own fs) ≡ feeds_in (merge fs ts) = feeds_in-own false empty fs ∙ sym (feeds_in-merge false fs ts) in
-    let a : arrivals (feeds_in (own fs)) ≡ arrivals (feeds_in (merge fs ts)) = ap arrivals same in
-    let m : matches (feeds_in (own fs)) ≡ matches (feeds_in (merge fs ts)) = ap matches same in
-    let d : drops (feeds_in (own fs)) ≡ drops (feeds_in (merge fs ts)) = ap drops same in
+    let a : received_in (feeds_in (own fs)) ≡ received_in (feeds_in (merge fs ts)) = ap received_in same in
+    let m : matched_in (feeds_in (own fs)) ≡ matched_in (feeds_in (merge fs ts)) = ap matched_in same in
+    let d : dropped_in (feeds_in (own fs)) ≡ dropped_in (feeds_in (merge fs ts)) = ap dropped_in same in
     record {
       legal = right;
       feeds = feeds_in-own false empty fs;

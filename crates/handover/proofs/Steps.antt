@@ -25,7 +25,7 @@ use Rattle.handover.specs.History.{events, merge, EndedIsLast, ended_in, finds, 
 use Rattle.handover.specs.Tidy.{Tidy}
 use Rattle.handover.specs.Allowed.{IsQuiet, Busy, Loud, handed, AllFit}
 use Rattle.handover.specs.Own.{store_of}
-use Rattle.handover.specs.Rule.{Home, IsHeld, bit, terms_of, last, Stands, Facts, Seats, whole, apart, joined, AllSpent, witness, Kept, first, for_feeder, for_drain, joint, spent, IsOrder, FeederSees, DrainSees, Sitting, known, fed_by, taken_by, ended_by, saw_end, closed_by, idle, Backed, Owned, Sat, saw_closed, saw_turn, set_turn, set_ended, looked_ended, looked_turn, cleared, set_closed}
+use Rattle.handover.specs.Rule.{Home, IsHeld, bit, terms_of, last, BufferFollowsTurn, Facts, Seats, whole, apart, joined, AllSpent, witness, KeepsRule, first, for_feeder, for_drain, joint, spent, IsOrder, FeederSees, DrainSees, Sitting, known, with_feeds, with_takes, ended_by, saw_end, closed_by, idle, AreLegalWithReads, IsLegalWithReads, Sat, saw_closed, saw_turn, set_turn, set_ended, looked_ended, looked_turn, cleared, set_closed}
 use Rattle.handover.specs.Orders.{Finds, behind, is_store_to, store_to}
 use Rattle.handover.proofs.Orders.{feeder_at_step, drain_at_step, by_feeder, by_drain, same_latest, flag_more}
 use Rattle.handover.proofs.Keeps.{quiet_keeps, busy_keeps, loud_keeps, late_keeps, idle_keeps, full_keeps}
@@ -90,7 +90,7 @@ feeder_at f d v vs id (joined os p q s) at r = absurd (two id at)
 
 pub feeder_allows : (p : Profile) (slots id : ℕ) (me : Sitting) (i : ℕ) (f : ℕ → ℕ) (then : ℕ → Sat → Type 0) → me.0.view.role ≡ Feeds
     → ((full : Bool) (home : Home) (d : View) → Facts (terms_of me.0.view.profile) full home me.0.view d → FeedStep (known me) i f then full home d)
-    → Allows (Kept p) slots id me i f (λ r n. then r (known n) × Owned n.0.view × FeederSees me.0 n.0)
+    → Allows (KeepsRule p) slots id me i f (λ r n. then r (known n) × IsLegalWithReads n.0.view × FeederSees me.0 n.0)
 feeder_allows p slots id me i f then role go s k _ at _ =
     let a = feeder_at k.feeder k.drain me.0 s.views id k.seats at role in
     let same : k.feeder.view.profile ≡ me.0.view.profile = ap (λ (v : Sight). v.view.profile) a.2 in
@@ -128,7 +128,7 @@ feeder_allows p slots id me i f then role go s k _ at _ =
       },
       (
         subst (λ (ws : List ℕ). then (slice_index ws i) (g.view, carried_after me.1 g.act)) (sym words) g.told,
-        subst (λ (x : Profile). Backed (terms_of x) g.view.feeds) (sym g.profile) (record { fits = g.facts.fits; takes = k.drain.view.takes; legal = g.facts.legal }),
+        subst (λ (x : Profile). AreLegalWithReads (terms_of x) g.view.feeds) (sym g.profile) (record { fits = g.facts.fits; takes = k.drain.view.takes; legal = g.facts.legal }),
         order.1,
       ),
     )
@@ -175,7 +175,7 @@ pub record DrainStep (me : Sat) (i : ℕ) (f : ℕ → ℕ) (then : ℕ → Sat 
 
 pub drain_allows : (p : Profile) (slots id : ℕ) (me : Sitting) (i : ℕ) (f : ℕ → ℕ) (then : ℕ → Sat → Type 0) → me.0.view.role ≡ Drains
     → ((full : Bool) (home : Home) (v : View) → Facts (terms_of me.0.view.profile) full home v me.0.view → DrainStep (known me) i f then full home v)
-    → Allows (Kept p) slots id me i f (λ r n. then r (known n) × DrainSees me.0 n.0)
+    → Allows (KeepsRule p) slots id me i f (λ r n. then r (known n) × DrainSees me.0 n.0)
 drain_allows p slots id me i f then role go s k _ at _ =
     let a = drain_at k.feeder k.drain me.0 s.views id k.seats at role in
     let same : k.drain.view.profile ≡ me.0.view.profile = ap (λ (v : Sight). v.view.profile) a.2 in
@@ -224,19 +224,19 @@ looks_on t full home v d w same going turning k =
       legal = subst (λ (l : List Feed). Legal t empty (events (merge l d.takes))) (sym fs) k.legal;
       is_open = subst (λ (l : List Feed). (last l d.takes).closed ≡ finds l) (sym fs) k.is_open;
       closer = subst (λ (l : List Feed). d.closed ≡ false → finds l ≡ false) (sym fs) k.closer;
-      held = subst (λ (l : List Feed). IsHeld full (last l d.takes).held) (sym fs) k.held;
+      in_hold = subst (λ (l : List Feed). IsHeld full (last l d.takes).in_hold) (sym fs) k.in_hold;
       tidy = subst (λ (l : List Feed). Tidy false l d.takes full) (sym fs) k.tidy;
       late = subst (λ (l : List Feed). EndedIsLast (merge l d.takes)) (sym fs) k.late;
       ender = subst (λ (b : Bool). b ≡ false → ended_in d.takes ≡ false) (sym going) k.ender;
       unclosed = subst (λ (l : List Feed). ended_in d.takes ≡ true → finds l ≡ false) (sym fs) k.unclosed;
       seen = subst (λ (b : Bool). d.sees_end ≡ true → b ≡ true) (sym going) k.seen;
-      place = subst (λ (l : List Feed). Stands t.capacity full w.rotating d.taking home (hold_of (last l d.takes))) (sym fs)
-          (subst (λ (b : Bool). Stands t.capacity full b d.taking home (hold_of (last v.feeds d.takes))) (sym turning) k.place);
+      place = subst (λ (l : List Feed). BufferFollowsTurn t.capacity full w.rotating d.taking home (hold_of (last l d.takes))) (sym fs)
+          (subst (λ (b : Bool). BufferFollowsTurn t.capacity full b d.taking home (hold_of (last v.feeds d.takes))) (sym turning) k.place);
     }
 
 quiet_list : (t : Terms) (full : Bool) (home : Home) (v d : View) (gs : List Feed) (e : Step) → v.rotating ≡ false → v.ended ≡ false → finds v.feeds ≡ false
-    → IsQuiet t v.feeds gs → Facts t full home v d → Facts t full home (fed_by v gs e false) d
-quiet_list t full home v d [] e calm going yet q k = looks_on t full home v d (fed_by v [] e false) refl refl (sym calm) k
+    → IsQuiet t v.feeds gs → Facts t full home v d → Facts t full home (with_feeds v gs e false) d
+quiet_list t full home v d [] e calm going yet q k = looks_on t full home v d (with_feeds v [] e false) refl refl (sym calm) k
 quiet_list t full home v d (f ∷ []) e calm going yet q k = quiet_keeps t full home v d f e calm going yet q.1 q.0 k
 quiet_list t full home v d (f ∷ g ∷ gs) e calm going yet q k = absurd q
 
@@ -244,7 +244,7 @@ closed_step : (me : Sat) (gs : List Feed) (f : Feed) → me.0.role ≡ Feeds →
     → kind f ≡ finds_closed → AllFit me.0.profile.capacity (f ∷ [])
     → (full : Bool) (home : Home) (d : View) (b : Bool) → d.closed ≡ b → Facts (terms_of me.0.profile) full home me.0 d → FeedStep me 1 (λ n. n) (saw_closed gs f me) full home d
 closed_step me gs f role calm going q is fit full home d false at k = record {
-  view = fed_by me.0 gs (Load word.Closed 0) false;
+  view = with_feeds me.0 gs (Load word.Closed 0) false;
   act = keeps;
   full_after = full;
   home_after = home;
@@ -262,7 +262,7 @@ closed_step me gs f role calm going q is fit full home d false at k = record {
   told = ((λ _. (refl, k.closer at)), (λ ne. absurd (ne (ap bit at))));
 }
 closed_step me gs f role calm going q is fit full home d true at k = record {
-  view = fed_by me.0 (f ∷ []) (Load word.Closed 1) false;
+  view = with_feeds me.0 (f ∷ []) (Load word.Closed 1) false;
   act = keeps;
   full_after = full;
   home_after = home;
@@ -282,7 +282,7 @@ closed_step me gs f role calm going q is fit full home d true at k = record {
 
 pub sees_closed : (p : Profile) (slots id : ℕ) (me : Sitting) (gs : List Feed) (f : Feed) → me.0.view.role ≡ Feeds → me.0.view.rotating ≡ false → me.0.view.ended ≡ false
     → IsQuiet (terms_of me.0.view.profile) me.0.view.feeds gs → kind f ≡ finds_closed → AllFit me.0.view.profile.capacity (f ∷ [])
-    → Allows (Kept p) slots id me 1 (λ n. n) (λ r n. saw_closed gs f (known me) r (known n) × Owned n.0.view × FeederSees me.0 n.0)
+    → Allows (KeepsRule p) slots id me 1 (λ n. n) (λ r n. saw_closed gs f (known me) r (known n) × IsLegalWithReads n.0.view × FeederSees me.0 n.0)
 sees_closed p slots id me gs f role calm going q is fit = feeder_allows p slots id me 1 (λ n. n) (saw_closed gs f (known me)) role
     (λ full home d k. closed_step (known me) gs f role calm going q is fit full home d d.closed refl k)
 
@@ -292,7 +292,7 @@ turn_step : (me : Sat) (f : Feed) → me.0.role ≡ Feeds → me.0.rotating ≡ 
     → AllFit me.0.profile.capacity (f ∷ [])
     → (full : Bool) (home : Home) (d : View) (x : Option (List Message)) → d.taking ≡ x → Facts (terms_of me.0.profile) full home me.0 d → FeedStep me 0 (λ n. n) (saw_turn f me) full home d
 turn_step me f role calm going yet q fit true home d x at k = record {
-  view = fed_by me.0 (f ∷ []) (Load word.Turn 1) false;
+  view = with_feeds me.0 (f ∷ []) (Load word.Turn 1) false;
   act = keeps;
   full_after = true;
   home_after = home;
@@ -312,10 +312,10 @@ turn_step me f role calm going yet q fit true home d x at k = record {
 turn_step me f role calm going yet q fit false home d None at k =
     let t : Terms = terms_of me.0.profile in
     let place : home ≡ some (filled t.capacity []) =
-    subst (λ (x : Option (List Message)). Stands t.capacity false false x home (hold_of (last me.0.feeds d.takes))) at
-    (subst (λ (b : Bool). Stands t.capacity false b d.taking home (hold_of (last me.0.feeds d.takes))) calm k.place) in
-    let out : Facts t false home (fed_by me.0 [] (Load word.Turn 0) false) d = looks_on t false home me.0 d (fed_by me.0 [] (Load word.Turn 0) false) refl refl (sym calm) k in record {
-      view = fed_by me.0 [] (Load word.Turn 0) true;
+    subst (λ (x : Option (List Message)). BufferFollowsTurn t.capacity false false x home (hold_of (last me.0.feeds d.takes))) at
+    (subst (λ (b : Bool). BufferFollowsTurn t.capacity false b d.taking home (hold_of (last me.0.feeds d.takes))) calm k.place) in
+    let out : Facts t false home (with_feeds me.0 [] (Load word.Turn 0) false) d = looks_on t false home me.0 d (with_feeds me.0 [] (Load word.Turn 0) false) refl refl (sym calm) k in record {
+      view = with_feeds me.0 [] (Load word.Turn 0) true;
       act = takes 0 (filled t.capacity []);
       full_after = false;
       home_after = none;
@@ -334,24 +334,24 @@ turn_step me f role calm going yet q fit false home d None at k =
         legal = out.legal;
         is_open = out.is_open;
         closer = out.closer;
-        held = out.held;
+        in_hold = out.in_hold;
         tidy = out.tidy;
         late = out.late;
         ender = out.ender;
         unclosed = out.unclosed;
         seen = out.seen;
-        place = subst (λ (x : Option (List Message)). Stands t.capacity false true x none (hold_of (last (me.0.feeds ++ []) d.takes))) (sym at) refl;
+        place = subst (λ (x : Option (List Message)). BufferFollowsTurn t.capacity false true x none (hold_of (last (me.0.feeds ++ []) d.takes))) (sym at) refl;
       };
       told = ((λ _. refl), (λ ne. absurd (ne refl)));
     }
 turn_step me f role calm going yet q fit false home d (Some batch) at k =
     let t : Terms = terms_of me.0.profile in
-    absurd (subst (λ (x : Option (List Message)). Stands t.capacity false false x home (hold_of (last me.0.feeds d.takes))) at
-    (subst (λ (b : Bool). Stands t.capacity false b d.taking home (hold_of (last me.0.feeds d.takes))) calm k.place))
+    absurd (subst (λ (x : Option (List Message)). BufferFollowsTurn t.capacity false false x home (hold_of (last me.0.feeds d.takes))) at
+    (subst (λ (b : Bool). BufferFollowsTurn t.capacity false b d.taking home (hold_of (last me.0.feeds d.takes))) calm k.place))
 
 pub sees_turn : (p : Profile) (slots id : ℕ) (me : Sitting) (f : Feed) → me.0.view.role ≡ Feeds → me.0.view.rotating ≡ false → me.0.view.ended ≡ false → finds me.0.view.feeds ≡ false
     → Busy (terms_of me.0.view.profile) (store_of me.0.view.feeds) f → AllFit me.0.view.profile.capacity (f ∷ [])
-    → Allows (Kept p) slots id me 0 (λ n. n) (λ r n. saw_turn f (known me) r (known n) × Owned n.0.view × FeederSees me.0 n.0)
+    → Allows (KeepsRule p) slots id me 0 (λ n. n) (λ r n. saw_turn f (known me) r (known n) × IsLegalWithReads n.0.view × FeederSees me.0 n.0)
 sees_turn p slots id me f role calm going yet q fit = feeder_allows p slots id me 0 (λ n. n) (saw_turn f (known me)) role
     (λ full home d k. turn_step (known me) f role calm going yet q fit full home d d.taking refl k)
 
@@ -361,11 +361,11 @@ set_step : (me : Sat) (f : Feed) → me.0.role ≡ Feeds → me.0.rotating ≡ t
     → AllFit me.0.profile.capacity (f ∷ []) → me.1 ≡ (0, filled me.0.profile.capacity (handed (store_of me.0.feeds) f)) ∷ []
     → (full : Bool) (home : Home) (d : View) (x : Option (List Message)) → d.taking ≡ x → Facts (terms_of me.0.profile) full home me.0 d → FeedStep me 0 (λ _. 1) (λ _. set_turn f me 1) full home d
 set_step me f role busy going yet q fit carries true home d x at k =
-    absurd (subst (λ (b : Bool). Stands me.0.profile.capacity true b d.taking home (hold_of (last me.0.feeds d.takes))) busy k.place)
+    absurd (subst (λ (b : Bool). BufferFollowsTurn me.0.profile.capacity true b d.taking home (hold_of (last me.0.feeds d.takes))) busy k.place)
 set_step me f role busy going yet q fit carries false home d (Some batch) at k =
-    absurd (subst (λ (x : Option (List Message)). Stands me.0.profile.capacity false me.0.rotating x home (hold_of (last me.0.feeds d.takes))) at k.place)
+    absurd (subst (λ (x : Option (List Message)). BufferFollowsTurn me.0.profile.capacity false me.0.rotating x home (hold_of (last me.0.feeds d.takes))) at k.place)
 set_step me f role busy going yet q fit carries false home d None at k = record {
-  view = fed_by me.0 (f ∷ []) (Store word.Turn 1) false;
+  view = with_feeds me.0 (f ∷ []) (Store word.Turn 1) false;
   act = gives;
   full_after = true;
   home_after = some (filled me.0.profile.capacity (handed (store_of me.0.feeds) f));
@@ -386,12 +386,12 @@ set_step me f role busy going yet q fit carries false home d None at k = record 
 pub sets_turn : (p : Profile) (slots id : ℕ) (me : Sitting) (f : Feed) → me.0.view.role ≡ Feeds → me.0.view.rotating ≡ true → me.0.view.ended ≡ false → finds me.0.view.feeds ≡ false
     → Loud (terms_of me.0.view.profile) (store_of me.0.view.feeds) f → AllFit me.0.view.profile.capacity (f ∷ [])
     → me.1 ≡ (0, filled me.0.view.profile.capacity (handed (store_of me.0.view.feeds) f)) ∷ []
-    → Allows (Kept p) slots id me 0 (λ _. 1) (λ _ n. set_turn f (known me) 1 (known n) × Owned n.0.view × FeederSees me.0 n.0)
+    → Allows (KeepsRule p) slots id me 0 (λ _. 1) (λ _ n. set_turn f (known me) 1 (known n) × IsLegalWithReads n.0.view × FeederSees me.0 n.0)
 sets_turn p slots id me f role busy going yet q fit carries = feeder_allows p slots id me 0 (λ _. 1) (λ _. set_turn f (known me) 1) role
     (λ full home d k. set_step (known me) f role busy going yet q fit carries full home d d.taking refl k)
 
 pub sets_ended : (p : Profile) (slots id : ℕ) (me : Sitting) → me.0.view.role ≡ Feeds → me.0.view.ended ≡ false
-    → Allows (Kept p) slots id me 2 (λ _. 1) (λ _ n. set_ended (known me) 1 (known n) × Owned n.0.view × FeederSees me.0 n.0)
+    → Allows (KeepsRule p) slots id me 2 (λ _. 1) (λ _ n. set_ended (known me) 1 (known n) × IsLegalWithReads n.0.view × FeederSees me.0 n.0)
 sets_ended p slots id me role going = feeder_allows p slots id me 2 (λ _. 1) (λ _. set_ended (known me) 1) role
     (λ full home d k. record {
       view = ended_by me.0.view;
@@ -413,7 +413,7 @@ sets_ended p slots id me role going = feeder_allows p slots id me 2 (λ _. 1) (�
         legal = k.legal;
         is_open = k.is_open;
         closer = k.closer;
-        held = k.held;
+        in_hold = k.in_hold;
         tidy = k.tidy;
         late = k.late;
         ender = λ n. absurd (true≢false n);
@@ -448,7 +448,7 @@ ended_step me role full home v b at k = record {
     legal = k.legal;
     is_open = k.is_open;
     closer = k.closer;
-    held = k.held;
+    in_hold = k.in_hold;
     tidy = k.tidy;
     late = k.late;
     ender = k.ender;
@@ -463,13 +463,13 @@ ended_step me role full home v b at k = record {
     by true e = ((λ z. let o : bit true ≡ 0 = ap bit (sym e) ∙ z in absurd (omega (arith, o))), (λ _. (ap bit e, refl)))
     by false e = ((λ _. refl), (λ ne. absurd (ne (ap bit e))))
 
-pub looks_ended : (p : Profile) (slots id : ℕ) (me : Sitting) → me.0.view.role ≡ Drains → Allows (Kept p) slots id me 2 (λ n. n) (λ r n. looked_ended (known me) r (known n) × DrainSees me.0 n.0)
+pub looks_ended : (p : Profile) (slots id : ℕ) (me : Sitting) → me.0.view.role ≡ Drains → Allows (KeepsRule p) slots id me 2 (λ n. n) (λ r n. looked_ended (known me) r (known n) × DrainSees me.0 n.0)
 looks_ended p slots id me role = drain_allows p slots id me 2 (λ n. n) (looked_ended (known me)) role (λ full home v k. ended_step (known me) role full home v v.ended refl k)
 
 look_step : (me : Sat) → me.0.role ≡ Drains → me.0.closed ≡ false → me.0.taking ≡ None → (full : Bool) (home : Home) (v : View) (b : Bool) → v.rotating ≡ b
     → Facts (terms_of me.0.profile) full home v me.0 → DrainStep me 0 (λ n. n) (looked_turn me) full home v
 look_step me role unshut calm false home v b at k = record {
-  view = taken_by me.0 (idle me.0.sees_end ∷ []) (Load word.Turn 0) None;
+  view = with_takes me.0 (idle me.0.sees_end ∷ []) (Load word.Turn 0) None;
   act = keeps;
   full_after = false;
   home_after = home;
@@ -489,10 +489,10 @@ look_step me role unshut calm false home v b at k = record {
 look_step me role unshut calm true home v false at k =
     let t : Terms = terms_of me.0.profile in
     let batch : List Message = hold_of (last v.feeds me.0.takes) in
-    let place : home ≡ some (filled t.capacity batch) = subst (λ (x : Option (List Message)). Stands t.capacity true false x home batch) calm
-    (subst (λ (x : Bool). Stands t.capacity true x me.0.taking home batch) at k.place) in
+    let place : home ≡ some (filled t.capacity batch) = subst (λ (x : Option (List Message)). BufferFollowsTurn t.capacity true false x home batch) calm
+    (subst (λ (x : Bool). BufferFollowsTurn t.capacity true x me.0.taking home batch) at k.place) in
     let ts : me.0.takes ≡ me.0.takes ++ [] = sym (append-nil me.0.takes) in record {
-      view = taken_by me.0 [] (Load word.Turn 1) (Some batch);
+      view = with_takes me.0 [] (Load word.Turn 1) (Some batch);
       act = takes 0 (filled t.capacity batch);
       full_after = true;
       home_after = none;
@@ -511,21 +511,21 @@ look_step me role unshut calm true home v false at k =
         legal = subst (λ (l : List Take). Legal t empty (events (merge v.feeds l))) ts k.legal;
         is_open = subst (λ (l : List Take). (last v.feeds l).closed ≡ finds v.feeds) ts k.is_open;
         closer = k.closer;
-        held = subst (λ (l : List Take). IsHeld true (last v.feeds l).held) ts k.held;
+        in_hold = subst (λ (l : List Take). IsHeld true (last v.feeds l).in_hold) ts k.in_hold;
         tidy = subst (λ (l : List Take). Tidy false v.feeds l true) ts k.tidy;
         late = subst (λ (l : List Take). EndedIsLast (merge v.feeds l)) ts k.late;
         ender = subst (λ (l : List Take). v.ended ≡ false → ended_in l ≡ false) ts k.ender;
         unclosed = subst (λ (l : List Take). ended_in l ≡ true → finds v.feeds ≡ false) ts k.unclosed;
         seen = k.seen;
-        place = subst (λ (x : Bool). Stands t.capacity true x (Some batch) none (hold_of (last v.feeds (me.0.takes ++ [])))) (sym at)
+        place = subst (λ (x : Bool). BufferFollowsTurn t.capacity true x (Some batch) none (hold_of (last v.feeds (me.0.takes ++ [])))) (sym at)
             (refl, ap (λ (l : List Take). hold_of (last v.feeds l)) ts);
       };
       told = ((λ e. absurd (omega arith)), (λ _. (refl, (batch, refl))));
     }
 look_step me role unshut calm true home v true at k =
-    absurd (subst (λ (x : Bool). Stands me.0.profile.capacity true x me.0.taking home (hold_of (last v.feeds me.0.takes))) at k.place)
+    absurd (subst (λ (x : Bool). BufferFollowsTurn me.0.profile.capacity true x me.0.taking home (hold_of (last v.feeds me.0.takes))) at k.place)
 
-pub looks_turn : (p : Profile) (slots id : ℕ) (me : Sitting) → me.0.view.role ≡ Drains → me.0.view.closed ≡ false → me.0.view.taking ≡ None → Allows (Kept p) slots id me 0 (λ n. n) (λ r n. looked_turn (known me) r (known n) × DrainSees me.0 n.0)
+pub looks_turn : (p : Profile) (slots id : ℕ) (me : Sitting) → me.0.view.role ≡ Drains → me.0.view.closed ≡ false → me.0.view.taking ≡ None → Allows (KeepsRule p) slots id me 0 (λ n. n) (λ r n. looked_turn (known me) r (known n) × DrainSees me.0 n.0)
 looks_turn p slots id me role unshut calm = drain_allows p slots id me 0 (λ n. n) (looked_turn (known me)) role
     (λ full home v k. look_step (known me) role unshut calm full home v v.rotating refl k)
 
@@ -533,7 +533,7 @@ clear_step : (me : Sat) (batch : List Message) → me.0.role ≡ Drains → me.0
     → (full : Bool) (home : Home) (v : View) (b : Bool) → v.rotating ≡ b → Facts (terms_of me.0.profile) full home v me.0
     → DrainStep me 0 (λ _. 0) (λ _. cleared me 0) full home v
 clear_step me batch role unshut busy carries true home v false at k = record {
-  view = taken_by me.0 (Full batch ∷ []) (Store word.Turn 0) None;
+  view = with_takes me.0 (Full batch ∷ []) (Store word.Turn 0) None;
   act = gives;
   full_after = false;
   home_after = some (filled me.0.profile.capacity []);
@@ -548,19 +548,19 @@ clear_step me batch role unshut busy carries true home v false at k = record {
   closes = refl;
   homes = ap (λ (c : List (ℕ × Filled)). put_back (home ∷ []) c) carries;
   facts = full_keeps (terms_of me.0.profile) home v me.0 batch (Store word.Turn 0) unshut busy at k;
-  told = λ other is. let same : batch ≡ other = let e : Some batch ≡ Some other = sym busy ∙ is in cc in ap (λ (l : List Message). (taken_by me.0 (Full l ∷ []) (Store word.Turn 0) None, rest me.1)) same;
+  told = λ other is. let same : batch ≡ other = let e : Some batch ≡ Some other = sym busy ∙ is in cc in ap (λ (l : List Message). (with_takes me.0 (Full l ∷ []) (Store word.Turn 0) None, rest me.1)) same;
 }
 clear_step me batch role unshut busy carries true home v true at k =
-    absurd (subst (λ (x : Bool). Stands me.0.profile.capacity true x me.0.taking home (hold_of (last v.feeds me.0.takes))) at k.place)
+    absurd (subst (λ (x : Bool). BufferFollowsTurn me.0.profile.capacity true x me.0.taking home (hold_of (last v.feeds me.0.takes))) at k.place)
 clear_step me batch role unshut busy carries false home v b at k =
-    absurd (subst (λ (x : Option (List Message)). Stands me.0.profile.capacity false v.rotating x home (hold_of (last v.feeds me.0.takes))) busy k.place)
+    absurd (subst (λ (x : Option (List Message)). BufferFollowsTurn me.0.profile.capacity false v.rotating x home (hold_of (last v.feeds me.0.takes))) busy k.place)
 
 pub clears : (p : Profile) (slots id : ℕ) (me : Sitting) (batch : List Message) → me.0.view.role ≡ Drains → me.0.view.closed ≡ false → me.0.view.taking ≡ Some batch
-    → me.1 ≡ (0, filled me.0.view.profile.capacity []) ∷ [] → Allows (Kept p) slots id me 0 (λ _. 0) (λ _ n. cleared (known me) 0 (known n) × DrainSees me.0 n.0)
+    → me.1 ≡ (0, filled me.0.view.profile.capacity []) ∷ [] → Allows (KeepsRule p) slots id me 0 (λ _. 0) (λ _ n. cleared (known me) 0 (known n) × DrainSees me.0 n.0)
 clears p slots id me batch role unshut busy carries = drain_allows p slots id me 0 (λ _. 0) (λ _. cleared (known me) 0) role
     (λ full home v k. clear_step (known me) batch role unshut busy carries full home v v.rotating refl k)
 
-pub sets_closed : (p : Profile) (slots id : ℕ) (me : Sitting) → me.0.view.role ≡ Drains → Allows (Kept p) slots id me 1 (λ _. 1) (λ _ n. set_closed (known me) 1 (known n) × DrainSees me.0 n.0)
+pub sets_closed : (p : Profile) (slots id : ℕ) (me : Sitting) → me.0.view.role ≡ Drains → Allows (KeepsRule p) slots id me 1 (λ _. 1) (λ _ n. set_closed (known me) 1 (known n) × DrainSees me.0 n.0)
 sets_closed p slots id me role = drain_allows p slots id me 1 (λ _. 1) (λ _. set_closed (known me) 1) role
     (λ full home v k. record {
       view = closed_by me.0.view;
@@ -582,7 +582,7 @@ sets_closed p slots id me role = drain_allows p slots id me 1 (λ _. 1) (λ _. s
         legal = k.legal;
         is_open = k.is_open;
         closer = λ n. absurd (true≢false n);
-        held = k.held;
+        in_hold = k.in_hold;
         tidy = k.tidy;
         late = k.late;
         ender = k.ender;
@@ -595,7 +595,7 @@ sets_closed p slots id me role = drain_allows p slots id me 1 (λ _. 1) (λ _. s
 
 -- ---- The first seat, its cut, and the join
 
-pub opens : (p : Profile) → Kept p (record { words = 0 ∷ 0 ∷ 0 ∷ []; homes = some (filled p.capacity []) ∷ []; views = first p ∷ [] })
+pub opens : (p : Profile) → KeepsRule p (record { words = 0 ∷ 0 ∷ 0 ∷ []; homes = some (filled p.capacity []) ∷ []; views = first p ∷ [] })
 opens p = record {
   full = false;
   home = some (filled p.capacity []);
@@ -614,7 +614,7 @@ opens p = record {
     legal = tt;
     is_open = refl;
     closer = λ _. refl;
-    held = refl;
+    in_hold = refl;
     tidy = (refl, tt);
     late = tt;
     ender = λ _. refl;
@@ -651,16 +651,16 @@ recast t full home v w x y a b c g h i j k = record {
   legal = subst (λ (l : List Feed). Legal t empty (events (merge l y.takes))) (sym a) (subst (λ (l : List Take). Legal t empty (events (merge v.feeds l))) (sym g) k.legal);
   is_open = subst (λ (l : List Feed). (last l y.takes).closed ≡ finds l) (sym a) (subst (λ (l : List Take). (last v.feeds l).closed ≡ finds v.feeds) (sym g) k.is_open);
   closer = λ n. ap finds a ∙ k.closer (sym j ∙ n);
-  held = subst (λ (l : List Feed). IsHeld full (last l y.takes).held) (sym a) (subst (λ (l : List Take). IsHeld full (last v.feeds l).held) (sym g) k.held);
+  in_hold = subst (λ (l : List Feed). IsHeld full (last l y.takes).in_hold) (sym a) (subst (λ (l : List Take). IsHeld full (last v.feeds l).in_hold) (sym g) k.in_hold);
   tidy = subst (λ (l : List Feed). Tidy false l y.takes full) (sym a) (subst (λ (l : List Take). Tidy false v.feeds l full) (sym g) k.tidy);
   late = subst (λ (l : List Feed). EndedIsLast (merge l y.takes)) (sym a) (subst (λ (l : List Take). EndedIsLast (merge v.feeds l)) (sym g) k.late);
   ender = λ n. ap ended_in g ∙ k.ender (sym c ∙ n);
   unclosed = λ n. ap finds a ∙ k.unclosed (ap ended_in (sym g) ∙ n);
   seen = λ n. c ∙ k.seen (sym i ∙ n);
-  place = subst (λ (l : List Feed). Stands t.capacity full x.rotating y.taking home (hold_of (last l y.takes))) (sym a)
-      (subst (λ (l : List Take). Stands t.capacity full x.rotating y.taking home (hold_of (last v.feeds l))) (sym g)
-      (subst (λ (r : Bool). Stands t.capacity full r y.taking home (hold_of (last v.feeds w.takes))) (sym b)
-      (subst (λ (o : Option (List Message)). Stands t.capacity full v.rotating o home (hold_of (last v.feeds w.takes))) (sym h) k.place)));
+  place = subst (λ (l : List Feed). BufferFollowsTurn t.capacity full x.rotating y.taking home (hold_of (last l y.takes))) (sym a)
+      (subst (λ (l : List Take). BufferFollowsTurn t.capacity full x.rotating y.taking home (hold_of (last v.feeds l))) (sym g)
+      (subst (λ (r : Bool). BufferFollowsTurn t.capacity full r y.taking home (hold_of (last v.feeds w.takes))) (sym b)
+      (subst (λ (o : Option (List Message)). BufferFollowsTurn t.capacity full v.rotating o home (hold_of (last v.feeds w.takes))) (sym h) k.place)));
 }
 
 -- nor does the order
@@ -676,7 +676,7 @@ reordered order ws f d g e a b h i k = record {
   latest = same_latest order f.feeder_saw d.drain_saw g.feeder_saw e.drain_saw b i k.latest;
 }
 
-pub cuts : (p : Profile) (id : ℕ) (v : Sight) → v.view.role ≡ Whole → Splits (Kept p) id v (for_feeder v) (for_drain v)
+pub cuts : (p : Profile) (id : ℕ) (v : Sight) → v.view.role ≡ Whole → Splits (KeepsRule p) id v (for_feeder v) (for_drain v)
 cuts p id v role s k at = let a = whole_at k.feeder k.drain v s.views id k.seats at role in record {
   full = k.full;
   home = k.home;
@@ -697,7 +697,7 @@ cuts p id v role s k at = let a = whole_at k.feeder k.drain v s.views id k.seats
       (λ i. (a.2 i).view.feed_steps) (λ i. (a.2 i).feeder_saw) (λ i. (a.3 i).view.take_steps) (λ i. (a.3 i).drain_saw) k.steps;
 }
 
-pub joins : (p : Profile) (id : ℕ) (v : Sight) (other : ℕ) (w : Sight) → v.view.role ≡ Feeds → w.view.role ≡ Drains → Joins (Kept p) id v other w (joint v w) spent
+pub joins : (p : Profile) (id : ℕ) (v : Sight) (other : ℕ) (w : Sight) → v.view.role ≡ Feeds → w.view.role ≡ Drains → Joins (KeepsRule p) id v other w (joint v w) spent
 joins p id v other w role role' s k at apart_ there = let a = feeder_at k.feeder k.drain v s.views id k.seats at role in
     let views : set s.views id (joint v w) ≡ joint v w ∷ k.drain ∷ [] = λ j. set (a.0 j) (a.1 j) (joint v w) in
     let q = second other (λ e. apart_ (e ∙ sym a.1)) (subst (λ (l : List Sight). get_elem? l other ≡ some w) views there) in record {
@@ -750,7 +750,7 @@ one_more [] o s is = (is, tt)
 one_more (x ∷ os) o s is = (s.0, one_more os o s.1 is)
 
 -- its knowledge is copied
-pub copies : (p : Profile) (id : ℕ) (v : Sight) → v.view.role ≡ Joined → Splits (Kept p) id v v (witness v)
+pub copies : (p : Profile) (id : ℕ) (v : Sight) → v.view.role ≡ Joined → Splits (KeepsRule p) id v v (witness v)
 copies p id v role s k at = let a = joined_first k.feeder k.drain v s.views id k.seats at role in record {
   full = k.full;
   home = k.home;

@@ -11,7 +11,7 @@ use Rattle.handover.specs.declared.calls.Step.{Step}
 use Rattle.handover.specs.declared.calls.Take.{Take}
 use Rattle.handover.specs.declared.view.Profile.{Profile}
 use Rattle.handover.specs.History.{events}
-use Rattle.handover.specs.Own.{own, arrivals, matches, drops}
+use Rattle.handover.specs.Own.{own, received_in, matched_in, dropped_in}
 use Rattle.handover.specs.Rule.{terms_of}
 use Rattle.handover.specs.Steps.{flush_steps, FlushAnswers}
 
@@ -96,10 +96,10 @@ pub record AreCountsOf (counts : Counts) (s : PlainList) : Type 0 where
   pub all_dropped : counts.dropped ≡ s.dropped
 
 -- the counts of these calls
-pub record Counted (counts : Counts) (fs : List Feed) : Type 0 where
-  pub all_received : counts.received ≡ arrivals fs
-  pub all_matched : counts.matched ≡ matches fs
-  pub all_dropped : counts.dropped ≡ drops fs
+pub record AreCountsOfCalls (counts : Counts) (fs : List Feed) : Type 0 where
+  pub all_received : counts.received ≡ received_in fs
+  pub all_matched : counts.matched ≡ matched_in fs
+  pub all_dropped : counts.dropped ≡ dropped_in fs
 
 -- A flush that answered `full`: the list of calls grew by it, and the steps by its own.
 pub record Flushed (full : Bool) (old new : Feeding) : Type 0 where

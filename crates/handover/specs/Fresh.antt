@@ -11,18 +11,18 @@ use Rattle.handover.specs.declared.calls.Step.TheVariants.{Load, Store}
 use Rattle.handover.specs.declared.view.Role.TheVariants.{Feeds}
 use Rattle.handover.specs.declared.view.Profile.{Profile}
 use Rattle.handover.specs.declared.view.Sight.{Sight}
-use Rattle.handover.specs.Orders.{place_of, Finds, behind, store_to, of_feeder, HasOneOrder}
-use Rattle.handover.specs.Rule.{Kept}
+use Rattle.handover.specs.Orders.{index_of, Finds, behind, store_to, of_feeder, HasOneOrder}
+use Rattle.handover.specs.Rule.{KeepsRule}
 
 abbrev pub Pair : Type 0
 Pair = State Filled Sight
 
 abbrev pub number_of : Word → Pair → ℕ
-number_of w s = slice_index s.words (place_of w)
+number_of w s = slice_index s.words (index_of w)
 
 -- the rule holds, and the seats are the feeder's and the drain's
 pub record HasEnds (p : Profile) (s : Pair) (feeder drain : Sight) : Type 0 where
-  pub rule : Kept p s
+  pub rule : KeepsRule p s
   pub seats : s.views ≡ feeder ∷ drain ∷ []
   pub role : feeder.view.role ≡ Feeds
 

@@ -133,7 +133,11 @@ past_turn false ts = past_lull ts
 past_turn true [] = []
 past_turn true (t ∷ ts) = past_lull ts
 
--- `after` tells that a call before these stored 1 to `turn`
+-- Five calls, for example: the feeder's arrivals are answered Stored, Rotated and Dropped, the drain's reads Nothing and then
+-- Full. Rotated alone stores 1 to `turn`. Directly before it stands the read before the Full, and the Full stands at the end:
+-- Stored, Nothing, Rotated, Dropped, Full. If the third arrival is answered Rotated too, the Full stands directly before that.
+--
+-- `after` tells that a call before these stored 1 to `turn`.
 abbrev pub merge_from : Bool → List Feed → List Take → List Happening
 merge_from after [] ts = map got ts
 merge_from after (f ∷ fs) ts = by_kind (kind f)

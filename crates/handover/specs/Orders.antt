@@ -9,20 +9,20 @@ use Rattle.handover.specs.declared.calls.Made.{Made}
 use Rattle.handover.specs.declared.calls.Made.TheVariants.{OfFeeder, OfDrain}
 
 -- which word of the table it is
-abbrev pub place_of : Word → ℕ
-place_of Turn = 0
-place_of Closed = 1
-place_of Ended = 2
+abbrev pub index_of : Word → ℕ
+index_of Turn = 0
+index_of Closed = 1
+index_of Ended = 2
 
 -- a load answers the word's number; of a store nothing is asked
 abbrev pub Finds : List ℕ → Step → Type 0
-Finds words (Load w n) = slice_index words (place_of w) ≡ n
+Finds words (Load w n) = slice_index words (index_of w) ≡ n
 Finds words (Store w n) = Unit {0}
 
 -- the words behind a step
 abbrev pub behind : List ℕ → Step → List ℕ
 behind words (Load w n) = words
-behind words (Store w n) = slice_set words (place_of w) n
+behind words (Store w n) = slice_set words (index_of w) n
 
 abbrev pub step_of : Made → Step
 step_of (OfFeeder e) = e
@@ -72,7 +72,7 @@ of_drain (OfDrain e ∷ ms) = e ∷ of_drain ms
 
 -- What an end has seen goes on from what it had seen, by steps of both ends; each load in it is fresh; and the end's own steps
 -- in it (mine) are all that it made.
-pub record GoesOn (mine : List Made → List Step) (old new : List Made) (steps : List Step) : Type 0 where
+pub record SightGoesOn (mine : List Made → List Step) (old new : List Made) (steps : List Step) : Type 0 where
   pub earlier : IsPrefix old new
   pub fresh : IsFresh new
   pub own : mine new ≡ steps

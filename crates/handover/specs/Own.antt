@@ -36,20 +36,20 @@ abbrev pub store_of : List Feed → List Message
 store_of fs = store_from [] fs
 
 -- how many packets arrived at the open pair, how many of them the filter accepted, and how many of these found no room
-abbrev pub arrivals : List Feed → ℕ
-arrivals [] = 0
-arrivals (Arrive m Closed ∷ fs) = arrivals fs
-arrivals (Arrive m answer ∷ fs) = 1 + arrivals fs
-arrivals (f ∷ fs) = arrivals fs
+abbrev pub received_in : List Feed → ℕ
+received_in [] = 0
+received_in (Arrive m Closed ∷ fs) = received_in fs
+received_in (Arrive m answer ∷ fs) = 1 + received_in fs
+received_in (f ∷ fs) = received_in fs
 
-abbrev pub matches : List Feed → ℕ
-matches [] = 0
-matches (Arrive m Closed ∷ fs) = matches fs
-matches (Arrive m Passed ∷ fs) = matches fs
-matches (Arrive m answer ∷ fs) = 1 + matches fs
-matches (f ∷ fs) = matches fs
+abbrev pub matched_in : List Feed → ℕ
+matched_in [] = 0
+matched_in (Arrive m Closed ∷ fs) = matched_in fs
+matched_in (Arrive m Passed ∷ fs) = matched_in fs
+matched_in (Arrive m answer ∷ fs) = 1 + matched_in fs
+matched_in (f ∷ fs) = matched_in fs
 
-abbrev pub drops : List Feed → ℕ
-drops [] = 0
-drops (Arrive m Dropped ∷ fs) = 1 + drops fs
-drops (f ∷ fs) = drops fs
+abbrev pub dropped_in : List Feed → ℕ
+dropped_in [] = 0
+dropped_in (Arrive m Dropped ∷ fs) = 1 + dropped_in fs
+dropped_in (f ∷ fs) = dropped_in fs

@@ -24,7 +24,7 @@ use Rattle.handover.specs.declared.calls.Made.{Made}
 use Rattle.handover.specs.History.{events, merge, finds, ended_in, EndedIsLast}
 use Rattle.handover.specs.Allowed.{AllFit}
 use Rattle.handover.specs.Tidy.{Tidy}
-use Rattle.handover.specs.Orders.{IsFresh, words_after, store_to, of_feeder, of_drain, GoesOn}
+use Rattle.handover.specs.Orders.{IsFresh, words_after, store_to, of_feeder, of_drain, SightGoesOn}
 
 abbrev pub profile_of : ℕ → Mode → Profile
 profile_of capacity mode = record { capacity = capacity; mode = mode }
@@ -42,17 +42,17 @@ bit true = 1
 bit false = 0
 
 abbrev pub IsHeld : Bool → ℕ → Type 0
-IsHeld true held = 0 < held
-IsHeld false held = held ≡ 0
+IsHeld true in_hold = 0 < in_hold
+IsHeld false in_hold = in_hold ≡ 0
 
 -- Where the buffer is, by `turn`: at home, empty or with what is held, or with the one seat that exchanges it.
-abbrev pub Stands : ℕ → Bool → Bool → Option (List Message) → Home → List Message → Type 0
-Stands capacity false false None home held = home ≡ some (filled capacity [])
-Stands capacity false true None home held = home ≡ none
-Stands capacity true false None home held = home ≡ some (filled capacity held)
-Stands capacity true false (Some batch) home held = (home ≡ none) × (batch ≡ held)
-Stands capacity false rotating (Some batch) home held = ⊥
-Stands capacity true true taking home held = ⊥
+abbrev pub BufferFollowsTurn : ℕ → Bool → Bool → Option (List Message) → Home → List Message → Type 0
+BufferFollowsTurn capacity false false None home in_hold = home ≡ some (filled capacity [])
+BufferFollowsTurn capacity false true None home in_hold = home ≡ none
+BufferFollowsTurn capacity true false None home in_hold = home ≡ some (filled capacity in_hold)
+BufferFollowsTurn capacity true false (Some batch) home in_hold = (home ≡ none) × (batch ≡ in_hold)
+BufferFollowsTurn capacity false rotating (Some batch) home in_hold = ⊥
+BufferFollowsTurn capacity true true taking home in_hold = ⊥
 
 -- the plain list behind both lists of calls
 abbrev pub last : List Feed → List Take → PlainList
@@ -64,13 +64,13 @@ pub record Facts (t : Terms) (full : Bool) (home : Home) (f d : View) : Type 0 w
   pub legal : Legal t empty (events (merge f.feeds d.takes))
   pub is_open : (last f.feeds d.takes).closed ≡ finds f.feeds
   pub closer : d.closed ≡ false → finds f.feeds ≡ false
-  pub held : IsHeld full (last f.feeds d.takes).held
+  pub in_hold : IsHeld full (last f.feeds d.takes).in_hold
   pub tidy : Tidy false f.feeds d.takes full
   pub late : EndedIsLast (merge f.feeds d.takes)
   pub ender : f.ended ≡ false → ended_in d.takes ≡ false
   pub unclosed : ended_in d.takes ≡ true → finds f.feeds ≡ false
   pub seen : d.sees_end ≡ true → f.ended ≡ true
-  pub place : Stands t.capacity full f.rotating d.taking home (hold_of (last f.feeds d.takes))
+  pub place : BufferFollowsTurn t.capacity full f.rotating d.taking home (hold_of (last f.feeds d.takes))
 
 -- seats that make no step any more
 abbrev pub AllSpent : List Sight → Type 0
@@ -97,7 +97,7 @@ pub record IsOrder (order : List Made) (numbers : List ℕ) (f d : Sight) : Type
 -- The rule: the merged list is a legal history whose hold is full exactly where `turn` is 1; the buffer is at home but where one
 -- seat has it; `closed` and `ended` are 1 exactly where the drain and the feeder have made that store; and all steps have one
 -- order, in which each load answered what its word was, and which left the words as they are.
-pub record Kept (p : Profile) (s : State Filled Sight) : Type 0 where
+pub record KeepsRule (p : Profile) (s : State Filled Sight) : Type 0 where
   pub full : Bool
   pub home : Home
   pub feeder : Sight
@@ -143,12 +143,12 @@ abbrev pub spent : Sight
 spent = let s = first (record { capacity = 0; mode = Buffered }) in record s { view = record (s.view) { role = Spent } }
 
 -- after a step of the feeder, with the calls that it ends
-abbrev pub fed_by : View → List Feed → Step → Bool → View
-fed_by v fs e rotating = record v { feeds = v.feeds ++ fs; feed_steps = v.feed_steps ++ e ∷ []; rotating = rotating }
+abbrev pub with_feeds : View → List Feed → Step → Bool → View
+with_feeds v fs e rotating = record v { feeds = v.feeds ++ fs; feed_steps = v.feed_steps ++ e ∷ []; rotating = rotating }
 
 -- after a step of the drain, with the reads that it ends
-abbrev pub taken_by : View → List Take → Step → Option (List Message) → View
-taken_by v ts e taking = record v { takes = v.takes ++ ts; take_steps = v.take_steps ++ e ∷ []; taking = taking }
+abbrev pub with_takes : View → List Take → Step → Option (List Message) → View
+with_takes v ts e taking = record v { takes = v.takes ++ ts; take_steps = v.take_steps ++ e ∷ []; taking = taking }
 
 -- after the feeder's store to `ended`
 abbrev pub ended_by : View → View
@@ -168,13 +168,13 @@ idle true = Ended
 idle false = Nothing
 
 -- with some reads the feeder's calls make a legal history
-pub record Backed (t : Terms) (fs : List Feed) : Type 0 where
+pub record AreLegalWithReads (t : Terms) (fs : List Feed) : Type 0 where
   pub fits : AllFit t.capacity fs
   pub takes : List Take
   pub legal : Legal t empty (events (merge fs takes))
 
-abbrev pub Owned : View → Type 0
-Owned v = Backed (terms_of v.profile) v.feeds
+abbrev pub IsLegalWithReads : View → Type 0
+IsLegalWithReads v = AreLegalWithReads (terms_of v.profile) v.feeds
 
 abbrev pub Sat : Type 0
 Sat = Me Filled View
@@ -188,27 +188,27 @@ known me = (me.0.view, me.1)
 
 -- Each step of an end: it has seen more, each load that it has seen is fresh, and its own steps among them are all that it made.
 abbrev pub FeederSees : Sight → Sight → Type 0
-FeederSees old new = GoesOn of_feeder old.feeder_saw new.feeder_saw new.view.feed_steps
+FeederSees old new = SightGoesOn of_feeder old.feeder_saw new.feeder_saw new.view.feed_steps
 
 abbrev pub DrainSees : Sight → Sight → Type 0
-DrainSees old new = GoesOn of_drain old.drain_saw new.drain_saw new.view.take_steps
+DrainSees old new = SightGoesOn of_drain old.drain_saw new.drain_saw new.view.take_steps
 
 -- ---- What each step tells: of the seat before, the number found and the seat after
 
 -- The feeder's load of `closed` ends the calls fs where the pair is open, and the call f where it is closed.
 abbrev pub saw_closed : List Feed → Feed → Sat → ℕ → Sat → Type 0
 saw_closed fs f m r n =
-    (r ≡ 0 → (n ≡ (fed_by m.0 fs (Load word.Closed 0) false, m.1)) × (finds m.0.feeds ≡ false))
-    × (r ≢ 0 → (r ≡ 1) × (n ≡ (fed_by m.0 (f ∷ []) (Load word.Closed 1) false, m.1)))
+    (r ≡ 0 → (n ≡ (with_feeds m.0 fs (Load word.Closed 0) false, m.1)) × (finds m.0.feeds ≡ false))
+    × (r ≢ 0 → (r ≡ 1) × (n ≡ (with_feeds m.0 (f ∷ []) (Load word.Closed 1) false, m.1)))
 
 -- The feeder's load of `turn` takes the empty buffer out of the slot, or ends the call f.
 abbrev pub saw_turn : Feed → Sat → ℕ → Sat → Type 0
 saw_turn f m r n =
-    (r ≡ 0 → n ≡ (fed_by m.0 [] (Load word.Turn 0) true, (0, filled m.0.profile.capacity []) ∷ m.1))
-    × (r ≢ 0 → (r ≡ 1) × (n ≡ (fed_by m.0 (f ∷ []) (Load word.Turn 1) false, m.1)))
+    (r ≡ 0 → n ≡ (with_feeds m.0 [] (Load word.Turn 0) true, (0, filled m.0.profile.capacity []) ∷ m.1))
+    × (r ≢ 0 → (r ≡ 1) × (n ≡ (with_feeds m.0 (f ∷ []) (Load word.Turn 1) false, m.1)))
 
 abbrev pub set_turn : Feed → Sat → ℕ → Sat → Type 0
-set_turn f m r n = n ≡ (fed_by m.0 (f ∷ []) (Store word.Turn 1) false, rest m.1)
+set_turn f m r n = n ≡ (with_feeds m.0 (f ∷ []) (Store word.Turn 1) false, rest m.1)
 
 abbrev pub set_ended : Sat → ℕ → Sat → Type 0
 set_ended m r n = n ≡ (ended_by m.0, m.1)
@@ -219,11 +219,11 @@ looked_ended m r n = (r ≡ 0 → n ≡ (saw_end m.0 false, m.1)) × (r ≢ 0 �
 -- The drain's load of `turn` takes the hold out of the slot, or ends the read.
 abbrev pub looked_turn : Sat → ℕ → Sat → Type 0
 looked_turn m r n =
-    (r ≡ 0 → n ≡ (taken_by m.0 (idle m.0.sees_end ∷ []) (Load word.Turn 0) None, m.1))
-    × (r ≢ 0 → (r ≡ 1) × ((batch : List Message) × (n ≡ (taken_by m.0 [] (Load word.Turn 1) (Some batch), (0, filled m.0.profile.capacity batch) ∷ m.1))))
+    (r ≡ 0 → n ≡ (with_takes m.0 (idle m.0.sees_end ∷ []) (Load word.Turn 0) None, m.1))
+    × (r ≢ 0 → (r ≡ 1) × ((batch : List Message) × (n ≡ (with_takes m.0 [] (Load word.Turn 1) (Some batch), (0, filled m.0.profile.capacity batch) ∷ m.1))))
 
 abbrev pub cleared : Sat → ℕ → Sat → Type 0
-cleared m r n = (batch : List Message) → m.0.taking ≡ Some batch → n ≡ (taken_by m.0 (Full batch ∷ []) (Store word.Turn 0) None, rest m.1)
+cleared m r n = (batch : List Message) → m.0.taking ≡ Some batch → n ≡ (with_takes m.0 (Full batch ∷ []) (Store word.Turn 0) None, rest m.1)
 
 abbrev pub set_closed : Sat → ℕ → Sat → Type 0
 set_closed m r n = n ≡ (closed_by m.0, m.1)

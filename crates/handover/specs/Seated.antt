@@ -8,7 +8,7 @@ use Rattle.handover.specs.declared.calls.Step.{Step}
 use Rattle.handover.specs.declared.view.Role.TheVariants.{Feeds, Drains}
 use Rattle.handover.specs.History.{finds}
 use Rattle.handover.specs.Own.{store_of}
-use Rattle.handover.specs.Rule.{Sat, Owned}
+use Rattle.handover.specs.Rule.{Sat, IsLegalWithReads}
 use Rattle.handover.specs.Steps.{FlushAnswers, flush_steps}
 
 -- the feeder's seat and its store
@@ -18,7 +18,7 @@ pub record IsFeeder (m : Sat) (b : Filled) (over : Bool) : Type 0 where
   pub ended : m.0.ended ≡ over
   pub home : m.1 ≡ []
   pub store : b ≡ filled m.0.profile.capacity (store_of m.0.feeds)
-  pub owned : Owned m.0
+  pub owned : IsLegalWithReads m.0
 
 -- Between the feeder's load of `turn` that answered 0 and its store: the slot is its own, with this buffer.
 pub record IsGiving (m : Sat) (b : Filled) : Type 0 where

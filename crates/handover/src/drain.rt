@@ -5,12 +5,14 @@ ghost use Rattle.listener.specs.Buffers.{filled};
 ghost use Rattle.handover.specs.declared.calls.Step.TheVariants.{Store};
 ghost use Rattle.handover.specs.declared.calls.Word.TheVariants as word;
 ghost use Rattle.handover.specs.Ends.{draining, IsSameDrain};
-ghost use Rattle.handover.specs.Orders.{GoesOn, of_drain};
+ghost use Rattle.handover.specs.Orders.{SightGoesOn, of_drain};
 ghost use Rattle.handover.specs.Reads.{take_of, HasBuffer};
 ghost use Rattle.handover.specs.Steps.{GrewByRead};
 
 use crate::link::Link;
-use crate::rule::{CLOSED, Cleared, ENDED, LookedEnded, LookedTurn, Place, SLOT, SetClosed, TURN};
+use crate::rule::{
+    CLOSED, Cleared, ENDED, LookedEnded, LookedTurn, PairSeat, SLOT, SetClosed, TURN,
+};
 use listener::Buffer;
 use std::marker::Model;
 
@@ -31,7 +33,7 @@ pub enum Read {
 /// it has seen.
 #[derive(Drop)]
 pub struct Drain {
-    pub(crate) seat: Place,
+    pub(crate) seat: PairSeat,
     pub(crate) capacity: usize,
 }
 
@@ -53,7 +55,7 @@ impl Model for Drain {
 /// Contracts see what they saw of the drain.
 #[derive(Drop)]
 pub struct DrainEnd {
-    pub(crate) seat: Place,
+    pub(crate) seat: PairSeat,
 }
 
 impl Model for DrainEnd {
@@ -87,7 +89,7 @@ impl Drain {
         ensures same { IsSameDrain self.old self.new }
         ensures call { self.new.takes ≡ self.old.takes ++ take_of result ∷ [] }
         ensures steps { GrewByRead (take_of result) self.old.steps self.new.steps }
-        ensures order { GoesOn of_drain self.old.seen self.new.seen self.new.steps }
+        ensures order { SightGoesOn of_drain self.old.seen self.new.seen self.new.steps }
         ensures buffer { HasBuffer self.old.profile.capacity result }
     {
         let shared = &link.table.shared;
@@ -110,7 +112,7 @@ impl Drain {
     pub fn close(self, link: &Link) -> DrainEnd
         requires { self.pair ≡ link.now }
         ensures closed { result ≡ draining self.pair self.profile self.takes (self.steps ++ Store word.Closed 1 ∷ []) result.seen }
-        ensures order { GoesOn of_drain self.seen result.seen result.steps }
+        ensures order { SightGoesOn of_drain self.seen result.seen result.steps }
     {
         let Drain {
             mut seat,

@@ -7,9 +7,9 @@ ghost use Rattle.listener.specs.Messages.{arrival, kept_by};
 ghost use Rattle.handover.specs.declared.calls.Feed.TheVariants.{Arrive};
 ghost use Rattle.handover.specs.declared.calls.Step.TheVariants.{Store};
 ghost use Rattle.handover.specs.declared.calls.Word.TheVariants as word;
-ghost use Rattle.handover.specs.Ends.{feeding_ended, IsSameFeeder, HasOwnRun, AreCountsOf, Counted, Flushed, own_list};
-ghost use Rattle.handover.specs.Orders.{GoesOn, of_feeder};
-ghost use Rattle.handover.specs.Own.{arrivals, matches, drops};
+ghost use Rattle.handover.specs.Ends.{feeding_ended, IsSameFeeder, HasOwnRun, AreCountsOf, AreCountsOfCalls, Flushed, own_list};
+ghost use Rattle.handover.specs.Orders.{SightGoesOn, of_feeder};
+ghost use Rattle.handover.specs.Own.{received_in, matched_in, dropped_in};
 ghost use Rattle.handover.specs.Steps.{arrive_steps};
 
 use crate::link::Link;
@@ -37,7 +37,7 @@ impl Model for Feeder {
     ghost use Rattle.std.specs.Prelude.{◌≡◌, false};
     ghost use Rattle.listener.specs.Listening.{InRange};
     ghost use Rattle.handover.specs.Ends.{Feeding, feeding};
-    ghost use Rattle.handover.specs.Ends.{Counted};
+    ghost use Rattle.handover.specs.Ends.{AreCountsOfCalls};
     ghost use Rattle.handover.specs.Rule.{known};
     ghost use Rattle.handover.specs.Seated.{IsFeeder};
 
@@ -47,7 +47,7 @@ impl Model for Feeder {
         f.stand.seat.me.0.view.feed_steps f.stand.seat.me.0.feeder_saw f.stand.store.messages };
 
     ghost invariant = { λ f. IsFeeder (known f.stand.seat.me) f.stand.store false × InRange f.snap f.stand.store.capacity
-        × (f.stand.seat.me.0.view.profile.mode ≡ f.mode) × Counted f.counts f.stand.seat.me.0.view.feeds };
+        × (f.stand.seat.me.0.view.profile.mode ≡ f.mode) × AreCountsOfCalls f.counts f.stand.seat.me.0.view.feeds };
 }
 
 /// A feeder that has ended.
@@ -62,7 +62,7 @@ pub struct FeedEnd {
 impl Model for FeedEnd {
     ghost use Rattle.std.specs.Prelude.{true};
     ghost use Rattle.handover.specs.Ends.{FeedingEnded, feeding_ended};
-    ghost use Rattle.handover.specs.Ends.{Counted};
+    ghost use Rattle.handover.specs.Ends.{AreCountsOfCalls};
     ghost use Rattle.handover.specs.Rule.{known};
     ghost use Rattle.handover.specs.Seated.{IsFeeder};
 
@@ -71,7 +71,7 @@ impl Model for FeedEnd {
     ghost view = { λ f. feeding_ended f.stand.seat.table_id f.stand.seat.me.0.view.profile f.stand.seat.me.0.view.feeds
         f.stand.seat.me.0.view.feed_steps f.stand.seat.me.0.feeder_saw f.stand.store.messages };
 
-    ghost invariant = { λ f. IsFeeder (known f.stand.seat.me) f.stand.store true × Counted f.counts f.stand.seat.me.0.view.feeds };
+    ghost invariant = { λ f. IsFeeder (known f.stand.seat.me) f.stand.store true × AreCountsOfCalls f.counts f.stand.seat.me.0.view.feeds };
 }
 
 /// Counts an arrival with this answer, and tells the answer.
@@ -79,8 +79,8 @@ fn count(counts: &mut Counts, fed: Fed) -> Fed
     requires room { counts.old.received < 2 ^ 64 - 1 }
     requires ordered { (counts.old.matched ≤ counts.old.received) × (counts.old.dropped ≤ counts.old.matched) }
     ensures answer { result ≡ fed }
-    ensures counts { (fs : List Feed) (m : Option Message) → Counted counts.old fs →
-        Counted counts.new (fs ++ Arrive m fed ∷ []) }
+    ensures counts { (fs : List Feed) (m : Option Message) → AreCountsOfCalls counts.old fs →
+        AreCountsOfCalls counts.new (fs ++ Arrive m fed ∷ []) }
 {
     match fed {
         Fed::Closed => return fed,
@@ -103,12 +103,12 @@ impl Feeder {
     /// memory, and copies the bytes once where it stores them.
     pub fn arrive(&mut self, link: &Link, capture: u32, place: u64, packet: &PacketRef<'_>) -> Fed
         requires pair { self.old.pair ≡ link.now }
-        requires room { arrivals self.old.feeds < 2 ^ 64 - 1 }
+        requires room { received_in self.old.feeds < 2 ^ 64 - 1 }
         ensures same { IsSameFeeder self.old self.new }
         ensures call { self.new.feeds ≡ self.old.feeds ++
             Arrive (kept_by self.old.program self.old.snap (arrival capture place packet.now)) result ∷ [] }
         ensures steps { self.new.steps ≡ self.old.steps ++ arrive_steps self.old.profile.mode result }
-        ensures order { GoesOn of_feeder self.old.seen self.new.seen self.new.steps }
+        ensures order { SightGoesOn of_feeder self.old.seen self.new.seen self.new.steps }
         ensures own { HasOwnRun self.new }
     {
         let Some(kept) = kept_of(&self.program, self.snap, packet) else {
@@ -132,7 +132,7 @@ impl Feeder {
         requires { self.old.pair ≡ link.now }
         ensures same { IsSameFeeder self.old self.new }
         ensures call { Flushed result self.old self.new }
-        ensures order { GoesOn of_feeder self.old.seen self.new.seen self.new.steps }
+        ensures order { SightGoesOn of_feeder self.old.seen self.new.seen self.new.steps }
         ensures own { HasOwnRun self.new }
     {
         if self.stand.store.is_empty() {
@@ -144,9 +144,9 @@ impl Feeder {
 
     /// The counts, of the packets that arrived before the pair was found closed.
     pub fn counts(&self) -> Counts
-        ensures received { result.received ≡ arrivals self.now.feeds }
-        ensures matched { result.matched ≡ matches self.now.feeds }
-        ensures dropped { result.dropped ≡ drops self.now.feeds }
+        ensures received { result.received ≡ received_in self.now.feeds }
+        ensures matched { result.matched ≡ matched_in self.now.feeds }
+        ensures dropped { result.dropped ≡ dropped_in self.now.feeds }
         ensures own { AreCountsOf result (own_list self.now.feeds) }
         ensures run { HasOwnRun self.now }
     {
@@ -157,7 +157,7 @@ impl Feeder {
     pub fn end(self, link: &Link) -> FeedEnd
         requires { self.pair ≡ link.now }
         ensures ended { result ≡ feeding_ended self.pair self.profile self.feeds (self.steps ++ Store word.Ended 1 ∷ []) result.seen self.store }
-        ensures order { GoesOn of_feeder self.seen result.seen result.steps }
+        ensures order { SightGoesOn of_feeder self.seen result.seen result.steps }
         ensures own { HasOwnRun self }
     {
         let Feeder {

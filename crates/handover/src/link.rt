@@ -7,7 +7,7 @@ ghost use Rattle.listener.specs.Listening.{InRange, RefusesOpen};
 ghost use Rattle.listener.specs.PlainList.{stored};
 ghost use Rattle.listener.specs.declared.mode.Mode.TheVariants.{Buffered};
 ghost use Rattle.handover.specs.declared.view.Profile.{Profile};
-ghost use Rattle.handover.specs.Ends.{feeding, draining, pair_lists, AreCountsOf, Counted};
+ghost use Rattle.handover.specs.Ends.{feeding, draining, pair_lists, AreCountsOf, AreCountsOfCalls};
 ghost use Rattle.handover.specs.History.{LegalHistory, merge};
 ghost use Rattle.handover.specs.Orders.{HasOneOrder};
 ghost use Rattle.handover.specs.Rule.{first, last, profile_of, terms_of};
@@ -15,7 +15,7 @@ ghost use Rattle.handover.specs.Settling.{IsWhole};
 
 use crate::drain::{Drain, DrainEnd};
 use crate::feeder::{FeedEnd, Feeder};
-use crate::rule::{Ends, PairTable, Place, SLOT, Witness};
+use crate::rule::{Ends, PairSeat, PairTable, SLOT, Witness};
 use crate::stand::Stand;
 use crate::view::Profile;
 use atomic_table::{Refused, Table};
@@ -50,7 +50,7 @@ impl Model for Link {
 /// Contracts see which pair it was, its terms, the calls of both ends with their answers, and the steps that these took.
 #[derive(Drop)]
 pub struct Past {
-    seat: Place,
+    seat: PairSeat,
 }
 
 impl Model for Past {
@@ -131,7 +131,7 @@ pub fn pair_as(
 /// The two ends of a table that nobody has stepped on.
 fn parted(
     table: PairTable,
-    mut seat: Place,
+    mut seat: PairSeat,
     store: Buffer,
     program: Program,
     snap: u32,
@@ -179,7 +179,7 @@ pub fn settle(link: Link, feeder: FeedEnd, drain: DrainEnd) -> Settled
     ensures past { result.past ≡ pair_lists link feeder.profile feeder.feeds feeder.steps drain.takes drain.steps }
     ensures hold { result.hold ≡ filled feeder.profile.capacity (hold_of (last feeder.feeds drain.takes)) }
     ensures rest { result.rest ≡ filled feeder.profile.capacity (stored (last feeder.feeds drain.takes)) }
-    ensures counts { AreCountsOf result.counts (last feeder.feeds drain.takes) × Counted result.counts feeder.feeds }
+    ensures counts { AreCountsOf result.counts (last feeder.feeds drain.takes) × AreCountsOfCalls result.counts feeder.feeds }
     ensures whole { IsWhole feeder.profile feeder.feeds drain.takes result.hold.messages result.rest.messages result.counts }
 {
     let Link { table } = link;

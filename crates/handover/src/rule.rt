@@ -3,7 +3,7 @@
 ghost use Rattle.std.specs.Prelude.{List, [], false};
 ghost use Rattle.handover.specs.declared.calls.Feed.{Feed};
 ghost use Rattle.handover.specs.declared.calls.Feed.TheVariants.{Flush, FlushClosed};
-ghost use Rattle.handover.specs.Rule.{Kept, first, for_feeder, for_drain, joint, witness, spent, saw_closed, saw_turn, set_turn, set_ended, looked_ended, looked_turn, cleared, set_closed, Owned, known, FeederSees, DrainSees};
+ghost use Rattle.handover.specs.Rule.{KeepsRule, first, for_feeder, for_drain, joint, witness, spent, saw_closed, saw_turn, set_turn, set_ended, looked_ended, looked_turn, cleared, set_closed, IsLegalWithReads, known, FeederSees, DrainSees};
 
 use crate::view::{Profile, Sight};
 use atomic_table::{Join, Play, Seat, Split, Table, TableRule};
@@ -21,7 +21,7 @@ pub(crate) const ENDED: usize = 2;
 /// The table's one slot.
 pub(crate) const SLOT: usize = 0;
 
-pub(crate) type Place = Seat<Buffer, Sight>;
+pub(crate) type PairSeat = Seat<Buffer, Sight>;
 
 pub(crate) type PairTable = Table<Buffer, Sight, Profile, HandOver, Global>;
 
@@ -29,7 +29,7 @@ pub(crate) type PairTable = Table<Buffer, Sight, Profile, HandOver, Global>;
 pub struct HandOver;
 
 impl TableRule<Buffer, Sight, Profile> for HandOver {
-    ghost holds = { Kept };
+    ghost holds = { KeepsRule };
 
     ghost first = { first };
 }
@@ -86,7 +86,7 @@ pub struct SawClosed<C> {
 }
 
 impl<C: Opening> Play<Buffer, Sight> for SawClosed<C> {
-    ghost then = { λ step me found after. saw_closed C.quiet C.late (known me) found (known after) × Owned after.0.view × FeederSees me.0 after.0 };
+    ghost then = { λ step me found after. saw_closed C.quiet C.late (known me) found (known after) × IsLegalWithReads after.0.view × FeederSees me.0 after.0 };
 }
 
 /// The feeder's load of `turn`.
@@ -95,7 +95,7 @@ pub struct SawTurn<C> {
 }
 
 impl<C: Call> Play<Buffer, Sight> for SawTurn<C> {
-    ghost then = { λ step me found after. saw_turn C.call (known me) found (known after) × Owned after.0.view × FeederSees me.0 after.0 };
+    ghost then = { λ step me found after. saw_turn C.call (known me) found (known after) × IsLegalWithReads after.0.view × FeederSees me.0 after.0 };
 }
 
 /// The feeder's store to `turn`.
@@ -104,14 +104,14 @@ pub struct GaveTurn<C> {
 }
 
 impl<C: Call> Play<Buffer, Sight> for GaveTurn<C> {
-    ghost then = { λ step me found after. set_turn C.call (known me) found (known after) × Owned after.0.view × FeederSees me.0 after.0 };
+    ghost then = { λ step me found after. set_turn C.call (known me) found (known after) × IsLegalWithReads after.0.view × FeederSees me.0 after.0 };
 }
 
 /// The feeder's store to `ended`.
 pub struct SetEnded;
 
 impl Play<Buffer, Sight> for SetEnded {
-    ghost then = { λ step me found after. set_ended (known me) found (known after) × Owned after.0.view × FeederSees me.0 after.0 };
+    ghost then = { λ step me found after. set_ended (known me) found (known after) × IsLegalWithReads after.0.view × FeederSees me.0 after.0 };
 }
 
 /// The drain's load of `ended`.

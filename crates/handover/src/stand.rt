@@ -12,12 +12,12 @@ ghost use Rattle.handover.specs.declared.view.Role.TheVariants.{Feeds};
 ghost use Rattle.handover.specs.Allowed.{AllFit, IsQuiet, Busy, Loud, handed};
 ghost use Rattle.handover.specs.History.{kind, finds, finds_closed};
 ghost use Rattle.handover.specs.Own.{store_of};
-ghost use Rattle.handover.specs.Rule.{terms_of, saw_closed, saw_turn, set_turn, Owned, known, FeederSees};
+ghost use Rattle.handover.specs.Rule.{terms_of, saw_closed, saw_turn, set_turn, IsLegalWithReads, known, FeederSees};
 ghost use Rattle.handover.specs.Seated.{IsFeeder, IsGiving, Offers, Went, WentByFlush};
 ghost use Rattle.handover.specs.Steps.{arrive_steps};
 
 use crate::link::Link;
-use crate::rule::{CLOSED, Call, GaveTurn, Opening, Place, SLOT, SawClosed, SawTurn, TURN};
+use crate::rule::{CLOSED, Call, GaveTurn, Opening, PairSeat, SLOT, SawClosed, SawTurn, TURN};
 use listener::{Buffer, Fed, Mode};
 use savefile::PacketRef;
 use std::marker::Brand;
@@ -35,26 +35,26 @@ pub(crate) struct Accepted<'a> {
 /// The feeder's seat and its store.
 #[derive(Drop)]
 pub(crate) struct Stand {
-    pub(crate) seat: Place,
+    pub(crate) seat: PairSeat,
     pub(crate) store: Buffer,
 }
 
 /// Loads `closed`. The step ends the calls that C names where the pair is open, else the one that found it closed.
-fn see_closed<C: Opening>(link: &Link, seat: &mut Place) -> u64
+fn see_closed<C: Opening>(link: &Link, seat: &mut PairSeat) -> u64
     requires pair { seat.old.table_id ≡ link.now }
     requires calm { (seat.old.me.0.view.role ≡ Feeds) × (seat.old.me.0.view.rotating ≡ false) × (seat.old.me.0.view.ended ≡ false) }
     requires quiet { IsQuiet (terms_of seat.old.me.0.view.profile) seat.old.me.0.view.feeds C.quiet }
     requires late { (kind C.late ≡ finds_closed) × AllFit seat.old.me.0.view.profile.capacity (C.late ∷ []) }
     ensures pair { seat.new.table_id ≡ seat.old.table_id }
     ensures step { saw_closed C.quiet C.late (known seat.old.me) result (known seat.new.me) }
-    ensures own { Owned seat.new.me.0.view }
+    ensures own { IsLegalWithReads seat.new.me.0.view }
     ensures order { FeederSees seat.old.me.0 seat.new.me.0 }
 {
     link.table.shared.load::<SawClosed<C>>(seat, CLOSED)
 }
 
 /// Loads `turn`. The step ends the call C where the hold is full.
-fn see_turn<C: Call>(link: &Link, seat: &mut Place) -> u64
+fn see_turn<C: Call>(link: &Link, seat: &mut PairSeat) -> u64
     requires pair { seat.old.table_id ≡ link.now }
     requires calm { (seat.old.me.0.view.role ≡ Feeds) × (seat.old.me.0.view.rotating ≡ false) × (seat.old.me.0.view.ended ≡ false) }
     requires unclosed { finds seat.old.me.0.view.feeds ≡ false }
@@ -62,14 +62,14 @@ fn see_turn<C: Call>(link: &Link, seat: &mut Place) -> u64
     requires fits { AllFit seat.old.me.0.view.profile.capacity (C.call ∷ []) }
     ensures pair { seat.new.table_id ≡ seat.old.table_id }
     ensures step { saw_turn C.call (known seat.old.me) result (known seat.new.me) }
-    ensures own { Owned seat.new.me.0.view }
+    ensures own { IsLegalWithReads seat.new.me.0.view }
     ensures order { FeederSees seat.old.me.0 seat.new.me.0 }
 {
     link.table.shared.load::<SawTurn<C>>(seat, TURN)
 }
 
 /// Stores 1 to `turn`, which hands the slot over and ends the call C.
-fn give_turn<C: Call>(link: &Link, seat: &mut Place)
+fn give_turn<C: Call>(link: &Link, seat: &mut PairSeat)
     requires pair { seat.old.table_id ≡ link.now }
     requires giving { IsGiving (known seat.old.me)
         (filled seat.old.me.0.view.profile.capacity (handed (store_of seat.old.me.0.view.feeds) C.call)) }
@@ -77,7 +77,7 @@ fn give_turn<C: Call>(link: &Link, seat: &mut Place)
     requires fits { AllFit seat.old.me.0.view.profile.capacity (C.call ∷ []) }
     ensures pair { seat.new.table_id ≡ seat.old.table_id }
     ensures step { set_turn C.call (known seat.old.me) 1 (known seat.new.me) }
-    ensures own { Owned seat.new.me.0.view }
+    ensures own { IsLegalWithReads seat.new.me.0.view }
     ensures order { FeederSees seat.old.me.0 seat.new.me.0 }
 {
     link.table.shared.store::<GaveTurn<C>>(seat, TURN, 1);

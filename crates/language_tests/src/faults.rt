@@ -1,7 +1,7 @@
 //! The fault of a text that is no expression, and its place.
 
 use crate::reading::{chain, nested, refused, refuses};
-use filterlang::fault::Fault;
+use filterlang::Fault;
 use std::process::Abort;
 
 /// Where a text breaks off, or goes on as no expression does.

@@ -1,8 +1,6 @@
 //! Texts that are put together and read, for the other files.
 
-use filterlang::fault::Fault;
-use filterlang::parser::parse;
-use filterlang::tree::Expr;
+use filterlang::{Expr, Fault, parse};
 use std::process::Abort;
 
 /// The tree that a text reads as.

@@ -1,7 +1,7 @@
 //! The fault of a relation that is none, and its place.
 
 use crate::reading::{nested, refused, refuses, surrounded};
-use filterlang::fault::Fault;
+use filterlang::Fault;
 
 /// Where a relation breaks off, or goes on as none does.
 const BROKEN_OFF: [(&str, Fault); 73] = [

@@ -3,11 +3,8 @@
 use crate::reading::{
     chain, nested, read_alike, read_unless_no_memory, reads_as, refuses, surrounded, tree_of,
 };
-use filterlang::fault::Fault;
-use filterlang::parser::parse;
-use filterlang::token::Comparison::{Equal, Greater, GreaterOrEqual, Less, LessOrEqual, NotEqual};
-use filterlang::token::{Comparison, Operator};
-use filterlang::tree::{Expr, Layer, Size, Value};
+use filterlang::Comparison::{Equal, Greater, GreaterOrEqual, Less, LessOrEqual, NotEqual};
+use filterlang::{Comparison, Expr, Fault, Layer, Operator, Size, Value, parse};
 use std::process::Abort;
 
 fn boxed(rt: &(impl Abort + AllocGlobal), value: Value) -> Box<Value> {

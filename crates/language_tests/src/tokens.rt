@@ -1,10 +1,9 @@
 //! Which tokens a text has, and how faults are printed.
 
 use crate::reading::chain;
-use filterlang::fault::Fault;
-use filterlang::lexer::lex;
-use filterlang::token::{
-    Comparison, EthernetAddress, Joint, Kind, Operator, Parts, Protocol, Side, Token, TypeWord,
+use filterlang::{
+    Comparison, EthernetAddress, Fault, Joint, Kind, Operator, Parts, Protocol, Side, Token,
+    TypeWord, lex,
 };
 use std::process::Abort;
 use std::test::Fail;

@@ -1,13 +1,11 @@
 //! Which tree a text reads as.
 
 use crate::reading::{chain, nested, read_alike, read_unless_no_memory, reads_as, tree_of};
-use filterlang::parser::parse;
-use filterlang::token::EthernetAddress;
-use filterlang::tree::Direction::{Dst, Src, SrcAndDst, SrcOrDst};
-use filterlang::tree::Network::{Arp, Ip, Rarp};
-use filterlang::tree::Primitive::{EtherBroadcast, EtherMulticast, Greater, IpMulticast, Less};
-use filterlang::tree::Transport::{Sctp, Tcp, Udp};
-use filterlang::tree::{Direction, Expr, Network, Plain, Primitive, Transport};
+use filterlang::Direction::{Dst, Src, SrcAndDst, SrcOrDst};
+use filterlang::Network::{Arp, Ip, Rarp};
+use filterlang::Primitive::{EtherBroadcast, EtherMulticast, Greater, IpMulticast, Less};
+use filterlang::Transport::{Sctp, Tcp, Udp};
+use filterlang::{Direction, EthernetAddress, Expr, Network, Plain, Primitive, Transport, parse};
 use std::process::Abort;
 
 fn host(network: Option<Network>, direction: Direction, address: u32) -> Primitive {

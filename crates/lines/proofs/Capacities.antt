@@ -1,22 +1,13 @@
 -- A capacity reads in one way.
-use Rattle.std.proofs.Common.{◌≡◌, ◌≢◌, ℕ, List, [], ◌∷◌, ◌++◌, length, All, Option, Some, None, IfNone, refl, sym, ap, ◌∙◌, arith, subst, length-append}
+use Rattle.std.proofs.Common.{◌≡◌, ◌≢◌, ℕ, List, [], ◌∷◌, ◌++◌, length, All, refl, sym, ap, ◌∙◌, arith, subst, length-append}
 use Rattle.std.specs.Prelude.{codes}
 use Rattle.std.proofs.lemmas.Str.Parse.{digit_at}
-use Rattle.std.proofs.lemmas.List.Elements.{All-head, All-tail, All-same, All-from_get_or}
+use Rattle.std.proofs.lemmas.List.Elements.{All-same, All-from_get_or}
 use Rattle.bpfvm.specs.Listing.{IsNumber}
 use Rattle.listener.specs.declared.mode.Mode.{Mode}
 use Rattle.listener.specs.declared.mode.Mode.TheVariants.{Buffered, Immediate}
 use Rattle.lines.specs.Fields.{IsCapacity}
-
--- an early return's goal, where the fact holds whatever is returned
-pub if_none : {A : Type 0} (r : Option A) (P : Type 0) → P → IfNone r P
-if_none None P p = p
-if_none (Some x) P p = tt
-
--- a byte is in a list in which it stands
-not-lacking : (byte : ℕ) (xs ys : List ℕ) → All (λ b. b ≢ byte) (xs ++ byte ∷ ys) → ⊥
-not-lacking byte [] ys none = All-head (λ b. b ≢ byte) byte ys none refl
-not-lacking byte (x ∷ xs) ys none = not-lacking byte xs ys (All-tail (λ b. b ≢ byte) x (xs ++ byte ∷ ys) none)
+use Rattle.lines.proofs.Cuts.{not-lacking}
 
 -- lists that are the same with one more byte are the same
 push-one : (b : ℕ) (xs ys : List ℕ) → xs ++ b ∷ [] ≡ ys ++ b ∷ [] → xs ≡ ys

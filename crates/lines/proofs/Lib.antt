@@ -1,4 +1,7 @@
 pub mod Lines
+pub mod Cuts
 pub mod Capacities
 pub mod Left
 pub mod Added
+pub mod Reading
+pub mod Taking

@@ -3,3 +3,4 @@ pub mod Telling
 pub mod Sending
 pub mod Files
 pub mod Fields
+pub mod Texts

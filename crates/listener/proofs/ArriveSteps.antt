@@ -12,7 +12,7 @@ use Rattle.listener.specs.declared.answer.Fed.TheVariants.{Passed, Stored, Held,
 use Rattle.listener.specs.declared.mode.Mode.{Mode}
 use Rattle.listener.specs.declared.mode.Mode.TheVariants.{Buffered, Immediate}
 use Rattle.listener.specs.Messages.{Arrival, arrival, cut_to, kept_by, Keeps, size, size_of, room}
-use Rattle.listener.specs.PlainList.{Terms, PlainList, plain, arrived, Steps, load, StaysStored, IsHandedOver}
+use Rattle.listener.specs.PlainList.{Terms, PlainList, plain, arrived, IsStep, load, StaysStored, IsHandedOver}
 use Rattle.listener.proofs.Rooms.{size_of_is}
 
 -- ---- What the program keeps of a packet
@@ -66,43 +66,43 @@ load_of : (hold store : List Message) (r m d : ℕ) (c : Bool) → load (list_of
 load_of hold store r m d c = ap room (drop-append_seam hold store)
 
 -- the hold is full, or the list is Buffered
-pub stays : (mode : Mode) (hold : List Message) (s : PlainList) → s.held ≡ length hold → ((mode ≡ Immediate) × (hold ≡ []) → ⊥) → StaysStored mode s
+pub stays : (mode : Mode) (hold : List Message) (s : PlainList) → s.in_hold ≡ length hold → ((mode ≡ Immediate) × (hold ≡ []) → ⊥) → StaysStored mode s
 stays Buffered hold s h other = tt
 stays Immediate [] s h other = absurd (other (refl, refl))
 stays Immediate (x ∷ hold) s h other = omega arith
 
-handed : (mode : Mode) (s : PlainList) → mode ≡ Immediate → s.held ≡ 0 → IsHandedOver mode s
+handed : (mode : Mode) (s : PlainList) → mode ≡ Immediate → s.in_hold ≡ 0 → IsHandedOver mode s
 handed Buffered s is none = cc
 handed Immediate s is none = none
 
 pub steps_passed : (t : Terms) (hold store : List Message) (r m d : ℕ) (c : Bool) → c ≡ false → (seen : Option Message) → seen ≡ None →
-    Steps t (list_of hold store r m d c) (arrived seen Passed) (list_of hold store (r + 1) m d c)
-steps_passed t hold store r m d c open_now seen is = rw is (record { fair = open_now; change = refl })
+    IsStep t (list_of hold store r m d c) (arrived seen Passed) (list_of hold store (r + 1) m d c)
+steps_passed t hold store r m d c open_now seen is = rw is (record { is_right = open_now; change = refl })
 
 module _ (t : Terms) (hold store : List Message) (r m d : ℕ) (c : Bool) (open_now : c ≡ false) (x : Message) (seen : Option Message) (is : seen ≡ Some x) where
   pub steps_dropped : t.capacity < room store + size_of x → 0 < length hold →
-      Steps t (list_of hold store r m d c) (arrived seen Dropped) (list_of hold store (r + 1) (m + 1) (d + 1) c)
-  steps_dropped over full = rw is (record { fair = (open_now, rw (load_of hold store r m d c) over, full); change = refl })
+      IsStep t (list_of hold store r m d c) (arrived seen Dropped) (list_of hold store (r + 1) (m + 1) (d + 1) c)
+  steps_dropped over full = rw is (record { is_right = (open_now, rw (load_of hold store r m d c) over, full); change = refl })
 
   pub steps_stored : (now : List Message) → room store + size_of x ≤ t.capacity → ((t.mode ≡ Immediate) × (hold ≡ []) → ⊥) → now ≡ store ++ x ∷ [] →
-      Steps t (list_of hold store r m d c) (arrived seen Stored) (list_of hold now (r + 1) (m + 1) d c)
+      IsStep t (list_of hold store r m d c) (arrived seen Stored) (list_of hold now (r + 1) (m + 1) d c)
   steps_stored now fits other new = rw (is, new) (record {
-    fair = (open_now, rw (load_of hold store r m d c) fits, stays t.mode hold (list_of hold store r m d c) refl other);
+    is_right = (open_now, rw (load_of hold store r m d c) fits, stays t.mode hold (list_of hold store r m d c) refl other);
     change = ap (λ (p : List Message). plain p (length hold) (r + 1) (m + 1) d c) (sym (append_assoc hold store (x ∷ [])));
   })
 
   -- the store, with the message, and the empty hold are exchanged
   pub steps_held : (now : List Message) → room store + size_of x ≤ t.capacity → t.mode ≡ Immediate → hold ≡ [] → now ≡ store ++ x ∷ [] →
-      Steps t (list_of hold store r m d c) (arrived seen Held) (list_of now hold (r + 1) (m + 1) d c)
+      IsStep t (list_of hold store r m d c) (arrived seen Held) (list_of now hold (r + 1) (m + 1) d c)
   steps_held now fits at_once none new = rw (is, new, none) (record {
-    fair = (open_now, fits, handed t.mode (list_of [] store r m d c) at_once refl);
+    is_right = (open_now, fits, handed t.mode (list_of [] store r m d c) at_once refl);
     change = ap (λ (p : List Message). plain p (length (store ++ x ∷ [])) (r + 1) (m + 1) d c) (append-nil (store ++ x ∷ []));
   })
 
   -- the store and the empty hold are exchanged, and the message goes into the new store
   pub steps_rotated : (now : List Message) → t.capacity < room store + size_of x → hold ≡ [] → now ≡ hold ++ x ∷ [] →
-      Steps t (list_of hold store r m d c) (arrived seen Rotated) (list_of store now (r + 1) (m + 1) d c)
-  steps_rotated now over none new = rw (is, new, none) (record { fair = (open_now, over, refl); change = refl })
+      IsStep t (list_of hold store r m d c) (arrived seen Rotated) (list_of store now (r + 1) (m + 1) d c)
+  steps_rotated now over none new = rw (is, new, none) (record { is_right = (open_now, over, refl); change = refl })
 
 -- ---- Tests
 

@@ -3,13 +3,13 @@ use Rattle.std.proofs.Common.{◌≡◌, ℕ, ◌≤◌, true, false, List, [], 
 use Rattle.std.proofs.lemmas.Grind.{common_steps}
 use Rattle.listener.specs.declared.message.Message.{Message}
 use Rattle.listener.specs.declared.answer.Fed.TheVariants.{Passed, Stored, Held, Rotated, Dropped, Closed}
-use Rattle.listener.specs.PlainList.{Terms, PlainList, stored, load, Event, arrived, flushed, read, closed, Fair, Legal, next, batch_in, batches, Request, Arrive, Flush, Read, Close, requests, request_of, answer, answers}
+use Rattle.listener.specs.PlainList.{Terms, PlainList, stored, load, Event, arrived, flushed, read, closed, IsRight, Legal, next, batch_in, batches, Request, Arrive, Flush, Read, Close, requests, request_of, answer, answers}
 use Rattle.listener.specs.Messages.{room}
-use Rattle.listener.specs.Laws.{AnswersAreFair, AnswersAreLegal, ImmediateIsFlushed, RunsAppend, LegalAppends, BatchesAppend, HeldIsWithin, HeldStaysWithin, hold_of, store_after, hold_after, Follows, BuffersFollow, FitsIn, IsWithin, BuffersStayWithin, IsCounted, CountsStayOrdered}
+use Rattle.listener.specs.Laws.{AnswersAreRight, AnswersAreLegal, ImmediateIsFlushed, RunsAppend, LegalAppends, BatchesAppend, HeldIsWithin, HeldStaysWithin, hold_of, store_after, hold_after, Follows, BuffersFollow, FitsIn, IsWithin, BuffersStayWithin, IsCounted, CountsStayOrdered}
 use Rattle.listener.proofs.Rooms.{room_nil, room_push, room_nonempty}
 
-pub answers_fair : AnswersAreFair
-answers_fair t s r = grind (arith, common_steps)
+pub answers_right : AnswersAreRight
+answers_right t s r = grind (arith, common_steps)
 
 -- ---- Runs
 
@@ -38,7 +38,7 @@ request_of_answer t s Read = refl
 request_of_answer t s Close = refl
 
 only_answers : (t : Terms) (s : PlainList) (r : Request) (rs : List Request) (es : List Event) → requests es ≡ r ∷ rs → Legal t s es
-    → ((e : Event) → request_of e ≡ r → Fair t s e → e ≡ answer t s r)
+    → ((e : Event) → request_of e ≡ r → IsRight t s e → e ≡ answer t s r)
     → ((fs : List Event) → requests fs ≡ rs → Legal t (next s (answer t s r)) fs → fs ≡ answers t (next s (answer t s r)) rs)
     → es ≡ answers t s (r ∷ rs)
 only_answers t s r rs [] same legal one more = cc
@@ -52,7 +52,7 @@ only_answers t s r rs (e ∷ es) same legal one more =
 pub answers_legal : AnswersAreLegal
 answers_legal t s [] = (tt, refl, (λ es same legal. no_requests es same))
 answers_legal t s (r ∷ rs) =
-    let one = answers_fair t s r in
+    let one = answers_right t s r in
     let more = answers_legal t (next s (answer t s r)) rs in
     ((one.0, more.0), (λ i. request_of_answer t s r i ∷ more.1 i), (λ es same legal. only_answers t s r rs es same legal one.1 more.2))
 
@@ -90,29 +90,29 @@ buffers_follow t s e w f = grind (arith, common_steps)
 within_by : (capacity : ℕ) (s : PlainList) (e : Event) → HeldIsWithin s → Follows s e
     → room (store_after (stored s) e) ≤ capacity → room (hold_after (hold_of s) (stored s) e) ≤ capacity → IsWithin capacity (next s e)
 within_by capacity s e w f store hold = record {
-  held = held_next s e w;
+  in_hold = held_next s e w;
   store = rw f.store store;
   hold = rw f.hold hold;
 }
 
-within_next : (t : Terms) (s : PlainList) (e : Event) → IsWithin t.capacity s → FitsIn t.capacity (request_of e) → Fair t s e → IsWithin t.capacity (next s e)
-within_next t s (arrived None Passed) w fits fair = record { held = w.held; store = w.store; hold = w.hold }
-within_next t s (arrived None Closed) w fits fair = w
-within_next t s (arrived None Stored) w fits fair = w
-within_next t s (arrived None Held) w fits fair = w
-within_next t s (arrived None Rotated) w fits fair = w
-within_next t s (arrived None Dropped) w fits fair = w
-within_next t s (arrived (Some m) Passed) w fits fair = w
-within_next t s (arrived (Some m) Closed) w fits fair = w
-within_next t s (arrived (Some m) Stored) w fits fair = within_by t.capacity s (arrived (Some m) Stored) w.held (buffers_follow t s _ w.held fair) (omega (arith, room_push (stored s) m, fair.1)) w.hold
-within_next t s (arrived (Some m) Held) w fits fair = within_by t.capacity s (arrived (Some m) Held) w.held (buffers_follow t s _ w.held fair) (omega (arith, room_nil)) (omega (arith, room_push (stored s) m, fair.1))
-within_next t s (arrived (Some m) Rotated) w fits fair = within_by t.capacity s (arrived (Some m) Rotated) w.held (buffers_follow t s _ w.held fair) (omega (arith, room_push [] m, room_nil, fits)) w.store
-within_next t s (arrived (Some m) Dropped) w fits fair = record { held = w.held; store = w.store; hold = w.hold }
-within_next t s (flushed true) w fits fair = within_by t.capacity s (flushed true) w.held (buffers_follow t s _ w.held fair) (omega (arith, room_nil)) w.store
-within_next t s (flushed false) w fits fair = w
-within_next t s (read None) w fits fair = w
-within_next t s (read (Some batch)) w fits fair = within_by t.capacity s (read (Some batch)) w.held (buffers_follow t s _ w.held fair) w.store (omega (arith, room_nil))
-within_next t s closed w fits fair = record { held = w.held; store = w.store; hold = w.hold }
+within_next : (t : Terms) (s : PlainList) (e : Event) → IsWithin t.capacity s → FitsIn t.capacity (request_of e) → IsRight t s e → IsWithin t.capacity (next s e)
+within_next t s (arrived None Passed) w fits is_right = record { in_hold = w.in_hold; store = w.store; hold = w.hold }
+within_next t s (arrived None Closed) w fits is_right = w
+within_next t s (arrived None Stored) w fits is_right = w
+within_next t s (arrived None Held) w fits is_right = w
+within_next t s (arrived None Rotated) w fits is_right = w
+within_next t s (arrived None Dropped) w fits is_right = w
+within_next t s (arrived (Some m) Passed) w fits is_right = w
+within_next t s (arrived (Some m) Closed) w fits is_right = w
+within_next t s (arrived (Some m) Stored) w fits is_right = within_by t.capacity s (arrived (Some m) Stored) w.in_hold (buffers_follow t s _ w.in_hold is_right) (omega (arith, room_push (stored s) m, is_right.1)) w.hold
+within_next t s (arrived (Some m) Held) w fits is_right = within_by t.capacity s (arrived (Some m) Held) w.in_hold (buffers_follow t s _ w.in_hold is_right) (omega (arith, room_nil)) (omega (arith, room_push (stored s) m, is_right.1))
+within_next t s (arrived (Some m) Rotated) w fits is_right = within_by t.capacity s (arrived (Some m) Rotated) w.in_hold (buffers_follow t s _ w.in_hold is_right) (omega (arith, room_push [] m, room_nil, fits)) w.store
+within_next t s (arrived (Some m) Dropped) w fits is_right = record { in_hold = w.in_hold; store = w.store; hold = w.hold }
+within_next t s (flushed true) w fits is_right = within_by t.capacity s (flushed true) w.in_hold (buffers_follow t s _ w.in_hold is_right) (omega (arith, room_nil)) w.store
+within_next t s (flushed false) w fits is_right = w
+within_next t s (read None) w fits is_right = w
+within_next t s (read (Some batch)) w fits is_right = within_by t.capacity s (read (Some batch)) w.in_hold (buffers_follow t s _ w.in_hold is_right) w.store (omega (arith, room_nil))
+within_next t s closed w fits is_right = record { in_hold = w.in_hold; store = w.store; hold = w.hold }
 
 pub buffers_stay_within : BuffersStayWithin
 buffers_stay_within t s [] w fits legal = w

@@ -11,34 +11,34 @@ use Rattle.listener.specs.declared.mode.Mode.{Mode}
 use Rattle.listener.specs.declared.mode.Mode.TheVariants.{Buffered, Immediate}
 use Rattle.listener.specs.Messages.{size_of, room}
 use Rattle.listener.specs.PlainList as P
-use Rattle.listener.specs.PlainList.{Terms, PlainList, plain, Event, arrived, flushed, read, closed, StaysStored, IsHandedOver, Fair, Legal, next, run, empty, batch_in, batches, Request, Arrive, Flush, Read, Close, requests, request_of}
-use Rattle.listener.specs.LookingBack.{before_close, is_immediate, is_over, drops, hands, makes_hold, size_at, is_read, load, held, is_drop, kept_from, drops_from, count, is_arrival, is_accepted, kept, dropped, received, matched}
+use Rattle.listener.specs.PlainList.{Terms, PlainList, plain, Event, arrived, flushed, read, closed, StaysStored, IsHandedOver, IsRight, Legal, next, run, empty, batch_in, batches, Request, Arrive, Flush, Read, Close, requests, request_of}
+use Rattle.listener.specs.LookingBack.{before_close, is_immediate, is_over, drops, hands, makes_hold, size_at, is_read, load, hold_is_full, is_drop, kept_from, drops_from, count, is_arrival, is_accepted, kept, dropped, received, matched}
 use Rattle.listener.specs.Laws.{joined, AllFitIn, RunsAreKept}
 use Rattle.listener.proofs.Rooms.{room_nil, room_push, room_some, room_nonempty}
 
 -- ---- The load and the hold, one step later
 
 load_more : (t : Terms) (step : Request) (before : List Request) → load t (step ∷ before) ≡
-    cond (makes_hold t (load t before) (held t before) step) 0 (load t before)
-    + cond (drops t (load t before) (held t before) step || hands t (load t before) (held t before) step) 0 (size_at step)
-unfolding load held
+    cond (makes_hold t (load t before) (hold_is_full t before) step) 0 (load t before)
+    + cond (drops t (load t before) (hold_is_full t before) step || hands t (load t before) (hold_is_full t before) step) 0 (size_at step)
+unfolding load hold_is_full
 load_more t step before = refl
 
-held_more : (t : Terms) (step : Request) (before : List Request) → held t (step ∷ before) ≡
-    (makes_hold t (load t before) (held t before) step || (not (is_read step) && held t before))
-unfolding load held
+held_more : (t : Terms) (step : Request) (before : List Request) → hold_is_full t (step ∷ before) ≡
+    (makes_hold t (load t before) (hold_is_full t before) step || (not (is_read step) && hold_is_full t before))
+unfolding load hold_is_full
 held_more t step before = refl
 
 -- A state of the run, and the steps that led to it, the latest first.
 record Seen (t : Terms) (s : PlainList) (before : List Request) : Type 0 where
   opened : s.closed ≡ false
-  within : s.held ≤ length s.pending
+  within : s.in_hold ≤ length s.pending
   load_is : P.load s ≡ load t before
-  held_is : nat_lt 0 s.held ≡ held t before
+  held_is : nat_lt 0 s.in_hold ≡ hold_is_full t before
 
 -- What an accepted arrival does, by whether it is over the capacity, whether the hold is full, and the mode.
 load_arrival : (t : Terms) (m : Message) (before : List Request) (over full at_once : Bool) →
-    is_over t (load t before) m ≡ over → held t before ≡ full → is_immediate t.mode ≡ at_once →
+    is_over t (load t before) m ≡ over → hold_is_full t before ≡ full → is_immediate t.mode ≡ at_once →
     load t (Arrive (Some m) ∷ before) ≡
     cond ((over && not full) || (at_once && (not over && not full))) 0 (load t before)
     + cond ((over && full) || (at_once && (not over && not full))) 0 (size_of m)
@@ -47,17 +47,17 @@ load_arrival t m before over full at_once o f a = load_more t (Arrive (Some m)) 
     + cond ((o i && f i) || (a i && (not (o i) && not (f i)))) 0 (size_of m))
 
 held_arrival : (t : Terms) (m : Message) (before : List Request) (over full at_once : Bool) →
-    is_over t (load t before) m ≡ over → held t before ≡ full → is_immediate t.mode ≡ at_once →
-    held t (Arrive (Some m) ∷ before) ≡ (((over && not full) || (at_once && (not over && not full))) || full)
+    is_over t (load t before) m ≡ over → hold_is_full t before ≡ full → is_immediate t.mode ≡ at_once →
+    hold_is_full t (Arrive (Some m) ∷ before) ≡ (((over && not full) || (at_once && (not over && not full))) || full)
 held_arrival t m before over full at_once o f a = held_more t (Arrive (Some m)) before ∙
     (λ i. ((o i && not (f i)) || (a i && (not (o i) && not (f i)))) || f i)
 
-load_flush : (t : Terms) (before : List Request) (some full : Bool) → nat_lt 0 (load t before) ≡ some → held t before ≡ full →
+load_flush : (t : Terms) (before : List Request) (some full : Bool) → nat_lt 0 (load t before) ≡ some → hold_is_full t before ≡ full →
     load t (Flush ∷ before) ≡ cond ((some && not full) || false) 0 (load t before) + 0
 load_flush t before some full o f = load_more t Flush before ∙ (λ i. cond ((o i && not (f i)) || false) 0 (load t before) + 0)
 
-held_flush : (t : Terms) (before : List Request) (some full : Bool) → nat_lt 0 (load t before) ≡ some → held t before ≡ full →
-    held t (Flush ∷ before) ≡ (((some && not full) || false) || full)
+held_flush : (t : Terms) (before : List Request) (some full : Bool) → nat_lt 0 (load t before) ≡ some → hold_is_full t before ≡ full →
+    hold_is_full t (Flush ∷ before) ≡ (((some && not full) || false) || full)
 held_flush t before some full o f = held_more t Flush before ∙ (λ i. ((o i && not (f i)) || false) || f i)
 
 -- whether an arrival is over the capacity, as the list sees it
@@ -65,16 +65,16 @@ over_is : (t : Terms) (s : PlainList) (before : List Request) (m : Message) (ove
     is_over t (P.load s) m ≡ over → is_over t (load t before) m ≡ over
 over_is t s before m over seen h = ap (λ (n : ℕ). is_over t n m) (sym seen.load_is) ∙ h
 
-stays_by : (mode : Mode) (s : PlainList) (full : Bool) → nat_lt 0 s.held ≡ full → StaysStored mode s → (is_immediate mode && not full) ≡ false
+stays_by : (mode : Mode) (s : PlainList) (full : Bool) → nat_lt 0 s.in_hold ≡ full → StaysStored mode s → (is_immediate mode && not full) ≡ false
 stays_by Buffered s full e stored = refl
 stays_by Immediate s full e stored = ap not (sym e ∙ lt-ltb _ _ stored)
 
 -- a message that stays in the store: the list is Buffered, or the hold is full
-stays : (t : Terms) (s : PlainList) (before : List Request) → Seen t s before → StaysStored t.mode s → (is_immediate t.mode && not (held t before)) ≡ false
-stays t s before seen stored = stays_by t.mode s (held t before) seen.held_is stored
+stays : (t : Terms) (s : PlainList) (before : List Request) → Seen t s before → StaysStored t.mode s → (is_immediate t.mode && not (hold_is_full t before)) ≡ false
+stays t s before seen stored = stays_by t.mode s (hold_is_full t before) seen.held_is stored
 
 -- a message that is handed over: the list is Immediate, and the hold is empty
-handed : (mode : Mode) (s : PlainList) → IsHandedOver mode s → (is_immediate mode ≡ true) × (s.held ≡ 0)
+handed : (mode : Mode) (s : PlainList) → IsHandedOver mode s → (is_immediate mode ≡ true) × (s.in_hold ≡ 0)
 handed Buffered s h = absurd h
 handed Immediate s h = (refl, h)
 
@@ -129,17 +129,17 @@ module _ (t : Terms) (s : PlainList) (before : List Request) (seen : Seen t s be
       record {
         opened = seen.opened;
         within = omega (arith, length-append s.pending (m ∷ []), seen.within);
-        load_is = ap room (drop-append-le s.held s.pending (m ∷ []) seen.within) ∙ room_push (drop s.held s.pending) m
+        load_is = ap room (drop-append-le s.in_hold s.pending (m ∷ []) seen.within) ∙ room_push (drop s.in_hold s.pending) m
             ∙ ap (λ (n : ℕ). n + size_of m) seen.load_is
-            ∙ sym (load_arrival t m before false (held t before) (is_immediate t.mode) o refl refl ∙ adds (held t before) (is_immediate t.mode) (load t before) (size_of m) w);
-        held_is = seen.held_is ∙ sym (held_arrival t m before false (held t before) (is_immediate t.mode) o refl refl ∙ keeps_full (held t before) (is_immediate t.mode) w);
+            ∙ sym (load_arrival t m before false (hold_is_full t before) (is_immediate t.mode) o refl refl ∙ adds (hold_is_full t before) (is_immediate t.mode) (load t before) (size_of m) w);
+        held_is = seen.held_is ∙ sym (held_arrival t m before false (hold_is_full t before) (is_immediate t.mode) o refl refl ∙ keeps_full (hold_is_full t before) (is_immediate t.mode) w);
       }
 
   seen_handed : (m : Message) → P.load s + size_of m ≤ t.capacity → IsHandedOver t.mode s → Seen t (next s (arrived (Some m) Held)) (Arrive (Some m) ∷ before)
   seen_handed m fits over =
       let o : is_over t (load t before) m ≡ false = over_is t s before m false seen (le-ltb _ _ fits) in
       let h = handed t.mode s over in
-      let f : held t before ≡ false = sym seen.held_is ∙ ap (nat_lt 0) h.1 in
+      let f : hold_is_full t before ≡ false = sym seen.held_is ∙ ap (nat_lt 0) h.1 in
       let some : 0 < length (s.pending ++ m ∷ []) = omega (arith, length-append s.pending (m ∷ [])) in
       record {
         opened = seen.opened;
@@ -148,10 +148,10 @@ module _ (t : Terms) (s : PlainList) (before : List Request) (seen : Seen t s be
         held_is = lt-ltb _ _ some ∙ sym (held_arrival t m before false false true o f h.0);
       }
 
-  seen_dropped : (m : Message) → t.capacity < P.load s + size_of m → 0 < s.held → Seen t (next s (arrived (Some m) Dropped)) (Arrive (Some m) ∷ before)
+  seen_dropped : (m : Message) → t.capacity < P.load s + size_of m → 0 < s.in_hold → Seen t (next s (arrived (Some m) Dropped)) (Arrive (Some m) ∷ before)
   seen_dropped m over full =
       let o : is_over t (load t before) m ≡ true = over_is t s before m true seen (lt-ltb _ _ over) in
-      let f : held t before ≡ true = sym seen.held_is ∙ lt-ltb _ _ full in
+      let f : hold_is_full t before ≡ true = sym seen.held_is ∙ lt-ltb _ _ full in
       record {
         opened = seen.opened;
         within = seen.within;
@@ -159,10 +159,10 @@ module _ (t : Terms) (s : PlainList) (before : List Request) (seen : Seen t s be
         held_is = lt-ltb _ _ full ∙ sym (held_arrival t m before true true (is_immediate t.mode) o f refl ∙ dropped_held (is_immediate t.mode));
       }
 
-  seen_rotated : (m : Message) → t.capacity < P.load s + size_of m → s.held ≡ 0 → size_of m ≤ t.capacity → Seen t (next s (arrived (Some m) Rotated)) (Arrive (Some m) ∷ before)
+  seen_rotated : (m : Message) → t.capacity < P.load s + size_of m → s.in_hold ≡ 0 → size_of m ≤ t.capacity → Seen t (next s (arrived (Some m) Rotated)) (Arrive (Some m) ∷ before)
   seen_rotated m over none fits =
       let o : is_over t (load t before) m ≡ true = over_is t s before m true seen (lt-ltb _ _ over) in
-      let f : held t before ≡ false = sym seen.held_is ∙ ap (nat_lt 0) none in
+      let f : hold_is_full t before ≡ false = sym seen.held_is ∙ ap (nat_lt 0) none in
       let l : P.load s ≡ room s.pending = ap (λ (n : ℕ). room (drop n s.pending)) none in
       let some : 0 < length s.pending = room_nonempty s.pending (omega (arith, l, over, fits)) in
       record {
@@ -173,9 +173,9 @@ module _ (t : Terms) (s : PlainList) (before : List Request) (seen : Seen t s be
         held_is = lt-ltb _ _ some ∙ sym (held_arrival t m before true false (is_immediate t.mode) o f refl);
       }
 
-  seen_flushed : s.held ≡ 0 → 0 < length s.pending → Seen t (next s (flushed true)) (Flush ∷ before)
+  seen_flushed : s.in_hold ≡ 0 → 0 < length s.pending → Seen t (next s (flushed true)) (Flush ∷ before)
   seen_flushed none some =
-      let f : held t before ≡ false = sym seen.held_is ∙ ap (nat_lt 0) none in
+      let f : hold_is_full t before ≡ false = sym seen.held_is ∙ ap (nat_lt 0) none in
       let l : P.load s ≡ room s.pending = ap (λ (n : ℕ). room (drop n s.pending)) none in
       let o : nat_lt 0 (load t before) ≡ true = ap (nat_lt 0) (sym seen.load_is ∙ l) ∙ lt-ltb _ _ (room_some s.pending some) in
       record {
@@ -186,9 +186,9 @@ module _ (t : Terms) (s : PlainList) (before : List Request) (seen : Seen t s be
       }
 
   -- a flush that finds the hold full
-  seen_waits : 0 < s.held → Seen t s (Flush ∷ before)
+  seen_waits : 0 < s.in_hold → Seen t s (Flush ∷ before)
   seen_waits full =
-      let f : held t before ≡ true = sym seen.held_is ∙ lt-ltb _ _ full in
+      let f : hold_is_full t before ≡ true = sym seen.held_is ∙ lt-ltb _ _ full in
       let some : Bool = nat_lt 0 (load t before) in
       record {
         opened = seen.opened;
@@ -200,8 +200,8 @@ module _ (t : Terms) (s : PlainList) (before : List Request) (seen : Seen t s be
   -- a flush that finds nothing
   seen_idle : s.pending ≡ [] → Seen t s (Flush ∷ before)
   seen_idle none =
-      let zero_held : s.held ≡ 0 = omega (arith, seen.within, ap length none) in
-      let f : held t before ≡ false = sym seen.held_is ∙ ap (nat_lt 0) zero_held in
+      let zero_held : s.in_hold ≡ 0 = omega (arith, seen.within, ap length none) in
+      let f : hold_is_full t before ≡ false = sym seen.held_is ∙ ap (nat_lt 0) zero_held in
       let l : P.load s ≡ 0 = (λ i. room (drop (zero_held i) (none i))) ∙ room_nil in
       let o : nat_lt 0 (load t before) ≡ false = ap (nat_lt 0) (sym seen.load_is ∙ l) in
       record {
@@ -211,7 +211,7 @@ module _ (t : Terms) (s : PlainList) (before : List Request) (seen : Seen t s be
         held_is = ap (nat_lt 0) zero_held ∙ sym (held_flush t before false false o f);
       }
 
-  seen_read : Seen t (plain (drop s.held s.pending) 0 s.received s.matched s.dropped s.closed) (Read ∷ before)
+  seen_read : Seen t (plain (drop s.in_hold s.pending) 0 s.received s.matched s.dropped s.closed) (Read ∷ before)
   seen_read = record {
     opened = seen.opened;
     within = omega arith;
@@ -219,7 +219,7 @@ module _ (t : Terms) (s : PlainList) (before : List Request) (seen : Seen t s be
     held_is = sym (held_more t Read before);
   }
 
-  seen_nothing : s.held ≡ 0 → Seen t s (Read ∷ before)
+  seen_nothing : s.in_hold ≡ 0 → Seen t s (Read ∷ before)
   seen_nothing none = record {
     opened = seen.opened;
     within = seen.within;
@@ -229,24 +229,24 @@ module _ (t : Terms) (s : PlainList) (before : List Request) (seen : Seen t s be
 
 -- ---- After Close nothing changes
 
-closed_next : (t : Terms) (s : PlainList) (e : Event) → s.closed ≡ true → Fair t s e → (batch_in e ≡ []) × (next s e ≡ s)
-closed_next t s (arrived None Passed) is fair = absurd (false≢true (sym fair ∙ is))
-closed_next t s (arrived None Closed) is fair = (refl, refl)
-closed_next t s (arrived None Stored) is fair = absurd fair
-closed_next t s (arrived None Held) is fair = absurd fair
-closed_next t s (arrived None Rotated) is fair = absurd fair
-closed_next t s (arrived None Dropped) is fair = absurd fair
-closed_next t s (arrived (Some m) Passed) is fair = absurd fair
-closed_next t s (arrived (Some m) Closed) is fair = (refl, refl)
-closed_next t s (arrived (Some m) Stored) is fair = absurd (false≢true (sym fair.0 ∙ is))
-closed_next t s (arrived (Some m) Held) is fair = absurd (false≢true (sym fair.0 ∙ is))
-closed_next t s (arrived (Some m) Rotated) is fair = absurd (false≢true (sym fair.0 ∙ is))
-closed_next t s (arrived (Some m) Dropped) is fair = absurd (false≢true (sym fair.0 ∙ is))
-closed_next t s (flushed true) is fair = absurd (false≢true (sym fair.0 ∙ is))
-closed_next t s (flushed false) is fair = (refl, refl)
-closed_next t s (read (Some batch)) is fair = absurd (false≢true (sym fair.0 ∙ is))
-closed_next t s (read None) is fair = (refl, refl)
-closed_next t s closed is fair = (refl, ap (λ (c : Bool). plain s.pending s.held s.received s.matched s.dropped c) (sym is))
+closed_next : (t : Terms) (s : PlainList) (e : Event) → s.closed ≡ true → IsRight t s e → (batch_in e ≡ []) × (next s e ≡ s)
+closed_next t s (arrived None Passed) is is_right = absurd (false≢true (sym is_right ∙ is))
+closed_next t s (arrived None Closed) is is_right = (refl, refl)
+closed_next t s (arrived None Stored) is is_right = absurd is_right
+closed_next t s (arrived None Held) is is_right = absurd is_right
+closed_next t s (arrived None Rotated) is is_right = absurd is_right
+closed_next t s (arrived None Dropped) is is_right = absurd is_right
+closed_next t s (arrived (Some m) Passed) is is_right = absurd is_right
+closed_next t s (arrived (Some m) Closed) is is_right = (refl, refl)
+closed_next t s (arrived (Some m) Stored) is is_right = absurd (false≢true (sym is_right.0 ∙ is))
+closed_next t s (arrived (Some m) Held) is is_right = absurd (false≢true (sym is_right.0 ∙ is))
+closed_next t s (arrived (Some m) Rotated) is is_right = absurd (false≢true (sym is_right.0 ∙ is))
+closed_next t s (arrived (Some m) Dropped) is is_right = absurd (false≢true (sym is_right.0 ∙ is))
+closed_next t s (flushed true) is is_right = absurd (false≢true (sym is_right.0 ∙ is))
+closed_next t s (flushed false) is is_right = (refl, refl)
+closed_next t s (read (Some batch)) is is_right = absurd (false≢true (sym is_right.0 ∙ is))
+closed_next t s (read None) is is_right = (refl, refl)
+closed_next t s closed is is_right = (refl, ap (λ (c : Bool). plain s.pending s.in_hold s.received s.matched s.dropped c) (sym is))
 
 closed_run : (t : Terms) (s : PlainList) (es : List Event) → s.closed ≡ true → Legal t s es → (batches es ≡ []) × (run s es ≡ s)
 closed_run t s [] is legal = (refl, refl)
@@ -289,12 +289,12 @@ keeps t s before m es u p r a d stays more fed is =
       all_dropped = let f = ap (λ (v : PlainList). (run v es).dropped) is in omega (arith, more.all_dropped, e);
     }
 
-waits : (t : Terms) (s : PlainList) (before : List Request) → Seen t s before → Fair t s (flushed false) → Seen t s (Flush ∷ before)
+waits : (t : Terms) (s : PlainList) (before : List Request) → Seen t s before → IsRight t s (flushed false) → Seen t s (Flush ∷ before)
 waits t s before seen (inl shut) = absurd (false≢true (sym seen.opened ∙ shut))
 waits t s before seen (inr (inl full)) = seen_waits t s before seen full
 waits t s before seen (inr (inr none)) = seen_idle t s before seen none
 
-nothing : (t : Terms) (s : PlainList) (before : List Request) → Seen t s before → Fair t s (read None) → Seen t s (Read ∷ before)
+nothing : (t : Terms) (s : PlainList) (before : List Request) → Seen t s before → IsRight t s (read None) → Seen t s (Read ∷ before)
 nothing t s before seen (inl shut) = absurd (false≢true (sym seen.opened ∙ shut))
 nothing t s before seen (inr none) = seen_nothing t s before seen none
 
@@ -320,12 +320,12 @@ tells t s before (arrived (Some m) Closed ∷ es) seen fit legal = absurd (false
 tells t s before (arrived (Some m) Stored ∷ es) seen fit legal =
     let step = Arrive (Some m) in
     let u = tells t (next s (arrived (Some m) Stored)) (step ∷ before) es (seen_stored t s before seen m legal.0.1 legal.0.2) fit.1 legal.1 in
-    let d : is_drop t before step ≡ false = λ i. over_is t s before m false seen (le-ltb _ _ legal.0.1) i && held t before in
+    let d : is_drop t before step ≡ false = λ i. over_is t s before m false seen (le-ltb _ _ legal.0.1) i && hold_is_full t before in
     keeps t s before m es (next s (arrived (Some m) Stored)) refl refl refl refl d u Stored refl
 tells t s before (arrived (Some m) Held ∷ es) seen fit legal =
     let step = Arrive (Some m) in
     let u = tells t (next s (arrived (Some m) Held)) (step ∷ before) es (seen_handed t s before seen m legal.0.1 legal.0.2) fit.1 legal.1 in
-    let d : is_drop t before step ≡ false = λ i. over_is t s before m false seen (le-ltb _ _ legal.0.1) i && held t before in
+    let d : is_drop t before step ≡ false = λ i. over_is t s before m false seen (le-ltb _ _ legal.0.1) i && hold_is_full t before in
     keeps t s before m es (next s (arrived (Some m) Held)) refl refl refl refl d u Held refl
 tells t s before (arrived (Some m) Rotated ∷ es) seen fit legal =
     let step = Arrive (Some m) in
@@ -357,15 +357,15 @@ tells t s before (read (Some batch) ∷ es) seen fit legal =
     let k = kept_from t (Read ∷ before) (before_close (requests es)) in
     record {
       whole = append_assoc batch (joined (batches es)) ((run (next s (read (Some batch))) es).pending)
-          ∙ ap (λ (l : List Message). batch ++ l) u.whole ∙ sym (append_assoc batch (drop s.held s.pending) k)
-          ∙ ap (λ (l : List Message). (l ++ drop s.held s.pending) ++ k) legal.0.2 ∙ ap (λ (l : List Message). l ++ k) (take-append-drop s.held s.pending);
+          ∙ ap (λ (l : List Message). batch ++ l) u.whole ∙ sym (append_assoc batch (drop s.in_hold s.pending) k)
+          ∙ ap (λ (l : List Message). (l ++ drop s.in_hold s.pending) ++ k) legal.0.2 ∙ ap (λ (l : List Message). l ++ k) (take-append-drop s.in_hold s.pending);
       all_received = omega (arith, u.all_received);
       all_matched = omega (arith, u.all_matched);
       all_dropped = omega (arith, u.all_dropped);
     }
 
 pub runs_are_kept : RunsAreKept
-unfolding load held kept dropped received matched
+unfolding load hold_is_full kept dropped received matched
 runs_are_kept t es fit legal =
     let u = tells t empty [] es (record { opened = refl; within = omega arith; load_is = room_nil; held_is = refl }) fit legal in
     record { whole = u.whole; all_received = omega (arith, u.all_received); all_matched = omega (arith, u.all_matched); all_dropped = omega (arith, u.all_dropped) }

@@ -18,8 +18,8 @@ abbrev pub with_message : Filled → Message → Filled
 with_message b m = filled b.capacity (b.messages ++ m ∷ [])
 
 -- a message's data is as long as a savefile's record may have it
-abbrev pub IsWritable : Message → Type 0
-IsWritable m = length m.bytes ≤ 262144
+abbrev pub FitsSavefileRecord : Message → Type 0
+FitsSavefileRecord m = length m.bytes ≤ 262144
 
 -- the message that a record shows
 abbrev pub message_in : Record → Message

@@ -60,8 +60,3 @@ pub record IsBuffer {Z : Type 0} (bytes : Vec ℕ Z) (capacity count : ℕ) : Ty
   pub most : capacity ≤ 1048576
   pub records : AreRecords bytes.items
   pub counted : count ≡ length (messages_in bytes.items)
-
--- a number's bytes stand behind the first bytes of a text, as many as `at`, and the rest is as it was
-abbrev pub Fills : ℕ → List ℕ → List ℕ → List ℕ → Type 0
-Fills at old bytes new =
-    (front rest : List ℕ) → old ≡ front ++ rest → length front ≡ at → new ≡ (front ++ bytes) ++ drop (length bytes) rest

@@ -6,16 +6,16 @@ use Rattle.listener.specs.declared.mode.Mode.TheVariants.{Buffered, Immediate}
 use Rattle.listener.specs.declared.message.Message.{Message}
 use Rattle.bpfvm.specs.declared.insn.Insn.{Insn}
 use Rattle.listener.specs.Messages.{Arrival, kept_by, size, size_of, room}
-use Rattle.listener.specs.PlainList.{Terms, terms, PlainList, Event, arrived, flushed, read, stored, load, Fair, Legal, next, run, empty, batches, Request, Arrive, requests, request_of, answer, answers}
+use Rattle.listener.specs.PlainList.{Terms, terms, PlainList, Event, arrived, flushed, read, stored, load, IsRight, Legal, next, run, empty, batches, Request, Arrive, requests, request_of, answer, answers}
 use Rattle.listener.specs.LookingBack.{before_close, all_accepted, kept, dropped, received, matched}
 
 -- ---- Answers
 
 -- the right answer to a request is right, and it is the only one
-abbrev pub AnswersAreFair : Type 0
-AnswersAreFair =
+abbrev pub AnswersAreRight : Type 0
+AnswersAreRight =
     (t : Terms) (s : PlainList) (r : Request)
-    → Fair t s (answer t s r) × ((e : Event) → request_of e ≡ r → Fair t s e → e ≡ answer t s r)
+    → IsRight t s (answer t s r) × ((e : Event) → request_of e ≡ r → IsRight t s e → e ≡ answer t s r)
 
 -- so requests make one legal run
 abbrev pub AnswersAreLegal : Type 0
@@ -33,9 +33,9 @@ told fed full = fed
 abbrev pub ImmediateIsFlushed : Type 0
 ImmediateIsFlushed =
     (capacity : ℕ) (s : PlainList) (m : Message) (fed first : Fed) (full : Bool) → size_of m ≤ capacity
-    → Fair (terms capacity Immediate) s (arrived (Some m) fed)
-    → Fair (terms capacity Buffered) s (arrived (Some m) first)
-    → Fair (terms capacity Buffered) (next s (arrived (Some m) first)) (flushed full)
+    → IsRight (terms capacity Immediate) s (arrived (Some m) fed)
+    → IsRight (terms capacity Buffered) s (arrived (Some m) first)
+    → IsRight (terms capacity Buffered) (next s (arrived (Some m) first)) (flushed full)
     → (fed ≡ told first full) × (next s (arrived (Some m) fed) ≡ next (next s (arrived (Some m) first)) (flushed full))
 
 -- ---- Runs
@@ -54,14 +54,14 @@ BatchesAppend = (es fs : List Event) → batches (es ++ fs) ≡ batches es ++ ba
 
 -- as many messages are held as pend, at most
 abbrev pub HeldIsWithin : PlainList → Type 0
-HeldIsWithin s = s.held ≤ length s.pending
+HeldIsWithin s = s.in_hold ≤ length s.pending
 
 abbrev pub HeldStaysWithin : Type 0
 HeldStaysWithin = (s : PlainList) (es : List Event) → HeldIsWithin s → HeldIsWithin (run s es)
 
 -- the messages of the hold
 abbrev pub hold_of : PlainList → List Message
-hold_of s = take s.held s.pending
+hold_of s = take s.in_hold s.pending
 
 -- the store after an event, as the store alone tells it
 abbrev pub store_after : List Message → Event → List Message
@@ -85,7 +85,7 @@ pub record Follows (s : PlainList) (e : Event) : Type 0 where
   pub hold : hold_of (next s e) ≡ hold_after (hold_of s) (stored s) e
 
 abbrev pub BuffersFollow : Type 0
-BuffersFollow = (t : Terms) (s : PlainList) (e : Event) → HeldIsWithin s → Fair t s e → Follows s e
+BuffersFollow = (t : Terms) (s : PlainList) (e : Event) → HeldIsWithin s → IsRight t s e → Follows s e
 
 -- a message's record is within the capacity
 abbrev pub FitsIn : ℕ → Request → Type 0
@@ -102,7 +102,7 @@ AllFitIn capacity (step ∷ steps) = FitsIn capacity step × AllFitIn capacity s
 
 -- both buffers are within the capacity
 pub record IsWithin (capacity : ℕ) (s : PlainList) : Type 0 where
-  pub held : HeldIsWithin s
+  pub in_hold : HeldIsWithin s
   pub store : load s ≤ capacity
   pub hold : room (hold_of s) ≤ capacity
 
@@ -127,13 +127,13 @@ abbrev pub adds_dropped : Event → ℕ
 adds_dropped (arrived m Dropped) = 1
 adds_dropped other = 0
 
-pub record Counts (s : PlainList) (e : Event) : Type 0 where
+pub record AddsToCounts (s : PlainList) (e : Event) : Type 0 where
   pub all_received : (next s e).received ≡ s.received + adds_received e
   pub all_matched : (next s e).matched ≡ s.matched + adds_matched e
   pub all_dropped : (next s e).dropped ≡ s.dropped + adds_dropped e
 
 abbrev pub CountsFollow : Type 0
-CountsFollow = (t : Terms) (s : PlainList) (e : Event) → Fair t s e → Counts s e
+CountsFollow = (t : Terms) (s : PlainList) (e : Event) → IsRight t s e → AddsToCounts s e
 
 -- no more were dropped than matched, and no more matched than were received
 pub record IsCounted (s : PlainList) : Type 0 where
@@ -159,15 +159,15 @@ IsQuiet t s other = ⊥
 
 -- two events may stand in either order, with the same state behind them
 pub record Commutes (t : Terms) (s : PlainList) (one other : Event) : Type 0 where
-  pub first : Fair t s other
-  pub second : Fair t (next s other) one
+  pub first : IsRight t s other
+  pub second : IsRight t (next s other) one
   pub same : next (next s other) one ≡ next (next s one) other
 
 -- a read may stand before a quiet event that it stands behind, and behind one that it stands before
 abbrev pub ReadsCommute : Type 0
 ReadsCommute =
     (t : Terms) (s : PlainList) (e r : Event) → HeldIsWithin s → IsQuiet t s e → IsRead r
-    → (Fair t s e → Fair t (next s e) r → Commutes t s e r) × (Fair t s r → Fair t (next s r) e → Commutes t s r e)
+    → (IsRight t s e → IsRight t (next s e) r → Commutes t s e r) × (IsRight t s r → IsRight t (next s r) e → Commutes t s r e)
 
 -- ---- Looking back
 

@@ -5,7 +5,7 @@ use Rattle.listener.specs.declared.fault.OpenFault.{OpenFault}
 use Rattle.listener.specs.declared.fault.OpenFault.TheVariants.{BadSnap, BadCapacity, NoMemory}
 use Rattle.listener.specs.declared.message.Message.{Message}
 use Rattle.listener.specs.Messages.{Arrival, kept_by, size}
-use Rattle.listener.specs.PlainList.{Terms, PlainList, Event, Steps}
+use Rattle.listener.specs.PlainList.{Terms, PlainList, Event, IsStep}
 
 -- A listener: its program, its snapshot length, the terms of its plain list, and that list.
 pub record Listening : Type 0 where
@@ -23,7 +23,7 @@ seen_by l a = kept_by l.program l.snap a
 
 -- a call is one step of the plain list, and changes nothing else
 pub record Takes (old : Listening) (e : Event) (new : Listening) : Type 0 where
-  pub steps : Steps old.terms old.list e new.list
+  pub steps : IsStep old.terms old.list e new.list
   pub program : new.program ≡ old.program
   pub snap : new.snap ≡ old.snap
   pub terms : new.terms ≡ old.terms

@@ -42,25 +42,25 @@ is_immediate Immediate = true
 abbrev pub is_over : Terms → ℕ → Message → Bool
 is_over t load m = nat_lt t.capacity (load + size_of m)
 
--- A step is a drop, where the load before it is `load` and `held` tells whether the hold is full.
+-- A step is a drop, where the load before it is `load` and `hold_is_full` tells whether the hold is full.
 abbrev pub drops : Terms → ℕ → Bool → Request → Bool
-drops t load held (Arrive (Some m)) = is_over t load m && held
-drops t load held other = false
+drops t load hold_is_full (Arrive (Some m)) = is_over t load m && hold_is_full
+drops t load hold_is_full other = false
 
 -- A step is a rotation.
 abbrev pub rotates : Terms → ℕ → Bool → Request → Bool
-rotates t load held (Arrive (Some m)) = is_over t load m && not held
-rotates t load held Flush = nat_lt 0 load && not held
-rotates t load held other = false
+rotates t load hold_is_full (Arrive (Some m)) = is_over t load m && not hold_is_full
+rotates t load hold_is_full Flush = nat_lt 0 load && not hold_is_full
+rotates t load hold_is_full other = false
 
 -- A step is a handing: an Immediate list stores a message and makes the store the hold.
 abbrev pub hands : Terms → ℕ → Bool → Request → Bool
-hands t load held (Arrive (Some m)) = is_immediate t.mode && (not (is_over t load m) && not held)
-hands t load held other = false
+hands t load hold_is_full (Arrive (Some m)) = is_immediate t.mode && (not (is_over t load m) && not hold_is_full)
+hands t load hold_is_full other = false
 
 -- a rotation or a handing: the store becomes the hold
 abbrev pub makes_hold : Terms → ℕ → Bool → Request → Bool
-makes_hold t load held step = rotates t load held step || hands t load held step
+makes_hold t load hold_is_full step = rotates t load hold_is_full step || hands t load hold_is_full step
 
 abbrev pub size_at : Request → ℕ
 size_at (Arrive (Some m)) = size_of m
@@ -73,16 +73,16 @@ unfoldable mutual
   pub load : Terms → List Request → ℕ
   load t [] = 0
   load t (step ∷ before) =
-      (if makes_hold t (load t before) (held t before) step then 0 else load t before)
-      + (if drops t (load t before) (held t before) step || hands t (load t before) (held t before) step then 0 else size_at step)
+      (if makes_hold t (load t before) (hold_is_full t before) step then 0 else load t before)
+      + (if drops t (load t before) (hold_is_full t before) step || hands t (load t before) (hold_is_full t before) step then 0 else size_at step)
 
   -- a rotation or a handing stands before, with no Read between
-  pub held : Terms → List Request → Bool
-  held t [] = false
-  held t (step ∷ before) = makes_hold t (load t before) (held t before) step || (not (is_read step) && held t before)
+  pub hold_is_full : Terms → List Request → Bool
+  hold_is_full t [] = false
+  hold_is_full t (step ∷ before) = makes_hold t (load t before) (hold_is_full t before) step || (not (is_read step) && hold_is_full t before)
 
 abbrev pub is_drop : Terms → List Request → Request → Bool
-is_drop t before step = drops t (load t before) (held t before) step
+is_drop t before step = drops t (load t before) (hold_is_full t before) step
 
 -- the accepted arrivals that are no drops
 abbrev pub kept_from : Terms → List Request → List Request → List Message

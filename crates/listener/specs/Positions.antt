@@ -4,7 +4,7 @@ use Rattle.std.specs.Prelude.{◌≡◌, ◌↔◌, ℕ, zero, suc, ◌+◌, ◌
 use Rattle.listener.specs.declared.message.Message.{Message}
 use Rattle.listener.specs.Messages.{size_of}
 use Rattle.listener.specs.PlainList.{Terms, Request, Arrive}
-use Rattle.listener.specs.LookingBack.{drops, hands, is_drop, is_read, makes_hold, size_at, load, held}
+use Rattle.listener.specs.LookingBack.{drops, hands, is_drop, is_read, makes_hold, size_at, load, hold_is_full}
 
 -- the step n back is a Read
 abbrev pub reads_at : List Request → ℕ → Bool
@@ -15,14 +15,14 @@ reads_at (step ∷ before) (suc n) = reads_at before n
 -- the step n back makes the store the hold
 abbrev pub makes_hold_at : Terms → List Request → ℕ → Bool
 makes_hold_at t [] n = false
-makes_hold_at t (step ∷ before) zero = makes_hold t (load t before) (held t before) step
+makes_hold_at t (step ∷ before) zero = makes_hold t (load t before) (hold_is_full t before) step
 makes_hold_at t (step ∷ before) (suc n) = makes_hold_at t before n
 
 -- how many bytes the step n back puts into the store: the size of an accepted arrival, which is no drop and isn't handed over
 abbrev pub puts_at : Terms → List Request → ℕ → ℕ
 puts_at t [] n = 0
 puts_at t (step ∷ before) zero =
-    if drops t (load t before) (held t before) step || hands t (load t before) (held t before) step then 0 else size_at step
+    if drops t (load t before) (hold_is_full t before) step || hands t (load t before) (hold_is_full t before) step then 0 else size_at step
 puts_at t (step ∷ before) (suc n) = puts_at t before n
 
 -- one of the n latest steps makes the store the hold
@@ -53,8 +53,8 @@ HoldIsFull t before =
 abbrev pub LoadIsByPositions : Type 0
 LoadIsByPositions = (t : Terms) (before : List Request) → load t before ≡ stored_in_all t before
 
-abbrev pub HeldIsByPositions : Type 0
-HeldIsByPositions = (t : Terms) (before : List Request) → (held t before ≡ true) ↔ HoldIsFull t before
+abbrev pub HoldIsByPositions : Type 0
+HoldIsByPositions = (t : Terms) (before : List Request) → (hold_is_full t before ≡ true) ↔ HoldIsFull t before
 
 -- An accepted arrival is a drop exactly where its size and what is still in the store exceed the capacity, and the hold is full.
 abbrev pub DropIsByPositions : Type 0

@@ -2,9 +2,9 @@
 
 ghost use Rattle.std.specs.Prelude.{◌≡◌, ◌↔◌, false, ◌+◌, ◌^◌, ◌<◌, ◌≤◌, [], ◌++◌, length, All, vec_len, vec_capacity, IfOk, IfErr, OnOk, IsTrue};
 ghost use Rattle.std.specs.Bool.{OnTrue};
+ghost use Rattle.savefile.specs.Sending.{Fills};
 ghost use Rattle.byteorder.specs.Endian.{little_bytes};
-ghost use Rattle.listener.specs.Buffers.{filled, with_message, IsWritable, RefusesBuffer};
-ghost use Rattle.listener.specs.Decoded.{Fills};
+ghost use Rattle.listener.specs.Buffers.{filled, with_message, FitsSavefileRecord, RefusesBuffer};
 ghost use Rattle.listener.specs.Messages.{size, room, cut_to, arrival};
 ghost use Rattle.listener.specs.RecordBytes.{fields_text, records_text};
 
@@ -152,7 +152,7 @@ impl Buffer {
     /// Its messages, oldest first. Nothing is copied.
     pub fn records(&self) -> Records<'_>
         ensures messages { result ≡ self.now.messages }
-        ensures writable { All IsWritable self.now.messages }
+        ensures writable { All FitsSavefileRecord self.now.messages }
     {
         Records::of(self.bytes.as_slice())
     }

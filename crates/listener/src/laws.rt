@@ -1,11 +1,11 @@
 //! Laws of the plain list. Each function is empty, and its contract is the law.
 
-ghost use Rattle.listener.specs.Laws.{AnswersAreFair, AnswersAreLegal, ImmediateIsFlushed, RunsAppend, LegalAppends, BatchesAppend, HeldStaysWithin, BuffersFollow, BuffersStayWithin, KeptFits, CountsFollow, CountsStayOrdered, ReadsCommute, RunsAreKept, MatchedAreKeptOrDropped, KeptIsThinned, KeptAreAccepted};
-ghost use Rattle.listener.specs.Positions.{LoadIsByPositions, HeldIsByPositions, DropIsByPositions};
+ghost use Rattle.listener.specs.Laws.{AnswersAreRight, AnswersAreLegal, ImmediateIsFlushed, RunsAppend, LegalAppends, BatchesAppend, HeldStaysWithin, BuffersFollow, BuffersStayWithin, KeptFits, CountsFollow, CountsStayOrdered, ReadsCommute, RunsAreKept, MatchedAreKeptOrDropped, KeptIsThinned, KeptAreAccepted};
+ghost use Rattle.listener.specs.Positions.{LoadIsByPositions, HoldIsByPositions, DropIsByPositions};
 
 /// Each request has one right answer, and a list of requests one legal run.
 pub fn answers()
-    ensures fair { AnswersAreFair }
+    ensures is_right { AnswersAreRight }
     ensures legal { AnswersAreLegal }
 {}
 
@@ -55,7 +55,7 @@ pub fn looking_back()
 /// which earlier steps they come from.
 pub fn positions()
     ensures load { LoadIsByPositions }
-    ensures held { HeldIsByPositions }
+    ensures held { HoldIsByPositions }
     ensures drops { DropIsByPositions }
 {}
 

@@ -217,7 +217,7 @@ impl Listener {
     /// The hold and the store.
     pub fn buffers(&self) -> (&Buffer, &Buffer)
         ensures pending { result.0.now.messages ++ result.1.now.messages ≡ self.now.list.pending }
-        ensures held { length result.0.now.messages ≡ self.now.list.held }
+        ensures held { length result.0.now.messages ≡ self.now.list.in_hold }
         ensures hold_capacity { result.0.now.capacity ≡ self.now.terms.capacity }
         ensures store_capacity { result.1.now.capacity ≡ self.now.terms.capacity }
     {

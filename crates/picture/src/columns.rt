@@ -17,7 +17,7 @@ pub struct Column<'a> {
     /// The bytes of the store before the step.
     pub load: u64,
     /// The bytes of the hold before the step.
-    pub held: u64,
+    pub hold_load: u64,
     /// The bytes of the record that the listener would keep of the packet.
     pub more: u64,
 }
@@ -37,7 +37,7 @@ pub struct Columns<'a> {
     answers: Iter<'a, Answered>,
     count: u64,
     load: u64,
-    held: u64,
+    hold_load: u64,
 }
 
 impl<'a> Columns<'a> {
@@ -55,7 +55,7 @@ impl<'a> Columns<'a> {
             answers: answers.iter(),
             count: 0,
             load: 0,
-            held: 0,
+            hold_load: 0,
         }
     }
 
@@ -79,7 +79,7 @@ impl<'a> Columns<'a> {
             packet,
             answer: answered.map(|before| before.answer),
             load: self.load,
-            held: self.held,
+            hold_load: self.hold_load,
             more: packet.map_or(0, |placed| record_size(self.spec, placed)),
         };
         self.count = self.count.wrapping_add(1);
@@ -93,18 +93,18 @@ impl<'a> Columns<'a> {
         match column.answer {
             Some(Answer::Arrived(Fed::Stored)) => self.load = load.wrapping_add(more),
             Some(Answer::Arrived(Fed::Held)) => {
-                self.held = load.wrapping_add(more);
+                self.hold_load = load.wrapping_add(more);
                 self.load = 0;
             }
             Some(Answer::Arrived(Fed::Rotated)) => {
-                self.held = load;
+                self.hold_load = load;
                 self.load = more;
             }
             Some(Answer::Flushed(true)) => {
-                self.held = load;
+                self.hold_load = load;
                 self.load = 0;
             }
-            Some(Answer::Read(true)) => self.held = 0,
+            Some(Answer::Read(true)) => self.hold_load = 0,
             _ => {}
         }
     }
@@ -119,7 +119,7 @@ pub fn highest(mut columns: Columns<'_>, steps: &[Step]) -> u64 {
             Some(Answer::Arrived(Fed::Passed | Fed::Closed)) => column.load,
             _ => column.load.saturating_add(column.more),
         };
-        most = most.max(store).max(column.held);
+        most = most.max(store).max(column.hold_load);
     }
     most
 }

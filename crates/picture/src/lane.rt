@@ -91,7 +91,7 @@ fn write_title<O: Write>(column: &Column<'_>, out: &mut O) -> io::Result<()> {
         (Step::Read(l), _) => write!(out, "read {l}")?,
         (Step::Close(l), _) => write!(out, "close {l}")?,
     }
-    let (load, held) = (column.load, column.held);
+    let (load, held) = (column.load, column.hold_load);
     write!(out, ": {load} stored, {held} held")?;
     if let Some(answer) = column.answer {
         write!(out, ", {}", class_of(answer))?;
@@ -119,7 +119,7 @@ fn write_column<O: Write>(column: &Column<'_>, scale: &Scale, out: &mut O) -> io
     if let Some(answer) = column.answer {
         write_bar(class_of(answer), column, scale.mark, scale.mark, out)?;
     }
-    write_bar("hold", column, scale.hold_floor(), column.held, out)?;
+    write_bar("hold", column, scale.hold_floor(), column.hold_load, out)?;
     write_bar("store", column, scale.store_floor(), column.load, out)?;
     write_record(column, scale, out)?;
     writeln!(out, "</g>")

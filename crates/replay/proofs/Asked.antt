@@ -9,7 +9,7 @@ use Rattle.listener.specs.PlainList.{Request, Arrive, Flush}
 use Rattle.listener.specs.declared.answer.Fed.{Fed}
 use Rattle.listener.specs.declared.answer.Fed.TheVariants.{Passed, Stored, Held, Rotated, Dropped, Closed}
 use Rattle.handover.specs.Asks.{asks}
-use Rattle.handover.specs.Own.{arrivals}
+use Rattle.handover.specs.Own.{received_in}
 use Rattle.handover.specs.Steps.{FlushAnswers}
 use Rattle.handover.specs.declared.calls.Feed.{Feed}
 use Rattle.handover.specs.declared.calls.Feed.TheVariants as call
@@ -24,7 +24,7 @@ asks-append (call.Flush full ∷ fs) gs = ap (λ rs. Flush ∷ rs) (asks-append 
 asks-append (call.FlushClosed ∷ fs) gs = ap (λ rs. Flush ∷ rs) (asks-append fs gs)
 
 -- no more arrived than were asked
-pub arrivals-asked : (fs : List Feed) → arrivals fs ≤ count is_arrival (asks fs)
+pub arrivals-asked : (fs : List Feed) → received_in fs ≤ count is_arrival (asks fs)
 arrivals-asked [] = omega arith
 arrivals-asked (call.Arrive m Passed ∷ fs) = let r = arrivals-asked fs in omega (arith, r)
 arrivals-asked (call.Arrive m Stored ∷ fs) = let r = arrivals-asked fs in omega (arith, r)

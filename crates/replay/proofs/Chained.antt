@@ -4,7 +4,7 @@ use Rattle.std.specs.List.{AllZip}
 use Rattle.std.specs.declared.alloc.Global.{Global}
 use Rattle.std.specs.declared.vec.Vec.{Vec}
 use Rattle.atomic_table.specs.Seated.{TableId}
-use Rattle.replay.specs.Captures.{Plays}
+use Rattle.replay.specs.Captures.{GivesPlaylist}
 use Rattle.replay.specs.Crews.{stage_pair, stage_task}
 use Rattle.replay.specs.Replayed.{IsReplayed, IsServed}
 use Rattle.replay.specs.Runs.{IsReadyFor, IsRunningOf}
@@ -37,7 +37,7 @@ module _ {S W : Type 0} (left : S → Option (List ℕ)) (broken : S → ℕ) (t
       → IsLaidFor i l → IsReadyFor l r → IsRunningOf r s → IsReportOf left broken taken failures s t → IsReplayed left broken taken failures i t
   told-of-asked i l r s t laid ready running told = record {
     playlist = told.playlist;
-    plays = subst (λ (cs : List S). Plays left broken (length told.playlist) 0 cs t.sources.items told.playlist t.end) (running.captures ∙ ready.1 ∙ laid.1) told.plays;
+    plays = subst (λ (cs : List S). GivesPlaylist left broken (length told.playlist) 0 cs t.sources.items told.playlist t.end) (running.captures ∙ ready.1 ∙ laid.1) told.plays;
     served = subst (λ (ts : List (Task W)). AllZip (IsServed taken failures told.playlist) ts t.listeners.items)
         (running.tasks ∙ ap (λ (stages : List (Stage W)). map stage_task stages) ready.0 ∙ laid.0) told.served;
   }

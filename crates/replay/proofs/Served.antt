@@ -7,7 +7,7 @@ use Rattle.listener.specs.declared.answer.Fed.TheVariants.{Passed, Stored, Held,
 use Rattle.handover.specs.Asks.{asks}
 use Rattle.handover.specs.Ends.{FeedingEnded}
 use Rattle.handover.specs.History.{by_kind, finds, kind}
-use Rattle.handover.specs.Own.{arrivals}
+use Rattle.handover.specs.Own.{received_in}
 use Rattle.handover.specs.Rule.{profile_of}
 use Rattle.handover.specs.declared.calls.Feed.{Feed}
 use Rattle.handover.specs.declared.calls.Feed.TheVariants as call
@@ -30,7 +30,7 @@ flush-by true b e = e
 flush-by false b e = e
 
 -- where no call found the pair closed, each arrival that was asked for was received
-all-arrived : (fs : List Feed) → finds fs ≡ false → arrivals fs ≡ count is_arrival (asks fs)
+all-arrived : (fs : List Feed) → finds fs ≡ false → received_in fs ≡ count is_arrival (asks fs)
 all-arrived [] open' = refl
 all-arrived (call.Arrive m Passed ∷ fs) open' = let r = all-arrived fs open' in omega (arith, r)
 all-arrived (call.Arrive m Stored ∷ fs) open' = let r = all-arrived fs open' in omega (arith, r)

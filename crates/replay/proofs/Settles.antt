@@ -8,8 +8,8 @@ use Rattle.listener.specs.declared.answer.Counts.{Counts}
 use Rattle.listener.specs.declared.message.Message.{Message}
 use Rattle.savefile.specs.Savefile.{encoded}
 use Rattle.savefile.specs.declared.packet.Packet.{Packet}
-use Rattle.savefile.specs.Writer.{Sent, sent_by, sink_of}
-use Rattle.handover.specs.Ends.{AreCountsOf, Counted}
+use Rattle.savefile.specs.Writer.{Sent}
+use Rattle.handover.specs.Ends.{AreCountsOf, AreCountsOfCalls}
 use Rattle.handover.specs.History.{LegalHistory, finds, merge}
 use Rattle.handover.specs.Rule.{last, profile_of, terms_of}
 use Rattle.handover.specs.Settling.{IsWhole}
@@ -38,10 +38,10 @@ chain before now known sent batches hold rest all whole pushed fifo same =
 module _ {W : Type 0} (taken : W → Option (List ℕ)) (failures : W → ℕ) (task : Task W) (feeds : List Feed) (takes : List Take) (r : ListenerReport W)
     (counts : Counts) (hold rest : List Message)
     (history : LegalHistory (terms_of (profile_of task.capacity task.mode)) feeds takes (merge feeds takes))
-    (are : AreCountsOf counts (last feeds takes)) (counted : Counted counts feeds)
+    (are : AreCountsOf counts (last feeds takes)) (counted : AreCountsOfCalls counts feeds)
     (whole : IsWhole (profile_of task.capacity task.mode) feeds takes hold rest counts)
     (told : (r.received ≡ counts.received) × (r.matched ≡ counts.matched) × (r.dropped ≡ counts.dropped))
-    (w : Written W) (back : (r.sink ≡ sink_of w.writer) × (r.sent ≡ sent_by w.writer) × (r.written ≡ w.count))
+    (w : Written W) (back : (r.sink ≡ w.writer.sink) × (r.sent ≡ w.writer.sent) × (r.written ≡ w.count))
     (as-they-are : map as_written (kept_for task feeds takes) ≡ map packet_of (kept_for task feeds takes)) where
   -- what the sink took
   abbrev Took : Type 0
@@ -77,7 +77,7 @@ module _ {W : Type 0} (taken : W → Option (List ℕ)) (failures : W → ℕ) (
 
   -- all that was kept was written, or a beginning of it
   finished-by : (works : Bool) → w.works ≡ works → Writes taken failures (output_of task) (kept_for task feeds takes) w
-      → (r.end ≡ Clean → (w.works ≡ true) × (finds feeds ≡ false)) → ((n : ℕ) → r.end ≡ Write n → (w.works ≡ false) × (n ≡ sent_by w.writer))
+      → (r.end ≡ Clean → (w.works ≡ true) × (finds feeds ≡ false)) → ((n : ℕ) → r.end ≡ Write n → (w.works ≡ false) × (n ≡ w.writer.sent))
       → IsReported taken failures task feeds takes r
   unfolding took-of-sent
   finished-by true is t ends breaks =
@@ -112,13 +112,13 @@ module _ {W : Type 0} (taken : W → Option (List ℕ)) (failures : W → ℕ) (
           elim off.3 [
             | inl differs ↦ inl (λ same. differs (ap failures (sym back.0) ∙ same))
             | inr full ↦ inr (subst (λ (n : ℕ). IsFull n (drop r.written (kept_for task feeds takes))) (sym back.1)
-                (subst (λ (k : ℕ). IsFull (sent_by w.writer) (drop k (kept_for task feeds takes))) (sym back.2) full))
+                (subst (λ (k : ℕ). IsFull w.writer.sent (drop k (kept_for task feeds takes))) (sym back.2) full))
           ],
         );
         unfinished = λ _. (_, inr (subst (λ (n : ℕ). BreaksBehind task.order task.unit task.snap (map as_written (kept_for task feeds takes)) n off.0) (sym back.2) off.1));
       }
 
   pub finished : Writes taken failures (output_of task) (kept_for task feeds takes) w
-      → (r.end ≡ Clean → (w.works ≡ true) × (finds feeds ≡ false)) → ((n : ℕ) → r.end ≡ Write n → (w.works ≡ false) × (n ≡ sent_by w.writer))
+      → (r.end ≡ Clean → (w.works ≡ true) × (finds feeds ≡ false)) → ((n : ℕ) → r.end ≡ Write n → (w.works ≡ false) × (n ≡ w.writer.sent))
       → IsReported taken failures task feeds takes r
   finished = finished-by w.works refl

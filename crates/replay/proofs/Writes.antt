@@ -9,7 +9,7 @@ use Rattle.savefile.specs.declared.fault.Fault.TheVariants.{Device, CountFull, F
 use Rattle.savefile.specs.declared.packet.Packet.{Packet}
 use Rattle.savefile.specs.declared.writing.Writer.{Writer}
 use Rattle.savefile.specs.Savefile.{encoded}
-use Rattle.savefile.specs.Writer.{IsBeginning, HasWritten, BrokeOff, Sent, has_failed, sent_by, sink_of}
+use Rattle.savefile.specs.Writer.{IsBeginning, HasWritten, HasWrittenPart, Sent}
 use Rattle.replay.specs.declared.writing.Output.{Output}
 use Rattle.replay.specs.declared.writing.Written.{Written}
 use Rattle.replay.specs.Reports.{BreaksBehind, IsFull}
@@ -79,7 +79,7 @@ module _ {W : Type 0} (taken : W → Option (List ℕ)) (failures : W → ℕ) (
 
   -- the header was written
   pub opens : (w : Written W) → w.count ≡ 0 → w.works ≡ true
-      → HasWritten taken (taken o.sink) o.order o.unit o.snap [] w.writer → failures (sink_of w.writer) ≡ failures o.sink
+      → HasWritten taken (taken o.sink) o.order o.unit o.snap [] w.writer → failures w.writer.sink ≡ failures o.sink
       → Writes taken failures o [] w
   opens w none works written same = record {
     whole = λ _. (none, written, same);
@@ -88,7 +88,7 @@ module _ {W : Type 0} (taken : W → Option (List ℕ)) (failures : W → ℕ) (
 
   -- the sink failed under the header
   pub fails-to-open : (w : Written W) → w.count ≡ 0 → w.works ≡ false
-      → BrokeOff taken (taken o.sink) o.order o.unit o.snap [] w.writer → failures (sink_of w.writer) ≢ failures o.sink
+      → HasWrittenPart taken (taken o.sink) o.order o.unit o.snap [] w.writer → failures w.writer.sink ≢ failures o.sink
       → Writes taken failures o [] w
   fails-to-open w none works broke differs = record {
     whole = λ e. let bad : false ≡ true = sym works ∙ e in absurd cc;
@@ -114,7 +114,7 @@ module _ {W : Type 0} (taken : W → Option (List ℕ)) (failures : W → ℕ) (
           b.2,
           elim b.3 [
             | inl differs ↦ inl differs
-            | inr full ↦ inr (subst (λ (ms : List Message). IsFull (sent_by w.writer) ms) (sym (drop-append-le w.count messages more some)) (full-grows (sent_by w.writer) (drop w.count messages) more full))
+            | inr full ↦ inr (subst (λ (ms : List Message). IsFull w.writer.sent ms) (sym (drop-append-le w.count messages more some)) (full-grows w.writer.sent (drop w.count messages) more full))
           ],
         );
       }
@@ -123,7 +123,7 @@ module _ {W : Type 0} (taken : W → Option (List ℕ)) (failures : W → ℕ) (
   pub writes-more : (messages : List Message) (m : Message) (old new : Written W) → old.works ≡ true → Writes taken failures o messages old
       → new.works ≡ true → new.count ≡ old.count + 1
       → HasWritten taken (taken o.sink) o.order o.unit o.snap (map as_written messages ++ as_written m ∷ []) new.writer
-      → failures (sink_of new.writer) ≡ failures (sink_of old.writer)
+      → failures new.writer.sink ≡ failures old.writer.sink
       → Writes taken failures o (messages ++ m ∷ []) new
   writes-more messages m old new worked t works count written same =
       let was = t.whole worked in record {
@@ -139,7 +139,7 @@ module _ {W : Type 0} (taken : W → Option (List ℕ)) (failures : W → ℕ) (
   pub count-below : (messages : List Message) (w : Written W) (new : Writer W) (m : Message) → w.works ≡ true → Writes taken failures o messages w
       → ((packets : List Packet) → 24 + 16 * length packets ≤ length (encoded o.order o.unit o.snap packets))
       → HasWritten taken (taken o.sink) o.order o.unit o.snap (map as_written messages ++ as_written m ∷ []) new
-      → sent_by new < 2 ^ 64 → w.count + 1 < 2 ^ 64
+      → new.sent < 2 ^ 64 → w.count + 1 < 2 ^ 64
   count-below messages w new m works t room written below =
       let was = t.whole works in
       let n = was.0 in
@@ -149,11 +149,11 @@ module _ {W : Type 0} (taken : W → Option (List ℕ)) (failures : W → ℕ) (
 
   -- the end of a put that failed, by the fault
   pub put-fails : (messages : List Message) (m : Message) (old new : Written W) (fault : Fault) → Grows → Adds → old.works ≡ true → Writes taken failures o messages old
-      → new.works ≡ false → new.count ≡ old.count → sent_by old.writer ≤ sent_by new.writer
-      → (fault ≡ Device → BrokeOff taken (taken o.sink) o.order o.unit o.snap (map as_written messages ++ as_written m ∷ []) new.writer)
-      → (fault ≡ Device → failures (sink_of new.writer) ≢ failures (sink_of old.writer))
-      → (fault ≡ Failed → has_failed old.writer ≡ true)
-      → (fault ≡ CountFull → 2 ^ 64 ≤ sent_by old.writer + 16 + length m.bytes)
+      → new.works ≡ false → new.count ≡ old.count → old.writer.sent ≤ new.writer.sent
+      → (fault ≡ Device → HasWrittenPart taken (taken o.sink) o.order o.unit o.snap (map as_written messages ++ as_written m ∷ []) new.writer)
+      → (fault ≡ Device → failures new.writer.sink ≢ failures old.writer.sink)
+      → (fault ≡ Failed → old.writer.failed ≡ true)
+      → (fault ≡ CountFull → 2 ^ 64 ≤ old.writer.sent + 16 + length m.bytes)
       → (fault ≡ CountFull → new.writer ≡ old.writer)
       → (fault ≡ Device) ⊎ (fault ≡ Failed) ⊎ (fault ≡ CountFull)
       → Writes taken failures o (messages ++ m ∷ []) new
@@ -180,9 +180,9 @@ module _ {W : Type 0} (taken : W → Option (List ℕ)) (failures : W → ℕ) (
             encoded o.order o.unit o.snap ps,
             as_all _ (breaks-at-last ps p _ (grows ps (p ∷ []) _ ([], sym (append-nil _))) (omega arith) (let a = adds ps p in omega (arith, a))),
             subst (λ (w : Writer W). Sent taken (taken o.sink) (encoded o.order o.unit o.snap ps) w) (sym (same many)) was.1.sent,
-            inr (subst (λ (ms : List Message). IsFull (sent_by new.writer) ms)
+            inr (subst (λ (ms : List Message). IsFull new.writer.sent ms)
                 (sym (ap (λ (k : ℕ). drop k (messages ++ m ∷ [])) (sym at) ∙ drop-append_seam messages (m ∷ [])))
-                (subst (λ (w : Writer W). 2 ^ 64 ≤ sent_by w + 16 + length m.bytes) (sym (same many)) (full many))),
+                (subst (λ (w : Writer W). 2 ^ 64 ≤ w.sent + 16 + length m.bytes) (sym (same many)) (full many))),
           )
         ];
       }

@@ -13,7 +13,7 @@ abbrev pub IsTimely : Arrival → Type 0
 IsTimely a = a.packet.nanos < 1000000000
 
 -- Packets of a capture arrived at the listeners, each writable, numbered from 0; and that is how it ended.
-pub record HasPlayed (start : Option (List ℕ)) (broke : Type 0) (capture : ℕ) (old new : Player) (end : Option InterfaceEnd) : Type 0 where
+pub record HasGivenPackets (start : Option (List ℕ)) (broke : Type 0) (capture : ℕ) (old new : Player) (end : Option InterfaceEnd) : Type 0 where
   pub packets : List Packet
   pub writable : All IsWritable packets
   pub arrive : (starts : List Line) (playlist : List Arrival) → HasArrived starts playlist old → HasArrived starts (playlist ++ numbered capture 0 packets) new

@@ -39,17 +39,17 @@ ComesBack left failures s t capture end =
     ((bytes : List ℕ) × Consumes (left s) (left t) bytes) × ((end ≡ Some (Capture capture fault.Device)) ⊎ (failures t ≡ failures s))
 
 -- A capture was read, of which these packets arrived, and so it ended, of so many arrivals at the interface.
-abbrev pub WasPlayed : {R : Type 0} → (R → Option (List ℕ)) → (R → ℕ) → R → R → ℕ → ℕ → List Packet → Option InterfaceEnd → Type 0
-WasPlayed left failures s t capture arrived packets end =
+abbrev pub GivesPackets : {R : Type 0} → (R → Option (List ℕ)) → (R → ℕ) → R → R → ℕ → ℕ → List Packet → Option InterfaceEnd → Type 0
+GivesPackets left failures s t capture arrived packets end =
     EndsSo (left s) (failures t ≢ failures s) capture arrived packets end × ComesBack left failures s t capture end
 
 -- A list of captures was read, of which the first has this number: so the playlist arrived, of `total` packets in all, and so it
 -- ended. Each capture was read whole, or it ended the playlist, and no capture behind it was read: their sources are as they were.
-abbrev pub Plays : {R : Type 0} → (R → Option (List ℕ)) → (R → ℕ) → ℕ → ℕ → List R → List R → List Arrival → InterfaceEnd → Type 0
-Plays left failures total capture [] [] playlist end = (playlist ≡ []) × (end ≡ Clean)
-Plays left failures total capture [] (t ∷ ts) playlist end = ⊥
-Plays left failures total capture (s ∷ ss) [] playlist end = ⊥
-Plays left failures total capture (s ∷ ss) (t ∷ ts) playlist end =
+abbrev pub GivesPlaylist : {R : Type 0} → (R → Option (List ℕ)) → (R → ℕ) → ℕ → ℕ → List R → List R → List Arrival → InterfaceEnd → Type 0
+GivesPlaylist left failures total capture [] [] playlist end = (playlist ≡ []) × (end ≡ Clean)
+GivesPlaylist left failures total capture [] (t ∷ ts) playlist end = ⊥
+GivesPlaylist left failures total capture (s ∷ ss) [] playlist end = ⊥
+GivesPlaylist left failures total capture (s ∷ ss) (t ∷ ts) playlist end =
     (packets : List Packet) × (more : List Arrival) × (playlist ≡ numbered capture 0 packets ++ more)
-    × ((WasPlayed left failures s t capture total packets None × Plays left failures total (capture + 1) ss ts more end)
-    ⊎ (WasPlayed left failures s t capture total packets (Some end) × (more ≡ []) × (ts ≡ ss)))
+    × ((GivesPackets left failures s t capture total packets None × GivesPlaylist left failures total (capture + 1) ss ts more end)
+    ⊎ (GivesPackets left failures s t capture total packets (Some end) × (more ≡ []) × (ts ≡ ss)))

@@ -4,7 +4,7 @@ use Rattle.std.specs.List.{AllZip}
 use Rattle.listener.specs.Messages.{Arrival}
 use Rattle.handover.specs.Asks.{asks}
 use Rattle.handover.specs.Rule.{profile_of}
-use Rattle.replay.specs.Captures.{Plays}
+use Rattle.replay.specs.Captures.{GivesPlaylist}
 use Rattle.replay.specs.Playing.{asked, asking_of}
 use Rattle.replay.specs.Reports.{IsReported}
 use Rattle.replay.specs.declared.report.InterfaceReport.{InterfaceReport}
@@ -26,5 +26,5 @@ pub record IsServed {W : Type 0} (taken : W → Option (List ℕ)) (failures : W
 pub record IsReplayed {S W : Type 0} (left : S → Option (List ℕ)) (broken : S → ℕ) (taken : W → Option (List ℕ)) (failures : W → ℕ)
     (interface : Interface S W) (r : InterfaceReport S W) : Type 0 where
   pub playlist : List Arrival
-  pub plays : Plays left broken (length playlist) 0 interface.captures.items r.sources.items playlist r.end
+  pub plays : GivesPlaylist left broken (length playlist) 0 interface.captures.items r.sources.items playlist r.end
   pub served : AllZip (IsServed taken failures playlist) interface.tasks.items r.listeners.items

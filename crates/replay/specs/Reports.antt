@@ -8,7 +8,7 @@ use Rattle.savefile.specs.declared.header.Unit.{Unit as TimeUnit}
 use Rattle.savefile.specs.declared.packet.Packet.{Packet}
 use Rattle.savefile.specs.Writer.{IsBeginning}
 use Rattle.handover.specs.History.{LegalHistory, finds, merge}
-use Rattle.handover.specs.Own.{arrivals, matches, drops}
+use Rattle.handover.specs.Own.{received_in, matched_in, dropped_in}
 use Rattle.handover.specs.Rule.{last, profile_of, terms_of}
 use Rattle.handover.specs.Settling.{kept_of_both}
 use Rattle.handover.specs.declared.calls.Feed.{Feed}
@@ -53,9 +53,9 @@ WroteSoFar order unit snap packets n text =
 pub record IsReported {W : Type 0} (taken : W → Option (List ℕ)) (failures : W → ℕ) (task : Task W) (feeds : List Feed) (takes : List Take)
     (r : ListenerReport W) : Type 0 where
   pub history : LegalHistory (terms_of (profile_of task.capacity task.mode)) feeds takes (merge feeds takes)
-  pub all_received : (r.received ≡ arrivals feeds) × (r.received ≡ (last feeds takes).received)
-  pub all_matched : (r.matched ≡ matches feeds) × (r.matched ≡ (last feeds takes).matched)
-  pub all_dropped : (r.dropped ≡ drops feeds) × (r.dropped ≡ (last feeds takes).dropped)
+  pub all_received : (r.received ≡ received_in feeds) × (r.received ≡ (last feeds takes).received)
+  pub all_matched : (r.matched ≡ matched_in feeds) × (r.matched ≡ (last feeds takes).matched)
+  pub all_dropped : (r.dropped ≡ dropped_in feeds) × (r.dropped ≡ (last feeds takes).dropped)
   pub balance : r.matched ≡ length (kept_for task feeds takes) + r.dropped
   pub text : List ℕ
   pub took : Appends (taken task.sink) (taken r.sink) text

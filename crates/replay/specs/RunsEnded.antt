@@ -5,7 +5,7 @@ use Rattle.std.specs.declared.alloc.Global.{Global}
 use Rattle.std.specs.declared.vec.Vec.{Vec}
 use Rattle.atomic_table.specs.Seated.{TableId}
 use Rattle.listener.specs.Messages.{Arrival}
-use Rattle.replay.specs.Captures.{Plays}
+use Rattle.replay.specs.Captures.{GivesPlaylist}
 use Rattle.replay.specs.Crews.{crew_pair, crew_task}
 use Rattle.replay.specs.Replayed.{IsServed}
 use Rattle.replay.specs.declared.ready.Running.{Running}
@@ -25,6 +25,6 @@ past_pair r = r.past.pair
 pub record IsReportOf {S W : Type 0} (left : S → Option (List ℕ)) (broken : S → ℕ) (taken : W → Option (List ℕ)) (failures : W → ℕ)
     (running : Running S W) (r : InterfaceReport S W) : Type 0 where
   pub playlist : List Arrival
-  pub plays : Plays left broken (length playlist) 0 running.player.promise.captures.value.items r.sources.items playlist r.end
+  pub plays : GivesPlaylist left broken (length playlist) 0 running.player.promise.captures.value.items r.sources.items playlist r.end
   pub pairs : map past_pair r.listeners.items ≡ map crew_pair running.crews.items
   pub served : AllZip (IsServed taken failures playlist) (map crew_task running.crews.items) r.listeners.items

@@ -3,7 +3,7 @@ use Rattle.std.specs.Prelude.{◌≡◌, ◌≢◌, ◌<◌, ℕ, ◌⊎◌, tru
 use Rattle.listener.specs.declared.message.Message.{Message}
 use Rattle.savefile.specs.declared.packet.Packet.{Packet}
 use Rattle.savefile.specs.Savefile.{packet}
-use Rattle.savefile.specs.Writer.{HasWritten, Sent, sent_by, sink_of}
+use Rattle.savefile.specs.Writer.{HasWritten, Sent}
 use Rattle.replay.specs.Reports.{BreaksBehind, IsFull}
 use Rattle.replay.specs.declared.writing.Output.{Output}
 use Rattle.replay.specs.declared.writing.Written.{Written}
@@ -20,8 +20,8 @@ IsPrompt m = m.nanos < 1000000000
 pub record Writes {W : Type 0} (taken : W → Option (List ℕ)) (failures : W → ℕ) (o : Output W) (messages : List Message) (w : Written W) : Type 0 where
   pub whole : w.works ≡ true → (w.count ≡ length messages)
       × HasWritten taken (taken o.sink) o.order o.unit o.snap (map as_written messages) w.writer
-      × (failures (sink_of w.writer) ≡ failures o.sink)
+      × (failures w.writer.sink ≡ failures o.sink)
   pub broke : w.works ≡ false → (text : List ℕ)
       × BreaksBehind o.order o.unit o.snap (map as_written messages) w.count text
       × Sent taken (taken o.sink) text w.writer
-      × ((failures (sink_of w.writer) ≢ failures o.sink) ⊎ IsFull (sent_by w.writer) (drop w.count messages))
+      × ((failures w.writer.sink ≢ failures o.sink) ⊎ IsFull w.writer.sent (drop w.count messages))

@@ -3,9 +3,9 @@
 ghost use Rattle.std.specs.Prelude.{◌≡◌, ◌≢◌, ℕ, ◌-◌, ◌≤◌, ◌^◌, List, [], Option};
 ghost use Rattle.listener.specs.Messages.{Arrival};
 ghost use Rattle.savefile.specs.declared.header.Header.{Header};
-ghost use Rattle.savefile.specs.Reader.{HasGiven, source_of};
+ghost use Rattle.savefile.specs.Reader.{HasGiven};
 ghost use Rattle.replay.specs.Lines.{Line, HasArrived};
-ghost use Rattle.replay.specs.Arrived.{HasPlayed};
+ghost use Rattle.replay.specs.Arrived.{HasGivenPackets};
 ghost use Rattle.replay.specs.Captures.{ComesBack};
 
 use crate::gate::Gate;
@@ -19,7 +19,7 @@ const MOST_ARRIVALS: u64 = u64::MAX - 1;
 
 impl Player<'_> {
     /// Gives the packets of a capture to the feeders, one behind the other. Where that ends the interface, it answers how.
-    pub(crate) fn play<S: Source, G: Gate>(
+    pub(crate) fn give_packets<S: Source, G: Gate>(
         &mut self,
         gate: &G,
         capture: u32,
@@ -28,8 +28,8 @@ impl Player<'_> {
         requires room { self.old.arrived ≤ 2 ^ 64 - 2 }
         requires so_far { (starts : List Line) × (playlist : List Arrival) × HasArrived starts playlist self.old }
         ensures played { (start : Option (List ℕ)) (header : Header) → HasGiven S.left start header [] reader.old →
-            HasPlayed start (S.failures (source_of reader.new) ≢ S.failures (source_of reader.old)) capture self.old self.new result }
-        ensures back { ComesBack S.left S.failures (source_of reader.old) (source_of reader.new) capture result }
+            HasGivenPackets start (S.failures reader.new.source ≢ S.failures reader.old.source) capture self.old self.new result }
+        ensures back { ComesBack S.left S.failures reader.old.source reader.new.source capture result }
         ensures room { self.new.arrived ≤ 2 ^ 64 - 2 }
         ensures so_far { (starts : List Line) × (playlist : List Arrival) × HasArrived starts playlist self.new }
     {
@@ -48,7 +48,7 @@ impl Player<'_> {
     }
     /// Reads a capture, and gives its packets to the feeders. Its source comes back; and how the interface ended, where this
     /// ended it.
-    pub(crate) fn replay<S: Source, G: Gate>(
+    pub(crate) fn give_capture<S: Source, G: Gate>(
         &mut self,
         alloc: Global,
         gate: &G,
@@ -57,14 +57,14 @@ impl Player<'_> {
     ) -> (S, Option<InterfaceEnd>)
         requires room { self.old.arrived ≤ 2 ^ 64 - 2 }
         requires so_far { (starts : List Line) × (playlist : List Arrival) × HasArrived starts playlist self.old }
-        ensures played { HasPlayed (S.left source) (S.failures result.0 ≢ S.failures source) capture self.old self.new result.1 }
+        ensures played { HasGivenPackets (S.left source) (S.failures result.0 ≢ S.failures source) capture self.old self.new result.1 }
         ensures back { ComesBack S.left S.failures source result.0 capture result.1 }
         ensures room { self.new.arrived ≤ 2 ^ 64 - 2 }
         ensures so_far { (starts : List Line) × (playlist : List Arrival) × HasArrived starts playlist self.new }
     {
         match Reader::open(alloc, source) {
             Ok(mut reader) => {
-                let end = self.play(gate, capture, &mut reader);
+                let end = self.give_packets(gate, capture, &mut reader);
                 (reader.close(), end)
             }
             Err((source, fault)) => (source, Some(InterfaceEnd::Capture(capture, fault))),

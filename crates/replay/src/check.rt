@@ -1,7 +1,7 @@
 //! Tests all numbers of a replay, before anything is made.
 
 ghost use Rattle.std.specs.Prelude.{◌≡◌, ◌≤◌, ◌≢◌, length, IfErr, IsTrue, OnOk, All, ◌↔◌};
-ghost use Rattle.replay.specs.Refusals.{IsFirst, IsInBounds, NoneStands, TaskStands, RefusesTask, RefusesTasks, AreFew};
+ghost use Rattle.replay.specs.Refusals.{IsFirst, IsInBounds, NoneStands, TaskIsRight, RefusesTask, RefusesTasks, AreFew};
 ghost use Rattle.replay.specs.declared.fault.RunFault.TheVariants.{NoStart};
 
 use crate::fault::RunFault;
@@ -37,7 +37,7 @@ fn are_few<R, W>(interfaces: &[Interface<R, W>]) -> bool
 
 /// Tests the numbers of a task.
 fn check_task<W>(task: &Task<W>) -> Result<(), OpenFault>
-    ensures stands { OnOk result (TaskStands task.now) }
+    ensures stands { OnOk result (TaskIsRight task.now) }
     ensures refuses { IfErr result (RefusesTask task.now) }
 {
     check_range(task.snap, task.capacity)?;
@@ -50,7 +50,7 @@ fn check_task<W>(task: &Task<W>) -> Result<(), OpenFault>
 /// Tests the numbers of the i-th interface's tasks.
 fn check_tasks<W>(i: u32, tasks: &[Task<W>]) -> Result<(), RunFault>
     requires { length tasks.now ≤ 64 }
-    ensures stand { OnOk result (All TaskStands tasks.now) }
+    ensures stand { OnOk result (All TaskIsRight tasks.now) }
     ensures refuses { IfErr result (RefusesTasks i tasks.now) }
 {
     for (k, task) in tasks.iter().enumerate() {

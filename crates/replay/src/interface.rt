@@ -14,7 +14,7 @@ use crate::gate::Gate;
 use crate::inlet::{Entry, Inlet};
 use crate::laid::Laid;
 use crate::playing::{PlaysOut, play_out};
-use crate::reading::Seat;
+use crate::reading::ListenerId;
 use crate::ready::{Ready, Running};
 use crate::room::Room;
 use crate::threads::start;
@@ -121,11 +121,11 @@ fn start_all<
     ensures refused { IfErr result (λ fault. fault ≡ NoStart) }
 {
     for (k, stage) in stages.into_iter().enumerate() {
-        let seat = Seat {
+        let listener_id = ListenerId {
             interface,
             listener: k as u32,
         };
-        crews.push_reserved(start(rt, scope, gate, &links[k], stage, seat)?);
+        crews.push_reserved(start(rt, scope, gate, &links[k], stage, listener_id)?);
     }
     Ok(crews)
 }

@@ -3,7 +3,7 @@
 ghost use Rattle.std.specs.Prelude.{◌≡◌, ◌≤◌, ◌-◌, ◌^◌, All, List, [], map, length, vec_capacity};
 ghost use Rattle.listener.specs.Messages.{Arrival};
 ghost use Rattle.replay.specs.Lines.{HasArrived, IsFresh, Line, entry_line, ended_all, ended_of, line_of};
-ghost use Rattle.replay.specs.Captures.{Plays};
+ghost use Rattle.replay.specs.Captures.{GivesPlaylist};
 ghost use Rattle.replay.specs.PlayedOut.{HasPlayedOut};
 ghost use Rattle.replay.specs.Arrived.{IsTimely};
 
@@ -19,7 +19,7 @@ use std::thread::Promise;
 
 /// What the replaying thread of an interface hands back.
 #[derive(Drop)]
-pub(crate) struct Played<R> {
+pub(crate) struct PlayEnd<R> {
     pub(crate) ends: Vec<FeedEnd>,
     pub(crate) sources: Vec<R>,
     pub(crate) end: InterfaceEnd,
@@ -32,14 +32,14 @@ pub(crate) struct PlaysOut<R> {
     pub(crate) captures: Snapshot<Vec<R>>,
 }
 
-impl<R: Source> Promise<Played<R>> for PlaysOut<R> {
+impl<R: Source> Promise<PlayEnd<R>> for PlaysOut<R> {
     ghost kept_by = { λ p r. HasPlayedOut R.left R.failures (map entry_line p.entries.value.items) p.captures.value.items r };
 }
 
 impl Player<'_> {
     /// Reads the captures in order, until one ends the interface: the answer tells how. The sources come back, those behind it
     /// as they were.
-    fn replay_all<S: Source + Drop, G: Gate>(
+    fn give_captures<S: Source + Drop, G: Gate>(
         &mut self,
         alloc: Global,
         gate: &G,
@@ -51,14 +51,14 @@ impl Player<'_> {
         requires arrived { self.old.arrived ≤ 2 ^ 64 - 2 }
         requires so_far { (starts : List Line) × (playlist : List Arrival) × HasArrived starts playlist self.old }
         ensures { (starts : List Line) → HasArrived starts [] self.old → (playlist : List Arrival) × All IsTimely playlist × HasArrived starts playlist self.new
-            × Plays S.left S.failures (length playlist) 0 captures.items result.0.items playlist result.1 }
+            × GivesPlaylist S.left S.failures (length playlist) 0 captures.items result.0.items playlist result.1 }
     {
         let mut end = None;
         for (n, source) in captures.into_iter().enumerate() {
             let source = match end {
                 Some(_) => source,
                 None => {
-                    let (source, ended) = self.replay(alloc, gate, n as u32, source);
+                    let (source, ended) = self.give_capture(alloc, gate, n as u32, source);
                     end = ended;
                     source
                 }
@@ -91,7 +91,7 @@ pub(crate) fn play_out<S: Source + Drop, G: Gate, R: Wait>(
     captures: Vec<S>,
     ends: Vec<FeedEnd>,
     sources: Vec<S>,
-) -> Played<S>
+) -> PlayEnd<S>
     requires fresh { All IsFresh (map line_of inlets.items) }
     requires few { length captures.items ≤ 65536 }
     requires room { (length ends.items ≡ 0) × (length inlets.items ≤ vec_capacity ends)
@@ -104,7 +104,7 @@ pub(crate) fn play_out<S: Source + Drop, G: Gate, R: Wait>(
         inlets,
         arrived: 0,
     };
-    let (sources, end) = player.replay_all(alloc, gate, captures, sources);
+    let (sources, end) = player.give_captures(alloc, gate, captures, sources);
     let ends = end_all(player.inlets, ends);
-    Played { ends, sources, end }
+    PlayEnd { ends, sources, end }
 }

@@ -18,7 +18,7 @@ use std::thread::Promise;
 
 /// Which listener of which interface a thread works for.
 #[derive(Clone, Copy)]
-pub(crate) struct Seat {
+pub(crate) struct ListenerId {
     pub(crate) interface: u32,
     pub(crate) listener: u32,
 }
@@ -60,7 +60,7 @@ enum Once {
     /// A batch was pushed.
     Pushed,
     /// Nothing was there, and the buffer is still empty.
-    Kept(Buffer),
+    StillEmpty(Buffer),
     Ended,
 }
 
@@ -89,7 +89,7 @@ fn read_once<G: Gate, R: Wait>(
     drain: &mut Drain,
     full: &mut Producer<Buffer>,
     empty: Buffer,
-    seat: Seat,
+    listener_id: ListenerId,
 ) -> Once
     requires pair { drain.old.pair ≡ link.now }
     requires empty { empty ≡ filled drain.old.profile.capacity [] }
@@ -97,22 +97,26 @@ fn read_once<G: Gate, R: Wait>(
     ensures same { IsSameDrain drain.old drain.new }
     ensures ring { SameProducer full.old full.new }
     ensures pushed { messages_of (sent full.new) ≡ batches_of drain.new.takes }
-    ensures kept { (b : _) → result ≡ Once.Kept b → b ≡ filled drain.old.profile.capacity [] }
+    ensures kept { (b : _) → result ≡ Once.StillEmpty b → b ≡ filled drain.old.profile.capacity [] }
     ensures ended { result ≡ Once.Ended → ended_in drain.new.takes ≡ true }
 {
-    gate.before_read(seat.interface, seat.listener);
+    gate.before_read(listener_id.interface, listener_id.listener);
     match drain.read(link, empty) {
         Read::Full(buffer) => {
-            gate.after_read(seat.interface, seat.listener, buffer.len() as u32);
+            gate.after_read(
+                listener_id.interface,
+                listener_id.listener,
+                buffer.len() as u32,
+            );
             push_waiting(rt, full, buffer);
             Once::Pushed
         }
         Read::Nothing(buffer) => {
-            gate.after_read(seat.interface, seat.listener, 0);
-            Once::Kept(buffer)
+            gate.after_read(listener_id.interface, listener_id.listener, 0);
+            Once::StillEmpty(buffer)
         }
         Read::Ended(_) => {
-            gate.after_read(seat.interface, seat.listener, 0);
+            gate.after_read(listener_id.interface, listener_id.listener, 0);
             Once::Ended
         }
     }
@@ -151,7 +155,7 @@ pub(crate) fn read_out<G: Gate, R: Wait>(
     mut drain: Drain,
     mut full: Producer<Buffer>,
     mut empty: Consumer<Buffer>,
-    seat: Seat,
+    listener_id: ListenerId,
 ) -> ReadEnd
     requires pair { drain.pair ≡ link.now }
     requires new { (drain.takes ≡ []) × (sent full ≡ []) }
@@ -171,9 +175,9 @@ pub(crate) fn read_out<G: Gate, R: Wait>(
                 }
             },
         };
-        match read_once(rt, gate, link, &mut drain, &mut full, buffer, seat) {
+        match read_once(rt, gate, link, &mut drain, &mut full, buffer, listener_id) {
             Once::Pushed => {}
-            Once::Kept(buffer) => {
+            Once::StillEmpty(buffer) => {
                 spare = Some(buffer);
                 thread::yield_now();
             }

@@ -10,7 +10,7 @@ ghost use Rattle.replay.specs.RunsEnded.{HasItsPairs, IsReportOf, past_pair};
 ghost use Rattle.replay.specs.Arrived.{IsTimely};
 
 use crate::crew::Crew;
-use crate::playing::Played;
+use crate::playing::PlayEnd;
 use crate::ready::Running;
 use crate::report::{InterfaceReport, ListenerReport};
 use crate::settling::settled;
@@ -63,7 +63,7 @@ fn report_one<S: Source + Drop, W: Sink + Drop, R: Threads>(
         crews,
         reports,
     } = running;
-    let Played { ends, sources, end } = player.join(rt);
+    let PlayEnd { ends, sources, end } = player.join(rt);
     InterfaceReport {
         end,
         sources,

@@ -7,7 +7,6 @@ ghost use Rattle.listener.specs.LookingBack.{all_accepted};
 ghost use Rattle.rtrb.specs.Ring.{known_items};
 ghost use Rattle.listener.specs.Laws.{joined};
 ghost use Rattle.listener.specs.declared.message.Message.{Message};
-ghost use Rattle.savefile.specs.Writer.{sent_by, sink_of};
 ghost use Rattle.replay.specs.Crews.{IsDone};
 ghost use Rattle.replay.specs.Reading.{messages_of};
 ghost use Rattle.replay.specs.Reports.{IsReported};
@@ -56,7 +55,7 @@ fn report<W: Sink>(
     end: TaskEnd,
     past: Past,
 ) -> ListenerReport<W>
-    ensures sink { (result.sink ≡ sink_of written.writer) × (result.sent ≡ sent_by written.writer) × (result.written ≡ written.count) }
+    ensures sink { (result.sink ≡ written.writer.sink) × (result.sent ≡ written.writer.sent) × (result.written ≡ written.count) }
     ensures counts { (result.received ≡ counts.received) × (result.matched ≡ counts.matched) × (result.dropped ≡ counts.dropped) }
     ensures end { result.end ≡ end }
     ensures past { result.past ≡ past }

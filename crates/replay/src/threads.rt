@@ -7,7 +7,7 @@ ghost use Rattle.replay.specs.declared.fault.RunFault.TheVariants.{NoStart};
 use crate::crew::{Crew, Done, Stage};
 use crate::fault::RunFault;
 use crate::gate::Gate;
-use crate::reading::{ReadsOut, Seat, read_out};
+use crate::reading::{ListenerId, ReadsOut, read_out};
 use crate::writer::{WritesOut, write_out};
 use handover::Link;
 use savefile::Sink;
@@ -29,7 +29,7 @@ pub(crate) fn start<
     gate: &'s G,
     link: &'a Link,
     stage: Stage<W>,
-    seat: Seat,
+    listener_id: ListenerId,
 ) -> Result<Crew<W>, RunFault>
     requires { stage.drain.pair ≡ link.now }
     ensures crew { IfOk result (λ c. (c.task.value ≡ stage.task.value) × (crew_pair c ≡ link.now)) }
@@ -54,7 +54,7 @@ pub(crate) fn start<
     };
     let Ok(reader) = scope.spawn_with(
         reads,
-        move || read_out(rt, gate, link, drain, full_in, empty_out, seat),
+        move || read_out(rt, gate, link, drain, full_in, empty_out, listener_id),
     ) else {
         return Err(RunFault::NoStart);
     };

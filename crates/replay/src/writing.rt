@@ -1,7 +1,7 @@
 //! The savefile that what was read is written to.
 
 ghost use Rattle.std.specs.Prelude.{◌≡◌, List, [], ◌∷◌, ◌++◌};
-ghost use Rattle.listener.specs.Buffers.{message_in, IsWritable};
+ghost use Rattle.listener.specs.Buffers.{message_in, FitsSavefileRecord};
 ghost use Rattle.listener.specs.declared.message.Message.{Message};
 ghost use Rattle.replay.specs.declared.writing.Output.{Output};
 ghost use Rattle.replay.specs.Writing.{Writes};
@@ -57,7 +57,7 @@ impl<W: Sink> Written<W> {
 
     /// Writes one packet.
     fn put(&mut self, message: &Record<'_>)
-        requires { IsWritable (message_in message.now) }
+        requires { FitsSavefileRecord (message_in message.now) }
         ensures { (output : Output W) (messages : List Message) → Writes W.taken W.failures output messages self.old →
             Writes W.taken W.failures output (messages ++ message_in message.now ∷ []) self.new }
     {

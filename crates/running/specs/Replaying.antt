@@ -1,4 +1,4 @@
--- The exit status of a replay, for private clauses alone.
+-- The exit status of a replay.
 use Rattle.std.specs.Prelude.{◌≡◌, ℕ, ◌⊎◌, List, fold, max}
 use Rattle.replay.specs.declared.report.InterfaceEnd.{InterfaceEnd}
 use Rattle.replay.specs.declared.report.InterfaceEnd.TheVariants as interface
@@ -32,7 +32,6 @@ report_status report = max (interface_status report.end) (listeners_status repor
 abbrev pub run_status : {R W : Type 0} → List (InterfaceReport R W) → ℕ
 run_status reports = fold (λ status report. max status (report_status report)) 0 reports
 
--- It is this one where all was printed. Else it is the greater of this one and that of standard output, which is 1 for want of
--- memory and 3 where it failed.
+-- It is this one where all was printed, and else 3, where standard output failed.
 abbrev pub IsStatusOf : ℕ → ℕ → Type 0
-IsStatusOf replayed status = (printed : ℕ) × ((printed ≡ 0) ⊎ (printed ≡ 1) ⊎ (printed ≡ 3)) × (status ≡ max printed replayed)
+IsStatusOf replayed status = (output_status : ℕ) × ((output_status ≡ 0) ⊎ (output_status ≡ 3)) × (status ≡ max output_status replayed)

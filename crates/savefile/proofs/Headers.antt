@@ -1,5 +1,5 @@
 -- A header is read in one way only, and refused for one reason only.
-use Rattle.std.proofs.Common.{◌≡◌, ◌≢◌, ℕ, ◌<◌, ◌≤◌, List, length, get_or, refl, sym, ap, subst, ◌∙◌, arith}
+use Rattle.std.proofs.Common.{◌≡◌, ◌≢◌, ℕ, ◌<◌, ◌≤◌, ◌⊎◌, inl, inr, List, length, get_or, refl, sym, ap, subst, ◌∙◌, arith}
 use Rattle.byteorder.specs.Endian.{big_number, little_number}
 use Rattle.savefile.specs.declared.fault.Fault.{Fault}
 use Rattle.savefile.specs.declared.fault.Fault.TheVariants.{ShortHeader, NotSavefile, Version, LinkType}
@@ -98,3 +98,17 @@ one_fault text NotSavefile other fits r s = sym (only_not_savefile text other r.
 one_fault text Version other fits r s = sym (only_version text other r.1 r.2 fits r.0 r.3 r.4 s)
 one_fault text LinkType other fits r s = sym (only_link_type text other r.1 r.2 fits r.0 r.3 r.4 s)
 one_fault text _ other fits r s = absurd r
+
+-- ---- What the checks tell
+
+-- a text with a magic number is refused
+pub refuses_by : (text : List ℕ) (order : Order) (unit : TimeUnit) (fault : Fault) → 24 ≤ length text → HasMagic text order unit
+    → ((fault ≡ Version) × (HasVersion order text → ⊥)) ⊎ ((fault ≡ LinkType) × HasVersion order text × (field order text 20 4 ≢ 1)) → RefusesHeader text fault
+refuses_by text order unit fault size magic (inl (is, none)) = subst (RefusesHeader text) (sym is) (size, order, unit, magic, none)
+refuses_by text order unit fault size magic (inr (is, version, other)) = subst (RefusesHeader text) (sym is) (size, order, unit, magic, version, other)
+
+-- or begins with a header
+pub header_by : (text : List ℕ) (order : Order) (unit : TimeUnit) (snap : ℕ) → 24 ≤ length text → HasMagic text order unit
+    → HasVersion order text × (field order text 20 4 ≡ 1) × (field order text 16 4 ≡ snap) → IsHeader order text unit snap
+header_by text order unit snap size magic (version, link, told) =
+    record { size = size; magic = magic; major = version.0; minor = version.1; snapshot = told; link_type = link }

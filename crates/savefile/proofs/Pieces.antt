@@ -184,15 +184,15 @@ refused_front text rest Failed size r = absurd r
 refused_front text rest CountFull size r = absurd r
 
 -- where the source was read far enough, or to its end, its whole text is refused
-pub refused_whole : (text held : List ℕ) (left : Option (List ℕ)) (fault : Fault) → text ≡ held → (24 ≤ length held) ⊎ IsAtEnd left → RefusesHeader text fault
-    → (rest : List ℕ) × IfSome left (λ bytes. bytes ≡ rest) × RefusesHeader (held ++ rest) fault
-refused_whole text held left fault is enough r =
-    let known = known_rest left (24 ≤ length held) enough in
-    let refused : RefusesHeader held fault = subst (λ (t : List ℕ). RefusesHeader t fault) is r in (
+pub refused_whole : (text waiting : List ℕ) (left : Option (List ℕ)) (fault : Fault) → text ≡ waiting → (24 ≤ length waiting) ⊎ IsAtEnd left → RefusesHeader text fault
+    → (rest : List ℕ) × IfSome left (λ bytes. bytes ≡ rest) × RefusesHeader (waiting ++ rest) fault
+refused_whole text waiting left fault is enough r =
+    let known = known_rest left (24 ≤ length waiting) enough in
+    let refused : RefusesHeader waiting fault = subst (λ (t : List ℕ). RefusesHeader t fault) is r in (
       known.0,
       known.1,
       elim known.2 [
-        | inl size ↦ refused_front held known.0 fault size refused
-        | inr nothing ↦ subst (λ (t : List ℕ). RefusesHeader t fault) (sym (ap (λ (t : List ℕ). held ++ t) nothing ∙ append-nil held)) refused
+        | inl size ↦ refused_front waiting known.0 fault size refused
+        | inr nothing ↦ subst (λ (t : List ℕ). RefusesHeader t fault) (sym (ap (λ (t : List ℕ). waiting ++ t) nothing ∙ append-nil waiting)) refused
       ],
     )

@@ -6,18 +6,17 @@ use Rattle.std.specs.Prelude.{OnOk, OnErr}
 use Rattle.savefile.specs.declared.header.Order.{Order}
 use Rattle.savefile.specs.declared.header.Unit.{Unit as TimeUnit}
 use Rattle.savefile.specs.declared.packet.Packet.{Packet}
-use Rattle.savefile.specs.declared.writing.Writer.{Writer}
 use Rattle.savefile.specs.Savefile.{encoded, header_text, record_text}
 use Rattle.savefile.specs.Sending.{Sends, SendsPart}
-use Rattle.savefile.specs.Writer.{BrokeOff, HasWritten, IsBeginning, Sent}
+use Rattle.savefile.specs.Writer.{HasWrittenPart, HasWritten, IsBeginning, Sent, Writing}
 use Rattle.savefile.proofs.Encoding.{encoded-nil, encoded-push, IsBeginning-front}
 
 -- nothing was sent
-pub Sends-nothing : {W : Type 0} (taken : W → Option (List ℕ)) (w : Writer W) → Sends taken w w []
+pub Sends-nothing : {W : Type 0} (taken : W → Option (List ℕ)) (w : Writing W) → Sends taken w w []
 Sends-nothing taken w = record { bytes = Appends-nil (taken w.sink); count = omega arith; in_order = refl; in_unit = refl }
 
 -- one text, and then another
-pub Sends-trans : {W : Type 0} (taken : W → Option (List ℕ)) (a b c : Writer W) (s t : List ℕ) → Sends taken a b s → Sends taken b c t → Sends taken a c (s ++ t)
+pub Sends-trans : {W : Type 0} (taken : W → Option (List ℕ)) (a b c : Writing W) (s t : List ℕ) → Sends taken a b s → Sends taken b c t → Sends taken a c (s ++ t)
 Sends-trans taken a b c s t p q = record {
   bytes = Appends-trans (taken a.sink) (taken b.sink) (taken c.sink) s t p.bytes q.bytes;
   count = omega (arith, p.count, q.count, length-append s t);
@@ -26,7 +25,7 @@ Sends-trans taken a b c s t p q = record {
 }
 
 -- the sink took the first n bytes of the rest
-pub sends_more : {W : Type 0} (taken : W → Option (List ℕ)) (old mid new : Writer W) (bytes front rest : List ℕ) (n : ℕ)
+pub sends_more : {W : Type 0} (taken : W → Option (List ℕ)) (old mid new : Writing W) (bytes front rest : List ℕ) (n : ℕ)
     → n ≤ length rest → bytes ≡ front ++ rest → Sends taken old mid front → Sends taken mid new (take n rest)
     → (x : List ℕ) × (bytes ≡ x ++ take (length rest - n) (drop n rest)) × Sends taken old new x
 sends_more taken old mid new bytes front rest n lt e p q =
@@ -37,18 +36,18 @@ sends_more taken old mid new bytes front rest n lt e p q =
     )
 
 -- what a writer sent since it was opened grows by what it sends
-pub Sent-Sends : {W : Type 0} (taken : W → Option (List ℕ)) (start : Option (List ℕ)) (text more : List ℕ) (old new : Writer W) → Sent taken start text old → Sends taken old new more → Sent taken start (text ++ more) new
+pub Sent-Sends : {W : Type 0} (taken : W → Option (List ℕ)) (start : Option (List ℕ)) (text more : List ℕ) (old new : Writing W) → Sent taken start text old → Sends taken old new more → Sent taken start (text ++ more) new
 Sent-Sends taken start text more old new p q = record {
   bytes = Appends-trans start (taken old.sink) (taken new.sink) text more p.bytes q.bytes;
   count = omega (arith, p.count, q.count, length-append text more);
 }
 
 -- the record of a packet in the form that a writer has
-same_record : {W : Type 0} (w : Writer W) (order : Order) (unit : TimeUnit) (p : Packet) → w.order ≡ order → w.unit ≡ unit → record_text w.order w.unit p ≡ record_text order unit p
+same_record : {W : Type 0} (w : Writing W) (order : Order) (unit : TimeUnit) (p : Packet) → w.order ≡ order → w.unit ≡ unit → record_text w.order w.unit p ≡ record_text order unit p
 same_record w order unit p o u = ap (λ (x : Order). record_text x w.unit p) o ∙ ap (λ (x : TimeUnit). record_text order x p) u
 
 -- a packet was written whole
-pub writes_packet : {W : Type 0} (taken : W → Option (List ℕ)) (start : Option (List ℕ)) (order : Order) (unit : TimeUnit) (snap : ℕ) (ps : List Packet) (p : Packet) (old new : Writer W)
+pub writes_packet : {W : Type 0} (taken : W → Option (List ℕ)) (start : Option (List ℕ)) (order : Order) (unit : TimeUnit) (snap : ℕ) (ps : List Packet) (p : Packet) (old new : Writing W)
     → HasWritten taken start order unit snap ps old → Sends taken old new (record_text old.order old.unit p) → new.failed ≡ old.failed → HasWritten taken start order unit snap (ps ++ p ∷ []) new
 writes_packet taken start order unit snap ps p old new h s f = record {
   sent = rw encoded-push (Sent-Sends taken start (encoded order unit snap ps) (record_text order unit p) old new h.sent (subst (λ (t : List ℕ). Sends taken old new t) (same_record old order unit p h.in_order h.in_unit) s));
@@ -58,8 +57,8 @@ writes_packet taken start order unit snap ps p old new h s f = record {
 }
 
 -- a packet was written in part
-pub breaks_off : {W : Type 0} (taken : W → Option (List ℕ)) (start : Option (List ℕ)) (order : Order) (unit : TimeUnit) (snap : ℕ) (ps : List Packet) (p : Packet) (old new : Writer W)
-    → HasWritten taken start order unit snap ps old → SendsPart taken old new (record_text old.order old.unit p) → BrokeOff taken start order unit snap (ps ++ p ∷ []) new
+pub breaks_off : {W : Type 0} (taken : W → Option (List ℕ)) (start : Option (List ℕ)) (order : Order) (unit : TimeUnit) (snap : ℕ) (ps : List Packet) (p : Packet) (old new : Writing W)
+    → HasWritten taken start order unit snap ps old → SendsPart taken old new (record_text old.order old.unit p) → HasWrittenPart taken start order unit snap (ps ++ p ∷ []) new
 breaks_off taken start order unit snap ps p old new h s =
     let whole = encoded order unit snap ps in
     let same = same_record old order unit p h.in_order h.in_unit in record {
@@ -71,7 +70,7 @@ breaks_off taken start order unit snap ps p old new h s =
     }
 
 -- the header was written whole, or in part
-pub opened : {W : Type 0} (taken : W → Option (List ℕ)) (order : Order) (unit : TimeUnit) (snap : ℕ) (old new : Writer W)
+pub opened : {W : Type 0} (taken : W → Option (List ℕ)) (order : Order) (unit : TimeUnit) (snap : ℕ) (old new : Writing W)
     → old.sent ≡ 0 → old.failed ≡ false → old.order ≡ order → old.unit ≡ unit → Sends taken old new (header_text order unit snap) → new.failed ≡ old.failed
     → HasWritten taken (taken old.sink) order unit snap [] new
 opened taken order unit snap old new z f o u s g = record {
@@ -82,9 +81,9 @@ opened taken order unit snap old new z f o u s g = record {
 }
 
 -- the same, where a beginning of it went out
-pub opens_in_part : {W : Type 0} (taken : W → Option (List ℕ)) (order : Order) (unit : TimeUnit) (snap : ℕ) (old new : Writer W)
+pub opens_in_part : {W : Type 0} (taken : W → Option (List ℕ)) (order : Order) (unit : TimeUnit) (snap : ℕ) (old new : Writing W)
     → old.sent ≡ 0 → SendsPart taken old new (header_text order unit snap)
-    → BrokeOff taken (taken old.sink) order unit snap [] new
+    → HasWrittenPart taken (taken old.sink) order unit snap [] new
 opens_in_part taken order unit snap old new z s = record {
   text = s.part;
   begins = rw encoded-nil s.begins;
@@ -109,7 +108,7 @@ at_err (Ok x) e P is p = absurd cc
 at_err (Err d) e P is p = p
 
 -- a beginning of the first text begins both
-pub SendsPart-first : {W : Type 0} (taken : W → Option (List ℕ)) (old new : Writer W) (s t : List ℕ) → SendsPart taken old new s → SendsPart taken old new (s ++ t)
+pub SendsPart-first : {W : Type 0} (taken : W → Option (List ℕ)) (old new : Writing W) (s t : List ℕ) → SendsPart taken old new s → SendsPart taken old new (s ++ t)
 SendsPart-first taken old new s t p = record {
   part = p.part;
   begins = (p.begins.0 ++ t, ap (λ (x : List ℕ). x ++ t) p.begins.1 ∙ append_assoc p.part p.begins.0 t);
@@ -119,7 +118,7 @@ SendsPart-first taken old new s t p = record {
 }
 
 -- the first text and a beginning of the second begin both
-pub SendsPart-second : {W : Type 0} (taken : W → Option (List ℕ)) (old mid new : Writer W) (s t : List ℕ) → Sends taken old mid s → SendsPart taken mid new t → SendsPart taken old new (s ++ t)
+pub SendsPart-second : {W : Type 0} (taken : W → Option (List ℕ)) (old mid new : Writing W) (s t : List ℕ) → Sends taken old mid s → SendsPart taken mid new t → SendsPart taken old new (s ++ t)
 SendsPart-second taken old mid new s t q p = record {
   part = s ++ p.part;
   begins = IsBeginning-front s p.part t p.begins;
@@ -129,7 +128,7 @@ SendsPart-second taken old mid new s t q p = record {
 }
 
 -- what was sent before stays
-pub sent_grows : {W T E : Type 0} (taken : W → Option (List ℕ)) (old new : Writer W) (text : List ℕ) (r : Result T E) (Q : Type 0)
+pub sent_grows : {W T E : Type 0} (taken : W → Option (List ℕ)) (old new : Writing W) (text : List ℕ) (r : Result T E) (Q : Type 0)
     → OnOk r (Sends taken old new text × Q) → OnErr r (SendsPart taken old new text) → old.sent ≤ new.sent
 sent_grows taken old new text (Ok x) Q p q = omega (arith, p.0.count)
 sent_grows taken old new text (Err e) Q p q = omega (arith, q.sends.count)

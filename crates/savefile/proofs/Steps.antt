@@ -10,7 +10,7 @@ use Rattle.savefile.specs.declared.fault.Fault.{Fault}
 use Rattle.savefile.specs.declared.fault.Fault.TheVariants.{TornRecord, BadFraction, TooLong, Device}
 use Rattle.savefile.specs.declared.header.Unit.{Unit as TimeUnit}
 use Rattle.savefile.specs.declared.record.RecordHeader.{RecordHeader}
-use Rattle.savefile.specs.Ahead.{held_by, Grows}
+use Rattle.savefile.specs.Ahead.{waiting_in, Grows}
 use Rattle.savefile.specs.RecordHeader.{IsRecordHeader}
 use Rattle.savefile.specs.Savefile.{captured, field, first_fault, fraction, nanos_in, packet, per_second, IsRecord, NoRecord}
 use Rattle.savefile.proofs.Pieces.{field-front, known_rest}
@@ -24,11 +24,11 @@ Grows-trans left a b c p q = (
 )
 
 -- a fault in what was read stands in the whole text
-pub fault_stands : (order : Order) (unit : TimeUnit) (place : ℕ) (text held : List ℕ) (left : Option (List ℕ)) (fault : Fault) → text ≡ held
-    → (16 ≤ length held) ⊎ IsAtEnd left → ((more : List ℕ) → (16 ≤ length text) ⊎ (more ≡ []) → first_fault order unit place (text ++ more) ≡ Some fault)
-    → (rest : List ℕ) × IfSome left (λ bytes. bytes ≡ rest) × (first_fault order unit place (held ++ rest) ≡ Some fault)
-fault_stands order unit place text held left fault is enough h =
-    let known = known_rest left (16 ≤ length held) enough in
+pub fault_stands : (order : Order) (unit : TimeUnit) (place : ℕ) (text waiting : List ℕ) (left : Option (List ℕ)) (fault : Fault) → text ≡ waiting
+    → (16 ≤ length waiting) ⊎ IsAtEnd left → ((more : List ℕ) → (16 ≤ length text) ⊎ (more ≡ []) → first_fault order unit place (text ++ more) ≡ Some fault)
+    → (rest : List ℕ) × IfSome left (λ bytes. bytes ≡ rest) × (first_fault order unit place (waiting ++ rest) ≡ Some fault)
+fault_stands order unit place text waiting left fault is enough h =
+    let known = known_rest left (16 ≤ length waiting) enough in
     (known.0, known.1, subst (λ (t : List ℕ). first_fault order unit place (t ++ known.0) ≡ Some fault) is (h known.0 (subst (λ (t : List ℕ). (16 ≤ length t) ⊎ (known.0 ≡ [])) (sym is) known.2)))
 
 -- ---- Faults of a text are no faults of a device
@@ -50,9 +50,9 @@ first_fault-no_device order unit place rest =
     (nat_lt (length rest) (16 + captured order rest)) place
 
 -- a fault that stands in a text is none
-pub stands-no_device : (order : Order) (unit : TimeUnit) (place : ℕ) (held : List ℕ) (left : Option (List ℕ)) (fault : Fault)
-    → ((rest : List ℕ) × IfSome left (λ bytes. bytes ≡ rest) × (first_fault order unit place (held ++ rest) ≡ Some fault)) → fault ≡ Device → ⊥
-stands-no_device order unit place held left fault s device = first_fault-no_device order unit place (held ++ s.0) (s.2 ∙ ap Some device)
+pub stands-no_device : (order : Order) (unit : TimeUnit) (place : ℕ) (waiting : List ℕ) (left : Option (List ℕ)) (fault : Fault)
+    → ((rest : List ℕ) × IfSome left (λ bytes. bytes ≡ rest) × (first_fault order unit place (waiting ++ rest) ≡ Some fault)) → fault ≡ Device → ⊥
+stands-no_device order unit place waiting left fault s device = first_fault-no_device order unit place (waiting ++ s.0) (s.2 ∙ ap Some device)
 
 -- an answer that is no fault of a device, where none failed
 pub no_device_failed : {T : Type 0} (result : Result T Fault) (fault : Fault) (old new : ℕ) → result ≡ Err fault → (fault ≡ Device → ⊥) → new ≡ old → (result ≡ Err Device) ↔ (new ≢ old)
@@ -78,9 +78,9 @@ IsRecordHeader-front order unit text more h r =
       length_fits = r.length_fits;
     }
 
--- it stands in what is held after more was read
+-- it stands in what waits after more was read
 pub IsRecordHeader-grown : {R : Type 0} (left : R → Option (List ℕ)) (order : Order) → (unit : TimeUnit) (text : List ℕ) (h : RecordHeader) (old new : Ahead R)
-    → IsRecordHeader order unit text h → text ≡ held_by old → Grows left old new → IsRecordHeader order unit (held_by new) h
+    → IsRecordHeader order unit text h → text ≡ waiting_in old → Grows left old new → IsRecordHeader order unit (waiting_in new) h
 IsRecordHeader-grown left order unit text h old new r is grows =
     subst (λ (t : List ℕ). IsRecordHeader order unit t h) (ap (λ (t : List ℕ). t ++ grows.0) is ∙ sym grows.1) (IsRecordHeader-front order unit text grows.0 h r)
 

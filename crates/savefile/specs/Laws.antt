@@ -5,8 +5,7 @@ use Rattle.savefile.specs.declared.header.Header.{Header}
 use Rattle.savefile.specs.declared.header.Order.{Order}
 use Rattle.savefile.specs.declared.header.Unit.{Unit as TimeUnit}
 use Rattle.savefile.specs.declared.packet.Packet.{Packet}
-use Rattle.savefile.specs.declared.reader.Reader.{Reader}
-use Rattle.savefile.specs.Reader.{HasGiven, WasBegun}
+use Rattle.savefile.specs.Reader.{HasGiven, Reading, WasBegun}
 use Rattle.savefile.specs.Savefile.{encoded, in_units, Holds, IsSavefile, IsText, IsWritable, RefusesHeader}
 use Rattle.savefile.specs.Writer.{IsBeginning}
 
@@ -81,6 +80,6 @@ WrittenTakesRoom =
     (order : Order) (unit : TimeUnit) (snap : ℕ) (packets : List Packet) → 24 + 16 * length packets ≤ length (encoded order unit snap packets)
 
 -- What a reader has given so far begins what the text holds that its source had left.
-abbrev pub GivesABeginning : {R : Type 0} → (R → Option (List ℕ)) → Reader R → Type 0
+abbrev pub GivesABeginning : {R : Type 0} → (R → Option (List ℕ)) → Reading R → Type 0
 GivesABeginning left reader =
     (start : Option (List ℕ)) (header : Header) (packets : List Packet) → HasGiven left start header packets reader → WasBegun start header packets

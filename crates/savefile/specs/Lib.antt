@@ -1,8 +1,8 @@
 pub mod Ahead
 pub mod Device
 pub mod Laws
+pub mod Passing
 pub mod Reader
-pub mod Reading
 pub mod RecordHeader
 pub mod Savefile
 pub mod Sending

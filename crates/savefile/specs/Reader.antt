@@ -5,59 +5,52 @@ use Rattle.savefile.specs.declared.fault.Fault.{Fault}
 use Rattle.savefile.specs.declared.fault.Fault.TheVariants.{CountFull, Device, Failed}
 use Rattle.savefile.specs.declared.header.Header.{Header}
 use Rattle.savefile.specs.declared.packet.Packet.{Packet}
-use Rattle.savefile.specs.declared.reader.Reader.{Reader}
-use Rattle.savefile.specs.declared.reader.State.TheVariants.{Reading, Ended, Broken}
-use Rattle.savefile.specs.Ahead.{held_by, lent_by}
-use Rattle.savefile.specs.Savefile.{packet, Holds, IsSavefile, NoRecord, RefusesHeader}
+use Rattle.savefile.specs.declared.reader.State.{State}
+use Rattle.savefile.specs.declared.reader.State.TheVariants as State
+use Rattle.savefile.specs.Savefile.{Holds, IsSavefile, NoRecord, RefusesHeader}
 
--- ---- A reader as its caller sees it
+-- ---- A reader as contracts see it
 
--- the source that a reader has
-abbrev pub source_of : {R : Type 0} → Reader R → R
-source_of r = r.ahead.source
+-- A reader: its source; the header of its savefile; how many packets it has given, and the one that it lends; the bytes that it
+-- took from the source ahead of the packets to come; and how far it has come.
+pub record Reading (R : Type 0) : Type 0 where
+  pub source : R
+  pub header : Header
+  pub given : ℕ
+  pub lent : Packet
+  pub ahead : List ℕ
+  pub state : State
 
--- the header of its savefile
-abbrev pub header_told : {R : Type 0} → Reader R → Header
-header_told r = r.header
-
--- how many packets it has given
-abbrev pub count_given : {R : Type 0} → Reader R → ℕ
-count_given r = r.given
-
--- the packet that it lends
-abbrev pub packet_lent : {R : Type 0} → Reader R → Packet
-packet_lent r = packet r.record.sec r.record.nanos r.record.len (lent_by r.ahead)
-
--- what it took from the source ahead of the packets to come
-abbrev pub taken_ahead : {R : Type 0} → Reader R → List ℕ
-taken_ahead r = held_by r.ahead
+abbrev pub reading : {R : Type 0} → R → Header → ℕ → Packet → List ℕ → State → Reading R
+reading source header given lent ahead state =
+    record { source = source; header = header; given = given; lent = lent; ahead = ahead; state = state }
 
 -- it has met neither the end nor a fault, CountFull aside
-abbrev pub GoesOn : {R : Type 0} → Reader R → Type 0
-GoesOn r = r.state ≡ Reading
+abbrev pub GoesOn : {R : Type 0} → Reading R → Type 0
+GoesOn r = r.state ≡ State.Reading
 
 -- it has met the clean end
-abbrev pub HasEnded : {R : Type 0} → Reader R → Type 0
-HasEnded r = r.state ≡ Ended
+abbrev pub HasEnded : {R : Type 0} → Reading R → Type 0
+HasEnded r = r.state ≡ State.Ended
 
 -- it has told a fault, behind which it cannot read
-abbrev pub HasFailed : {R : Type 0} → Reader R → Type 0
-HasFailed r = r.state ≡ Broken
+abbrev pub HasFailed : {R : Type 0} → Reading R → Type 0
+HasFailed r = r.state ≡ State.Broken
 
 -- it lends a packet: it has given one and goes on
-abbrev pub Lends : {R : Type 0} → Reader R → Type 0
-Lends r = GoesOn r × (0 < count_given r)
+abbrev pub Lends : {R : Type 0} → Reading R → Type 0
+Lends r = GoesOn r × (0 < r.given)
 
 -- ---- Whole readings
 
 -- A reader has given these packets and goes on: what it passed is a savefile of exactly these packets. Its source had
 -- `start` left before.
-pub record HasGiven {R : Type 0} (left : R → Option (List ℕ)) (start : Option (List ℕ)) (header : Header) (packets : List Packet) (r : Reader R) : Type 0 where
+pub record HasGiven {R : Type 0} (left : R → Option (List ℕ)) (start : Option (List ℕ)) (header : Header) (packets : List Packet) (r : Reading R) : Type 0 where
   pub text : List ℕ
   pub reads : IsSavefile text header.order header.unit header.snap packets []
-  pub passed : Consumes start (prepend_known (taken_ahead r) (left (source_of r))) text
-  pub told : header_told r ≡ header
-  pub counts : count_given r ≡ length packets
+  pub passed : Consumes start (prepend_known r.ahead (left r.source)) text
+  pub told : r.header ≡ header
+  pub counts : r.given ≡ length packets
   pub goes_on : GoesOn r
 
 -- A text, which is what the source had left where it tells, holds these packets, and this fault or none ends them.
@@ -89,22 +82,22 @@ pub record WasTaken (start left : Option (List ℕ)) (header : Header) (packets 
 
 -- Why a reader that has given these packets gives no further one: they are all, and the fault stands behind them; or
 -- the source failed, and all that was taken from it is these packets and no whole record more; or no more can be
--- counted.
-abbrev pub IsCause : {R : Type 0} → (R → Option (List ℕ)) → Option (List ℕ) → Header → List Packet → Reader R → Fault → Type 0
-IsCause left start header packets r fault =
+-- counted. The source had `start` left before and has `left` left now.
+abbrev pub IsCause : Option (List ℕ) → Option (List ℕ) → Header → List Packet → Fault → Type 0
+IsCause start left header packets fault =
     WasRead start header packets (Some fault)
-    ⊎ ((fault ≡ Device) × WasTaken start (left (source_of r)) header packets)
+    ⊎ ((fault ≡ Device) × WasTaken start left header packets)
     ⊎ ((fault ≡ CountFull) × (length packets ≡ 2 ^ 64 - 1))
 
 -- How a call leaves a reader, by its answer.
-abbrev pub Leaves : {R : Type 0} → Reader R → Reader R → Result Bool Fault → Type 0
-Leaves old new (Ok true) = GoesOn new × (count_given new ≡ count_given old + 1) × (count_given new < 2 ^ 64)
+abbrev pub Leaves : {R : Type 0} → Reading R → Reading R → Result Bool Fault → Type 0
+Leaves old new (Ok true) = GoesOn new × (new.given ≡ old.given + 1) × (new.given < 2 ^ 64)
 Leaves old new (Ok false) = HasEnded new
 Leaves old new (Err CountFull) = new ≡ old
 Leaves old new (Err Failed) = new ≡ old
 Leaves old new (Err fault) = HasFailed new
 
 -- The same for a call that answers with a packet of its own.
-abbrev pub LeavesNext : {R : Type 0} → Reader R → Reader R → Result (Option Packet) Fault → Type 0
-LeavesNext old new (Ok next) = MatchOption next (HasEnded new) (λ _. GoesOn new × (count_given new ≡ count_given old + 1) × (count_given new < 2 ^ 64))
+abbrev pub LeavesNext : {R : Type 0} → Reading R → Reading R → Result (Option Packet) Fault → Type 0
+LeavesNext old new (Ok next) = MatchOption next (HasEnded new) (λ _. GoesOn new × (new.given ≡ old.given + 1) × (new.given < 2 ^ 64))
 LeavesNext old new (Err fault) = Leaves old new (Err fault)

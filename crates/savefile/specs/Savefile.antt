@@ -117,6 +117,13 @@ pub record Holds (text : List ℕ) (order : Order) (unit : TimeUnit) (snap : ℕ
   pub longest : (others : List Packet) (after : List ℕ) → IsSavefile text order unit snap others after → length others ≤ length packets
   pub ends : fault ≡ first_fault order unit (length packets) rest
 
+-- A text is a capture, in whatever order and unit, of these packets, and this fault or none ends them.
+pub record IsCapture (text : List ℕ) (packets : List Packet) (fault : Option Fault) : Type 0 where
+  pub order : Order
+  pub unit : TimeUnit
+  pub snap : ℕ
+  pub holds : Holds text order unit snap packets fault
+
 -- ---- What is refused
 
 -- the first four bytes are the magic number of this order and unit

@@ -37,26 +37,30 @@ fn zeros(alloc: Global) -> Result<Vec<u8>, AllocError>
 }
 
 /// Reads once behind the front of a slice.
-fn read_behind<R: Source>(source: &mut R, memory: &mut [u8], held: usize) -> Result<usize, Broken>
-    requires { held ≤ length memory.old }
+fn read_behind<R: Source>(
+    source: &mut R,
+    memory: &mut [u8],
+    waiting: usize,
+) -> Result<usize, Broken>
+    requires { waiting ≤ length memory.old }
     ensures room { length memory.new ≡ length memory.old }
-    ensures front { take held memory.new ≡ take held memory.old }
-    ensures count { IfOk result (λ n. held + n ≤ length memory.new) }
-    ensures bytes { IfOk result (λ n. Consumes (R.left source.old) (R.left source.new) (take n (drop held memory.new))) }
+    ensures front { take waiting memory.new ≡ take waiting memory.old }
+    ensures count { IfOk result (λ n. waiting + n ≤ length memory.new) }
+    ensures bytes { IfOk result (λ n. Consumes (R.left source.old) (R.left source.new) (take n (drop waiting memory.new))) }
     ensures kept { OnErr result (Keeps (R.left source.old) (R.left source.new)) }
-    ensures end { IfOk result (λ n. n ≡ 0 → held < length memory.old → IsAtEnd (R.left source.new)) }
+    ensures end { IfOk result (λ n. n ≡ 0 → waiting < length memory.old → IsAtEnd (R.left source.new)) }
     ensures failures { CountsFailure (R.failures source.old) (R.failures source.new) result }
 {
-    source.read(&mut memory[held..])
+    source.read(&mut memory[waiting..])
 }
 
 impl<R> Ahead<R> {
-    ghost use Rattle.savefile.specs.Ahead.{held_by, lent_by};
+    ghost use Rattle.savefile.specs.Ahead.{waiting_in, lent_by};
 
     /// Takes the memory; a source that it is refused for comes back.
     pub(crate) fn new(alloc: Global, source: R) -> Result<Ahead<R>, R>
         ensures source { IfOk result (λ ahead. ahead.source ≡ source) }
-        ensures nothing { IfOk result (λ ahead. held_by ahead ≡ []) }
+        ensures nothing { IfOk result (λ ahead. waiting_in ahead ≡ []) }
         ensures back { IfErr result (λ back. back ≡ source) }
     {
         match zeros(alloc) {
@@ -87,8 +91,8 @@ impl<R> Ahead<R> {
 
     /// What was read and is still to be passed.
     #[inline]
-    pub(crate) fn held(&self) -> &[u8]
-        ensures value { result.now ≡ held_by self.now }
+    pub(crate) fn waiting(&self) -> &[u8]
+        ensures value { result.now ≡ waiting_in self.now }
         ensures len { length result.now ≡ self.now.end - self.now.start }
     {
         let (start, end) = (self.start, self.end);
@@ -109,10 +113,10 @@ impl<R> Ahead<R> {
     /// Passes bytes, and lends the last ones, as many as `count`.
     #[inline]
     pub(crate) fn pass(&mut self, front: usize, count: usize)
-        requires { front + count ≤ length (held_by self.old) }
+        requires { front + count ≤ length (waiting_in self.old) }
         ensures source { self.new.source ≡ self.old.source }
-        ensures held { held_by self.new ≡ drop (front + count) (held_by self.old) }
-        ensures lent { lent_by self.new ≡ take count (drop front (held_by self.old)) }
+        ensures waiting { waiting_in self.new ≡ drop (front + count) (waiting_in self.old) }
+        ensures lent { lent_by self.new ≡ take count (drop front (waiting_in self.old)) }
     {
         self.start += front + count;
         self.lent = count;
@@ -120,14 +124,14 @@ impl<R> Ahead<R> {
 }
 
 impl<R: Source> Ahead<R> {
-    ghost use Rattle.savefile.specs.Ahead.{held_by, Grows};
+    ghost use Rattle.savefile.specs.Ahead.{waiting_in, Grows};
 
-    /// Moves what is held to the front. Nothing is lent any more.
+    /// Moves what waits to the front. Nothing is lent any more.
     fn to_front(&mut self)
         ensures source { self.new.source ≡ self.old.source }
         ensures start { self.new.start ≡ 0 }
         ensures end { self.new.end ≡ self.old.end - self.old.start }
-        ensures held { held_by self.new ≡ held_by self.old }
+        ensures waiting { waiting_in self.new ≡ waiting_in self.old }
     {
         let (start, end) = (self.start, self.end);
         self.lent = 0;
@@ -138,7 +142,7 @@ impl<R: Source> Ahead<R> {
         }
     }
 
-    /// Reads once behind what is held, which goes to the front first, and answers how many bytes there were.
+    /// Reads once behind what waits, which goes to the front first, and answers how many bytes there were.
     fn read_more(&mut self) -> Result<usize, Broken>
         ensures grows { Grows R.left self.old self.new }
         ensures count { IfOk result (λ n. self.new.end - self.new.start ≡ self.old.end - self.old.start + n) }
@@ -158,8 +162,8 @@ impl<R: Source> Ahead<R> {
     fn fill_slowly(&mut self, want: usize) -> Result<(), Broken>
         requires { want ≤ 262160 }
         ensures grows { Grows R.left self.old self.new }
-        ensures enough { OnOk result ((want ≤ length (held_by self.new)) ⊎ IsAtEnd (R.left self.new.source)) }
-        ensures short { OnErr result (length (held_by self.new) < want) }
+        ensures enough { OnOk result ((want ≤ length (waiting_in self.new)) ⊎ IsAtEnd (R.left self.new.source)) }
+        ensures short { OnErr result (length (waiting_in self.new) < want) }
         ensures failures { CountsFailure (R.failures self.old.source) (R.failures self.new.source) result }
     {
         while self.end - self.start < want {
@@ -170,14 +174,14 @@ impl<R: Source> Ahead<R> {
         Ok(())
     }
 
-    /// Reads until so many bytes are held, or the input ends. The source is asked only where they are not held.
+    /// Reads until so many bytes wait, or the input ends. The source is asked only where they do not.
     #[inline]
     pub(crate) fn fill(&mut self, want: usize) -> Result<(), Broken>
         requires { want ≤ 262160 }
         ensures grows { Grows R.left self.old self.new }
-        ensures enough { OnOk result ((want ≤ length (held_by self.new)) ⊎ IsAtEnd (R.left self.new.source)) }
-        ensures short { OnErr result (length (held_by self.new) < want) }
-        ensures idle { want ≤ length (held_by self.old) → self.new ≡ self.old }
+        ensures enough { OnOk result ((want ≤ length (waiting_in self.new)) ⊎ IsAtEnd (R.left self.new.source)) }
+        ensures short { OnErr result (length (waiting_in self.new) < want) }
+        ensures idle { want ≤ length (waiting_in self.old) → self.new ≡ self.old }
         ensures failures { CountsFailure (R.failures self.old.source) (R.failures self.new.source) result }
     {
         if self.end - self.start >= want {

@@ -132,10 +132,14 @@ fn snap_of(order: Order, text: &[u8]) -> Result<u32, Fault>
     Ok(u32_at(order, text, 16))
 }
 
-/// The header that a text begins with, or the first check that fails.
-pub(crate) fn header_of(text: &[u8]) -> Result<Header, Fault>
+/// The header of the savefile that a text begins with, whatever follows it.
+///
+/// The error is [`Fault::ShortHeader`], [`Fault::NotSavefile`], [`Fault::Version`] or [`Fault::LinkType`], exactly where that
+/// is the first check of the header to fail. No memory is taken.
+pub fn header_of(text: &[u8]) -> Result<Header, Fault>
     ensures ok { IfOk result (λ header. IsHeader header.order text.now header.unit header.snap) }
     ensures err { IfErr result (RefusesHeader text.now) }
+    ensures refused { (fault : Fault) → RefusesHeader text.now fault → result ≡ Err fault }
 {
     if text.len() < HEADER_LEN {
         return Err(Fault::ShortHeader);

@@ -29,7 +29,7 @@ mod writing;
 
 pub use device::{Broken, Counted, Sink, Source};
 pub use fault::Fault;
-pub use header::{Header, Order, Unit};
+pub use header::{Header, Order, Unit, header_of};
 pub use packet::{Data, Packet, PacketRef};
 pub use reader::Reader;
 pub use reading::read_all;

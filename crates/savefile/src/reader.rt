@@ -2,10 +2,10 @@
 
 ghost use Rattle.std.specs.Prelude.{◌≡◌, ◌≢◌, ℕ, List, [], ◌∷◌, ◌++◌, Option, None, true, false, ◌+◌, ◌-◌, ◌^◌, ◌<◌, ◌≤◌, ◌↔◌, ◌⊎◌, length, IfOk, IfErr, IfSome, MatchOption, MatchResult};
 ghost use Rattle.std.specs.Io.KnownBytes.{Consumes, IsAtEnd};
-ghost use Rattle.savefile.specs.Ahead.{held_by, Grows};
+ghost use Rattle.savefile.specs.Ahead.{waiting_in, Grows};
 ghost use Rattle.savefile.specs.Savefile.{number_in, IsHeader, IsRecord, IsWritable, RefusesHeader};
-ghost use Rattle.savefile.specs.Reader.{count_given, header_told, packet_lent, source_of, taken_ahead, GoesOn, HasEnded, HasFailed, HasGiven, IsCause, Leaves, LeavesNext, Lends, WasBegun, WasRead, WasRefused};
-ghost use Rattle.savefile.specs.Reading.{MeetsEnd, MeetsFault, Passes, PassesHeader, StaysAt};
+ghost use Rattle.savefile.specs.Reader.{GoesOn, HasEnded, HasFailed, HasGiven, IsCause, Leaves, LeavesNext, Lends, WasBegun, WasRead, WasRefused};
+ghost use Rattle.savefile.specs.Passing.{passed_packet, MeetsEnd, MeetsFault, Passes, PassesHeader};
 
 use crate::ahead::Ahead;
 use crate::device::Source;
@@ -14,6 +14,7 @@ use crate::header::{HEADER_LEN, Header, header_of};
 use crate::packet::{Packet, PacketRef};
 use crate::record::{RECORD_HEADER_LEN, RecordHeader};
 use std::alloc::{AllocError, Global};
+use std::marker::Model;
 
 /// How far a reader has come.
 #[derive(Clone, Copy, Debug)]
@@ -34,6 +35,9 @@ enum State {
 /// It reads what [`read_all`](crate::read_all) reads, in whatever pieces the source gives its bytes. It asks the source
 /// only where the next record is not whole in what it has taken already, for as many bytes as it has room for; how many
 /// these are no clause says. So a fault, of the source too, stands behind all packets that came whole.
+///
+/// Contracts see its source, the header of its savefile, how many packets it has given, the one that it lends, the bytes
+/// that it took from the source ahead of the packets to come, and whether it goes on, has ended or has failed.
 #[derive(Debug, Drop)]
 pub struct Reader<R> {
     ahead: Ahead<R>,
@@ -45,18 +49,60 @@ pub struct Reader<R> {
     state: State,
 }
 
+impl<R> Model for Reader<R> {
+    ghost use Rattle.savefile.specs.Reader.{Reading, reading};
+    ghost use Rattle.savefile.specs.Ahead.{waiting_in};
+    ghost use Rattle.savefile.specs.Passing.{passed_packet};
+
+    ghost Value = { Reading R };
+
+    ghost view = { λ r. reading r.ahead.source r.header r.given (passed_packet r.«record» r.ahead) (waiting_in r.ahead) r.state };
+}
+
 /// Passes the header of a savefile.
 fn read_header<R: Source>(ahead: &mut Ahead<R>) -> Result<Header, Fault>
     ensures ok { IfOk result (λ header. PassesHeader R.left ahead.old ahead.new header) }
     ensures err { IfErr result (λ fault. Grows R.left ahead.old ahead.new
-        × (((fault ≡ Fault.Device) × (length (held_by ahead.new) < 24))
-        ⊎ ((rest : List ℕ) × IfSome (R.left ahead.new.source) (λ bytes. bytes ≡ rest) × RefusesHeader (held_by ahead.new ++ rest) fault))) }
+        × (((fault ≡ Fault.Device) × (length (waiting_in ahead.new) < 24))
+        ⊎ ((rest : List ℕ) × IfSome (R.left ahead.new.source) (λ bytes. bytes ≡ rest) × RefusesHeader (waiting_in ahead.new ++ rest) fault))) }
     ensures device { (result ≡ Err Fault.Device) ↔ (R.failures ahead.new.source ≢ R.failures ahead.old.source) }
 {
     ahead.fill(HEADER_LEN)?;
-    let header = header_of(ahead.held())?;
+    let header = header_of(ahead.waiting())?;
     ahead.pass(HEADER_LEN, 0);
     Ok(header)
+}
+
+/// Passes the record that comes next, at this place, whose bytes are then lent; `false` where nothing is left.
+#[inline]
+fn read_record<R: Source>(
+    ahead: &mut Ahead<R>,
+    head: &mut RecordHeader,
+    header: Header,
+    place: u64,
+) -> Result<bool, Fault>
+    ensures packet { result ≡ Ok true → Passes R.left header ahead.old ahead.new (passed_packet head.new ahead.new) }
+    ensures writable { result ≡ Ok true → IsWritable (passed_packet head.new ahead.new) }
+    ensures end { result ≡ Ok false → MeetsEnd R.left ahead.old ahead.new }
+    ensures fault { IfErr result (MeetsFault R.left header place ahead.old ahead.new) }
+    ensures idle { (p : Packet) (after : List ℕ) → IsRecord header.order header.unit (waiting_in ahead.old) p after →
+        ahead.new.source ≡ ahead.old.source }
+    ensures device { (result ≡ Err Fault.Device) ↔ (R.failures ahead.new.source ≢ R.failures ahead.old.source) }
+{
+    ahead.fill(RECORD_HEADER_LEN)?;
+    let text = ahead.waiting();
+    if text.is_empty() {
+        return Ok(false);
+    }
+    head.read(header.order, header.unit, place, text)?;
+    let captured = head.captured as usize;
+    let size = RECORD_HEADER_LEN + captured;
+    ahead.fill(size)?;
+    if ahead.waiting().len() < size {
+        return Err(Fault::TornRecord(place));
+    }
+    ahead.pass(RECORD_HEADER_LEN, captured);
+    Ok(true)
 }
 
 impl<R: Source> Reader<R> {
@@ -68,17 +114,17 @@ impl<R: Source> Reader<R> {
     /// are lost, and after [`Fault::Device`] these are fewer than the header's 24.
     pub fn open(alloc: Global, source: R) -> Result<Reader<R>, (R, Fault)>
         // The reader has given nothing yet.
-        ensures ok { IfOk result (λ reader. HasGiven R.left (R.left source) (header_told reader) [] reader) }
+        ensures ok { IfOk result (λ reader. HasGiven R.left (R.left source) reader.header [] reader) }
 
         // When each error comes, and no other.
         ensures refused { IfErr result (λ back. WasRefused (R.left source) back.1 ⊎ (back.1 ≡ Fault.Device) ⊎ (back.1 ≡ Fault.NoMemory)) }
-        ensures device { MatchResult result (λ reader. R.failures (source_of reader) ≡ R.failures source)
+        ensures device { MatchResult result (λ reader. R.failures reader.source ≡ R.failures source)
             (λ back. (back.1 ≡ Fault.Device) ↔ (R.failures back.0 ≢ R.failures source)) }
 
         // The next bytes of the source are taken: none without memory, and no whole header where the source failed.
         ensures unread { IfErr result (λ back. back.1 ≡ Fault.NoMemory → back.0 ≡ source) }
         ensures taken { MatchResult result
-            (λ reader. (bytes : List ℕ) × Consumes (R.left source) (R.left (source_of reader)) bytes)
+            (λ reader. (bytes : List ℕ) × Consumes (R.left source) (R.left reader.source) bytes)
             (λ back. (bytes : List ℕ) × Consumes (R.left source) (R.left back.0) bytes × (back.1 ≡ Fault.Device → length bytes < 24)) }
     {
         let mut ahead = match Ahead::new(alloc, source) {
@@ -99,7 +145,7 @@ impl<R: Source> Reader<R> {
 
     /// The header of the savefile. No call changes it.
     pub fn header(&self) -> Header
-        ensures { result ≡ header_told self.now }
+        ensures { result ≡ self.now.header }
     {
         self.header
     }
@@ -116,28 +162,28 @@ impl<R: Source> Reader<R> {
         // One packet more, the end, or why there is none. What was given so far begins what the text holds, whatever
         // comes. Each packet may be written.
         ensures packet { (start : Option (List ℕ)) (header : Header) (packets : List Packet) → HasGiven R.left start header packets self.old →
-            result ≡ Ok true → HasGiven R.left start header (packets ++ packet_lent self.new ∷ []) self.new }
+            result ≡ Ok true → HasGiven R.left start header (packets ++ self.new.lent ∷ []) self.new }
         ensures end { (start : Option (List ℕ)) (header : Header) (packets : List Packet) → HasGiven R.left start header packets self.old →
             result ≡ Ok false → WasRead start header packets None }
         ensures cause { (start : Option (List ℕ)) (header : Header) (packets : List Packet) → HasGiven R.left start header packets self.old →
-            IfErr result (IsCause R.left start header packets self.new) }
+            IfErr result (IsCause start (R.left self.new.source) header packets) }
         ensures so_far { (start : Option (List ℕ)) (header : Header) (packets : List Packet) → HasGiven R.left start header packets self.old →
             WasBegun start header packets }
-        ensures writable { result ≡ Ok true → IsWritable (packet_lent self.new) }
+        ensures writable { result ≡ Ok true → IsWritable self.new.lent }
 
         // When the errors come that are not of the text, and how each answer leaves the reader.
-        ensures device { (result ≡ Err Fault.Device) ↔ (R.failures (source_of self.new) ≢ R.failures (source_of self.old)) }
+        ensures device { (result ≡ Err Fault.Device) ↔ (R.failures self.new.source ≢ R.failures self.old.source) }
         ensures failed { (result ≡ Err Fault.Failed) ↔ HasFailed self.old }
-        ensures count_full { (result ≡ Err Fault.CountFull) ↔ (GoesOn self.old × (count_given self.old ≡ 2 ^ 64 - 1)) }
+        ensures count_full { (result ≡ Err Fault.CountFull) ↔ (GoesOn self.old × (self.old.given ≡ 2 ^ 64 - 1)) }
         ensures ended { HasEnded self.old → (result ≡ Ok false) × (self.new ≡ self.old) }
         ensures leaves { Leaves self.old self.new result }
-        ensures header { header_told self.new ≡ header_told self.old }
+        ensures header { self.new.header ≡ self.old.header }
 
         // The next bytes of the source are taken, and none where the next record was taken whole already.
-        ensures taken { (bytes : List ℕ) × Consumes (R.left (source_of self.old)) (R.left (source_of self.new)) bytes }
+        ensures taken { (bytes : List ℕ) × Consumes (R.left self.old.source) (R.left self.new.source) bytes }
         ensures idle { (p : Packet) (after : List ℕ) →
-            IsRecord (header_told self.old).order (header_told self.old).unit (taken_ahead self.old) p after →
-            source_of self.new ≡ source_of self.old }
+            IsRecord self.old.header.order self.old.header.unit self.old.ahead p after →
+            self.new.source ≡ self.old.source }
     {
         match self.state {
             State::Reading => {}
@@ -147,7 +193,7 @@ impl<R: Source> Reader<R> {
         if self.given == u64::MAX {
             return Err(Fault::CountFull);
         }
-        match self.read_record() {
+        match read_record(&mut self.ahead, &mut self.record, self.header, self.given) {
             Ok(true) => {
                 self.given += 1;
                 Ok(true)
@@ -167,7 +213,7 @@ impl<R: Source> Reader<R> {
     #[inline]
     pub fn packet(&self) -> PacketRef<'_>
         requires { Lends self.now }
-        ensures { result ≡ packet_lent self.now }
+        ensures { result ≡ self.now.lent }
     {
         PacketRef {
             sec: self.record.sec,
@@ -187,24 +233,24 @@ impl<R: Source> Reader<R> {
         ensures packet { (start : Option (List ℕ)) (header : Header) (packets : List Packet) → HasGiven R.left start header packets self.old →
             IfOk result (λ next. MatchOption next (WasRead start header packets None) (λ p. HasGiven R.left start header (packets ++ p ∷ []) self.new)) }
         ensures cause { (start : Option (List ℕ)) (header : Header) (packets : List Packet) → HasGiven R.left start header packets self.old →
-            IfErr result (λ fault. IsCause R.left start header packets self.new fault ⊎ (fault ≡ Fault.NoMemory)) }
+            IfErr result (λ fault. IsCause start (R.left self.new.source) header packets fault ⊎ (fault ≡ Fault.NoMemory)) }
         ensures so_far { (start : Option (List ℕ)) (header : Header) (packets : List Packet) → HasGiven R.left start header packets self.old →
             WasBegun start header packets }
         ensures writable { IfOk result (λ next. IfSome next IsWritable) }
 
         // When the errors come that are not of the text, and how each answer leaves the reader.
-        ensures device { (result ≡ Err Fault.Device) ↔ (R.failures (source_of self.new) ≢ R.failures (source_of self.old)) }
+        ensures device { (result ≡ Err Fault.Device) ↔ (R.failures self.new.source ≢ R.failures self.old.source) }
         ensures failed { (result ≡ Err Fault.Failed) ↔ HasFailed self.old }
-        ensures count_full { (result ≡ Err Fault.CountFull) ↔ (GoesOn self.old × (count_given self.old ≡ 2 ^ 64 - 1)) }
+        ensures count_full { (result ≡ Err Fault.CountFull) ↔ (GoesOn self.old × (self.old.given ≡ 2 ^ 64 - 1)) }
         ensures ended { HasEnded self.old → (result ≡ Ok None) × (self.new ≡ self.old) }
         ensures leaves { LeavesNext self.old self.new result }
-        ensures header { header_told self.new ≡ header_told self.old }
+        ensures header { self.new.header ≡ self.old.header }
 
         // The next bytes of the source are taken, and none where the next record was taken whole already.
-        ensures taken { (bytes : List ℕ) × Consumes (R.left (source_of self.old)) (R.left (source_of self.new)) bytes }
+        ensures taken { (bytes : List ℕ) × Consumes (R.left self.old.source) (R.left self.new.source) bytes }
         ensures idle { (p : Packet) (after : List ℕ) →
-            IsRecord (header_told self.old).order (header_told self.old).unit (taken_ahead self.old) p after →
-            source_of self.new ≡ source_of self.old }
+            IsRecord self.old.header.order self.old.header.unit self.old.ahead p after →
+            self.new.source ≡ self.old.source }
     {
         if !self.advance()? {
             return Ok(None);
@@ -220,7 +266,7 @@ impl<R: Source> Reader<R> {
 
     /// Gives the source back. What was read of it ahead of the packets that were given is lost.
     pub fn close(self) -> R
-        ensures { result ≡ source_of self }
+        ensures { result ≡ self.source }
     {
         let Reader {
             ahead,
@@ -230,34 +276,5 @@ impl<R: Source> Reader<R> {
             state: _,
         } = self;
         ahead.into_source()
-    }
-
-    /// The record that comes next, which is then lent; `false` where nothing is left.
-    #[inline]
-    fn read_record(&mut self) -> Result<bool, Fault>
-        ensures stays { StaysAt self.old self.new }
-        ensures packet { result ≡ Ok true → Passes R.left self.old self.new }
-        ensures writable { result ≡ Ok true → IsWritable (packet_lent self.new) }
-        ensures end { result ≡ Ok false → MeetsEnd R.left self.old self.new }
-        ensures fault { IfErr result (MeetsFault R.left self.old self.new) }
-        ensures idle { (p : Packet) (after : List ℕ) → IsRecord self.old.header.order self.old.header.unit (taken_ahead self.old) p after →
-            source_of self.new ≡ source_of self.old }
-        ensures device { (result ≡ Err Fault.Device) ↔ (R.failures (source_of self.new) ≢ R.failures (source_of self.old)) }
-    {
-        self.ahead.fill(RECORD_HEADER_LEN)?;
-        let text = self.ahead.held();
-        if text.is_empty() {
-            return Ok(false);
-        }
-        self.record
-            .read(self.header.order, self.header.unit, self.given, text)?;
-        let captured = self.record.captured as usize;
-        let size = RECORD_HEADER_LEN + captured;
-        self.ahead.fill(size)?;
-        if self.ahead.held().len() < size {
-            return Err(Fault::TornRecord(self.given));
-        }
-        self.ahead.pass(RECORD_HEADER_LEN, captured);
-        Ok(true)
     }
 }

@@ -5,13 +5,14 @@ ghost use Rattle.savefile.specs.declared.packet.Packet.{Packet};
 ghost use Rattle.savefile.specs.Device.{CountsFailure};
 ghost use Rattle.savefile.specs.Savefile.{bytes_in, header_text, packet, record_header_text};
 ghost use Rattle.savefile.specs.Sending.{Fills, Sends, SendsPart};
-ghost use Rattle.savefile.specs.Writer.{sink_of, sent_by, has_failed, HasWritten, BrokeOff};
+ghost use Rattle.savefile.specs.Writer.{HasWritten, HasWrittenPart};
 
 use crate::device::{Broken, Sink};
 use crate::fault::Fault;
 use crate::header::{ETHERNET, HEADER_LEN, MAJOR, MINOR, Order, Unit};
 use crate::record::RECORD_HEADER_LEN;
 use byteorder::{BigEndian, ByteOrder, LittleEndian};
+use std::marker::Model;
 
 /// Writes a number of two bytes behind the front of a text.
 fn fill_u16<B: ByteOrder>(text: &mut [u8], at: usize, n: u16)
@@ -94,6 +95,9 @@ fn record_header(
 ///
 /// A packet is sent in two writes, its record's header and then its bytes (in one where it has none, and in more where
 /// the sink takes fewer than it is given). Where each write is a system call, give the writer a sink that gathers them.
+///
+/// Contracts see its sink, the byte order and the unit of time that it writes, how many bytes it has sent, and whether the
+/// device failed it.
 #[derive(Debug, Drop)]
 pub struct Writer<W> {
     sink: W,
@@ -103,14 +107,22 @@ pub struct Writer<W> {
     failed: bool,
 }
 
+impl<W> Model for Writer<W> {
+    ghost use Rattle.savefile.specs.Writer.{Writing, writing};
+
+    ghost Value = { Writing W };
+
+    ghost view = { λ w. writing w.sink w.order w.unit w.sent w.failed };
+}
+
 impl<W: Sink> Writer<W> {
     /// Begins a savefile: writes its header. [`Fault::Device`] comes exactly where the sink failed in
     /// this call. Then the sink took exactly [`Writer::sent`] bytes, a beginning of the header and not the
     /// whole, and the writer has failed.
     pub fn open(sink: W, order: Order, unit: Unit, snap: u32) -> (Writer<W>, Result<(), Fault>)
         ensures ok { OnOk result.1 (HasWritten W.taken (W.taken sink) order unit snap [] result.0) }
-        ensures err { OnErr result.1 (BrokeOff W.taken (W.taken sink) order unit snap [] result.0) }
-        ensures device { (result.1 ≡ Err Fault.Device) ↔ (W.failures (sink_of result.0) ≢ W.failures sink) }
+        ensures err { OnErr result.1 (HasWrittenPart W.taken (W.taken sink) order unit snap [] result.0) }
+        ensures device { (result.1 ≡ Err Fault.Device) ↔ (W.failures result.0.sink ≢ W.failures sink) }
         ensures only { IfErr result.1 (λ fault. fault ≡ Fault.Device) }
     {
         let mut writer = Writer {
@@ -209,21 +221,21 @@ impl<W: Sink> Writer<W> {
             OnOk result (HasWritten W.taken start order unit snap (packets ++ packet sec nanos len bytes.now ∷ []) self.new) }
         ensures broke_off { (start : Option (List ℕ)) (order : Order) (unit : Unit) (snap : ℕ) (packets : List Packet) →
             HasWritten W.taken start order unit snap packets self.old → result ≡ Err Fault.Device →
-            BrokeOff W.taken start order unit snap (packets ++ packet sec nanos len bytes.now ∷ []) self.new }
+            HasWrittenPart W.taken start order unit snap (packets ++ packet sec nanos len bytes.now ∷ []) self.new }
 
         // What the sink took before stays.
-        ensures grows { sent_by self.old ≤ sent_by self.new }
+        ensures grows { self.old.sent ≤ self.new.sent }
 
         // When each error comes, and no other.
-        ensures device { (result ≡ Err Fault.Device) ↔ (W.failures (sink_of self.new) ≢ W.failures (sink_of self.old)) }
-        ensures failed { (result ≡ Err Fault.Failed) ↔ (has_failed self.old ≡ true) }
+        ensures device { (result ≡ Err Fault.Device) ↔ (W.failures self.new.sink ≢ W.failures self.old.sink) }
+        ensures failed { (result ≡ Err Fault.Failed) ↔ (self.old.failed ≡ true) }
         ensures count_full { (result ≡ Err Fault.CountFull) ↔
-            ((has_failed self.old ≡ false) × (2 ^ 64 ≤ sent_by self.old + 16 + length bytes.now)) }
+            ((self.old.failed ≡ false) × (2 ^ 64 ≤ self.old.sent + 16 + length bytes.now)) }
         ensures only { IfErr result (λ fault. (fault ≡ Fault.Device) ⊎ (fault ≡ Fault.Failed) ⊎ (fault ≡ Fault.CountFull)) }
 
         // After Device the writer has failed, and after Ok it has not.
-        ensures fails { result ≡ Err Fault.Device → has_failed self.new ≡ true }
-        ensures works { OnOk result (has_failed self.new ≡ false) }
+        ensures fails { result ≡ Err Fault.Device → self.new.failed ≡ true }
+        ensures works { OnOk result (self.new.failed ≡ false) }
 
         // Without a device fault, an error changed nothing.
         ensures unchanged { result ≡ Err Fault.Failed ⊎ result ≡ Err Fault.CountFull → self.new ≡ self.old }
@@ -241,15 +253,15 @@ impl<W: Sink> Writer<W> {
 
     /// How many bytes the sink took since the writer was opened.
     pub fn sent(&self) -> u64
-        ensures { result ≡ sent_by self.now }
+        ensures { result ≡ self.now.sent }
     {
         self.sent
     }
 
     /// Gives the sink back, with the number of bytes that it took since the writer was opened.
     pub fn close(self) -> (W, u64)
-        ensures sink { result.0 ≡ sink_of self }
-        ensures sent { result.1 ≡ sent_by self }
+        ensures sink { result.0 ≡ self.sink }
+        ensures sent { result.1 ≡ self.sent }
     {
         let Writer {
             sink,

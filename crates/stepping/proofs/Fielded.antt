@@ -3,7 +3,7 @@ use Rattle.std.proofs.Common.{◌≡◌, ℕ, ◌⊎◌, inl, inr, List, [], ◌
 use Rattle.std.proofs.lemmas.List.Elements.{All-same}
 use Rattle.bpfvm.specs.Listing.{space}
 use Rattle.stepping.specs.Listeners.{AreFields}
-use Rattle.stepping.proofs.Cuts.{NoSpace, not-lacking, cut-one}
+use Rattle.lines.proofs.Cuts.{NoSpace, not-lacking, cut-one}
 
 -- a line without a space has no fields
 no-fields : (line snap capacity expression : List ℕ) → All NoSpace line → AreFields line snap capacity expression → ⊥

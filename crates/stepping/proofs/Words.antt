@@ -8,7 +8,7 @@ use Rattle.bpfvm.specs.Listing.{space, IsNumber}
 use Rattle.tap.specs.declared.step.Step.{Step}
 use Rattle.tap.specs.declared.step.Step.TheVariants.{Arrive, Flush, Read, Close}
 use Rattle.stepping.specs.Script.{IsWordOf, IsStepLine}
-use Rattle.stepping.proofs.Cuts.{NoSpace, not-lacking, cut-one}
+use Rattle.lines.proofs.Cuts.{NoSpace, not-lacking, cut-one}
 
 -- a line that says no step
 abbrev pub NoStep : List ℕ → Type 0

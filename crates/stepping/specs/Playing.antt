@@ -1,5 +1,5 @@
 -- What is printed and told of steps that are played, and the exit status.
-use Rattle.std.specs.Prelude.{◌≡◌, ℕ, zero, suc, ◌⊎◌, max, Bool, false, List, [], ◌++◌, Option, Some, None, Result, Ok, Err, OnOk, codes}
+use Rattle.std.specs.Prelude.{◌≡◌, ℕ, zero, suc, ◌⊎◌, max, Bool, false, List, [], ◌++◌, Option, Some, None, Result, Ok, Err, codes}
 use Rattle.std.specs.Io.KnownBytes.{Appends, Keeps}
 use Rattle.savefile.specs.declared.fault.Fault.{Fault as RecordFault}
 use Rattle.tap.specs.declared.fault.Fault.{Fault}
@@ -25,22 +25,22 @@ abbrev pub streams : Option (List ℕ) → Option (List ℕ) → Streams
 streams out err = record { out = out; err = err }
 
 -- some text was taken
-abbrev pub Grows : Option (List ℕ) → Option (List ℕ) → Type 0
-Grows old new = (text : List ℕ) × Appends old new text
+abbrev pub TakesSome : Option (List ℕ) → Option (List ℕ) → Type 0
+TakesSome old new = (text : List ℕ) × Appends old new text
 
 -- the status of printing: 3 where the writer failed
-abbrev pub printed_status : {A E : Type 0} → Result A E → ℕ
-printed_status (Ok done) = 0
-printed_status (Err fault) = 3
+abbrev pub print_status_of : {A E : Type 0} → Result A E → ℕ
+print_status_of (Ok done) = 0
+print_status_of (Err fault) = 3
 
 -- How the printing of a text ended, as a status: 0 where the writer took the text, 3 where it failed, and took a beginning of it.
-abbrev pub Printed : Option (List ℕ) → Option (List ℕ) → List ℕ → ℕ → Type 0
-Printed old new text printed = ((printed ≡ 0) × Appends old new text) ⊎ ((printed ≡ 3) × TakesPart old new text)
+abbrev pub IsPrintStatus : Option (List ℕ) → Option (List ℕ) → List ℕ → ℕ → Type 0
+IsPrintStatus old new text print_status = ((print_status ≡ 0) × Appends old new text) ⊎ ((print_status ≡ 3) × TakesPart old new text)
 
 -- the status of a capture that ended with a record fault
-abbrev pub torn_status : Option (ℕ × RecordFault) → ℕ
-torn_status None = 0
-torn_status (Some torn) = 2
+abbrev pub record_fault_status : Option (ℕ × RecordFault) → ℕ
+record_fault_status None = 0
+record_fault_status (Some record_fault) = 2
 
 -- the line of standard output that failed
 abbrev pub output_line : ℕ → List ℕ
@@ -48,31 +48,23 @@ output_line zero = []
 output_line (suc status) = told_line (codes "Device standard output")
 
 -- the line of a capture that ended with a record fault
-abbrev pub torn_line : Option (ℕ × RecordFault) → List ℕ
-torn_line None = []
-torn_line (Some torn) = told_line (fault_text (Capture torn.0 torn.1))
+abbrev pub record_fault_line : Option (ℕ × RecordFault) → List ℕ
+record_fault_line None = []
+record_fault_line (Some record_fault) = told_line (fault_text (Capture record_fault.0 record_fault.1))
 
--- Two lines, either of which may be empty, were told one behind the other: both where the call answers Ok, else a beginning of
--- each.
-pub record TellsBoth {A E : Type 0} (old new : Option (List ℕ)) (result : Result A E) (first second : List ℕ) : Type 0 where
-  pub between : Option (List ℕ)
-  pub first_begun : TakesPart old between first
-  pub second_begun : TakesPart between new second
-  pub both : OnOk result (Appends old new (first ++ second))
-
--- A replay gave reports. They were printed, behind the answers where these are explained; the capture that was torn was told;
+-- A replay gave reports. They were printed, behind the answers where these are explained; a capture's record fault was told;
 -- the status is the greatest that stands.
 pub record Reported (explained : Bool) (captures : List (List ℕ)) (specs : List Spec) (steps : List Step) (old new : Streams) (ended : Ended) : Type 0 where
   pub reports : List Report
-  pub torn : Option (ℕ × RecordFault)
+  pub record_fault : Option (ℕ × RecordFault)
   pub playlist : List Placed
-  pub replays : Replays captures specs steps playlist torn reports
+  pub replays : Replays captures specs steps playlist record_fault reports
   pub answers : List ℕ
   pub unexplained : explained ≡ false → answers ≡ []
-  pub printed : ℕ
-  pub prints : Printed old.out new.out (answers ++ printed_reports reports) printed
-  pub tells : TellsBoth old.err new.err ended.told (output_line printed) (torn_line torn)
-  pub greatest : ended.status ≡ max printed (torn_status torn)
+  pub print_status : ℕ
+  pub prints : IsPrintStatus old.out new.out (answers ++ printed_reports reports) print_status
+  pub tells : Takes old.err new.err ended.told (output_line print_status ++ record_fault_line record_fault)
+  pub greatest : ended.status ≡ max print_status (record_fault_status record_fault)
 
 -- There is no replay: the first fault that stands was told, and nothing was printed.
 pub record Refused (captures : List (List ℕ)) (specs : List Spec) (steps : List Step) (old new : Streams) (ended : Ended) : Type 0 where

@@ -1,20 +1,16 @@
 -- The text that is printed of reports.
-use Rattle.std.specs.Prelude.{ℕ, suc, ◌-◌, List, [], ◌∷◌, ◌++◌, length, replicate, codes}
+use Rattle.std.specs.Prelude.{ℕ, ◌-◌, List, ◌++◌, length, replicate, codes}
 use Rattle.std.specs.List.{flat_map}
 use Rattle.std.specs.Fmt.{decimal}
 use Rattle.listener.specs.declared.message.Message.{Message}
 use Rattle.tap.specs.declared.report.Report.{Report}
 use Rattle.tap.specs.Headline.{held_in}
 use Rattle.lines.specs.Telling.{end_of_line}
+use Rattle.lines.specs.Texts.{numbered}
 
 -- a number in decimal, with zeros in front up to nine digits
 abbrev pub nine_digits : ℕ → List ℕ
 nine_digits n = replicate (9 - length (decimal n)) 48 ++ decimal n
-
--- the texts of a list's elements, one behind the other, where the first element has the number n
-abbrev pub numbered : {X : Type 0} → (ℕ → X → List ℕ) → ℕ → List X → List ℕ
-numbered text n [] = []
-numbered text n (x ∷ xs) = text n x ++ numbered text (suc n) xs
 
 -- `capture C place P time S.NNNNNNNNN len W kept K`
 unfoldable pub message_line : Message → List ℕ

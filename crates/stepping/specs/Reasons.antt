@@ -8,23 +8,23 @@ use Rattle.tap.specs.declared.answer.Answered.{Answered}
 use Rattle.tap.specs.declared.answer.Answer.TheVariants.{Arrived, Flushed, Read, Closed}
 use Rattle.lines.specs.Telling.{end_of_line}
 use Rattle.stepping.specs.declared.reasons.Standing.{Standing}
-use Rattle.stepping.specs.declared.reasons.Hold.{Hold}
+use Rattle.stepping.specs.declared.reasons.FullHold.{FullHold}
 use Rattle.stepping.specs.declared.reasons.FlushEnd.{FlushEnd}
 use Rattle.stepping.specs.declared.reasons.FlushEnd.TheVariants as flush
 use Rattle.stepping.specs.declared.reasons.ReadEnd.{ReadEnd}
 use Rattle.stepping.specs.declared.reasons.ReadEnd.TheVariants as read
 
 -- how a listener of this capacity stood before it answered, where its hold was filled last at this step
-abbrev pub standing : Answered → ℕ → ℕ → Standing
-standing answered held_since capacity =
-    record { closed = answered.closed; load = answered.load; held = answered.held; held_since = held_since; capacity = capacity }
+abbrev pub standing_before : Answered → ℕ → ℕ → Standing
+standing_before answered held_since capacity =
+    record { closed = answered.closed; load = answered.load; in_hold = answered.in_hold; held_since = held_since; capacity = capacity }
 
 -- what stands in the hold
-abbrev pub hold_of : Standing → Hold
-hold_of before = record { step = before.held_since; packets = before.held }
+abbrev pub full_hold_of : Standing → FullHold
+full_hold_of before = record { step = before.held_since; packets = before.in_hold }
 
 -- `the hold of step N with P packets`
-unfoldable pub hold_text : Hold → List ℕ
+unfoldable pub hold_text : FullHold → List ℕ
 hold_text hold = codes "the hold of step " ++ decimal hold.step ++ codes " with " ++ decimal hold.packets
     ++ (if hold.packets == 1 then codes " packet" else codes " packets")
 
@@ -33,22 +33,22 @@ abbrev pub sum_text : ℕ → ℕ → List ℕ
 sum_text load more = decimal load ++ codes " stored and " ++ decimal more ++ codes " more"
 
 -- of an arrival, whose record takes so many bytes, or would take them
-abbrev pub arrival_reason : Standing → ℕ → Fed → List ℕ
-arrival_reason before more fed.Passed = codes "Passed, the filter rejects it"
-arrival_reason before more fed.Stored = codes "Stored, " ++ sum_text before.load more ++ codes " are within " ++ decimal before.capacity
-arrival_reason before more fed.Held = codes "Held, " ++ sum_text before.load more ++ codes " are within " ++ decimal before.capacity
+abbrev pub arrival_text : Standing → ℕ → Fed → List ℕ
+arrival_text before more fed.Passed = codes "Passed, the filter rejects it"
+arrival_text before more fed.Stored = codes "Stored, " ++ sum_text before.load more ++ codes " are within " ++ decimal before.capacity
+arrival_text before more fed.Held = codes "Held, " ++ sum_text before.load more ++ codes " are within " ++ decimal before.capacity
     ++ codes ", and the empty hold takes them at once"
-arrival_reason before more fed.Rotated = codes "Rotated, " ++ sum_text before.load more ++ codes " exceed " ++ decimal before.capacity
+arrival_text before more fed.Rotated = codes "Rotated, " ++ sum_text before.load more ++ codes " exceed " ++ decimal before.capacity
     ++ codes ", and the empty hold takes the " ++ decimal before.load
-arrival_reason before more fed.Dropped = codes "Dropped, " ++ sum_text before.load more ++ codes " exceed " ++ decimal before.capacity
-    ++ codes "; " ++ hold_text (hold_of before) ++ codes " is not read"
-arrival_reason before more fed.Closed = codes "Closed"
+arrival_text before more fed.Dropped = codes "Dropped, " ++ sum_text before.load more ++ codes " exceed " ++ decimal before.capacity
+    ++ codes "; " ++ hold_text (full_hold_of before) ++ codes " is not read"
+arrival_text before more fed.Closed = codes "Closed"
 
 -- what a flush comes to: a closed listener and a hold that is not read come before an empty store
 abbrev pub flush_end : Standing → FlushEnd
 flush_end before =
     if before.closed then flush.Closed
-    else if nat_lt 0 before.held then flush.NotRead (hold_of before)
+    else if nat_lt 0 before.in_hold then flush.NotRead (full_hold_of before)
     else if before.load == 0 then flush.NothingStored
     else flush.Takes before.load
 
@@ -62,8 +62,8 @@ flush_text (flush.Takes load) = codes "flushed, the empty hold takes the " ++ de
 abbrev pub read_end : Standing → ReadEnd
 read_end before =
     if before.closed then read.Closed
-    else if before.held == 0 then read.NothingHeld
-    else read.Takes (hold_of before)
+    else if before.in_hold == 0 then read.NothingHeld
+    else read.Takes (full_hold_of before)
 
 abbrev pub read_text : ReadEnd → List ℕ
 read_text read.Closed = codes "nothing read, closed"
@@ -72,7 +72,7 @@ read_text (read.Takes hold) = codes "read, it takes " ++ hold_text hold
 
 -- the answer to a step, and why it was given
 abbrev pub reason : Standing → ℕ → Answer → List ℕ
-reason before more (Arrived fed) = arrival_reason before more fed
+reason before more (Arrived fed) = arrival_text before more fed
 reason before more (Flushed full) = flush_text (flush_end before)
 reason before more (Read full) = read_text (read_end before)
 reason before more Closed = codes "closed"

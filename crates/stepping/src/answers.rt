@@ -3,10 +3,10 @@
 ghost use Rattle.std.specs.Prelude.{◌≡◌, OnOk};
 ghost use Rattle.listener.specs.Messages.{cut_to, size_of};
 ghost use Rattle.tap.specs.OwnSteps.{arrival_of};
-ghost use Rattle.stepping.specs.Playing.{Grows};
+ghost use Rattle.stepping.specs.Playing.{TakesSome};
 ghost use Rattle.stepping.specs.Reasons.{answer_line, reason};
 
-use crate::reasons::{Arrival, Standing, flush_end, read_end};
+use crate::reasons::{ArrivalEnd, Standing, flush_end, read_end};
 use crate::reports::NineDigits;
 use crate::steps::Asked;
 use lines::Line;
@@ -39,7 +39,11 @@ fn put_answer(
 {
     line.clear();
     match answer {
-        Answer::Arrived(fed) => writeln!(line, "  listener {l} {}", Arrival { before, more, fed }),
+        Answer::Arrived(fed) => writeln!(
+            line,
+            "  listener {l} {}",
+            ArrivalEnd { before, more, fed }
+        ),
         Answer::Flushed(_) => writeln!(line, "  listener {l} {}", flush_end(&before)),
         Answer::Read(_) => writeln!(line, "  listener {l} {}", read_end(&before)),
         Answer::Closed => writeln!(line, "  listener {l} closed"),
@@ -69,17 +73,17 @@ impl Watching<'_> {
 
 /// What is left of all listeners' answers.
 #[derive(Drop)]
-pub struct Cursor<'a> {
+pub struct AnswersLeft<'a> {
     listeners: Vec<Watching<'a>>,
 }
 
-impl<'a> Cursor<'a> {
+impl<'a> AnswersLeft<'a> {
     /// All answers of a trace of what was asked for. No call behind it takes memory.
     pub fn new(
         alloc: Global,
         asked: &'a Asked,
         trace: &'a Trace,
-    ) -> Result<Cursor<'a>, AllocError> {
+    ) -> Result<AnswersLeft<'a>, AllocError> {
         let mut listeners = Vec::with_capacity(alloc, asked.specs.len())?;
         for (spec, answers) in asked.specs.iter().zip(trace.answers.iter()) {
             listeners.push(Watching {
@@ -88,7 +92,7 @@ impl<'a> Cursor<'a> {
                 held_since: 0,
             })?;
         }
-        Ok(Cursor { listeners })
+        Ok(AnswersLeft { listeners })
     }
 }
 
@@ -101,7 +105,7 @@ fn write_answer<O: Write>(
     line: &mut Line,
     out: &mut O,
 ) -> io::Result<()>
-    ensures { Grows (O.contents out.old) (O.contents out.new) }
+    ensures { TakesSome (O.contents out.old) (O.contents out.new) }
 {
     let Some((before, answer)) = watching.next(n) else {
         return Ok(());
@@ -118,11 +122,11 @@ fn write_answer<O: Write>(
 fn write_arrivals<O: Write>(
     n: usize,
     placed: &Placed,
-    cursor: &mut Cursor<'_>,
+    answers_left: &mut AnswersLeft<'_>,
     line: &mut Line,
     out: &mut O,
 ) -> io::Result<()>
-    ensures { Grows (O.contents out.old) (O.contents out.new) }
+    ensures { TakesSome (O.contents out.old) (O.contents out.new) }
 {
     line.clear();
     let packet = &placed.packet;
@@ -136,7 +140,7 @@ fn write_arrivals<O: Write>(
         packet.len
     )?;
     send(line.as_bytes(), out)?;
-    for (l, watching) in cursor.listeners.iter_mut().enumerate() {
+    for (l, watching) in answers_left.listeners.iter_mut().enumerate() {
         write_answer(n, l, Some(placed), watching, line, out)?;
     }
     Ok(())
@@ -147,16 +151,16 @@ fn write_own<O: Write>(
     n: usize,
     word: &str,
     l: u32,
-    cursor: &mut Cursor<'_>,
+    answers_left: &mut AnswersLeft<'_>,
     line: &mut Line,
     out: &mut O,
 ) -> io::Result<()>
-    ensures { Grows (O.contents out.old) (O.contents out.new) }
+    ensures { TakesSome (O.contents out.old) (O.contents out.new) }
 {
     line.clear();
     writeln!(line, "step {n} {word} {l}")?;
     send(line.as_bytes(), out)?;
-    match cursor.listeners.get_mut(l as usize) {
+    match answers_left.listeners.get_mut(l as usize) {
         Some(watching) => write_answer(n, l as usize, None, watching, line, out),
         None => Ok(()),
     }
@@ -167,11 +171,11 @@ fn write_step<'a, O: Write>(
     n: usize,
     step: Step,
     packets: &'a [Placed],
-    cursor: &mut Cursor<'_>,
+    answers_left: &mut AnswersLeft<'_>,
     line: &mut Line,
     out: &mut O,
 ) -> io::Result<&'a [Placed]>
-    ensures { Grows (O.contents out.old) (O.contents out.new) }
+    ensures { TakesSome (O.contents out.old) (O.contents out.new) }
 {
     match step {
         Step::Arrive => {
@@ -181,12 +185,12 @@ fn write_step<'a, O: Write>(
                 send(line.as_bytes(), out)?;
                 return Ok(packets);
             };
-            write_arrivals(n, placed, cursor, line, out)?;
+            write_arrivals(n, placed, answers_left, line, out)?;
             return Ok(left);
         }
-        Step::Flush(l) => write_own(n, "flush", l, cursor, line, out)?,
-        Step::Read(l) => write_own(n, "read", l, cursor, line, out)?,
-        Step::Close(l) => write_own(n, "close", l, cursor, line, out)?,
+        Step::Flush(l) => write_own(n, "flush", l, answers_left, line, out)?,
+        Step::Read(l) => write_own(n, "read", l, answers_left, line, out)?,
+        Step::Close(l) => write_own(n, "close", l, answers_left, line, out)?,
     }
     Ok(packets)
 }
@@ -196,15 +200,15 @@ fn write_step<'a, O: Write>(
 pub fn write_answers<O: Write>(
     asked: &Asked,
     trace: &Trace,
-    cursor: &mut Cursor<'_>,
+    answers_left: &mut AnswersLeft<'_>,
     out: &mut O,
 ) -> io::Result<()>
-    ensures { Grows (O.contents out.old) (O.contents out.new) }
+    ensures { TakesSome (O.contents out.old) (O.contents out.new) }
 {
     let mut line = Line::new();
     let mut packets = trace.playlist.as_slice();
     for (n, step) in asked.steps.iter().enumerate() {
-        packets = write_step(n + 1, *step, packets, cursor, &mut line, out)?;
+        packets = write_step(n + 1, *step, packets, answers_left, &mut line, out)?;
     }
     Ok(())
 }

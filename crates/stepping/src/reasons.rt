@@ -1,7 +1,7 @@
 //! Why a listener answered as it did.
 
 ghost use Rattle.std.specs.Prelude.{◌≡◌, Some};
-ghost use Rattle.stepping.specs.Reasons.{standing, hold_of, hold_text, sum_text, arrival_reason, flush_end, flush_text, read_end, read_text};
+ghost use Rattle.stepping.specs.Reasons.{standing_before, full_hold_of, hold_text, sum_text, arrival_text, flush_end, flush_text, read_end, read_text};
 
 use listener::Fed;
 use std::fmt;
@@ -15,7 +15,7 @@ pub struct Standing {
     /// The bytes of the records in the store.
     pub load: usize,
     /// The number of packets in the hold.
-    pub held: usize,
+    pub in_hold: usize,
     /// The step that made the store this hold, from 1.
     pub held_since: usize,
     /// The bytes that store and hold each have room for.
@@ -25,35 +25,35 @@ pub struct Standing {
 impl Standing {
     /// How a listener of this capacity stood before it answered so, where its hold was filled last at this step.
     pub fn before(answered: &Answered, held_since: usize, capacity: usize) -> Standing
-        ensures { result ≡ standing answered.now held_since capacity }
+        ensures { result ≡ standing_before answered.now held_since capacity }
     {
         Standing {
             closed: answered.closed,
             load: answered.load,
-            held: answered.held,
+            in_hold: answered.in_hold,
             held_since,
             capacity,
         }
     }
 
-    fn hold(&self) -> Hold
-        ensures { result ≡ hold_of self.now }
+    fn hold(&self) -> FullHold
+        ensures { result ≡ full_hold_of self.now }
     {
-        Hold {
+        FullHold {
             step: self.held_since,
-            packets: self.held,
+            packets: self.in_hold,
         }
     }
 }
 
 /// A full hold: the step that filled it, from 1, and the number of its packets.
 #[derive(Clone, Copy, Debug)]
-pub struct Hold {
+pub struct FullHold {
     pub step: usize,
     pub packets: usize,
 }
 
-impl Display for Hold {
+impl Display for FullHold {
     ghost output = { λ hold. Some (hold_text hold) };
 
     #[tactic(auto, unfolding(crate::specs::Reasons::hold_text))]
@@ -84,20 +84,20 @@ impl Display for Sum {
 
 /// What became of an arrival.
 #[derive(Clone, Copy, Debug)]
-pub struct Arrival {
+pub struct ArrivalEnd {
     pub before: Standing,
     /// The bytes of the record that the packet takes, or would take.
     pub more: usize,
     pub fed: Fed,
 }
 
-impl Display for Arrival {
-    ghost output = { λ arrival. Some (arrival_reason arrival.before arrival.more arrival.fed) };
+impl Display for ArrivalEnd {
+    ghost output = { λ arrival. Some (arrival_text arrival.before arrival.more arrival.fed) };
 
     fn fmt<W: fmt::Write>(&self, f: &mut Formatter<W>) -> fmt::Result {
         let Standing {
             load,
-            held,
+            in_hold,
             held_since,
             capacity,
             ..
@@ -119,9 +119,9 @@ impl Display for Arrival {
             ),
             Fed::Dropped => {
                 write!(f, "Dropped, {sum} exceed {capacity}")?;
-                let hold = Hold {
+                let hold = FullHold {
                     step: held_since,
-                    packets: held,
+                    packets: in_hold,
                 };
                 write!(f, "; {hold} is not read")
             }
@@ -135,7 +135,7 @@ impl Display for Arrival {
 pub enum FlushEnd {
     Closed,
     /// The hold is full.
-    NotRead(Hold),
+    NotRead(FullHold),
     NothingStored,
     /// The hold takes what is stored, so many bytes of records.
     Takes(usize),
@@ -160,7 +160,7 @@ pub fn flush_end(before: &Standing) -> FlushEnd
 {
     if before.closed {
         FlushEnd::Closed
-    } else if before.held > 0 {
+    } else if before.in_hold > 0 {
         FlushEnd::NotRead(before.hold())
     } else if before.load == 0 {
         FlushEnd::NothingStored
@@ -175,7 +175,7 @@ pub enum ReadEnd {
     Closed,
     NothingHeld,
     /// The reader takes the hold.
-    Takes(Hold),
+    Takes(FullHold),
 }
 
 impl Display for ReadEnd {
@@ -196,7 +196,7 @@ pub fn read_end(before: &Standing) -> ReadEnd
 {
     if before.closed {
         ReadEnd::Closed
-    } else if before.held == 0 {
+    } else if before.in_hold == 0 {
         ReadEnd::NothingHeld
     } else {
         ReadEnd::Takes(before.hold())

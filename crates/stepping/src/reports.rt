@@ -2,7 +2,8 @@
 
 ghost use Rattle.std.specs.Prelude.{◌≡◌, OnOk, Some};
 ghost use Rattle.lines.specs.Sending.{Takes};
-ghost use Rattle.stepping.specs.Printed.{numbered, nine_digits, message_line, message_lines, batch_lines, batch_line, listener_line, report_lines, printed_reports};
+ghost use Rattle.lines.specs.Texts.{numbered};
+ghost use Rattle.stepping.specs.Printed.{nine_digits, message_line, message_lines, batch_lines, batch_line, listener_line, report_lines, printed_reports};
 
 use lines::Line;
 use lines::sending::send;

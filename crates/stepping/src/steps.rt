@@ -8,10 +8,10 @@ ghost use Rattle.stepping.specs.Listeners.{IsListenerLine};
 ghost use Rattle.stepping.specs.Script.{IsStepLine};
 ghost use Rattle.stepping.specs.Faults.{fault_text};
 ghost use Rattle.stepping.specs.Printed.{printed_reports};
-ghost use Rattle.stepping.specs.Playing.{streams, printed_status, torn_status, output_line, torn_line, TellsBoth, Plays};
+ghost use Rattle.stepping.specs.Playing.{streams, print_status_of, record_fault_status, output_line, record_fault_line, Plays};
 ghost use Rattle.stepping.specs.Stepping.{IsRefusedFiles, Steps, StepsTo};
 
-use crate::answers::{Cursor, write_answers};
+use crate::answers::{AnswersLeft, write_answers};
 use crate::faults::FaultText;
 use crate::listeners::read_listeners;
 use crate::reports::write_reports;
@@ -51,8 +51,8 @@ pub fn read_asked(alloc: Global, listeners: &[u8], script: &[u8]) -> Result<Aske
 }
 
 /// The exit status of printing.
-fn printed_status(printed: &io::Result<()>) -> u8
-    ensures { result ≡ printed_status printed.now }
+fn print_status_of(printed: &io::Result<()>) -> u8
+    ensures { result ≡ print_status_of printed.now }
 {
     match printed {
         Ok(()) => 0,
@@ -61,10 +61,10 @@ fn printed_status(printed: &io::Result<()>) -> u8
 }
 
 /// The exit status of a capture that ended with a record fault, if one did.
-fn torn_status(torn: Option<(u32, savefile::Fault)>) -> u8
-    ensures { result ≡ torn_status torn }
+fn record_fault_status(record_fault: Option<(u32, savefile::Fault)>) -> u8
+    ensures { result ≡ record_fault_status record_fault }
 {
-    match torn {
+    match record_fault {
         Some(_) => BAD_RECORD,
         None => 0,
     }
@@ -81,30 +81,44 @@ fn tell_output<E: Write>(printed: u8, err: &mut E) -> io::Result<()>
 }
 
 /// Tells the capture that ended with a record fault, if one did.
-fn tell_torn<E: Write>(torn: Option<(u32, savefile::Fault)>, err: &mut E) -> io::Result<()>
-    ensures { Takes (E.contents err.old) (E.contents err.new) result (torn_line torn) }
+fn tell_record_fault<E: Write>(
+    record_fault: Option<(u32, savefile::Fault)>,
+    err: &mut E,
+) -> io::Result<()>
+    ensures { Takes (E.contents err.old) (E.contents err.new) result (record_fault_line record_fault) }
 {
-    match torn {
+    match record_fault {
         Some((n, fault)) => tell_line(FaultText(Fault::Capture(n, fault)), err),
         None => Ok(()),
     }
 }
 
-/// Tells standard output that failed and then a torn capture, and answers the greatest status that stands.
+/// Tells standard output that failed, if this is the status of that, and then a torn capture. Where the first is not taken, the
+/// second is not told.
+fn tell_both<E: Write>(
+    printed: u8,
+    record_fault: Option<(u32, savefile::Fault)>,
+    err: &mut E,
+) -> io::Result<()>
+    ensures { Takes (E.contents err.old) (E.contents err.new) result (output_line printed ++ record_fault_line record_fault) }
+{
+    tell_output(printed, err)?;
+    tell_record_fault(record_fault, err)
+}
+
+/// Tells standard output that failed and then a capture's record fault, and answers the greatest status that stands.
 fn end<E: Write>(
     printed: io::Result<()>,
-    torn: Option<(u32, savefile::Fault)>,
+    record_fault: Option<(u32, savefile::Fault)>,
     err: &mut E,
 ) -> Ended
-    ensures greatest { result.status ≡ max (printed_status printed) (torn_status torn) }
-    ensures tells { TellsBoth (E.contents err.old) (E.contents err.new) result.told (output_line (printed_status printed)) (torn_line torn) }
+    ensures greatest { result.status ≡ max (print_status_of printed) (record_fault_status record_fault) }
+    ensures tells { Takes (E.contents err.old) (E.contents err.new) result.told (output_line (print_status_of printed) ++ record_fault_line record_fault) }
 {
-    let status = printed_status(&printed);
-    let output_told = tell_output(status, err);
-    let torn_told = tell_torn(torn, err);
+    let status = print_status_of(&printed);
     Ended {
-        status: status.max(torn_status(torn)),
-        told: output_told.and(torn_told),
+        status: status.max(record_fault_status(record_fault)),
+        told: tell_both(status, record_fault, err),
     }
 }
 
@@ -131,12 +145,12 @@ fn print_reports<O: Write>(reports: &[Report], out: &mut O) -> io::Result<()>
 fn print_trace<O: Write>(
     asked: &Asked,
     trace: &Trace,
-    cursor: &mut Cursor<'_>,
+    answers_left: &mut AnswersLeft<'_>,
     out: &mut O,
 ) -> io::Result<()>
     ensures { (answers : List ℕ) × Takes (O.contents out.old) (O.contents out.new) result (answers ++ printed_reports trace.now.reports.items) }
 {
-    write_answers(asked, trace, cursor, out)?;
+    write_answers(asked, trace, answers_left, out)?;
     print_reports(trace.reports.as_slice(), out)
 }
 
@@ -165,9 +179,9 @@ pub fn play_asked<O: Write, E: Write>(
         asked.specs.as_slice(),
         asked.steps.as_slice(),
     ) {
-        Ok((reports, torn)) => {
+        Ok((reports, record_fault)) => {
             let printed = print_reports(reports.as_slice(), out);
-            end(printed, torn, err)
+            end(printed, record_fault, err)
         }
         Err(fault) => refuse(fault, err),
     }
@@ -193,11 +207,11 @@ fn play_explained<O: Write, E: Write>(
         Ok(traced) => traced,
         Err(fault) => return refuse(fault, err),
     };
-    let Ok(mut cursor) = Cursor::new(alloc, asked, &traced) else {
+    let Ok(mut answers_left) = AnswersLeft::new(alloc, asked, &traced) else {
         return refuse(Fault::NoMemory, err);
     };
-    let printed = print_trace(asked, &traced, &mut cursor, out);
-    end(printed, traced.torn, err)
+    let printed = print_trace(asked, &traced, &mut answers_left, out);
+    end(printed, traced.record_fault, err)
 }
 
 /// [`steps`], with whether standard error took what was told.

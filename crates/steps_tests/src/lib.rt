@@ -1,6 +1,8 @@
-//! Tests of `tap` and `stepping`: steps over captures, and what is told of them.
+//! Tests of `tap`, `stepping` and `picture`: steps over captures, and what is told and drawn of them.
 #![tactic(auto)]
 
+#[cfg(test)]
+mod callers;
 #[cfg(test)]
 mod devices;
 #[cfg(test)]

@@ -20,7 +20,7 @@ use Rattle.tap.specs.declared.step.Step.TheVariants.{Arrive, Flush, Read, Close}
 use Rattle.tap.specs.declared.answer.Answered.{Answered}
 use Rattle.savefile.specs.declared.fault.Fault.{Fault as Misread}
 use Rattle.tap.specs.Answers.{all_answered, AreLegal, Traces}
-use Rattle.tap.specs.Filters.{kept_of, FiltersAs}
+use Rattle.tap.specs.Filters.{kept_by_tree, FiltersAs}
 use Rattle.tap.specs.Headline.{run_of, terms_of, Reports, Replays}
 use Rattle.tap.specs.OwnSteps.{own, arrival_of}
 use Rattle.tap.specs.Watching.{AllPackets}
@@ -30,7 +30,7 @@ use Rattle.tap.specs.Watching.{Watch, watch, all_stepped, Tells, IsFollowed, Pro
 use Rattle.tap.proofs.Stepping.{all_stepped_is}
 use Rattle.tap.proofs.Owns.{goes, played_own}
 use Rattle.tap.proofs.Counting.{length_one, zip_length}
-use Rattle.tap.specs.Refusals.{ListenersStand, RefusesListener, RefusesOne}
+use Rattle.tap.specs.Refusals.{ListenersAreRight, RefusesListener, RefusesOne}
 use Rattle.tap.specs.declared.fault.Fault.{Fault}
 use Rattle.tap.specs.declared.fault.Fault.TheVariants as faults
 use Rattle.std.proofs.Common.{◌⊎◌, inl, inr}
@@ -98,8 +98,8 @@ legal_by legal_law program snap t rs followed follows =
 -- ---- An expression stands for its program
 
 kept_alike_if : (program : List Insn) (tree : Tree) (snap : ℕ) (a : Arrival) (b : Bool) → 0 < snap → verdict program a.packet.bytes a.packet.len ≡ cond b snap 0 → accepts tree (packet_of a.packet.bytes a.packet.len) ≡ b →
-    kept_by program snap a ≡ kept_of tree snap a
-unfolding kept_by kept_of
+    kept_by program snap a ≡ kept_by_tree tree snap a
+unfolding kept_by kept_by_tree
 kept_alike_if program tree snap a true some e f =
     rw (e, f, lt-ltb 0 snap some) (ap (λ (n : ℕ). Some (cut_to n a)) (let m : min snap snap ≡ snap = omega arith in m))
 kept_alike_if program tree snap a false some e f = rw (e, f) refl
@@ -112,7 +112,7 @@ own_alike f g l (Flush k ∷ steps) playlist h all = ap (λ (q : List Request). 
 own_alike f g l (Read k ∷ steps) playlist h all = ap (λ (q : List Request). cond (k == l) (P.Read ∷ []) [] ++ q) (own_alike f g l steps playlist h all)
 own_alike f g l (Close k ∷ steps) playlist h all = ap (λ (q : List Request). cond (k == l) (P.Close ∷ []) [] ++ q) (own_alike f g l steps playlist h all)
 
-pub kept_alike : (program : List Insn) (tree : Tree) (snap : ℕ) → 0 < snap → StandsFor program tree snap → (p : Placed) → HasBytes (packet_of p.packet.bytes p.packet.len) → kept_by program snap (arrival_of p) ≡ kept_of tree snap (arrival_of p)
+pub kept_alike : (program : List Insn) (tree : Tree) (snap : ℕ) → 0 < snap → StandsFor program tree snap → (p : Placed) → HasBytes (packet_of p.packet.bytes p.packet.len) → kept_by program snap (arrival_of p) ≡ kept_by_tree tree snap (arrival_of p)
 kept_alike program tree snap some stands p real = kept_alike_if program tree snap (arrival_of p) (accepts tree (packet_of p.packet.bytes p.packet.len)) some (stands (packet_of p.packet.bytes p.packet.len) real) refl
 
 -- ---- The headline, for one listener
@@ -127,9 +127,9 @@ told Says (Program p) program snap l steps playlist some real made says = (
   subst (λ (q : List Insn). Says (own (kept_by q snap) l steps playlist)) made says,
 )
 told Says (Text text) program snap l steps playlist some real made says = (
-  kept_of made.0 snap,
+  kept_by_tree made.0 snap,
   (made.0, made.1, refl),
-  subst Says (own_alike (kept_by program snap) (kept_of made.0 snap) l steps playlist (kept_alike program made.0 snap some made.2) real) says,
+  subst Says (own_alike (kept_by program snap) (kept_by_tree made.0 snap) l steps playlist (kept_alike program made.0 snap some made.2) real) says,
 )
 
 zip_at : {A B : Type 0} (R : A → B → Type 0) (xs : List A) (ys : List B) (l : ℕ) (x : A) → AllZip R xs ys → slice_get xs l ≡ Some x → (y : B) × (slice_get ys l ≡ Some y) × R x y
@@ -190,9 +190,9 @@ ended_many R traced specs ws done ys steps playlist opened is tells =
 
 -- what the reports of a replay's end tell
 pub replays_by : (legal_law : AnswersAreLegal) (kept_law : RunsAreKept) (fit_law : KeptFits) (traced : Bool) (captures : List (List ℕ)) (specs : List Spec) (steps : List Step) (playlist : List Placed)
-    (torn : Option (ℕ × Misread)) (done : List Watch) → ComesTo traced captures specs steps playlist torn done →
-    (reports : List Report) → AllZip Tells done reports → Replays captures specs steps playlist torn reports
-replays_by legal_law kept_law fit_law traced captures specs steps playlist torn done c reports tells = record {
+    (record_fault : Option (ℕ × Misread)) (done : List Watch) → ComesTo traced captures specs steps playlist record_fault done →
+    (reports : List Report) → AllZip Tells done reports → Replays captures specs steps playlist record_fault reports
+replays_by legal_law kept_law fit_law traced captures specs steps playlist record_fault done c reports tells = record {
   of_captures = c.of_captures;
   one_each = ended_many Tells traced specs c.began done reports steps playlist c.opened c.ends tells;
   each = headline_at legal_law kept_law fit_law traced specs c.began done steps playlist c.opened c.ends c.packets reports tells;
@@ -200,20 +200,20 @@ replays_by legal_law kept_law fit_law traced captures specs steps playlist torn 
 
 -- what the answers tell, where they were followed
 pub traces_by : (legal_law : AnswersAreLegal) (captures : List (List ℕ)) (specs : List Spec) (steps : List Step) (playlist : List Placed)
-    (torn : Option (ℕ × Misread)) (done : List Watch) → ComesTo true captures specs steps playlist torn done →
-    (all : List (List Answered)) → AllZip IsFollowed done all → Traces captures specs steps playlist torn all
-traces_by legal_law captures specs steps playlist torn done c all followed = record {
+    (record_fault : Option (ℕ × Misread)) (done : List Watch) → ComesTo true captures specs steps playlist record_fault done →
+    (all : List (List Answered)) → AllZip IsFollowed done all → Traces captures specs steps playlist record_fault all
+traces_by legal_law captures specs steps playlist record_fault done c all followed = record {
   of_captures = c.of_captures;
   one_each = ended_many IsFollowed true specs c.began done all steps playlist c.opened c.ends followed;
   each = answers_at legal_law specs c.began done steps playlist c.opened c.ends c.packets all followed;
 }
 
-pub stand_opened : (traced : Bool) (specs : List Spec) (ws : List Watch) → AllZip (Opened traced) specs ws → ListenersStand specs
+pub stand_opened : (traced : Bool) (specs : List Spec) (ws : List Watch) → AllZip (Opened traced) specs ws → ListenersAreRight specs
 stand_opened traced [] ws z = tt
 stand_opened traced (spec ∷ specs) [] z = absurd z
 stand_opened traced (spec ∷ specs) (w ∷ ws) z = ((z.0.stands, z.0.range), stand_opened traced specs ws z.1)
 
 -- the first listener against which something stands
-pub refuses_one : (specs : List Spec) (l : ℕ) (spec : Spec) (f : Fault) → slice_get specs l ≡ Some spec → ListenersStand (take l specs) → (f ≡ faults.NoMemory) ⊎ RefusesListener l spec f → (f ≡ faults.NoMemory) ⊎ RefusesOne specs f
+pub refuses_one : (specs : List Spec) (l : ℕ) (spec : Spec) (f : Fault) → slice_get specs l ≡ Some spec → ListenersAreRight (take l specs) → (f ≡ faults.NoMemory) ⊎ RefusesListener l spec f → (f ≡ faults.NoMemory) ⊎ RefusesOne specs f
 refuses_one specs l spec f here before (inl none) = inl none
 refuses_one specs l spec f here before (inr why) = inr (l, spec, here, why, before)

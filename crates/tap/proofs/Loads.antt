@@ -36,6 +36,6 @@ length_records (m ∷ ms) =
     ∙ (λ i. length_record m i + length_records ms i) ∙ sym (sum_by-cons size_of m ms)
 
 -- the load of a store is its bytes
-pub load_is : (hold store : List Message) (s : PlainList) → hold ++ store ≡ s.pending → length hold ≡ s.held → length (records_text store) ≡ load s
-load_is hold store s pending held =
-    length_records store ∙ ap room (sym (drop_at hold store s.held held) ∙ ap (drop s.held) pending)
+pub load_is : (hold store : List Message) (s : PlainList) → hold ++ store ≡ s.pending → length hold ≡ s.in_hold → length (records_text store) ≡ load s
+load_is hold store s pending in_hold =
+    length_records store ∙ ap room (sym (drop_at hold store s.in_hold in_hold) ∙ ap (drop s.in_hold) pending)

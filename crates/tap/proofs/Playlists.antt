@@ -2,8 +2,8 @@
 use Rattle.std.proofs.Common.{◌≡◌, ℕ, ◌+◌, List, [], ◌∷◌, ◌++◌, Option, Some, None, ◌⊎◌, inl, inr, length, option_map, refl, ap, sym, ◌∙◌, subst, true, false, append_assoc, append-nil, arith}
 use Rattle.savefile.specs.declared.fault.Fault.{Fault}
 use Rattle.savefile.specs.declared.packet.Packet.{Packet}
-use Rattle.savefile.specs.Savefile.{RefusesHeader}
-use Rattle.std.specs.Prelude.{is_some}
+use Rattle.savefile.specs.Savefile.{RefusesHeader, IsCapture}
+use Rattle.std.specs.Prelude.{is_some, Result, Ok, Err, OnOk}
 use Rattle.std.specs.Borrow.{Bor}
 use Rattle.std.specs.List.{slice_get}
 use Rattle.std.proofs.Common.{zero, suc, map, take, get_or, ◌<◌, length-take}
@@ -17,7 +17,7 @@ use Rattle.filtergen.specs.Meaning.{HasBytes, packet_of}
 use Rattle.std.specs.List.{AllByRecursion}
 use Rattle.tap.specs.Watching.{AllPackets}
 use Rattle.tap.specs.declared.playlist.Placed.{Placed}
-use Rattle.tap.specs.Playlist.{Reads, placed, IsPlaylist, HeadersStand}
+use Rattle.tap.specs.Playlist.{placed, IsPlaylist, NoHeaderIsRefused}
 
 pub placed-push : (n place : ℕ) (ps : List Packet) (p : Packet) → placed n place (ps ++ p ∷ []) ≡ placed n place ps ++ record { capture = n; place = place + length ps; packet = p } ∷ []
 placed-push n place [] p = (λ i. record { capture = n; place = (let e : place ≡ place + 0 = omega arith in e) i; packet = p } ∷ [])
@@ -29,14 +29,14 @@ pub bytes_each : (bytes : List ℕ) → ((k : ℕ) → get_or bytes k 0 < 256) �
 bytes_each [] h = tt
 bytes_each (b ∷ bytes) h = (h zero, bytes_each bytes (λ k. h (suc k)))
 
--- none before is torn: its packets follow, and its fault ends the playlist
-next_last : (n : ℕ) (text : List ℕ) (packets : List Packet) (fault : Option Fault) → Reads text packets fault →
+-- none before has a record fault: its packets follow, and its fault ends the playlist
+next_last : (n : ℕ) (text : List ℕ) (packets : List Packet) (fault : Option Fault) → IsCapture text packets fault →
     IsPlaylist n (text ∷ []) (placed n 0 packets) (option_map (λ f. (n, f)) fault)
 next_last n text packets None r = inl (packets, [], r, sym (append-nil (placed n 0 packets)), (refl, refl))
 next_last n text packets (Some fault) r = inr (packets, fault, r, refl, refl)
 
 pub playlist-push : (n : ℕ) (texts : List (List ℕ)) (list : List Placed) (text : List ℕ) (packets : List Packet) (fault : Option Fault) (m : ℕ) → m ≡ n + length texts →
-    IsPlaylist n texts list None → Reads text packets fault →
+    IsPlaylist n texts list None → IsCapture text packets fault →
     IsPlaylist n (texts ++ text ∷ []) (list ++ placed m 0 packets) (option_map (λ f. (m, f)) fault)
 playlist-push n [] list text packets fault m is p reading = rw (p.0, (let e : m ≡ n = omega arith in e)) (next_last n text packets fault reading)
 playlist-push n (t ∷ texts) list text packets fault m is (inl (ps, more, reads, e, rest)) reading =
@@ -47,16 +47,16 @@ playlist-push n (t ∷ texts) list text packets fault m is (inl (ps, more, reads
       ap (λ (l : List Placed). l ++ placed m 0 packets) e ∙ append_assoc (placed n 0 ps) more (placed m 0 packets),
       playlist-push (n + 1) texts more text packets fault m (omega arith) rest reading,
     )
-playlist-push n (t ∷ texts) list text packets fault m is (inr (ps, f, reads, e, torn)) reading = absurd (cc)
+playlist-push n (t ∷ texts) list text packets fault m is (inr (ps, f, reads, e, record_fault)) reading = absurd (cc)
 
--- one before is torn
-pub playlist-torn : (n : ℕ) (texts : List (List ℕ)) (list : List Placed) (torn : Option (ℕ × Fault)) (t : ℕ × Fault) (text : List ℕ) → torn ≡ Some t →
-    IsPlaylist n texts list torn → IsPlaylist n (texts ++ text ∷ []) list torn
-playlist-torn n [] list torn t text is p = absurd (let e : Some t ≡ None = sym is ∙ p.1 in cc)
-playlist-torn n (s ∷ texts) list torn t text is (inl (ps, more, reads, e, rest)) = inl (ps, more, reads, e, playlist-torn (n + 1) texts more torn t text is rest)
-playlist-torn n (s ∷ texts) list torn t text is (inr last) = inr last
+-- one before has a record fault
+pub playlist-ended : (n : ℕ) (texts : List (List ℕ)) (list : List Placed) (record_fault : Option (ℕ × Fault)) (t : ℕ × Fault) (text : List ℕ) → record_fault ≡ Some t →
+    IsPlaylist n texts list record_fault → IsPlaylist n (texts ++ text ∷ []) list record_fault
+playlist-ended n [] list record_fault t text is p = absurd (let e : Some t ≡ None = sym is ∙ p.1 in cc)
+playlist-ended n (s ∷ texts) list record_fault t text is (inl (ps, more, reads, e, rest)) = inl (ps, more, reads, e, playlist-ended (n + 1) texts more record_fault t text is rest)
+playlist-ended n (s ∷ texts) list record_fault t text is (inr last) = inr last
 
-pub stand-push : (texts : List (List ℕ)) (text : List ℕ) → HeadersStand texts → ((fault : Fault) → RefusesHeader text fault → ⊥) → HeadersStand (texts ++ text ∷ [])
+pub stand-push : (texts : List (List ℕ)) (text : List ℕ) → NoHeaderIsRefused texts → ((fault : Fault) → RefusesHeader text fault → ⊥) → NoHeaderIsRefused (texts ++ text ∷ [])
 stand-push [] text h s = (s, tt)
 stand-push (t ∷ texts) text h s = (h.0, stand-push texts text h.1 s)
 
@@ -64,14 +64,19 @@ pub packets-push : (ps : List Placed) (p : Placed) → AllPackets ps → HasByte
 packets-push [] p h i = (i, tt)
 packets-push (q ∷ ps) p h i = (h.0, packets-push ps p h.1 i)
 
-pub playlist-torn-by : (n : ℕ) (texts : List (List ℕ)) (list : List Placed) (torn : Option (ℕ × Fault)) (text : List ℕ) → is_some torn ≡ true →
-    IsPlaylist n texts list torn → IsPlaylist n (texts ++ text ∷ []) list torn
-playlist-torn-by n texts list None text is p = absurd (false≢true is)
-playlist-torn-by n texts list (Some t) text is p = playlist-torn n texts list (Some t) t text refl p
+pub playlist-ended-by : (n : ℕ) (texts : List (List ℕ)) (list : List Placed) (record_fault : Option (ℕ × Fault)) (text : List ℕ) → is_some record_fault ≡ true →
+    IsPlaylist n texts list record_fault → IsPlaylist n (texts ++ text ∷ []) list record_fault
+playlist-ended-by n texts list None text is p = absurd (false≢true is)
+playlist-ended-by n texts list (Some t) text is p = playlist-ended n texts list (Some t) t text refl p
 
-pub none_by : (torn : Option (ℕ × Fault)) → is_some torn ≡ false → torn ≡ None
+pub none_by : (record_fault : Option (ℕ × Fault)) → is_some record_fault ≡ false → record_fault ≡ None
 none_by None is = refl
 none_by (Some t) is = absurd (false≢true (sym is))
+
+-- what holds anyway holds under an Ok
+pub ok_anyway : {T E : Type 0} (r : Result T E) (P : Type 0) → P → OnOk r P
+ok_anyway (Ok x) P p = p
+ok_anyway (Err e) P p = tt
 
 -- ---- Captures as they are handed in
 
@@ -85,7 +90,7 @@ module _ (captures : List (Bor (List ℕ))) (n : ℕ) (d : Bor (List ℕ)) (belo
   pub as_many : length (map (λ c. c.now) (take n captures)) ≡ n
   as_many = length-map (take n captures) (λ c. c.now) ∙ (let e : length (take n captures) ≡ n = omega (arith, length-take n captures) in e)
 
-pub refuses_capture : (texts : List (List ℕ)) (n : ℕ) (text : List ℕ) (f : TapFault) → slice_get texts n ≡ Some text → HeadersStand (take n texts) →
+pub refuses_capture : (texts : List (List ℕ)) (n : ℕ) (text : List ℕ) (f : TapFault) → slice_get texts n ≡ Some text → NoHeaderIsRefused (take n texts) →
     (f ≡ faults.NoMemory) ⊎ ((fault : Fault) × (f ≡ faults.Capture n fault) × RefusesHeader text fault) → (f ≡ faults.NoMemory) ⊎ RefusesCapture texts f
 refuses_capture texts n text f here before (inl none) = inl none
 refuses_capture texts n text f here before (inr (fault, is, why)) = inr (subst (RefusesCapture texts) (sym is) (text, here, why, before))

@@ -4,27 +4,27 @@ use Rattle.bpfvm.specs.declared.insn.Insn.{Insn}
 use Rattle.listener.specs.declared.message.Message.{Message}
 use Rattle.listener.specs.Listening.{Listening, listening, Takes}
 use Rattle.listener.specs.PlainList.{Terms, PlainList, Request, Event, answer, answers, next, run, request_of, batch_in, batches, load}
-use Rattle.listener.specs.Laws.{AnswersAreFair}
+use Rattle.listener.specs.Laws.{AnswersAreRight}
 use Rattle.tap.specs.declared.answer.Answered.{Answered}
 use Rattle.tap.specs.Answers.{answer_in, answered, all_answered}
 use Rattle.tap.specs.Watching.{watch, with_answer, after, stepped, all_stepped}
 
 -- an answer as the code writes it
-pub told_as : (s : PlainList) (e : Event) (shut : Bool) (bytes many : ℕ) → shut ≡ s.closed → bytes ≡ load s → many ≡ s.held → record { closed = shut; load = bytes; held = many; answer = answer_in e } ≡ answered s e
-told_as s e shut bytes many closed loaded held = λ i. record { closed = closed i; load = loaded i; held = held i; answer = answer_in e }
+pub told_as : (s : PlainList) (e : Event) (shut : Bool) (bytes many : ℕ) → shut ≡ s.closed → bytes ≡ load s → many ≡ s.in_hold → record { closed = shut; load = bytes; in_hold = many; answer = answer_in e } ≡ answered s e
+told_as s e shut bytes many closed loaded in_hold = λ i. record { closed = closed i; load = loaded i; in_hold = in_hold i; answer = answer_in e }
 
 -- the one right answer is what the listener answers
-pub step_is : (law : AnswersAreFair) (old new : Listening) (bs : List (List Message)) (before : Option (List Answered)) (e : Event) (r : Request) →
+pub step_is : (law : AnswersAreRight) (old new : Listening) (bs : List (List Message)) (before : Option (List Answered)) (e : Event) (r : Request) →
     request_of e ≡ r → Takes old e new →
     watch new (bs ++ batch_in e) (with_answer (answered old.list e) before) ≡ stepped r (watch old bs before)
 unfolding stepped
 step_is law old new bs before e r is takes =
-    let same : e ≡ answer old.terms old.list r = (law old.terms old.list r).1 e is takes.steps.fair in
+    let same : e ≡ answer old.terms old.list r = (law old.terms old.list r).1 e is takes.steps.is_right in
     (λ i. watch (listening (takes.program i) (takes.snap i) (takes.terms i) (takes.steps.change i)) (bs ++ batch_in e) (with_answer (answered old.list e) before))
     ∙ ap (λ (f : Event). after f (watch old bs before)) same
 
 -- the same, where nothing was read
-pub step_without : (law : AnswersAreFair) (old new : Listening) (bs : List (List Message)) (before : Option (List Answered)) (e : Event) (r : Request) →
+pub step_without : (law : AnswersAreRight) (old new : Listening) (bs : List (List Message)) (before : Option (List Answered)) (e : Event) (r : Request) →
     request_of e ≡ r → batch_in e ≡ [] → Takes old e new →
     watch new bs (with_answer (answered old.list e) before) ≡ stepped r (watch old bs before)
 step_without law old new bs before e r is none takes =
@@ -32,12 +32,12 @@ step_without law old new bs before e r is none takes =
     ∙ step_is law old new bs before e r is takes
 
 -- the same, with the answer as the code writes it
-pub step_told : (law : AnswersAreFair) (old new : Listening) (bs : List (List Message)) (before after : Option (List Answered)) (told : Answered) (e : Event) (r : Request) →
-    request_of e ≡ r → batch_in e ≡ [] → (shut : Bool) (bytes many : ℕ) → shut ≡ old.list.closed → bytes ≡ load old.list → many ≡ old.list.held →
-    told ≡ record { closed = shut; load = bytes; held = many; answer = answer_in e } → Takes old e new → after ≡ with_answer told before →
+pub step_told : (law : AnswersAreRight) (old new : Listening) (bs : List (List Message)) (before after : Option (List Answered)) (told : Answered) (e : Event) (r : Request) →
+    request_of e ≡ r → batch_in e ≡ [] → (shut : Bool) (bytes many : ℕ) → shut ≡ old.list.closed → bytes ≡ load old.list → many ≡ old.list.in_hold →
+    told ≡ record { closed = shut; load = bytes; in_hold = many; answer = answer_in e } → Takes old e new → after ≡ with_answer told before →
     watch new bs after ≡ stepped r (watch old bs before)
-step_told law old new bs before after told e r is none shut bytes many closed loaded held same takes adds =
-    ap (watch new bs) (adds ∙ ap (λ (a : Answered). with_answer a before) (same ∙ told_as old.list e shut bytes many closed loaded held))
+step_told law old new bs before after told e r is none shut bytes many closed loaded in_hold same takes adds =
+    ap (watch new bs) (adds ∙ ap (λ (a : Answered). with_answer a before) (same ∙ told_as old.list e shut bytes many closed loaded in_hold))
     ∙ step_without law old new bs before e r is none takes
 
 -- the answers behind others

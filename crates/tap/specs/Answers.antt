@@ -26,7 +26,7 @@ answer_in closed = Closed
 
 -- the answer of an event, with how the listener stood before it: whether it was closed, the load and the number of held messages
 abbrev pub answered : PlainList → Event → Answered
-answered s e = record { closed = s.closed; load = load s; held = s.held; answer = answer_in e }
+answered s e = record { closed = s.closed; load = load s; in_hold = s.in_hold; answer = answer_in e }
 
 -- the same of each event, from a state on
 abbrev pub all_answered : PlainList → List Event → List Answered
@@ -41,8 +41,8 @@ pub record AreLegal (t : Terms) (steps : List Request) (answers : List Answered)
   pub told : answers ≡ all_answered empty events
 
 -- For each listener there are the legal answers to its own steps over the playlist.
-pub record Traces (captures : List (List ℕ)) (specs : List Spec) (steps : List Step) (playlist : List Placed) (torn : Option (ℕ × Fault)) (answers : List (List Answered)) : Type 0 where
-  pub of_captures : IsPlaylist 0 captures playlist torn
+pub record Traces (captures : List (List ℕ)) (specs : List Spec) (steps : List Step) (playlist : List Placed) (record_fault : Option (ℕ × Fault)) (answers : List (List Answered)) : Type 0 where
+  pub of_captures : IsPlaylist 0 captures playlist record_fault
   pub one_each : length answers ≡ length specs
   pub each : (l : ℕ) (spec : Spec) → slice_get specs l ≡ Some spec →
       (own_answers : List Answered) × (slice_get answers l ≡ Some own_answers)

@@ -10,8 +10,8 @@ use Rattle.tap.specs.declared.filters.Filter.TheVariants.{Text, Program}
 
 -- What an expression keeps of an arrival, as its tree means it: the packet cut to the snapshot length where the
 -- expression accepts it, else nothing.
-unfoldable pub kept_of : Tree → ℕ → Arrival → Option Message
-kept_of tree snap a = if accepts tree (packet_of a.packet.bytes a.packet.len) then Some (cut_to snap a) else None
+unfoldable pub kept_by_tree : Tree → ℕ → Arrival → Option Message
+kept_by_tree tree snap a = if accepts tree (packet_of a.packet.bytes a.packet.len) then Some (cut_to snap a) else None
 
 -- A text reads as this tree, and as no other one.
 pub record ReadsOnlyAs (text : List ℕ) (tree : Tree) : Type 0 where
@@ -22,4 +22,4 @@ pub record ReadsOnlyAs (text : List ℕ) (tree : Tree) : Type 0 where
 -- tree that it reads as accepts.
 abbrev pub FiltersAs : Filter → ℕ → (Arrival → Option Message) → Type 0
 FiltersAs (Program program) snap keeps = keeps ≡ kept_by program snap
-FiltersAs (Text text) snap keeps = (tree : Tree) × ReadsOnlyAs (string_bytes text) tree × (keeps ≡ kept_of tree snap)
+FiltersAs (Text text) snap keeps = (tree : Tree) × ReadsOnlyAs (string_bytes text) tree × (keeps ≡ kept_by_tree tree snap)

@@ -54,8 +54,8 @@ abbrev pub terms_of : Spec → Terms
 terms_of spec = terms spec.capacity spec.mode
 
 -- For each listener there is a report of its own steps over this playlist, which is that of the captures.
-pub record Replays (captures : List (List ℕ)) (specs : List Spec) (steps : List Step) (playlist : List Placed) (torn : Option (ℕ × Fault)) (reports : List Report) : Type 0 where
-  pub of_captures : IsPlaylist 0 captures playlist torn
+pub record Replays (captures : List (List ℕ)) (specs : List Spec) (steps : List Step) (playlist : List Placed) (record_fault : Option (ℕ × Fault)) (reports : List Report) : Type 0 where
+  pub of_captures : IsPlaylist 0 captures playlist record_fault
   pub one_each : length reports ≡ length specs
   pub each : (l : ℕ) (spec : Spec) → slice_get specs l ≡ Some spec →
       (report : Report) × (slice_get reports l ≡ Some report)

@@ -16,7 +16,7 @@ use Rattle.tap.specs.declared.filters.Filter.{Filter}
 use Rattle.tap.specs.declared.filters.Filter.TheVariants.{Text, Program}
 use Rattle.tap.specs.declared.step.Step.{Step}
 use Rattle.tap.specs.OwnSteps.{Names}
-use Rattle.tap.specs.Playlist.{HeadersStand}
+use Rattle.tap.specs.Playlist.{NoHeaderIsRefused}
 
 -- ---- The limits
 
@@ -41,7 +41,7 @@ pub record FirstMissing (n : ℕ) (steps : List Step) (place : ℕ) : Type 0 whe
 -- a capture's header is refused, and no header before it is
 abbrev pub RefusesCapture : List (List ℕ) → Fault → Type 0
 RefusesCapture texts (Capture n fault) =
-    (text : List ℕ) × (slice_get texts n ≡ Some text) × RefusesHeader text fault × HeadersStand (take n texts)
+    (text : List ℕ) × (slice_get texts n ≡ Some text) × RefusesHeader text fault × NoHeaderIsRefused (take n texts)
 RefusesCapture texts other = ⊥
 
 -- ---- Listeners
@@ -54,9 +54,9 @@ pub record IsExpression (text : List ℕ) : Type 0 where
 
 -- Nothing stands against a filter at this snapshot length: a program, or an expression, which wants a snapshot length
 -- that can be compiled and no more than the 16 words of scratch memory.
-abbrev pub FilterStands : Filter → ℕ → Type 0
-FilterStands (Program program) snap = Unit {0}
-FilterStands (Text text) snap =
+abbrev pub FilterIsRight : Filter → ℕ → Type 0
+FilterIsRight (Program program) snap = Unit {0}
+FilterIsRight (Text text) snap =
     (expression : IsExpression (string_bytes text)) × (IsBadSnap snap → ⊥) × (need expression.tree ≤ 16)
 
 -- Why a filter is refused: a text that is no expression, or one that isn't compiled. That an expression is too long for
@@ -75,17 +75,17 @@ RefusesFilter l filter snap other = ⊥
 -- why the l-th listener is refused: its filter, or else its snapshot length or capacity
 abbrev pub RefusesListener : ℕ → Spec → Fault → Type 0
 RefusesListener l spec (Open k unopened.NoMemory) = ⊥
-RefusesListener l spec (Open k fault) = (k ≡ l) × FilterStands spec.filter spec.snap × RefusesOpen spec.snap spec.capacity fault
+RefusesListener l spec (Open k fault) = (k ≡ l) × FilterIsRight spec.filter spec.snap × RefusesOpen spec.snap spec.capacity fault
 RefusesListener l spec other = RefusesFilter l spec.filter spec.snap other
 
 -- nothing stands against these listeners
-abbrev pub ListenersStand : List Spec → Type 0
-ListenersStand [] = Unit {0}
-ListenersStand (spec ∷ specs) = (FilterStands spec.filter spec.snap × InRange spec.snap spec.capacity) × ListenersStand specs
+abbrev pub ListenersAreRight : List Spec → Type 0
+ListenersAreRight [] = Unit {0}
+ListenersAreRight (spec ∷ specs) = (FilterIsRight spec.filter spec.snap × InRange spec.snap spec.capacity) × ListenersAreRight specs
 
 -- a listener is refused, and none before it is
 abbrev pub RefusesOne : List Spec → Fault → Type 0
-RefusesOne specs fault = (l : ℕ) × (spec : Spec) × (slice_get specs l ≡ Some spec) × RefusesListener l spec fault × ListenersStand (take l specs)
+RefusesOne specs fault = (l : ℕ) × (spec : Spec) × (slice_get specs l ≡ Some spec) × RefusesListener l spec fault × ListenersAreRight (take l specs)
 
 -- ---- The whole
 
@@ -98,11 +98,11 @@ IsFirst texts specs steps (Capture n fault) =
     (AreTooMany texts specs → ⊥) × AllName (length specs) steps × RefusesCapture texts (Capture n fault)
 IsFirst texts specs steps NoMemory = Unit {0}
 IsFirst texts specs steps fault =
-    (AreTooMany texts specs → ⊥) × AllName (length specs) steps × HeadersStand texts × RefusesOne specs fault
+    (AreTooMany texts specs → ⊥) × AllName (length specs) steps × NoHeaderIsRefused texts × RefusesOne specs fault
 
 -- no fault stands
 pub record NoneStands (texts : List (List ℕ)) (specs : List Spec) (steps : List Step) : Type 0 where
   pub number : AreTooMany texts specs → ⊥
   pub all_name : AllName (length specs) steps
-  pub headers : HeadersStand texts
-  pub listeners : ListenersStand specs
+  pub headers : NoHeaderIsRefused texts
+  pub listeners : ListenersAreRight specs

@@ -23,7 +23,7 @@ use Rattle.tap.specs.Filters.{ReadsOnlyAs}
 use Rattle.tap.specs.Headline.{read_in, held_in, terms_of}
 use Rattle.tap.specs.OwnSteps.{arrival_of}
 use Rattle.tap.specs.Playlist.{IsPlaylist}
-use Rattle.tap.specs.Refusals.{FilterStands}
+use Rattle.tap.specs.Refusals.{FilterIsRight}
 
 -- A listener, the batches that were read from it, and, where they are followed, its answers.
 pub record Watch : Type 0 where
@@ -101,7 +101,7 @@ no_answers traced = if traced then Some [] else None
 pub record Opened (traced : Bool) (spec : Spec) (w : Watch) : Type 0 where
   pub program : List Insn
   pub made : ProgramOf spec.filter spec.snap program
-  pub stands : FilterStands spec.filter spec.snap
+  pub stands : FilterIsRight spec.filter spec.snap
   pub range : InRange spec.snap spec.capacity
   pub is : w ≡ watch (listening program spec.snap (terms_of spec) empty) [] (no_answers traced)
 
@@ -111,8 +111,8 @@ AllPackets [] = Unit {0}
 AllPackets (p ∷ ps) = HasBytes (packet_of p.packet.bytes p.packet.len) × AllPackets ps
 
 -- What steps came to: the listeners as they were opened went through all steps, over the playlist of the captures.
-pub record ComesTo (traced : Bool) (captures : List (List ℕ)) (specs : List Spec) (steps : List Step) (playlist : List Placed) (torn : Option (ℕ × Fault)) (done : List Watch) : Type 0 where
-  pub of_captures : IsPlaylist 0 captures playlist torn
+pub record ComesTo (traced : Bool) (captures : List (List ℕ)) (specs : List Spec) (steps : List Step) (playlist : List Placed) (record_fault : Option (ℕ × Fault)) (done : List Watch) : Type 0 where
+  pub of_captures : IsPlaylist 0 captures playlist record_fault
   pub packets : AllPackets playlist
   pub began : List Watch
   pub opened : AllZip (Opened traced) specs began

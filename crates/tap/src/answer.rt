@@ -22,6 +22,6 @@ pub struct Answered {
     /// The bytes of the records in the store before the step.
     pub load: usize,
     /// The number of messages in the hold before the step.
-    pub held: usize,
+    pub in_hold: usize,
     pub answer: Answer,
 }

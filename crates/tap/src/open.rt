@@ -2,7 +2,7 @@
 
 ghost use Rattle.std.specs.Prelude.{◌≡◌, ◌≢◌, ◌≤◌, length, IfOk, IfErr, OnOk, ◌⊎◌};
 ghost use Rattle.std.specs.List.{AllZip};
-ghost use Rattle.tap.specs.Refusals.{FilterStands, RefusesFilter, RefusesListener, RefusesOne};
+ghost use Rattle.tap.specs.Refusals.{FilterIsRight, RefusesFilter, RefusesListener, RefusesOne};
 ghost use Rattle.tap.specs.Watching.{Opened, ProgramOf};
 ghost use Rattle.filterlang.specs.declared.fault.Fault.TheVariants as misread;
 ghost use Rattle.tap.specs.declared.fault.Fault.TheVariants.{NoMemory, Expression};
@@ -28,7 +28,7 @@ fn misread(l: u32, fault: filterlang::Fault) -> Fault
 /// The program of the l-th listener.
 fn program_of(alloc: Global, l: u32, spec: &Spec) -> Result<Program, Fault>
     ensures ok { IfOk result (ProgramOf spec.now.filter spec.now.snap) }
-    ensures stands { OnOk result (FilterStands spec.now.filter spec.now.snap) }
+    ensures stands { OnOk result (FilterIsRight spec.now.filter spec.now.snap) }
     ensures err { IfErr result (λ f. (f ≡ NoMemory) ⊎ RefusesFilter l spec.now.filter spec.now.snap f) }
 {
     match &spec.filter {

@@ -2,14 +2,14 @@
 
 ghost use Rattle.std.specs.Prelude.{◌≡◌, ◌++◌, ◌≤◌, ◌<◌, ℕ, List, [], ◌∷◌, map, length, IfOk, IfErr, OnOk, ◌⊎◌, option_map};
 ghost use Rattle.std.specs.List.{AllByRecursion};
-ghost use Rattle.savefile.specs.Savefile.{RefusesHeader};
-ghost use Rattle.tap.specs.Playlist.{IsPlaylist, HeadersStand, placed, Reads};
+ghost use Rattle.savefile.specs.Savefile.{RefusesHeader, IsCapture};
+ghost use Rattle.tap.specs.Playlist.{IsPlaylist, NoHeaderIsRefused, placed};
 ghost use Rattle.tap.specs.Refusals.{RefusesCapture};
 ghost use Rattle.tap.specs.Watching.{AllPackets};
 ghost use Rattle.tap.specs.declared.fault.Fault.TheVariants.{NoMemory, Capture};
 
 use crate::fault::Fault;
-use savefile::{Packet, read_all};
+use savefile::{Packet, header_of, read_all};
 use std::alloc::{AllocError, Global};
 
 /// A packet with the number of its capture and its place there, both from 0.
@@ -24,31 +24,29 @@ pub struct Placed {
 #[derive(Debug, Drop)]
 pub struct Playlist {
     pub arrivals: Vec<Placed>,
-    pub torn: Option<(u32, savefile::Fault)>,
+    pub record_fault: Option<(u32, savefile::Fault)>,
 }
 
 impl Playlist {
-    /// The packets of the next capture, where none before is torn.
-    fn add(
-        &mut self,
-        n: u32,
-        packets: Vec<Packet>,
-        fault: Option<savefile::Fault>,
-    ) -> Result<(), AllocError>
+    /// Reads the next capture. Behind one with a record fault only the header is looked at: it gives no packets.
+    fn read_next(&mut self, alloc: Global, n: u32, text: &[u8]) -> Result<(), Fault>
         ensures packets { OnOk result (AllPackets self.old.arrivals.items → AllPackets self.new.arrivals.items) }
-        ensures more { OnOk result ((texts : List (List ℕ)) (text : List ℕ) → length texts ≡ n → IsPlaylist 0 texts self.old.arrivals.items self.old.torn →
-            Reads text packets.items fault → IsPlaylist 0 (texts ++ text ∷ []) self.new.arrivals.items self.new.torn) }
+        ensures more { OnOk result ((texts : List (List ℕ)) → length texts ≡ n → IsPlaylist 0 texts self.old.arrivals.items self.old.record_fault →
+            IsPlaylist 0 (texts ++ text.now ∷ []) self.new.arrivals.items self.new.record_fault) }
+        ensures stands { OnOk result ((fault : _) → RefusesHeader text.now fault → ⊥) }
+        ensures err { IfErr result (λ f. (f ≡ NoMemory) ⊎ ((fault : _) × (f ≡ Capture n fault) × RefusesHeader text.now fault)) }
     {
-        if self.torn.is_some() {
-            return Ok(());
+        if self.record_fault.is_some() {
+            return look_at_header(n, text);
         }
+        let (packets, fault) = read_one(alloc, n, text)?;
         place(&mut self.arrivals, n, packets)?;
-        self.torn = torn_at(n, fault);
+        self.record_fault = record_fault_at(n, fault);
         Ok(())
     }
 }
 
-fn torn_at(n: u32, fault: Option<savefile::Fault>) -> Option<(u32, savefile::Fault)>
+fn record_fault_at(n: u32, fault: Option<savefile::Fault>) -> Option<(u32, savefile::Fault)>
     ensures { result ≡ option_map (λ f. (n, f)) fault }
 {
     match fault {
@@ -86,7 +84,7 @@ fn read_one(
     n: u32,
     text: &[u8],
 ) -> Result<(Vec<Packet>, Option<savefile::Fault>), Fault>
-    ensures reads { IfOk result (λ r. Reads text.now r.0.items r.1) }
+    ensures reads { IfOk result (λ r. IsCapture text.now r.0.items r.1) }
     ensures stands { OnOk result ((fault : _) → RefusesHeader text.now fault → ⊥) }
     ensures err { IfErr result (λ f. (f ≡ NoMemory) ⊎ ((fault : _) × (f ≡ Capture n fault) × RefusesHeader text.now fault)) }
 {
@@ -97,21 +95,31 @@ fn read_one(
     }
 }
 
-/// Reads all captures. Those behind a torn one give no packets, but their headers count.
+/// Looks at the header of a capture, and takes no memory.
+fn look_at_header(n: u32, text: &[u8]) -> Result<(), Fault>
+    ensures stands { OnOk result ((fault : _) → RefusesHeader text.now fault → ⊥) }
+    ensures err { IfErr result (λ f. (fault : _) × (f ≡ Capture n fault) × RefusesHeader text.now fault) }
+{
+    match header_of(text) {
+        Ok(_header) => Ok(()),
+        Err(fault) => Err(Fault::Capture(n, fault)),
+    }
+}
+
+/// Reads all captures. Those behind one with a record fault give no packets, but their headers count.
 pub fn read_playlist(alloc: Global, captures: &[&[u8]]) -> Result<Playlist, Fault>
     requires { length captures.now ≤ 65536 }
-    ensures ok { IfOk result (λ p. IsPlaylist 0 (map (λ c. c.now) captures.now) p.arrivals.items p.torn) }
+    ensures ok { IfOk result (λ p. IsPlaylist 0 (map (λ c. c.now) captures.now) p.arrivals.items p.record_fault) }
     ensures packets { IfOk result (λ p. AllPackets p.arrivals.items) }
-    ensures stand { OnOk result (HeadersStand (map (λ c. c.now) captures.now)) }
+    ensures stand { OnOk result (NoHeaderIsRefused (map (λ c. c.now) captures.now)) }
     ensures err { IfErr result (λ f. (f ≡ NoMemory) ⊎ RefusesCapture (map (λ c. c.now) captures.now) f) }
 {
     let mut playlist = Playlist {
         arrivals: Vec::new(alloc),
-        torn: None,
+        record_fault: None,
     };
     for (n, text) in captures.iter().enumerate() {
-        let (packets, fault) = read_one(alloc, n as u32, text)?;
-        playlist.add(n as u32, packets, fault)?;
+        playlist.read_next(alloc, n as u32, text)?;
     }
     Ok(playlist)
 }

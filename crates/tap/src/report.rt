@@ -30,5 +30,5 @@ pub struct Trace {
     /// The packets of the captures, in order: the first arrival takes the first, and so on.
     pub playlist: Vec<Placed>,
     /// The first capture that ended with a record fault, and that fault.
-    pub torn: Option<(u32, savefile::Fault)>,
+    pub record_fault: Option<(u32, savefile::Fault)>,
 }

@@ -41,7 +41,7 @@ fn play_all(
     steps: &[Step],
     traced: bool,
 ) -> Result<Outcome, Fault>
-    ensures ok { IfOk result (λ o. ComesTo traced (map (λ c. c.now) captures.now) specs.now steps.now o.playlist.arrivals.items o.playlist.torn o.watched.items) }
+    ensures ok { IfOk result (λ o. ComesTo traced (map (λ c. c.now) captures.now) specs.now steps.now o.playlist.arrivals.items o.playlist.record_fault o.watched.items) }
     ensures stands { OnOk result (NoneStands (map (λ c. c.now) captures.now) specs.now steps.now) }
     ensures first { IfErr result (IsFirst (map (λ c. c.now) captures.now) specs.now steps.now) }
 {
@@ -123,7 +123,7 @@ pub fn replay(
     listener::laws::fitting();
     let Outcome { playlist, watched } = play_all(alloc, captures, specs, steps, false)?;
     let reports = report_all(alloc, watched)?;
-    Ok((reports, playlist.torn))
+    Ok((reports, playlist.record_fault))
 }
 
 /// Replays captures as [`replay`] does, with the same reports and faults, and also tells what each listener answered to
@@ -138,9 +138,9 @@ pub fn trace(
     steps: &[Step],
 ) -> Result<Trace, Fault>
     // The headline, over the playlist that is told.
-    ensures tells { IfOk result (λ r. Replays (map (λ c. c.now) captures.now) specs.now steps.now r.playlist.items r.torn r.reports.items) }
+    ensures tells { IfOk result (λ r. Replays (map (λ c. c.now) captures.now) specs.now steps.now r.playlist.items r.record_fault r.reports.items) }
     // The answers, over the same playlist.
-    ensures answers { IfOk result (λ r. Traces (map (λ c. c.now) captures.now) specs.now steps.now r.playlist.items r.torn (map (λ a. a.items) r.answers.items)) }
+    ensures answers { IfOk result (λ r. Traces (map (λ c. c.now) captures.now) specs.now steps.now r.playlist.items r.record_fault (map (λ a. a.items) r.answers.items)) }
     // No fault stands where there are reports, and each fault is the first that stands.
     ensures stands { OnOk result (NoneStands (map (λ c. c.now) captures.now) specs.now steps.now) }
     ensures first { IfErr result (IsFirst (map (λ c. c.now) captures.now) specs.now steps.now) }
@@ -154,6 +154,6 @@ pub fn trace(
         reports,
         answers,
         playlist: playlist.arrivals,
-        torn: playlist.torn,
+        record_fault: playlist.record_fault,
     })
 }

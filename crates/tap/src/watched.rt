@@ -41,33 +41,33 @@ impl Model for Watched {
 
 /// How a listener stands before a step.
 #[derive(Clone, Copy)]
-struct Standing {
+struct Before {
     closed: bool,
     load: usize,
-    held: usize,
+    in_hold: usize,
 }
 
-impl Standing {
-    fn of(listener: &Listener, closed: bool) -> Standing
+impl Before {
+    fn of(listener: &Listener, closed: bool) -> Before
         ensures closed { result.closed ≡ closed }
         ensures load { result.load ≡ load listener.now.list }
-        ensures held { result.held ≡ listener.now.list.held }
+        ensures held { result.in_hold ≡ listener.now.list.in_hold }
     {
         let (hold, store) = listener.buffers();
-        Standing {
+        Before {
             closed,
             load: store.bytes().len(),
-            held: hold.len(),
+            in_hold: hold.len(),
         }
     }
 
     fn answered(self, answer: Answer) -> Answered
-        ensures { result ≡ record { closed = self.closed; load = self.load; held = self.held; answer = answer } }
+        ensures { result ≡ record { closed = self.closed; load = self.load; in_hold = self.in_hold; answer = answer } }
     {
         Answered {
             closed: self.closed,
             load: self.load,
-            held: self.held,
+            in_hold: self.in_hold,
             answer,
         }
     }
@@ -105,7 +105,7 @@ impl Watched {
         ensures err { IfErr result (λ f. f ≡ NoMemory) }
     {
         listener::laws::answers();
-        let before = Standing::of(&self.listener, self.closed);
+        let before = Before::of(&self.listener, self.closed);
         let packet = placed.packet.as_ref();
         let fed = self.listener.arrive(placed.capture, placed.place, &packet);
         follow(&mut self.answers, before.answered(Answer::Arrived(fed)))?;
@@ -117,7 +117,7 @@ impl Watched {
         ensures err { IfErr result (λ f. f ≡ NoMemory) }
     {
         listener::laws::answers();
-        let before = Standing::of(&self.listener, self.closed);
+        let before = Before::of(&self.listener, self.closed);
         let full = self.listener.flush();
         follow(&mut self.answers, before.answered(Answer::Flushed(full)))?;
         Ok(())
@@ -128,7 +128,7 @@ impl Watched {
         ensures err { IfErr result (λ f. f ≡ NoMemory) }
     {
         listener::laws::answers();
-        let before = Standing::of(&self.listener, self.closed);
+        let before = Before::of(&self.listener, self.closed);
         self.listener.close();
         self.closed = true;
         follow(&mut self.answers, before.answered(Answer::Closed))?;
@@ -157,7 +157,7 @@ impl Watched {
     {
         listener::laws::answers();
         let empty = self.empty_buffer(alloc)?;
-        let before = Standing::of(&self.listener, self.closed);
+        let before = Before::of(&self.listener, self.closed);
         match self.listener.read(empty) {
             Read::Full(mut full) => {
                 let mut batch = Vec::with_capacity(alloc, full.len())?;

@@ -305,8 +305,7 @@ fn an_output_that_breaks_is_a_device_fault(rt: HostRuntime) -> Result<(), Fail> 
 /// What `cut -s 40 -e` writes of a capture.
 fn cut_by<R: Abort + AllocGlobal>(rt: &R, expr: &str, text: &[u8]) -> Vec<u8> {
     let alloc = rt.alloc();
-    let mut err: Vec<u8> = Vec::new(alloc);
-    let program = filter(alloc, None, Some(expr), 40, &mut err).expect(rt, "it compiles");
+    let program = filter(alloc, None, Some(expr), 40).expect(rt, "it compiles");
     let to = Counted::new(Vec::new(alloc));
     let end = cut(alloc, text, &program, 40, Order::Little, Unit::Micro, to);
     assert_eq!(rt; end.end, End::Clean);

@@ -3,7 +3,7 @@
 ghost use Rattle.std.specs.Prelude.{◌≡◌, ◌≤◌, ◌<◌, ◌==◌, List, ℕ, Some, length, take, IfSome, IfNone};
 ghost use Rattle.std.specs.List.{prefix_len, slice_split};
 ghost use Rattle.filterlang.specs.Numbers.{is_in_run, numeral, octet, octets, at_most, number_of, dotted_of, ethernet_of, number_or_dotted_at, ethernet_at};
-ghost use Rattle.filterlang.specs.Finding.{HasBytes};
+ghost use Rattle.filterlang.specs.Finding.{IsLengthWithin};
 
 use crate::token::{EthernetAddress, Kind, Parts};
 
@@ -113,7 +113,7 @@ fn ethernet_of(run: &[u8]) -> Option<Kind>
 #[tactic(auto, unfolding(crate::specs::Numbers::number_or_dotted_at), using(crate::proofs::Within::number_within))]
 pub(crate) fn number_or_dotted_at(text: &[u8]) -> Option<(Kind, usize)>
     ensures value { result ≡ number_or_dotted_at text.now }
-    ensures within { IfSome result (λ token. HasBytes token.1 (length text.now)) }
+    ensures within { IfSome result (λ token. IsLengthWithin token.1 (length text.now)) }
 {
     let length = run_length(text, b'.');
     let run = &text[..length];
@@ -129,7 +129,7 @@ pub(crate) fn number_or_dotted_at(text: &[u8]) -> Option<(Kind, usize)>
 #[tactic(auto, unfolding(crate::specs::Numbers::ethernet_at), using(crate::proofs::Within::ethernet_within))]
 pub(crate) fn ethernet_at(text: &[u8]) -> Option<(Kind, usize)>
     ensures value { result ≡ ethernet_at text.now }
-    ensures within { IfSome result (λ token. HasBytes token.1 (length text.now)) }
+    ensures within { IfSome result (λ token. IsLengthWithin token.1 (length text.now)) }
 {
     // A longer run is no address, whatever its length, so that no more of it is looked at.
     let front = &text[..text.len().min(MAX_ETHERNET + 1)];

@@ -2,7 +2,7 @@
 
 ghost use Rattle.std.specs.Prelude.{◌≡◌, length, IfSome};
 ghost use Rattle.filterlang.specs.Words.{words, names, signs, stands, stands_whole, whole_word, standing};
-ghost use Rattle.filterlang.specs.Finding.{HasBytes, first_of};
+ghost use Rattle.filterlang.specs.Finding.{IsLengthWithin, first_of};
 
 use crate::token::{Comparison, Joint, Kind, Operator, Protocol, Side, TypeWord};
 
@@ -116,7 +116,7 @@ fn standing(table: &[(&[u8], Kind)], text: &[u8]) -> Option<(Kind, usize)>
 /// The word at the front of the text, the longest that stands whole there, and how many bytes it has.
 pub(crate) fn word_at(text: &[u8]) -> Option<(Kind, usize)>
     ensures value { result ≡ whole_word words text.now }
-    ensures within { IfSome result (λ word. HasBytes word.1 (length text.now)) }
+    ensures within { IfSome result (λ word. IsLengthWithin word.1 (length text.now)) }
 {
     whole_word(WORDS.as_slice(), text)
 }
@@ -124,7 +124,7 @@ pub(crate) fn word_at(text: &[u8]) -> Option<(Kind, usize)>
 /// The name at the front of the text, and how many bytes it has. A backslash stands before it.
 pub(crate) fn name_at(text: &[u8]) -> Option<(Kind, usize)>
     ensures value { result ≡ whole_word names text.now }
-    ensures within { IfSome result (λ name. HasBytes name.1 (length text.now)) }
+    ensures within { IfSome result (λ name. IsLengthWithin name.1 (length text.now)) }
 {
     whole_word(NAMES.as_slice(), text)
 }
@@ -132,7 +132,7 @@ pub(crate) fn name_at(text: &[u8]) -> Option<(Kind, usize)>
 /// The longest sign at the front of the text, and how many bytes it has.
 pub(crate) fn sign_at(text: &[u8]) -> Option<(Kind, usize)>
     ensures value { result ≡ standing signs text.now }
-    ensures within { IfSome result (λ sign. HasBytes sign.1 (length text.now)) }
+    ensures within { IfSome result (λ sign. IsLengthWithin sign.1 (length text.now)) }
 {
     standing(SIGNS.as_slice(), text)
 }

@@ -11,7 +11,7 @@ use std::time::{Clock, Duration};
 const MOST_TURNS: u32 = 20_000;
 
 /// How many buffers go round.
-const SPARES: usize = 4;
+const SPARES: usize = 16;
 
 /// Takes everything, but holds each write behind the header until as many batches were read as buffers go round.
 #[derive(Drop)]
@@ -109,7 +109,7 @@ fn as_many_batches_are_read_ahead_as_buffers_go_round(rt: HostRuntime) -> Result
     // Room for one packet in each buffer.
     let mut one = task(keeping_all()?, 64, 96, sink);
     one.spares = SPARES;
-    let reports = run(&rt, alloc, crowded(alloc, 60, one)?, &gate)?;
+    let reports = run(&rt, alloc, crowded(alloc, 200, one)?, &gate)?;
     let report = at(&rt, reports.as_slice(), 0);
     let one = at(&rt, report.listeners.as_slice(), 0);
     assert_eq!(rt; one.end, TaskEnd::Clean);

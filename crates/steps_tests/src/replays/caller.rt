@@ -19,7 +19,7 @@ fn lost(alloc: Global, capture: &[u8], bursts: u32) -> Result<u64, Fault> {
         steps.extend_from_slice(&[Step::Arrive; 4])?;
         steps.push(Step::Read(0))?;
     }
-    let (reports, _torn) = replay(alloc, &[capture], &specs, steps.as_slice())?;
+    let (reports, _record_fault) = replay(alloc, &[capture], &specs, steps.as_slice())?;
     match reports.first() {
         Some(report) => Ok(report.dropped),
         None => Ok(0),

@@ -1,7 +1,6 @@
 use Rattle.std.proofs.Common.{◌∙◌, ◌++◌, ◌∷◌, [], inl, inr, sym, ap, subst, refl, List, Err}
 use Rattle.std.proofs.KnownBytes.{Consumes-nil, Consumes-trans}
 use Rattle.savefile.specs.declared.packet.Packet.{Packet}
-use Rattle.savefile.specs.Reader.{packet_lent}
 use Rattle.savefile.specs.Writer.{HasWritten}
 use Rattle.cutting.specs.Copying.{Wrote}
 use Rattle.cutting.specs.Cut.{accepted}
@@ -26,7 +25,7 @@ loop-reader-preserved g c = record {
   copies = λ from header to order unit head given written.
       let program = c.args.program.now in
       let (packets, gives, wrote) = c.loop-reader.invariant.copies from header to order unit head given written in
-      let p = packet_lent c.advance.new.self in (
+      let p = c.advance.new.self.lent in (
         packets ++ p ∷ [],
         c.in-Ok-true.ensures.packet from header packets gives (cc),
         subst (λ (ps : List Packet). HasWritten g.W.Sink.taken to order unit head ps c.put_one.new.writer)
@@ -45,7 +44,7 @@ pub returns-in-Err-put_one-clause-copies : goal.returns-in-Err-put_one-clause-co
 returns-in-Err-put_one-clause-copies g c = λ from header to order unit head given written.
     let program = c.args.program.now in
     let (packets, gives, wrote) = c.loop-reader.invariant.copies from header to order unit head given written in
-    let p = packet_lent c.advance.new.self in (
+    let p = c.advance.new.self.lent in (
       packets ++ p ∷ [],
       c.given_so_far.ensures from header (packets ++ p ∷ []) (c.in-Ok-true.ensures.packet from header packets gives (cc)),
       subst (λ (ps : List Packet). Wrote g.W.Sink.taken to order unit head ps (Err c.in-Err-put_one.fault) c.put_one.new.writer)

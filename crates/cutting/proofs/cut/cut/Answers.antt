@@ -1,7 +1,6 @@
 use Rattle.std.proofs.Common.{◌++◌, sym, subst}
 use Rattle.std.proofs.KnownBytes.{Consumes-trans}
 use Rattle.std.specs.Io.KnownBytes.{Consumes}
-use Rattle.savefile.specs.Reader.{header_told, source_of}
 use Rattle.cutting.proofs.Outcomes.{copied-outcome, unread-outcome}
 use Rattle.cutting.proofs.cut.cut.Goals as goal
 
@@ -17,11 +16,11 @@ returns-clause-cuts g c =
     let left = g.R.Source.left in
     let reader = c.in-Ok.reader in
     let behind = c.write_accepted-sink.new.reader in
-    let (writer, is, counts, copied) = c.write_accepted-sink.ensures.writes (left c.args.from) (header_told reader) c.in-Ok.ensures.ok in
+    let (writer, is, counts, copied) = c.write_accepted-sink.ensures.writes (left c.args.from) reader.header c.in-Ok.ensures.ok in
     let (first, opened) = c.in-Ok.ensures.taken in
     let (further, went) = c.write_accepted-sink.ensures.taken in
     let (text, told, given, gave, sent, took, outcome) =
-    copied-outcome g.W.Sink.taken (left c.args.from) (left (source_of behind)) (header_told reader) c.args.to c.write_accepted-sink.result.0 c.write_accepted-sink.result.1 c.args.program.now c.args.snap c.args.order c.args.unit c.write_accepted-sink.result.2 writer
+    copied-outcome g.W.Sink.taken (left c.args.from) (left behind.source) reader.header c.args.to c.write_accepted-sink.result.0 c.write_accepted-sink.result.1 c.args.program.now c.args.snap c.args.order c.args.unit c.write_accepted-sink.result.2 writer
     c.growing_text.ensures.begins is counts (first ++ further, Consumes-trans _ _ _ first further opened went) copied in
     record {
       text = text;

@@ -1,6 +1,6 @@
 use Rattle.std.proofs.Common.{◌≡◌, [], arith, sym, ap, ◌∙◌, subst}
 use Rattle.listener.specs.Buffers.{filled}
-use Rattle.handover.specs.Ends.{FeedingEnded, Counted, pair_lists}
+use Rattle.handover.specs.Ends.{FeedingEnded, AreCountsOfCalls, pair_lists}
 use Rattle.handover.specs.Own.{store_of}
 use Rattle.handover.specs.Rule.{witness}
 use Rattle.handover.proofs.Steps.{joins, copies}
@@ -71,7 +71,7 @@ returns-clause-counts c =
     let w = c.drain.inside.seat.me.0 in
     let e = ends_as v w _ _ _ _ _ _ c.feeder.view_is c.drain.view_is
     (ends_well _ _ v w _ _ _ c.take-hold.result (ap (λ m. m.0) (c.split_seat-witness.ensures.2 ∙ c.join_seat.ensures.2)) c.feeder.invariant.0.calm c.drain.invariant.calm c.close_with-closed.ensures.values.2 c.take-hold.ensures.value) in
-    let counted = subst (λ (f : FeedingEnded). Counted c.feeder.inside.counts f.feeds) c.feeder.view_is c.feeder.invariant.1 in
+    let counted = subst (λ (f : FeedingEnded). AreCountsOfCalls c.feeder.inside.counts f.feeds) c.feeder.view_is c.feeder.invariant.1 in
     (ends_counted _ _ _ _ _ e.0 counted, counted)
 
 pub returns-clause-whole : goal.returns-clause-whole
@@ -81,5 +81,5 @@ returns-clause-whole c =
     let e = ends_as v w _ _ _ _ _ _ c.feeder.view_is c.drain.view_is
     (ends_well _ _ v w _ _ _ c.take-hold.result (ap (λ m. m.0) (c.split_seat-witness.ensures.2 ∙ c.join_seat.ensures.2)) c.feeder.invariant.0.calm c.drain.invariant.calm c.close_with-closed.ensures.values.2 c.take-hold.ensures.value) in
     let rest = ends_rest _ _ _ _ _ e.0 (subst (λ (f : FeedingEnded). c.feeder.inside.stand.store ≡ filled f.profile.capacity (store_of f.feeds)) c.feeder.view_is c.feeder.invariant.0.store) in
-    let counted = subst (λ (f : FeedingEnded). Counted c.feeder.inside.counts f.feeds) c.feeder.view_is c.feeder.invariant.1 in
+    let counted = subst (λ (f : FeedingEnded). AreCountsOfCalls c.feeder.inside.counts f.feeds) c.feeder.view_is c.feeder.invariant.1 in
     ends_whole _ _ _ c.take-hold.result c.feeder.inside.stand.store c.feeder.inside.counts e.0 rest counted

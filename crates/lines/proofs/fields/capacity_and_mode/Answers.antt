@@ -1,6 +1,7 @@
 use Rattle.std.proofs.Common.{◌≡◌, ◌++◌, rules}
 use Rattle.std.specs.Prelude.{codes}
-use Rattle.lines.proofs.Capacities.{if_none, no-immediate}
+use Rattle.lines.proofs.Capacities.{no-immediate}
+use Rattle.lines.proofs.Cuts.{if_none}
 use Rattle.lines.proofs.fields.capacity_and_mode.Goals as goal
 
 pub returns-in_err-number-clause-none : goal.returns-in_err-number-clause-none

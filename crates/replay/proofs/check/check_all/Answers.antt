@@ -2,7 +2,7 @@ use Rattle.std.proofs.Common.{All, refl, subst}
 use Rattle.std.proofs.lemmas.List.Elements.{All-more}
 use Rattle.std.proofs.lemmas.Option.{slice_get_read}
 use Rattle.std.proofs.lemmas.Result.{err_from_is_err_and}
-use Rattle.replay.specs.Refusals.{InterfaceStands, RefusesTasks, TaskStands}
+use Rattle.replay.specs.Refusals.{InterfaceIsRight, RefusesTasks, TaskIsRight}
 use Rattle.replay.proofs.Lists.{all-taken}
 use Rattle.replay.proofs.Refused.{first-of-one}
 use Rattle.replay.proofs.check.check_all.Goals as goal
@@ -19,12 +19,12 @@ returns-in_err-check_tasks-clause-first g c =
 pub loop-i-preserved : goal.loop-i-preserved
 loop-i-preserved g c = (
   c.loop-i.invariant.0,
-  All-more InterfaceStands c.args.interfaces.now c.loop-i.i c.index-interfaces-i.result c.loop-i-test.true c.loop-i.invariant.1
-      (subst InterfaceStands c.index-interfaces-i.is (subst (λ ts. All TaskStands ts) c.as_slice.ensures.value c.in_ok-check_tasks.ensures.stand)),
+  All-more InterfaceIsRight c.args.interfaces.now c.loop-i.i c.index-interfaces-i.result c.loop-i-test.true c.loop-i.invariant.1
+      (subst InterfaceIsRight c.index-interfaces-i.is (subst (λ ts. All TaskIsRight ts) c.as_slice.ensures.value c.in_ok-check_tasks.ensures.stand)),
 )
 
 pub returns-clause-stand : goal.returns-clause-stand
 returns-clause-stand g c = record {
   number = c.loop-i.invariant.0;
-  tasks = all-taken InterfaceStands c.args.interfaces.now c.loop-i.i c.loop-i-test.false c.loop-i.invariant.1;
+  tasks = all-taken InterfaceIsRight c.args.interfaces.now c.loop-i.i c.loop-i-test.false c.loop-i.invariant.1;
 }

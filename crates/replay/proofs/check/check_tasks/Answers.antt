@@ -1,7 +1,7 @@
 use Rattle.std.proofs.Common.{refl, subst}
 use Rattle.std.proofs.lemmas.List.Elements.{All-more}
 use Rattle.std.proofs.lemmas.Option.{slice_get_read}
-use Rattle.replay.specs.Refusals.{TaskStands}
+use Rattle.replay.specs.Refusals.{TaskIsRight}
 use Rattle.replay.proofs.Lists.{all-taken}
 use Rattle.replay.proofs.check.check_tasks.Goals as goal
 
@@ -16,8 +16,8 @@ returns-in-Err-clause-refuses g c = (
 
 pub loop-k-preserved : goal.loop-k-preserved
 loop-k-preserved g c =
-    All-more TaskStands c.args.tasks.now c.loop-k.k c.index-tasks-k.result c.loop-k-test.true c.loop-k.invariant
-    (subst TaskStands c.index-tasks-k.is c.in_default.ensures.stands)
+    All-more TaskIsRight c.args.tasks.now c.loop-k.k c.index-tasks-k.result c.loop-k-test.true c.loop-k.invariant
+    (subst TaskIsRight c.index-tasks-k.is c.in_default.ensures.stands)
 
 pub returns-clause-stand : goal.returns-clause-stand
-returns-clause-stand g c = all-taken TaskStands c.args.tasks.now c.loop-k.k c.loop-k-test.false c.loop-k.invariant
+returns-clause-stand g c = all-taken TaskIsRight c.args.tasks.now c.loop-k.k c.loop-k-test.false c.loop-k.invariant

@@ -4,15 +4,15 @@ use Rattle.replay.specs.Lines.{ended_all, fed_all, line_of}
 use Rattle.replay.proofs.Fresh.{fresh-fed}
 use Rattle.replay.proofs.playing.play_out.Goals as goal
 
-pub replay_all-sources-requires-clause-so_far : goal.replay_all-sources-requires-clause-so_far
-replay_all-sources-requires-clause-so_far g c = (map line_of c.args.inlets.items, [], (refl, fresh-fed (map line_of c.args.inlets.items) c.requires.fresh))
+pub give_captures-sources-requires-clause-so_far : goal.give_captures-sources-requires-clause-so_far
+give_captures-sources-requires-clause-so_far g c = (map line_of c.args.inlets.items, [], (refl, fresh-fed (map line_of c.args.inlets.items) c.requires.fresh))
 
 pub end_all-ends-requires : goal.end_all-ends-requires
 end_all-ends-requires g c =
     let starts = map line_of c.args.inlets.items in
-    let (playlist, timely, arrived, plays) = c.replay_all-sources.ensures starts (refl, fresh-fed starts c.requires.fresh) in
+    let (playlist, timely, arrived, plays) = c.give_captures-sources.ensures starts (refl, fresh-fed starts c.requires.fresh) in
     let same = ap length arrived.1 in
-    let a = length-map c.replay_all-sources.new.self.inlets.items line_of in
+    let a = length-map c.give_captures-sources.new.self.inlets.items line_of in
     let b = length-map starts (fed_all playlist) in
     let d = length-map c.args.inlets.items line_of in
     let room = c.requires.room.1 in record { room = (c.requires.room.0, omega (arith, same, a, b, d, room)) }
@@ -20,7 +20,7 @@ end_all-ends-requires g c =
 pub returns : goal.returns
 returns g c =
     let starts = map line_of c.args.inlets.items in
-    let (playlist, timely, arrived, plays) = c.replay_all-sources.ensures starts (refl, fresh-fed starts c.requires.fresh) in record {
+    let (playlist, timely, arrived, plays) = c.give_captures-sources.ensures starts (refl, fresh-fed starts c.requires.fresh) in record {
       playlist = playlist;
       timely = timely;
       plays = plays;

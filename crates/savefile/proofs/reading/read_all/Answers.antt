@@ -1,7 +1,6 @@
 use Rattle.std.proofs.Common.{◌≡◌, inl, inr, None, Some, Err, refl, sym, ap, subst, ◌∙◌, arith}
 use Rattle.std.proofs.lemmas.List.Elements.{All-push}
 use Rattle.std.proofs.lemmas.Result.{err_from_is_err_and}
-use Rattle.savefile.specs.Reader.{packet_lent}
 use Rattle.savefile.specs.Savefile.{IsWritable, RefusesHeader}
 use Rattle.savefile.proofs.Given.{holds_told}
 use Rattle.savefile.proofs.Headers.{one_fault, refused_is_none}
@@ -29,10 +28,10 @@ returns-in-Err-clause-only c = elim c.in-Err.ensures.refused [
 pub loop-packets-preserved : goal.loop-packets-preserved
 loop-packets-preserved c =
     let told = c.in-Ok-true.ensures in
-    let is : c.in_ok-to_packet-in-Ok-true.field-0 ≡ packet_lent c.advance.new.self = c.in_ok-to_packet-in-Ok-true.ensures ∙ c.packet.ensures in
+    let is : c.in_ok-to_packet-in-Ok-true.field-0 ≡ c.advance.new.self.lent = c.in_ok-to_packet-in-Ok-true.ensures ∙ c.packet.ensures in
     record {
       given = rw (c.in_ok-push-in-Ok-true.ensures.items, is) (told.packet (Some c.args.text.now) c.header-header.result c.loop-packets.packets.items c.loop-packets.invariant.given (cc));
-      writable = rw (c.in_ok-push-in-Ok-true.ensures.items, is) (All-push IsWritable c.loop-packets.packets.items (packet_lent c.advance.new.self) c.loop-packets.invariant.writable (told.writable (cc)));
+      writable = rw (c.in_ok-push-in-Ok-true.ensures.items, is) (All-push IsWritable c.loop-packets.packets.items c.advance.new.self.lent c.loop-packets.invariant.writable (told.writable (cc)));
     }
 
 pub returns-in_err-to_packet-in-Ok-true-clause-refused : goal.returns-in_err-to_packet-in-Ok-true-clause-refused

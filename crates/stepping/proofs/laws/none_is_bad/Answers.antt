@@ -1,6 +1,6 @@
 use Rattle.stepping.specs.Listeners.{IsListenerLine}
 use Rattle.stepping.specs.Script.{IsStepLine}
-use Rattle.stepping.proofs.Reading.{none_bad}
+use Rattle.lines.proofs.Reading.{none_bad}
 use Rattle.stepping.proofs.laws.none_is_bad.Goals as goal
 
 pub returns-clause-listeners : goal.returns-clause-listeners

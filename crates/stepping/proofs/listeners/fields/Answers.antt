@@ -1,4 +1,4 @@
-use Rattle.stepping.proofs.Cuts.{if_none}
+use Rattle.lines.proofs.Cuts.{if_none}
 use Rattle.stepping.proofs.Fielded.{HasNoFields, one_word}
 use Rattle.stepping.proofs.listeners.fields.Goals as goal
 

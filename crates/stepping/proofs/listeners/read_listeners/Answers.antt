@@ -1,7 +1,7 @@
 use Rattle.std.proofs.Common.{◌≡◌, ◌≢◌, ◌+◌, [], length, rules, sym, ap, subst}
 use Rattle.lines.specs.Files.{IsFirstBad}
 use Rattle.stepping.specs.Listeners.{IsListenerLine}
-use Rattle.stepping.proofs.Reading.{IsRead-more, IsRead-bad}
+use Rattle.lines.proofs.Reading.{IsRead-more, IsRead-bad}
 use Rattle.stepping.proofs.listeners.read_listeners.Goals as goal
 
 pub returns-in-None-clause-fault : goal.returns-in-None-clause-fault

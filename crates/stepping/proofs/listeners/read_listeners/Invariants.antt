@@ -1,7 +1,7 @@
 use Rattle.std.proofs.Common.{length}
 use Rattle.bpfvm.specs.Listing.{further_lines}
 use Rattle.stepping.specs.Listeners.{IsListenerLine}
-use Rattle.stepping.proofs.Reading.{IsRead}
+use Rattle.lines.proofs.Reading.{IsRead}
 use Rattle.stepping.proofs.listeners.read_listeners.Given as goal
 
 abbrev pub invariant-loop-rest : goal.invariant-loop-rest

@@ -3,7 +3,7 @@ use Rattle.std.proofs.lemmas.Result.{err_from_is_err_and}
 use Rattle.std.specs.Io.KnownBytes.{Appends}
 use Rattle.stepping.specs.Printed.{batch_line, message_lines}
 use Rattle.lines.specs.Sending.{TakesPart}
-use Rattle.stepping.proofs.Taking.{TakesPart-more, Takes-then}
+use Rattle.lines.proofs.Taking.{TakesPart-more, Takes-then}
 use Rattle.stepping.proofs.reports.write_batch.Goals as goal
 
 pub returns-in_err-send : goal.returns-in_err-send

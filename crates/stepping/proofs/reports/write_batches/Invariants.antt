@@ -1,6 +1,7 @@
 use Rattle.std.proofs.Common.{take}
 use Rattle.std.specs.Io.KnownBytes.{Appends}
-use Rattle.stepping.specs.Printed.{numbered, batch_lines}
+use Rattle.lines.specs.Texts.{numbered}
+use Rattle.stepping.specs.Printed.{batch_lines}
 use Rattle.stepping.proofs.reports.write_batches.Given as goal
 
 abbrev pub invariant-loop-b : goal.invariant-loop-b

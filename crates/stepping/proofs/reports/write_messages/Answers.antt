@@ -2,7 +2,7 @@ use Rattle.std.proofs.Common.{◌∙◌, subst}
 use Rattle.std.proofs.lemmas.Result.{err_from_is_err_and}
 use Rattle.stepping.specs.Printed.{message_line}
 use Rattle.lines.specs.Sending.{TakesPart}
-use Rattle.stepping.proofs.Taking.{TakesPart-at, TakesPart-before}
+use Rattle.lines.proofs.Taking.{TakesPart-at, TakesPart-before}
 use Rattle.stepping.proofs.reports.write_messages.Goals as goal
 
 pub returns-in_err-put_message : goal.returns-in_err-put_message

@@ -3,9 +3,10 @@ use Rattle.std.proofs.lemmas.Result.{err_from_is_err_and}
 use Rattle.std.proofs.KnownBytes.{Appends-trans}
 use Rattle.std.specs.Io.KnownBytes.{Appends}
 use Rattle.tap.specs.declared.report.Report.{Report}
-use Rattle.stepping.specs.Printed.{numbered, listener_line, batch_lines, held_line, message_lines}
+use Rattle.lines.specs.Texts.{numbered}
+use Rattle.stepping.specs.Printed.{listener_line, batch_lines, held_line, message_lines}
 use Rattle.lines.specs.Sending.{TakesPart}
-use Rattle.stepping.proofs.Taking.{TakesPart-none, TakesPart-more, TakesPart-then, Takes-then}
+use Rattle.lines.proofs.Taking.{TakesPart-none, TakesPart-more, TakesPart-then, Takes-then}
 use Rattle.stepping.proofs.reports.write_report.Goals as goal
 
 -- the batches' part of the text

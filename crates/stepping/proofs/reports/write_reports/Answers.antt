@@ -1,6 +1,6 @@
 use Rattle.std.proofs.lemmas.Result.{err_from_is_err_and}
 use Rattle.stepping.specs.Printed.{report_lines}
-use Rattle.stepping.proofs.Taking.{TakesPart-numbered, Appends-numbered}
+use Rattle.lines.proofs.Taking.{TakesPart-numbered, Appends-numbered}
 use Rattle.stepping.proofs.reports.write_reports.Goals as goal
 
 pub returns-in_err-write_report : goal.returns-in_err-write_report

@@ -1,7 +1,7 @@
 use Rattle.std.proofs.Common.{◌≡◌, ◌≢◌, ◌+◌, [], length, rules, sym, ap, subst}
 use Rattle.lines.specs.Files.{IsFirstBad}
 use Rattle.stepping.specs.Script.{IsStepLine}
-use Rattle.stepping.proofs.Reading.{IsRead-more, IsRead-bad}
+use Rattle.lines.proofs.Reading.{IsRead-more, IsRead-bad}
 use Rattle.stepping.proofs.script.read_script.Goals as goal
 
 pub returns-in-None-clause-fault : goal.returns-in-None-clause-fault

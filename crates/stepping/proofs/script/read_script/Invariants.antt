@@ -1,7 +1,7 @@
 use Rattle.std.proofs.Common.{length}
 use Rattle.bpfvm.specs.Listing.{further_lines}
 use Rattle.stepping.specs.Script.{IsStepLine}
-use Rattle.stepping.proofs.Reading.{IsRead}
+use Rattle.lines.proofs.Reading.{IsRead}
 use Rattle.stepping.proofs.script.read_script.Given as goal
 
 abbrev pub invariant-loop-rest : goal.invariant-loop-rest

@@ -1,6 +1,6 @@
 use Rattle.std.proofs.lemmas.Slice.Eq.{slice_eq-Decides}
 use Rattle.std.proofs.lemmas.Bool.Decides.{Decides-eqb}
-use Rattle.stepping.proofs.Cuts.{if_none}
+use Rattle.lines.proofs.Cuts.{if_none}
 use Rattle.stepping.proofs.Words.{NoStep, differs, NoStep-one_word, NoStep-number, NoStep-word}
 use Rattle.stepping.proofs.script.step_of.Goals as goal
 

@@ -1,4 +1,4 @@
-use Rattle.stepping.proofs.Taking.{Takes-flushed}
+use Rattle.lines.proofs.Taking.{Takes-flushed}
 use Rattle.stepping.proofs.steps.print_reports.Goals as goal
 
 pub returns : goal.returns

@@ -2,7 +2,7 @@ use Rattle.std.proofs.Common.{◌≡◌, inr, refl, sym, subst, ◌⊎◌}
 use Rattle.filterlang.specs.Trees.{Tree, tree_of}
 use Rattle.filterlang.specs.Texts.{ReadsAs, IsRefusalOf}
 use Rattle.tap.specs.declared.fault.Fault.TheVariants.{NoMemory, Compile}
-use Rattle.tap.specs.Refusals.{FilterStands, RefusesFilter}
+use Rattle.tap.specs.Refusals.{FilterIsRight, RefusesFilter}
 use Rattle.tap.specs.Watching.{ProgramOf}
 use Rattle.tap.proofs.Refusing.{misread_refuses, not_deep, refuses_compile, is_expression}
 use Rattle.tap.proofs.open.program_of.Goals as goal
@@ -27,7 +27,7 @@ returns-in-Ok-compile-clause-ok c =
 
 pub returns-in-Ok-compile-clause-stands : goal.returns-in-Ok-compile-clause-stands
 returns-in-Ok-compile-clause-stands c =
-    subst (λ f. FilterStands f c.args.spec.now.snap) (sym c.in-Text.is) (
+    subst (λ f. FilterIsRight f c.args.spec.now.snap) (sym c.in-Text.is) (
       is_expression c.in-Text.text _ _ c.as_str.ensures.value (λ h. let e = c.in-Ok.ensures.too_long.1 h in absurd (cc)) c.in-Ok.ensures.reads,
       (λ bad. let e = c.in-Ok-compile.ensures.bad_snap.1 bad in absurd (cc)),
       not_deep c.args.spec.now.snap _ _ (λ bad. let e = c.in-Ok-compile.ensures.bad_snap.1 bad in absurd (cc)) (λ d. absurd (cc)) c.in-Ok-compile.ensures.too_deep,

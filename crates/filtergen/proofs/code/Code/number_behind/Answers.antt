@@ -4,11 +4,11 @@ use Rattle.filtergen.proofs.Knowing.{type-from, number-from}
 use Rattle.filtergen.proofs.Narrowed.{behind-any, behind-more, behind-passed, behind-ip, protocol-known}
 use Rattle.filtergen.proofs.code.Code.number_behind.Goals as goal
 
-pub returns-then-has_number : goal.returns-then-has_number
-returns-then-has_number c =
+pub returns-then-has_protocol : goal.returns-then-has_protocol
+returns-then-has_protocol c =
     let known = c.args.known in
     behind-more 8 (omega arith)
-    (behind-passed known (is_protocol c.args.number) c.args.ways c.args.self.now c.requires.ways.0 (λ p holds. number-from known c.args.number p holds (sym c.if-has_number.ensures)))
+    (behind-passed known (is_protocol c.args.number) c.args.ways c.args.self.now c.requires.ways.0 (λ p holds. number-from known c.args.number p holds (sym c.if-has_protocol.ensures)))
 
 pub returns-then-has_type : goal.returns-then-has_type
 returns-then-has_type c =

@@ -1,33 +1,12 @@
-use Rattle.std.proofs.Common.{◌≡◌, true, sym, ◌∙◌, ap, arith}
-use Rattle.filtergen.specs.Meaning.{has_any_ports, protocol_number}
-use Rattle.filtergen.specs.Knowing.{has_first}
-use Rattle.filtergen.proofs.Knowing.{number-from, first-from}
-use Rattle.filtergen.proofs.Narrowed.{behind-more, behind-first, behind-number, ports-behind-first, ports-known}
+use Rattle.filtergen.specs.Meaning.{has_port, by_direction, has_any_ports}
+use Rattle.filtergen.proofs.Narrowed.{behind-same, of-transport-is}
 use Rattle.filtergen.proofs.code.Code.ports_known.Goals as goal
-
-pub returns-then-has_first : goal.returns-then-has_first
-returns-then-has_first c =
-    let t = c.args.transport in
-    let d = c.args.direction in
-    let known = c.args.known in
-    let exits = c.first_fragment_exits-exits.ensures in
-    let first : has_first known (protocol_number t) ≡ true = ap (has_first known) (sym c.protocol_number.ensures) ∙ sym c.if-has_first.ensures in
-    rw c.to.ensures
-    (behind-more 27 (omega arith)
-    (behind-first known t (has_any_ports c.args.asked d c.args.low c.args.high) c.args.ways exits.yes exits.no
-    (λ p holds. first-from known (protocol_number t) p holds first)
-    (λ p holds. ports-behind-first t c.args.asked d c.args.low c.args.high p (first-from known (protocol_number t) p holds first) c.requires.asked)
-    c.ports_behind_header-first_fragment.ensures))
 
 pub returns : goal.returns
 returns c =
-    let t = c.args.transport in
     let d = c.args.direction in
-    let known = c.args.known in
+    let low = c.args.low in
+    let high = c.args.high in
     let exits = c.first_fragment_exits-exits.ensures in
-    rw c.to-2.ensures
-    (behind-more 27 (omega arith)
-    (behind-number known t (has_any_ports c.args.asked d c.args.low c.args.high) c.args.ways c.requires.ways exits.yes exits.no
-    (λ p holds. number-from known (protocol_number t) p holds c.requires.known)
-    (λ p holds. ports-known t c.args.asked d c.args.low c.args.high p (number-from known (protocol_number t) p holds c.requires.known) c.requires.asked)
-    c.ports_behind_header-first_fragment.ensures c.unfragmented-any.ensures))
+    behind-same c.args.known _ (has_any_ports c.args.asked d low high) (λ p holds. of-transport-is c.args.asked d low high p)
+    (c.behind_known_transport.ensures.guards 15 (by_direction d (has_port low high 0) (has_port low high 2)) c.first_fragment_exits-exits.result c.args.self.now c.requires.ways exits.yes exits.no c.ports_behind_header-first_fragment.ensures)

@@ -1,6 +1,5 @@
 use Rattle.std.proofs.Common.{◌-◌, ◌^◌}
-use Rattle.savefile.specs.Reader.{count_given}
 use Rattle.format_tests.proofs.savefiles.caller.copy_long.Given as goal
 
 abbrev pub decreases-loop-writer : goal.decreases-loop-writer
-decreases-loop-writer g l = 2 ^ 64 - count_given l.reader
+decreases-loop-writer g l = 2 ^ 64 - l.reader.given

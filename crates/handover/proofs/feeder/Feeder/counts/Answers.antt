@@ -1,6 +1,6 @@
 use Rattle.std.proofs.Common.{false, ap, subst, ◌∙◌}
 use Rattle.handover.specs.Ends.{Feeding, HasOwnRun, AreCountsOf, own_list}
-use Rattle.handover.specs.Own.{arrivals, matches, drops}
+use Rattle.handover.specs.Own.{received_in, matched_in, dropped_in}
 use Rattle.handover.proofs.Feeders.{own_counts, own_run}
 use Rattle.handover.specs.Rule.{known}
 use Rattle.handover.proofs.feeder.Feeder.counts.Goals as goal
@@ -11,13 +11,13 @@ returns-clause-own c =
     subst (λ (f : Feeding). AreCountsOf c.self.inside.counts (own_list f.feeds)) c.self.view_is k
 
 pub returns-clause-received : goal.returns-clause-received
-returns-clause-received c = c.self.invariant.3.all_received ∙ ap (λ f. arrivals f.feeds) c.self.view_is
+returns-clause-received c = c.self.invariant.3.all_received ∙ ap (λ f. received_in f.feeds) c.self.view_is
 
 pub returns-clause-matched : goal.returns-clause-matched
-returns-clause-matched c = c.self.invariant.3.all_matched ∙ ap (λ f. matches f.feeds) c.self.view_is
+returns-clause-matched c = c.self.invariant.3.all_matched ∙ ap (λ f. matched_in f.feeds) c.self.view_is
 
 pub returns-clause-dropped : goal.returns-clause-dropped
-returns-clause-dropped c = c.self.invariant.3.all_dropped ∙ ap (λ f. drops f.feeds) c.self.view_is
+returns-clause-dropped c = c.self.invariant.3.all_dropped ∙ ap (λ f. dropped_in f.feeds) c.self.view_is
 
 pub returns-clause-run : goal.returns-clause-run
 returns-clause-run c =

@@ -1,6 +1,6 @@
 use Rattle.std.proofs.Common.{◌∷◌, ◌++◌, [], map, refl, sym, subst, ap, ◌∙◌, inr, Err, arith}
 use Rattle.listener.specs.Buffers.{message_in}
-use Rattle.savefile.specs.Writer.{sink_of, BrokeOff, HasWritten}
+use Rattle.savefile.specs.Writer.{HasWrittenPart, HasWritten}
 use Rattle.savefile.specs.Savefile.{packet}
 use Rattle.replay.specs.Writing.{as_written}
 use Rattle.replay.proofs.Writes.{stays-broken, writes-more, put-fails, count-below, same-unless-different}
@@ -20,7 +20,7 @@ returns-in-Err g c = λ output messages t.
     put-fails g.W.Sink.taken g.W.Sink.failures output messages (message_in m) c.args.self.now _ fault
     (c.growing_text.ensures.begins output.order output.unit output.snap) (c.growing_text.ensures.adds output.order output.unit output.snap)
     c.if-not-self.false t refl refl put.grows
-    (λ is. subst (λ (n : _). BrokeOff g.W.Sink.taken (g.W.Sink.taken output.sink) output.order output.unit output.snap
+    (λ is. subst (λ (n : _). HasWrittenPart g.W.Sink.taken (g.W.Sink.taken output.sink) output.order output.unit output.snap
     (map as_written messages ++ packet m.sec n m.len m.bytes.now ∷ []) c.put.new.self) c.min-nanos.ensures
     (put.broke_off _ output.order output.unit output.snap (map as_written messages) written (c.in-Err.is ∙ ap Err is)))
     (λ is. put.device.0 (c.in-Err.is ∙ ap Err is))
@@ -42,5 +42,5 @@ returns-in-Ok g c = λ output messages t.
     (omega (arith, c.sent-sent.type_inv, c.sent-sent.ensures)) in
     writes-more T g.W.Sink.failures output messages (message_in m) c.args.self.now _ c.if-not-self.false t c.if-not-self.false
     (c.saturating_add-self.ensures ∙ omega (arith, room)) written
-    (same-unless-different (g.W.Sink.failures (sink_of c.put.new.self)) (g.W.Sink.failures (sink_of c.args.self.now.writer))
+    (same-unless-different (g.W.Sink.failures c.put.new.self.sink) (g.W.Sink.failures c.args.self.now.writer.sink)
     (λ differs. let bad = sym c.in-Ok.is ∙ c.put.ensures.device.1 differs in absurd cc))

@@ -3,8 +3,8 @@ use Rattle.std.proofs.lemmas.List.{take-take}
 use Rattle.savefile.proofs.Pieces.{length-slice_range, slice_range-further}
 use Rattle.savefile.proofs.ahead.Ahead.pass.Goals as goal
 
-pub returns-clause-held : goal.returns-clause-held
-returns-clause-held g c =
+pub returns-clause-waiting : goal.returns-clause-waiting
+returns-clause-waiting g c =
     let a = c.args.self.now in
     let all = length-slice_range a.memory.items a.start a.end (omega arith) (omega arith) in
     slice_range-further a.memory.items a.start a.end (c.args.front + c.args.count) (omega arith)

@@ -1,20 +1,25 @@
-use Rattle.std.proofs.Common.{[]}
+use Rattle.std.proofs.Common.{[], refl}
 use Rattle.std.proofs.KnownBytes.{Consumes-nil}
+use Rattle.savefile.specs.Ahead.{waiting_in}
 use Rattle.savefile.proofs.Given.{begins_all, gives_packet, gives_all, gives_fault}
 use Rattle.savefile.proofs.reader.Reader.advance.Goals as goal
 
 pub returns-in-Ok-true-clause-packet : goal.returns-in-Ok-true-clause-packet
-returns-in-Ok-true-clause-packet g c = λ start header packets given _.
-    let told = c.in-Ok-true.ensures in
-    gives_packet g.R.Source.left start header packets c.args.self.now c.read_record.new.self given told.stays (told.packet (cc))
+returns-in-Ok-true-clause-packet g c =
+    rw (← c.self.view_is) (λ start header packets given _.
+    gives_packet g.R.Source.left start header packets _ _ given refl refl refl (c.in-Ok-true.ensures.packet (cc)))
 
 pub returns-in-Ok-false-clause-end : goal.returns-in-Ok-false-clause-end
-returns-in-Ok-false-clause-end g c = λ start header packets given _.
-    gives_all g.R.Source.left start header packets c.args.self.now c.read_record.new.self given (c.in-Ok-false.ensures.end (cc))
+returns-in-Ok-false-clause-end g c =
+    let ahead = c.read_record.new.ahead in
+    rw (← c.self.view_is) (λ start header packets given _.
+    gives_all g.R.Source.left start header packets _ ahead.source (waiting_in ahead) given (c.in-Ok-false.ensures.end (cc)))
 
 pub returns-in-Err-clause-cause : goal.returns-in-Err-clause-cause
-returns-in-Err-clause-cause g c = λ start header packets given.
-    gives_fault g.R.Source.left start header packets c.args.self.now c.read_record.new.self c.in-Err.fault given c.in-Err.ensures.fault
+returns-in-Err-clause-cause g c =
+    let ahead = c.read_record.new.ahead in
+    rw (← c.self.view_is) (λ start header packets given.
+    gives_fault g.R.Source.left start header packets _ ahead.source (waiting_in ahead) c.in-Err.fault given c.in-Err.ensures.fault)
 
 pub returns-in-Ended-clause-so_far : goal.returns-in-Ended-clause-so_far
 returns-in-Ended-clause-so_far g c = λ start header packets given. begins_all g.R.Source.left start header packets c.args.self.now given
@@ -46,14 +51,20 @@ returns-then-self-clause-taken g c = ([], Consumes-nil _)
 pub returns-in-Ok-true-clause-taken : goal.returns-in-Ok-true-clause-taken
 returns-in-Ok-true-clause-taken g c =
     let passes = c.in-Ok-true.ensures.packet (cc) in
-    (passes.0, passes.1)
+    rw (← c.self.view_is) (passes.0, passes.1)
 
 pub returns-in-Ok-false-clause-taken : goal.returns-in-Ok-false-clause-taken
 returns-in-Ok-false-clause-taken g c =
     let grows = (c.in-Ok-false.ensures.end (cc)).0 in
-    (grows.0, grows.2)
+    rw (← c.self.view_is) (grows.0, grows.2)
 
 pub returns-in-Err-clause-taken : goal.returns-in-Err-clause-taken
 returns-in-Err-clause-taken g c =
     let grows = c.in-Err.ensures.fault.0 in
-    (grows.0, grows.2)
+    rw (← c.self.view_is) (grows.0, grows.2)
+
+pub returns-in-Ok-true-clause-idle : goal.returns-in-Ok-true-clause-idle
+returns-in-Ok-true-clause-idle g c = rw (← c.self.view_is) c.in-Ok-true.ensures.idle
+
+pub returns-in-Err-clause-idle : goal.returns-in-Err-clause-idle
+returns-in-Err-clause-idle g c = rw (← c.self.view_is) c.in-Err.ensures.idle

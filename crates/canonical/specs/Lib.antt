@@ -1,0 +1,4 @@
+pub mod Types
+pub mod Primitives
+pub mod Parentheses
+pub mod Canonical

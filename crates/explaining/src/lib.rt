@@ -1,0 +1,11 @@
+//! Why an expression accepts or rejects a packet: which of its primitives and relations were asked, what each answered, and
+//! why one aborted.
+#![tactic(auto)]
+
+mod asking;
+mod cause;
+pub mod laws;
+mod missing;
+
+pub use asking::{Asked, explain};
+pub use cause::Cause;

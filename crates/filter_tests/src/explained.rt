@@ -1,0 +1,31 @@
+//! The caller that the page of `explaining` shows, crates/explaining/README.md.
+
+use bpfvm::NoMemory;
+use explaining::{Cause, explain};
+use filterlang::{Expr, parse};
+use std::alloc::Global;
+
+/// The first byte of a packet that an expression wants and that was not captured, where it aborts for that.
+pub fn wanted(
+    alloc: Global,
+    expr: &Expr,
+    packet: &[u8],
+    wire: u32,
+) -> Result<Option<usize>, NoMemory> {
+    let asked = explain(alloc, expr, packet, wire)?;
+    match asked.last() {
+        Some(last) => match last.cause {
+            Some(Cause::NotCaptured(place)) => Ok(Some(place)),
+            _ => Ok(None),
+        },
+        None => Ok(None),
+    }
+}
+
+#[test]
+fn the_byte_that_was_wanted_is_told(rt: HostRuntime) {
+    let expr = parse(rt.alloc(), "arp or not tcp").expect(&rt, "an expression");
+    let frame = [0, 0, 0, 0, 0, 0, 0, 0, 0, 0, 0, 0, 8, 0];
+    let place = wanted(rt.alloc(), &expr, &frame, 60).expect(&rt, "there is memory");
+    assert_eq!(rt; place, Some(23));
+}

@@ -1,0 +1,29 @@
+-- Lists behind what their members share.
+use Rattle.std.proofs.Common.{◌≡◌, ◌<◌, ◌==◌, List, length, Option, sym, ◌∙◌}
+use Rattle.filterlang.specs.declared.tree.Direction.{Direction}
+use Rattle.filterlang.specs.declared.tree.Transport.{Transport}
+use Rattle.filtergen.specs.declared.lists.Span.{Span}
+use Rattle.filtergen.specs.Meaning.{Packet, Test, and_test, half, is_type, by_direction, has_port, has_any_ports}
+use Rattle.filtergen.specs.Parts.{is_unfragmented, number_of, of_transport}
+use Rattle.filtergen.specs.Lists.{any_of, of_any_type}
+use Rattle.filtergen.proofs.Neighbours.{any-same, any-guarded, any-chosen}
+use Rattle.filtergen.proofs.Nets.{by_type, by-type}
+use Rattle.filtergen.proofs.Narrowed.{of-transport-is}
+use Rattle.filtergen.proofs.Sharing.{number-shared}
+
+-- the type
+pub types-shared : (t u : Span → Test) (xs : List Span) (p : Packet) → 0 < length xs → of_any_type (any_of t xs) (any_of u xs) p ≡ any_of (λ x. of_any_type (t x) (u x)) xs p
+types-shared t u xs p some =
+    sym (by-type (any_of t xs) (any_of u xs) p)
+    ∙ sym (any-chosen (half 12 p) (λ n. n == 0x0800) (λ n. n == 0x0806) (λ n. n == 0x8035) t u xs p some)
+    ∙ any-same (λ x q. by_type (t x) (u x) p (half 12 p)) (λ x. of_any_type (t x) (u x)) p (λ x. by-type (t x) (u x) p) xs
+
+-- the protocol and the fragment
+pub ports-shared : (asked : Option Transport) (d : Direction) (xs : List Span) (p : Packet) → 0 < length xs
+    → of_transport asked (any_of (λ (x : Span). by_direction d (has_port x.low x.high 0) (has_port x.low x.high 2)) xs) p ≡ any_of (λ (x : Span). has_any_ports asked d x.low x.high) xs p
+ports-shared asked d xs p some =
+    let g : Test = and_test (and_test (is_type 0x0800) (number_of asked)) is_unfragmented in
+    let t = λ (x : Span). by_direction d (has_port x.low x.high 0) (has_port x.low x.high 2) in
+    sym (number-shared asked (any_of t xs) p)
+    ∙ sym (any-guarded g t xs p some)
+    ∙ any-same (λ x. and_test g (t x)) (λ (x : Span). has_any_ports asked d x.low x.high) p (λ x. number-shared asked (t x) p ∙ of-transport-is asked d x.low x.high p) xs

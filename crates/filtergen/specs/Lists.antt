@@ -1,0 +1,161 @@
+-- Lists: neighbours of an `or` that differ in their numbers alone, and what code does that asks once for all of them. Private
+-- clauses alone say this.
+use Rattle.std.specs.Prelude.{◌≡◌, ℕ, ◌+◌, ◌*◌, ◌≤◌, Bool, true, false, List, [], ◌∷◌, length, Option, Some, None, if◌then◌else◌, bit_and, option_map}
+use Rattle.bpfvm.specs.declared.insn.Insn.{Insn}
+use Rattle.bpfvm.specs.Codes.{Accumulator}
+use Rattle.bpfvm.specs.Machine.{Registers, with_value}
+use Rattle.filterlang.specs.Trees.{Tree}
+use Rattle.filterlang.specs.Trees as trees
+use Rattle.filterlang.specs.declared.tree.Direction.{Direction}
+use Rattle.filterlang.specs.declared.tree.Direction.TheVariants.{Src, Dst, SrcOrDst}
+use Rattle.filterlang.specs.declared.tree.Network.{Network}
+use Rattle.filterlang.specs.declared.tree.Network.TheVariants as networks
+use Rattle.filterlang.specs.declared.tree.Transport.{Transport}
+use Rattle.filterlang.specs.declared.tree.Transport.TheVariants as transports
+use Rattle.filtergen.specs.declared.code.Exits.{Exits}
+use Rattle.filtergen.specs.declared.lists.Form.{Form}
+use Rattle.filtergen.specs.declared.lists.Form.TheVariants as forms
+use Rattle.filtergen.specs.declared.lists.Sides.{Sides}
+use Rattle.filtergen.specs.declared.lists.Sides.TheVariants as sides
+use Rattle.filtergen.specs.declared.lists.Kind.{Kind}
+use Rattle.filtergen.specs.declared.lists.Span.{Span}
+use Rattle.filtergen.specs.declared.among.Spot.{Spot}
+use Rattle.filtergen.specs.declared.among.Spot.TheVariants as spots
+use Rattle.filtergen.specs.declared.verdict.Verdict.TheVariants.{No}
+use Rattle.filtergen.specs.Meaning.{Packet, Test, or_else, or_test, and_test, check, byte, half, word, is_type, by_direction, within, has_any_ports, meaning}
+use Rattle.filtergen.specs.Compiling.{weight, need}
+use Rattle.filtergen.specs.Emission.{IsPlace, run_from, Extends, front, field_of}
+use Rattle.filtergen.specs.declared.known.Known.{Known}
+use Rattle.filtergen.specs.declared.ways.Way.{Way}
+use Rattle.filtergen.specs.declared.ways.Ways.{Ways}
+use Rattle.filtergen.specs.Ways.{RenewsBoth, DecidesBehind}
+
+-- one of these tests; the last of them stands first in the list
+abbrev pub any_of : {X : Type 0} → (X → Test) → List X → Test
+any_of t [] p = No
+any_of t (x ∷ xs) p = or_else (any_of t xs p) (t x p)
+
+-- in one of these spans
+abbrev pub among : List Span → ℕ → Bool
+among [] n = false
+among (x ∷ xs) n = if within x.low x.high n then true else among xs n
+
+abbrev pub direction_of : Sides → Direction
+direction_of sides.Source = Src
+direction_of sides.Destination = Dst
+direction_of sides.Either = SrcOrDst
+
+abbrev pub net_form : Option Network → Form
+net_form None = forms.Net
+net_form (Some networks.Ip) = forms.IpNet
+net_form (Some networks.Arp) = forms.ArpNet
+net_form (Some networks.Rarp) = forms.RarpNet
+
+abbrev pub ports_form : Option Transport → Form
+ports_form None = forms.Ports
+ports_form (Some transports.Tcp) = forms.TcpPorts
+ports_form (Some transports.Udp) = forms.UdpPorts
+ports_form (Some transports.Sctp) = forms.SctpPorts
+
+-- the bits of four bytes under a mask are in a span
+abbrev pub in_span : Span → ℕ → ℕ → Test
+in_span x mask o p = check (λ w. within x.low x.high (bit_and w mask)) (word o p)
+
+-- IPv4 behind which one test holds, or ARP or RARP behind which another one does
+abbrev pub of_any_type : Test → Test → Test
+of_any_type ip arp = or_test (or_test (and_test (is_type 0x0800) ip) (and_test (is_type 0x0806) arp)) (and_test (is_type 0x8035) arp)
+
+-- the test of a member: a primitive whose number is in a span
+abbrev pub form_test : Form → Direction → ℕ → Span → Test
+form_test forms.Net d m x =
+    of_any_type (by_direction d (in_span x m 26) (in_span x m 30)) (by_direction d (in_span x m 28) (in_span x m 38))
+form_test forms.IpNet d m x = and_test (is_type 0x0800) (by_direction d (in_span x m 26) (in_span x m 30))
+form_test forms.ArpNet d m x = and_test (is_type 0x0806) (by_direction d (in_span x m 28) (in_span x m 38))
+form_test forms.RarpNet d m x = and_test (is_type 0x8035) (by_direction d (in_span x m 28) (in_span x m 38))
+form_test forms.Ports d m x = has_any_ports None d x.low x.high
+form_test forms.TcpPorts d m x = has_any_ports (Some transports.Tcp) d x.low x.high
+form_test forms.UdpPorts d m x = has_any_ports (Some transports.Udp) d x.low x.high
+form_test forms.SctpPorts d m x = has_any_ports (Some transports.Sctp) d x.low x.high
+form_test forms.IpProto d m x = and_test (is_type 0x0800) (λ p. check (within x.low x.high) (byte 23 p))
+form_test forms.EtherProto d m x = (λ p. check (within x.low x.high) (half 12 p))
+
+abbrev pub kind_test : Kind → Span → Test
+kind_test k x = form_test k.form (direction_of k.sides) k.mask x
+
+-- the number at a spot
+abbrev pub spot_value : Spot → Registers → Packet → Option ℕ
+spot_value (spots.At field) r p = field_of field p
+spot_value (spots.Masked o mask) r p = option_map (λ w. bit_and w mask) (word o p)
+spot_value (spots.Behind o) r p = half (r.index + o) p
+
+abbrev pub found_at : Spot → Registers → Span → Test
+found_at spot r x p = check (within x.low x.high) (spot_value spot r p)
+
+-- a run that ends with 0 where there is no number, and else goes on with the number in the accumulator
+abbrev pub onward : Option ℕ → (Registers → ℕ) → Registers → ℕ
+onward None run r = 0
+onward (Some n) run r = run (with_value Accumulator n r)
+
+-- the front of new loads the number at a spot, and goes on over old
+pub record LoadsSpot (spot : Spot) (old new : List Insn) : Type 0 where
+  pub extends : Extends 2 old new
+  pub loads : (p : Packet) (r : Registers) → front new p r ≡ onward (spot_value spot r p) (front old p) r
+
+-- from entry a run of new goes to an exit by a condition on the registers, which it leaves as they are
+pub record ChoosesFrom (most : ℕ) (choice : Registers → Bool) (exits : Exits) (entry : ℕ) (old new : List Insn) : Type 0 where
+  pub extends : Extends most old new
+  pub here : IsPlace new entry
+  pub chooses : (p : Packet) (r : Registers)
+      → run_from new entry p r ≡ (if choice r then run_from old exits.yes p r else run_from old exits.no p r)
+
+-- a tree, or none, to the left of a test
+abbrev pub left_or : Option Tree → Test → Test
+left_or None t = t
+left_or (Some u) t = or_test (meaning u) t
+
+abbrev pub left_weight : Option Tree → ℕ
+left_weight None = 0
+left_weight (Some u) = weight u
+
+abbrev pub left_need : Option Tree → ℕ
+left_need None = 0
+left_need (Some u) = need u
+
+-- how many nodes a tree has
+abbrev pub size : Tree → ℕ
+size trees.everything = 1
+size (trees.test primitive) = 1
+size (trees.relation c v w) = 1
+size (trees.negation t) = 1 + size t
+size (trees.both t u) = 1 + (size t + size u)
+size (trees.either t u) = 1 + (size t + size u)
+
+abbrev pub left_size : Option Tree → ℕ
+left_size None = 0
+left_size (Some u) = size u
+
+-- a tree has become members of a list, but for what is left
+pub record Takes (kind : Kind) (whole : Tree) (left : Option Tree) (old new : List Span) : Type 0 where
+  pub same : (p : Packet) → or_else (meaning whole p) (any_of (kind_test kind) old p) ≡ left_or left (any_of (kind_test kind) new) p
+  pub weighs : weight whole + 40 * length old ≡ left_weight left + 40 * length new
+  pub smaller : left_size left ≤ size whole
+  pub needs : left_need left ≤ need whole
+
+-- an `or` ends in a list of two members at least, behind what is left of its left operand
+pub record EndsIn (kind : Kind) (first second : Tree) (left : Option Tree) (spans : List Span) : Type 0 where
+  pub many : 2 ≤ length spans
+  pub same : (p : Packet) → or_else (meaning first p) (meaning second p) ≡ left_or left (any_of (kind_test kind) spans) p
+  pub weighs : weight first + weight second ≡ left_weight left + 40 * length spans
+  pub smaller : left_size left ≤ size first
+  pub needs : left_need left ≤ need first
+
+-- the code of the list that an `or` ends in, behind what is left of its left operand
+pub record EmitsList (known : Known) (first second : Tree) (left : Option Tree) (ways renewed : Ways) (entry : Way) (old new : List Insn) : Type 0 where
+  pub test : Test
+  pub most : ℕ
+  pub same : (p : Packet) → or_else (meaning first p) (meaning second p) ≡ left_or left test p
+  pub fits : left_weight left + most ≤ weight first + weight second
+  pub smaller : left_size left ≤ size first
+  pub needs : left_need left ≤ need first
+  pub decides : DecidesBehind known most test ways entry old new
+  pub renews : RenewsBoth ways renewed old new

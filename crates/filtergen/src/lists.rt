@@ -1,0 +1,286 @@
+//! Lists: neighbours of an `or` that differ in their numbers alone.
+
+ghost use Rattle.std.specs.Prelude.{◌≡◌, ◌+◌, ◌*◌, ◌≤◌, ◌<◌, ◌∷◌, [], ◌++◌, length, IfSome, MatchOption, Some, None};
+ghost use Rattle.filterlang.specs.Trees.{tree_of};
+ghost use Rattle.filtergen.specs.Meaning.{Packet, plain_test, in_any_net, has_any_ports, primitive_test, meaning};
+ghost use Rattle.filtergen.specs.Lists.{direction_of, net_form, ports_form, kind_test, Takes, EndsIn};
+ghost use Rattle.filtergen.specs.declared.lists.Sides.TheVariants as sides;
+ghost use Rattle.std.specs.Bool.{OnTrue, OnFalse};
+ghost use Rattle.filtergen.specs.Compiling.{weight};
+
+use crate::primitives::{ARP, RARP};
+use arrayvec::ArrayVec;
+use bpfvm::MAX_INSNS;
+use filterlang::{Direction, Expr, Network, Plain, Primitive, Transport};
+
+/// Of which primitives a list is.
+#[derive(Clone, Copy, PartialEq, Eq)]
+pub(crate) enum Form {
+    /// Hosts and nets of any protocol.
+    Net,
+    IpNet,
+    ArpNet,
+    RarpNet,
+    /// Ports and port ranges of any protocol.
+    Ports,
+    TcpPorts,
+    UdpPorts,
+    SctpPorts,
+    IpProto,
+    EtherProto,
+}
+
+/// Whether the source, the destination, or either of them is asked for.
+#[derive(Clone, Copy, PartialEq, Eq)]
+pub(crate) enum Sides {
+    Source,
+    Destination,
+    Either,
+}
+
+/// What the members of a list have in common.
+#[derive(Clone, Copy, PartialEq, Eq)]
+pub(crate) struct Kind {
+    pub form: Form,
+    pub sides: Sides,
+    /// That of hosts and nets.
+    pub mask: u32,
+}
+
+/// The numbers from low to high, with both.
+#[derive(Clone, Copy, Default)]
+pub(crate) struct Span {
+    pub low: u32,
+    pub high: u32,
+}
+
+/// A primitive as a member of a list.
+#[derive(Clone, Copy)]
+struct Member {
+    kind: Kind,
+    span: Span,
+}
+
+/// A list.
+#[derive(Drop)]
+pub(crate) struct Neighbours {
+    pub kind: Kind,
+    /// The number of each member, that of the last one first.
+    pub spans: ArrayVec<Span, MAX_INSNS>,
+}
+
+fn sides_of(direction: Direction) -> Option<Sides>
+    ensures { IfSome result (λ s. direction_of s ≡ direction) }
+{
+    match direction {
+        Direction::Src => Some(Sides::Source),
+        Direction::Dst => Some(Sides::Destination),
+        Direction::SrcOrDst => Some(Sides::Either),
+        Direction::SrcAndDst => None,
+    }
+}
+
+fn net_form(network: Option<Network>) -> Form
+    ensures { result ≡ net_form network }
+{
+    match network {
+        None => Form::Net,
+        Some(network) => match network {
+            Network::Ip => Form::IpNet,
+            Network::Arp => Form::ArpNet,
+            Network::Rarp => Form::RarpNet,
+        },
+    }
+}
+
+fn ports_form(transport: Option<Transport>) -> Form
+    ensures { result ≡ ports_form transport }
+{
+    match transport {
+        None => Form::Ports,
+        Some(transport) => match transport {
+            Transport::Tcp => Form::TcpPorts,
+            Transport::Udp => Form::UdpPorts,
+            Transport::Sctp => Form::SctpPorts,
+        },
+    }
+}
+
+impl Member {
+    /// A member that asks for one number, of neither side.
+    fn numbered(form: Form, number: u32) -> Member
+        ensures { result ≡ record {
+          kind = record { form = form; sides = sides.Source; mask = 0 };
+          span = record { low = number; high = number };
+        } }
+    {
+        Member {
+            kind: Kind {
+                form,
+                sides: Sides::Source,
+                mask: 0,
+            },
+            span: Span {
+                low: number,
+                high: number,
+            },
+        }
+    }
+
+    fn of_net(
+        network: Option<Network>,
+        direction: Direction,
+        address: u32,
+        mask: u32,
+    ) -> Option<Member>
+        ensures { IfSome result (λ m. (p : Packet) → in_any_net network direction address mask p ≡ kind_test m.kind m.span p) }
+    {
+        match sides_of(direction) {
+            Some(sides) => Some(Member {
+                kind: Kind {
+                    form: net_form(network),
+                    sides,
+                    mask,
+                },
+                span: Span {
+                    low: address,
+                    high: address,
+                },
+            }),
+            None => None,
+        }
+    }
+
+    fn of_ports(
+        transport: Option<Transport>,
+        direction: Direction,
+        low: u32,
+        high: u32,
+    ) -> Option<Member>
+        ensures { IfSome result (λ m. (p : Packet) → has_any_ports transport direction low high p ≡ kind_test m.kind m.span p) }
+    {
+        match sides_of(direction) {
+            Some(sides) => Some(Member {
+                kind: Kind {
+                    form: ports_form(transport),
+                    sides,
+                    mask: 0,
+                },
+                span: Span { low, high },
+            }),
+            None => None,
+        }
+    }
+
+    /// A protocol word. `ip` is none: what goes on behind it is to know of it.
+    fn of_word(word: Plain) -> Option<Member>
+        ensures { IfSome result (λ m. (p : Packet) → plain_test word p ≡ kind_test m.kind m.span p) }
+    {
+        match word {
+            Plain::Ip => None,
+            Plain::Arp => Some(Member::numbered(Form::EtherProto, ARP)),
+            Plain::Rarp => Some(Member::numbered(Form::EtherProto, RARP)),
+            Plain::Icmp => Some(Member::numbered(Form::IpProto, 1)),
+            Plain::Tcp => Some(Member::numbered(Form::IpProto, 6)),
+            Plain::Udp => Some(Member::numbered(Form::IpProto, 17)),
+            Plain::Sctp => Some(Member::numbered(Form::IpProto, 132)),
+        }
+    }
+
+    /// The member that a primitive is, where lists are made of such ones.
+    fn of(primitive: Primitive) -> Option<Member>
+        ensures { IfSome result (λ m. (p : Packet) → primitive_test primitive p ≡ kind_test m.kind m.span p) }
+    {
+        match primitive {
+            Primitive::Protocol(word) => Member::of_word(word),
+            Primitive::Net {
+                network,
+                direction,
+                address,
+                mask,
+            } => Member::of_net(network, direction, address, mask),
+            Primitive::Ports {
+                transport,
+                direction,
+                low,
+                high,
+            } => Member::of_ports(transport, direction, u32::from(low), u32::from(high)),
+            Primitive::IpProto(number) => Some(Member::numbered(Form::IpProto, u32::from(number))),
+            Primitive::EtherProto(number) => {
+                Some(Member::numbered(Form::EtherProto, u32::from(number)))
+            }
+            _ => None,
+        }
+    }
+
+    /// The member that an expression is.
+    fn of_expr(expr: &Expr) -> Option<Member>
+        ensures same { IfSome result (λ m. (p : Packet) → meaning (tree_of expr.now) p ≡ kind_test m.kind m.span p) }
+        ensures weighs { IfSome result (λ m. weight (tree_of expr.now) ≡ 40) }
+    {
+        match expr {
+            Expr::Test(primitive) => Member::of(*primitive),
+            _ => None,
+        }
+    }
+}
+
+impl Neighbours {
+    /// Whether an expression belongs to the list, which then has it.
+    fn takes(&mut self, expr: &Expr) -> bool
+        ensures kind { self.new.kind ≡ self.old.kind }
+        ensures taken { OnTrue result (Takes self.old.kind (tree_of expr.now) None self.old.spans.items self.new.spans.items) }
+        ensures kept { OnFalse result (self.new ≡ self.old) }
+    {
+        match Member::of_expr(expr) {
+            Some(member) if member.kind == self.kind && !self.spans.is_full() => {
+                self.spans.push(member.span);
+                true
+            }
+            _ => false,
+        }
+    }
+
+    /// Takes the members at the right end of an expression, and answers what is left of it.
+    fn take<'a>(&mut self, expr: &'a Expr) -> Option<&'a Expr>
+        ensures kind { self.new.kind ≡ self.old.kind }
+        ensures taken { MatchOption result
+            (Takes self.old.kind (tree_of expr.now) None self.old.spans.items self.new.spans.items)
+            (λ left. Takes self.old.kind (tree_of expr.now) (Some (tree_of left.now)) self.old.spans.items self.new.spans.items) }
+    {
+        match expr {
+            Expr::Or(left, right) => {
+                if self.takes(right) {
+                    self.take(left)
+                } else {
+                    Some(expr)
+                }
+            }
+            _ => { if self.takes(expr) { None } else { Some(expr) } }
+        }
+    }
+
+    /// The list at the right end of an `or` of these two, where one is, and what stands to its left.
+    pub fn at_end<'a>(left: &'a Expr, right: &Expr) -> Option<(Neighbours, Option<&'a Expr>)>
+        ensures many { IfSome result (λ found. 2 ≤ length found.0.spans.items) }
+        ensures weighs { IfSome result (λ found. 40 * length found.0.spans.items ≤ weight (tree_of left.now) + weight (tree_of right.now)) }
+        ensures ends { IfSome result (λ found. MatchOption found.1
+            (EndsIn found.0.kind (tree_of left.now) (tree_of right.now) None found.0.spans.items)
+            (λ rest. EndsIn found.0.kind (tree_of left.now) (tree_of right.now) (Some (tree_of rest.now)) found.0.spans.items)) }
+    {
+        let Some(last) = Member::of_expr(right) else {
+            return None;
+        };
+        let mut spans = ArrayVec::new();
+        spans.push(last.span);
+        let mut list = Neighbours {
+            kind: last.kind,
+            spans,
+        };
+        let rest = list.take(left);
+        if list.spans.len() < 2 {
+            return None;
+        }
+        Some((list, rest))
+    }
+}
