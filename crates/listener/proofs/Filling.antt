@@ -1,7 +1,7 @@
 -- A text that is filled number by number from the front.
 use Rattle.std.proofs.Common.{◌≡◌, ℕ, List, [], ◌++◌, length, drop, refl, ap, ◌∙◌, arith, length-append, length-drop}
 use Rattle.std.proofs.lemmas.List.{append-nil, nil_from_length}
-use Rattle.savefile.specs.Sending.{Fills}
+use Rattle.savefile.specs.Filling.{Fills}
 
 -- a text of the seven numbers of a record's fields
 pub filled_32 : (z t1 t2 t3 t4 t5 t6 t7 b0 b1 b2 b3 b4 b5 b6 : List ℕ) → length z ≡ 32

@@ -1,10 +1,9 @@
 -- Looking back by positions is looking back.
-use Rattle.std.proofs.Common.{◌≡◌, ◌↔◌, ℕ, zero, suc, ◌+◌, ◌<◌, Bool, true, false, not, ◌&&◌, ◌||◌, List, [], ◌∷◌, Some, length, refl, ap, sym, ◌∙◌, subst, arith, nat_lt, lt-ltb, cond, inl, inr}
+use Rattle.std.proofs.Common.{◌≡◌, ℕ, zero, suc, ◌+◌, ◌<◌, Bool, true, false, not, ◌&&◌, ◌||◌, List, [], ◌∷◌, length, refl, ap, sym, ◌∙◌, subst, arith, nat_lt, lt-ltb, cond, inl, inr}
 use Rattle.std.proofs.lemmas.Bool.{cases_lt, le-ltb, false≢true}
-use Rattle.listener.specs.declared.message.Message.{Message}
 use Rattle.listener.specs.Messages.{size_of}
-use Rattle.listener.specs.PlainList.{Terms, Request, Arrive}
-use Rattle.listener.specs.LookingBack.{drops, hands, is_drop, is_over, is_read, makes_hold, size_at, load, hold_is_full}
+use Rattle.listener.specs.PlainList.{Terms, Request}
+use Rattle.listener.specs.LookingBack.{is_over, is_read, makes_hold, load, hold_is_full}
 use Rattle.listener.specs.Positions.{reads_at, makes_hold_at, puts_at, made_since, stored_at, sum_below, stored_in_all, HoldIsFull, LoadIsByPositions, HoldIsByPositions, DropIsByPositions}
 
 -- ---- Truth values

@@ -24,10 +24,10 @@ AnswersAreLegal =
     → Legal t s (answers t s rs) × (requests (answers t s rs) ≡ rs)
     × ((es : List Event) → requests es ≡ rs → Legal t s es → es ≡ answers t s rs)
 
--- what is told of an arrival and a flush directly behind it
-abbrev pub told : Fed → Bool → Fed
-told Stored true = Held
-told fed full = fed
+-- the answer to an arrival and a flush directly behind it, as one step
+abbrev pub with_flush : Fed → Bool → Fed
+with_flush Stored true = Held
+with_flush fed full = fed
 
 -- An arrival at an Immediate list is one at a Buffered list and then a flush, as one step.
 abbrev pub ImmediateIsFlushed : Type 0
@@ -36,7 +36,7 @@ ImmediateIsFlushed =
     → IsRight (terms capacity Immediate) s (arrived (Some m) fed)
     → IsRight (terms capacity Buffered) s (arrived (Some m) first)
     → IsRight (terms capacity Buffered) (next s (arrived (Some m) first)) (flushed full)
-    → (fed ≡ told first full) × (next s (arrived (Some m) fed) ≡ next (next s (arrived (Some m) first)) (flushed full))
+    → (fed ≡ with_flush first full) × (next s (arrived (Some m) fed) ≡ next (next s (arrived (Some m) first)) (flushed full))
 
 -- ---- Runs
 

@@ -22,7 +22,7 @@ abbrev pub seen_by : Listening → Arrival → Option Message
 seen_by l a = kept_by l.program l.snap a
 
 -- a call is one step of the plain list, and changes nothing else
-pub record Takes (old : Listening) (e : Event) (new : Listening) : Type 0 where
+pub record TakesStep (old : Listening) (e : Event) (new : Listening) : Type 0 where
   pub steps : IsStep old.terms old.list e new.list
   pub program : new.program ≡ old.program
   pub snap : new.snap ≡ old.snap

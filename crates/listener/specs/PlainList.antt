@@ -135,7 +135,7 @@ abbrev pub fed_in : Mode → Fed
 fed_in Buffered = Stored
 fed_in Immediate = Held
 
--- the right answers: that each of them is right, and no other, is the law `AnswersAreFair`
+-- the right answers: that each of them is right, and no other, is the law `AnswersAreRight`
 abbrev pub fed_by : Terms → PlainList → Option Message → Fed
 fed_by t s None = if s.closed then Closed else Passed
 fed_by t s (Some m) =

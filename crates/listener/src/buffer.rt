@@ -2,7 +2,7 @@
 
 ghost use Rattle.std.specs.Prelude.{◌≡◌, ◌↔◌, false, ◌+◌, ◌^◌, ◌<◌, ◌≤◌, [], ◌++◌, length, All, vec_len, vec_capacity, IfOk, IfErr, OnOk, IsTrue};
 ghost use Rattle.std.specs.Bool.{OnTrue};
-ghost use Rattle.savefile.specs.Sending.{Fills};
+ghost use Rattle.savefile.specs.Filling.{Fills};
 ghost use Rattle.byteorder.specs.Endian.{little_bytes};
 ghost use Rattle.listener.specs.Buffers.{filled, with_message, FitsSavefileRecord, RefusesBuffer};
 ghost use Rattle.listener.specs.Messages.{size, room, cut_to, arrival};

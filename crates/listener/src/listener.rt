@@ -2,7 +2,7 @@
 
 ghost use Rattle.std.specs.Prelude.{◌≡◌, ◌≢◌, ◌-◌, ◌<◌, ◌≤◌, ◌^◌, ◌++◌, [], length, Some, None, IfOk, IfErr, OnOk, IsTrue, ◌↔◌};
 ghost use Rattle.listener.specs.Buffers.{filled};
-ghost use Rattle.listener.specs.Listening.{listening, seen_by, Takes, RefusesOpen, InRange};
+ghost use Rattle.listener.specs.Listening.{listening, seen_by, TakesStep, RefusesOpen, InRange};
 ghost use Rattle.listener.specs.Messages.{arrival};
 ghost use Rattle.listener.specs.PlainList.{terms, empty, arrived, flushed, read, closed};
 ghost use Rattle.listener.specs.declared.answer.Read.{Read};
@@ -152,7 +152,7 @@ impl Listener {
     /// kept of it. It takes no memory, and copies these bytes once where it stores them.
     pub fn arrive(&mut self, capture: u32, place: u64, packet: &PacketRef<'_>) -> Fed
         requires { self.old.list.received < 2 ^ 64 - 1 }
-        ensures { Takes self.old (arrived (seen_by self.old (arrival capture place packet.now)) result) self.new }
+        ensures { TakesStep self.old (arrived (seen_by self.old (arrival capture place packet.now)) result) self.new }
     {
         if self.closed {
             return Fed::Closed;
@@ -184,7 +184,7 @@ impl Listener {
     /// Makes a nonempty store the hold where the hold is empty, and tells whether it did: what the read timeout of bpf(4)
     /// does.
     pub fn flush(&mut self) -> bool
-        ensures { Takes self.old (flushed result) self.new }
+        ensures { TakesStep self.old (flushed result) self.new }
     {
         if self.closed || !self.hold.is_empty() || self.store.is_empty() {
             return false;
@@ -198,8 +198,8 @@ impl Listener {
     pub fn read(&mut self, empty: Buffer) -> Read
         requires { empty ≡ filled self.old.terms.capacity [] }
         ensures full { (buffer : _) → result ≡ Read.Full buffer →
-            Takes self.old (read (Some buffer.messages)) self.new × (buffer.capacity ≡ self.old.terms.capacity) }
-        ensures nothing { (buffer : _) → result ≡ Read.Nothing buffer → Takes self.old (read None) self.new × (buffer ≡ empty) }
+            TakesStep self.old (read (Some buffer.messages)) self.new × (buffer.capacity ≡ self.old.terms.capacity) }
+        ensures nothing { (buffer : _) → result ≡ Read.Nothing buffer → TakesStep self.old (read None) self.new × (buffer ≡ empty) }
     {
         if self.closed || self.hold.is_empty() {
             return Read::Nothing(empty);
@@ -209,7 +209,7 @@ impl Listener {
 
     /// Closes the listener: from now on nothing changes.
     pub fn close(&mut self)
-        ensures { Takes self.old closed self.new }
+        ensures { TakesStep self.old closed self.new }
     {
         self.closed = true;
     }

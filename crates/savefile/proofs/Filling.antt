@@ -2,7 +2,7 @@
 use Rattle.std.proofs.Common.{◌≡◌, ℕ, ◌-◌, List, [], ◌++◌, length, take, drop, refl, sym, ap, ◌∙◌, append_assoc, arith, length-append, length-drop}
 use Rattle.std.proofs.lemmas.List.{append-nil, drop_all, drop_at, nil_from_length, take_all, take_at}
 use borrow.Rule.Slice.PartMut.{put_mid}
-use Rattle.savefile.specs.Sending.{Fills}
+use Rattle.savefile.specs.Filling.{Fills}
 
 -- a number of n bytes that is written into a text from `at` on
 pub fills : (at n : ℕ) (t b buf : List ℕ) → length b ≡ n → buf ≡ b ++ drop n (take (length t - at) (drop at t)) → Fills at t b (put_mid at (length t - at) t buf)

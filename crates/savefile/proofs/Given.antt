@@ -51,10 +51,10 @@ holds_before text rest h ps fault s none ends =
 
 -- one packet more
 pub gives_packet : {R : Type 0} (left : R → Option (List ℕ)) (start : Option (List ℕ)) (h : Header) (ps : List Packet) (a b : Reading R)
-    → HasGiven left start h ps a → b.header ≡ a.header → b.given ≡ a.given + 1 → b.state ≡ a.state
+    → HasGiven left start h ps a → b.header ≡ a.header → b.given ≡ a.given + 1 → b.ended ≡ a.ended → b.failed ≡ a.failed
     → (more : List ℕ) × Consumes (left a.source) (left b.source) more × IsRecord a.header.order a.header.unit (a.ahead ++ more) b.lent b.ahead
     → HasGiven left start h (ps ++ b.lent ∷ []) b
-gives_packet left start h ps a b g same counts goes_on passes =
+gives_packet left start h ps a b g same counts ended failed passes =
     let header : a.header ≡ h = g.told in
     let r = subst (λ (x : Header). IsRecord x.order x.unit (a.ahead ++ passes.0) b.lent b.ahead) header passes.2 in
     let alone = IsRecord-alone h.order h.unit (a.ahead ++ passes.0) b.lent b.ahead r in
@@ -64,7 +64,7 @@ gives_packet left start h ps a b g same counts goes_on passes =
       passed = passed_more start (left a.source) (left b.source) a.ahead b.ahead g.text passes.0 alone.0 g.passed passes.1 alone.1;
       told = same ∙ g.told;
       counts = omega (arith, counts, g.counts, length-append ps (b.lent ∷ []));
-      goes_on = goes_on ∙ g.goes_on;
+      goes_on = (ended ∙ g.goes_on.0, failed ∙ g.goes_on.1);
     }
 
 -- all packets, and nothing behind them, where the source is this one and these bytes wait

@@ -1,5 +1,6 @@
 pub mod Ahead
 pub mod Device
+pub mod Filling
 pub mod Laws
 pub mod Passing
 pub mod Reader

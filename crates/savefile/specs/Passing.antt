@@ -1,11 +1,13 @@
 -- The steps inside a call that reads.
-use Rattle.std.specs.Prelude.{◌≡◌, ◌⊎◌, ℕ, List, [], ◌++◌, Option, Some, IfSome}
+use Rattle.std.specs.Prelude.{◌≡◌, ◌⊎◌, ℕ, List, [], ◌++◌, Bool, true, false, Option, Some, IfSome}
 use Rattle.std.specs.Io.KnownBytes.{Consumes, IsAtEnd}
 use Rattle.savefile.specs.declared.ahead.Ahead.{Ahead}
 use Rattle.savefile.specs.declared.fault.Fault.{Fault}
 use Rattle.savefile.specs.declared.fault.Fault.TheVariants.{Device}
 use Rattle.savefile.specs.declared.header.Header.{Header}
 use Rattle.savefile.specs.declared.packet.Packet.{Packet}
+use Rattle.savefile.specs.declared.reader.State.{State}
+use Rattle.savefile.specs.declared.reader.State.TheVariants.{Reading, Ended, Broken}
 use Rattle.savefile.specs.declared.record.RecordHeader.{RecordHeader}
 use Rattle.savefile.specs.Ahead.{waiting_in, lent_by, Grows}
 use Rattle.savefile.specs.Savefile.{first_fault, packet, IsRecord, IsSavefile, NoRecord}
@@ -37,3 +39,17 @@ MeetsFault left header place old new fault =
     × (((fault ≡ Device) × NoRecord header.order header.unit (waiting_in new))
     ⊎ ((rest : List ℕ) × IfSome (left new.source) (λ bytes. bytes ≡ rest)
     × (first_fault header.order header.unit place (waiting_in new ++ rest) ≡ Some fault)))
+
+-- ---- How far a reader has come
+
+-- it met the clean end
+abbrev pub is_ended : State → Bool
+is_ended Reading = false
+is_ended Ended = true
+is_ended Broken = false
+
+-- it told a fault, behind which it cannot read
+abbrev pub is_broken : State → Bool
+is_broken Reading = false
+is_broken Ended = false
+is_broken Broken = true

@@ -5,37 +5,37 @@ use Rattle.savefile.specs.declared.fault.Fault.{Fault}
 use Rattle.savefile.specs.declared.fault.Fault.TheVariants.{CountFull, Device, Failed}
 use Rattle.savefile.specs.declared.header.Header.{Header}
 use Rattle.savefile.specs.declared.packet.Packet.{Packet}
-use Rattle.savefile.specs.declared.reader.State.{State}
-use Rattle.savefile.specs.declared.reader.State.TheVariants as State
 use Rattle.savefile.specs.Savefile.{Holds, IsSavefile, NoRecord, RefusesHeader}
 
 -- ---- A reader as contracts see it
 
 -- A reader: its source; the header of its savefile; how many packets it has given, and the one that it lends; the bytes that it
--- took from the source ahead of the packets to come; and how far it has come.
+-- took from the source ahead of the packets to come; whether it has met the clean end; and whether it has told a fault behind
+-- which it cannot read.
 pub record Reading (R : Type 0) : Type 0 where
   pub source : R
   pub header : Header
   pub given : ℕ
   pub lent : Packet
   pub ahead : List ℕ
-  pub state : State
+  pub ended : Bool
+  pub failed : Bool
 
-abbrev pub reading : {R : Type 0} → R → Header → ℕ → Packet → List ℕ → State → Reading R
-reading source header given lent ahead state =
-    record { source = source; header = header; given = given; lent = lent; ahead = ahead; state = state }
+abbrev pub reading : {R : Type 0} → R → Header → ℕ → Packet → List ℕ → Bool → Bool → Reading R
+reading source header given lent ahead ended failed =
+    record { source = source; header = header; given = given; lent = lent; ahead = ahead; ended = ended; failed = failed }
 
 -- it has met neither the end nor a fault, CountFull aside
 abbrev pub GoesOn : {R : Type 0} → Reading R → Type 0
-GoesOn r = r.state ≡ State.Reading
+GoesOn r = (r.ended ≡ false) × (r.failed ≡ false)
 
 -- it has met the clean end
 abbrev pub HasEnded : {R : Type 0} → Reading R → Type 0
-HasEnded r = r.state ≡ State.Ended
+HasEnded r = r.ended ≡ true
 
 -- it has told a fault, behind which it cannot read
 abbrev pub HasFailed : {R : Type 0} → Reading R → Type 0
-HasFailed r = r.state ≡ State.Broken
+HasFailed r = r.failed ≡ true
 
 -- it lends a packet: it has given one and goes on
 abbrev pub Lends : {R : Type 0} → Reading R → Type 0

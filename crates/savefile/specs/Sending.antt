@@ -1,5 +1,5 @@
 -- The steps inside a call that writes.
-use Rattle.std.specs.Prelude.{◌≡◌, ℕ, ◌+◌, ◌<◌, true, List, ◌++◌, length, drop, Option}
+use Rattle.std.specs.Prelude.{◌≡◌, ℕ, ◌+◌, ◌<◌, true, List, length, Option}
 use Rattle.std.specs.Io.KnownBytes.{Appends}
 use Rattle.savefile.specs.Writer.{IsBeginning, Writing}
 
@@ -17,8 +17,3 @@ pub record SendsPart {W : Type 0} (taken : W → Option (List ℕ)) (old new : W
   pub short : length part < length text
   pub sends : Sends taken old new part
   pub failed : new.failed ≡ true
-
--- a number's bytes stand behind the first bytes of a text, as many as `at`, and the rest is as it was
-abbrev pub Fills : ℕ → List ℕ → List ℕ → List ℕ → Type 0
-Fills at old bytes new =
-    (front rest : List ℕ) → old ≡ front ++ rest → length front ≡ at → new ≡ (front ++ bytes) ++ drop (length bytes) rest

@@ -37,7 +37,7 @@ enum State {
 /// these are no clause says. So a fault, of the source too, stands behind all packets that came whole.
 ///
 /// Contracts see its source, the header of its savefile, how many packets it has given, the one that it lends, the bytes
-/// that it took from the source ahead of the packets to come, and whether it goes on, has ended or has failed.
+/// that it took from the source ahead of the packets to come, whether it has ended, and whether it has failed.
 #[derive(Debug, Drop)]
 pub struct Reader<R> {
     ahead: Ahead<R>,
@@ -52,11 +52,11 @@ pub struct Reader<R> {
 impl<R> Model for Reader<R> {
     ghost use Rattle.savefile.specs.Reader.{Reading, reading};
     ghost use Rattle.savefile.specs.Ahead.{waiting_in};
-    ghost use Rattle.savefile.specs.Passing.{passed_packet};
+    ghost use Rattle.savefile.specs.Passing.{passed_packet, is_ended, is_broken};
 
     ghost Value = { Reading R };
 
-    ghost view = { λ r. reading r.ahead.source r.header r.given (passed_packet r.«record» r.ahead) (waiting_in r.ahead) r.state };
+    ghost view = { λ r. reading r.ahead.source r.header r.given (passed_packet r.«record» r.ahead) (waiting_in r.ahead) (is_ended r.state) (is_broken r.state) };
 }
 
 /// Passes the header of a savefile.
@@ -209,7 +209,7 @@ impl<R: Source> Reader<R> {
         }
     }
 
-    /// Lends the packet that the latest [`Reader::advance`] went on to.
+    /// Lends the packet that the latest call went on to: [`Reader::advance`], or [`Reader::next`], which gave a copy of it.
     #[inline]
     pub fn packet(&self) -> PacketRef<'_>
         requires { Lends self.now }
@@ -236,6 +236,7 @@ impl<R: Source> Reader<R> {
             IfErr result (λ fault. IsCause start (R.left self.new.source) header packets fault ⊎ (fault ≡ Fault.NoMemory)) }
         ensures so_far { (start : Option (List ℕ)) (header : Header) (packets : List Packet) → HasGiven R.left start header packets self.old →
             WasBegun start header packets }
+        ensures lent { IfOk result (λ next. IfSome next (λ p. self.new.lent ≡ p)) }
         ensures writable { IfOk result (λ next. IfSome next IsWritable) }
 
         // When the errors come that are not of the text, and how each answer leaves the reader.

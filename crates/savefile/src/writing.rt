@@ -3,8 +3,9 @@
 ghost use Rattle.std.specs.Prelude.{◌≡◌, ◌≢◌, ℕ, List, [], ◌∷◌, ◌++◌, Option, true, false, ◌+◌, ◌^◌, ◌<◌, ◌≤◌, ◌↔◌, ◌⊎◌, length, IfErr, OnOk, OnErr};
 ghost use Rattle.savefile.specs.declared.packet.Packet.{Packet};
 ghost use Rattle.savefile.specs.Device.{CountsFailure};
+ghost use Rattle.savefile.specs.Filling.{Fills};
 ghost use Rattle.savefile.specs.Savefile.{bytes_in, header_text, packet, record_header_text};
-ghost use Rattle.savefile.specs.Sending.{Fills, Sends, SendsPart};
+ghost use Rattle.savefile.specs.Sending.{Sends, SendsPart};
 ghost use Rattle.savefile.specs.Writer.{HasWritten, HasWrittenPart};
 
 use crate::device::{Broken, Sink};

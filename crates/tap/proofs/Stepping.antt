@@ -2,7 +2,7 @@
 use Rattle.std.proofs.Common.{◌≡◌, ℕ, Bool, List, [], ◌∷◌, ◌++◌, Option, Some, None, option_map, refl, ap, sym, ◌∙◌, append_assoc, append-nil}
 use Rattle.bpfvm.specs.declared.insn.Insn.{Insn}
 use Rattle.listener.specs.declared.message.Message.{Message}
-use Rattle.listener.specs.Listening.{Listening, listening, Takes}
+use Rattle.listener.specs.Listening.{Listening, listening, TakesStep}
 use Rattle.listener.specs.PlainList.{Terms, PlainList, Request, Event, answer, answers, next, run, request_of, batch_in, batches, load}
 use Rattle.listener.specs.Laws.{AnswersAreRight}
 use Rattle.tap.specs.declared.answer.Answered.{Answered}
@@ -15,7 +15,7 @@ told_as s e shut bytes many closed loaded in_hold = λ i. record { closed = clos
 
 -- the one right answer is what the listener answers
 pub step_is : (law : AnswersAreRight) (old new : Listening) (bs : List (List Message)) (before : Option (List Answered)) (e : Event) (r : Request) →
-    request_of e ≡ r → Takes old e new →
+    request_of e ≡ r → TakesStep old e new →
     watch new (bs ++ batch_in e) (with_answer (answered old.list e) before) ≡ stepped r (watch old bs before)
 unfolding stepped
 step_is law old new bs before e r is takes =
@@ -25,7 +25,7 @@ step_is law old new bs before e r is takes =
 
 -- the same, where nothing was read
 pub step_without : (law : AnswersAreRight) (old new : Listening) (bs : List (List Message)) (before : Option (List Answered)) (e : Event) (r : Request) →
-    request_of e ≡ r → batch_in e ≡ [] → Takes old e new →
+    request_of e ≡ r → batch_in e ≡ [] → TakesStep old e new →
     watch new bs (with_answer (answered old.list e) before) ≡ stepped r (watch old bs before)
 step_without law old new bs before e r is none takes =
     ap (λ (l : List (List Message)). watch new l (with_answer (answered old.list e) before)) (sym (ap (λ (l : List (List Message)). bs ++ l) none ∙ append-nil bs))
@@ -34,7 +34,7 @@ step_without law old new bs before e r is none takes =
 -- the same, with the answer as the code writes it
 pub step_told : (law : AnswersAreRight) (old new : Listening) (bs : List (List Message)) (before after : Option (List Answered)) (told : Answered) (e : Event) (r : Request) →
     request_of e ≡ r → batch_in e ≡ [] → (shut : Bool) (bytes many : ℕ) → shut ≡ old.list.closed → bytes ≡ load old.list → many ≡ old.list.in_hold →
-    told ≡ record { closed = shut; load = bytes; in_hold = many; answer = answer_in e } → Takes old e new → after ≡ with_answer told before →
+    told ≡ record { closed = shut; load = bytes; in_hold = many; answer = answer_in e } → TakesStep old e new → after ≡ with_answer told before →
     watch new bs after ≡ stepped r (watch old bs before)
 step_told law old new bs before after told e r is none shut bytes many closed loaded in_hold same takes adds =
     ap (watch new bs) (adds ∙ ap (λ (a : Answered). with_answer a before) (same ∙ told_as old.list e shut bytes many closed loaded in_hold))

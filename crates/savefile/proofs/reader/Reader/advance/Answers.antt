@@ -7,7 +7,7 @@ use Rattle.savefile.proofs.reader.Reader.advance.Goals as goal
 pub returns-in-Ok-true-clause-packet : goal.returns-in-Ok-true-clause-packet
 returns-in-Ok-true-clause-packet g c =
     rw (← c.self.view_is) (λ start header packets given _.
-    gives_packet g.R.Source.left start header packets _ _ given refl refl refl (c.in-Ok-true.ensures.packet (cc)))
+    gives_packet g.R.Source.left start header packets _ _ given refl refl refl refl (c.in-Ok-true.ensures.packet (cc)))
 
 pub returns-in-Ok-false-clause-end : goal.returns-in-Ok-false-clause-end
 returns-in-Ok-false-clause-end g c =

@@ -15,7 +15,7 @@ returns-in-Ok-read_header-clause-ok g c =
       passed = passed_first _ _ more text (waiting_in c.read_header.new.ahead) (subst (λ (s : g.row.R.Denot). Consumes (g.R.Source.left s) (g.R.Source.left c.read_header.new.ahead.source) more) c.in-Ok.ensures.source consumes) first;
       told = refl;
       counts = refl;
-      goes_on = refl;
+      goes_on = (refl, refl);
     }
 
 pub returns-in-Ok-read_header-clause-taken : goal.returns-in-Ok-read_header-clause-taken
