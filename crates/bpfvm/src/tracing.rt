@@ -3,8 +3,8 @@
 ghost use Rattle.std.specs.Prelude.{◌≡◌, ℕ, List, IfOk};
 ghost use Rattle.bpfvm.specs.Codes.{Operation, operation_of};
 ghost use Rattle.bpfvm.specs.Machine.{verdict, beginning};
-ghost use Rattle.bpfvm.specs.Next.{registers as held};
-ghost use Rattle.bpfvm.specs.Traces.{stored_by, told, Runs};
+ghost use Rattle.bpfvm.specs.Next.{with_memory};
+ghost use Rattle.bpfvm.specs.Traces.{entry, stored_by, Runs};
 
 use crate::code;
 use crate::fault::NoMemory;
@@ -45,7 +45,7 @@ pub struct Traced {
 /// What an instruction stored, by the registers behind it.
 fn stored_by(insn: &Insn, registers: Registers) -> Option<Stored>
     ensures { (operation : Operation) (memory : List ℕ) → operation_of insn.now.code ≡ Some operation
-        → result ≡ stored_by operation insn.now (held registers memory) }
+        → result ≡ stored_by operation insn.now (with_memory registers memory) }
 {
     match insn.code {
         code::ST => Some(Stored {
@@ -60,10 +60,10 @@ fn stored_by(insn: &Insn, registers: Registers) -> Option<Stored>
     }
 }
 
-/// What is told of an instruction at a place, by the registers behind it.
-fn told(place: usize, insn: &Insn, registers: Registers) -> Executed
+/// The entry of an instruction at a place, by the registers behind it.
+fn entry(place: usize, insn: &Insn, registers: Registers) -> Executed
     ensures { (operation : Operation) (memory : List ℕ) → operation_of insn.now.code ≡ Some operation
-        → result ≡ told place operation insn.now (held registers memory) }
+        → result ≡ entry place operation insn.now (with_memory registers memory) }
 {
     Executed {
         place,
@@ -97,11 +97,11 @@ pub fn trace(alloc: Global, program: &Program, packet: &[u8], wire: u32) -> Resu
         let before = registers;
         match step(insn, &mut registers, &mut memory, packet, wire) {
             Next::On(passed) => {
-                executed.push(told(place, insn, registers))?;
+                executed.push(entry(place, insn, registers))?;
                 place += 1 + passed as usize;
             }
             Next::End(answer) => {
-                executed.push(told(place, insn, before))?;
+                executed.push(entry(place, insn, before))?;
                 return Ok(Traced { executed, answer });
             }
         }

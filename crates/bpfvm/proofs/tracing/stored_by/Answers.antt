@@ -1,6 +1,6 @@
 use Rattle.std.proofs.Common.{refl, sym, rules}
 use Rattle.bpfvm.specs.Codes.{Accumulator, Index, Store, operation_of}
-use Rattle.bpfvm.specs.Next.{registers as held}
+use Rattle.bpfvm.specs.Next.{with_memory}
 use Rattle.bpfvm.proofs.Traces.{operation-at, stores-nothing}
 use Rattle.bpfvm.proofs.tracing.stored_by.Goals as goal
 
@@ -16,4 +16,4 @@ returns-in-3 c = λ operation memory known.
 
 pub returns-in_default : goal.returns-in_default
 returns-in_default c = λ operation memory known.
-    sym (stores-nothing c.args.insn.now (held c.args.registers memory) operation (search rules) (search rules) known)
+    sym (stores-nothing c.args.insn.now (with_memory c.args.registers memory) operation (search rules) (search rules) known)

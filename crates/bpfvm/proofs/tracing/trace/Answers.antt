@@ -1,9 +1,9 @@
-use Rattle.std.proofs.Common.{◌≡◌, ℕ, ◌+◌, arith, refl, sym, ap, subst, ◌∙◌, length, List, [], ◌∷◌, ◌++◌, append_assoc}
+use Rattle.std.proofs.Common.{◌≡◌, ℕ, ◌+◌, arith, refl, sym, ap, subst, ◌∙◌, List, [], ◌∷◌, ◌++◌, append_assoc}
 use Rattle.std.proofs.lemmas.Option.{slice_get-get_or}
 use Rattle.bpfvm.specs.declared.insn.Insn.{Insn}
 use Rattle.bpfvm.specs.declared.tracing.Executed.{Executed}
 use Rattle.bpfvm.specs.Machine.{verdict, beginning}
-use Rattle.bpfvm.specs.Next.{registers as held}
+use Rattle.bpfvm.specs.Next.{with_memory}
 use Rattle.bpfvm.specs.Traces.{Runs}
 use Rattle.bpfvm.proofs.Runs.{answer-goes, answer-ends, step-inside, valid-sound}
 use Rattle.bpfvm.proofs.Traces.{Runs-goes, Runs-ends}
@@ -39,21 +39,21 @@ loop-passed-preserved c =
       inside = omega (arith, inside);
       answers = sym (rw same at goes) ∙ c.loop-passed.invariant.answers;
       front = λ others n later.
-          let next = subst (λ (place : ℕ). Runs c.insns-insns.result.now c.args.packet.now c.args.wire (record { place = place; registers = held c.step.new.registers c.step.new.memory }) others n) (sym same) later in
-          pushed c.insns-insns.result.now c.args.packet.now c.args.wire c.loop-passed.executed.items c.push.new.self.items others c.told.result n
+          let next = subst (λ (place : ℕ). Runs c.insns-insns.result.now c.args.packet.now c.args.wire (record { place = place; registers = with_memory c.step.new.registers c.step.new.memory }) others n) (sym same) later in
+          pushed c.insns-insns.result.now c.args.packet.now c.args.wire c.loop-passed.executed.items c.push.new.self.items others c.entry.result n
           c.in_ok-push-in-On.ensures.items
-          (c.loop-passed.invariant.front (c.told.result ∷ others) n
-          (Runs-goes c.insns-insns.result.now c.args.packet.now c.args.wire c.loop-passed.place _ _ c.in-On.passed _ c.told.result others n c.insns-insns.ensures.valid
+          (c.loop-passed.invariant.front (c.entry.result ∷ others) n
+          (Runs-goes c.insns-insns.result.now c.args.packet.now c.args.wire c.loop-passed.place _ _ c.in-On.passed _ c.entry.result others n c.insns-insns.ensures.valid
           (slice_get-get_or c.insns-insns.result.now c.loop-passed.place _ c.loop-passed.invariant.inside)
-          (sym c.in-On.ensures) (λ operation known. c.told.ensures operation c.step.new.memory known) next));
+          (sym c.in-On.ensures) (λ operation known. c.entry.ensures operation c.step.new.memory known) next));
     }
 
 pub returns-in-End-clause-steps : goal.returns-in-End-clause-steps
 returns-in-End-clause-steps c =
-    let runs = Runs-ends c.insns-insns.result.now c.args.packet.now c.args.wire c.loop-passed.place _ _ c.told-in-End.result c.in-End.answer c.insns-insns.ensures.valid
+    let runs = Runs-ends c.insns-insns.result.now c.args.packet.now c.args.wire c.loop-passed.place _ _ c.entry-in-End.result c.in-End.answer c.insns-insns.ensures.valid
     (slice_get-get_or c.insns-insns.result.now c.loop-passed.place _ c.loop-passed.invariant.inside)
-    (sym c.in-End.ensures) (λ operation known. c.told-in-End.ensures operation c.loop-passed.memory known) in
-    let whole = c.loop-passed.invariant.front (c.told-in-End.result ∷ []) c.in-End.answer runs in
+    (sym c.in-End.ensures) (λ operation known. c.entry-in-End.ensures operation c.loop-passed.memory known) in
+    let whole = c.loop-passed.invariant.front (c.entry-in-End.result ∷ []) c.in-End.answer runs in
     subst (λ (p : List Insn). Runs p c.args.packet.now c.args.wire beginning c.push-in-End.new.self.items c.in-End.answer) c.insns-insns.ensures.value
     (subst (λ (l : List Executed). Runs c.insns-insns.result.now c.args.packet.now c.args.wire beginning l c.in-End.answer) (sym c.in_ok-push-in-End.ensures.items) whole)
 
