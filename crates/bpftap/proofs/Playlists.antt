@@ -8,7 +8,7 @@ use Rattle.savefile.specs.declared.fault.Fault.{Fault}
 use Rattle.savefile.specs.declared.fault.Fault.TheVariants as fault
 use Rattle.savefile.specs.declared.header.Header.{Header}
 use Rattle.savefile.specs.declared.packet.Packet.{Packet}
-use Rattle.replay.specs.Captures.{numbered, IsStopped, GivesPlaylist}
+use Rattle.replay.specs.Captures.{arrivals_from, IsStopped, GivesPlaylist}
 use Rattle.replay.specs.declared.report.InterfaceEnd.{InterfaceEnd}
 use Rattle.replay.specs.declared.report.InterfaceEnd.TheVariants.{Clean, Capture, CountFull}
 use Rattle.tap.specs.OwnSteps.{arrival_of}
@@ -17,7 +17,7 @@ use Rattle.tap.specs.declared.playlist.Placed.{Placed}
 use Rattle.bpftap.specs.Laws.{EndsAs}
 
 -- the packets of a capture arrive as they are placed
-arrive-placed : (n place : ℕ) (ps : List Packet) (more : List Placed) → numbered n place ps ++ map arrival_of more ≡ map arrival_of (placed n place ps ++ more)
+arrive-placed : (n place : ℕ) (ps : List Packet) (more : List Placed) → arrivals_from n place ps ++ map arrival_of more ≡ map arrival_of (placed n place ps ++ more)
 arrive-placed n place [] more = refl
 arrive-placed n place (p ∷ ps) more = ap (λ (as' : List Arrival). arrival n place p ∷ as') (arrive-placed n (place + 1) ps more)
 
@@ -72,7 +72,7 @@ gives_one_playlist left failures (text ∷ texts) total n (s ∷ ss) (t ∷ ts) 
     let (list, playlist, same) = gives_one_playlist left failures texts total (n + 1) ss ts more end torn others rest ends in (
       placed n 0 ps ++ list,
       inl (ps, list, reads-text (left s) text header ps None first read, refl, playlist),
-      is ∙ ap (λ (as' : List Arrival). numbered n 0 ps ++ as') same ∙ arrive-placed n 0 ps list,
+      is ∙ ap (λ (as' : List Arrival). arrivals_from n 0 ps ++ as') same ∙ arrive-placed n 0 ps list,
     )
 gives_one_playlist left failures (text ∷ texts) total n (s ∷ ss) (t ∷ ts) arrivals Clean torn told (ps, more, is, inr ((bad, back), none, kept)) ends = absurd bad
 gives_one_playlist left failures (text ∷ texts) total n (s ∷ ss) (t ∷ ts) arrivals (Capture k why) torn told (ps, more, is, inr (((at, failed, full, stopped), back), none, kept)) ends =
@@ -80,6 +80,6 @@ gives_one_playlist left failures (text ∷ texts) total n (s ∷ ss) (t ∷ ts) 
     let (of_record, same) = ends-at k why torn ends in (
       placed n 0 ps,
       inr (ps, why, stopped-reads (left s) _ text ps why of_record first stopped, refl, same ∙ ap (λ (i : ℕ). Some (i, why)) at),
-      is ∙ ap (λ (as' : List Arrival). numbered n 0 ps ++ as') none ∙ arrive-placed n 0 ps [] ∙ ap (map arrival_of) (append-nil (placed n 0 ps)),
+      is ∙ ap (λ (as' : List Arrival). arrivals_from n 0 ps ++ as') none ∙ arrive-placed n 0 ps [] ∙ ap (map arrival_of) (append-nil (placed n 0 ps)),
     )
 gives_one_playlist left failures (text ∷ texts) total n (s ∷ ss) (t ∷ ts) arrivals CountFull torn told plays ends = absurd ends

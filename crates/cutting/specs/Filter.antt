@@ -4,11 +4,13 @@ use Rattle.std.specs.Io.KnownBytes.{Appends, Keeps}
 use Rattle.bpfvm.specs.declared.insn.Insn.{Insn}
 use Rattle.bpfvm.specs.Listing.{IsListing, IsRefusedListing, listing_of}
 use Rattle.bpfvm.specs.Validity.{IsValidProgram}
-use Rattle.filtergen.specs.declared.expression.ExpressionFault.{ExpressionFault}
 use Rattle.filtergen.specs.Expressions.{IsProgramOf, IsUncompiled}
+use Rattle.lines.specs.Sending.{TakesPart}
 use Rattle.lines.specs.Snapshot.{meant}
 use Rattle.cutting.specs.declared.filter.FilterFault.{FilterFault}
 use Rattle.cutting.specs.declared.filter.FilterFault.TheVariants.{Twice, Listing, Expression}
+use Rattle.cutting.specs.declared.check.Form.{Form}
+use Rattle.cutting.specs.declared.check.Form.TheVariants as forms
 use Rattle.cutting.specs.declared.check.PrintFault.{PrintFault}
 use Rattle.cutting.specs.declared.check.PrintFault.TheVariants as print
 
@@ -34,14 +36,15 @@ IsNoFilter listing expr snap fault = ⊥
 abbrev pub Prints : Option (List ℕ) → Option (List ℕ) → List ℕ → Type 0
 Prints old new text = (program : List Insn) × IsProgramOf text 262144 program × Appends old new (listing_of program)
 
--- why the listing of an expression's program is not printed
+-- Why a program is not printed: memory for its text was wanting, and nothing was taken; or the writer failed, which took a
+-- beginning of the listing, where that is the form.
+abbrev pub IsUnshown : Option (List ℕ) → Option (List ℕ) → Form → List Insn → PrintFault → Type 0
+IsUnshown old new form program (print.Expression fault) = ⊥
+IsUnshown old new form program print.NoMemory = Keeps old new
+IsUnshown old new form program (print.Output error) = form ≡ forms.Listing → TakesPart old new (listing_of program)
+
+-- Why the listing of an expression's program is not printed: the expression has none, and nothing was taken; or it has one, which
+-- is not printed.
 abbrev pub IsUnchecked : Option (List ℕ) → Option (List ℕ) → List ℕ → PrintFault → Type 0
 IsUnchecked old new text (print.Expression fault) = IsUncompiled text 262144 fault × Keeps old new
-IsUnchecked old new text print.NoMemory = Keeps old new
-IsUnchecked old new text (print.Output error) = Unit {0}
-
--- why a program is not printed
-abbrev pub IsUnshown : Option (List ℕ) → Option (List ℕ) → PrintFault → Type 0
-IsUnshown old new (print.Expression fault) = ⊥
-IsUnshown old new print.NoMemory = Keeps old new
-IsUnshown old new (print.Output error) = Unit {0}
+IsUnchecked old new text fault = (program : List Insn) × IsProgramOf text 262144 program × IsUnshown old new forms.Listing program fault

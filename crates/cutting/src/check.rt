@@ -9,6 +9,7 @@ ghost use Rattle.cutting.specs.declared.check.Form.TheVariants.{Listing};
 use bpfvm::{NoMemory, Program, write_image, write_listing};
 use filtergen::{ExpressionFault, compile_text};
 use lines::MAX_SNAP;
+use lines::sending::send;
 use std::alloc::Global;
 use std::io;
 use std::io::Write;
@@ -23,15 +24,16 @@ pub enum PrintFault {
     /// Memory is wanting for the text, and nothing is printed.
     #[error("NoMemory")]
     NoMemory,
-    /// The writer failed, and a beginning may have been printed.
+    /// The writer failed, and a beginning of the text was printed.
     #[error("{0}")]
     Output(io::Error),
 }
 
 /// Prints the listing of an expression's program at the largest snapshot length, 262,144.
 ///
-/// The fault is the one that stands: that of a text which is no expression, or is too deep or too long to compile, or
-/// `NoMemory`; or [`PrintFault::Output`] where `out` fails.
+/// The fault is the one that stands: [`PrintFault::Expression`] of a text which is no expression, or is too deep or too long to
+/// compile; of an expression it may also be `NoMemory`. Where there is a program, [`PrintFault::NoMemory`] where memory for its
+/// listing was refused, and [`PrintFault::Output`] where `out` fails, which then took a beginning of the listing and no more.
 pub fn check<O: Write>(alloc: Global, expr: &str, out: &mut O) -> Result<(), PrintFault>
     ensures printed { OnOk result (Prints (O.contents out.old) (O.contents out.new) expr.now) }
     ensures fault { IfErr result (IsUnchecked (O.contents out.old) (O.contents out.new) expr.now) }
@@ -60,7 +62,9 @@ fn text_of(alloc: Global, program: &Program, form: Form) -> Result<Vec<u8>, NoMe
     }
 }
 
-/// Prints a program in one of two forms. The fault is [`PrintFault::NoMemory`] or [`PrintFault::Output`].
+/// Prints a program in one of two forms. The fault is [`PrintFault::NoMemory`], and then nothing was printed, or
+/// [`PrintFault::Output`]: `out` failed, and took a beginning of the text and no more. What the text of an image says is
+/// tested, and no clause speaks of it.
 pub fn show<O: Write>(
     alloc: Global,
     program: &Program,
@@ -68,10 +72,10 @@ pub fn show<O: Write>(
     out: &mut O,
 ) -> Result<(), PrintFault>
     ensures printed { form ≡ Listing → OnOk result (Appends (O.contents out.old) (O.contents out.new) (listing_of program.now)) }
-    ensures fault { IfErr result (IsUnshown (O.contents out.old) (O.contents out.new)) }
+    ensures fault { IfErr result (IsUnshown (O.contents out.old) (O.contents out.new) form program.now) }
 {
     match text_of(alloc, program, form) {
-        Ok(text) => match out.write_all(text.as_slice()) {
+        Ok(text) => match send(text.as_slice(), out) {
             Ok(()) => Ok(()),
             Err(error) => Err(PrintFault::Output(error)),
         },

@@ -17,8 +17,8 @@ use Rattle.handover.specs.Rule.{KeepsRule}
 abbrev pub Pair : Type 0
 Pair = State Filled Sight
 
-abbrev pub number_of : Word → Pair → ℕ
-number_of w s = slice_index s.words (index_of w)
+abbrev pub word_number : Word → Pair → ℕ
+word_number w s = slice_index s.words (index_of w)
 
 -- the rule holds, and the seats are the feeder's and the drain's
 pub record HasEnds (p : Profile) (s : Pair) (feeder drain : Sight) : Type 0 where
@@ -63,26 +63,26 @@ SilentStepsChangeNothing =
 
 -- of a drain that answers Nothing for ever after the end: `ended` is 1, and a load of it that answered 0 is told
 abbrev pub NoEndIsOverlooked : Type 0
-NoEndIsOverlooked = (p : Profile) (s t : Pair) → number_of Ended s ≡ 1 → DrainTells p s t (Load Ended 0) → ⊥
+NoEndIsOverlooked = (p : Profile) (s t : Pair) → word_number Ended s ≡ 1 → DrainTells p s t (Load Ended 0) → ⊥
 
 -- of a drain that answers Nothing while the hold is full
 abbrev pub NoHoldIsOverlooked : Type 0
-NoHoldIsOverlooked = (p : Profile) (s t : Pair) → number_of Turn s ≡ 1 → DrainTells p s t (Load Turn 0) → ⊥
+NoHoldIsOverlooked = (p : Profile) (s t : Pair) → word_number Turn s ≡ 1 → DrainTells p s t (Load Turn 0) → ⊥
 
 -- of a feeder that stores after the close
 abbrev pub NoCloseIsOverlooked : Type 0
-NoCloseIsOverlooked = (p : Profile) (s t : Pair) → number_of Closed s ≡ 1 → FeederTells p s t (Load Closed 0) → ⊥
+NoCloseIsOverlooked = (p : Profile) (s t : Pair) → word_number Closed s ≡ 1 → FeederTells p s t (Load Closed 0) → ⊥
 
 -- of a feeder that drops without a look: the hold is empty, and a load of `turn` that answered 1 is told
 abbrev pub NoHoldIsMadeUp : Type 0
-NoHoldIsMadeUp = (p : Profile) (s t : Pair) → number_of Turn s ≡ 0 → FeederTells p s t (Load Turn 1) → ⊥
+NoHoldIsMadeUp = (p : Profile) (s t : Pair) → word_number Turn s ≡ 0 → FeederTells p s t (Load Turn 1) → ⊥
 
 -- of an `end` and of a `close` that store nothing: the words are as they were, and a store is told
 abbrev pub NoEndIsMadeUp : Type 0
-NoEndIsMadeUp = (p : Profile) (s t : Pair) → number_of Ended s ≡ 0 → t.words ≡ s.words → FeederTells p s t (Store Ended 1) → ⊥
+NoEndIsMadeUp = (p : Profile) (s t : Pair) → word_number Ended s ≡ 0 → t.words ≡ s.words → FeederTells p s t (Store Ended 1) → ⊥
 
 abbrev pub NoCloseIsMadeUp : Type 0
-NoCloseIsMadeUp = (p : Profile) (s t : Pair) → number_of Closed s ≡ 0 → t.words ≡ s.words → DrainTells p s t (Store Closed 1) → ⊥
+NoCloseIsMadeUp = (p : Profile) (s t : Pair) → word_number Closed s ≡ 0 → t.words ≡ s.words → DrainTells p s t (Store Closed 1) → ⊥
 
 -- ---- What an end has seen can't foretell what the other one will do
 

@@ -13,20 +13,20 @@ use Rattle.savefile.specs.declared.fault.Fault.TheVariants as fault
 use Rattle.savefile.specs.declared.packet.Packet.{Packet}
 use Rattle.replay.specs.declared.report.InterfaceEnd.{InterfaceEnd}
 use Rattle.replay.specs.declared.report.InterfaceEnd.TheVariants.{Capture}
-use Rattle.replay.specs.Captures.{numbered, ComesBack, IsStopped}
+use Rattle.replay.specs.Captures.{arrivals_from, ComesBack, IsStopped}
 
-numbered-more : (capture place : ℕ) (ps : List Packet) (p : Packet) → numbered capture place (ps ++ p ∷ []) ≡ numbered capture place ps ++ arrival capture (place + length ps) p ∷ []
-numbered-more capture place [] p = ap (λ k. arrival capture k p ∷ []) (omega arith)
-numbered-more capture place (q ∷ ps) p =
-    ap (λ xs. arrival capture place q ∷ xs) (numbered-more capture (place + 1) ps p
-    ∙ ap (λ k. numbered capture (place + 1) ps ++ arrival capture k p ∷ []) (omega arith))
+arrivals-more : (capture place : ℕ) (ps : List Packet) (p : Packet) → arrivals_from capture place (ps ++ p ∷ []) ≡ arrivals_from capture place ps ++ arrival capture (place + length ps) p ∷ []
+arrivals-more capture place [] p = ap (λ k. arrival capture k p ∷ []) (omega arith)
+arrivals-more capture place (q ∷ ps) p =
+    ap (λ xs. arrival capture place q ∷ xs) (arrivals-more capture (place + 1) ps p
+    ∙ ap (λ k. arrivals_from capture (place + 1) ps ++ arrival capture k p ∷ []) (omega arith))
 
 -- a packet that arrives behind those of its capture
 pub arrives-behind : (playlist : List Arrival) (capture place : ℕ) (ps : List Packet) (p : Packet) → length ps ≡ place
-    → (playlist ++ numbered capture 0 ps) ++ arrival capture place p ∷ [] ≡ playlist ++ numbered capture 0 (ps ++ p ∷ [])
+    → (playlist ++ arrivals_from capture 0 ps) ++ arrival capture place p ∷ [] ≡ playlist ++ arrivals_from capture 0 (ps ++ p ∷ [])
 arrives-behind playlist capture place ps p here =
-    append_assoc playlist (numbered capture 0 ps) (arrival capture place p ∷ [])
-    ∙ ap (λ xs. playlist ++ xs) (ap (λ k. numbered capture 0 ps ++ arrival capture k p ∷ []) (omega (arith, here)) ∙ sym (numbered-more capture 0 ps p))
+    append_assoc playlist (arrivals_from capture 0 ps) (arrival capture place p ∷ [])
+    ∙ ap (λ xs. playlist ++ xs) (ap (λ k. arrivals_from capture 0 ps ++ arrival capture k p ∷ []) (omega (arith, here)) ∙ sym (arrivals-more capture 0 ps p))
 
 one-writable : (p : Packet) → IsWritable p → (k : ℕ) (d : Packet) → k < length (p ∷ []) → IsWritable (get_or (p ∷ []) k d)
 one-writable p is zero d below = is

@@ -3,7 +3,7 @@ use Rattle.std.proofs.Common.{◌≡◌, ◌+◌, ℕ, List, [], ◌∷◌, ◌+
 use Rattle.std.proofs.lemmas.List.{append-nil, append_assoc}
 use Rattle.listener.specs.Messages.{Arrival}
 use Rattle.savefile.specs.declared.packet.Packet.{Packet}
-use Rattle.replay.specs.Captures.{GivesPlaylist, GivesPackets, numbered}
+use Rattle.replay.specs.Captures.{GivesPlaylist, GivesPackets, arrivals_from}
 use Rattle.replay.specs.declared.report.InterfaceEnd.{InterfaceEnd}
 use Rattle.replay.specs.declared.report.InterfaceEnd.TheVariants.{Clean}
 
@@ -19,27 +19,27 @@ module _ {S : Type 0} (left : S → Option (List ℕ)) (broken : S → ℕ) wher
   -- one capture more was read whole
   pub one-whole : (all sources : List S) (n : ℕ) (s t : S) (rest : List S) (playlist : List Arrival) (packets : List Packet)
       → PlaysSoFar all sources n (s ∷ rest) playlist None → GivesPackets left broken s t n 0 packets None
-      → PlaysSoFar all (sources ++ t ∷ []) (n + 1) rest (playlist ++ numbered n 0 packets) None
+      → PlaysSoFar all (sources ++ t ∷ []) (n + 1) rest (playlist ++ arrivals_from n 0 packets) None
   one-whole all sources n s t rest playlist packets so ends = λ total others more end plays.
-      subst (λ ts. GivesPlaylist left broken total 0 all ts ((playlist ++ numbered n 0 packets) ++ more) end) (sym (append_assoc sources (t ∷ []) others))
-      (subst (λ as'. GivesPlaylist left broken total 0 all (sources ++ t ∷ others) as' end) (sym (append_assoc playlist (numbered n 0 packets) more))
-      (so total (t ∷ others) (numbered n 0 packets ++ more) end (packets, more, refl, inl (ends, plays))))
+      subst (λ ts. GivesPlaylist left broken total 0 all ts ((playlist ++ arrivals_from n 0 packets) ++ more) end) (sym (append_assoc sources (t ∷ []) others))
+      (subst (λ as'. GivesPlaylist left broken total 0 all (sources ++ t ∷ others) as' end) (sym (append_assoc playlist (arrivals_from n 0 packets) more))
+      (so total (t ∷ others) (arrivals_from n 0 packets ++ more) end (packets, more, refl, inl (ends, plays))))
 
   -- one capture more was read, and ended the playlist
   pub one-ending : (all sources : List S) (n : ℕ) (s t : S) (rest : List S) (playlist : List Arrival) (packets : List Packet) (end : InterfaceEnd)
       → PlaysSoFar all sources n (s ∷ rest) playlist None
-      → GivesPackets left broken s t n (length (playlist ++ numbered n 0 packets)) packets (Some end)
-      → PlaysSoFar all (sources ++ t ∷ []) (n + 1) rest (playlist ++ numbered n 0 packets) (Some end)
+      → GivesPackets left broken s t n (length (playlist ++ arrivals_from n 0 packets)) packets (Some end)
+      → PlaysSoFar all (sources ++ t ∷ []) (n + 1) rest (playlist ++ arrivals_from n 0 packets) (Some end)
   one-ending all sources n s t rest playlist packets end so ends =
-      subst (λ ts. GivesPlaylist left broken (length (playlist ++ numbered n 0 packets)) 0 all ts (playlist ++ numbered n 0 packets) end) (sym (append_assoc sources (t ∷ []) rest))
-      (so (length (playlist ++ numbered n 0 packets)) (t ∷ rest) (numbered n 0 packets) end
-      (packets, [], sym (append-nil (numbered n 0 packets)), inr (ends, refl, refl)))
+      subst (λ ts. GivesPlaylist left broken (length (playlist ++ arrivals_from n 0 packets)) 0 all ts (playlist ++ arrivals_from n 0 packets) end) (sym (append_assoc sources (t ∷ []) rest))
+      (so (length (playlist ++ arrivals_from n 0 packets)) (t ∷ rest) (arrivals_from n 0 packets) end
+      (packets, [], sym (append-nil (arrivals_from n 0 packets)), inr (ends, refl, refl)))
 
   -- one capture more was read
   pub one-more : (all sources : List S) (n : ℕ) (s t : S) (rest : List S) (playlist : List Arrival) (packets : List Packet) (end : Option InterfaceEnd)
       → PlaysSoFar all sources n (s ∷ rest) playlist None
-      → GivesPackets left broken s t n (length (playlist ++ numbered n 0 packets)) packets end
-      → PlaysSoFar all (sources ++ t ∷ []) (n + 1) rest (playlist ++ numbered n 0 packets) end
+      → GivesPackets left broken s t n (length (playlist ++ arrivals_from n 0 packets)) packets end
+      → PlaysSoFar all (sources ++ t ∷ []) (n + 1) rest (playlist ++ arrivals_from n 0 packets) end
   one-more all sources n s t rest playlist packets None so ends = one-whole all sources n s t rest playlist packets so ends
   one-more all sources n s t rest playlist packets (Some end) so ends = one-ending all sources n s t rest playlist packets end so ends
 
@@ -80,12 +80,12 @@ module _ {S : Type 0} (left : S → Option (List ℕ)) (broken : S → ℕ) wher
 
   pub loop-read : (all sources sources' : List S) (n m k arrived : ℕ) (s t t' : S) (rest rest' : List S) (playlist : List Arrival) (packets : List Packet)
       (end end' end'' : Option InterfaceEnd) → PlaysSoFar all sources n rest playlist end → end ≡ None → rest ≡ s ∷ rest' → t' ≡ t → sources' ≡ sources ++ t' ∷ []
-      → k ≡ n → m ≡ n + 1 → arrived ≡ length (playlist ++ numbered k 0 packets) → GivesPackets left broken s t k arrived packets end'' → end' ≡ end''
-      → PlaysSoFar all sources' m rest' (playlist ++ numbered k 0 packets) end'
+      → k ≡ n → m ≡ n + 1 → arrived ≡ length (playlist ++ arrivals_from k 0 packets) → GivesPackets left broken s t k arrived packets end'' → end' ≡ end''
+      → PlaysSoFar all sources' m rest' (playlist ++ arrivals_from k 0 packets) end'
   loop-read all sources sources' n m k arrived s t t' rest rest' playlist packets end end' end'' so none taken same given here next many ends kept =
-      subst (λ x. PlaysSoFar all sources' m rest' (playlist ++ numbered k 0 packets) x) (sym kept)
-      (subst (λ ts. PlaysSoFar all ts m rest' (playlist ++ numbered k 0 packets) end'') (sym (given ∙ ap (λ x. sources ++ x ∷ []) same))
-      (subst (λ i. PlaysSoFar all (sources ++ t ∷ []) i rest' (playlist ++ numbered k 0 packets) end'') (sym (next ∙ ap (λ i. i + 1) (sym here)))
+      subst (λ x. PlaysSoFar all sources' m rest' (playlist ++ arrivals_from k 0 packets) x) (sym kept)
+      (subst (λ ts. PlaysSoFar all ts m rest' (playlist ++ arrivals_from k 0 packets) end'') (sym (given ∙ ap (λ x. sources ++ x ∷ []) same))
+      (subst (λ i. PlaysSoFar all (sources ++ t ∷ []) i rest' (playlist ++ arrivals_from k 0 packets) end'') (sym (next ∙ ap (λ i. i + 1) (sym here)))
       (one-more all sources k s t rest' playlist packets end''
       (subst (λ i. PlaysSoFar all sources i (s ∷ rest') playlist None) (sym here)
       (subst (λ xs. PlaysSoFar all sources n xs playlist None) taken (subst (λ x. PlaysSoFar all sources n rest playlist x) none so)))

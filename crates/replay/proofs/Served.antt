@@ -20,10 +20,9 @@ use Rattle.replay.specs.Reports.{IsReported}
 use Rattle.replay.specs.declared.crew.Crew.{Crew}
 use Rattle.replay.specs.declared.report.ListenerReport.{ListenerReport}
 use Rattle.replay.specs.declared.task.Task.{Task}
-use Rattle.replay.specs.Arrived.{IsTimely}
-use Rattle.replay.specs.Writing.{IsPrompt}
+use Rattle.replay.specs.Writing.{IsTimely}
 use Rattle.replay.proofs.Asked.{count-asked}
-use Rattle.replay.proofs.Timely.{asked-prompt}
+use Rattle.replay.proofs.Timely.{asked-timely}
 
 flush-by : (full : Bool) (b : Bool) → by_kind (kind (call.Flush full)) b b true ≡ false → b ≡ false
 flush-by true b e = e
@@ -68,10 +67,10 @@ next-ended {W} playlist ends feed ends' crews crew crews' same e f =
     (cc, cc)
 
 -- what a feeder's messages are, by what it was asked for
-pub ended-prompt : {W : Type 0} (playlist : List Arrival) (feed : FeedingEnded) (crew : Crew W) → All IsTimely playlist
-    → ended_of feed ≡ ended_line (fed_all playlist (crew_line crew)) → All IsPrompt (all_accepted (asks feed.feeds))
-ended-prompt playlist feed crew timely e =
-    subst (λ rs. All IsPrompt (all_accepted rs)) (sym (ap (λ (l : EndedLine). l.asks) e)) (asked-prompt (asking_of crew.task.value) playlist timely)
+pub ended-timely : {W : Type 0} (playlist : List Arrival) (feed : FeedingEnded) (crew : Crew W) → All (λ (a : Arrival). IsTimely a.packet.nanos) playlist
+    → ended_of feed ≡ ended_line (fed_all playlist (crew_line crew)) → All (λ m. IsTimely m.nanos) (all_accepted (asks feed.feeds))
+ended-timely playlist feed crew timely e =
+    subst (λ rs. All (λ m. IsTimely m.nanos) (all_accepted rs)) (sym (ap (λ (l : EndedLine). l.asks) e)) (asked-timely (asking_of crew.task.value) playlist timely)
 
 -- the links of pairs, of which the first is taken, and the tasks that they are of
 pub next-paired : {W : Type 0} (crews crews' : List (Crew W)) (crew : Crew W) (links links' : List TableId) (link : TableId)

@@ -1,20 +1,16 @@
 -- What a capture gave to the listeners of an interface.
-use Rattle.std.specs.Prelude.{◌<◌, ℕ, List, ◌++◌, All, Option}
+use Rattle.std.specs.Prelude.{ℕ, List, ◌++◌, All, Option}
 use Rattle.listener.specs.Messages.{Arrival}
 use Rattle.savefile.specs.Savefile.{IsWritable}
 use Rattle.savefile.specs.declared.packet.Packet.{Packet}
-use Rattle.replay.specs.Captures.{EndsSo, numbered}
+use Rattle.replay.specs.Captures.{EndsSo, arrivals_from}
 use Rattle.replay.specs.Lines.{Line, HasArrived}
-use Rattle.replay.specs.declared.inlet.Player.{Player}
+use Rattle.replay.specs.declared.player.Player.{Player}
 use Rattle.replay.specs.declared.report.InterfaceEnd.{InterfaceEnd}
-
--- its time has less than a second of nanoseconds
-abbrev pub IsTimely : Arrival → Type 0
-IsTimely a = a.packet.nanos < 1000000000
 
 -- Packets of a capture arrived at the listeners, each writable, numbered from 0; and that is how it ended.
 pub record HasGivenPackets (start : Option (List ℕ)) (broke : Type 0) (capture : ℕ) (old new : Player) (end : Option InterfaceEnd) : Type 0 where
   pub packets : List Packet
   pub writable : All IsWritable packets
-  pub arrive : (starts : List Line) (playlist : List Arrival) → HasArrived starts playlist old → HasArrived starts (playlist ++ numbered capture 0 packets) new
+  pub arrive : (starts : List Line) (playlist : List Arrival) → HasArrived starts playlist old → HasArrived starts (playlist ++ arrivals_from capture 0 packets) new
   pub ends : EndsSo start broke capture new.arrived packets end

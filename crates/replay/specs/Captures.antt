@@ -11,9 +11,9 @@ use Rattle.replay.specs.declared.report.InterfaceEnd.{InterfaceEnd}
 use Rattle.replay.specs.declared.report.InterfaceEnd.TheVariants.{Clean, Capture, CountFull}
 
 -- the packets of a capture as they arrive, of which the first has this place
-abbrev pub numbered : ℕ → ℕ → List Packet → List Arrival
-numbered capture place [] = []
-numbered capture place (p ∷ ps) = arrival capture place p ∷ numbered capture (place + 1) ps
+abbrev pub arrivals_from : ℕ → ℕ → List Packet → List Arrival
+arrivals_from capture place [] = []
+arrivals_from capture place (p ∷ ps) = arrival capture place p ∷ arrivals_from capture (place + 1) ps
 
 -- Why a capture ended before its end, behind these packets: its header is refused; a record's fault stands behind them; its
 -- source failed, and they begin what it holds; or memory was refused, and it gave nothing.
@@ -50,6 +50,6 @@ GivesPlaylist left failures total capture [] [] playlist end = (playlist ≡ [])
 GivesPlaylist left failures total capture [] (t ∷ ts) playlist end = ⊥
 GivesPlaylist left failures total capture (s ∷ ss) [] playlist end = ⊥
 GivesPlaylist left failures total capture (s ∷ ss) (t ∷ ts) playlist end =
-    (packets : List Packet) × (more : List Arrival) × (playlist ≡ numbered capture 0 packets ++ more)
+    (packets : List Packet) × (more : List Arrival) × (playlist ≡ arrivals_from capture 0 packets ++ more)
     × ((GivesPackets left failures s t capture total packets None × GivesPlaylist left failures total (capture + 1) ss ts more end)
     ⊎ (GivesPackets left failures s t capture total packets (Some end) × (more ≡ []) × (ts ≡ ss)))

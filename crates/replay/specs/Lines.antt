@@ -9,7 +9,7 @@ use Rattle.handover.specs.declared.view.Profile.{Profile}
 use Rattle.replay.specs.Playing.{Asking, asked, asked_at}
 use Rattle.replay.specs.declared.inlet.Entry.{Entry}
 use Rattle.replay.specs.declared.inlet.Inlet.{Inlet}
-use Rattle.replay.specs.declared.inlet.Player.{Player}
+use Rattle.replay.specs.declared.player.Player.{Player}
 
 -- A feeder: its pair, its buffers and mode, what it is asked by, and what it was asked.
 pub record Line : Type 0 where

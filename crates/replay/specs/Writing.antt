@@ -12,9 +12,9 @@ use Rattle.replay.specs.declared.writing.Written.{Written}
 abbrev pub as_written : Message → Packet
 as_written m = packet m.sec (min m.nanos 999999999) m.len m.bytes
 
--- its time has less than a second of nanoseconds
-abbrev pub IsPrompt : Message → Type 0
-IsPrompt m = m.nanos < 1000000000
+-- a time has less than a second of nanoseconds
+abbrev pub IsTimely : ℕ → Type 0
+IsTimely nanos = nanos < 1000000000
 
 -- The messages were written: all while no fault came; else a beginning, behind which the sink failed or the text became too long.
 pub record Writes {W : Type 0} (taken : W → Option (List ℕ)) (failures : W → ℕ) (o : Output W) (messages : List Message) (w : Written W) : Type 0 where

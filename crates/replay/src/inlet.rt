@@ -19,11 +19,3 @@ pub(crate) struct Inlet<'a> {
     pub(crate) flush_every: u32,
     ghost pair: { feeder.pair ≡ link.now },
 }
-
-/// The feeders of an interface, and how many packets arrived there.
-#[derive(Drop)]
-pub(crate) struct Player<'a> {
-    pub(crate) interface: u32,
-    pub(crate) inlets: Vec<Inlet<'a>>,
-    pub(crate) arrived: u64,
-}

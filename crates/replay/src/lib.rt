@@ -1,7 +1,6 @@
 //! Replays captures to listeners in threads: packets arrive at each listener, and what it keeps is written as a savefile.
 #![tactic(auto)]
 
-mod captures;
 mod check;
 mod crew;
 mod fault;

@@ -1,14 +1,32 @@
-//! Giving packets to the listeners of an interface.
+//! The player of an interface: it reads captures, and gives their packets to the listeners.
 
-ghost use Rattle.std.specs.Prelude.{◌≡◌, ◌-◌, ◌<◌, ◌^◌, List, ◌∷◌, ◌++◌, [], All, map};
+ghost use Rattle.std.specs.Prelude.{◌≡◌, ◌≢◌, ℕ, ◌-◌, ◌<◌, ◌≤◌, ◌^◌, List, ◌∷◌, ◌++◌, [], All, Option, length, map, vec_capacity};
 ghost use Rattle.listener.specs.LookingBack.{count, is_arrival};
 ghost use Rattle.listener.specs.Messages.{Arrival, arrival};
+ghost use Rattle.savefile.specs.declared.header.Header.{Header};
+ghost use Rattle.savefile.specs.Reader.{HasGiven};
+ghost use Rattle.replay.specs.Arrived.{HasGivenPackets};
+ghost use Rattle.replay.specs.Captures.{ComesBack, GivesPlaylist};
 ghost use Rattle.replay.specs.Lines.{Line, line_of, fed_with, HasArrived};
 ghost use Rattle.replay.specs.Playing.{is_due};
+ghost use Rattle.replay.specs.Writing.{IsTimely};
 
 use crate::gate::Gate;
-use crate::inlet::{Inlet, Player};
-use savefile::PacketRef;
+use crate::inlet::Inlet;
+use crate::report::InterfaceEnd;
+use savefile::{PacketRef, Reader, Source};
+use std::alloc::Global;
+
+/// The most packets that arrive at an interface.
+const MOST_ARRIVALS: u64 = u64::MAX - 1;
+
+/// The feeders of an interface, and how many packets arrived there.
+#[derive(Drop)]
+pub(crate) struct Player<'a> {
+    pub(crate) interface: u32,
+    pub(crate) inlets: Vec<Inlet<'a>>,
+    pub(crate) arrived: u64,
+}
 
 /// A packet that arrives: its number among the arrivals of the interface, its capture, and its place there.
 #[derive(Clone, Copy)]
@@ -55,13 +73,7 @@ fn give_all(inlets: &mut Vec<Inlet<'_>>, placed: &Placed<'_>)
 
 impl Player<'_> {
     /// The next packet arrives, of a capture and a place there.
-    pub(crate) fn arrive<G: Gate>(
-        &mut self,
-        gate: &G,
-        capture: u32,
-        place: u64,
-        packet: &PacketRef<'_>,
-    )
+    fn arrive<G: Gate>(&mut self, gate: &G, capture: u32, place: u64, packet: &PacketRef<'_>)
         requires room { self.old.arrived < 2 ^ 64 - 2 }
         requires so_far { (starts : List Line) × (playlist : List Arrival) × HasArrived starts playlist self.old }
         ensures { (starts : List Line) (playlist : List Arrival) → HasArrived starts playlist self.old →
@@ -77,5 +89,90 @@ impl Player<'_> {
         give_all(&mut self.inlets, &placed);
         gate.after_arrive(self.interface, placed.n);
         self.arrived += 1;
+    }
+
+    /// Gives the packets of a capture to the feeders, one behind the other. Where that ends the interface, it answers how.
+    fn give_packets<S: Source, G: Gate>(
+        &mut self,
+        gate: &G,
+        capture: u32,
+        reader: &mut Reader<S>,
+    ) -> Option<InterfaceEnd>
+        requires room { self.old.arrived ≤ 2 ^ 64 - 2 }
+        requires so_far { (starts : List Line) × (playlist : List Arrival) × HasArrived starts playlist self.old }
+        ensures played { (start : Option (List ℕ)) (header : Header) → HasGiven S.left start header [] reader.old →
+            HasGivenPackets start (S.failures reader.new.source ≢ S.failures reader.old.source) capture self.old self.new result }
+        ensures back { ComesBack S.left S.failures reader.old.source reader.new.source capture result }
+        ensures room { self.new.arrived ≤ 2 ^ 64 - 2 }
+        ensures so_far { (starts : List Line) × (playlist : List Arrival) × HasArrived starts playlist self.new }
+    {
+        for place in 0..u64::MAX {
+            match reader.advance() {
+                Ok(true) => {}
+                Ok(false) => return None,
+                Err(fault) => return Some(InterfaceEnd::Capture(capture, fault)),
+            }
+            if self.arrived == MOST_ARRIVALS {
+                return Some(InterfaceEnd::CountFull);
+            }
+            self.arrive(gate, capture, place, &reader.packet());
+        }
+        Some(InterfaceEnd::CountFull)
+    }
+
+    /// Reads a capture, and gives its packets to the feeders. Its source comes back; and how the interface ended, where this
+    /// ended it.
+    fn give_capture<S: Source, G: Gate>(
+        &mut self,
+        alloc: Global,
+        gate: &G,
+        capture: u32,
+        source: S,
+    ) -> (S, Option<InterfaceEnd>)
+        requires room { self.old.arrived ≤ 2 ^ 64 - 2 }
+        requires so_far { (starts : List Line) × (playlist : List Arrival) × HasArrived starts playlist self.old }
+        ensures played { HasGivenPackets (S.left source) (S.failures result.0 ≢ S.failures source) capture self.old self.new result.1 }
+        ensures back { ComesBack S.left S.failures source result.0 capture result.1 }
+        ensures room { self.new.arrived ≤ 2 ^ 64 - 2 }
+        ensures so_far { (starts : List Line) × (playlist : List Arrival) × HasArrived starts playlist self.new }
+    {
+        match Reader::open(alloc, source) {
+            Ok(mut reader) => {
+                let end = self.give_packets(gate, capture, &mut reader);
+                (reader.close(), end)
+            }
+            Err((source, fault)) => (source, Some(InterfaceEnd::Capture(capture, fault))),
+        }
+    }
+
+    /// Reads the captures in order, until one ends the interface: the answer tells how. The sources come back, those behind it
+    /// as they were.
+    pub(crate) fn give_captures<S: Source + Drop, G: Gate>(
+        &mut self,
+        alloc: Global,
+        gate: &G,
+        captures: Vec<S>,
+        mut sources: Vec<S>,
+    ) -> (Vec<S>, InterfaceEnd)
+        requires few { length captures.items ≤ 65536 }
+        requires room { (length sources.items ≡ 0) × (length captures.items ≤ vec_capacity sources) }
+        requires arrived { self.old.arrived ≤ 2 ^ 64 - 2 }
+        requires so_far { (starts : List Line) × (playlist : List Arrival) × HasArrived starts playlist self.old }
+        ensures { (starts : List Line) → HasArrived starts [] self.old → (playlist : List Arrival) × All (λ a. IsTimely a.packet.nanos) playlist × HasArrived starts playlist self.new
+            × GivesPlaylist S.left S.failures (length playlist) 0 captures.items result.0.items playlist result.1 }
+    {
+        let mut end = None;
+        for (n, source) in captures.into_iter().enumerate() {
+            let source = match end {
+                Some(_) => source,
+                None => {
+                    let (source, ended) = self.give_capture(alloc, gate, n as u32, source);
+                    end = ended;
+                    source
+                }
+            };
+            sources.push_reserved(source);
+        }
+        (sources, end.unwrap_or(InterfaceEnd::Clean))
     }
 }

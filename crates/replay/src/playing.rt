@@ -5,10 +5,11 @@ ghost use Rattle.listener.specs.Messages.{Arrival};
 ghost use Rattle.replay.specs.Lines.{HasArrived, IsFresh, Line, entry_line, ended_all, ended_of, line_of};
 ghost use Rattle.replay.specs.Captures.{GivesPlaylist};
 ghost use Rattle.replay.specs.PlayedOut.{HasPlayedOut};
-ghost use Rattle.replay.specs.Arrived.{IsTimely};
+ghost use Rattle.replay.specs.Writing.{IsTimely};
 
 use crate::gate::Gate;
-use crate::inlet::{Entry, Inlet, Player};
+use crate::inlet::{Entry, Inlet};
+use crate::player::Player;
 use crate::report::InterfaceEnd;
 use handover::FeedEnd;
 use savefile::Source;
@@ -34,39 +35,6 @@ pub(crate) struct PlaysOut<R> {
 
 impl<R: Source> Promise<PlayEnd<R>> for PlaysOut<R> {
     ghost kept_by = { λ p r. HasPlayedOut R.left R.failures (map entry_line p.entries.value.items) p.captures.value.items r };
-}
-
-impl Player<'_> {
-    /// Reads the captures in order, until one ends the interface: the answer tells how. The sources come back, those behind it
-    /// as they were.
-    fn give_captures<S: Source + Drop, G: Gate>(
-        &mut self,
-        alloc: Global,
-        gate: &G,
-        captures: Vec<S>,
-        mut sources: Vec<S>,
-    ) -> (Vec<S>, InterfaceEnd)
-        requires few { length captures.items ≤ 65536 }
-        requires room { (length sources.items ≡ 0) × (length captures.items ≤ vec_capacity sources) }
-        requires arrived { self.old.arrived ≤ 2 ^ 64 - 2 }
-        requires so_far { (starts : List Line) × (playlist : List Arrival) × HasArrived starts playlist self.old }
-        ensures { (starts : List Line) → HasArrived starts [] self.old → (playlist : List Arrival) × All IsTimely playlist × HasArrived starts playlist self.new
-            × GivesPlaylist S.left S.failures (length playlist) 0 captures.items result.0.items playlist result.1 }
-    {
-        let mut end = None;
-        for (n, source) in captures.into_iter().enumerate() {
-            let source = match end {
-                Some(_) => source,
-                None => {
-                    let (source, ended) = self.give_capture(alloc, gate, n as u32, source);
-                    end = ended;
-                    source
-                }
-            };
-            sources.push_reserved(source);
-        }
-        (sources, end.unwrap_or(InterfaceEnd::Clean))
-    }
 }
 
 /// Ends all feeders.

@@ -7,7 +7,7 @@ ghost use Rattle.replay.specs.Crews.{crew_line, crew_pair, crew_task};
 ghost use Rattle.replay.specs.Lines.{ended_all, ended_of, fed_all};
 ghost use Rattle.replay.specs.Replayed.{IsServed};
 ghost use Rattle.replay.specs.RunsEnded.{HasItsPairs, IsReportOf, past_pair};
-ghost use Rattle.replay.specs.Arrived.{IsTimely};
+ghost use Rattle.replay.specs.Writing.{IsTimely};
 
 use crate::crew::Crew;
 use crate::playing::PlayEnd;
@@ -28,10 +28,10 @@ fn report_tasks<W: Sink + Drop, R: Threads>(
     mut reports: Vec<ListenerReport<W>>,
 ) -> Vec<ListenerReport<W>>
     requires pairs { map crew_pair crews.items ≡ links.items }
-    requires fed { (playlist : List Arrival) × All IsTimely playlist × (map ended_of ends.items ≡ ended_all (map (fed_all playlist) (map crew_line crews.items))) }
+    requires fed { (playlist : List Arrival) × All (λ a. IsTimely a.packet.nanos) playlist × (map ended_of ends.items ≡ ended_all (map (fed_all playlist) (map crew_line crews.items))) }
     requires room { (length reports.items ≡ 0) × (length crews.items ≤ vec_capacity reports) }
     ensures pairs { map past_pair result.items ≡ map crew_pair crews.items }
-    ensures served { (playlist : List Arrival) → All IsTimely playlist → map ended_of ends.items ≡ ended_all (map (fed_all playlist) (map crew_line crews.items)) →
+    ensures served { (playlist : List Arrival) → All (λ a. IsTimely a.packet.nanos) playlist → map ended_of ends.items ≡ ended_all (map (fed_all playlist) (map crew_line crews.items)) →
         AllZip (IsServed W.taken W.failures playlist) (map crew_task crews.items) result.items }
 {
     let mut links = links.into_iter();

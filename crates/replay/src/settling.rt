@@ -10,7 +10,7 @@ ghost use Rattle.listener.specs.declared.message.Message.{Message};
 ghost use Rattle.replay.specs.Crews.{IsDone};
 ghost use Rattle.replay.specs.Reading.{messages_of};
 ghost use Rattle.replay.specs.Reports.{IsReported};
-ghost use Rattle.replay.specs.Writing.{IsPrompt, Writes};
+ghost use Rattle.replay.specs.Writing.{IsTimely, Writes};
 ghost use Rattle.replay.specs.declared.writing.Output.{Output};
 
 use crate::crew::Done;
@@ -82,7 +82,7 @@ fn report<W: Sink>(
 pub(crate) fn settled<W: Sink + Drop>(link: Link, feed: FeedEnd, done: Done<W>) -> ListenerReport<W>
     requires pair { (feed.pair ≡ link) × (done.read.drain.pair ≡ link) }
     requires profile { feed.profile ≡ profile_of done.task.value.capacity done.task.value.mode }
-    requires prompt { All IsPrompt (all_accepted (asks feed.feeds)) }
+    requires timely { All (λ m. IsTimely m.nanos) (all_accepted (asks feed.feeds)) }
     requires done { IsDone W.taken W.failures done }
     ensures report { IsReported W.taken W.failures done.task.value feed.feeds done.read.drain.takes result }
     ensures past { (result.past.pair ≡ done.read.drain.pair) × (result.past.feeds ≡ feed.feeds) × (result.past.takes ≡ done.read.drain.takes)

@@ -8,6 +8,7 @@ use Rattle.tap.specs.declared.step.Step.{Step}
 use Rattle.tap.specs.declared.playlist.Placed.{Placed}
 use Rattle.tap.specs.declared.report.Report.{Report}
 use Rattle.tap.specs.Headline.{Replays}
+use Rattle.tap.specs.Refusals.{NoneStands}
 use Rattle.stepping.specs.declared.steps.Ended.{Ended}
 use Rattle.stepping.specs.Printed.{printed_reports}
 use Rattle.stepping.specs.Playing.{Streams, TakesSome, IsPrintStatus, print_status_of, record_fault_status, output_line, record_fault_line, Reported}
@@ -37,14 +38,15 @@ print-status old new text (Ok x) taken = inl (refl, taken)
 print-status old new text (Err e) taken = inr (refl, taken)
 
 pub Reported-plain : {A E : Type 0} (explained : Bool) (captures : List (List ℕ)) (specs : List Spec) (steps : List Step) (old new : Streams) (ended : Ended) (reports : List Report) (record_fault : Option (ℕ × RecordFault)) (r : Result A E) →
-    (playlist : List Placed) × Replays captures specs steps playlist record_fault reports → Takes old.out new.out r (printed_reports reports) →
+    NoneStands captures specs steps → (playlist : List Placed) × Replays captures specs steps playlist record_fault reports → Takes old.out new.out r (printed_reports reports) →
     Takes old.err new.err ended.told (output_line (print_status_of r) ++ record_fault_line record_fault) → ended.status ≡ max (print_status_of r) (record_fault_status record_fault) →
     Reported explained captures specs steps old new ended
-Reported-plain explained captures specs steps old new ended reports record_fault r replays taken tells greatest = record {
+Reported-plain explained captures specs steps old new ended reports record_fault r none_stands replays taken tells greatest = record {
   reports = reports;
   record_fault = record_fault;
   playlist = replays.0;
   replays = replays.1;
+  none_stands = none_stands;
   answers = [];
   unexplained = λ _. refl;
   print_status = print_status_of r;

@@ -1,3 +1,4 @@
+pub mod Beyond
 pub mod Words
 pub mod Fielded
 pub mod Nine

@@ -1,5 +1,5 @@
 -- The file LISTENERS.
-use Rattle.std.specs.Prelude.{◌≡◌, ◌≢◌, ℕ, ◌⊎◌, List, [], ◌∷◌, ◌++◌, All, string_bytes}
+use Rattle.std.specs.Prelude.{◌≡◌, ◌≢◌, ℕ, ◌⊎◌, List, [], ◌∷◌, ◌++◌, All, take, string_bytes}
 use Rattle.std.specs.Str.{IsUtf8}
 use Rattle.bpfvm.specs.Listing.{space}
 use Rattle.tap.specs.declared.filters.Filter.{Filter}
@@ -8,7 +8,7 @@ use Rattle.tap.specs.declared.filters.Spec.{Spec}
 use Rattle.lines.specs.declared.fault.LineFault.{LineFault}
 use Rattle.lines.specs.declared.fault.LineFault.TheVariants.{Listeners, Script, NoMemory}
 use Rattle.lines.specs.Fields.{IsSnap, IsCapacity}
-use Rattle.lines.specs.Files.{IsFirstBad}
+use Rattle.lines.specs.Files.{IsFileOf, IsFirstBad}
 
 -- SNAP, a space and the rest, which is CAPACITY, a space and EXPRESSION. Where EXPRESSION is empty the space before it may
 -- be missing. SNAP and CAPACITY have no space.
@@ -34,6 +34,13 @@ pub record IsListenerLine (line : List ℕ) (spec : Spec) : Type 0 where
   pub capacity_is : IsCapacity capacity spec.capacity spec.mode
   pub text : IsUtf8 expression
   pub filter_is : IsFilterText spec.filter expression
+
+-- The listeners that the lines of a file ask for, up to the 65th: where there are more than the 64 that a replay takes, there
+-- are more here too.
+pub record AreFirstOf (text : List ℕ) (specs : List Spec) : Type 0 where
+  pub all : List Spec
+  pub asked : IsFileOf IsListenerLine text all
+  pub first : specs ≡ take 65 all
 
 -- why listeners are not taken: the first bad line, or want of memory
 abbrev pub IsRefusedListeners : List ℕ → LineFault → Type 0

@@ -9,7 +9,7 @@ use Rattle.tap.specs.declared.step.Step.{Step}
 use Rattle.tap.specs.declared.playlist.Placed.{Placed}
 use Rattle.tap.specs.declared.report.Report.{Report}
 use Rattle.tap.specs.Headline.{Replays}
-use Rattle.tap.specs.Refusals.{IsFirst}
+use Rattle.tap.specs.Refusals.{IsFirst, NoneStands}
 use Rattle.lines.specs.Sending.{Takes, TakesPart}
 use Rattle.lines.specs.Telling.{told_line}
 use Rattle.stepping.specs.declared.steps.Ended.{Ended}
@@ -52,13 +52,14 @@ abbrev pub record_fault_line : Option (ℕ × RecordFault) → List ℕ
 record_fault_line None = []
 record_fault_line (Some record_fault) = told_line (fault_text (Capture record_fault.0 record_fault.1))
 
--- A replay gave reports. They were printed, behind the answers where these are explained; a capture's record fault was told;
+-- A replay gave reports, and no fault stands against it. They were printed, behind the answers where these are explained; a capture's record fault was told;
 -- the status is the greatest that stands.
 pub record Reported (explained : Bool) (captures : List (List ℕ)) (specs : List Spec) (steps : List Step) (old new : Streams) (ended : Ended) : Type 0 where
   pub reports : List Report
   pub record_fault : Option (ℕ × RecordFault)
   pub playlist : List Placed
   pub replays : Replays captures specs steps playlist record_fault reports
+  pub none_stands : NoneStands captures specs steps
   pub answers : List ℕ
   pub unexplained : explained ≡ false → answers ≡ []
   pub print_status : ℕ

@@ -2,14 +2,13 @@
 
 ghost use Rattle.std.specs.Prelude.{ℕ, List, IfOk, IfErr, IfSome, IfNone};
 ghost use Rattle.tap.specs.declared.filters.Spec.{Spec};
-ghost use Rattle.lines.specs.Files.{IsFileOf};
-ghost use Rattle.stepping.specs.Listeners.{AreFields, IsListenerLine, IsRefusedListeners};
+ghost use Rattle.stepping.specs.Listeners.{AreFields, AreFirstOf, IsListenerLine, IsRefusedListeners};
 
 use lines::LineFault;
 use lines::fields::{capacity_and_mode, first_line, snapshot_length, split_once};
 use std::alloc::{AllocError, Global};
 use std::str;
-use tap::{Filter, Spec};
+use tap::{Filter, MOST_LISTENERS, Spec};
 
 /// What stands before the first space, between it and the second, and behind that.
 fn fields(line: &[u8]) -> Option<(&[u8], &[u8], &[u8])>
@@ -48,22 +47,29 @@ fn spec_of(alloc: Global, line: &[u8]) -> Result<Option<Spec>, AllocError>
     }))
 }
 
+/// How many listeners are kept at most: one more than a replay takes, so that it is seen that there are too many.
+pub const MOST_KEPT: usize = MOST_LISTENERS + 1;
+
 /// Reads the file LISTENERS, a listener on each line: `SNAP CAPACITY EXPRESSION`.
 ///
 /// CAPACITY may have an `i` behind its digits, for the mode Immediate. Where EXPRESSION is empty the space before it may be
-/// missing. The listeners are those of the lines, in order; or else [`LineFault::Listeners`] names the first line, from 1, that has
-/// not this form.
+/// missing. The listeners are those of the lines, in order, but at most [`MOST_KEPT`], 65: of each further line nothing is kept,
+/// it is looked at alone. Or else [`LineFault::Listeners`] names the first line, from 1, that has not this form.
 pub fn read_listeners(alloc: Global, text: &[u8]) -> Result<Vec<Spec>, LineFault>
-    ensures ok { IfOk result (λ specs. IsFileOf IsListenerLine text.now specs.items) }
+    ensures ok { IfOk result (λ specs. AreFirstOf text.now specs.items) }
     ensures fault { IfErr result (λ fault. IsRefusedListeners text.now fault) }
 {
     let mut specs = Vec::new(alloc);
+    let mut number = 0;
     let mut rest = text;
     while !rest.is_empty() {
         let (line, after) = first_line(rest);
-        match spec_of(alloc, line)? {
-            Some(spec) => specs.push(spec)?,
-            None => return Err(LineFault::Listeners(specs.len() + 1)),
+        number += 1;
+        let Some(spec) = spec_of(alloc, line)? else {
+            return Err(LineFault::Listeners(number));
+        };
+        if specs.len() < MOST_KEPT {
+            specs.push(spec)?;
         }
         rest = after;
     }

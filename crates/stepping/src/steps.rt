@@ -4,7 +4,7 @@ ghost use Rattle.std.specs.Prelude.{◌≡◌, ◌++◌, ℕ, List, max, map, tr
 ghost use Rattle.lines.specs.Files.{IsFileOf};
 ghost use Rattle.lines.specs.Sending.{Takes};
 ghost use Rattle.lines.specs.Telling.{told_line};
-ghost use Rattle.stepping.specs.Listeners.{IsListenerLine};
+ghost use Rattle.stepping.specs.Listeners.{AreFirstOf};
 ghost use Rattle.stepping.specs.Script.{IsStepLine};
 ghost use Rattle.stepping.specs.Faults.{fault_text};
 ghost use Rattle.stepping.specs.Printed.{printed_reports};
@@ -39,9 +39,10 @@ pub struct Ended {
     pub told: io::Result<()>,
 }
 
-/// Reads what LISTENERS and SCRIPT ask for. A bad line of LISTENERS goes before one of SCRIPT.
+/// Reads what LISTENERS and SCRIPT ask for. A bad line of LISTENERS goes before one of SCRIPT. Of LISTENERS at most 65 listeners
+/// are kept, one more than a replay takes, so that [`play_asked`] tells that there are too many.
 pub fn read_asked(alloc: Global, listeners: &[u8], script: &[u8]) -> Result<Asked, LineFault>
-    ensures listeners { IfOk result (λ asked. IsFileOf IsListenerLine listeners.now asked.specs.items) }
+    ensures listeners { IfOk result (λ asked. AreFirstOf listeners.now asked.specs.items) }
     ensures script { IfOk result (λ asked. IsFileOf IsStepLine script.now asked.steps.items) }
     ensures fault { IfErr result (λ fault. IsRefusedFiles listeners.now script.now fault) }
 {
@@ -93,7 +94,7 @@ fn tell_record_fault<E: Write>(
     }
 }
 
-/// Tells standard output that failed, if this is the status of that, and then a torn capture. Where the first is not taken, the
+/// Tells standard output that failed, if this is the status of that, and then a capture's record fault. Where the first is not taken, the
 /// second is not told.
 fn tell_both<E: Write>(
     printed: u8,

@@ -7,14 +7,14 @@ use Rattle.replay.specs.Reports.{IsReported}
 use Rattle.replay.specs.RunsEnded.{past_pair}
 use Rattle.replay.specs.declared.task.Task.{Task}
 use Rattle.replay.proofs.Lists.{completed, completes-next, moved}
-use Rattle.replay.proofs.Served.{ended-prompt, next-ended, next-paired, served}
+use Rattle.replay.proofs.Served.{ended-timely, next-ended, next-paired, served}
 use Rattle.replay.proofs.reporting.report_tasks.Goals as goal
 
-pub settled-requires-clause-prompt : goal.settled-requires-clause-prompt
-settled-requires-clause-prompt g c =
+pub settled-requires-clause-timely : goal.settled-requires-clause-timely
+settled-requires-clause-timely g c =
     let (playlist, timely, fed) = c.loop-crew.invariant.3 in
     let n = next-ended playlist _ c.in-Some-next-2.feed _ _ c.in-Some.crew _ fed c.in-Some-next-2.ensures.items c.in-Some.ensures.steps.0 in
-    ended-prompt playlist c.in-Some-next-2.feed c.in-Some.crew timely n.0
+    ended-timely playlist c.in-Some-next-2.feed c.in-Some.crew timely n.0
 
 pub loop-crew-preserved : goal.loop-crew-preserved
 loop-crew-preserved g c =

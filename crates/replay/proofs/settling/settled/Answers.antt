@@ -7,7 +7,7 @@ use Rattle.handover.specs.Settling.{IsWhole}
 use Rattle.replay.specs.Reading.{messages_of}
 use Rattle.replay.specs.Reports.{kept_for}
 use Rattle.replay.specs.Tasks.{output_of}
-use Rattle.replay.specs.Writing.{IsPrompt, Writes}
+use Rattle.replay.specs.Writing.{IsTimely, Writes}
 use Rattle.replay.proofs.Settles.{chain, unfinished, finished}
 use Rattle.replay.proofs.Timely.{all-of-contained, as-they-are}
 use Rattle.std.proofs.lemmas.List.Elements.{All-contains}
@@ -25,7 +25,7 @@ returns-in_default-clause-report g c =
     s.counts.0 s.counts.1
     whole
     told.counts d.write.written told.sink
-    (as-they-are _ (all-of-contained IsPrompt _ (λ m here. All-contains IsPrompt _ m c.requires.prompt (whole.accepted m here)))) _ c.requires.done.writes told.end
+    (as-they-are _ (all-of-contained (λ (m : Message). IsTimely m.nanos) _ (λ m here. All-contains (λ (m : Message). IsTimely m.nanos) _ m c.requires.timely (whole.accepted m here)))) _ c.requires.done.writes told.end
 
 pub returns-clause-report : goal.returns-clause-report
 returns-clause-report g c =
@@ -49,7 +49,7 @@ returns-clause-report g c =
     finished T F d.task.value c.args.feed.feeds d.read.drain.takes c.report-2.result c.settle-hold.result.counts hold rest
     (subst (λ p. LegalHistory (terms_of p) c.args.feed.feeds d.read.drain.takes (merge c.args.feed.feeds d.read.drain.takes)) c.requires.profile s.history)
     s.counts.0 s.counts.1 whole told.counts w told.sink
-    (as-they-are _ (all-of-contained IsPrompt _ (λ m here. All-contains IsPrompt _ m c.requires.prompt (whole.accepted m here))))
+    (as-they-are _ (all-of-contained (λ (m : Message). IsTimely m.nanos) _ (λ m here. All-contains (λ (m : Message). IsTimely m.nanos) _ m c.requires.timely (whole.accepted m here))))
     (subst (λ (ms : List Message). Writes T F o ms w) all three)
     (λ e. let ends = c.end_of-end.ensures.clean (sym told.end ∙ e) in (ends.1, whole.unclosed (c.requires.done.ended ends.0)))
     (λ n e. let breaks = c.end_of-end.ensures.broke n (sym told.end ∙ e) in (breaks.0, breaks.1 ∙ c.sent.ensures))

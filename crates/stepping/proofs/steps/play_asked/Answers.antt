@@ -4,6 +4,7 @@ use Rattle.stepping.proofs.steps.play_asked.Goals as goal
 
 pub returns-in-Ok : goal.returns-in-Ok
 returns-in-Ok g c =
+    let stands = rw c.as_slice.ensures.value at (rw c.as_slice-2.ensures.value at c.in-Ok.ensures.stands) in
     let replays = rw c.as_slice.ensures.value at (rw c.as_slice-2.ensures.value at c.in-Ok.ensures.tells) in
     let taken = rw c.as_slice-in-Ok.ensures.value at c.print_reports-printed.ensures in
-    inl (Reported-plain c.args.explained _ _ _ _ _ c.end.result c.in-Ok.reports.items c.in-Ok.record_fault c.print_reports-printed.result replays taken c.end.ensures.tells c.end.ensures.greatest)
+    inl (Reported-plain c.args.explained _ _ _ _ _ c.end.result c.in-Ok.reports.items c.in-Ok.record_fault c.print_reports-printed.result stands replays taken c.end.ensures.tells c.end.ensures.greatest)

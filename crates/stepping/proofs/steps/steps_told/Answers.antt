@@ -1,6 +1,18 @@
-use Rattle.std.proofs.Common.{inr, refl}
+use Rattle.std.proofs.Common.{false, inl, inr, refl}
 use Rattle.std.proofs.KnownBytes.{Keeps-refl}
+use Rattle.stepping.proofs.Beyond.{plays-all}
 use Rattle.stepping.proofs.steps.steps_told.Goals as goal
+
+pub returns-in-Ok : goal.returns-in-Ok
+returns-in-Ok g c =
+    let asked = c.in-Ok.ensures.listeners in
+    inl (record {
+      specs = asked.all;
+      steps = c.in-Ok.asked.steps.items;
+      of_listeners = asked.asked;
+      of_script = c.in-Ok.ensures.script;
+      plays = plays-all false _ asked.all _ _ _ _ _ asked.first c.play_asked.ensures;
+    })
 
 pub returns-in-Err : goal.returns-in-Err
 returns-in-Err g c = inr (record {

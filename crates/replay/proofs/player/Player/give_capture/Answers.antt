@@ -5,7 +5,7 @@ use Rattle.replay.specs.Lines.{HasArrived}
 use Rattle.replay.specs.Arrived.{HasGivenPackets}
 use Rattle.replay.specs.Captures.{ComesBack}
 use Rattle.replay.proofs.Captured.{comes-back, device-or-same, none-writable, not-opened}
-use Rattle.replay.proofs.inlet.Player.give_capture.Goals as goal
+use Rattle.replay.proofs.player.Player.give_capture.Goals as goal
 
 pub returns-in-Ok-clause-played : goal.returns-in-Ok-clause-played
 returns-in-Ok-clause-played g c =

@@ -5,9 +5,9 @@ use Rattle.savefile.specs.Reader.{HasGiven}
 use Rattle.savefile.specs.Savefile.{IsWritable}
 use Rattle.savefile.specs.declared.header.Header.{Header}
 use Rattle.savefile.specs.declared.packet.Packet.{Packet}
-use Rattle.replay.specs.Captures.{numbered}
+use Rattle.replay.specs.Captures.{arrivals_from}
 use Rattle.replay.specs.Lines.{Line, HasArrived}
-use Rattle.replay.proofs.inlet.Player.give_packets.Given as goal
+use Rattle.replay.proofs.player.Player.give_packets.Given as goal
 
 -- the packets that the reader has given arrived
 abbrev pub invariant-loop-place : goal.invariant-loop-place
@@ -19,4 +19,4 @@ invariant-loop-place g l =
     × ((bytes : List ℕ) × Consumes (g.S.Source.left l.fn.reader.source) (g.S.Source.left l.reader.source) bytes)
     × ((start : Option (List ℕ)) (header : Header) → HasGiven g.S.Source.left start header [] l.fn.reader →
     (packets : List Packet) × (length packets ≡ l.place) × All IsWritable packets × HasGiven g.S.Source.left start header packets l.reader
-    × ((starts : List Line) (playlist : List Arrival) → HasArrived starts playlist l.fn.self → HasArrived starts (playlist ++ numbered l.capture 0 packets) l.self))
+    × ((starts : List Line) (playlist : List Arrival) → HasArrived starts playlist l.fn.self → HasArrived starts (playlist ++ arrivals_from l.capture 0 packets) l.self))

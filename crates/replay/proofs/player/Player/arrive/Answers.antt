@@ -3,7 +3,7 @@ use Rattle.listener.specs.LookingBack.{count, is_arrival}
 use Rattle.listener.specs.Messages.{arrival}
 use Rattle.replay.specs.Lines.{Line, fed_all, fed_with}
 use Rattle.replay.proofs.Asked.{all-fed, few-asked}
-use Rattle.replay.proofs.inlet.Player.arrive.Goals as goal
+use Rattle.replay.proofs.player.Player.arrive.Goals as goal
 
 pub give_all-requires-clause-room : goal.give_all-requires-clause-room
 give_all-requires-clause-room g c =

@@ -1,11 +1,11 @@
 use Rattle.std.proofs.Common.{◌∷◌, [], ◌++◌, List, ap, sym, refl, ◌∙◌, arith, subst, Ok, Err, inl, inr, length-append}
 use Rattle.listener.specs.Messages.{Arrival, arrival}
 use Rattle.savefile.specs.declared.packet.Packet.{Packet}
-use Rattle.replay.specs.Captures.{numbered}
+use Rattle.replay.specs.Captures.{arrivals_from}
 use Rattle.replay.specs.Lines.{HasArrived}
 use Rattle.replay.proofs.Captured.{arrives-behind, comes-back, device-or-same, takes-more, writable-more}
 use Rattle.replay.proofs.Writes.{same-unless-different}
-use Rattle.replay.proofs.inlet.Player.give_packets.Goals as goal
+use Rattle.replay.proofs.player.Player.give_packets.Goals as goal
 
 pub returns-in-Ok-false-clause-played : goal.returns-in-Ok-false-clause-played
 returns-in-Ok-false-clause-played g c = λ start header h.
@@ -27,7 +27,7 @@ returns-in-Err-clause-played g c = λ start header h.
       arrive = arrives;
       ends = (
         refl,
-        (λ e. let bad = sym given.goes_on ∙ a.failed.0 (c.in-Err.is ∙ ap Err e) in cc),
+        (λ e. let bad = sym given.goes_on.1 ∙ a.failed.0 (c.in-Err.is ∙ ap Err e) in cc),
         (λ e. let full = a.count_full.0 (c.in-Err.is ∙ ap Err e) in omega (arith, full.1, given.counts, so_many, most, sum)),
         elim (c.in-Err.ensures.cause start header packets given) [
           | inl read ↦ inr (inl (header, read))
@@ -92,7 +92,7 @@ loop-place-preserved g c =
             c.advance.ensures.packet start header packets given is,
             (λ starts playlist h.
                 subst (λ (as' : List Arrival). HasArrived starts as' c.arrive.new.self)
-                (ap (λ x. (playlist ++ numbered capture 0 packets) ++ x ∷ []) here ∙ arrives-behind playlist capture place packets p so_many)
-                (c.arrive.ensures starts (playlist ++ numbered capture 0 packets) (arrives starts playlist h))),
+                (ap (λ x. (playlist ++ arrivals_from capture 0 packets) ++ x ∷ []) here ∙ arrives-behind playlist capture place packets p so_many)
+                (c.arrive.ensures starts (playlist ++ arrivals_from capture 0 packets) (arrives starts playlist h))),
           )),
     )

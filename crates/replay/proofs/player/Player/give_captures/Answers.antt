@@ -1,13 +1,13 @@
 use Rattle.std.proofs.Common.{◌++◌, sym, rules, subst, length}
 use Rattle.std.proofs.lemmas.List.Elements.{All-append}
-use Rattle.replay.specs.Captures.{GivesPlaylist, numbered}
+use Rattle.replay.specs.Captures.{GivesPlaylist, arrivals_from}
 use Rattle.replay.specs.Lines.{HasArrived}
 use Rattle.replay.specs.declared.report.InterfaceEnd.{InterfaceEnd}
-use Rattle.replay.specs.Arrived.{IsTimely}
+use Rattle.replay.specs.Writing.{IsTimely}
 use Rattle.replay.proofs.Played.{loop-read, loop-unread, plays-all}
 use Rattle.replay.proofs.Timely.{writable-timely}
-use Rattle.replay.proofs.inlet.Player.give_captures.Goals.{in-Some-end, in-None-end}
-use Rattle.replay.proofs.inlet.Player.give_captures.Goals as goal
+use Rattle.replay.proofs.player.Player.give_captures.Goals.{in-Some-end, in-None-end}
+use Rattle.replay.proofs.player.Player.give_captures.Goals as goal
 
 pub loop-n-preserved : goal.loop-n-preserved
 loop-n-preserved g c =
@@ -42,9 +42,9 @@ loop-n-preserved g c =
         (λ starts fresh.
             let (playlist, timely, arrived, so) = c.loop-n.invariant.4 starts fresh in
             let played = w.give_capture-source.ensures.played in (
-              playlist ++ numbered c.in-Some.n 0 played.packets,
-              All-append IsTimely playlist (numbered c.in-Some.n 0 played.packets) timely (writable-timely c.in-Some.n 0 played.packets played.writable),
-              subst (λ p. HasArrived starts (playlist ++ numbered c.in-Some.n 0 played.packets) p) (sym w.self-is) (played.arrive starts playlist arrived),
+              playlist ++ arrivals_from c.in-Some.n 0 played.packets,
+              All-append (λ a. IsTimely a.packet.nanos) playlist (arrivals_from c.in-Some.n 0 played.packets) timely (writable-timely c.in-Some.n 0 played.packets played.writable),
+              subst (λ p. HasArrived starts (playlist ++ arrivals_from c.in-Some.n 0 played.packets) p) (sym w.self-is) (played.arrive starts playlist arrived),
               loop-read L B all _ _ c.loop-n.n-iterator.count _ c.in-Some.n w.give_capture-source.new.self.arrived c.in-Some.source w.give_capture-source.result.0 c.match-end.source _ rest
                   playlist played.packets c.loop-n.end c.match-end.end w.give_capture-source.result.1 so w.in-None-end.is taken w.source-is c.push_reserved.ensures.items
                   (search rules) (search rules) (played.arrive starts playlist arrived).0 (played.ends, w.give_capture-source.ensures.back) w.end-is,
