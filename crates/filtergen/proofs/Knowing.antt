@@ -86,13 +86,13 @@ rest-first k n p holds =
     unless-same (has_first_fragment k n) _ (is_first_fragment_of n) p (first-from k n p holds)
     (ap (λ v. and_then v (check (λ b. bit_and b 0x1fff == 0) (half 20 p))) (rest-number k n p holds))
 
-rest-same : (k fact : Known) (p : Packet) → shows k p ≡ Yes → rest_of k fact p ≡ shows fact p
+pub rest-same : (k fact : Known) (p : Packet) → shows k p ≡ Yes → rest_of k fact p ≡ shows fact p
 rest-same k known.Nothing p holds = refl
 rest-same k (known.Type n) p holds = rest-type k n p holds
 rest-same k (known.Protocol n) p holds = rest-number k n p holds
 rest-same k (known.FirstFragment n) p holds = rest-first k n p holds
 
-layer-shown : (l : Layer) (p : Packet) → shows (of_layer l) p ≡ in_layer l p
+pub layer-shown : (l : Layer) (p : Packet) → shows (of_layer l) p ≡ in_layer l p
 layer-shown layers.Ether p = refl
 layer-shown layers.Ip p = refl
 layer-shown layers.Arp p = refl

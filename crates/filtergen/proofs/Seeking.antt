@@ -14,13 +14,16 @@ use Rattle.filtergen.specs.declared.among.Spot.{Spot}
 use Rattle.filtergen.specs.declared.among.Spot.TheVariants as spots
 use Rattle.filtergen.specs.declared.verdict.Verdict.{Verdict}
 use Rattle.filtergen.specs.declared.verdict.Verdict.TheVariants.{Abort}
-use Rattle.filtergen.specs.Meaning.{Packet, HasBytes, Test, or_else, or_test, check, decided, byte, half, word, within, has_port, by_direction}
+use Rattle.filtergen.specs.Meaning.{Packet, HasBytes, Test, or_else, or_test, check, decided, byte, half, word, within, has_port, by_direction, check_both, accessed}
 use Rattle.filtergen.specs.Insns.{plain_insn, load_insn}
-use Rattle.filtergen.specs.Parts.{port_behind, directed}
-use Rattle.filtergen.specs.Emission.{AreExits, HasCells, IsPlace, run_from, front, field_of, Answers, Passes, outcome, Extends, Chooses, Nears, same_index, Follows, Decides}
+use Rattle.filterlang.specs.declared.tree.Layer.{Layer}
+use Rattle.filtergen.specs.declared.values.Base.{Base}
+use Rattle.filtergen.specs.Parts.{port_behind, directed, base_of, read_from}
+use Rattle.filtergen.specs.Emission.{AreExits, HasCells, IsPlace, run_from, front, field_of, Answers, Passes, outcome, Extends, Chooses, Nears, Computes, same_index, Follows, Decides}
 use Rattle.filtergen.specs.Lists.{any_of, among, in_span, spot_value, found_at, onward, LoadsSpot, ChoosesFrom}
 use Rattle.filtergen.proofs.Runs.{after, answer-first, front-place, extends-none, extends-one, extends-both, extends-more, load-effect, mask-effect, half-effect, header-effect}
-use Rattle.filtergen.proofs.Deciding.{outcome-either}
+use Rattle.filtergen.proofs.Computing.{computes-same, read-accessed, decides-valued}
+use Rattle.filtergen.proofs.Deciding.{outcome-either, decides-same}
 use Rattle.filtergen.proofs.Following.{follows-more, follows-same}
 use Rattle.filtergen.proofs.Sides.{behind, directed-is}
 use Rattle.filtergen.proofs.Neighbours.{any-same, any-abort, any-checked, any-pair, among-more}
@@ -265,3 +268,22 @@ header-shared d xs p some =
     by_value : (v : Option ℕ) → behind_length (λ l. any_of (port_at d l) xs) p v ≡ any_of (λ (x : Span) q. directed d (behind x.low x.high 0 v p) (behind x.low x.high 2 v p)) xs p
     by_value None = sym (any-same (λ (x : Span) q. directed d Abort Abort) (λ (x : Span) q. Abort) p (λ x. aborts d) xs ∙ any-abort xs p some)
     by_value (Some b) = any-same (port_at d (4 * bit_and b 15)) (λ (x : Span) q. directed d (behind x.low x.high 0 (Some b) p) (behind x.low x.high 2 (Some b) p)) p (λ x. one b x) xs
+
+-- a value is computed once for all members
+pub decides-sought : {most m e : ℕ} (xs : List Span) {v : Packet → Option ℕ} {exits : Exits} {a b c : List Insn} (entry : ℕ) → AreExits a exits → e ≡ length b → entry ≡ length c
+    → ChoosesFrom most (λ r. among xs r.accumulator) exits e a b → Computes m v 0 b c → Decides (most + m) (λ p. check (among xs) (v p)) exits entry a c
+decides-sought {most} {m} {e} xs {v} {exits} {a} {b} {c} entry are is at choice computes =
+    decides-same (λ p. check_both (λ x y. among xs x) (v p) (Some 0)) (λ p. check (among xs) (v p)) (λ p bytes. by_value (v p))
+    (decides-valued (λ x y. among xs x) 0 entry are at chosen computes)
+  where
+    chosen : Chooses most (λ r. among xs r.accumulator) exits a b
+    chosen = record { extends = choice.extends; chooses = λ p r. sym (ap (λ place. run_from b place p r) is ∙ front-place b p r) ∙ choice.chooses p r }
+
+    by_value : (w : Option ℕ) → check_both (λ x y. among xs x) w (Some 0) ≡ check (among xs) w
+    by_value None = refl
+    by_value (Some n) = refl
+
+-- the bytes of a layer are read from its base
+pub bytes-read : (l : Layer) (size i : ℕ) {m cell : ℕ} {base : Base} {a b : List Insn} → base ≡ base_of l → Computes m (λ p. read_from base size p i) cell a b → Computes m (λ p. accessed l size p i) cell a b
+bytes-read l size i {m} {cell} {base} {a} {b} is computes =
+    computes-same (λ p. read_from base size p i) (λ p. accessed l size p i) (λ p. ap (λ x. read_from x size p i) is ∙ ap (λ f. f p i) (read-accessed l size)) computes

@@ -1,12 +1,17 @@
 -- Lists behind what their members share.
-use Rattle.std.proofs.Common.{◌≡◌, ◌<◌, ◌==◌, List, length, Option, sym, ◌∙◌}
+use Rattle.std.proofs.Common.{◌≡◌, ◌<◌, ◌==◌, List, length, Option, refl, sym, ap, ◌∙◌}
 use Rattle.filterlang.specs.declared.tree.Direction.{Direction}
 use Rattle.filterlang.specs.declared.tree.Transport.{Transport}
+use Rattle.filtergen.specs.declared.known.Known.{Known}
+use Rattle.filtergen.specs.declared.lists.Bytes.{Bytes}
 use Rattle.filtergen.specs.declared.lists.Span.{Span}
-use Rattle.filtergen.specs.Meaning.{Packet, Test, and_test, half, is_type, by_direction, has_port, has_any_ports}
+use Rattle.filtergen.specs.declared.verdict.Verdict.TheVariants.{Yes}
+use Rattle.filtergen.specs.Meaning.{Packet, Test, and_then, and_test, check, half, is_type, by_direction, within, has_port, has_any_ports, bytes_of, accessed, in_layer}
+use Rattle.filtergen.specs.Knowing.{shows, rest_of, of_layer}
 use Rattle.filtergen.specs.Parts.{is_unfragmented, number_of, of_transport}
-use Rattle.filtergen.specs.Lists.{any_of, of_any_type}
-use Rattle.filtergen.proofs.Neighbours.{any-same, any-guarded, any-chosen}
+use Rattle.filtergen.specs.Lists.{any_of, among, of_any_type, bytes_test}
+use Rattle.filtergen.proofs.Knowing.{rest-same, layer-shown}
+use Rattle.filtergen.proofs.Neighbours.{any-same, any-guarded, any-chosen, any-checked}
 use Rattle.filtergen.proofs.Nets.{by_type, by-type}
 use Rattle.filtergen.proofs.Narrowed.{of-transport-is}
 use Rattle.filtergen.proofs.Sharing.{number-shared}
@@ -27,3 +32,12 @@ ports-shared asked d xs p some =
     sym (number-shared asked (any_of t xs) p)
     ∙ sym (any-guarded g t xs p some)
     ∙ any-same (λ x. and_test g (t x)) (λ (x : Span). has_any_ports asked d x.low x.high) p (λ x. number-shared asked (t x) p ∙ of-transport-is asked d x.low x.high p) xs
+
+-- the layer
+pub bytes-shared : (known : Known) (b : Bytes) (xs : List Span) (p : Packet) → 0 < length xs → shows known p ≡ Yes
+    → and_then (rest_of known (of_layer b.layer) p) (check (among xs) (accessed b.layer (bytes_of b.size) p b.index)) ≡ any_of (bytes_test b) xs p
+bytes-shared known b xs p some holds =
+    let number : Span → Test = (λ (x : Span) q. check (within x.low x.high) (accessed b.layer (bytes_of b.size) q b.index)) in
+    ap (λ v. and_then v (check (among xs) (accessed b.layer (bytes_of b.size) p b.index))) (rest-same known (of_layer b.layer) p holds ∙ layer-shown b.layer p)
+    ∙ ap (and_then (in_layer b.layer p)) (sym (any-same number (λ (x : Span) q. check (within x.low x.high) (accessed b.layer (bytes_of b.size) p b.index)) p (λ x. refl) xs ∙ any-checked xs p (accessed b.layer (bytes_of b.size) p b.index) some))
+    ∙ sym (any-guarded (in_layer b.layer) number xs p some)

@@ -1,19 +1,25 @@
--- Primitives that become members of lists.
+-- Primitives and relations that become members of lists.
 use Rattle.std.proofs.Common.{◌≡◌, ℕ, ◌+◌, ◌*◌, ◌≤◌, ◌==◌, ◌&&◌, Bool, true, false, List, [], ◌∷◌, ◌++◌, length, Option, Some, None, refl, sym, ap, ◌∙◌, arith, bit_and}
 use Rattle.std.proofs.lemmas.List.{length-append}
 use Rattle.filterlang.specs.Trees.{Tree}
 use Rattle.filterlang.specs.Trees as trees
+use Rattle.filterlang.specs.declared.token.Comparison.TheVariants as comparisons
+use Rattle.filterlang.specs.declared.tree.Layer.{Layer}
+use Rattle.filterlang.specs.declared.tree.Size.{Size}
 use Rattle.filterlang.specs.declared.tree.Direction.{Direction}
 use Rattle.filterlang.specs.declared.tree.Network.{Network}
 use Rattle.filterlang.specs.declared.tree.Network.TheVariants as networks
 use Rattle.filterlang.specs.declared.tree.Transport.{Transport}
 use Rattle.filterlang.specs.declared.tree.Transport.TheVariants as transports
 use Rattle.filtergen.specs.declared.lists.Form.{Form}
+use Rattle.filtergen.specs.declared.lists.Form.TheVariants as forms
+use Rattle.filtergen.specs.declared.lists.Bytes.{Bytes}
 use Rattle.filtergen.specs.declared.lists.Sides.{Sides}
 use Rattle.filtergen.specs.declared.lists.Kind.{Kind}
 use Rattle.filtergen.specs.declared.lists.Span.{Span}
 use Rattle.filtergen.specs.declared.verdict.Verdict.{Verdict}
-use Rattle.filtergen.specs.Meaning.{Packet, and_then, or_else, and_test, or_test, check, decided, byte, word, is_type, is_protocol, by_direction, has_address, in_any_net, within, has_any_ports, meaning}
+use Rattle.filtergen.specs.declared.verdict.Verdict.TheVariants.{Yes, No, Abort}
+use Rattle.filtergen.specs.Meaning.{Packet, and_then, or_else, and_test, or_test, check, decided, byte, word, is_type, is_protocol, by_direction, has_address, in_any_net, within, has_any_ports, bytes_of, accessed, in_layer, check_both, compared, relation_test, meaning}
 use Rattle.filtergen.specs.Compiling.{weight}
 use Rattle.filtergen.specs.Parts.{directed}
 use Rattle.std.specs.Option.{MatchOption}
@@ -25,7 +31,7 @@ use Rattle.filtergen.specs.Emission.{Extends}
 use Rattle.filtergen.specs.Ways.{RenewsBoth, DecidesBehind}
 use Rattle.filtergen.proofs.Leading.{renews-all-later}
 use Rattle.filtergen.proofs.Narrowed.{behind-more, behind-same, behind-either, behind-renewed}
-use Rattle.filtergen.specs.Lists.{any_of, in_span, net_form, ports_form, form_test, kind_test, Takes, EndsIn, EmitsList}
+use Rattle.filtergen.specs.Lists.{any_of, in_span, net_form, ports_form, bytes_test, form_test, kind_test, weighed, listed_cost, Takes, EndsIn, EmitsList}
 use Rattle.filtergen.proofs.Sides.{within-one, directed-is}
 use Rattle.filtergen.proofs.Neighbours.{or-assoc, any-first}
 
@@ -54,51 +60,118 @@ addresses-member d a m o o' p =
     ∙ ap (directed d (in_span (span_of a) m o p)) (address-member a m o' p)
     ∙ directed-is d (in_span (span_of a) m o) (in_span (span_of a) m o') p
 
-pub net-member : (network : Option Network) (d : Direction) (a m : ℕ) (p : Packet) → in_any_net network d a m p ≡ form_test (net_form network) d m (span_of a) p
-net-member (Some networks.Ip) d a m p = ap (and_then (is_type 0x0800 p)) (addresses-member d a m 26 30 p)
-net-member (Some networks.Arp) d a m p = ap (and_then (is_type 0x0806 p)) (addresses-member d a m 28 38 p)
-net-member (Some networks.Rarp) d a m p = ap (and_then (is_type 0x8035 p)) (addresses-member d a m 28 38 p)
-net-member None d a m p =
+pub net-member : (network : Option Network) (d : Direction) (a m : ℕ) (b : Bytes) (p : Packet) → in_any_net network d a m p ≡ form_test (net_form network) d m b (span_of a) p
+net-member (Some networks.Ip) d a m b p = ap (and_then (is_type 0x0800 p)) (addresses-member d a m 26 30 p)
+net-member (Some networks.Arp) d a m b p = ap (and_then (is_type 0x0806 p)) (addresses-member d a m 28 38 p)
+net-member (Some networks.Rarp) d a m b p = ap (and_then (is_type 0x8035 p)) (addresses-member d a m 28 38 p)
+net-member None d a m b p =
     ap (λ v. of_types v (by_direction d (has_address a m 28) (has_address a m 38) p)) (addresses-member d a m 26 30 p)
     ∙ ap (of_types (by_direction d (in_span (span_of a) m 26) (in_span (span_of a) m 30) p)) (addresses-member d a m 28 38 p)
   where
     of_types : Verdict → Verdict → Verdict
     of_types v w = or_else (or_else (and_then (is_type 0x0800 p) v) (and_then (is_type 0x0806 p) w)) (and_then (is_type 0x8035 p) w)
 
-pub ports-member : (transport : Option Transport) (d : Direction) (m low high : ℕ) (p : Packet)
-    → has_any_ports transport d low high p ≡ form_test (ports_form transport) d m (record { low = low; high = high }) p
-ports-member None d m low high p = refl
-ports-member (Some transports.Tcp) d m low high p = refl
-ports-member (Some transports.Udp) d m low high p = refl
-ports-member (Some transports.Sctp) d m low high p = refl
+pub ports-member : (transport : Option Transport) (d : Direction) (m low high : ℕ) (b : Bytes) (p : Packet)
+    → has_any_ports transport d low high p ≡ form_test (ports_form transport) d m b (record { low = low; high = high }) p
+ports-member None d m low high b p = refl
+ports-member (Some transports.Tcp) d m low high b p = refl
+ports-member (Some transports.Udp) d m low high b p = refl
+ports-member (Some transports.Sctp) d m low high b p = refl
 
-pub three-true : (a b c : Bool) → true ≡ (a && (b && c)) → (a ≡ true) × (b ≡ true) × (c ≡ true)
-three-true true true true is = (refl, refl, refl)
-three-true true true false is = absurd cc
-three-true true false c is = absurd cc
-three-true false b c is = absurd cc
+-- bytes that are compared with a number
+pub bytes-member : (l : Layer) (i : ℕ) (size : Size) (n : ℕ) (p : Packet)
+    → relation_test comparisons.Equal (trees.accessor l (trees.number i) size) (trees.number n) p ≡ bytes_test (record { layer = l; index = i; size = size }) (span_of n) p
+bytes-member l i size n p =
+    ap (λ v. and_then v (check_both (compared comparisons.Equal) (accessed l (bytes_of size) p i) (Some n))) (passed-twice (in_layer l p))
+    ∙ ap (and_then (in_layer l p)) (by_value (accessed l (bytes_of size) p i))
+  where
+    passed-twice : (v : Verdict) → and_then (and_then v Yes) Yes ≡ v
+    passed-twice Yes = refl
+    passed-twice No = refl
+    passed-twice Abort = refl
 
-abbrev pub kind_of : Form → Sides → ℕ → Kind
-kind_of form sides mask = record { form = form; sides = sides; mask = mask }
+    by_value : (v : Option ℕ) → check_both (compared comparisons.Equal) v (Some n) ≡ check (within n n) v
+    by_value None = refl
+    by_value (Some b) = ap decided (within-one n n b refl)
 
-pub kind-same : (j k : Kind) → j.form ≡ k.form → j.sides ≡ k.sides → j.mask ≡ k.mask → j ≡ k
-kind-same j k form sides mask =
-    ap (λ f. kind_of f j.sides j.mask) form ∙ ap (λ s. kind_of k.form s j.mask) sides ∙ ap (kind_of k.form k.sides) mask
+pub both-true : (a b : Bool) → true ≡ (a && b) → (a ≡ true) × (true ≡ b)
+both-true true b is = (refl, is)
+both-true false b is = absurd cc
+
+abbrev pub kind_of : Form → Sides → ℕ → Bytes → Kind
+kind_of form sides mask bytes = record { form = form; sides = sides; mask = mask; bytes = bytes }
+
+pub kind-same : (j k : Kind) → j.form ≡ k.form → j.sides ≡ k.sides → j.mask ≡ k.mask → j.bytes ≡ k.bytes → j ≡ k
+kind-same j k form sides mask bytes =
+    ap (λ f. kind_of f j.sides j.mask j.bytes) form ∙ ap (λ s. kind_of k.form s j.mask j.bytes) sides ∙ ap (λ m. kind_of k.form k.sides m j.bytes) mask
+    ∙ ap (kind_of k.form k.sides k.mask) bytes
+
+abbrev pub bytes-at : Layer → ℕ → Size → Bytes
+bytes-at layer index size = record { layer = layer; index = index; size = size }
+
+pub bytes-same : (b c : Bytes) → b.layer ≡ c.layer → b.index ≡ c.index → b.size ≡ c.size → b ≡ c
+bytes-same b c layer index size =
+    ap (λ l. bytes-at l b.index b.size) layer ∙ ap (λ i. bytes-at c.layer i b.size) index ∙ ap (bytes-at c.layer c.index) size
+
+-- one member more
+pub weighed-more : (f : Form) (n : ℕ) → weighed f (n + 1) ≡ weighed f n + weighed f 1
+weighed-more forms.Net n = omega arith
+weighed-more forms.IpNet n = omega arith
+weighed-more forms.ArpNet n = omega arith
+weighed-more forms.RarpNet n = omega arith
+weighed-more forms.Ports n = omega arith
+weighed-more forms.TcpPorts n = omega arith
+weighed-more forms.UdpPorts n = omega arith
+weighed-more forms.SctpPorts n = omega arith
+weighed-more forms.IpProto n = omega arith
+weighed-more forms.EtherProto n = omega arith
+weighed-more forms.Bytes n = omega arith
+
+-- a primitive weighs no less
+pub weighed_one : (f : Form) → weighed f 1 ≤ 40
+weighed_one forms.Net = omega arith
+weighed_one forms.IpNet = omega arith
+weighed_one forms.ArpNet = omega arith
+weighed_one forms.RarpNet = omega arith
+weighed_one forms.Ports = omega arith
+weighed_one forms.TcpPorts = omega arith
+weighed_one forms.UdpPorts = omega arith
+weighed_one forms.SctpPorts = omega arith
+weighed_one forms.IpProto = omega arith
+weighed_one forms.EtherProto = omega arith
+weighed_one forms.Bytes = omega arith
+
+-- a list takes no more instructions than its members weigh, with those that renew its ways
+pub listed_fits : (f : Form) (n : ℕ) → 2 ≤ n → 2 + listed_cost f n ≤ weighed f n
+listed_fits forms.Net n many = omega (arith, many)
+listed_fits forms.IpNet n many = omega (arith, many)
+listed_fits forms.ArpNet n many = omega (arith, many)
+listed_fits forms.RarpNet n many = omega (arith, many)
+listed_fits forms.Ports n many = omega (arith, many)
+listed_fits forms.TcpPorts n many = omega (arith, many)
+listed_fits forms.UdpPorts n many = omega (arith, many)
+listed_fits forms.SctpPorts n many = omega (arith, many)
+listed_fits forms.IpProto n many = omega (arith, many)
+listed_fits forms.EtherProto n many = omega (arith, many)
+listed_fits forms.Bytes n many = omega (arith, many)
 
 -- one more member
-pub takes-one : (kind : Kind) (t : Tree) (x : Span) (old new : List Span) → ((p : Packet) → meaning t p ≡ kind_test kind x p) → weight t ≡ 40 → new ≡ old ++ (x ∷ []) → Takes kind t None old new
+pub takes-one : (kind : Kind) (t : Tree) (x : Span) (old new : List Span) → ((p : Packet) → meaning t p ≡ kind_test kind x p) → weighed kind.form 1 ≤ weight t → new ≡ old ++ (x ∷ []) → Takes kind t None old new
 takes-one kind t x old new same weighs is = record {
   same = λ p.
       ap (λ v. or_else v (any_of (kind_test kind) old p)) (same p) ∙ sym (any-first (kind_test kind) p x old)
       ∙ sym (ap (λ l. any_of (kind_test kind) l p) is);
-  weighs = omega (arith, weighs, ap length is, length-append old (x ∷ []));
+  weighs =
+      let more : weighed kind.form (length new) ≡ weighed kind.form (length old) + weighed kind.form 1 =
+          ap (λ l. weighed kind.form (length l)) is ∙ ap (weighed kind.form) (length-append old (x ∷ [])) ∙ weighed-more kind.form (length old) in
+      omega (arith, weighs, more);
   smaller = omega arith;
   needs = omega arith;
 }
 
 -- none
 pub takes-none : (kind : Kind) (t : Tree) (old : List Span) → Takes kind t (Some t) old old
-takes-none kind t old = record { same = λ p. refl; weighs = refl; smaller = omega arith; needs = omega arith }
+takes-none kind t old = record { same = λ p. refl; weighs = omega arith; smaller = omega arith; needs = omega arith }
 
 -- the right operand, and what becomes of the left one
 pub takes-right : (kind : Kind) (t u : Tree) (left : Option Tree) (old mid new : List Span) → Takes kind u None old mid → Takes kind t left mid new → Takes kind (trees.either t u) left old new
@@ -110,7 +183,7 @@ takes-right kind t u left old mid new right others = record {
 }
 
 -- the last member, and those to its left
-pub ends-in : (kind : Kind) (t u : Tree) (left : Option Tree) (x : Span) (spans : List Span) → ((p : Packet) → meaning u p ≡ kind_test kind x p) → weight u ≡ 40 → 2 ≤ length spans
+pub ends-in : (kind : Kind) (t u : Tree) (left : Option Tree) (x : Span) (spans : List Span) → ((p : Packet) → meaning u p ≡ kind_test kind x p) → weighed kind.form 1 ≤ weight u → 2 ≤ length spans
     → Takes kind t left (x ∷ []) spans → EndsIn kind t u left spans
 ends-in kind t u left x spans same weighs many takes = record {
   many = many;
@@ -130,12 +203,12 @@ option-fact X (Some x) before none some = some x before
 
 -- the code of a list by renewed ways
 pub emits-list : {kind : Kind} {t u : Tree} {left : Option Tree} {spans : List Span} {known : Known} {ways renewed : Ways} {entry : Way} {a b c : List Insn} → EndsIn kind t u left spans
-    → Extends 2 a b → RenewsBoth ways renewed a b → DecidesBehind known (28 * length spans + 22) (any_of (kind_test kind) spans) renewed entry b c → EmitsList known t u left ways renewed entry a c
+    → Extends 2 a b → RenewsBoth ways renewed a b → DecidesBehind known (listed_cost kind.form (length spans)) (any_of (kind_test kind) spans) renewed entry b c → EmitsList known t u left ways renewed entry a c
 emits-list {kind} {t} {u} {left} {spans} ends extends renews decides = record {
   test = any_of (kind_test kind) spans;
-  most = 2 + (28 * length spans + 22);
+  most = 2 + listed_cost kind.form (length spans);
   same = ends.same;
-  fits = omega (arith, ends.weighs, ends.many);
+  fits = omega (arith, ends.weighs, listed_fits kind.form (length spans) ends.many);
   smaller = ends.smaller;
   needs = ends.needs;
   decides = behind-renewed extends renews decides;

@@ -6,6 +6,8 @@ use Rattle.bpfvm.specs.Codes.{Accumulator}
 use Rattle.bpfvm.specs.Machine.{Registers, with_value}
 use Rattle.filterlang.specs.Trees.{Tree}
 use Rattle.filterlang.specs.Trees as trees
+use Rattle.filterlang.specs.declared.tree.Layer.TheVariants as layers
+use Rattle.filterlang.specs.declared.tree.Size.TheVariants as sizes
 use Rattle.filterlang.specs.declared.tree.Direction.{Direction}
 use Rattle.filterlang.specs.declared.tree.Direction.TheVariants.{Src, Dst, SrcOrDst}
 use Rattle.filterlang.specs.declared.tree.Network.{Network}
@@ -17,12 +19,13 @@ use Rattle.filtergen.specs.declared.lists.Form.{Form}
 use Rattle.filtergen.specs.declared.lists.Form.TheVariants as forms
 use Rattle.filtergen.specs.declared.lists.Sides.{Sides}
 use Rattle.filtergen.specs.declared.lists.Sides.TheVariants as sides
+use Rattle.filtergen.specs.declared.lists.Bytes.{Bytes}
 use Rattle.filtergen.specs.declared.lists.Kind.{Kind}
 use Rattle.filtergen.specs.declared.lists.Span.{Span}
 use Rattle.filtergen.specs.declared.among.Spot.{Spot}
 use Rattle.filtergen.specs.declared.among.Spot.TheVariants as spots
 use Rattle.filtergen.specs.declared.verdict.Verdict.TheVariants.{No}
-use Rattle.filtergen.specs.Meaning.{Packet, Test, or_else, or_test, and_test, check, byte, half, word, is_type, by_direction, within, has_any_ports, meaning}
+use Rattle.filtergen.specs.Meaning.{Packet, Test, or_else, or_test, and_test, check, byte, half, word, is_type, by_direction, within, has_any_ports, bytes_of, accessed, in_layer, meaning}
 use Rattle.filtergen.specs.Compiling.{weight, need}
 use Rattle.filtergen.specs.Emission.{IsPlace, run_from, Extends, front, field_of}
 use Rattle.filtergen.specs.declared.known.Known.{Known}
@@ -65,22 +68,41 @@ in_span x mask o p = check (λ w. within x.low x.high (bit_and w mask)) (word o 
 abbrev pub of_any_type : Test → Test → Test
 of_any_type ip arp = or_test (or_test (and_test (is_type 0x0800) ip) (and_test (is_type 0x0806) arp)) (and_test (is_type 0x8035) arp)
 
--- the test of a member: a primitive whose number is in a span
-abbrev pub form_test : Form → Direction → ℕ → Span → Test
-form_test forms.Net d m x =
+-- bytes of a packet that has their layer are in a span
+abbrev pub bytes_test : Bytes → Span → Test
+bytes_test b x = and_test (in_layer b.layer) (λ p. check (within x.low x.high) (accessed b.layer (bytes_of b.size) p b.index))
+
+-- those of what is no relation
+abbrev pub no_bytes : Bytes
+no_bytes = record { layer = layers.Ether; index = 0; size = sizes.One }
+
+-- the test of a member: a primitive or a relation whose number is in a span
+abbrev pub form_test : Form → Direction → ℕ → Bytes → Span → Test
+form_test forms.Net d m b x =
     of_any_type (by_direction d (in_span x m 26) (in_span x m 30)) (by_direction d (in_span x m 28) (in_span x m 38))
-form_test forms.IpNet d m x = and_test (is_type 0x0800) (by_direction d (in_span x m 26) (in_span x m 30))
-form_test forms.ArpNet d m x = and_test (is_type 0x0806) (by_direction d (in_span x m 28) (in_span x m 38))
-form_test forms.RarpNet d m x = and_test (is_type 0x8035) (by_direction d (in_span x m 28) (in_span x m 38))
-form_test forms.Ports d m x = has_any_ports None d x.low x.high
-form_test forms.TcpPorts d m x = has_any_ports (Some transports.Tcp) d x.low x.high
-form_test forms.UdpPorts d m x = has_any_ports (Some transports.Udp) d x.low x.high
-form_test forms.SctpPorts d m x = has_any_ports (Some transports.Sctp) d x.low x.high
-form_test forms.IpProto d m x = and_test (is_type 0x0800) (λ p. check (within x.low x.high) (byte 23 p))
-form_test forms.EtherProto d m x = (λ p. check (within x.low x.high) (half 12 p))
+form_test forms.IpNet d m b x = and_test (is_type 0x0800) (by_direction d (in_span x m 26) (in_span x m 30))
+form_test forms.ArpNet d m b x = and_test (is_type 0x0806) (by_direction d (in_span x m 28) (in_span x m 38))
+form_test forms.RarpNet d m b x = and_test (is_type 0x8035) (by_direction d (in_span x m 28) (in_span x m 38))
+form_test forms.Ports d m b x = has_any_ports None d x.low x.high
+form_test forms.TcpPorts d m b x = has_any_ports (Some transports.Tcp) d x.low x.high
+form_test forms.UdpPorts d m b x = has_any_ports (Some transports.Udp) d x.low x.high
+form_test forms.SctpPorts d m b x = has_any_ports (Some transports.Sctp) d x.low x.high
+form_test forms.IpProto d m b x = and_test (is_type 0x0800) (λ p. check (within x.low x.high) (byte 23 p))
+form_test forms.EtherProto d m b x = (λ p. check (within x.low x.high) (half 12 p))
+form_test forms.Bytes d m b x = bytes_test b x
 
 abbrev pub kind_test : Kind → Span → Test
-kind_test k x = form_test k.form (direction_of k.sides) k.mask x
+kind_test k x = form_test k.form (direction_of k.sides) k.mask k.bytes x
+
+-- what so many members weigh at least
+abbrev pub weighed : Form → ℕ → ℕ
+weighed forms.Bytes n = 30 * n
+weighed other n = 40 * n
+
+-- how many instructions a list of so many takes at most
+abbrev pub listed_cost : Form → ℕ → ℕ
+listed_cost forms.Bytes n = 7 * n + 14
+listed_cost other n = 28 * n + 22
 
 -- the number at a spot
 abbrev pub spot_value : Spot → Registers → Packet → Option ℕ
@@ -137,7 +159,7 @@ left_size (Some u) = size u
 -- a tree has become members of a list, but for what is left
 pub record Takes (kind : Kind) (whole : Tree) (left : Option Tree) (old new : List Span) : Type 0 where
   pub same : (p : Packet) → or_else (meaning whole p) (any_of (kind_test kind) old p) ≡ left_or left (any_of (kind_test kind) new) p
-  pub weighs : weight whole + 40 * length old ≡ left_weight left + 40 * length new
+  pub weighs : left_weight left + weighed kind.form (length new) ≤ weight whole + weighed kind.form (length old)
   pub smaller : left_size left ≤ size whole
   pub needs : left_need left ≤ need whole
 
@@ -145,7 +167,7 @@ pub record Takes (kind : Kind) (whole : Tree) (left : Option Tree) (old new : Li
 pub record EndsIn (kind : Kind) (first second : Tree) (left : Option Tree) (spans : List Span) : Type 0 where
   pub many : 2 ≤ length spans
   pub same : (p : Packet) → or_else (meaning first p) (meaning second p) ≡ left_or left (any_of (kind_test kind) spans) p
-  pub weighs : weight first + weight second ≡ left_weight left + 40 * length spans
+  pub weighs : left_weight left + weighed kind.form (length spans) ≤ weight first + weight second
   pub smaller : left_size left ≤ size first
   pub needs : left_need left ≤ need first
 

@@ -3,13 +3,14 @@
 ghost use Rattle.std.specs.Prelude.{◌≡◌, ℕ, ◌+◌, ◌*◌, ◌<◌, ◌≤◌, length, IfOk};
 ghost use Rattle.bpfvm.specs.Machine.{Registers};
 ghost use Rattle.filtergen.specs.declared.lists.Span.{Span as Reach};
-ghost use Rattle.filtergen.specs.Meaning.{Packet, HasBytes, by_direction, has_port};
+ghost use Rattle.filtergen.specs.Meaning.{Packet, HasBytes, check, by_direction, has_port, bytes_of, accessed};
 ghost use Rattle.filtergen.specs.Lists.{any_of, among, direction_of, in_span, found_at, LoadsSpot, ChoosesFrom};
 ghost use Rattle.filtergen.specs.Emission.{AreExits, same_index, Follows, Decides, OrFull};
 
 use crate::code::{Code, Exits, Full, REACH};
 use crate::insns::{Field, load_insn, plain_insn};
-use crate::lists::{Sides, Span};
+use crate::lists::{Bytes, Sides, Span};
+use crate::values::base_of;
 use bpfvm::code;
 
 /// From how far the jumps of a list reach its exit: what one member takes may come in between.
@@ -121,6 +122,26 @@ impl Code {
                 )
             }
         }
+    }
+
+    /// Bytes of a layer, where the packet has it.
+    pub fn seek_bytes(
+        &mut self,
+        bytes: Bytes,
+        spans: &[Span],
+        exits: Exits,
+    ) -> Result<usize, Full>
+        requires some { 0 < length spans.now }
+        requires exits { AreExits self.old exits }
+        ensures { OrFull (7 * length spans.now + 2) self.old result (λ entry. Decides (7 * length spans.now + 2)
+            (λ p. check (among spans.now) (accessed bytes.layer (bytes_of bytes.size) p bytes.index)) exits entry
+            self.old self.new) }
+    {
+        self.among(spans, exits)?;
+        self.room(2)?;
+        let index = u32::from(bytes.index);
+        self.access_at(base_of(bytes.layer), bytes.size, index);
+        Ok(self.len())
     }
 
     /// Addresses of IPv4 at these offsets of the frame.

@@ -2,7 +2,7 @@
 
 ghost use Rattle.std.specs.Prelude.{◌≡◌, ℕ, ◌+◌, ◌*◌, ◌≤◌, length};
 ghost use Rattle.filtergen.specs.Meaning.{check, byte, half, and_test, is_type, by_direction, within, has_any_ports};
-ghost use Rattle.filtergen.specs.Lists.{any_of, direction_of, in_span, of_any_type, kind_test};
+ghost use Rattle.filtergen.specs.Lists.{any_of, direction_of, in_span, of_any_type, bytes_test, kind_test, listed_cost};
 ghost use Rattle.filtergen.specs.Emission.{OrFull};
 ghost use Rattle.filtergen.specs.Ways.{AreWays, DecidesBy, DecidesBehind};
 
@@ -10,7 +10,7 @@ use crate::among::Spot;
 use crate::code::{Code, Exits, Full};
 use crate::insns::{Field, Jump, Operand, load_insn};
 use crate::known::Known;
-use crate::lists::{Form, Kind, Sides, Span};
+use crate::lists::{Bytes, Form, Kind, Sides, Span};
 use crate::primitives::{ARP, ARP_ADDRESSES, IP, IP_ADDRESSES, RARP};
 use crate::ways::{Way, Ways};
 use filterlang::Transport;
@@ -186,6 +186,30 @@ impl Code {
         }
     }
 
+    /// Bytes of a layer.
+    fn listed_bytes(
+        &mut self,
+        known: Known,
+        bytes: Bytes,
+        spans: &[Span],
+        ways: Ways,
+    ) -> Result<Way, Full>
+        requires many { 2 ≤ length spans.now }
+        requires ways { AreWays self.old ways }
+        ensures { OrFull (7 * length spans.now + 14) self.old result (λ way. DecidesBehind known (7 * length spans.now + 14)
+            (any_of (bytes_test bytes) spans.now) ways way self.old self.new) }
+    {
+        let exits = ways.any_exits();
+        let inner = self.seek_bytes(bytes, spans, exits)?;
+        self.room(12)?;
+        let layer = Known::of_layer(bytes.layer);
+        let exits = Exits {
+            yes: inner,
+            ..exits
+        };
+        Ok(Way::to(self.rest_of(known, layer, exits)))
+    }
+
     /// What is left of a list.
     pub fn listed(
         &mut self,
@@ -196,10 +220,16 @@ impl Code {
     ) -> Result<Way, Full>
         requires many { 2 ≤ length spans.now }
         requires ways { AreWays self.old ways }
-        ensures { OrFull (28 * length spans.now + 22) self.old result (λ way. DecidesBehind known (28 * length spans.now + 22)
-            (any_of (kind_test kind) spans.now) ways way self.old self.new) }
+        ensures { OrFull (listed_cost kind.form (length spans.now)) self.old result (λ way.
+            DecidesBehind known (listed_cost kind.form (length spans.now)) (any_of (kind_test kind) spans.now) ways way
+            self.old self.new) }
     {
-        let Kind { form, sides, mask } = kind;
+        let Kind {
+            form,
+            sides,
+            mask,
+            bytes,
+        } = kind;
         match form {
             Form::Net => self.listed_nets(known, sides, mask, spans, ways),
             Form::IpNet => self.listed_ip_nets(known, sides, mask, spans, ways),
@@ -211,6 +241,7 @@ impl Code {
             Form::SctpPorts => self.listed_ports(known, Some(Transport::Sctp), sides, spans, ways),
             Form::IpProto => self.listed_protocols(known, spans, ways),
             Form::EtherProto => self.listed_types(spans, ways),
+            Form::Bytes => self.listed_bytes(known, bytes, spans, ways),
         }
     }
 }

@@ -1,19 +1,22 @@
 //! Lists: neighbours of an `or` that differ in their numbers alone.
 
 ghost use Rattle.std.specs.Prelude.{◌≡◌, ◌+◌, ◌*◌, ◌≤◌, ◌<◌, ◌∷◌, [], ◌++◌, length, IfSome, MatchOption, Some, None};
-ghost use Rattle.filterlang.specs.Trees.{tree_of};
-ghost use Rattle.filtergen.specs.Meaning.{Packet, plain_test, in_any_net, has_any_ports, primitive_test, meaning};
-ghost use Rattle.filtergen.specs.Lists.{direction_of, net_form, ports_form, kind_test, Takes, EndsIn};
+ghost use Rattle.filterlang.specs.Trees.{amount_of, tree_of, number as literal};
+ghost use Rattle.filterlang.specs.declared.token.Comparison.TheVariants.{Equal};
+ghost use Rattle.filtergen.specs.Meaning.{Packet, plain_test, in_any_net, has_any_ports, primitive_test, relation_test, meaning};
+ghost use Rattle.filtergen.specs.Lists.{direction_of, net_form, ports_form, no_bytes, kind_test, weighed, Takes, EndsIn};
 ghost use Rattle.filtergen.specs.declared.lists.Sides.TheVariants as sides;
 ghost use Rattle.std.specs.Bool.{OnTrue, OnFalse};
-ghost use Rattle.filtergen.specs.Compiling.{weight};
+ghost use Rattle.filtergen.specs.Compiling.{value_weight, weight};
 
 use crate::primitives::{ARP, RARP};
 use arrayvec::ArrayVec;
 use bpfvm::MAX_INSNS;
-use filterlang::{Direction, Expr, Network, Plain, Primitive, Transport};
+use filterlang::{
+    Comparison, Direction, Expr, Layer, Network, Plain, Primitive, Size, Transport, Value,
+};
 
-/// Of which primitives a list is.
+/// Of which tests a list is.
 #[derive(Clone, Copy, PartialEq, Eq)]
 pub(crate) enum Form {
     /// Hosts and nets of any protocol.
@@ -28,6 +31,8 @@ pub(crate) enum Form {
     SctpPorts,
     IpProto,
     EtherProto,
+    /// Relations that ask for the same bytes.
+    Bytes,
 }
 
 /// Whether the source, the destination, or either of them is asked for.
@@ -38,6 +43,14 @@ pub(crate) enum Sides {
     Either,
 }
 
+/// Bytes of a packet.
+#[derive(Clone, Copy, PartialEq, Eq)]
+pub(crate) struct Bytes {
+    pub layer: Layer,
+    pub index: u16,
+    pub size: Size,
+}
+
 /// What the members of a list have in common.
 #[derive(Clone, Copy, PartialEq, Eq)]
 pub(crate) struct Kind {
@@ -45,6 +58,8 @@ pub(crate) struct Kind {
     pub sides: Sides,
     /// That of hosts and nets.
     pub mask: u32,
+    /// Those of relations.
+    pub bytes: Bytes,
 }
 
 /// The numbers from low to high, with both.
@@ -54,7 +69,7 @@ pub(crate) struct Span {
     pub high: u32,
 }
 
-/// A primitive as a member of a list.
+/// A primitive or a relation as a member of a list.
 #[derive(Clone, Copy)]
 struct Member {
     kind: Kind,
@@ -68,6 +83,13 @@ pub(crate) struct Neighbours {
     /// The number of each member, that of the last one first.
     pub spans: ArrayVec<Span, MAX_INSNS>,
 }
+
+/// The bytes of what is no relation.
+const NO_BYTES: Bytes = Bytes {
+    layer: Layer::Ether,
+    index: 0,
+    size: Size::One,
+};
 
 fn sides_of(direction: Direction) -> Option<Sides>
     ensures { IfSome result (λ s. direction_of s ≡ direction) }
@@ -106,11 +128,24 @@ fn ports_form(transport: Option<Transport>) -> Form
     }
 }
 
+/// The number that a value is written as, where it is a low one.
+fn low_literal(value: &Value) -> Option<u16>
+    ensures { IfSome result (λ n. amount_of value.now ≡ literal n) }
+{
+    match value {
+        Value::Number(n) => match u16::try_from(*n) {
+            Ok(n) => Some(n),
+            Err(_) => None,
+        },
+        _ => None,
+    }
+}
+
 impl Member {
     /// A member that asks for one number, of neither side.
     fn numbered(form: Form, number: u32) -> Member
         ensures { result ≡ record {
-          kind = record { form = form; sides = sides.Source; mask = 0 };
+          kind = record { form = form; sides = sides.Source; mask = 0; bytes = no_bytes };
           span = record { low = number; high = number };
         } }
     {
@@ -119,6 +154,7 @@ impl Member {
                 form,
                 sides: Sides::Source,
                 mask: 0,
+                bytes: NO_BYTES,
             },
             span: Span {
                 low: number,
@@ -141,6 +177,7 @@ impl Member {
                     form: net_form(network),
                     sides,
                     mask,
+                    bytes: NO_BYTES,
                 },
                 span: Span {
                     low: address,
@@ -165,6 +202,7 @@ impl Member {
                     form: ports_form(transport),
                     sides,
                     mask: 0,
+                    bytes: NO_BYTES,
                 },
                 span: Span { low, high },
             }),
@@ -213,13 +251,56 @@ impl Member {
         }
     }
 
+    /// A relation that asks whether bytes are a number, where their index is written as one too.
+    fn of_bytes(value: &Value, number: u32) -> Option<Member>
+        ensures same { IfSome result (λ m. (p : Packet) → relation_test Equal (amount_of value.now) (literal number) p ≡ kind_test m.kind m.span p) }
+        ensures weighs { IfSome result (λ m. weighed m.kind.form 1 ≤ 10 + value_weight (amount_of value.now)) }
+    {
+        match value {
+            Value::Accessor(layer, index, size) => {
+                let index = low_literal(index)?;
+                let bytes = Bytes {
+                    layer: *layer,
+                    index,
+                    size: *size,
+                };
+                let member = Member::numbered(Form::Bytes, number);
+                Some(Member {
+                    kind: Kind {
+                        bytes,
+                        ..member.kind
+                    },
+                    ..member
+                })
+            }
+            _ => None,
+        }
+    }
+
+    fn of_relation(comparison: Comparison, left: &Value, right: &Value) -> Option<Member>
+        ensures same { IfSome result (λ m. (p : Packet) → relation_test comparison (amount_of left.now) (amount_of right.now) p ≡ kind_test m.kind m.span p) }
+        ensures weighs { IfSome result (λ m.
+            weighed m.kind.form 1 ≤ 10 + (value_weight (amount_of left.now) + value_weight (amount_of right.now))) }
+    {
+        match comparison {
+            Comparison::Equal => match right {
+                Value::Number(n) => Member::of_bytes(left, *n),
+                _ => None,
+            },
+            _ => None,
+        }
+    }
+
     /// The member that an expression is.
     fn of_expr(expr: &Expr) -> Option<Member>
         ensures same { IfSome result (λ m. (p : Packet) → meaning (tree_of expr.now) p ≡ kind_test m.kind m.span p) }
-        ensures weighs { IfSome result (λ m. weight (tree_of expr.now) ≡ 40) }
+        ensures weighs { IfSome result (λ m. weighed m.kind.form 1 ≤ weight (tree_of expr.now)) }
     {
         match expr {
             Expr::Test(primitive) => Member::of(*primitive),
+            Expr::Relation(comparison, left, right) => {
+                Member::of_relation(*comparison, left, right)
+            }
             _ => None,
         }
     }
@@ -263,7 +344,8 @@ impl Neighbours {
     /// The list at the right end of an `or` of these two, where one is, and what stands to its left.
     pub fn at_end<'a>(left: &'a Expr, right: &Expr) -> Option<(Neighbours, Option<&'a Expr>)>
         ensures many { IfSome result (λ found. 2 ≤ length found.0.spans.items) }
-        ensures weighs { IfSome result (λ found. 40 * length found.0.spans.items ≤ weight (tree_of left.now) + weight (tree_of right.now)) }
+        ensures weighs { IfSome result (λ found.
+            weighed found.0.kind.form (length found.0.spans.items) ≤ weight (tree_of left.now) + weight (tree_of right.now)) }
         ensures ends { IfSome result (λ found. MatchOption found.1
             (EndsIn found.0.kind (tree_of left.now) (tree_of right.now) None found.0.spans.items)
             (λ rest. EndsIn found.0.kind (tree_of left.now) (tree_of right.now) (Some (tree_of rest.now)) found.0.spans.items)) }

@@ -63,7 +63,7 @@ impl Code {
     }
 
     /// What is left of a test, behind what is known.
-    fn rest_of(&mut self, known: Known, fact: Known, exits: Exits) -> usize
+    pub fn rest_of(&mut self, known: Known, fact: Known, exits: Exits) -> usize
         requires room { length self.old + 12 ≤ 512 }
         requires exits { AreExits self.old exits }
         ensures { Decides 12 (rest_of known fact) exits result self.old self.new }

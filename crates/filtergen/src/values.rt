@@ -35,7 +35,7 @@ pub(crate) enum Base {
 }
 
 /// What the indices of a layer are counted from.
-fn base_of(layer: Layer) -> Base
+pub(crate) fn base_of(layer: Layer) -> Base
     ensures { result ≡ base_of layer }
 {
     match layer {
@@ -162,7 +162,7 @@ impl Code {
 
     /// Reads the bytes of an accessor, where its index is a number and no sum can wrap.
     #[tactic(auto, unfolding(bpfvm::specs::Validity::fault_of, bpfvm::specs::Codes::operation_of))]
-    fn access_at(&mut self, base: Base, size: Size, index: u32)
+    pub fn access_at(&mut self, base: Base, size: Size, index: u32)
         requires room { length self.old + 2 ≤ 512 }
         requires near { farthest base + index < 2 ^ 32 }
         ensures { (cell : ℕ) → Computes 2 (λ p. read_from base (bytes_of size) p index) cell self.old self.new }

@@ -42,3 +42,6 @@ returns-in-IpProto c =
 pub returns-in-EtherProto : goal.returns-in-EtherProto
 returns-in-EtherProto c =
     rw c.in-EtherProto.is (MatchResult-weaker c.listed_types.result c.listed_types.ensures (λ way done. behind-more _ (omega (arith, c.requires.many)) (behind-any c.args.known done)) (λ e full. omega (arith, full, c.requires.many)))
+
+pub returns-in-Bytes : goal.returns-in-Bytes
+returns-in-Bytes c = rw c.in-Bytes.is c.listed_bytes.ensures

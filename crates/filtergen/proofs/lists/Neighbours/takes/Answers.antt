@@ -1,9 +1,13 @@
-use Rattle.std.proofs.Common.{◌≡◌, ap, ◌∙◌, rules}
+use Rattle.std.proofs.Common.{◌≡◌, ◌≤◌, ap, sym, subst, ◌∙◌, rules}
 use Rattle.filterlang.specs.Trees.{tree_of}
-use Rattle.filtergen.specs.Lists.{kind_test}
+use Rattle.filtergen.specs.Compiling.{weight}
+use Rattle.filtergen.specs.Lists.{kind_test, weighed}
+use Rattle.filtergen.specs.declared.lists.Kind.{Kind}
 use Rattle.filtergen.specs.contracts.lists.Form.{the_type as the_forms}
 use Rattle.filtergen.specs.contracts.lists.Sides.{the_type as the_sides}
-use Rattle.filtergen.proofs.Taking.{three-true, kind-same, takes-one}
+use Rattle.filterlang.specs.contracts.tree.Layer.{the_type as the_layers}
+use Rattle.filterlang.specs.contracts.tree.Size.{the_type as the_sizes}
+use Rattle.filtergen.proofs.Taking.{both-true, kind-same, bytes-same, takes-one}
 use Rattle.filtergen.proofs.Runs.{equal-true}
 use denote.Enum.Bare.{same_true}
 use Rattle.filtergen.proofs.lists.Neighbours.takes.Goals as goal
@@ -12,7 +16,15 @@ pub returns-in-Some-clause-taken : goal.returns-in-Some-clause-taken
 returns-in-Some-clause-taken c =
     let member = c.in-Some.member in
     let kind = c.args.self.now.kind in
-    let parts = three-true _ _ _ c.if-eq.ensures in
-    let same : member.kind ≡ kind = kind-same member.kind kind (same_true the_forms (search rules) _ _ parts.0) (same_true the_sides (search rules) _ _ parts.1) (equal-true _ _ parts.2) in
+    let by_form = both-true _ _ c.if-eq.ensures in
+    let by_sides = both-true _ _ by_form.1 in
+    let by_mask = both-true _ _ by_sides.1 in
+    let by_layer = both-true _ _ by_mask.1 in
+    let by_index = both-true _ _ by_layer.1 in
+    let bytes : member.kind.bytes ≡ kind.bytes =
+        bytes-same member.kind.bytes kind.bytes (same_true the_layers (search rules) _ _ by_layer.0) (equal-true _ _ by_index.0) (same_true the_sizes (search rules) _ _ (sym by_index.1)) in
+    let same : member.kind ≡ kind =
+        kind-same member.kind kind (same_true the_forms (search rules) _ _ by_form.0) (same_true the_sides (search rules) _ _ by_sides.0) (equal-true _ _ by_mask.0) bytes in
     takes-one kind (tree_of c.args.expr.now) member.span c.args.self.now.spans.items c.push.new.self.items
-    (λ p. c.in-Some.ensures.same p ∙ ap (λ k. kind_test k member.span p) same) c.in-Some.ensures.weighs c.push.ensures.items
+    (λ p. c.in-Some.ensures.same p ∙ ap (λ k. kind_test k member.span p) same)
+    (subst (λ (k : Kind). weighed k.form 1 ≤ weight (tree_of c.args.expr.now)) same c.in-Some.ensures.weighs) c.push.ensures.items
