@@ -46,7 +46,7 @@ one_of_three Yes (Some n) f g h d = by_test (f n) (g n) (h n) d
     by_test false true c Abort = refl
     by_test false false c d = refl
 
-and-assoc : (u v w : Verdict) → and_then (and_then u v) w ≡ and_then u (and_then v w)
+pub and-assoc : (u v w : Verdict) → and_then (and_then u v) w ≡ and_then u (and_then v w)
 and-assoc Yes v w = refl
 and-assoc No v w = refl
 and-assoc Abort v w = refl

@@ -11,6 +11,8 @@ use Rattle.filterlang.specs.declared.tree.Network.{Network}
 use Rattle.filterlang.specs.declared.tree.Network.TheVariants as networks
 use Rattle.filterlang.specs.declared.tree.Transport.{Transport}
 use Rattle.filterlang.specs.declared.tree.Transport.TheVariants as transports
+use Rattle.filtergen.specs.declared.lists.Chain.{Chain}
+use Rattle.filtergen.specs.declared.lists.Chain.TheVariants as chains
 use Rattle.filtergen.specs.declared.lists.Form.{Form}
 use Rattle.filtergen.specs.declared.lists.Form.TheVariants as forms
 use Rattle.filtergen.specs.declared.lists.Bytes.{Bytes}
@@ -19,7 +21,7 @@ use Rattle.filtergen.specs.declared.lists.Kind.{Kind}
 use Rattle.filtergen.specs.declared.lists.Span.{Span}
 use Rattle.filtergen.specs.declared.verdict.Verdict.{Verdict}
 use Rattle.filtergen.specs.declared.verdict.Verdict.TheVariants.{Yes, No, Abort}
-use Rattle.filtergen.specs.Meaning.{Packet, and_then, or_else, and_test, or_test, check, decided, byte, word, is_type, is_protocol, by_direction, has_address, in_any_net, within, has_any_ports, bytes_of, accessed, in_layer, check_both, compared, relation_test, meaning}
+use Rattle.filtergen.specs.Meaning.{Packet, Test, and_then, or_else, opposite, and_test, or_test, check, decided, byte, word, is_type, is_protocol, by_direction, has_address, in_any_net, within, has_any_ports, bytes_of, accessed, in_layer, check_both, compared, relation_test, meaning}
 use Rattle.filtergen.specs.Compiling.{weight}
 use Rattle.filtergen.specs.Parts.{directed}
 use Rattle.std.specs.Option.{MatchOption}
@@ -30,8 +32,11 @@ use Rattle.filtergen.specs.declared.ways.Ways.{Ways}
 use Rattle.filtergen.specs.Emission.{Extends}
 use Rattle.filtergen.specs.Ways.{RenewsBoth, DecidesBehind}
 use Rattle.filtergen.proofs.Leading.{renews-all-later}
-use Rattle.filtergen.proofs.Narrowed.{behind-more, behind-same, behind-either, behind-renewed}
-use Rattle.filtergen.specs.Lists.{any_of, in_span, net_form, ports_form, bytes_test, form_test, kind_test, weighed, listed_cost, Takes, EndsIn, EmitsList}
+use Rattle.filtergen.proofs.Narrowed.{behind-more, behind-same, behind-both, behind-either, behind-not, behind-renewed}
+use Rattle.filtergen.specs.Lists.{any_of, in_span, net_form, ports_form, bytes_test, form_test, kind_test, chained, turned, turned_ways, weighed, listed_cost, Takes, EndsIn, EmitsList}
+use Rattle.filtergen.specs.Knowing.{behind, LOOK_BACK}
+use Rattle.filtergen.proofs.Knowing.{tree-known}
+use Rattle.filtergen.proofs.Sharing.{and-assoc}
 use Rattle.filtergen.proofs.Sides.{within-one, directed-is}
 use Rattle.filtergen.proofs.Neighbours.{or-assoc, any-first}
 
@@ -77,6 +82,13 @@ ports-member None d m low high b p = refl
 ports-member (Some transports.Tcp) d m low high b p = refl
 ports-member (Some transports.Udp) d m low high b p = refl
 ports-member (Some transports.Sctp) d m low high b p = refl
+
+-- what a chain makes of two members
+turned-either : (c : Chain) (v w : Verdict) → turned c (or_else v w) ≡ chained c (turned c v) (turned c w)
+turned-either chains.AnyOf v w = refl
+turned-either chains.NoneOf Yes w = refl
+turned-either chains.NoneOf No w = refl
+turned-either chains.NoneOf Abort w = refl
 
 -- bytes that are compared with a number
 pub bytes-member : (l : Layer) (i : ℕ) (size : Size) (n : ℕ) (p : Packet)
@@ -156,11 +168,14 @@ listed_fits forms.EtherProto n many = omega (arith, many)
 listed_fits forms.Bytes n many = omega (arith, many)
 
 -- one more member
-pub takes-one : (kind : Kind) (t : Tree) (x : Span) (old new : List Span) → ((p : Packet) → meaning t p ≡ kind_test kind x p) → weighed kind.form 1 ≤ weight t → new ≡ old ++ (x ∷ []) → Takes kind t None old new
-takes-one kind t x old new same weighs is = record {
+pub takes-one : (chain : Chain) (kind : Kind) (t : Tree) (x : Span) (old new : List Span) → ((p : Packet) → meaning t p ≡ turned chain (kind_test kind x p)) → weighed kind.form 1 ≤ weight t
+    → new ≡ old ++ (x ∷ []) → Takes chain kind t None old new
+takes-one chain kind t x old new same weighs is = record {
   same = λ p.
-      ap (λ v. or_else v (any_of (kind_test kind) old p)) (same p) ∙ sym (any-first (kind_test kind) p x old)
-      ∙ sym (ap (λ l. any_of (kind_test kind) l p) is);
+      ap (λ v. chained chain v (turned chain (any_of (kind_test kind) old p))) (same p)
+      ∙ sym (turned-either chain (kind_test kind x p) (any_of (kind_test kind) old p))
+      ∙ ap (turned chain) (sym (any-first (kind_test kind) p x old))
+      ∙ sym (ap (λ l. turned chain (any_of (kind_test kind) l p)) is);
   weighs =
       let more : weighed kind.form (length new) ≡ weighed kind.form (length old) + weighed kind.form 1 =
           ap (λ l. weighed kind.form (length l)) is ∙ ap (weighed kind.form) (length-append old (x ∷ [])) ∙ weighed-more kind.form (length old) in
@@ -170,11 +185,12 @@ takes-one kind t x old new same weighs is = record {
 }
 
 -- none
-pub takes-none : (kind : Kind) (t : Tree) (old : List Span) → Takes kind t (Some t) old old
-takes-none kind t old = record { same = λ p. refl; weighs = omega arith; smaller = omega arith; needs = omega arith }
+pub takes-none : (chain : Chain) (kind : Kind) (t : Tree) (old : List Span) → Takes chain kind t (Some t) old old
+takes-none chain kind t old = record { same = λ p. refl; weighs = omega arith; smaller = omega arith; needs = omega arith }
 
 -- the right operand, and what becomes of the left one
-pub takes-right : (kind : Kind) (t u : Tree) (left : Option Tree) (old mid new : List Span) → Takes kind u None old mid → Takes kind t left mid new → Takes kind (trees.either t u) left old new
+pub takes-right : (kind : Kind) (t u : Tree) (left : Option Tree) (old mid new : List Span) → Takes chains.AnyOf kind u None old mid → Takes chains.AnyOf kind t left mid new
+    → Takes chains.AnyOf kind (trees.either t u) left old new
 takes-right kind t u left old mid new right others = record {
   same = λ p. or-assoc (meaning t p) (meaning u p) (any_of (kind_test kind) old p) ∙ ap (or_else (meaning t p)) (right.same p) ∙ others.same p;
   weighs = omega (arith, right.weighs, others.weighs);
@@ -182,12 +198,21 @@ takes-right kind t u left old mid new right others = record {
   needs = omega (arith, others.needs);
 }
 
+pub takes-negated : (kind : Kind) (t u : Tree) (left : Option Tree) (old mid new : List Span) → Takes chains.NoneOf kind u None old mid → Takes chains.NoneOf kind t left mid new
+    → Takes chains.NoneOf kind (trees.both t u) left old new
+takes-negated kind t u left old mid new right others = record {
+  same = λ p. and-assoc (meaning t p) (meaning u p) (opposite (any_of (kind_test kind) old p)) ∙ ap (and_then (meaning t p)) (right.same p) ∙ others.same p;
+  weighs = omega (arith, right.weighs, others.weighs);
+  smaller = omega (arith, others.smaller);
+  needs = omega (arith, others.needs);
+}
+
 -- the last member, and those to its left
-pub ends-in : (kind : Kind) (t u : Tree) (left : Option Tree) (x : Span) (spans : List Span) → ((p : Packet) → meaning u p ≡ kind_test kind x p) → weighed kind.form 1 ≤ weight u → 2 ≤ length spans
-    → Takes kind t left (x ∷ []) spans → EndsIn kind t u left spans
-ends-in kind t u left x spans same weighs many takes = record {
+pub ends-in : (chain : Chain) (kind : Kind) (t u : Tree) (left : Option Tree) (x : Span) (spans : List Span) → ((p : Packet) → meaning u p ≡ turned chain (kind_test kind x p)) → weighed kind.form 1 ≤ weight u
+    → 2 ≤ length spans → Takes chain kind t left (x ∷ []) spans → EndsIn chain kind t u left spans
+ends-in chain kind t u left x spans same weighs many takes = record {
   many = many;
-  same = λ p. ap (or_else (meaning t p)) (same p) ∙ takes.same p;
+  same = λ p. ap (chained chain (meaning t p)) (same p) ∙ takes.same p;
   weighs = omega (arith, weighs, takes.weighs);
   smaller = takes.smaller;
   needs = takes.needs;
@@ -197,33 +222,57 @@ pub map-option : {A P P' : Type 0} {Q Q' : A → Type 0} (o : Option A) → Matc
 map-option None before none some = none before
 map-option (Some x) before none some = some x before
 
+pub map-both : {A P R P' : Type 0} {Q S Q' : A → Type 0} (o : Option A) → MatchOption o P Q → MatchOption o R S → (P → R → P') → ((x : A) → Q x → S x → Q' x) → MatchOption o P' Q'
+map-both None before other none some = none before other
+map-both (Some x) before other none some = some x before other
+
 pub option-fact : {A P : Type 0} {Q : A → Type 0} (X : Type 0) (o : Option A) → MatchOption o P Q → (P → X) → ((x : A) → Q x → X) → X
 option-fact X None before none some = none before
 option-fact X (Some x) before none some = some x before
 
+-- a test by the ways of the opposite one
+behind-turned : (chain : Chain) {k : ℕ} {known : Known} (t : Test) {ways : Ways} {entry : Way} {a b : List Insn} → DecidesBehind known k t (turned_ways chain ways) entry a b
+    → DecidesBehind known k (λ p. turned chain (t p)) ways entry a b
+behind-turned chains.AnyOf t first = first
+behind-turned chains.NoneOf t first = behind-not first
+
 -- the code of a list by renewed ways
-pub emits-list : {kind : Kind} {t u : Tree} {left : Option Tree} {spans : List Span} {known : Known} {ways renewed : Ways} {entry : Way} {a b c : List Insn} → EndsIn kind t u left spans
-    → Extends 2 a b → RenewsBoth ways renewed a b → DecidesBehind known (listed_cost kind.form (length spans)) (any_of (kind_test kind) spans) renewed entry b c → EmitsList known t u left ways renewed entry a c
-emits-list {kind} {t} {u} {left} {spans} ends extends renews decides = record {
-  test = any_of (kind_test kind) spans;
+pub emits-list : {chain : Chain} {kind : Kind} {t u : Tree} {left : Option Tree} {spans : List Span} {known : Known} {ways renewed : Ways} {entry : Way} {a b c : List Insn} → EndsIn chain kind t u left spans
+    → Extends 2 a b → RenewsBoth ways renewed a b → DecidesBehind known (listed_cost kind.form (length spans)) (any_of (kind_test kind) spans) (turned_ways chain renewed) entry b c
+    → EmitsList known chain t u left ways renewed entry a c
+emits-list {chain} {kind} {t} {u} {left} {spans} ends extends renews decides = record {
+  test = λ p. turned chain (any_of (kind_test kind) spans p);
   most = 2 + listed_cost kind.form (length spans);
   same = ends.same;
   fits = omega (arith, ends.weighs, listed_fits kind.form (length spans) ends.many);
   smaller = ends.smaller;
   needs = ends.needs;
-  decides = behind-renewed extends renews decides;
+  decides = behind-renewed extends renews (behind-turned chain (any_of (kind_test kind) spans) decides);
   renews = renews-all-later renews decides.extends;
 }
 
 -- where nothing is left
-pub emits-whole : {known : Known} {t u : Tree} {ways renewed : Ways} {entry : Way} {a b : List Insn} → EmitsList known t u None ways renewed entry a b
+pub emits-whole : {known : Known} {t u : Tree} {ways renewed : Ways} {entry : Way} {a b : List Insn} → EmitsList known chains.AnyOf t u None ways renewed entry a b
     → DecidesBehind known (weight t + weight u) (or_test (meaning t) (meaning u)) ways entry a b
 emits-whole {known} {t} {u} list =
     behind-more (weight t + weight u) (omega (arith, list.fits)) (behind-same known list.test (or_test (meaning t) (meaning u)) (λ p holds. sym (list.same p)) list.decides)
 
 -- where something is left
-pub emits-either : {known : Known} {t u w : Tree} {ways renewed : Ways} {entry first : Way} {a b c : List Insn} → EmitsList known t u (Some w) ways renewed entry a b
+pub emits-either : {known : Known} {t u w : Tree} {ways renewed : Ways} {entry first : Way} {a b c : List Insn} → EmitsList known chains.AnyOf t u (Some w) ways renewed entry a b
     → DecidesBehind known (weight w) (meaning w) (record { yes = renewed.yes; no = entry }) first b c → DecidesBehind known (weight t + weight u) (or_test (meaning t) (meaning u)) ways first a c
 emits-either {known} {t} {u} {w} list first =
     behind-more (weight t + weight u) (omega (arith, list.fits))
     (behind-same known (or_test (meaning w) list.test) (or_test (meaning t) (meaning u)) (λ p holds. sym (list.same p)) (behind-either list.renews list.decides first))
+
+-- the same of negations
+pub emits-none : {known : Known} {t u : Tree} {ways renewed : Ways} {entry : Way} {a b : List Insn} → EmitsList known chains.NoneOf t u None ways renewed entry a b
+    → DecidesBehind known (weight t + weight u) (and_test (meaning t) (meaning u)) ways entry a b
+emits-none {known} {t} {u} list =
+    behind-more (weight t + weight u) (omega (arith, list.fits)) (behind-same known list.test (and_test (meaning t) (meaning u)) (λ p holds. sym (list.same p)) list.decides)
+
+pub emits-both : {known : Known} {t u w : Tree} {ways renewed : Ways} {entry first : Way} {a b c : List Insn} → EmitsList (behind LOOK_BACK known w) chains.NoneOf t u (Some w) ways renewed entry a b
+    → DecidesBehind known (weight w) (meaning w) (record { yes = entry; no = renewed.no }) first b c → DecidesBehind known (weight t + weight u) (and_test (meaning t) (meaning u)) ways first a c
+emits-both {known} {t} {u} {w} list first =
+    behind-more (weight t + weight u) (omega (arith, list.fits))
+    (behind-same known (and_test (meaning w) list.test) (and_test (meaning t) (meaning u)) (λ p holds. sym (list.same p))
+    (behind-both (λ p holds passed. tree-known LOOK_BACK known w p holds passed) list.renews list.decides first))

@@ -15,6 +15,8 @@ use Rattle.filterlang.specs.declared.tree.Network.TheVariants as networks
 use Rattle.filterlang.specs.declared.tree.Transport.{Transport}
 use Rattle.filterlang.specs.declared.tree.Transport.TheVariants as transports
 use Rattle.filtergen.specs.declared.code.Exits.{Exits}
+use Rattle.filtergen.specs.declared.lists.Chain.{Chain}
+use Rattle.filtergen.specs.declared.lists.Chain.TheVariants as chains
 use Rattle.filtergen.specs.declared.lists.Form.{Form}
 use Rattle.filtergen.specs.declared.lists.Form.TheVariants as forms
 use Rattle.filtergen.specs.declared.lists.Sides.{Sides}
@@ -24,14 +26,16 @@ use Rattle.filtergen.specs.declared.lists.Kind.{Kind}
 use Rattle.filtergen.specs.declared.lists.Span.{Span}
 use Rattle.filtergen.specs.declared.among.Spot.{Spot}
 use Rattle.filtergen.specs.declared.among.Spot.TheVariants as spots
+use Rattle.filtergen.specs.declared.verdict.Verdict.{Verdict}
 use Rattle.filtergen.specs.declared.verdict.Verdict.TheVariants.{No}
-use Rattle.filtergen.specs.Meaning.{Packet, Test, or_else, or_test, and_test, check, byte, half, word, is_type, by_direction, within, has_any_ports, bytes_of, accessed, in_layer, meaning}
+use Rattle.filtergen.specs.Meaning.{Packet, Test, and_then, or_else, opposite, or_test, and_test, check, byte, half, word, is_type, by_direction, within, has_any_ports, bytes_of, accessed, in_layer, meaning}
 use Rattle.filtergen.specs.Compiling.{weight, need}
 use Rattle.filtergen.specs.Emission.{IsPlace, run_from, Extends, front, field_of}
 use Rattle.filtergen.specs.declared.known.Known.{Known}
 use Rattle.filtergen.specs.declared.ways.Way.{Way}
 use Rattle.filtergen.specs.declared.ways.Ways.{Ways}
 use Rattle.filtergen.specs.Ways.{RenewsBoth, DecidesBehind}
+use Rattle.filtergen.specs.Knowing.{behind, LOOK_BACK}
 
 -- one of these tests; the last of them stands first in the list
 abbrev pub any_of : {X : Type 0} → (X → Test) → List X → Test
@@ -130,10 +134,29 @@ pub record ChoosesFrom (most : ℕ) (choice : Registers → Bool) (exits : Exits
   pub chooses : (p : Packet) (r : Registers)
       → run_from new entry p r ≡ (if choice r then run_from old exits.yes p r else run_from old exits.no p r)
 
+-- Neighbours by `or`, of which any holds, and negations by `and`, of which none does: what a chain makes of two answers, and of
+-- that whether any member holds.
+abbrev pub chained : Chain → Verdict → Verdict → Verdict
+chained chains.AnyOf v w = or_else v w
+chained chains.NoneOf v w = and_then v w
+
+abbrev pub turned : Chain → Verdict → Verdict
+turned chains.AnyOf v = v
+turned chains.NoneOf v = opposite v
+
+abbrev pub turned_ways : Chain → Ways → Ways
+turned_ways chains.AnyOf ways = ways
+turned_ways chains.NoneOf ways = record { yes = ways.no; no = ways.yes }
+
 -- a tree, or none, to the left of a test
-abbrev pub left_or : Option Tree → Test → Test
-left_or None t = t
-left_or (Some u) t = or_test (meaning u) t
+abbrev pub left_chained : Chain → Option Tree → Test → Test
+left_chained c None t p = t p
+left_chained c (Some u) t p = chained c (meaning u p) (t p)
+
+-- what is known behind a tree to the left
+abbrev pub behind_left : Chain → Known → Tree → Known
+behind_left chains.AnyOf k t = k
+behind_left chains.NoneOf k t = behind LOOK_BACK k t
 
 abbrev pub left_weight : Option Tree → ℕ
 left_weight None = 0
@@ -157,25 +180,27 @@ left_size None = 0
 left_size (Some u) = size u
 
 -- a tree has become members of a list, but for what is left
-pub record Takes (kind : Kind) (whole : Tree) (left : Option Tree) (old new : List Span) : Type 0 where
-  pub same : (p : Packet) → or_else (meaning whole p) (any_of (kind_test kind) old p) ≡ left_or left (any_of (kind_test kind) new) p
+pub record Takes (chain : Chain) (kind : Kind) (whole : Tree) (left : Option Tree) (old new : List Span) : Type 0 where
+  pub same : (p : Packet) → chained chain (meaning whole p) (turned chain (any_of (kind_test kind) old p))
+      ≡ left_chained chain left (λ q. turned chain (any_of (kind_test kind) new q)) p
   pub weighs : left_weight left + weighed kind.form (length new) ≤ weight whole + weighed kind.form (length old)
   pub smaller : left_size left ≤ size whole
   pub needs : left_need left ≤ need whole
 
--- an `or` ends in a list of two members at least, behind what is left of its left operand
-pub record EndsIn (kind : Kind) (first second : Tree) (left : Option Tree) (spans : List Span) : Type 0 where
+-- a chain ends in a list of two members at least, behind what is left of its left operand
+pub record EndsIn (chain : Chain) (kind : Kind) (first second : Tree) (left : Option Tree) (spans : List Span) : Type 0 where
   pub many : 2 ≤ length spans
-  pub same : (p : Packet) → or_else (meaning first p) (meaning second p) ≡ left_or left (any_of (kind_test kind) spans) p
+  pub same : (p : Packet) → chained chain (meaning first p) (meaning second p)
+      ≡ left_chained chain left (λ q. turned chain (any_of (kind_test kind) spans q)) p
   pub weighs : left_weight left + weighed kind.form (length spans) ≤ weight first + weight second
   pub smaller : left_size left ≤ size first
   pub needs : left_need left ≤ need first
 
--- the code of the list that an `or` ends in, behind what is left of its left operand
-pub record EmitsList (known : Known) (first second : Tree) (left : Option Tree) (ways renewed : Ways) (entry : Way) (old new : List Insn) : Type 0 where
+-- the code of the list that a chain ends in, behind what is left of its left operand
+pub record EmitsList (known : Known) (chain : Chain) (first second : Tree) (left : Option Tree) (ways renewed : Ways) (entry : Way) (old new : List Insn) : Type 0 where
   pub test : Test
   pub most : ℕ
-  pub same : (p : Packet) → or_else (meaning first p) (meaning second p) ≡ left_or left test p
+  pub same : (p : Packet) → chained chain (meaning first p) (meaning second p) ≡ left_chained chain left test p
   pub fits : left_weight left + most ≤ weight first + weight second
   pub smaller : left_size left ≤ size first
   pub needs : left_need left ≤ need first

@@ -8,11 +8,11 @@ ghost use Rattle.filtergen.specs.Compiling.{weight, need, StandsFor, IsBadSnap};
 ghost use Rattle.filtergen.specs.Reaching.{IsAllReached};
 ghost use Rattle.filtergen.specs.Emission.{OrFull};
 ghost use Rattle.filtergen.specs.Ways.{AreWays, DecidesBehind, RenewsBoth};
-ghost use Rattle.filtergen.specs.Lists.{EmitsList};
+ghost use Rattle.filtergen.specs.Lists.{behind_left, EmitsList};
 
 use crate::code::{Code, Full};
 use crate::known::Known;
-use crate::lists::Neighbours;
+use crate::lists::{Chain, Neighbours};
 use crate::primitives::cost;
 use crate::refusal::Refusal;
 use crate::ways::{Way, Ways};
@@ -41,12 +41,13 @@ struct Listed<'a> {
 }
 
 impl Code {
-    /// What is left of the list at the right end of an `or` of these two, where one is. The list takes some memory of the stack,
+    /// What is left of the list at the right end of a chain of these two, where one is. The list takes some memory of the stack,
     /// which is not to be in each frame of the walk down a tree.
     #[inline(never)]
     fn list<'a>(
         &mut self,
         known: Known,
+        chain: Chain,
         left: &'a Expr,
         right: &Expr,
         ways: Ways,
@@ -54,16 +55,19 @@ impl Code {
         requires ways { AreWays self.old ways }
         ensures { OrFull (weight (tree_of left.now) + weight (tree_of right.now)) self.old result (λ found.
             MatchOption found (self.new ≡ self.old) (λ listed. MatchOption listed.left
-            (EmitsList known (tree_of left.now) (tree_of right.now) None ways listed.emitted.ways listed.emitted.entry self.old self.new)
-            (λ rest. EmitsList known (tree_of left.now) (tree_of right.now) (Some (tree_of rest.now)) ways listed.emitted.ways
-            listed.emitted.entry self.old self.new))) }
+            (EmitsList known chain (tree_of left.now) (tree_of right.now) None ways listed.emitted.ways listed.emitted.entry
+            self.old self.new)
+            (λ rest. EmitsList (behind_left chain known (tree_of rest.now)) chain (tree_of left.now) (tree_of right.now)
+            (Some (tree_of rest.now)) ways listed.emitted.ways listed.emitted.entry self.old self.new))) }
     {
-        let Some((list, left)) = Neighbours::at_end(left, right) else {
+        let Some((list, left)) = Neighbours::at_end(chain, left, right) else {
             return Ok(None);
         };
         self.room(2)?;
         let ways = self.renew(ways);
-        let entry = self.listed(known, list.kind, list.spans.as_slice(), ways)?;
+        let known = chain.known_behind(known, left);
+        let turned = chain.turned(ways);
+        let entry = self.listed(known, list.kind, list.spans.as_slice(), turned)?;
         let emitted = Emitted { entry, ways };
         Ok(Some(Listed { emitted, left }))
     }
@@ -111,6 +115,17 @@ impl Code {
                 Ok(Emitted { entry, ways })
             }
             Expr::And(left, right) => {
+                if let Some(listed) = self.list(known, Chain::NoneOf, left, right, ways)? {
+                    let Some(left) = listed.left else {
+                        return Ok(listed.emitted);
+                    };
+                    let second = listed.emitted;
+                    let (yes, no) = (second.entry, second.ways.no);
+                    let first = self.expression(known, left, Ways { yes, no })?;
+                    let (yes, no) = (second.ways.yes, first.ways.no);
+                    let (entry, ways) = (first.entry, Ways { yes, no });
+                    return Ok(Emitted { entry, ways });
+                }
                 let second = self.expression(known.behind(left), right, ways)?;
                 let (yes, no) = (second.entry, second.ways.no);
                 let first = self.expression(known, left, Ways { yes, no })?;
@@ -119,7 +134,7 @@ impl Code {
                 Ok(Emitted { entry, ways })
             }
             Expr::Or(left, right) => {
-                if let Some(listed) = self.list(known, left, right, ways)? {
+                if let Some(listed) = self.list(known, Chain::AnyOf, left, right, ways)? {
                     let Some(left) = listed.left else {
                         return Ok(listed.emitted);
                     };

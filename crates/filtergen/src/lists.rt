@@ -4,17 +4,29 @@ ghost use Rattle.std.specs.Prelude.{◌≡◌, ◌+◌, ◌*◌, ◌≤◌, ◌<
 ghost use Rattle.filterlang.specs.Trees.{amount_of, tree_of, number as literal};
 ghost use Rattle.filterlang.specs.declared.token.Comparison.TheVariants.{Equal};
 ghost use Rattle.filtergen.specs.Meaning.{Packet, plain_test, in_any_net, has_any_ports, primitive_test, relation_test, meaning};
-ghost use Rattle.filtergen.specs.Lists.{direction_of, net_form, ports_form, no_bytes, kind_test, weighed, Takes, EndsIn};
+ghost use Rattle.filtergen.specs.Knowing.{behind, LOOK_BACK};
+ghost use Rattle.filtergen.specs.Lists.{direction_of, net_form, ports_form, no_bytes, kind_test, turned, turned_ways, behind_left, weighed, Takes, EndsIn};
 ghost use Rattle.filtergen.specs.declared.lists.Sides.TheVariants as sides;
 ghost use Rattle.std.specs.Bool.{OnTrue, OnFalse};
 ghost use Rattle.filtergen.specs.Compiling.{value_weight, weight};
 
+use crate::known::Known;
 use crate::primitives::{ARP, RARP};
+use crate::ways::Ways;
 use arrayvec::ArrayVec;
 use bpfvm::MAX_INSNS;
 use filterlang::{
     Comparison, Direction, Expr, Layer, Network, Plain, Primitive, Size, Transport, Value,
 };
+
+/// How the neighbours of a list are joined.
+#[derive(Clone, Copy)]
+pub(crate) enum Chain {
+    /// Tests by `or`.
+    AnyOf,
+    /// Negations of tests by `and`.
+    NoneOf,
+}
 
 /// Of which tests a list is.
 #[derive(Clone, Copy, PartialEq, Eq)]
@@ -82,6 +94,31 @@ pub(crate) struct Neighbours {
     pub kind: Kind,
     /// The number of each member, that of the last one first.
     pub spans: ArrayVec<Span, MAX_INSNS>,
+}
+
+impl Chain {
+    /// The ways of the test whether any member holds.
+    pub fn turned(self, ways: Ways) -> Ways
+        ensures { result ≡ turned_ways self ways }
+    {
+        match self {
+            Chain::AnyOf => ways,
+            Chain::NoneOf => ways.swapped(),
+        }
+    }
+
+    /// What is known where a list is asked that stands behind an expression, or behind none.
+    pub fn known_behind(self, known: Known, left: Option<&Expr>) -> Known
+        ensures { MatchOption left.entry (result ≡ known) (λ t. result ≡ behind_left self known (tree_of t.now)) }
+    {
+        match left {
+            None => known,
+            Some(left) => match self {
+                Chain::AnyOf => known,
+                Chain::NoneOf => known.behind(left),
+            },
+        }
+    }
 }
 
 /// The bytes of what is no relation.
@@ -304,16 +341,30 @@ impl Member {
             _ => None,
         }
     }
+
+    /// The member that an expression is in a chain.
+    fn of_link(chain: Chain, expr: &Expr) -> Option<Member>
+        ensures same { IfSome result (λ m. (p : Packet) → meaning (tree_of expr.now) p ≡ turned chain (kind_test m.kind m.span p)) }
+        ensures weighs { IfSome result (λ m. weighed m.kind.form 1 ≤ weight (tree_of expr.now)) }
+    {
+        match chain {
+            Chain::AnyOf => Member::of_expr(expr),
+            Chain::NoneOf => match expr {
+                Expr::Not(operand) => Member::of_expr(operand),
+                _ => None,
+            },
+        }
+    }
 }
 
 impl Neighbours {
     /// Whether an expression belongs to the list, which then has it.
-    fn takes(&mut self, expr: &Expr) -> bool
+    fn takes(&mut self, chain: Chain, expr: &Expr) -> bool
         ensures kind { self.new.kind ≡ self.old.kind }
-        ensures taken { OnTrue result (Takes self.old.kind (tree_of expr.now) None self.old.spans.items self.new.spans.items) }
+        ensures taken { OnTrue result (Takes chain self.old.kind (tree_of expr.now) None self.old.spans.items self.new.spans.items) }
         ensures kept { OnFalse result (self.new ≡ self.old) }
     {
-        match Member::of_expr(expr) {
+        match Member::of_link(chain, expr) {
             Some(member) if member.kind == self.kind && !self.spans.is_full() => {
                 self.spans.push(member.span);
                 true
@@ -323,34 +374,53 @@ impl Neighbours {
     }
 
     /// Takes the members at the right end of an expression, and answers what is left of it.
-    fn take<'a>(&mut self, expr: &'a Expr) -> Option<&'a Expr>
+    fn take<'a>(&mut self, chain: Chain, expr: &'a Expr) -> Option<&'a Expr>
         ensures kind { self.new.kind ≡ self.old.kind }
         ensures taken { MatchOption result
-            (Takes self.old.kind (tree_of expr.now) None self.old.spans.items self.new.spans.items)
-            (λ left. Takes self.old.kind (tree_of expr.now) (Some (tree_of left.now)) self.old.spans.items self.new.spans.items) }
+            (Takes chain self.old.kind (tree_of expr.now) None self.old.spans.items self.new.spans.items)
+            (λ left. Takes chain self.old.kind (tree_of expr.now) (Some (tree_of left.now)) self.old.spans.items
+            self.new.spans.items) }
     {
-        match expr {
-            Expr::Or(left, right) => {
-                if self.takes(right) {
-                    self.take(left)
+        match (chain, expr) {
+            (Chain::AnyOf, Expr::Or(left, right)) => {
+                if self.takes(chain, right) {
+                    self.take(chain, left)
                 } else {
                     Some(expr)
                 }
             }
-            _ => { if self.takes(expr) { None } else { Some(expr) } }
+            (Chain::NoneOf, Expr::And(left, right)) => {
+                if self.takes(chain, right) {
+                    self.take(chain, left)
+                } else {
+                    Some(expr)
+                }
+            }
+            _ => {
+                if self.takes(chain, expr) {
+                    None
+                } else {
+                    Some(expr)
+                }
+            }
         }
     }
 
-    /// The list at the right end of an `or` of these two, where one is, and what stands to its left.
-    pub fn at_end<'a>(left: &'a Expr, right: &Expr) -> Option<(Neighbours, Option<&'a Expr>)>
+    /// The list at the right end of a chain of these two, where one is, and what stands to its left.
+    pub fn at_end<'a>(
+        chain: Chain,
+        left: &'a Expr,
+        right: &Expr,
+    ) -> Option<(Neighbours, Option<&'a Expr>)>
         ensures many { IfSome result (λ found. 2 ≤ length found.0.spans.items) }
         ensures weighs { IfSome result (λ found.
             weighed found.0.kind.form (length found.0.spans.items) ≤ weight (tree_of left.now) + weight (tree_of right.now)) }
         ensures ends { IfSome result (λ found. MatchOption found.1
-            (EndsIn found.0.kind (tree_of left.now) (tree_of right.now) None found.0.spans.items)
-            (λ rest. EndsIn found.0.kind (tree_of left.now) (tree_of right.now) (Some (tree_of rest.now)) found.0.spans.items)) }
+            (EndsIn chain found.0.kind (tree_of left.now) (tree_of right.now) None found.0.spans.items)
+            (λ rest. EndsIn chain found.0.kind (tree_of left.now) (tree_of right.now) (Some (tree_of rest.now))
+            found.0.spans.items)) }
     {
-        let Some(last) = Member::of_expr(right) else {
+        let Some(last) = Member::of_link(chain, right) else {
             return None;
         };
         let mut spans = ArrayVec::new();
@@ -359,7 +429,7 @@ impl Neighbours {
             kind: last.kind,
             spans,
         };
-        let rest = list.take(left);
+        let rest = list.take(chain, left);
         if list.spans.len() < 2 {
             return None;
         }

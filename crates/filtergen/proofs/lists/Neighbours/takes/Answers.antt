@@ -1,7 +1,7 @@
 use Rattle.std.proofs.Common.{◌≡◌, ◌≤◌, ap, sym, subst, ◌∙◌, rules}
 use Rattle.filterlang.specs.Trees.{tree_of}
 use Rattle.filtergen.specs.Compiling.{weight}
-use Rattle.filtergen.specs.Lists.{kind_test, weighed}
+use Rattle.filtergen.specs.Lists.{kind_test, turned, weighed}
 use Rattle.filtergen.specs.declared.lists.Kind.{Kind}
 use Rattle.filtergen.specs.contracts.lists.Form.{the_type as the_forms}
 use Rattle.filtergen.specs.contracts.lists.Sides.{the_type as the_sides}
@@ -25,6 +25,6 @@ returns-in-Some-clause-taken c =
         bytes-same member.kind.bytes kind.bytes (same_true the_layers (search rules) _ _ by_layer.0) (equal-true _ _ by_index.0) (same_true the_sizes (search rules) _ _ (sym by_index.1)) in
     let same : member.kind ≡ kind =
         kind-same member.kind kind (same_true the_forms (search rules) _ _ by_form.0) (same_true the_sides (search rules) _ _ by_sides.0) (equal-true _ _ by_mask.0) bytes in
-    takes-one kind (tree_of c.args.expr.now) member.span c.args.self.now.spans.items c.push.new.self.items
-    (λ p. c.in-Some.ensures.same p ∙ ap (λ k. kind_test k member.span p) same)
+    takes-one c.args.chain kind (tree_of c.args.expr.now) member.span c.args.self.now.spans.items c.push.new.self.items
+    (λ p. c.in-Some.ensures.same p ∙ ap (λ k. turned c.args.chain (kind_test k member.span p)) same)
     (subst (λ (k : Kind). weighed k.form 1 ≤ weight (tree_of c.args.expr.now)) same c.in-Some.ensures.weighs) c.push.ensures.items
