@@ -15,7 +15,8 @@ use Rattle.filtergen.specs.declared.known.Known.TheVariants as known
 use Rattle.filtergen.specs.declared.verdict.Verdict.{Verdict}
 use Rattle.filtergen.specs.declared.verdict.Verdict.TheVariants.{Yes, No, Abort}
 use Rattle.filtergen.specs.Meaning.{Packet, Test, and_then, check, check_both, compared, byte, half, is_type, is_protocol, is_first_fragment_of, value, in_layer, in_layers, relation_test, primitive_test, meaning}
-use Rattle.filtergen.specs.Knowing.{shows, has_type, has_protocol, has_first_fragment, implies, narrowed, unless_known, rest_of_type, rest_of_protocol, rest_of_first_fragment, rest_of, of_layer, behind_layers, rest_of_layers, rest_of_relation, of_primitive, behind}
+use Rattle.filtergen.proofs.Sharing.{and-assoc}
+use Rattle.filtergen.specs.Knowing.{shows, has_type, has_protocol, has_first_fragment, implies, narrowed, unless_known, rest_of_type, rest_of_protocol, rest_of_first_fragment, rest_of, of_layer, begins_with_ip, behind_layers, rest_of_layers, rest_of_relation, of_primitive, behind}
 
 -- where both are Yes, each is
 pub and-left : (v w : Verdict) → and_then v w ≡ Yes → v ≡ Yes
@@ -166,3 +167,41 @@ tree-known levels k (trees.both t u) p holds passed =
     let front = tree-known (levels - 1) k t p holds (and-left _ (meaning u p) passed) in
     one-holds (levels == 0) k _ p holds (tree-known (levels - 1) (behind (levels - 1) k t) u p front (and-right (meaning t p) _ passed))
 tree-known levels k (trees.either t u) p holds passed = holds
+
+first-ip : (t b f : Verdict) → and_then t (and_then (and_then t b) f) ≡ and_then (and_then t b) f
+first-ip Yes b f = refl
+first-ip No b f = refl
+first-ip Abort b f = refl
+
+-- what a value's layers begin with is a test of them
+layer-ip : (l : Layer) (p : Packet) → has_type (of_layer l) 0x0800 ≡ true → and_then (is_type 0x0800 p) (in_layer l p) ≡ in_layer l p
+layer-ip layers.Ether p is = absurd cc
+layer-ip layers.Ip p is = again (is_type 0x0800 p)
+  where
+    again : (t : Verdict) → and_then t t ≡ t
+    again Yes = refl
+    again No = refl
+    again Abort = refl
+layer-ip layers.Arp p is = absurd cc
+layer-ip layers.Rarp p is = absurd cc
+layer-ip layers.Tcp p is = first-ip (is_type 0x0800 p) _ _
+layer-ip layers.Udp p is = first-ip (is_type 0x0800 p) _ _
+layer-ip layers.Icmp p is = first-ip (is_type 0x0800 p) _ _
+
+pub layers-ip : (v : Amount) (p : Packet) → begins_with_ip v ≡ true → and_then (is_type 0x0800 p) (in_layers v p) ≡ in_layers v p
+layers-ip (trees.number n) p is = absurd cc
+layers-ip trees.wire_length p is = absurd cc
+layers-ip (trees.minus v) p is = layers-ip v p is
+layers-ip (trees.binary o v w) p is = sym (and-assoc (is_type 0x0800 p) (in_layers v p) (in_layers w p)) ∙ ap (λ x. and_then x (in_layers w p)) (layers-ip v p is)
+layers-ip (trees.accessor l v size) p is = sym (and-assoc (is_type 0x0800 p) (in_layer l p) (in_layers v p)) ∙ ap (λ x. and_then x (in_layers v p)) (layer-ip l p is)
+
+-- a relation behind IPv4
+pub relation-ip : (k : Known) (c : Comparison) (v w : Amount) (p : Packet) → begins_with_ip v ≡ true → shows k p ≡ Yes
+    → and_then (is_type 0x0800 p) (rest_of_relation (narrowed k (known.Type 0x0800)) c v w p) ≡ relation_test c v w p
+relation-ip k c v w p begins holds =
+    let t = is_type 0x0800 p in
+    let both = and_then (in_layers v p) (in_layers w p) in
+    let compares = check_both (compared c) (value v p) (value w p) in
+    and-same t t _ (relation_test c v w p) refl (λ passed. rest-relation (narrowed k (known.Type 0x0800)) c v w p (narrowed-holds k (known.Type 0x0800) p holds passed))
+    ∙ sym (and-assoc t both compares)
+    ∙ ap (λ x. and_then x compares) (sym (and-assoc t (in_layers v p) (in_layers w p)) ∙ ap (λ x. and_then x (in_layers w p)) (layers-ip v p begins))

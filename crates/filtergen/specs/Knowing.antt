@@ -87,6 +87,14 @@ of_layer layers.Tcp = known.FirstFragment 6
 of_layer layers.Udp = known.FirstFragment 17
 of_layer layers.Icmp = known.FirstFragment 1
 
+-- the layer of a value's first accessor is IPv4, or a protocol in it
+abbrev pub begins_with_ip : Amount → Bool
+begins_with_ip (trees.number n) = false
+begins_with_ip trees.wire_length = false
+begins_with_ip (trees.minus v) = begins_with_ip v
+begins_with_ip (trees.binary o v w) = begins_with_ip v
+begins_with_ip (trees.accessor layer v size) = has_type (of_layer layer) 0x0800
+
 -- what is known behind the layers of a value
 abbrev pub behind_layers : Known → Amount → Known
 behind_layers k (trees.number n) = k

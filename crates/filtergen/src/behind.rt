@@ -1,20 +1,22 @@
-//! Primitives behind what is known of the packet: what tests to their left have shown is not tested again. Code is written from
+//! Primitives and relations behind what is known of the packet: what tests to their left have shown is not tested again. Code is written from
 //! its end: of two tests that follow each other, the second one comes first here.
 
-ghost use Rattle.std.specs.Prelude.{◌≡◌, ◌+◌, ◌≤◌, ◌⊎◌, true, Some, None, length};
+ghost use Rattle.std.specs.Prelude.{◌≡◌, ◌+◌, ◌≤◌, ◌⊎◌, true, Some, None, length, max};
 ghost use Rattle.std.specs.Bool.{OnTrue};
 ghost use Rattle.filterlang.specs.declared.tree.Network.TheVariants as networks;
-ghost use Rattle.filtergen.specs.Meaning.{is_protocol, plain_test, in_any_net, has_any_ports, protocol_number, primitive_test};
-ghost use Rattle.filtergen.specs.Knowing.{has_type, has_protocol};
-ghost use Rattle.filtergen.specs.Parts.{plain_cost, cost};
-ghost use Rattle.filtergen.specs.Emission.{IsPlace};
+ghost use Rattle.filterlang.specs.Trees.{amount_of};
+ghost use Rattle.filtergen.specs.Compiling.{value_weight, value_need};
+ghost use Rattle.filtergen.specs.Meaning.{is_protocol, plain_test, in_any_net, has_any_ports, protocol_number, primitive_test, relation_test};
+ghost use Rattle.filtergen.specs.Knowing.{has_type, has_protocol, begins_with_ip};
+ghost use Rattle.filtergen.specs.Parts.{plain_cost, cost, relation_cost};
+ghost use Rattle.filtergen.specs.Emission.{IsPlace, OrFull};
 ghost use Rattle.filtergen.specs.Ways.{AreWays, DecidesBehind, GuardsIp, GuardsKnown};
 
-use crate::code::{Code, Exits};
+use crate::code::{Code, Exits, Full};
 use crate::known::Known;
 use crate::primitives::{IP, IP_ADDRESSES, protocol_number};
 use crate::ways::{Way, Ways};
-use filterlang::{Direction, Network, Plain, Primitive, Transport};
+use filterlang::{Comparison, Direction, Network, Plain, Primitive, Transport, Value};
 
 /// Whether a host or a net of this protocol, or of any, may be one of IPv4.
 fn may_be_ip(network: Option<Network>) -> bool
@@ -142,6 +144,51 @@ impl Code {
             Plain::Sctp => self.number_behind(known, 132, ways),
             _ => self.plain(word, ways),
         }
+    }
+
+    /// A relation. One of bytes of IPv4 goes on by that.
+    #[tactic(auto, using(crate::proofs::Bounds::relation_bound))]
+    pub fn relation_behind(
+        &mut self,
+        known: Known,
+        comparison: Comparison,
+        left: &Value,
+        right: &Value,
+        ways: Ways,
+    ) -> Result<Way, Full>
+        requires need { max (value_need (amount_of left.now)) (1 + value_need (amount_of right.now)) ≤ 16 }
+        requires ways { AreWays self.old ways }
+        ensures { OrFull (8 + (value_weight (amount_of left.now) + value_weight (amount_of right.now))) self.old result (λ way.
+            DecidesBehind known (8 + (value_weight (amount_of left.now) + value_weight (amount_of right.now)))
+            (relation_test comparison (amount_of left.now) (amount_of right.now)) ways way self.old self.new) }
+    {
+        if Known::begins_with_ip(left) {
+            return self.ip_relation(known, comparison, left, right, ways);
+        }
+        let place = self.relation(known, comparison, left, right, ways.any_exits())?;
+        Ok(Way::to(place))
+    }
+
+    /// A relation whose first accessor is of IPv4.
+    fn ip_relation(
+        &mut self,
+        known: Known,
+        comparison: Comparison,
+        left: &Value,
+        right: &Value,
+        ways: Ways,
+    ) -> Result<Way, Full>
+        requires need { max (value_need (amount_of left.now)) (1 + value_need (amount_of right.now)) ≤ 16 }
+        requires begins { begins_with_ip (amount_of left.now) ≡ true }
+        requires ways { AreWays self.old ways }
+        ensures { OrFull (relation_cost (amount_of left.now) (amount_of right.now) + 4) self.old result (λ way.
+            DecidesBehind known (relation_cost (amount_of left.now) (amount_of right.now) + 4)
+            (relation_test comparison (amount_of left.now) (amount_of right.now)) ways way self.old self.new) }
+    {
+        let of_ip = known.narrowed(Known::Type(IP));
+        let inner = self.relation(of_ip, comparison, left, right, ways.ip_exits())?;
+        self.room(4)?;
+        Ok(self.behind_ip_unless(known, inner, ways))
     }
 
     /// What is left of a primitive.

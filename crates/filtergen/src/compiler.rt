@@ -85,7 +85,6 @@ impl Code {
     }
 
     /// What is left of an expression behind what is known. It goes on by its ways. The right operand is there before the left one.
-    #[tactic(auto, using(crate::proofs::Bounds::relation_bound))]
     fn expression(&mut self, known: Known, expr: &Expr, ways: Ways) -> Result<Emitted, Full>
         requires need { need (tree_of expr.now) ≤ 16 }
         requires ways { AreWays self.old ways }
@@ -105,8 +104,7 @@ impl Code {
             Expr::Relation(comparison, left, right) => {
                 self.room(2)?;
                 let ways = self.renew(ways);
-                let place = self.relation(known, *comparison, left, right, ways.any_exits())?;
-                let entry = Way::to(place);
+                let entry = self.relation_behind(known, *comparison, left, right, ways)?;
                 Ok(Emitted { entry, ways })
             }
             Expr::Not(operand) => {

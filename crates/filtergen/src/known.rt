@@ -3,7 +3,7 @@
 ghost use Rattle.std.specs.Prelude.{◌≡◌, ◌⊎◌, true, Some, None, IfSome};
 ghost use Rattle.filtergen.specs.Meaning.{protocol_number};
 ghost use Rattle.filterlang.specs.Trees.{amount_of, tree_of};
-ghost use Rattle.filtergen.specs.Knowing.{has_type, has_protocol, has_first_fragment, implies, narrowed, of_layer, of_plain, of_network, of_primitive, behind_layers, behind, LOOK_BACK};
+ghost use Rattle.filtergen.specs.Knowing.{has_type, has_protocol, has_first_fragment, implies, narrowed, of_layer, begins_with_ip, of_plain, of_network, of_primitive, behind_layers, behind, LOOK_BACK};
 
 use crate::primitives::{ARP, IP, RARP, protocol_number};
 use filterlang::{Expr, Layer, Network, Plain, Primitive, Transport, Value};
@@ -165,6 +165,18 @@ impl Known {
             Value::Accessor(layer, index, _) => {
                 self.narrowed(Known::of_layer(*layer)).behind_layers(index)
             }
+        }
+    }
+
+    /// Whether the layer of a value's first accessor is IPv4, or a protocol in it.
+    pub fn begins_with_ip(value: &Value) -> bool
+        ensures { result ≡ begins_with_ip (amount_of value.now) }
+    {
+        match value {
+            Value::Number(_) | Value::Length => false,
+            Value::Negation(operand) => Known::begins_with_ip(operand),
+            Value::Binary(_, left, _) => Known::begins_with_ip(left),
+            Value::Accessor(layer, _, _) => Known::of_layer(*layer).has_type(IP),
         }
     }
 

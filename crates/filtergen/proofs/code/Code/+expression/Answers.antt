@@ -6,8 +6,7 @@ use Rattle.filtergen.specs.Lists.{size}
 use Rattle.filtergen.specs.Meaning.{relation_test}
 use Rattle.filtergen.proofs.Leading.{decides_any, decides-renewed, renews-not, renews-both, renews-either, renews-all-later}
 use Rattle.filtergen.proofs.Knowing.{rest-relation, tree-known}
-use Rattle.filtergen.proofs.Narrowed.{behind-rest, behind-more, behind-both, behind-either, behind-not, behind-passed, renews-none}
-use Rattle.filtergen.proofs.Bounds.{relation_bound}
+use Rattle.filtergen.proofs.Narrowed.{behind-more, behind-renewed, behind-both, behind-either, behind-not, behind-passed, renews-none}
 use Rattle.filtergen.proofs.Taking.{emits-either, emits-both}
 use Rattle.filtergen.proofs.code.Code.+expression.Goals as goal
 
@@ -76,16 +75,8 @@ returns-in_ok-room-in-Test t c =
     let done = c.reached_primitive.ensures in
     rw c.in-Test.is (behind-more _ (omega (arith, c.cost.ensures)) done.0, done.1)
 
-pub returns-in_ok-place-in-Relation : goal.returns-in_ok-place-in-Relation
-returns-in_ok-place-in-Relation t c =
+pub returns-in_ok-entry-in-Relation : goal.returns-in_ok-entry-in-Relation
+returns-in_ok-entry-in-Relation t c =
     let renewed = c.renew-ways.ensures in
-    let done = rw c.any_exits.ensures at c.in_ok-place-in-Relation.ensures in
-    let left = amount_of c.in-Relation.left in
-    let right = amount_of c.in-Relation.right in
-    let comparison = c.in-Relation.comparison in
-    rw (c.in-Relation.is, c.to-entry.ensures) (
-      behind-more _ (relation_bound left right)
-          (behind-rest c.args.known (relation_test comparison left right) (λ p holds. rest-relation c.args.known comparison left right p holds)
-          (decides-renewed renewed.extends renewed.renews (decides_any c.renew-ways.result done))),
-      renews-all-later renewed.renews done.extends,
-    )
+    let done = c.in_ok-entry-in-Relation.ensures in
+    rw c.in-Relation.is (behind-more _ (omega arith) (behind-renewed renewed.extends renewed.renews done), renews-all-later renewed.renews done.extends)
