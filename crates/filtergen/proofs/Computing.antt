@@ -1,5 +1,6 @@
 -- Code that computes values.
 use Rattle.std.proofs.Common.{◌≡◌, ◌≢◌, ℕ, ◌+◌, ◌*◌, ◌%◌, ◌^◌, ◌<◌, ◌≤◌, Bool, true, false, List, ◌∷◌, length, Option, Some, None, refl, sym, ap, ◌∙◌, subst, arith, bit_and, option_map, option_and_then, get_or-set_same, get_or-set_other, length-set, if◌then◌else◌, not, nat_lt, nat_le, ◌==◌, ◌⊎◌, inl, inr}
+use Rattle.std.specs.Option.{is_some}
 use Rattle.std.specs.Prelude.{slice_index, slice_set}
 use Rattle.std.proofs.lemmas.Nat.{and_le_r}
 use Rattle.std.proofs.lemmas.Bool.{cases_lt}
@@ -20,7 +21,11 @@ use Rattle.filtergen.specs.declared.insns.Operand.TheVariants as operands
 use Rattle.filtergen.specs.declared.values.Base.TheVariants as bases
 use Rattle.filtergen.specs.declared.values.Leaf.{Leaf}
 use Rattle.filtergen.specs.declared.values.Leaf.TheVariants as leaves
-use Rattle.filtergen.specs.Meaning.{Packet, byte, decided, arithmetic_of, bytes_of, accessed, value, check_both}
+use Rattle.filtergen.specs.declared.known.Known.{Known}
+use Rattle.filtergen.specs.declared.verdict.Verdict.{Verdict}
+use Rattle.filtergen.specs.declared.verdict.Verdict.TheVariants.{Yes, No, Abort}
+use Rattle.filtergen.specs.Knowing.{behind_layers, rest_of_layers}
+use Rattle.filtergen.specs.Meaning.{Packet, and_then, byte, decided, arithmetic_of, bytes_of, accessed, value, check_both}
 use Rattle.filtergen.specs.Parts.{constant_of, IsLeaf, leaf_value, base_of, read_from, value_cost}
 use Rattle.filtergen.specs.Insns.{plain_insn, calculation_insn, absolute_code, indirect_code}
 use Rattle.filtergen.specs.Emission.{AreExits, HasCells, run_from, Answers, outcome, Chooses, Decides, value_of, front, Loads, Keeps, Computed, Computes, Applies, Paired, Pairs}
@@ -228,6 +233,37 @@ constant-value (binary o v w) n p is = by_operands (constant_of v) (constant_of 
         ∙ ap (option_and_then (λ d. calculated (arithmetic_of o) a d)) (right b refl)
         ∙ is
 constant-value (accessor layer v size) n p is = absurd cc
+
+-- and it has no accessor, and so no layer to test
+pub constant-always : (k : Known) (v : Amount) (n : ℕ) (p : Packet) → constant_of v ≡ Some n → rest_of_layers k v p ≡ Yes
+constant-always k (number m) n p is = refl
+constant-always k wire_length n p is = absurd cc
+constant-always k (minus v) n p is = by_operand (constant_of v) (λ m. constant-always k v m p) is
+  where
+    by_operand : (x : Option ℕ) → ((m : ℕ) → x ≡ Some m → rest_of_layers k v p ≡ Yes) → option_and_then (calculated Subtract 0) x ≡ Some n → rest_of_layers k v p ≡ Yes
+    by_operand None known is = absurd cc
+    by_operand (Some m) known is = known m refl
+constant-always k (binary o v w) n p is = by_operands (constant_of v) (constant_of w) (λ m. constant-always k v m p) (λ m. constant-always (behind_layers k v) w m p) is
+  where
+    by_operands : (x y : Option ℕ) → ((m : ℕ) → x ≡ Some m → rest_of_layers k v p ≡ Yes) → ((m : ℕ) → y ≡ Some m → rest_of_layers (behind_layers k v) w p ≡ Yes)
+        → option_and_then (λ b. option_and_then (λ a. calculated (arithmetic_of o) a b) x) y ≡ Some n → and_then (rest_of_layers k v p) (rest_of_layers (behind_layers k v) w p) ≡ Yes
+    by_operands x None left right is = absurd cc
+    by_operands None (Some b) left right is = absurd cc
+    by_operands (Some a) (Some b) left right is = ap (λ x. and_then x (rest_of_layers (behind_layers k v) w p)) (left a refl) ∙ right b refl
+constant-always k (accessor layer v size) n p is = absurd cc
+
+-- so that nothing is left of an operator's right operand
+pub constant-right : (k : Known) (o : Operator) (v w : Amount) (p : Packet) → is_some (constant_of w) ≡ true → rest_of_layers k v p ≡ rest_of_layers k (binary o v w) p
+constant-right k o v w p is = sym (ap (and_then (rest_of_layers k v p)) (by_value (constant_of w) (λ n. constant-always (behind_layers k v) w n p) is) ∙ and-yes (rest_of_layers k v p))
+  where
+    by_value : (x : Option ℕ) → ((n : ℕ) → x ≡ Some n → rest_of_layers (behind_layers k v) w p ≡ Yes) → is_some x ≡ true → rest_of_layers (behind_layers k v) w p ≡ Yes
+    by_value None always is' = absurd cc
+    by_value (Some n) always is' = always n refl
+
+    and-yes : (x : Verdict) → and_then x Yes ≡ x
+    and-yes Yes = refl
+    and-yes No = refl
+    and-yes Abort = refl
 
 -- the value of a leaf is there
 pub leaf-valued : (l : Leaf) (v : Amount) → IsLeaf l v → (p : Packet) → value v p ≡ Some (leaf_value l p)

@@ -1,5 +1,5 @@
 -- Primitives and relations that become members of lists.
-use Rattle.std.proofs.Common.{◌≡◌, ℕ, ◌+◌, ◌*◌, ◌≤◌, ◌==◌, ◌&&◌, Bool, true, false, List, [], ◌∷◌, ◌++◌, length, Option, Some, None, refl, sym, ap, ◌∙◌, arith, bit_and}
+use Rattle.std.proofs.Common.{◌≡◌, ℕ, ◌+◌, ◌≤◌, ◌==◌, ◌&&◌, Bool, true, false, List, [], ◌∷◌, ◌++◌, length, Option, Some, None, refl, sym, ap, ◌∙◌, arith, bit_and}
 use Rattle.std.proofs.lemmas.List.{length-append}
 use Rattle.filterlang.specs.Trees.{Tree}
 use Rattle.filterlang.specs.Trees as trees
@@ -178,7 +178,7 @@ takes-one chain kind t x old new same weighs is = record {
       ∙ sym (ap (λ l. turned chain (any_of (kind_test kind) l p)) is);
   weighs =
       let more : weighed kind.form (length new) ≡ weighed kind.form (length old) + weighed kind.form 1 =
-          ap (λ l. weighed kind.form (length l)) is ∙ ap (weighed kind.form) (length-append old (x ∷ [])) ∙ weighed-more kind.form (length old) in
+      ap (λ l. weighed kind.form (length l)) is ∙ ap (weighed kind.form) (length-append old (x ∷ [])) ∙ weighed-more kind.form (length old) in
       omega (arith, weighs, more);
   smaller = omega arith;
   needs = omega arith;

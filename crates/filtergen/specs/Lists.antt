@@ -1,5 +1,5 @@
--- Lists: neighbours of an `or` that differ in their numbers alone, and what code does that asks once for all of them. Private
--- clauses alone say this.
+-- Lists: neighbours of an `or`, or negations that an `and` joins, that differ in their numbers alone, and what code does that asks
+-- once for all of them. Private clauses alone say this.
 use Rattle.std.specs.Prelude.{◌≡◌, ℕ, ◌+◌, ◌*◌, ◌≤◌, Bool, true, false, List, [], ◌∷◌, length, Option, Some, None, if◌then◌else◌, bit_and, option_map}
 use Rattle.bpfvm.specs.declared.insn.Insn.{Insn}
 use Rattle.bpfvm.specs.Codes.{Accumulator}

@@ -87,8 +87,8 @@ impl Code {
         Ok(self.len())
     }
 
-    /// The same of the spots of the source and of the destination. Once both were loaded, no load can fail any more, so that
-    /// all but the first member ask for the destination together, and then for the source.
+    /// The same of the spots of the source and of the destination. The first member's source is asked for alone. Then the
+    /// destination is loaded, and no load can fail any more: all members ask for it together, and then all others for the source.
     pub fn seek_sides(
         &mut self,
         sides: Sides,
@@ -125,12 +125,7 @@ impl Code {
     }
 
     /// Bytes of a layer, where the packet has it.
-    pub fn seek_bytes(
-        &mut self,
-        bytes: Bytes,
-        spans: &[Span],
-        exits: Exits,
-    ) -> Result<usize, Full>
+    pub fn seek_bytes(&mut self, bytes: Bytes, spans: &[Span], exits: Exits) -> Result<usize, Full>
         requires some { 0 < length spans.now }
         requires exits { AreExits self.old exits }
         ensures { OrFull (7 * length spans.now + 2) self.old result (λ entry. Decides (7 * length spans.now + 2)

@@ -1,4 +1,4 @@
-//! Lists: neighbours of an `or` that differ in their numbers alone.
+//! Lists: neighbours of an `or`, or negations that an `and` joins, that differ in their numbers alone.
 
 ghost use Rattle.std.specs.Prelude.{◌≡◌, ◌+◌, ◌*◌, ◌≤◌, ◌<◌, ◌∷◌, [], ◌++◌, length, IfSome, MatchOption, Some, None};
 ghost use Rattle.filterlang.specs.Trees.{amount_of, tree_of, number as literal};

@@ -76,7 +76,8 @@ impl Code {
         }
     }
 
-    /// What is left of the layers of a value's accessors.
+    /// What is left of the layers of a value's accessors. A constant has none: what stands to the left of one is not asked for
+    /// what it shows, so that the time of a chain of them does not grow with the square of its length.
     fn layers(&mut self, known: Known, value: &Value, exits: Exits) -> Result<usize, Full>
         requires { AreExits self.old exits }
         ensures { OrFull (layers_cost (amount_of value.now)) self.old result
@@ -87,6 +88,9 @@ impl Code {
             Value::Number(_) | Value::Length => Ok(exits.yes),
             Value::Negation(operand) => self.layers(known, operand, exits),
             Value::Binary(_, left, right) => {
+                if constant(right).is_some() {
+                    return self.layers(known, left, exits);
+                }
                 let second = self.layers(known.behind_layers(left), right, exits)?;
                 let exits = Exits {
                     yes: second,

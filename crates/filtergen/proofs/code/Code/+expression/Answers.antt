@@ -1,11 +1,10 @@
 use Rattle.std.proofs.Common.{◌<◌, ◌≤◌, arith, refl}
-use Rattle.filterlang.specs.Trees.{amount_of, tree_of}
+use Rattle.filterlang.specs.Trees.{tree_of}
 use Rattle.filtergen.specs.Compiling.{need}
 use Rattle.filtergen.specs.Knowing.{LOOK_BACK}
 use Rattle.filtergen.specs.Lists.{size}
-use Rattle.filtergen.specs.Meaning.{relation_test}
-use Rattle.filtergen.proofs.Leading.{decides_any, decides-renewed, renews-not, renews-both, renews-either, renews-all-later}
-use Rattle.filtergen.proofs.Knowing.{rest-relation, tree-known}
+use Rattle.filtergen.proofs.Leading.{renews-not, renews-both, renews-either, renews-all-later}
+use Rattle.filtergen.proofs.Knowing.{tree-known}
 use Rattle.filtergen.proofs.Narrowed.{behind-more, behind-renewed, behind-both, behind-either, behind-not, behind-passed, renews-none}
 use Rattle.filtergen.proofs.Taking.{emits-either, emits-both}
 use Rattle.filtergen.proofs.code.Code.+expression.Goals as goal

@@ -1,4 +1,3 @@
-use Rattle.std.proofs.Common.{arith}
 use Rattle.filterlang.specs.Trees.{amount_of}
 use Rattle.filtergen.specs.Meaning.{relation_test}
 use Rattle.filtergen.specs.Parts.{relation_cost}

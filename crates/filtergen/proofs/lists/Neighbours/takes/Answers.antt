@@ -1,4 +1,4 @@
-use Rattle.std.proofs.Common.{◌≡◌, ◌≤◌, ap, sym, subst, ◌∙◌, rules}
+use Rattle.std.proofs.Common.{◌≡◌, ◌≤◌, ap, sym, subst, ◌∙◌}
 use Rattle.filterlang.specs.Trees.{tree_of}
 use Rattle.filtergen.specs.Compiling.{weight}
 use Rattle.filtergen.specs.Lists.{kind_test, turned, weighed}
@@ -22,9 +22,9 @@ returns-in-Some-clause-taken c =
     let by_layer = both-true _ _ by_mask.1 in
     let by_index = both-true _ _ by_layer.1 in
     let bytes : member.kind.bytes ≡ kind.bytes =
-        bytes-same member.kind.bytes kind.bytes (same_true the_layers (search rules) _ _ by_layer.0) (equal-true _ _ by_index.0) (same_true the_sizes (search rules) _ _ (sym by_index.1)) in
+    bytes-same member.kind.bytes kind.bytes (same_true the_layers tt _ _ by_layer.0) (equal-true _ _ by_index.0) (same_true the_sizes tt _ _ (sym by_index.1)) in
     let same : member.kind ≡ kind =
-        kind-same member.kind kind (same_true the_forms (search rules) _ _ by_form.0) (same_true the_sides (search rules) _ _ by_sides.0) (equal-true _ _ by_mask.0) bytes in
+    kind-same member.kind kind (same_true the_forms tt _ _ by_form.0) (same_true the_sides tt _ _ by_sides.0) (equal-true _ _ by_mask.0) bytes in
     takes-one c.args.chain kind (tree_of c.args.expr.now) member.span c.args.self.now.spans.items c.push.new.self.items
     (λ p. c.in-Some.ensures.same p ∙ ap (λ k. turned c.args.chain (kind_test k member.span p)) same)
     (subst (λ (k : Kind). weighed k.form 1 ≤ weight (tree_of c.args.expr.now)) same c.in-Some.ensures.weighs) c.push.ensures.items
