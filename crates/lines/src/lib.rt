@@ -2,6 +2,7 @@
 //! the line of a fault on standard error, and the exit statuses.
 #![tactic(auto)]
 
+pub mod capture_fault;
 pub mod fault;
 pub mod fields;
 pub mod line;
@@ -9,6 +10,7 @@ pub mod sending;
 pub mod snapshot;
 pub mod telling;
 
+pub use capture_fault::CaptureFaultText;
 pub use fault::LineFault;
 pub use line::Line;
 pub use snapshot::{MAX_SNAP, meant};

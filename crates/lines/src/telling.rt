@@ -2,7 +2,7 @@
 
 ghost use Rattle.std.specs.Prelude.{◌≡◌, ◌≤◌, ◌⊎◌, OnOk, OnErr, IfOk, IfSome};
 ghost use Rattle.lines.specs.Sending.{Takes};
-ghost use Rattle.lines.specs.Telling.{fault_status, told_line};
+ghost use Rattle.lines.specs.Telling.{fault_status, is_unread, output_line, print_status_of, told_line};
 
 use crate::line::Line;
 use crate::sending::send;
@@ -19,6 +19,15 @@ pub const BAD_RECORD: u8 = 2;
 
 /// The exit status of a failed device.
 pub const DEVICE: u8 = 3;
+
+/// What a command came to.
+#[derive(Debug, Drop)]
+pub struct Ended {
+    /// The exit status.
+    pub status: u8,
+    /// Whether standard error took what was told.
+    pub told: io::Result<()>,
+}
 
 /// The line of a fault, where it has at most 512 bytes.
 fn line_of<D: Display + Drop>(fault: D) -> io::Result<Line>
@@ -112,5 +121,34 @@ pub fn fault_status(fault: Fault) -> u8
         Fault::Device => DEVICE,
         Fault::TornRecord(_) | Fault::BadFraction(_) | Fault::TooLong(_) => BAD_RECORD,
         _ => REFUSED,
+    }
+}
+
+/// The exit status of printing.
+pub fn print_status(printed: &io::Result<()>) -> u8
+    ensures { result ≡ print_status_of printed.now }
+{
+    match printed {
+        Ok(()) => 0,
+        Err(_) => DEVICE,
+    }
+}
+
+/// Whether it is that nobody reads what is printed any more, as behind `| head`.
+fn is_unread(kind: ErrorKind) -> bool
+    ensures { result ≡ is_unread kind }
+{
+    matches!(kind, ErrorKind::BrokenPipe)
+}
+
+/// Tells that standard output failed, if it did, in a line `bpftap: Device standard output`. Where nobody reads what is printed any
+/// more, there is nobody to tell it to either.
+pub fn tell_output<E: Write>(printed: &io::Result<()>, err: &mut E) -> io::Result<()>
+    ensures { Takes (E.contents err.old) (E.contents err.new) result (output_line printed.now) }
+{
+    match printed {
+        Ok(()) => Ok(()),
+        Err(error) if is_unread(error.kind()) => Ok(()),
+        Err(_) => tell_line("Device standard output", err),
     }
 }

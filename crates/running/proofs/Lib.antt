@@ -1,1 +1,4 @@
 pub mod Statuses
+pub mod Fielded
+pub mod Outputs
+pub mod Printing

@@ -1,1 +1,3 @@
 pub mod Replaying
+pub mod Printed
+pub mod Listeners

@@ -1,12 +1,16 @@
--- The exit status of a replay.
-use Rattle.std.specs.Prelude.{◌≡◌, ℕ, ◌⊎◌, List, fold, max}
+-- What a replay is told as, and its exit status.
+use Rattle.std.specs.Prelude.{◌≡◌, ℕ, List, ◌++◌, fold, max, Result}
+use Rattle.std.specs.declared.io.Error.{Error}
 use Rattle.replay.specs.declared.report.InterfaceEnd.{InterfaceEnd}
 use Rattle.replay.specs.declared.report.InterfaceEnd.TheVariants as interface
 use Rattle.replay.specs.declared.report.InterfaceReport.{InterfaceReport}
 use Rattle.replay.specs.declared.report.ListenerReport.{ListenerReport}
 use Rattle.replay.specs.declared.report.TaskEnd.{TaskEnd}
 use Rattle.replay.specs.declared.report.TaskEnd.TheVariants as task
-use Rattle.lines.specs.Telling.{fault_status}
+use Rattle.lines.specs.declared.telling.Ended.{Ended}
+use Rattle.lines.specs.Sending.{Streams, Takes}
+use Rattle.lines.specs.Telling.{fault_status, output_line, print_status_of}
+use Rattle.running.specs.Printed.{printed_replay, told_replay}
 
 -- of an interface's captures
 abbrev pub interface_status : InterfaceEnd → ℕ
@@ -32,6 +36,14 @@ report_status report = max (interface_status report.end) (listeners_status repor
 abbrev pub run_status : {R W : Type 0} → List (InterfaceReport R W) → ℕ
 run_status reports = fold (λ status report. max status (report_status report)) 0 reports
 
--- It is this one where all was printed, and else 3, where standard output failed.
-abbrev pub IsStatusOf : ℕ → ℕ → Type 0
-IsStatusOf replayed status = (output_status : ℕ) × ((output_status ≡ 0) ⊎ (output_status ≡ 3)) × (status ≡ max output_status replayed)
+-- A replay's reports were printed: all of them, or a beginning where standard output failed. What is told is that it failed, if it
+-- did, and then each interface that did not end clean. The status is the greatest that stands.
+pub record Tells {R W : Type 0} (reports : List (InterfaceReport R W)) (old new : Streams) (ended : Ended) : Type 0 where
+  pub printed : Result (Unit {0}) Error
+  pub prints : Takes old.out new.out printed (printed_replay reports)
+  pub tells : Takes old.err new.err ended.told (output_line printed ++ told_replay reports)
+  pub greatest : ended.status ≡ max (print_status_of printed) (run_status reports)
+
+-- the same, of which the status alone is known
+abbrev pub TellsTo : {R W : Type 0} → List (InterfaceReport R W) → Streams → Streams → ℕ → Type 0
+TellsTo reports old new status = (ended : Ended) × Tells reports old new ended × (status ≡ ended.status)
