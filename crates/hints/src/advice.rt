@@ -1,0 +1,269 @@
+//! What helps to mend an expression.
+
+use crate::nearest::{in_small_letters, nearest};
+use crate::shown::Shown;
+use filterlang::Fault;
+use std::fmt;
+use std::fmt::{Display, Formatter};
+
+/// Words of other systems' languages that this profile has not.
+const OTHER_LINKS: [&[u8]; 12] = [
+    b"ip6", b"icmp6", b"vlan", b"mpls", b"pppoed", b"pppoes", b"geneve", b"atalk", b"decnet",
+    b"ipx", b"llc", b"wlan",
+];
+
+/// Words of libpcap's language, and what means the same here.
+const WRITTEN: [(&[u8], &str); 9] = [
+    (b"length", "len"),
+    (b"igmp", "proto 2"),
+    (b"igrp", "proto 9"),
+    (b"esp", "proto 50"),
+    (b"ah", "proto 51"),
+    (b"pim", "proto 103"),
+    (b"vrrp", "proto 112"),
+    (b"tcp-ece", "64"),
+    (b"tcp-cwr", "128"),
+];
+
+/// What helps to mend an expression.
+#[derive(Clone, Copy, Debug, PartialEq, Eq)]
+pub(crate) enum Advice<'a> {
+    /// A sentence that is the same for each such fault.
+    Said(&'static str),
+    /// The word that is meant is this one, in small letters.
+    SmallLetters(&'static str),
+    /// The word that may be meant.
+    DidYouMean(&'static str),
+    /// A word of what is no Ethernet with IPv4.
+    OtherLink(&'a [u8]),
+    /// What is written for a word here.
+    Written(&'static str, &'a [u8]),
+    /// The name of a service.
+    Service(&'a [u8]),
+    /// The name of a host or a net.
+    Host(&'a [u8]),
+    /// A word that is none of the language, or a name.
+    NoWord(&'a [u8]),
+    /// What no token begins with.
+    NoToken(&'a [u8]),
+}
+
+impl Display for Advice<'_> {
+    fn fmt<W: fmt::Write>(&self, f: &mut Formatter<W>) -> fmt::Result {
+        match self {
+            Advice::Said(sentence) => f.write_str(*sentence),
+            Advice::SmallLetters(word) => write!(f, "words are in small letters: `{word}`"),
+            Advice::DidYouMean(word) => write!(f, "did you mean `{word}`?"),
+            Advice::OtherLink(word) => write!(
+                f,
+                "this profile is Ethernet with IPv4: `{}` is not read",
+                Shown(*word)
+            ),
+            Advice::Written(written, word) => {
+                write!(f, "write `{written}` for `{}`", Shown(*word))
+            }
+            Advice::Service(name) => write!(
+                f,
+                "names of services are not read: write a number, as `port 80`, for `{}`",
+                Shown(*name)
+            ),
+            Advice::Host(name) => write!(
+                f,
+                "names of hosts and nets are not read: write the address of `{}`",
+                Shown(*name)
+            ),
+            Advice::NoWord(word) => write!(
+                f,
+                "`{}` is no word of the language, and names are not read",
+                Shown(*word)
+            ),
+            Advice::NoToken(character) => write!(
+                f,
+                "no word, number or sign begins with `{}`",
+                Shown(*character)
+            ),
+        }
+    }
+}
+
+/// Whether a byte belongs to a word or a name, as a reader takes it.
+fn is_of_word(byte: u8) -> bool {
+    byte.is_ascii_alphanumeric() || byte == b'.' || byte == b'-' || byte == b'_'
+}
+
+/// Whether a byte separates tokens.
+fn is_blank(byte: u8) -> bool {
+    byte == b' ' || byte == b'\t' || byte == b'\r' || byte == b'\n'
+}
+
+/// The word or the name at the front of a text.
+fn first_word(text: &[u8]) -> &[u8] {
+    let end = text
+        .iter()
+        .position(|byte| !is_of_word(*byte))
+        .unwrap_or(text.len());
+    &text[..end]
+}
+
+/// The word or the name at the end of a text, the blanks behind it left out.
+fn last_word(text: &[u8]) -> &[u8] {
+    let text = without_blanks(text);
+    let start = match text.iter().rposition(|byte| !is_of_word(*byte)) {
+        Some(before) => before + 1,
+        None => 0,
+    };
+    &text[start..]
+}
+
+/// A text without the blanks at its end.
+fn without_blanks(text: &[u8]) -> &[u8] {
+    match text.iter().rposition(|byte| !is_blank(*byte)) {
+        Some(last) => &text[..last + 1],
+        None => &[],
+    }
+}
+
+/// What is written here for a word of libpcap's language.
+fn written_for(word: &[u8]) -> Option<&'static str> {
+    WRITTEN
+        .iter()
+        .find(|pair| pair.0 == word)
+        .map(|pair| pair.1)
+}
+
+/// What helps at a word that the language has not, behind another word.
+fn of_word<'a>(before: &[u8], word: &'a [u8]) -> Advice<'a> {
+    if OTHER_LINKS.contains(&word) {
+        return Advice::OtherLink(word);
+    }
+    if let Some(written) = written_for(word) {
+        return Advice::Written(written, word);
+    }
+    if let Some(small) = in_small_letters(word) {
+        return Advice::SmallLetters(small);
+    }
+    if let Some(near) = nearest(word) {
+        return Advice::DidYouMean(near);
+    }
+    of_name(before, word)
+}
+
+/// What helps at what may be a name, behind another word.
+fn of_name<'a>(before: &[u8], name: &'a [u8]) -> Advice<'a> {
+    match before {
+        b"port" | b"portrange" => Advice::Service(name),
+        b"host" | b"net" | b"src" | b"dst" => Advice::Host(name),
+        _ if name.contains(&b'.') => Advice::Host(name),
+        _ => Advice::NoWord(name),
+    }
+}
+
+/// What helps where no token begins.
+fn of_byte(rest: &[u8]) -> Advice<'_> {
+    match rest {
+        [b'"' | b'\'' | b'`', ..] | [0xe2, 0x80, 0x98..=0x9f, ..] => Advice::Said(
+            "quotes are the shell's, and no part of an expression: '..' round it on the command line alone",
+        ),
+        [0xc2..=0xdf, _, ..] => Advice::NoToken(&rest[..2]),
+        [0xe0..=0xef, _, _, ..] => Advice::NoToken(&rest[..3]),
+        [0xf0..=0xf7, _, _, _, ..] => Advice::NoToken(&rest[..4]),
+        [_, ..] => Advice::NoToken(&rest[..1]),
+        [] => Advice::Said("no word, number or sign begins here"),
+    }
+}
+
+/// What helps at a number or an address that is none.
+fn of_number(word: &[u8]) -> Advice<'static> {
+    if word.contains(&b'.') {
+        Advice::Said("an address has two to four parts of at most three digits, each up to 255")
+    } else if word.starts_with(b"0") {
+        Advice::Said(
+            "a number behind a 0 is octal, of the digits 0 to 7, and behind 0x hexadecimal",
+        )
+    } else {
+        Advice::Said(
+            "a number is at most 4294967295; no name begins with a digit, and IPv6 is not read",
+        )
+    }
+}
+
+/// What helps where no expression can go on with what stands behind a text.
+fn of_syntax<'a>(before: &[u8], rest: &'a [u8]) -> Advice<'a> {
+    match (last_word(before), rest) {
+        (b"port" | b"portrange", []) => {
+            Advice::Said("the expression ends here, and a number is wanted, as `port 80`")
+        }
+        (b"host" | b"net" | b"src" | b"dst", []) => {
+            Advice::Said("the expression ends here, and an address is wanted, as `host 192.0.2.1`")
+        }
+        (_, []) => Advice::Said(
+            "the expression ends here, and more is wanted: a term behind `and`, `or` and `not`, a `)` for each `(`",
+        ),
+        (b"proto", [b'a'..=b'z', ..]) => {
+            Advice::Said("behind `proto` a name has a backslash, as `proto \\tcp`")
+        }
+        (_, [b'a'..=b'z' | b'0'..=b'9' | b'(' | b'!', ..]) => {
+            Advice::Said("`and` or `or` stands between two terms: is it wanting before this one?")
+        }
+        _ => Advice::Said("no expression can go on with this behind what stands before it"),
+    }
+}
+
+/// What helps at an identifier that has no qualifier.
+fn of_no_qualifier(before: &[u8]) -> Advice<'static> {
+    let joint = last_word(before);
+    let left = without_blanks(before);
+    let term = without_blanks(&left[..left.len() - joint.len().min(left.len())]);
+    if term.ends_with(b")") {
+        Advice::Said("behind `(a or b)` write the qualifier again, as `(tcp or udp) or port 53`")
+    } else {
+        Advice::Said(
+            "nothing to its left says of what it is: write `port 80` or `host 192.0.2.1` in full",
+        )
+    }
+}
+
+/// What helps to mend a text that is refused.
+pub(crate) fn advice_on(text: &[u8], fault: Fault) -> Option<Advice<'_>> {
+    match fault {
+        Fault::BadByte(place) => Some(of_byte(&text[place.min(text.len())..])),
+        Fault::BadWord(place) => {
+            let (before, rest) = text.split_at(place.min(text.len()));
+            let word = first_word(rest.strip_prefix(b"\\").unwrap_or(rest));
+            Some(of_word(last_word(before), word))
+        }
+        Fault::BadNumber(place) => Some(of_number(first_word(&text[place.min(text.len())..]))),
+        Fault::Syntax(place) => {
+            let (before, rest) = text.split_at(place.min(text.len()));
+            Some(of_syntax(before, rest))
+        }
+        Fault::NoQualifier(place) => Some(of_no_qualifier(&text[..place.min(text.len())])),
+        _ => sentence(fault).map(|said| Advice::Said(said)),
+    }
+}
+
+/// The sentence of a fault for which it is always the same.
+fn sentence(fault: Fault) -> Option<&'static str> {
+    match fault {
+        Fault::TextTooLong => Some(
+            "an expression has at most 8192 bytes: cut it into parts, with a `bpftap cut` for each",
+        ),
+        Fault::BadQualifier(_) => Some(
+            "these words do not go together: `host 192.0.2.1 and tcp`, not `tcp host 192.0.2.1`",
+        ),
+        Fault::BadIdentifier(_) => Some(
+            "`host` takes a whole address, `net` a beginning of one, `port` and `proto` a number",
+        ),
+        Fault::NetBits(_) => Some(
+            "a net's address has no bits outside its mask: `net 10.0.0.0/8`, and `host 10.0.0.1` for one host",
+        ),
+        Fault::OutOfRange(_) => Some(
+            "ports are 0 to 65535, protocols 0 to 255, `ether proto` 1501 to 65535, masks 0 to 32, sizes 1, 2 or 4",
+        ),
+        Fault::DivideByZero(_) => Some("a divisor is not written as 0"),
+        Fault::TooNested(_) => Some(
+            "at most 64 of `(`, `[`, `not` and `-` are open at once: take parentheses away",
+        ),
+        _ => None,
+    }
+}

@@ -1,0 +1,146 @@
+//! Hints on captures that are refused.
+
+ghost use Rattle.std.specs.Prelude.{◌≡◌, false};
+
+use crate::stream::{TakesHints, give_hint};
+use byteorder::{BigEndian, ByteOrder, LittleEndian};
+use savefile::Fault;
+use std::fmt::{Display, Formatter};
+use std::io::Write;
+use std::{fmt, io};
+
+/// What a file is that begins with some bytes, and what is done with it.
+fn other_format(first: &[u8]) -> Option<&'static str> {
+    match first {
+        [0x0a, 0x0d, 0x0d, 0x0a, ..] => Some("this is pcapng: editcap -F pcap IN OUT"),
+        [0x1f, 0x8b, ..] => Some("this is compressed: gzip -dc IN, and /dev/stdin for IN"),
+        [0x28, 0xb5, 0x2f, 0xfd, ..] => Some(
+            "this is compressed: zstd -dc IN, and /dev/stdin for IN",
+        ),
+        [0xfd, b'7', b'z', b'X', b'Z', ..] => Some(
+            "this is compressed: xz -dc IN, and /dev/stdin for IN",
+        ),
+        [b'B', b'Z', b'h', ..] => Some("this is compressed: bzip2 -dc IN, and /dev/stdin for IN"),
+        [0x34, 0xcd, 0xb2, 0xa1, ..]
+        | [0xa1, 0xb2, 0xcd, 0x34, ..]
+        | [b's', b'n', b'o', b'o', b'p', 0, ..] => {
+            Some("this is a capture of another format: editcap -F pcap IN OUT")
+        }
+        _ => None,
+    }
+}
+
+/// Bytes as hexadecimal numbers, the first four of them.
+#[derive(Drop)]
+struct Hex<'a>(&'a [u8]);
+
+impl Display for Hex<'_> {
+    fn fmt<W: fmt::Write>(&self, f: &mut Formatter<W>) -> fmt::Result {
+        for byte in self.0.iter().take(4) {
+            write!(f, " {byte:02x}")?;
+        }
+        Ok(())
+    }
+}
+
+/// Whether the numbers of a header have their highest byte first.
+fn is_big(header: &[u8; 24]) -> bool {
+    header[0] == 0xa1
+}
+
+/// The number of the link type, with the bits beside it.
+fn link_type(header: &[u8; 24]) -> u32 {
+    let field = &header[20..24];
+    if is_big(header) {
+        BigEndian::read_u32(field)
+    } else {
+        LittleEndian::read_u32(field)
+    }
+}
+
+/// What a link type is called that is met often.
+fn link_name(number: u32) -> &'static str {
+    match number {
+        0 | 108 => ", loopback of BSD",
+        12 | 14 | 101 => ", raw IP",
+        105 | 127 => ", wireless",
+        113 | 276 => ", Linux cooked, as of the interface `any`",
+        _ => "",
+    }
+}
+
+fn hint_link_type<E: TakesHints>(header: &[u8; 24], err: &mut E)
+    ensures quiet { E.takes_hints err.old ≡ false → err.new ≡ err.old }
+{
+    let number = link_type(header);
+    if number % 65_536 == 1 {
+        return give_hint(
+            "its link type is 1, Ethernet, with a frame check sequence, which is not read",
+            err,
+        );
+    }
+    give_hint(
+        format_args!(
+            "its link type is {number}{}: 1, Ethernet, alone is read",
+            link_name(number)
+        ),
+        err,
+    )
+}
+
+fn hint_version<E: TakesHints>(header: &[u8; 24], err: &mut E)
+    ensures quiet { E.takes_hints err.old ≡ false → err.new ≡ err.old }
+{
+    let (major, minor) = if is_big(header) {
+        (
+            BigEndian::read_u16(&header[4..6]),
+            BigEndian::read_u16(&header[6..8]),
+        )
+    } else {
+        (
+            LittleEndian::read_u16(&header[4..6]),
+            LittleEndian::read_u16(&header[6..8]),
+        )
+    };
+    give_hint(
+        format_args!(
+            "its version is {major}.{minor}: 2.4 alone is read, which editcap -F pcap IN OUT writes"
+        ),
+        err,
+    )
+}
+
+fn hint_not_savefile<E: TakesHints>(first: &[u8], err: &mut E)
+    ensures quiet { E.takes_hints err.old ≡ false → err.new ≡ err.old }
+{
+    match other_format(first) {
+        Some(format) => give_hint(format, err),
+        None => give_hint(
+            format_args!("it begins with{}, and no classic savefile does", Hex(first)),
+            err,
+        ),
+    }
+}
+
+/// Hints on the fault of a capture whose first bytes are these, the 24 of a header where it has so many.
+pub fn hint_capture_fault<E: TakesHints>(first: &[u8], fault: Fault, err: &mut E)
+    ensures quiet { E.takes_hints err.old ≡ false → err.new ≡ err.old }
+{
+    match (fault, first.first_chunk::<24>()) {
+        (Fault::NotSavefile, _) => hint_not_savefile(first, err),
+        (Fault::ShortHeader, _) => give_hint(
+            format_args!(
+                "it has {} bytes, and the header of a capture 24",
+                first.len()
+            ),
+            err,
+        ),
+        (Fault::LinkType, Some(header)) => hint_link_type(header, err),
+        (Fault::Version, Some(header)) => hint_version(header, err),
+        (Fault::TornRecord(_), _) => give_hint(
+            "the file ends inside this record: was it broken off, or is it still written?",
+            err,
+        ),
+        _ => {}
+    }
+}
