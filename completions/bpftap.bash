@@ -16,7 +16,7 @@ _bpftap_value() {
 # The options of a command, or of the program where there is none so far.
 _bpftap_options() {
   case $1 in
-    '') echo '-h --help -V --version' ;;
+    '') echo '--hints -h --help -V --version' ;;
     check) echo '-d -s -f -h --help' ;;
     run) echo '-h --help' ;;
     cut) echo '-s -e -f -o -u -h --help' ;;

@@ -1,6 +1,7 @@
 # Completions of bpftap for fish.
 
 complete -c bpftap -f
+complete -c bpftap -n __fish_use_subcommand -l hints -d 'Tell below a fault what helps to mend it'
 complete -c bpftap -n __fish_use_subcommand -s h -l help -d 'Print help'
 complete -c bpftap -n __fish_use_subcommand -s V -l version -d 'Print the version'
 complete -c bpftap -n __fish_use_subcommand -a check -d 'Print the program of an expression'

@@ -39,6 +39,8 @@ OFFERED = [
     (["steps"], ["steps"]),
     (["x"], []),
     (["--v"], ["--version"]),
+    (["--hi"], ["--hints"]),
+    (["--hints", "c"], ["check", "cut"]),
     (["help", ""], ["check", "cut", "steps", "run"]),
     (["cut", "--"], ["--help"]),
     (["cut", "-o", ""], ["little", "big"]),

@@ -2,18 +2,19 @@
 
 ghost use Rattle.std.specs.Prelude.{◌≤◌, IfErr};
 
+use crate::hinting::{told_filter, told_print};
 use bpfvm::Program;
 use cutting::check::{Form, check, show};
 use cutting::filter::filter;
-use cutting::tell::{tell_filter, tell_print};
 use files::reading::tell_io;
+use hints::TakesHints;
 use std::fs;
 use std::fs::Files;
 use std::io::Write;
 use words::check::CheckWords;
 
 /// The program that is asked for: a listing's file, or an expression's.
-fn program_of<R: Files + AllocGlobal, E: Write>(
+fn program_of<R: Files + AllocGlobal, E: TakesHints>(
     rt: &R,
     words: &CheckWords<'_>,
     err: &mut E,
@@ -24,17 +25,20 @@ fn program_of<R: Files + AllocGlobal, E: Write>(
     match words.listing {
         Some(path) => match fs::read(rt, path) {
             Ok(listing) => {
-                let found = filter(alloc, Some(listing.as_slice()), None, words.snap);
-                tell_filter(found, err)
+                let listing = Some(listing.as_slice());
+                told_filter(listing, None, filter(alloc, listing, None, words.snap), err)
             }
             Err(error) => Err(tell_io(&error, path, err)),
         },
-        None => tell_filter(filter(alloc, None, words.expr, words.snap), err),
+        None => {
+            let found = filter(alloc, None, words.expr, words.snap);
+            told_filter(None, words.expr, found, err)
+        }
     }
 }
 
 /// Prints the program in the form that is asked for.
-pub fn check_files<R: Files + AllocGlobal, O: Write, E: Write>(
+pub fn check_files<R: Files + AllocGlobal, O: Write, E: TakesHints>(
     rt: &R,
     words: &CheckWords<'_>,
     out: &mut O,
@@ -43,7 +47,7 @@ pub fn check_files<R: Files + AllocGlobal, O: Write, E: Write>(
     ensures { result ≤ 3 }
 {
     if let (Some(expr), false, lines::MAX_SNAP) = (words.expr, words.named, words.snap) {
-        return tell_print(check(rt.alloc(), expr, out), err);
+        return told_print(expr, check(rt.alloc(), expr, out), err);
     }
     let form = if words.named {
         Form::Image
@@ -51,7 +55,7 @@ pub fn check_files<R: Files + AllocGlobal, O: Write, E: Write>(
         Form::Listing
     };
     match program_of(rt, words, err) {
-        Ok(program) => tell_print(show(rt.alloc(), &program, form, out), err),
+        Ok(program) => told_print("", show(rt.alloc(), &program, form, out), err),
         Err(status) => status,
     }
 }

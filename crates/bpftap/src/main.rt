@@ -2,6 +2,7 @@
 #![tactic(auto)]
 
 mod check_files;
+mod hinting;
 mod laws;
 mod picture_files;
 mod program;
@@ -11,9 +12,12 @@ mod steps_files;
 mod system_tests;
 mod tally;
 
+use hints::ErrorStream;
 use lines::telling::tell_words;
+use std::io::IsTerminal;
 use std::process::ExitCode;
 use std::{env, io};
+use words::command_line::asks_hints;
 
 /// The words that the program was called with.
 fn words(rt: &HostRuntime) -> io::Result<Vec<String>> {
@@ -23,7 +27,11 @@ fn words(rt: &HostRuntime) -> io::Result<Vec<String>> {
 fn main(rt: HostRuntime) -> ExitCode {
     let (mut out, mut err) = (rt.stdout(), rt.stderr());
     let status = match words(&rt) {
-        Ok(words) => program::run(&rt, words.as_slice(), &mut out, &mut err),
+        Ok(words) => {
+            let takes_hints = err.is_terminal() || asks_hints(words.as_slice());
+            let mut err = ErrorStream::new(err, takes_hints);
+            program::run(&rt, words.as_slice(), &mut out, &mut err)
+        }
         Err(error) => tell_words(error, &mut err),
     };
     ExitCode::from(status)

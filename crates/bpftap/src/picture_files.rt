@@ -3,13 +3,13 @@
 ghost use Rattle.std.specs.Prelude.{◌≤◌};
 
 use files::reading::tell_io;
+use hints::TakesHints;
 use lines::telling::{REFUSED, tell_fault};
 use picture::write_picture;
 use savefile::Fault;
 use std::alloc::Global;
 use std::fs;
 use std::fs::Files;
-use std::io::Write;
 use stepping::steps::Asked;
 use tap::trace;
 
@@ -25,7 +25,7 @@ fn drawn(alloc: Global, asked: &Asked, captures: &[&[u8]]) -> Option<Vec<u8>> {
 }
 
 /// Draws what was asked for over captures to a file, and answers the exit status.
-pub fn draw<R: Files + AllocGlobal, E: Write>(
+pub fn draw<R: Files + AllocGlobal, E: TakesHints>(
     rt: &R,
     asked: &Asked,
     captures: &[&[u8]],

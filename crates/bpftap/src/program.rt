@@ -3,10 +3,12 @@
 ghost use Rattle.std.specs.Prelude.{◌≤◌, IfErr, MatchResult};
 
 use crate::check_files::check_files;
+use crate::hinting::{hint_cut, told_filter};
 use crate::run_files::{NamesFiles, run_files};
 use crate::steps_files::steps_files;
 use bpfvm::Program;
 use clap::Error;
+use clap::error::ErrorKind;
 use cutting::cut::{CutEnd, End, cut};
 use cutting::filter::filter;
 use cutting::tell::{tell, tell_filter};
@@ -14,8 +16,11 @@ use files::late::{LateFile, hold_stream};
 use files::paths::all_apart;
 use files::reading::tell_io;
 use files::retried::Retried;
+use hints::quotes::hint_unquoted;
+use hints::{Noted, TakesHints};
 use lines::telling::{REFUSED, tell_fault, tell_written};
 use savefile::{Counted, Fault};
+use std::alloc::Global;
 use std::convert::AsStr;
 use std::fs;
 use std::fs::Files;
@@ -33,7 +38,7 @@ pub fn run<
     R: Files + AllocGlobal + NamesFiles + Threads + Wait + Sync,
     S: AsStr,
     O: Write,
-    E: Write,
+    E: TakesHints,
 >(rt: &R, words: &[S], out: &mut O, err: &mut E) -> u8
     ensures { result ≤ 3 }
 {
@@ -45,7 +50,7 @@ pub fn run<
         Ok(Request::Cut(words)) => cut_files(rt, &words, err),
         Ok(Request::Steps(words)) => steps_files(rt, &words, out, err),
         Ok(Request::Run(words)) => run_files(rt, &words, out, err),
-        Err(error) => Err(tell_clap(&error, out, err)),
+        Err(error) => Err(tell_clap(rt.alloc(), words, &error, out, err)),
     };
     match ended {
         Ok(status) | Err(status) => status,
@@ -53,13 +58,22 @@ pub fn run<
 }
 
 /// Help goes to `out` with status 0, what is wrong with the words to `err` with status 1.
-fn tell_clap<O: Write, E: Write>(error: &Error, out: &mut O, err: &mut E) -> u8
+fn tell_clap<S: AsStr, O: Write, E: TakesHints>(
+    alloc: Global,
+    words: &[S],
+    error: &Error,
+    out: &mut O,
+    err: &mut E,
+) -> u8
     ensures { result ≤ 3 }
 {
-    if error.kind() == clap::error::ErrorKind::OutOfMemory {
+    if error.kind() == ErrorKind::OutOfMemory {
         tell_fault(Fault::NoMemory, REFUSED, err)
     } else if error.use_stderr() {
         let _ = write!(err, "{error}");
+        if error.kind() == ErrorKind::UnknownArgument {
+            hint_unquoted(alloc, words, err);
+        }
         REFUSED
     } else {
         tell_written(write!(out, "{error}"), err)
@@ -67,7 +81,7 @@ fn tell_clap<O: Write, E: Write>(error: &Error, out: &mut O, err: &mut E) -> u8
 }
 
 /// The filter that the words give: a listing's file is read, unless there is an expression too.
-fn filter_of<R: Files + AllocGlobal, E: Write>(
+fn filter_of<R: Files + AllocGlobal, E: TakesHints>(
     rt: &R,
     words: &CutWords<'_>,
     err: &mut E,
@@ -78,19 +92,22 @@ fn filter_of<R: Files + AllocGlobal, E: Write>(
     match words.listing {
         Some(path) if words.expr.is_none() => match fs::read(rt, path) {
             Ok(listing) => {
-                let found = filter(alloc, Some(listing.as_slice()), None, words.snap);
-                tell_filter(found, err)
+                let listing = Some(listing.as_slice());
+                told_filter(listing, None, filter(alloc, listing, None, words.snap), err)
             }
             Err(error) => Err(tell_io(&error, path, err)),
         },
         Some(_) => tell_filter(filter(alloc, Some(&[]), words.expr, words.snap), err),
-        None => tell_filter(filter(alloc, None, words.expr, words.snap), err),
+        None => {
+            let found = filter(alloc, None, words.expr, words.snap);
+            told_filter(None, words.expr, found, err)
+        }
     }
 }
 
 /// `bpftap cut`: the filter is accepted, and the paths are compared, before IN is opened. OUT is made at its first write.
 #[tactic(auto, using(crate::proofs::Statuses::cut_bound))]
-fn cut_files<R: Files + AllocGlobal, E: Write>(
+fn cut_files<R: Files + AllocGlobal, E: TakesHints>(
     rt: &R,
     words: &CutWords<'_>,
     err: &mut E,
@@ -103,10 +120,10 @@ fn cut_files<R: Files + AllocGlobal, E: Write>(
     let read = [listing, words.input];
     all_apart(rt, None, &read, &[words.output], err)?;
     let input = match fs::open(rt, words.input) {
-        Ok(input) => Retried::new(input),
+        Ok(input) => Noted::new(Retried::new(input)),
         Err(error) => return Err(tell_io(&error, words.input, err)),
     };
-    let late = LateFile::new(rt, words.output);
+    let late = Noted::new(LateFile::new(rt, words.output));
     match BufWriter::with_capacity(rt.alloc(), OUTPUT_BUFFER, late) {
         Ok(output) => {
             let (from, to) = (Counted::new(input), Counted::new(output));
@@ -119,7 +136,10 @@ fn cut_files<R: Files + AllocGlobal, E: Write>(
                 words.unit,
                 to,
             );
-            Ok(tell(&flushed(end), words.input, words.output, err))
+            let end = flushed(end);
+            let status = tell(&end, words.input, words.output, err);
+            hint_cut(&end, err);
+            Ok(status)
         }
         Err(error) => Err(tell_io(&error, words.output, err)),
     }
@@ -138,15 +158,18 @@ mod tests {
     use super::*;
     use std::alloc::AllocError;
     use std::io;
-    use std::io::ErrorKind;
 
     #[test]
     fn want_of_memory_is_told_by_its_name(rt: HostRuntime) {
         let mut out: Vec<u8> = Vec::new(rt.alloc());
         let mut err: Vec<u8> = Vec::new(rt.alloc());
-        let refused = io::Error::from(ErrorKind::OutOfMemory);
+        let refused = io::Error::from(io::ErrorKind::OutOfMemory);
         assert_eq!(rt; tell_io(&refused, "in.pcap", &mut err), 1);
-        assert_eq!(rt; tell_clap(&Error::from(AllocError), &mut out, &mut err), 1);
+        let (words, wanting) = (["bpftap"], Error::from(AllocError));
+        assert_eq!(rt;
+            tell_clap(rt.alloc(), &words, &wanting, &mut out, &mut err),
+            1
+        );
         assert_eq!(rt;
             err.as_slice(),
             b"bpftap: NoMemory\nbpftap: NoMemory\n".as_slice()
@@ -157,7 +180,7 @@ mod tests {
     #[test]
     fn control_characters_of_a_path_are_escaped(rt: HostRuntime) {
         let mut err: Vec<u8> = Vec::new(rt.alloc());
-        let gone = io::Error::from(ErrorKind::NotFound);
+        let gone = io::Error::from(io::ErrorKind::NotFound);
         assert_eq!(rt; tell_io(&gone, "a\n\u{1b}[1mé b", &mut err), 3);
         assert_eq!(rt;
             err.as_slice(),

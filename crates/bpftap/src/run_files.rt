@@ -2,10 +2,12 @@
 
 ghost use Rattle.std.specs.Prelude.{◌≤◌, IfErr, MatchResult};
 
+use crate::hinting::{NotedInput, hint_plan, hint_run, hint_unopened};
 use crate::tally::{Output, Tallied, flush_all};
 use files::late::{LateFile, LateInput};
 use files::paths::{STANDARD_OUTPUT, all_apart};
 use files::reading::read_file;
+use hints::{Noted, TakesHints};
 use lines::telling::{REFUSED, tell_fault};
 use replay::RunFault;
 use running::reports::tell_run;
@@ -23,10 +25,10 @@ use words::run::RunWords;
 const OUTPUT_BUFFER: usize = 1 << 16;
 
 /// A capture that is read.
-type Input<'r, 'p> = Counted<LateInput<'r, 'p, HostRuntime>>;
+type Input<'r, 'p> = NotedInput<LateInput<'r, 'p, HostRuntime>>;
 
 /// A capture that is written.
-type LateOutput<'r, 'p> = Output<LateFile<'r, 'p, HostRuntime>>;
+type LateOutput<'r, 'p> = Output<Noted<LateFile<'r, 'p, HostRuntime>>>;
 
 /// The captures of an interface, none of them opened.
 fn sources<'r, 'p>(
@@ -36,7 +38,7 @@ fn sources<'r, 'p>(
 ) -> Result<Vec<Input<'r, 'p>>, AllocError> {
     let mut sources = Vec::with_capacity(alloc, paths.len())?;
     for path in paths {
-        sources.push(Counted::new(LateInput::new(files, *path)))?;
+        sources.push(Counted::new(Noted::new(LateInput::new(files, *path))))?;
     }
     Ok(sources)
 }
@@ -62,7 +64,7 @@ fn sinks<'r, 'p>(
 ) -> io::Result<Vec<LateOutput<'r, 'p>>> {
     let mut sinks = Vec::with_capacity(alloc, outputs.len())?;
     for path in outputs {
-        let out = Tallied::new(LateFile::new(files, *path));
+        let out = Tallied::new(Noted::new(LateFile::new(files, *path)));
         sinks.push(Counted::new(BufWriter::with_capacity(alloc, OUTPUT_BUFFER, out)?))?;
     }
     Ok(sinks)
@@ -84,7 +86,7 @@ fn written_paths<'a>(alloc: Global, plan: &Plan<'a>) -> Result<Vec<&'a str>, All
 }
 
 /// Nothing may be lost: no OUT is a file that is read, the file of another OUT, or the one that the lines are printed to.
-fn looked_at<E: Write>(
+fn looked_at<E: TakesHints>(
     files: &HostRuntime,
     alloc: Global,
     words: &RunWords<'_>,
@@ -106,7 +108,7 @@ fn looked_at<E: Write>(
 }
 
 /// Looks at the lines of LISTENERS, compiles the expressions, and looks at the paths.
-fn accepted<'p, E: Write>(
+fn accepted<'p, E: TakesHints>(
     files: &HostRuntime,
     alloc: Global,
     words: &RunWords<'_>,
@@ -117,7 +119,11 @@ fn accepted<'p, E: Write>(
 {
     let plan = match read_plan(alloc, listeners, words.inputs.len()) {
         Ok(plan) => plan,
-        Err(fault) => return Err(tell_fault(fault, REFUSED, err)),
+        Err(fault) => {
+            let status = tell_fault(fault, REFUSED, err);
+            hint_plan(alloc, listeners, words.inputs.len(), fault, err);
+            return Err(status);
+        }
     };
     looked_at(files, alloc, words, &plan, err)?;
     Ok(plan)
@@ -154,7 +160,7 @@ fn late_files<'r, 'i, 'o>(
 /// thread is shown of a type that is known, and not of one that its trait names.
 pub trait NamesFiles {
     /// Looks at the lines of LISTENERS, and compiles its expressions.
-    fn named_files<'r, 'i, 'o, E: Write>(
+    fn named_files<'r, 'i, 'o, E: TakesHints>(
         &'r self,
         alloc: Global,
         words: &RunWords<'i>,
@@ -165,7 +171,7 @@ pub trait NamesFiles {
 }
 
 impl NamesFiles for HostRuntime {
-    fn named_files<'r, 'i, 'o, E: Write>(
+    fn named_files<'r, 'i, 'o, E: TakesHints>(
         &'r self,
         alloc: Global,
         words: &RunWords<'i>,
@@ -181,12 +187,11 @@ impl NamesFiles for HostRuntime {
 }
 
 /// Reads LISTENERS, and replays the captures.
-pub fn run_files<R: Files + AllocGlobal + NamesFiles + Threads + Wait + Sync, O: Write, E: Write>(
-    rt: &R,
-    words: &RunWords<'_>,
-    out: &mut O,
-    err: &mut E,
-) -> Result<u8, u8>
+pub fn run_files<
+    R: Files + AllocGlobal + NamesFiles + Threads + Wait + Sync,
+    O: Write,
+    E: TakesHints,
+>(rt: &R, words: &RunWords<'_>, out: &mut O, err: &mut E) -> Result<u8, u8>
     ensures { MatchResult result (λ status. status ≤ 3) (λ status. status ≤ 3) }
 {
     let alloc = rt.alloc();
@@ -202,8 +207,14 @@ pub fn run_files<R: Files + AllocGlobal + NamesFiles + Threads + Wait + Sync, O:
     match replay_plan(rt, alloc, plan, captures, sinks) {
         Ok(mut reports) => {
             flush_all(reports.as_mut_slice());
-            Ok(tell_run(reports.as_slice(), &mut out, err))
+            let status = tell_run(reports.as_slice(), &mut out, err);
+            hint_run(words.inputs.as_slice(), reports.as_slice(), err);
+            Ok(status)
         }
-        Err(fault) => Err(tell_fault(fault, REFUSED, err)),
+        Err(fault) => {
+            let status = tell_fault(fault, REFUSED, err);
+            hint_unopened(alloc, listeners.as_slice(), words.inputs.len(), fault, err);
+            Err(status)
+        }
     }
 }

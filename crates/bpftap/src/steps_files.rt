@@ -2,10 +2,12 @@
 
 ghost use Rattle.std.specs.Prelude.{◌≤◌, IfErr, MatchResult};
 
+use crate::hinting::{hint_asked, hint_refused_steps};
 use crate::picture_files::draw;
 use files::paths::{STANDARD_OUTPUT, all_apart};
 use files::piped::Piped;
 use files::reading::read_file;
+use hints::TakesHints;
 use lines::telling::{REFUSED, tell_fault};
 use savefile::Fault;
 use std::alloc::{AllocError, Global};
@@ -25,7 +27,7 @@ const TOLD: usize = 256;
 const OUTPUT_FAILED: &[u8] = b"bpftap: Device standard output\n";
 
 /// The bytes of all captures.
-fn read_captures<R: Files + AllocGlobal, E: Write>(
+fn read_captures<R: Files + AllocGlobal, E: TakesHints>(
     rt: &R,
     paths: &[&str],
     err: &mut E,
@@ -48,7 +50,7 @@ fn lent(alloc: Global, texts: &[Vec<u8>]) -> Result<Vec<&[u8]>, AllocError> {
 
 /// Looks at the captures before one of them is read: there may not be too many, and no file that is read may be the one that the
 /// reports are printed to, or the one that the picture is drawn to.
-fn looked_at<R: Files + AllocGlobal, E: Write>(
+fn looked_at<R: Files + AllocGlobal, E: TakesHints>(
     rt: &R,
     words: &StepsWords<'_>,
     err: &mut E,
@@ -73,7 +75,7 @@ fn read_paths<'a>(alloc: Global, words: &StepsWords<'a>) -> Result<Vec<&'a str>,
 }
 
 /// Plays the script, and prints by pieces. That nobody reads what is printed any more is not told.
-fn play<O: Write, E: Write>(
+fn play<O: Write, E: TakesHints>(
     alloc: Global,
     asked: &Asked,
     captures: &[&[u8]],
@@ -101,7 +103,7 @@ fn play<O: Write, E: Write>(
 }
 
 /// Reads LISTENERS and SCRIPT, looks at their lines, reads the captures, and plays the script.
-pub fn steps_files<R: Files + AllocGlobal, O: Write, E: Write>(
+pub fn steps_files<R: Files + AllocGlobal, O: Write, E: TakesHints>(
     rt: &R,
     words: &StepsWords<'_>,
     out: &mut O,
@@ -114,7 +116,11 @@ pub fn steps_files<R: Files + AllocGlobal, O: Write, E: Write>(
     let script = read_file(rt, words.script, err)?;
     let asked = match read_asked(alloc, listeners.as_slice(), script.as_slice()) {
         Ok(asked) => asked,
-        Err(fault) => return Err(tell_fault(fault, REFUSED, err)),
+        Err(fault) => {
+            let status = tell_fault(fault, REFUSED, err);
+            hint_asked(listeners.as_slice(), script.as_slice(), fault, err);
+            return Err(status);
+        }
     };
     looked_at(rt, words, err)?;
     let texts = read_captures(rt, words.inputs.as_slice(), err)?;
@@ -129,6 +135,9 @@ pub fn steps_files<R: Files + AllocGlobal, O: Write, E: Write>(
         out,
         err,
     );
+    if status == REFUSED {
+        hint_refused_steps(alloc, script.as_slice(), &asked, captures.as_slice(), err);
+    }
     match words.picture {
         Some(path) if status != REFUSED => {
             Ok(status.max(draw(rt, &asked, captures.as_slice(), path, err)))

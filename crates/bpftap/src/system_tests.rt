@@ -4,6 +4,7 @@
 use crate::program::run;
 use crate::run_files::{LateFiles, NamesFiles};
 use files::late::LateFile;
+use hints::TakesHints;
 use lines::telling::REFUSED;
 use std::alloc::{Allocator, Global};
 use std::fs::{Files, Metadata, OpenFile, OpenOptions};
@@ -99,7 +100,7 @@ impl<T: Wait> Wait for System<'_, T> {}
 
 /// Its captures are not replayed.
 impl<T> NamesFiles for (System<'_, T>, Global) {
-    fn named_files<'r, 'i, 'o, E: Write>(
+    fn named_files<'r, 'i, 'o, E: TakesHints>(
         &'r self,
         _alloc: Global,
         _words: &RunWords<'i>,

@@ -114,6 +114,10 @@ impl<W> Tallied<W> {
         }
     }
 
+    pub fn get_ref(&self) -> &W {
+        &self.inner
+    }
+
     /// How many bytes were taken, modulo 2^64.
     pub fn bytes(&self) -> u64 {
         self.bytes

@@ -4,12 +4,13 @@
 ghost use Rattle.std.specs.Prelude.{◌≤◌, IfErr};
 
 use crate::reading::tell_io;
+use hints::TakesHints;
 use lines::telling::{Path, REFUSED, tell_fault};
 use savefile::Fault;
 use std::alloc::{AllocError, AllocFailed, Global};
 use std::collections::BTreeSet;
 use std::fs::{Files, Metadata};
-use std::io::{ErrorKind, Write};
+use std::io::ErrorKind;
 use std::os::unix::fs::{FileTypeExt, MetadataExt};
 use std::{fs, io};
 
@@ -237,7 +238,7 @@ impl<'a> Taken<'a> {
 }
 
 /// Tells why files are refused, and answers the exit status.
-fn tell_path<E: Write>(fault: &PathFault<'_>, err: &mut E) -> u8
+fn tell_path<E: TakesHints>(fault: &PathFault<'_>, err: &mut E) -> u8
     ensures { result ≤ 3 }
 {
     match fault {
@@ -255,7 +256,7 @@ fn tell_path<E: Write>(fault: &PathFault<'_>, err: &mut E) -> u8
 ///
 /// Two paths are one file where they lead to one regular file or fifo, or to one new file; one that is read and one that is
 /// written also where they have the same text. `standard_output` is its path, where the command prints there.
-pub fn all_apart<R: Files + AllocGlobal, E: Write>(
+pub fn all_apart<R: Files + AllocGlobal, E: TakesHints>(
     rt: &R,
     standard_output: Option<&str>,
     read: &[&str],

@@ -2,25 +2,29 @@
 
 ghost use Rattle.std.specs.Prelude.{◌≤◌, IfErr};
 
+use hints::TakesHints;
+use hints::files::hint_reason;
 use lines::telling::{REFUSED, tell_device, tell_fault};
 use savefile::Fault;
 use std::fs::Files;
-use std::io::{ErrorKind, Write};
+use std::io::ErrorKind;
 use std::{fs, io};
 
 /// Tells that a file could not be opened or read, or that memory was refused.
-pub fn tell_io<E: Write>(error: &io::Error, path: &str, err: &mut E) -> u8
+pub fn tell_io<E: TakesHints>(error: &io::Error, path: &str, err: &mut E) -> u8
     ensures { result ≤ 3 }
 {
     if error.kind() == ErrorKind::OutOfMemory {
         tell_fault(Fault::NoMemory, REFUSED, err)
     } else {
-        tell_device(path, err)
+        let status = tell_device(path, err);
+        hint_reason(error, err);
+        status
     }
 }
 
 /// The bytes of a file, or, told on `err`, why there are none, and the exit status.
-pub fn read_file<R: Files + AllocGlobal, E: Write>(
+pub fn read_file<R: Files + AllocGlobal, E: TakesHints>(
     rt: &R,
     path: &str,
     err: &mut E,

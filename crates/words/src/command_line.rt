@@ -3,7 +3,7 @@ use crate::check::{CheckWords, check_command, check_words};
 use crate::run::{RunWords, run_command, run_words};
 use crate::steps::{StepsWords, steps_command, steps_words};
 use clap::error::ErrorKind;
-use clap::{Arg, ArgMatches, Command, Error};
+use clap::{Arg, ArgAction, ArgMatches, Command, Error};
 use lines::fields::snapshot_length;
 use savefile::{Order, Unit};
 use std::alloc::{AllocError, Global};
@@ -60,6 +60,17 @@ const CUT_EXAMPLES: &str = "Examples:
 
 Exit status: 0 clean; 1 wrong words, a refused expression, file or listing, or want of memory;
 2 a torn or bad record, after the packets before it; 3 a file or device failed.";
+
+/// The option that asks for hints, without its dashes.
+const HINTS: &str = "hints";
+
+/// Whether the words, the program's name first, ask for hints: by `--hints` before the subcommand.
+pub fn asks_hints<S: AsStr>(words: &[S]) -> bool {
+    match words.get(1) {
+        Some(word) => word.as_str().strip_prefix("--") == Some(HINTS),
+        None => false,
+    }
+}
 
 fn snap_arg<'a>(alloc: Global) -> Arg<'a> {
     Arg::new(alloc, "snap")
@@ -130,6 +141,12 @@ fn program<'a>(alloc: Global) -> Result<Command<'a>, AllocError> {
         .version(VERSION)
         .about(ABOUT)
         .after_help(EXAMPLES)
+        .arg(
+            Arg::new(alloc, "hints")
+                .long(HINTS)
+                .action(ArgAction::SetTrue)
+                .help("Say below a fault what helps to mend it, as where it is told on a terminal"),
+        )?
         .subcommand_required(true)
         .arg_required_else_help(true)
         .subcommand(check_command(alloc)?)?
