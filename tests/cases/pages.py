@@ -7,7 +7,8 @@ from .common import LIMIT, PROGRAM, ROOT, case
 from .manual import session
 
 # Pages whose commands need no other program than the system's own; docs/SCALE.md has a group of its own.
-RUN = ["README.md", "docs/RECIPES.md", "docs/LANGUAGE.md", "docs/FAULTS.md", "examples/README.md"]
+LESSONS = [f"examples/lessons/{page.name}" for page in sorted((ROOT / "examples" / "lessons").glob("*.md"))]
+RUN = ["README.md", "docs/RECIPES.md", "docs/LANGUAGE.md", "docs/FAULTS.md", "examples/README.md", *LESSONS]
 
 # A block between two lines of three backticks, or one that is indented by four blanks.
 BLOCK = re.compile(r"^```\w*\n(?P<fenced>(?s:.*?))^```$|^(?P<indented>(?:    .*\n)+)", re.M)
@@ -64,7 +65,7 @@ def pages_name_what_the_program_was_proved_with(scene):
 def pages():
     """All pages of the repository."""
     named = [ROOT / "README.md", ROOT / "CONTRIBUTING.md"]
-    return named + [page for place in ("docs/*.md", "crates/*/README.md", "examples/**/README.md")
+    return named + [page for place in ("docs/*.md", "crates/*/README.md", "examples/**/*.md")
                     for page in sorted(ROOT.glob(place))]
 
 
