@@ -59,7 +59,7 @@ fn give(inlet: &mut Inlet<'_>, placed: &Placed<'_>)
     }
 }
 
-/// Gives a packet to each feeder in turn.
+/// Gives a packet to each feeder.
 fn give_all(inlets: &mut Vec<Inlet<'_>>, placed: &Placed<'_>)
     requires n { placed.now.n < 2 ^ 64 - 2 }
     requires room { All (λ l. count is_arrival l.asks < 2 ^ 64 - 1) (map line_of inlets.old.items) }

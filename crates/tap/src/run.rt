@@ -126,11 +126,12 @@ pub fn replay(
     Ok((reports, playlist.record_fault))
 }
 
-/// Replays captures as [`replay`] does, with the same reports and faults, and also tells what each listener answered to
-/// each of its steps, and before it whether it was closed, the load of its store and the number of held messages.
+/// Replays captures by the same headline as [`replay`], and with the first fault that stands, and also tells the packets that
+/// arrived, what each listener answered to each of its steps, and before it whether it was closed, the load of its store and the
+/// number of held messages.
 ///
 /// Each step has one right answer, that of the plain list, and this is the one told. The answers take memory for each step, so
-/// that [`Fault::NoMemory`] can come where [`replay`] gives reports.
+/// that [`Fault::NoMemory`] can come where [`replay`] gives reports, or tells another fault.
 pub fn trace(
     alloc: Global,
     captures: &[&[u8]],
