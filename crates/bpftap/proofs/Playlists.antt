@@ -44,42 +44,42 @@ stopped-reads left broke text ps why (header, device, memory) told (inr (inr (in
 stopped-reads left broke text ps why (header, device, memory) told (inr (inr (inr (is, none)))) = absurd (memory is)
 
 -- such an end is told with the capture's number
-ends-at : (k : ℕ) (why : Fault) (torn : Option (ℕ × Fault)) → EndsAs (Capture k why) torn → OfRecord why × (torn ≡ Some (k, why))
-ends-at k (fault.TornRecord place) torn e = (((λ t r. r), (λ is. cc), (λ is. cc)), e)
-ends-at k (fault.BadFraction place) torn e = (((λ t r. r), (λ is. cc), (λ is. cc)), e)
-ends-at k (fault.TooLong place) torn e = (((λ t r. r), (λ is. cc), (λ is. cc)), e)
-ends-at k fault.ShortHeader torn e = absurd e
-ends-at k fault.NotSavefile torn e = absurd e
-ends-at k fault.Version torn e = absurd e
-ends-at k fault.LinkType torn e = absurd e
-ends-at k fault.NoMemory torn e = absurd e
-ends-at k fault.Device torn e = absurd e
-ends-at k fault.Failed torn e = absurd e
-ends-at k fault.CountFull torn e = absurd e
+ends-at : (k : ℕ) (why : Fault) (record_fault : Option (ℕ × Fault)) → EndsAs (Capture k why) record_fault → OfRecord why × (record_fault ≡ Some (k, why))
+ends-at k (fault.TornRecord place) record_fault e = (((λ t r. r), (λ is. cc), (λ is. cc)), e)
+ends-at k (fault.BadFraction place) record_fault e = (((λ t r. r), (λ is. cc), (λ is. cc)), e)
+ends-at k (fault.TooLong place) record_fault e = (((λ t r. r), (λ is. cc), (λ is. cc)), e)
+ends-at k fault.ShortHeader record_fault e = absurd e
+ends-at k fault.NotSavefile record_fault e = absurd e
+ends-at k fault.Version record_fault e = absurd e
+ends-at k fault.LinkType record_fault e = absurd e
+ends-at k fault.NoMemory record_fault e = absurd e
+ends-at k fault.Device record_fault e = absurd e
+ends-at k fault.Failed record_fault e = absurd e
+ends-at k fault.CountFull record_fault e = absurd e
 
 pub gives_one_playlist : {S : Type 0} (left : S → Option (List ℕ)) (failures : S → ℕ) (texts : List (List ℕ)) (total n : ℕ) (before after : List S) (arrivals : List Arrival)
-    (end : InterfaceEnd) (torn : Option (ℕ × Fault)) → map left before ≡ map Some texts → GivesPlaylist left failures total n before after arrivals end → EndsAs end torn
-    → (playlist : List Placed) × IsPlaylist n texts playlist torn × (arrivals ≡ map arrival_of playlist)
-gives_one_playlist left failures [] total n [] [] arrivals end torn told (none, clean) ends =
-    ([], (refl, subst (λ (e : InterfaceEnd). EndsAs e torn) clean ends), none)
-gives_one_playlist left failures [] total n [] (t ∷ ts) arrivals end torn told plays ends = absurd plays
-gives_one_playlist left failures [] total n (s ∷ ss) after arrivals end torn told plays ends = cc
-gives_one_playlist left failures (text ∷ texts) total n [] after arrivals end torn told plays ends = cc
-gives_one_playlist left failures (text ∷ texts) total n (s ∷ ss) [] arrivals end torn told plays ends = absurd plays
-gives_one_playlist left failures (text ∷ texts) total n (s ∷ ss) (t ∷ ts) arrivals end torn told (ps, more, is, inl (((header, read), back), rest)) ends =
+    (end : InterfaceEnd) (record_fault : Option (ℕ × Fault)) → map left before ≡ map Some texts → GivesPlaylist left failures total n before after arrivals end → EndsAs end record_fault
+    → (playlist : List Placed) × IsPlaylist n texts playlist record_fault × (arrivals ≡ map arrival_of playlist)
+gives_one_playlist left failures [] total n [] [] arrivals end record_fault told (none, clean) ends =
+    ([], (refl, subst (λ (e : InterfaceEnd). EndsAs e record_fault) clean ends), none)
+gives_one_playlist left failures [] total n [] (t ∷ ts) arrivals end record_fault told plays ends = absurd plays
+gives_one_playlist left failures [] total n (s ∷ ss) after arrivals end record_fault told plays ends = cc
+gives_one_playlist left failures (text ∷ texts) total n [] after arrivals end record_fault told plays ends = cc
+gives_one_playlist left failures (text ∷ texts) total n (s ∷ ss) [] arrivals end record_fault told plays ends = absurd plays
+gives_one_playlist left failures (text ∷ texts) total n (s ∷ ss) (t ∷ ts) arrivals end record_fault told (ps, more, is, inl (((header, read), back), rest)) ends =
     let first : left s ≡ Some text = cc in
     let others : map left ss ≡ map Some texts = cc in
-    let (list, playlist, same) = gives_one_playlist left failures texts total (n + 1) ss ts more end torn others rest ends in (
+    let (list, playlist, same) = gives_one_playlist left failures texts total (n + 1) ss ts more end record_fault others rest ends in (
       placed n 0 ps ++ list,
       inl (ps, list, reads-text (left s) text header ps None first read, refl, playlist),
       is ∙ ap (λ (as' : List Arrival). arrivals_from n 0 ps ++ as') same ∙ arrive-placed n 0 ps list,
     )
-gives_one_playlist left failures (text ∷ texts) total n (s ∷ ss) (t ∷ ts) arrivals Clean torn told (ps, more, is, inr ((bad, back), none, kept)) ends = absurd bad
-gives_one_playlist left failures (text ∷ texts) total n (s ∷ ss) (t ∷ ts) arrivals (Capture k why) torn told (ps, more, is, inr (((at, failed, full, stopped), back), none, kept)) ends =
+gives_one_playlist left failures (text ∷ texts) total n (s ∷ ss) (t ∷ ts) arrivals Clean record_fault told (ps, more, is, inr ((bad, back), none, kept)) ends = absurd bad
+gives_one_playlist left failures (text ∷ texts) total n (s ∷ ss) (t ∷ ts) arrivals (Capture k why) record_fault told (ps, more, is, inr (((at, failed, full, stopped), back), none, kept)) ends =
     let first : left s ≡ Some text = cc in
-    let (of_record, same) = ends-at k why torn ends in (
+    let (of_record, same) = ends-at k why record_fault ends in (
       placed n 0 ps,
       inr (ps, why, stopped-reads (left s) _ text ps why of_record first stopped, refl, same ∙ ap (λ (i : ℕ). Some (i, why)) at),
       is ∙ ap (λ (as' : List Arrival). arrivals_from n 0 ps ++ as') none ∙ arrive-placed n 0 ps [] ∙ ap (map arrival_of) (append-nil (placed n 0 ps)),
     )
-gives_one_playlist left failures (text ∷ texts) total n (s ∷ ss) (t ∷ ts) arrivals CountFull torn told plays ends = absurd ends
+gives_one_playlist left failures (text ∷ texts) total n (s ∷ ss) (t ∷ ts) arrivals CountFull record_fault told plays ends = absurd ends
