@@ -1,11 +1,13 @@
 -- What a program accepts of some packets and of more.
-use Rattle.std.proofs.Common.{◌≡◌, ℕ, ◌<◌, ◌+◌, List, [], ◌∷◌, ◌++◌, length, take, drop, min, refl, ap, ◌∙◌, sym, map, filter, get_or, lt-ltb}
+use Rattle.std.proofs.Common.{◌≡◌, ℕ, ◌<◌, ◌+◌, Bool, true, false, if◌then◌else◌, List, [], ◌∷◌, ◌++◌, length, length-append, take, drop, min, refl, ap, ◌∙◌, sym, map, filter, get_or, lt-ltb, arith}
 use Rattle.std.proofs.lemmas.List.{map-append, take_min, take_more, take-append-drop}
 use Rattle.std.proofs.lemmas.List.Elements.{filter-append}
 use Rattle.savefile.specs.declared.packet.Packet.{Packet}
 use Rattle.savefile.specs.Savefile.{packet}
 use Rattle.bpfvm.specs.declared.insn.Insn.{Insn}
+use Rattle.cutting.specs.declared.cut.Tally.{Tally}
 use Rattle.cutting.specs.Cut.{answer, accepts, cut_packet, accepted}
+use Rattle.cutting.specs.Outcome.{tallied, IsTally}
 
 -- nothing is accepted of nothing
 pub accepted-nil : (program : List Insn) (snap : ℕ) → accepted program snap [] ≡ []
@@ -49,3 +51,26 @@ accepted-split program snap ps i p below here =
     ap (accepted program snap) (sym (take-append-drop (i + 1) ps))
     ∙ accepted-append program snap (take (i + 1) ps) (drop (i + 1) ps)
     ∙ ap (λ (qs : List Packet). qs ++ accepted program snap (drop (i + 1) ps)) (accepted-more program snap ps i p below here)
+
+-- one packet more is counted, where the program accepts it too
+pub tally-more : (program : List Insn) (ps : List Packet) (p : Packet) (old new : Tally) → new ≡ tallied (accepts program p) old →
+    IsTally program ps old → IsTally program (ps ++ p ∷ []) new
+tally-more program ps p old new is counted = by_test (accepts program p) refl is
+  where
+    kept : length (filter (accepts program) (ps ++ p ∷ [])) ≡ length (filter (accepts program) ps) + length (filter (accepts program) (p ∷ []))
+    kept = ap length (filter-append (accepts program) ps (p ∷ [])) ∙ length-append (filter (accepts program) ps) (filter (accepts program) (p ∷ []))
+
+    one : length (ps ++ p ∷ []) ≡ length ps + 1
+    one = length-append ps (p ∷ [])
+
+    by_test : (b : Bool) → accepts program p ≡ b → new ≡ tallied b old → IsTally program (ps ++ p ∷ []) new
+    by_test true here told = record {
+      read = ap (λ (t : Tally). t.read) told ∙ ap (λ n. n + 1) counted.read ∙ sym one;
+      written = ap (λ (t : Tally). t.written) told ∙ ap (λ n. n + 1) counted.written
+          ∙ sym (kept ∙ ap (λ (b : Bool). length (filter (accepts program) ps) + length (if b then p ∷ [] else [])) here);
+    }
+    by_test false here told = record {
+      read = ap (λ (t : Tally). t.read) told ∙ ap (λ n. n + 1) counted.read ∙ sym one;
+      written = ap (λ (t : Tally). t.written) told ∙ counted.written
+          ∙ sym (kept ∙ ap (λ (b : Bool). length (filter (accepts program) ps) + length (if b then p ∷ [] else [])) here ∙ omega arith);
+    }

@@ -1,12 +1,17 @@
 -- The filter that a command is given.
-use Rattle.std.specs.Prelude.{◌≡◌, ℕ, List, [], Option, Some, None}
+use Rattle.std.specs.Prelude.{◌≡◌, ℕ, List, [], ◌++◌, Option, Some, None}
 use Rattle.std.specs.Io.KnownBytes.{Appends, Keeps}
 use Rattle.bpfvm.specs.declared.insn.Insn.{Insn}
 use Rattle.bpfvm.specs.Listing.{IsListing, IsRefusedListing, listing_of}
 use Rattle.bpfvm.specs.Validity.{IsValidProgram}
+use Rattle.filterlang.specs.Texts.{ReadsAs, IsRefusalOf}
+use Rattle.filterlang.specs.Trees.{Tree}
+use Rattle.canonical.specs.Canonical.{canonical}
+use Rattle.filtergen.specs.declared.expression.ExpressionFault.TheVariants as faults
 use Rattle.filtergen.specs.Expressions.{IsProgramOf, IsUncompiled}
 use Rattle.lines.specs.Sending.{TakesPart}
 use Rattle.lines.specs.Snapshot.{meant}
+use Rattle.lines.specs.Telling.{end_of_line}
 use Rattle.cutting.specs.declared.filter.FilterFault.{FilterFault}
 use Rattle.cutting.specs.declared.filter.FilterFault.TheVariants.{Twice, Listing, Expression}
 use Rattle.cutting.specs.declared.check.Form.{Form}
@@ -36,6 +41,18 @@ IsNoFilter listing expr snap fault = ⊥
 abbrev pub Prints : Option (List ℕ) → Option (List ℕ) → List ℕ → Type 0
 Prints old new text = (program : List Insn) × IsProgramOf text 262144 program × Appends old new (listing_of program)
 
+-- what is printed of an expression as it was read: the canonical text of the tree that it reads as, on a line
+abbrev pub PrintsRead : Option (List ℕ) → Option (List ℕ) → List ℕ → Type 0
+PrintsRead old new text = (tree : Tree) × ReadsAs text tree × Appends old new (canonical tree ++ end_of_line)
+
+-- Why an expression is not printed so: it reads as no tree, and nothing was taken; or it reads as one, but memory for its text
+-- was wanting, or the writer failed, which took a beginning of it.
+abbrev pub IsUnread : Option (List ℕ) → Option (List ℕ) → List ℕ → PrintFault → Type 0
+IsUnread old new text (print.Expression (faults.Text fault)) = IsRefusalOf text fault × Keeps old new
+IsUnread old new text (print.Expression (faults.Tree refusal)) = ⊥
+IsUnread old new text print.NoMemory = (tree : Tree) × ReadsAs text tree × Keeps old new
+IsUnread old new text (print.Output error) = (tree : Tree) × ReadsAs text tree × TakesPart old new (canonical tree ++ end_of_line)
+
 -- Why a program is not printed: memory for its text was wanting, and nothing was taken; or the writer failed, which took a
 -- beginning of the listing, where that is the form.
 abbrev pub IsUnshown : Option (List ℕ) → Option (List ℕ) → Form → List Insn → PrintFault → Type 0
@@ -48,3 +65,8 @@ IsUnshown old new form program (print.Output error) = form ≡ forms.Listing →
 abbrev pub IsUnchecked : Option (List ℕ) → Option (List ℕ) → List ℕ → PrintFault → Type 0
 IsUnchecked old new text (print.Expression fault) = IsUncompiled text 262144 fault × Keeps old new
 IsUnchecked old new text fault = (program : List Insn) × IsProgramOf text 262144 program × IsUnshown old new forms.Listing program fault
+
+-- the writer failed, and took a beginning of a text
+abbrev pub IsPart : Option (List ℕ) → Option (List ℕ) → List ℕ → PrintFault → Type 0
+IsPart old new text (print.Output error) = TakesPart old new text
+IsPart old new text fault = ⊥

@@ -1,5 +1,5 @@
 pub mod Cut
-pub mod Copying
 pub mod Outcome
+pub mod Copying
 pub mod Telling
 pub mod Filter

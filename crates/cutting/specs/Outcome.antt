@@ -1,5 +1,5 @@
 -- How a cut ends, and what its sink took.
-use Rattle.std.specs.Prelude.{◌≡◌, ℕ, ◌-◌, ◌^◌, ◌<◌, ◌≤◌, List, [], ◌++◌, length, Option, Some, None, IfSome, ◌⊎◌}
+use Rattle.std.specs.Prelude.{◌≡◌, ℕ, ◌+◌, ◌-◌, ◌^◌, ◌<◌, ◌≤◌, Bool, true, false, List, [], ◌++◌, length, filter, Option, Some, None, IfSome, ◌⊎◌}
 use Rattle.std.specs.Io.KnownBytes.{Appends, Consumes}
 use Rattle.savefile.specs.declared.fault.Fault.{Fault}
 use Rattle.savefile.specs.declared.fault.Fault.TheVariants.{Device, NoMemory, CountFull}
@@ -12,7 +12,8 @@ use Rattle.bpfvm.specs.declared.insn.Insn.{Insn}
 use Rattle.cutting.specs.declared.cut.End.{End}
 use Rattle.cutting.specs.declared.cut.End.TheVariants.{Clean, Input, Output}
 use Rattle.cutting.specs.declared.cut.CutEnd.{CutEnd}
-use Rattle.cutting.specs.Cut.{cut_text}
+use Rattle.cutting.specs.declared.cut.Tally.{Tally}
+use Rattle.cutting.specs.Cut.{accepts, cut_text}
 
 -- A capture, in whatever order and unit, stops behind these packets: its rest has no whole record.
 pub record StopsBehind (text : List ℕ) (packets : List Packet) : Type 0 where
@@ -28,14 +29,25 @@ abbrev pub end_behind : Option Fault → End
 end_behind None = Clean
 end_behind (Some fault) = Input fault
 
+-- how many packets were read, and how many of these a program accepts
+pub record IsTally (program : List Insn) (packets : List Packet) (tally : Tally) : Type 0 where
+  pub read : tally.read ≡ length packets
+  pub written : tally.written ≡ length (filter (accepts program) packets)
+
+-- one packet more was read, and counted where the program accepts it
+abbrev pub tallied : Bool → Tally → Tally
+tallied true tally = record { read = tally.read + 1; written = tally.written + 1 }
+tallied false tally = record { read = tally.read + 1; written = tally.written }
+
 -- All was sent: every packet of the capture that the program accepts, cut, up to the end of the capture or to its first
--- torn or bad record.
-pub record AllSent (text : List ℕ) (program : List Insn) (snap : ℕ) (order : Order) (unit : TimeUnit) (end : End) (sent : List ℕ) : Type 0 where
+-- torn or bad record; and they were counted.
+pub record AllSent (text : List ℕ) (program : List Insn) (snap : ℕ) (order : Order) (unit : TimeUnit) (tally : Tally) (end : End) (sent : List ℕ) : Type 0 where
   pub packets : List Packet
   pub fault : Option Fault
   pub reads : IsCapture text packets fault
   pub ends : end ≡ end_behind fault
   pub whole : sent ≡ cut_text program snap order unit packets
+  pub counted : IsTally program packets tally
 
 -- It broke off. The source had given these bytes.
 abbrev pub BrokeOff : List ℕ → List ℕ → List Insn → ℕ → Order → TimeUnit → End → List ℕ → Type 0
@@ -69,4 +81,4 @@ pub record Cuts {R W : Type 0} (left : R → Option (List ℕ)) (taken : W → O
   pub gave : Consumes (left from) (left end.source) given
   pub sent : List ℕ
   pub took : Took taken to end.sink end.sent sent
-  pub outcome : AllSent text program snap order unit end.end sent ⊎ BrokeOff text given program snap order unit end.end sent
+  pub outcome : AllSent text program snap order unit end.tally end.end sent ⊎ BrokeOff text given program snap order unit end.end sent

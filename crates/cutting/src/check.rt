@@ -1,13 +1,18 @@
-//! A filter expression that is looked at: the function under `bpftap check`.
+//! A filter expression that is looked at: the functions under `bpftap check`.
 
-ghost use Rattle.std.specs.Prelude.{◌≡◌, IfOk, OnOk, IfErr};
+ghost use Rattle.std.specs.Prelude.{◌≡◌, ◌++◌, IfOk, OnOk, IfErr, string_bytes};
 ghost use Rattle.std.specs.Io.KnownBytes.{Appends};
 ghost use Rattle.bpfvm.specs.Listing.{listing_of};
-ghost use Rattle.cutting.specs.Filter.{Prints, IsUnchecked, IsUnshown};
+ghost use Rattle.filterlang.specs.Trees.{tree_of};
+ghost use Rattle.lines.specs.Telling.{end_of_line};
+ghost use Rattle.canonical.specs.Canonical.{canonical};
+ghost use Rattle.cutting.specs.Filter.{Prints, PrintsRead, IsPart, IsUnchecked, IsUnread, IsUnshown};
 ghost use Rattle.cutting.specs.declared.check.Form.TheVariants.{Listing};
 
 use bpfvm::{NoMemory, Program, write_image, write_listing};
+use canonical::Canonical;
 use filtergen::{ExpressionFault, compile_text};
+use filterlang::{Expr, parse};
 use lines::MAX_SNAP;
 use lines::sending::send;
 use std::alloc::Global;
@@ -62,6 +67,17 @@ fn text_of(alloc: Global, program: &Program, form: Form) -> Result<Vec<u8>, NoMe
     }
 }
 
+/// Prints a text. The fault is [`PrintFault::Output`], and then a beginning of it was printed.
+fn print<O: Write>(text: &[u8], out: &mut O) -> Result<(), PrintFault>
+    ensures printed { OnOk result (Appends (O.contents out.old) (O.contents out.new) text.now) }
+    ensures fault { IfErr result (IsPart (O.contents out.old) (O.contents out.new) text.now) }
+{
+    match send(text, out) {
+        Ok(()) => Ok(()),
+        Err(error) => Err(PrintFault::Output(error)),
+    }
+}
+
 /// Prints a program in one of two forms. The fault is [`PrintFault::NoMemory`], and then nothing was printed, or
 /// [`PrintFault::Output`]: `out` failed, and took a beginning of the text and no more. What the text of an image says is
 /// tested, and no clause speaks of it.
@@ -75,10 +91,35 @@ pub fn show<O: Write>(
     ensures fault { IfErr result (IsUnshown (O.contents out.old) (O.contents out.new) form program.now) }
 {
     match text_of(alloc, program, form) {
-        Ok(text) => match send(text.as_slice(), out) {
-            Ok(()) => Ok(()),
-            Err(error) => Err(PrintFault::Output(error)),
-        },
+        Ok(text) => print(text.as_slice(), out),
+        Err(_) => Err(PrintFault::NoMemory),
+    }
+}
+
+/// The line of an expression as it was read.
+fn read_line(alloc: Global, expr: &Expr) -> Result<String, NoMemory>
+    ensures { IfOk result (λ line. string_bytes line ≡ canonical (tree_of expr.now) ++ end_of_line) }
+{
+    let mut line = String::new(alloc);
+    writeln!(line, "{}", Canonical(expr))?;
+    Ok(line)
+}
+
+/// Prints an expression as it was read, on one line: its canonical text, in which all that was inherited is written out. It need
+/// not compile.
+///
+/// The fault is that of a text which is no expression; or [`PrintFault::NoMemory`], and then nothing was printed; or
+/// [`PrintFault::Output`]: `out` failed, and took a beginning of the line and no more.
+pub fn show_read<O: Write>(alloc: Global, expr: &str, out: &mut O) -> Result<(), PrintFault>
+    ensures printed { OnOk result (PrintsRead (O.contents out.old) (O.contents out.new) expr.now) }
+    ensures fault { IfErr result (IsUnread (O.contents out.old) (O.contents out.new) expr.now) }
+{
+    let expr = match parse(alloc, expr) {
+        Ok(expr) => expr,
+        Err(fault) => return Err(PrintFault::Expression(ExpressionFault::Text(fault))),
+    };
+    match read_line(alloc, &expr) {
+        Ok(line) => print(line.as_bytes(), out),
         Err(_) => Err(PrintFault::NoMemory),
     }
 }

@@ -1,6 +1,6 @@
 //! A capture cut by a filter: the function under `bpftap cut`.
 
-ghost use Rattle.std.specs.Prelude.{◌≡◌, ◌≢◌, ℕ, List, [], ◌∷◌, ◌++◌, Option, Err, ◌↔◌};
+ghost use Rattle.std.specs.Prelude.{◌≡◌, ◌≢◌, ℕ, List, [], ◌∷◌, ◌++◌, Option, Err, ◌↔◌, ◌+◌, ◌<◌, ◌≤◌, ◌^◌};
 ghost use Rattle.std.specs.Io.KnownBytes.{Consumes};
 ghost use Rattle.savefile.specs.Savefile.{IsWritable};
 ghost use Rattle.savefile.specs.declared.header.Header.{Header};
@@ -9,9 +9,9 @@ ghost use Rattle.savefile.specs.declared.writing.Writer.{Writer};
 ghost use Rattle.savefile.specs.Reader.{HasGiven};
 ghost use Rattle.savefile.specs.Writer.{HasWritten};
 ghost use Rattle.cutting.specs.Copying.{Copied, Wrote};
-ghost use Rattle.cutting.specs.Cut.{accepted};
+ghost use Rattle.cutting.specs.Cut.{accepts, accepted};
 ghost use Rattle.lines.specs.Snapshot.{meant};
-ghost use Rattle.cutting.specs.Outcome.{Cuts};
+ghost use Rattle.cutting.specs.Outcome.{tallied, Cuts};
 
 use bpfvm::Program;
 use lines::meant;
@@ -30,6 +30,21 @@ pub enum End {
     Output(Fault),
 }
 
+/// How many packets were read, and how many of these were written.
+#[derive(Clone, Copy, Debug, PartialEq, Eq)]
+pub struct Tally {
+    pub read: u64,
+    pub written: u64,
+}
+
+impl Tally {
+    /// No packet.
+    pub const NONE: Tally = Tally {
+        read: 0,
+        written: 0,
+    };
+}
+
 /// What a cut gives back.
 #[derive(Debug, Drop)]
 pub struct CutEnd<R, W> {
@@ -37,6 +52,9 @@ pub struct CutEnd<R, W> {
     pub sink: W,
     /// How many bytes the sink took in this call.
     pub sent: u64,
+    /// How many packets the capture has, and how many of these the program accepts, where it was read to its end or to a torn
+    /// or bad record, and all was written.
+    pub tally: Tally,
     pub end: End,
 }
 
@@ -77,19 +95,30 @@ pub fn cut<R: Source, W: Sink>(
                 source,
                 sink: to,
                 sent: 0,
+                tally: Tally::NONE,
                 end: End::Input(fault),
             };
         }
     };
     // What was sent of the text of some packets begins the text of all.
     growing_text();
-    let (sink, sent, end) = write_accepted(&mut reader, program, snap, order, unit, to);
+    let ended = write_accepted(&mut reader, program, snap, order, unit, to);
     CutEnd {
         source: reader.close(),
-        sink,
-        sent,
-        end,
+        sink: ended.sink,
+        sent: ended.sent,
+        tally: ended.tally,
+        end: ended.end,
     }
+}
+
+/// What copying came to.
+#[derive(Drop)]
+struct Ended<W> {
+    sink: W,
+    sent: u64,
+    tally: Tally,
+    end: End,
 }
 
 /// The header, and then each accepted packet.
@@ -100,13 +129,13 @@ fn write_accepted<R: Source, W: Sink>(
     order: Order,
     unit: Unit,
     to: W,
-) -> (W, u64, End)
+) -> Ended<W>
     ensures writes { (from : Option (List ℕ)) (header : Header) → HasGiven R.left from header [] reader.old →
-        (writer : Writer W) × (result.0 ≡ writer.sink) × (result.1 ≡ writer.sent)
-        × Copied W.taken from (R.left reader.new.source) header (W.taken to) order unit (meant snap) program.now (meant snap) result.2 writer }
+        (writer : Writer W) × (result.sink ≡ writer.sink) × (result.sent ≡ writer.sent)
+        × Copied W.taken from (R.left reader.new.source) header (W.taken to) order unit (meant snap) program.now (meant snap) result.tally result.end writer }
     ensures taken { (bytes : List ℕ) × Consumes (R.left reader.old.source) (R.left reader.new.source) bytes }
-    ensures source_broke { (result.2 ≡ End.Input Fault.Device) ↔ (R.failures reader.new.source ≢ R.failures reader.old.source) }
-    ensures sink_broke { (result.2 ≡ End.Output Fault.Device) ↔ (W.failures result.0 ≢ W.failures to) }
+    ensures source_broke { (result.end ≡ End.Input Fault.Device) ↔ (R.failures reader.new.source ≢ R.failures reader.old.source) }
+    ensures sink_broke { (result.end ≡ End.Output Fault.Device) ↔ (W.failures result.sink ≢ W.failures to) }
 {
     let snap = meant(snap);
     let (mut writer, opened) = Writer::open(to, order, unit, snap);
@@ -114,11 +143,21 @@ fn write_accepted<R: Source, W: Sink>(
         // No packet, too, begins what the capture holds.
         given_so_far(reader);
         let (sink, sent) = writer.close();
-        return (sink, sent, End::Output(fault));
+        return Ended {
+            sink,
+            sent,
+            tally: Tally::NONE,
+            end: End::Output(fault),
+        };
     }
-    let end = copy_accepted(reader, program, snap, &mut writer);
+    let (tally, end) = copy_accepted(reader, program, snap, &mut writer);
     let (sink, sent) = writer.close();
-    (sink, sent, end)
+    Ended {
+        sink,
+        sent,
+        tally,
+        end,
+    }
 }
 
 /// Each accepted packet, written before the next one is read.
@@ -127,50 +166,57 @@ fn copy_accepted<R: Source, W: Sink>(
     program: &Program,
     snap: u32,
     writer: &mut Writer<W>,
-) -> End
+) -> (Tally, End)
     ensures copies { (from : Option (List ℕ)) (header : Header) (to : Option (List ℕ)) (order : Order) (unit : Unit) (head : ℕ) →
         HasGiven R.left from header [] reader.old → HasWritten W.taken to order unit head [] writer.old →
-        Copied W.taken from (R.left reader.new.source) header to order unit head program.now snap result writer.new }
+        Copied W.taken from (R.left reader.new.source) header to order unit head program.now snap result.0 result.1 writer.new }
     ensures taken { (bytes : List ℕ) × Consumes (R.left reader.old.source) (R.left reader.new.source) bytes }
-    ensures source_broke { (result ≡ End.Input Fault.Device) ↔ (R.failures reader.new.source ≢ R.failures reader.old.source) }
-    ensures sink_broke { (result ≡ End.Output Fault.Device) ↔ (W.failures writer.new.sink ≢ W.failures writer.old.sink) }
+    ensures source_broke { (result.1 ≡ End.Input Fault.Device) ↔ (R.failures reader.new.source ≢ R.failures reader.old.source) }
+    ensures sink_broke { (result.1 ≡ End.Output Fault.Device) ↔ (W.failures writer.new.sink ≢ W.failures writer.old.sink) }
 {
+    let mut tally = Tally::NONE;
     loop {
         match reader.advance() {
             Ok(true) => {
                 // Where the sink breaks, what was read so far begins what the capture holds.
                 given_so_far(reader);
-                match put_one(writer, &reader.packet(), program, snap) {
+                match put_one(writer, &reader.packet(), program, snap, &mut tally) {
                     Ok(()) => {}
-                    Err(fault) => return End::Output(fault),
+                    Err(fault) => return (tally, End::Output(fault)),
                 }
             }
-            Ok(false) => return End::Clean,
-            Err(fault) => return End::Input(fault),
+            Ok(false) => return (tally, End::Clean),
+            Err(fault) => return (tally, End::Input(fault)),
         }
     }
 }
 
-/// A packet, cut, where the program accepts it.
+/// A packet, cut, where the program accepts it. It is counted.
 #[inline]
 fn put_one<W: Sink>(
     writer: &mut Writer<W>,
     packet: &PacketRef<'_>,
     program: &Program,
     snap: u32,
+    tally: &mut Tally,
 ) -> Result<(), Fault>
-    requires { IsWritable packet.now }
+    requires writable { IsWritable packet.now }
+    requires room { tally.now.read + 1 < 2 ^ 64 }
+    requires fewer { tally.now.written ≤ tally.now.read }
     ensures writes { (start : Option (List ℕ)) (order : Order) (unit : Unit) (head : ℕ) (before : List Packet) →
         HasWritten W.taken start order unit head before writer.old →
         Wrote W.taken start order unit head (before ++ accepted program.now snap (packet.now ∷ [])) result writer.new }
+    ensures counts { tally.new ≡ tallied (accepts program.now packet.now) tally.old }
     ensures sink_broke { (result ≡ Err Fault.Device) ↔ (W.failures writer.new.sink ≢ W.failures writer.old.sink) }
 {
     // The text grows by this packet's record.
     growing_text();
     let verdict = bpfvm::run(program, packet.bytes, packet.len);
+    tally.read += 1;
     if verdict == 0 {
         return Ok(());
     }
+    tally.written += 1;
     let kept = (verdict.min(snap) as usize).min(packet.bytes.len());
     writer.put(packet.sec, packet.nanos, packet.len, &packet.bytes[..kept])
 }

@@ -33,6 +33,19 @@ pub fn tell<R, W, E: Write>(end: &CutEnd<R, W>, from: &str, to: &str, err: &mut 
     }
 }
 
+/// Tells how many packets were written of how many, where the capture was read to its end or to a torn or bad record, and all
+/// was written: a line `67 of 253 packets`. Where standard error fails there is nobody to tell it to.
+pub fn tell_count<R, W, E: Write>(end: &CutEnd<R, W>, err: &mut E) {
+    let tally = end.tally;
+    match end.end {
+        End::Clean | End::Input(Fault::TornRecord(_) | Fault::BadFraction(_) | Fault::TooLong(_)) =>
+            {
+                let _ = writeln!(err, "{} of {} packets", tally.written, tally.read);
+            }
+        _ => {}
+    }
+}
+
 /// Tells why a program was not printed, if it was not, and answers the exit status.
 pub fn tell_print<E: Write>(printed: Result<(), PrintFault>, err: &mut E) -> u8
     ensures { result ≡ print_status printed }

@@ -5,7 +5,7 @@ use Rattle.filterlang.specs.Trees as trees
 use Rattle.filtergen.specs.declared.verdict.Verdict.{Verdict}
 use Rattle.filtergen.specs.declared.verdict.Verdict.TheVariants.{Yes, No, Abort}
 use Rattle.filtergen.specs.Meaning.{Packet, and_then, or_else, opposite, meaning}
-use Rattle.explaining.specs.Asking.{Question, question, where_yes, where_no, questions, turned, LastDecides}
+use Rattle.explaining.specs.Asking.{Question, question, where_yes, where_no, questions, turned, IsLast, LastDecides}
 use Rattle.explaining.specs.Laws.{TheLastDecides}
 
 -- the last of two lists is that of the second
@@ -37,7 +37,7 @@ disjunction negated No w asked others first second = behind asked others (turned
 disjunction negated Abort w asked others first second = alone asked (turned negated Abort) first
 
 -- one more `not` turns once more
-turned-not : (negated : Bool) (v : Verdict) → turned (not negated) v ≡ turned negated (opposite v)
+pub turned-not : (negated : Bool) (v : Verdict) → turned (not negated) v ≡ turned negated (opposite v)
 turned-not true Yes = refl
 turned-not true No = refl
 turned-not true Abort = refl
@@ -57,3 +57,24 @@ last-decides negated (trees.both t u) p =
     conjunction negated (meaning t p) (meaning u p) (questions negated t p) (questions negated u p) (last-decides negated t p) (last-decides negated u p)
 last-decides negated (trees.either t u) p =
     disjunction negated (meaning t p) (meaning u p) (questions negated t p) (questions negated u p) (last-decides negated t p) (last-decides negated u p)
+
+-- ---- The last of what is asked, part by part
+
+-- of a part alone
+pub last_single : (negated : Bool) (t : Tree) (p : Packet) (q : Question) → q ≡ question negated t p → IsLast q (question negated t p ∷ [])
+last_single negated t p q is = ([], ap (λ (x : Question). x ∷ []) (sym is))
+
+-- what the second operand ends with is the end of both
+pub last_behind : (asked others : List Question) (q : Question) → IsLast q others → IsLast q (asked ++ others)
+last_behind asked others q (front, is) = (asked ++ front, ap (λ (l : List Question). asked ++ l) is ∙ sym (append_assoc asked front (q ∷ [])))
+
+-- and where the second is not asked, the end of the first
+pub last_alone : (asked : List Question) (q : Question) → IsLast q asked → IsLast q (asked ++ [])
+last_alone asked q (front, is) = (front, append-nil asked ∙ is)
+
+-- of `and` behind a Yes, and of `or` behind a No
+pub last_yes : (asked others : List Question) (v : Verdict) (q : Question) → v ≡ Yes → IsLast q others → IsLast q (asked ++ where_yes v others)
+last_yes asked others v q is last = rw is (last_behind asked others q last)
+
+pub last_no : (asked others : List Question) (v : Verdict) (q : Question) → v ≡ No → IsLast q others → IsLast q (asked ++ where_no v others)
+last_no asked others v q is last = rw is (last_behind asked others q last)

@@ -53,6 +53,10 @@ abbrev pub turned : Bool → Verdict → Verdict
 turned true verdict = opposite verdict
 turned false verdict = verdict
 
+-- the last of those that are asked
+abbrev pub IsLast : Question → List Question → Type 0
+IsLast last asked = (front : List Question) × (asked ≡ front ++ last ∷ [])
+
 -- the last of these decides: this verdict is its own, turned where an odd number of `not` stand over it
 pub record LastDecides (asked : List Question) (verdict : Verdict) : Type 0 where
   pub front : List Question

@@ -27,7 +27,7 @@ pub struct Asked<'a> {
 }
 
 /// Why a part aborts that answered this.
-fn cause_of(part: &Expr, verdict: Verdict, packet: &[u8], wire: u32) -> Option<Cause>
+pub(crate) fn cause_of(part: &Expr, verdict: Verdict, packet: &[u8], wire: u32) -> Option<Cause>
     ensures { result ≡ where_abort verdict (why (tree_of part.now) (packet_of packet.now wire)) }
 {
     match verdict {
@@ -61,7 +61,7 @@ fn ask_part<'a>(
 }
 
 /// The verdict that a `not` makes of another.
-fn opposite(verdict: Verdict) -> Verdict
+pub(crate) fn opposite(verdict: Verdict) -> Verdict
     ensures { result ≡ opposite verdict }
 {
     match verdict {

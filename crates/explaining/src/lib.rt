@@ -4,8 +4,10 @@
 
 mod asking;
 mod cause;
+mod decided;
 pub mod laws;
 mod missing;
 
 pub use asking::{Asked, explain};
 pub use cause::Cause;
+pub use decided::decide;

@@ -5,3 +5,4 @@ pub mod Left
 pub mod Added
 pub mod Reading
 pub mod Taking
+pub mod Nine

@@ -4,3 +4,4 @@ pub mod Sending
 pub mod Files
 pub mod Fields
 pub mod Texts
+pub mod Time

@@ -9,6 +9,7 @@ pub mod line;
 pub mod sending;
 pub mod snapshot;
 pub mod telling;
+pub mod time;
 
 pub use capture_fault::CaptureFaultText;
 pub use fault::LineFault;

@@ -1,5 +1,5 @@
 -- The text that is printed of reports.
-use Rattle.std.specs.Prelude.{ℕ, ◌-◌, List, ◌++◌, length, replicate, codes}
+use Rattle.std.specs.Prelude.{ℕ, List, ◌++◌, length, codes}
 use Rattle.std.specs.List.{flat_map}
 use Rattle.std.specs.Fmt.{decimal}
 use Rattle.listener.specs.declared.message.Message.{Message}
@@ -7,10 +7,7 @@ use Rattle.tap.specs.declared.report.Report.{Report}
 use Rattle.tap.specs.Headline.{held_in}
 use Rattle.lines.specs.Telling.{end_of_line}
 use Rattle.lines.specs.Texts.{numbered}
-
--- a number in decimal, with zeros in front up to nine digits
-abbrev pub nine_digits : ℕ → List ℕ
-nine_digits n = replicate (9 - length (decimal n)) 48 ++ decimal n
+use Rattle.lines.specs.Time.{nine_digits}
 
 -- `capture C place P time S.NNNNNNNNN len W kept K`
 unfoldable pub message_line : Message → List ℕ

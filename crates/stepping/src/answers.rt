@@ -7,10 +7,10 @@ ghost use Rattle.stepping.specs.Playing.{TakesSome};
 ghost use Rattle.stepping.specs.Reasons.{answer_line, reason};
 
 use crate::reasons::{ArrivalEnd, Standing, flush_end, read_end};
-use crate::reports::NineDigits;
 use crate::steps::Asked;
 use lines::Line;
 use lines::sending::send;
+use lines::time::NineDigits;
 use listener::Fed;
 use std::alloc::{AllocError, Global};
 use std::io;

@@ -1,30 +1,17 @@
 //! What is printed of reports.
 
-ghost use Rattle.std.specs.Prelude.{◌≡◌, OnOk, Some};
+ghost use Rattle.std.specs.Prelude.{◌≡◌, OnOk};
 ghost use Rattle.lines.specs.Sending.{Takes};
 ghost use Rattle.lines.specs.Texts.{numbered};
-ghost use Rattle.stepping.specs.Printed.{nine_digits, message_line, message_lines, batch_lines, batch_line, listener_line, report_lines, printed_reports};
+ghost use Rattle.stepping.specs.Printed.{message_line, message_lines, batch_lines, batch_line, listener_line, report_lines, printed_reports};
 
 use lines::Line;
 use lines::sending::send;
+use lines::time::NineDigits;
 use listener::Message;
-use std::fmt::{Display, Formatter};
+use std::io;
 use std::io::Write;
-use std::{fmt, io};
 use tap::Report;
-
-/// A fraction of a second, in nanoseconds: nine digits, with zeros in front.
-#[derive(Clone, Copy)]
-pub struct NineDigits(pub u32);
-
-impl Display for NineDigits {
-    ghost output = { λ n. Some (nine_digits n.0) };
-
-    #[tactic(auto, using(crate::proofs::Nine::nine_padded))]
-    fn fmt<W: fmt::Write>(&self, f: &mut Formatter<W>) -> fmt::Result {
-        write!(f, "{:09}", self.0)
-    }
-}
 
 /// Puts the line of a message in place of what the line has.
 #[tactic(auto, unfolding(crate::specs::Printed::message_line))]

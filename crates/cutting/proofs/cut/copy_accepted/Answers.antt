@@ -1,10 +1,11 @@
-use Rattle.std.proofs.Common.{◌∙◌, ◌++◌, ◌∷◌, [], inl, inr, sym, ap, subst, refl, List, Err}
+use Rattle.std.proofs.Common.{rules, ◌≡◌, arith, ◌∙◌, ◌++◌, ◌∷◌, [], inl, inr, sym, ap, subst, refl, List, Err}
 use Rattle.std.proofs.KnownBytes.{Consumes-nil, Consumes-trans}
 use Rattle.savefile.specs.declared.packet.Packet.{Packet}
 use Rattle.savefile.specs.Writer.{HasWritten}
 use Rattle.cutting.specs.Copying.{Wrote}
-use Rattle.cutting.specs.Cut.{accepted}
-use Rattle.cutting.proofs.Accepted.{accepted-append, accepted-nil}
+use Rattle.cutting.specs.Cut.{accepts, accepted}
+use Rattle.cutting.specs.Outcome.{tallied}
+use Rattle.cutting.proofs.Accepted.{accepted-append, accepted-nil, tally-more}
 use Rattle.cutting.proofs.Writing.{same-unless-different}
 use Rattle.cutting.proofs.cut.copy_accepted.Goals as goal
 
@@ -14,7 +15,10 @@ loop-reader-init g c = record {
     [],
     given,
     subst (λ (ps : List Packet). HasWritten g.W.Sink.taken to order unit head ps c.args.writer.now) (sym (accepted-nil c.args.program.now c.args.snap)) written,
+    record { read = refl; written = refl },
   );
+  read = omega arith;
+  written = omega arith;
   taken = ([], Consumes-nil _);
   source_works = refl;
   sink_works = refl;
@@ -24,14 +28,18 @@ pub loop-reader-preserved : goal.loop-reader-preserved
 loop-reader-preserved g c = record {
   copies = λ from header to order unit head given written.
       let program = c.args.program.now in
-      let (packets, gives, wrote) = c.loop-reader.invariant.copies from header to order unit head given written in
+      let (packets, gives, wrote, counted) = c.loop-reader.invariant.copies from header to order unit head given written in
       let p = c.advance.new.self.lent in (
         packets ++ p ∷ [],
         c.in-Ok-true.ensures.packet from header packets gives (cc),
         subst (λ (ps : List Packet). HasWritten g.W.Sink.taken to order unit head ps c.put_one.new.writer)
             (ap (λ (q : Packet). accepted program c.args.snap packets ++ accepted program c.args.snap (q ∷ [])) c.packet.ensures ∙ sym (accepted-append program c.args.snap packets (p ∷ [])))
             (c.in-Ok.ensures.writes to order unit head (accepted program c.args.snap packets) wrote),
+        tally-more program packets p c.loop-reader.tally c.put_one.new.tally
+            (subst (λ (q : Packet). c.put_one.new.tally ≡ tallied (accepts program q) c.loop-reader.tally) c.packet.ensures c.put_one.ensures.counts) counted,
       );
+  read = search rules;
+  written = search rules;
   taken =
       let (before, took) = c.loop-reader.invariant.taken in
       let (more, goes) = c.in-Ok-true.ensures.taken in
@@ -43,7 +51,7 @@ loop-reader-preserved g c = record {
 pub returns-in-Err-put_one-clause-copies : goal.returns-in-Err-put_one-clause-copies
 returns-in-Err-put_one-clause-copies g c = λ from header to order unit head given written.
     let program = c.args.program.now in
-    let (packets, gives, wrote) = c.loop-reader.invariant.copies from header to order unit head given written in
+    let (packets, gives, wrote, counted) = c.loop-reader.invariant.copies from header to order unit head given written in
     let p = c.advance.new.self.lent in (
       packets ++ p ∷ [],
       c.given_so_far.ensures from header (packets ++ p ∷ []) (c.in-Ok-true.ensures.packet from header packets gives (cc)),
@@ -54,15 +62,16 @@ returns-in-Err-put_one-clause-copies g c = λ from header to order unit head giv
 
 pub returns-in-Ok-false-clause-copies : goal.returns-in-Ok-false-clause-copies
 returns-in-Ok-false-clause-copies g c = λ from header to order unit head given written.
-    let (packets, gives, wrote) = c.loop-reader.invariant.copies from header to order unit head given written in
-    (packets, c.in-Ok-false.ensures.end from header packets gives (cc), wrote)
+    let (packets, gives, wrote, counted) = c.loop-reader.invariant.copies from header to order unit head given written in
+    (packets, c.in-Ok-false.ensures.end from header packets gives (cc), wrote, counted)
 
 pub returns-in-Err-clause-copies : goal.returns-in-Err-clause-copies
 returns-in-Err-clause-copies g c = λ from header to order unit head given written.
-    let (packets, gives, wrote) = c.loop-reader.invariant.copies from header to order unit head given written in
+    let (packets, gives, wrote, counted) = c.loop-reader.invariant.copies from header to order unit head given written in
     let told = c.in-Err.ensures in (
       packets,
       wrote,
+      counted,
       elim (told.cause from header packets gives) [
         | inl read ↦ inl read
         | inr other ↦ inr (told.so_far from header packets gives, other)

@@ -1,0 +1,110 @@
+-- How the printing of a capture ends.
+use Rattle.std.proofs.Common.{◌≡◌, ℕ, inl, inr, Bool, true, false, List, [], ◌∷◌, ◌++◌, length, Option, Some, None, Result, Ok, Err, IfErr, refl, ap, sym, subst, arith}
+use Rattle.std.specs.Prelude.{is_err}
+use Rattle.std.proofs.KnownBytes.{Appends-trans}
+use Rattle.std.specs.Io.KnownBytes.{Appends}
+use Rattle.std.specs.List.{AllByRecursion}
+use Rattle.savefile.specs.declared.fault.Fault.{Fault}
+use Rattle.savefile.specs.declared.header.Header.{Header}
+use Rattle.savefile.specs.declared.packet.Packet.{Packet}
+use Rattle.savefile.specs.Reader.{HasGiven, IsCause, Leaves, Lends, Reading, WasBegun, WasRead}
+use Rattle.filtergen.specs.declared.verdict.Verdict.{Verdict}
+use Rattle.lines.specs.Sending.{Takes, TakesPart}
+use Rattle.lines.proofs.Taking.{TakesPart-then}
+use Rattle.verdicts.specs.declared.each.Counts.{Counts}
+use Rattle.verdicts.specs.declared.each.Unprinted.{Unprinted}
+use Rattle.verdicts.specs.declared.filter.Filter.{Filter}
+use Rattle.verdicts.specs.declared.one.Found.{Found}
+use Rattle.verdicts.specs.Answers.{Answer, IsAnswer}
+use Rattle.verdicts.specs.Explained.{is_yes, is_no, is_abort, count_of, AreCounts, counts_text, answer_lines, printed, packets_of, ReadsTo, PrintsLine, PrintsLines, PrintsAll, PrintsFound, PrintsWhole, GoesTo, Finds}
+
+-- it broke off
+pub broken-off : {A : Type 0} (f : Filter) (from left : Option (List ℕ)) (header : Header) (old new : Option (List ℕ)) (c : Counts) (read : Result A Fault) (done : Result A Unprinted) (x : A) (u : Unprinted) (told : List Answer) →
+    read ≡ Ok x → done ≡ Err u → AllByRecursion (IsAnswer f) told → WasBegun from header (packets_of told) → TakesPart old new (printed told) →
+    PrintsLines f from left header old new c read done
+broken-off f from left header old new c read done x u told reads stops all begun part =
+    rw (reads, stops) (told, all, inr (begun, inr (inr (refl, refl))), part)
+
+-- the capture was read to its end
+pub read-whole : {A : Type 0} (f : Filter) (from left : Option (List ℕ)) (header : Header) (old new : Option (List ℕ)) (c : Counts) (read : Result A Fault) (done : Result A Unprinted) (x y : A) (answers : List Answer) →
+    read ≡ Ok x → done ≡ Ok y → AllByRecursion (IsAnswer f) answers → WasRead from header (packets_of answers) None →
+    Appends old new (answer_lines answers) → AreCounts c answers →
+    PrintsLines f from left header old new c read done
+read-whole f from left header old new c read done x y answers reads prints all was lines are =
+    rw (reads, prints) (answers, all, inl (None, was, refl), (lines, are))
+
+-- or not so far
+pub read-part : {A : Type 0} (f : Filter) (from left : Option (List ℕ)) (header : Header) (old new : Option (List ℕ)) (c : Counts) (read : Result A Fault) (done : Result A Unprinted) (fault : Fault) (y : A) (answers : List Answer) →
+    read ≡ Err fault → done ≡ Ok y → AllByRecursion (IsAnswer f) answers →
+    Appends old new (answer_lines answers) → AreCounts c answers → WasBegun from header (packets_of answers) → IsCause from left header (packets_of answers) fault →
+    PrintsLines f from left header old new c read done
+read-part f from left header old new c read done fault y answers reads prints all lines are begun (inl was) =
+    rw (reads, prints) (answers, all, inl (Some fault, was, refl), (lines, are))
+read-part f from left header old new c read done fault y answers reads prints all lines are begun (inr (inl (device, taken))) =
+    rw (reads, prints) (answers, all, inr (begun, inl (ap Err device, taken)), (lines, are))
+read-part f from left header old new c read done fault y answers reads prints all lines are begun (inr (inr (full, many))) =
+    rw (reads, prints) (answers, all, inr (begun, inr (inl (ap Err full, many))), (lines, are))
+
+-- what was read is read, however the counts are printed
+reads-either : {A : Type 0} (from left : Option (List ℕ)) (header : Header) (ps : List Packet) (read : Result A Fault) (x : A) (done : Result A Unprinted) →
+    ReadsTo from left header ps read (Ok x) → ReadsTo from left header ps read done
+reads-either from left header ps read x done (inl was) = inl was
+reads-either from left header ps read x done (inr (begun, inl device)) = inr (begun, inl device)
+reads-either from left header ps read x done (inr (begun, inr (inl full))) = inr (begun, inr (inl full))
+reads-either from left header ps read x done (inr (begun, inr (inr (ok, err)))) = absurd (cc)
+
+-- where the lines broke off, no counts are printed
+pub lines-alone : {A : Type 0} (f : Filter) (from left : Option (List ℕ)) (header : Header) (old new : Option (List ℕ)) (c : Counts) (read : Result A Fault) (done : Result A Unprinted) →
+    is_err done ≡ true → PrintsLines f from left header old new c read done → PrintsAll f from left header old new c read done
+lines-alone f from left header old new c read (Ok x) failed lines = absurd (cc)
+lines-alone f from left header old new c read (Err u) failed lines = lines
+
+-- the lines, and then the counts
+pub lines-and-counts : {A : Type 0} (f : Filter) (from left : Option (List ℕ)) (header : Header) (old mid new : Option (List ℕ)) (c : Counts) (read : Result A Fault) (done told : Result A Unprinted) →
+    is_err done ≡ false → PrintsLines f from left header old mid c read done → Takes mid new told (counts_text c.packets c.yes c.no c.abort) →
+    PrintsAll f from left header old new c read told
+lines-and-counts f from left header old mid new c read (Err u) told went lines taken = absurd (cc)
+lines-and-counts f from left header old mid new c read (Ok x) (Ok y) went (answers, all, reads, (lines, are)) taken =
+    let same : counts_text c.packets c.yes c.no c.abort ≡ counts_text (length answers) (count_of is_yes answers) (count_of is_no answers) (count_of is_abort answers) =
+    rw (are.packets, are.yes, are.no, are.abort) refl in
+    let more = Appends-trans old mid new (answer_lines answers) _ lines (subst (Appends mid new) same taken) in
+    (answers, all, reads-either from left header (packets_of answers) read x (Ok y) reads, (more, are))
+lines-and-counts f from left header old mid new c read (Ok x) (Err u) went (answers, all, reads, (lines, are)) taken =
+    let same : counts_text c.packets c.yes c.no c.abort ≡ counts_text (length answers) (count_of is_yes answers) (count_of is_no answers) (count_of is_abort answers) =
+    rw (are.packets, are.yes, are.no, are.abort) refl in
+    (answers, all, reads-either from left header (packets_of answers) read x (Err u) reads, TakesPart-then old mid new (answer_lines answers) _ lines (subst (TakesPart mid new) same taken))
+
+-- ---- One packet
+
+-- a reader goes on to the next packet, which is the one at the place
+pub goes-to : {R : Type 0} (left : R → Option (List ℕ)) (from : Option (List ℕ)) (header : Header) (place : ℕ) (packets : List Packet) (r : Reading R) (result : Result Bool Fault) →
+    length packets ≡ place → (result ≡ Ok true → HasGiven left from header (packets ++ r.lent ∷ []) r) →
+    (result ≡ Ok false → WasRead from header packets None) → IfErr result (IsCause from (left r.source) header packets) →
+    GoesTo left from header place r result
+goes-to left from header place packets r (Ok true) here packet end cause = (packets, here, packet refl)
+goes-to left from header place packets r (Ok false) here packet end cause = (packets, omega (arith, here), end refl)
+goes-to left from header place packets r (Err fault) here packet end cause = (packets, omega (arith, here), cause)
+
+-- what a reader does that went on, it lends
+pub lends-it : {R : Type 0} (old new : Reading R) (result : Result Bool Fault) → Leaves old new result → result ≡ Ok true → Lends new
+lends-it old new (Ok true) (goes, one, fits) is = (goes, omega (arith, one))
+lends-it old new (Ok false) leaves is = absurd (cc)
+lends-it old new (Err fault) leaves is = absurd (cc)
+
+-- so one packet is found, or none
+pub finds-it : {R : Type 0} (left : R → Option (List ℕ)) (from : R) (f : Filter) (place : ℕ) (old new : Option (List ℕ)) (header : Header) (r : Reading R) (e : Found R) (read : Result Bool Fault) →
+    ((packets : List Packet) → HasGiven left (left from) header packets r → WasBegun (left from) header packets) →
+    e.source ≡ r.source → e.read ≡ read → GoesTo left (left from) header place r read → PrintsFound f place r.lent old new read e.printed →
+    Finds left from f place old new e
+finds-it left from f place old new header r e (Ok true) begins same is (before, here, gives) prints =
+    inr (inl (header, before, r.lent, begins (before ++ r.lent ∷ []) gives, here, is, prints))
+finds-it left from f place old new header r e (Ok false) begins same is (packets, few, was) (kept, ok) =
+    inr (inr (header, packets, few, ok, kept, inl (was, is)))
+finds-it left from f place old new header r e (Err fault) begins same is (packets, few, cause) (kept, ok) =
+    inr (inr (header, packets, few, ok, kept, inr (fault, subst (λ s. IsCause (left from) (left s) header packets fault) (sym same) cause, is)))
+
+-- a packet's line, and then more
+pub prints-whole : {A : Type 0} (f : Filter) (place : ℕ) (p : Packet) (old mid new : Option (List ℕ)) (v : Verdict) (text : List ℕ) (result : Result A Unprinted) →
+    PrintsLine f place p old mid v → Takes mid new result text → PrintsWhole f place p old new result
+prints-whole f place p old mid new v text (Ok x) (reason, is, line) taken = (v, reason, is, text, Appends-trans old mid new _ text line taken)
+prints-whole f place p old mid new v text (Err u) (reason, is, line) taken = (_, Appends-trans old mid new _ taken.part line taken.appends)

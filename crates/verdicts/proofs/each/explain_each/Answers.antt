@@ -1,0 +1,14 @@
+use Rattle.std.proofs.Common.{◌++◌, inr}
+use Rattle.std.proofs.KnownBytes.{Consumes-trans}
+use Rattle.verdicts.proofs.each.explain_each.Goals as goal
+
+pub returns-clause-explains : goal.returns-clause-explains
+returns-clause-explains g c =
+    let header = c.in-Ok.reader.header in
+    rw c.close.ensures (inr (header, c.print_all-ended.ensures.prints (g.R.Source.left c.args.from) header c.in-Ok.ensures.ok))
+
+pub returns-clause-gave : goal.returns-clause-gave
+returns-clause-gave g c =
+    let (first, opened) = c.in-Ok.ensures.taken in
+    let (further, went) = c.print_all-ended.ensures.taken in
+    rw c.close.ensures (first ++ further, Consumes-trans _ _ _ first further opened went)

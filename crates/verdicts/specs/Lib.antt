@@ -1,0 +1,5 @@
+pub mod Filter
+pub mod Answers
+pub mod Printed
+pub mod Explained
+pub mod Telling

@@ -1,0 +1,176 @@
+//! The line of a packet.
+
+ghost use Rattle.std.specs.Prelude.{◌≡◌, ◌++◌, ℕ, List, IfOk, OnOk, string_bytes, codes};
+ghost use Rattle.filterlang.specs.Trees.{tree_of};
+ghost use Rattle.explaining.specs.Asking.{question_of};
+ghost use Rattle.verdicts.specs.Answers.{answer, answer_line, ended_as, Decides, EndsRun, IsAnswer, PutsAnswer};
+ghost use Rattle.verdicts.specs.Printed.{packet_text, verdict_text, part_text, cause_text, question_text, end_text};
+
+use crate::filter::Filter;
+use bpfvm::{NoMemory, code, trace};
+use canonical::Canonical;
+use explaining::{Asked, Cause, decide};
+use filtergen::Verdict;
+use filterlang::Expr;
+use lines::time::NineDigits;
+use savefile::PacketRef;
+use std::alloc::Global;
+
+/// A verdict's word.
+pub(crate) fn verdict_text(verdict: Verdict) -> &'static str
+    ensures { result.now ≡ verdict_text verdict }
+{
+    match verdict {
+        Verdict::Yes => "Yes",
+        Verdict::No => "No",
+        Verdict::Abort => "Abort",
+    }
+}
+
+/// Puts a packet's place, its time and its lengths in place of what the line has.
+#[tactic(auto, unfolding(crate::specs::Printed::packet_text))]
+fn put_packet(line: &mut String, place: u64, packet: &PacketRef<'_>) -> Result<(), NoMemory>
+    ensures { OnOk result (string_bytes line.new ≡ packet_text place packet.now) }
+{
+    line.clear();
+    let captured = packet.bytes.len();
+    write!(
+        line,
+        "place {place} time {}.{}",
+        packet.sec,
+        NineDigits(packet.nanos)
+    )?;
+    write!(line, " len {} captured {captured} ", packet.len)?;
+    Ok(())
+}
+
+/// Appends a primitive or a relation, behind `not` where that stands over it.
+pub(crate) fn put_part(line: &mut String, part: &Expr, negated: bool) -> Result<(), NoMemory>
+    ensures { OnOk result (string_bytes line.new ≡ string_bytes line.old ++ part_text negated (tree_of part.now)) }
+{
+    match (negated, part) {
+        (_, Expr::Everything) => write!(line, "the empty expression")?,
+        (false, _) => write!(line, "{}", Canonical(part))?,
+        (true, Expr::Relation(..)) => write!(line, "not ({})", Canonical(part))?,
+        (true, _) => write!(line, "not {}", Canonical(part))?,
+    }
+    Ok(())
+}
+
+/// Appends why a primitive or a relation aborted, where it did.
+pub(crate) fn put_cause(line: &mut String, cause: Option<Cause>) -> Result<(), NoMemory>
+    ensures { OnOk result (string_bytes line.new ≡ string_bytes line.old ++ cause_text cause) }
+{
+    match cause {
+        None => {}
+        Some(Cause::NotCaptured(place)) => write!(line, ", byte {place} is not captured")?,
+        Some(Cause::ZeroDivisor) => write!(line, ", the divisor is 0")?,
+    }
+    Ok(())
+}
+
+/// Appends the primitive or relation that decides.
+fn put_asked(line: &mut String, asked: &Asked<'_>) -> Result<(), NoMemory>
+    ensures { OnOk result (string_bytes line.new ≡ string_bytes line.old ++ question_text (question_of asked.now)) }
+{
+    put_part(line, asked.part, asked.negated)?;
+    put_cause(line, asked.cause)
+}
+
+/// Appends a verdict, and a space.
+fn put_verdict(line: &mut String, verdict: Verdict) -> Result<(), NoMemory>
+    ensures { OnOk result (string_bytes line.new ≡ string_bytes line.old ++ (verdict_text verdict ++ codes " ")) }
+{
+    write!(line, "{} ", verdict_text(verdict))?;
+    Ok(())
+}
+
+/// Appends what an expression answers to a packet, and what decides.
+fn put_decision(line: &mut String, expr: &Expr, packet: &PacketRef<'_>) -> Result<Verdict, NoMemory>
+    ensures { IfOk result (PutsAnswer (string_bytes line.old) (string_bytes line.new) (Decides (tree_of expr.now)) packet.now) }
+{
+    let asked = decide(expr, packet.bytes, packet.len);
+    let verdict = asked.turned();
+    put_verdict(line, verdict)?;
+    put_asked(line, &asked)?;
+    Ok(verdict)
+}
+
+/// What an answer of a program counts as whose last instruction has this code: a run that no return ended is an Abort.
+fn ended_as(code: u16, answer: u32) -> Verdict
+    ensures { result ≡ ended_as code answer }
+{
+    if code != code::RET_K && code != code::RET_A {
+        Verdict::Abort
+    } else if answer == 0 {
+        Verdict::No
+    } else {
+        Verdict::Yes
+    }
+}
+
+/// Appends the number that a program answers, and the place where its run ended.
+#[tactic(auto, unfolding(crate::specs::Printed::end_text))]
+fn put_number(line: &mut String, number: u32, place: usize) -> Result<(), NoMemory>
+    ensures { OnOk result (string_bytes line.new ≡ string_bytes line.old ++ end_text number place) }
+{
+    write!(line, "{number} at {place}")?;
+    Ok(())
+}
+
+/// Appends what a program answers to a packet, where its run ended, and the instruction there by its name.
+fn put_end(
+    alloc: Global,
+    line: &mut String,
+    filter: &Filter,
+    packet: &PacketRef<'_>,
+) -> Result<Verdict, NoMemory>
+    ensures { IfOk result (PutsAnswer (string_bytes line.old) (string_bytes line.new) (EndsRun filter.now.program) packet.now) }
+{
+    let run = trace(alloc, &filter.program, packet.bytes, packet.len)?;
+    // Each run executes an instruction of the program, so there is a last one.
+    let Some((last, _)) = run.executed.as_slice().split_last() else {
+        return Err(NoMemory);
+    };
+    let Some(insn) = filter.program.insns().get(last.place) else {
+        return Err(NoMemory);
+    };
+    let verdict = ended_as(insn.code, run.answer);
+    put_verdict(line, verdict)?;
+    put_number(line, run.answer, last.place)?;
+    put_name(line, filter.names.as_slice(), last.place)?;
+    Ok(verdict)
+}
+
+/// Appends the name of the instruction at a place behind a colon, in single spaces.
+fn put_name(line: &mut String, names: &[String], place: usize) -> Result<(), NoMemory>
+    ensures { OnOk result ((name : List ℕ) × (string_bytes line.new ≡ string_bytes line.old ++ name)) }
+{
+    write!(line, ":")?;
+    if let Some(name) = names.get(place) {
+        for word in name.as_str().split_whitespace().skip(1) {
+            write!(line, " {word}")?;
+        }
+    }
+    Ok(())
+}
+
+/// Puts the line of a packet in place of what the line has: its place and time, what the filter answers, and why.
+pub(crate) fn put_line(
+    alloc: Global,
+    line: &mut String,
+    filter: &Filter,
+    place: u64,
+    packet: &PacketRef<'_>,
+) -> Result<Verdict, NoMemory>
+    ensures { IfOk result (λ verdict. (reason : List ℕ) × IsAnswer filter.now (answer packet.now verdict reason)
+        × (string_bytes line.new ≡ answer_line place (answer packet.now verdict reason))) }
+{
+    put_packet(line, place, packet)?;
+    let verdict = match &filter.expr {
+        Some(expr) => put_decision(line, expr, packet)?,
+        None => put_end(alloc, line, filter, packet)?,
+    };
+    write!(line, "\n")?;
+    Ok(verdict)
+}
