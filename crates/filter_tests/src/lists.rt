@@ -1,4 +1,4 @@
-//! Lists, neighbours of an `or` that are alike: on frames that are cut at each byte, and how long their programs are.
+//! Lists, neighbours of an `or` or of an `and` of negations that are alike: on frames that are cut at each byte, and how long their programs are.
 
 use crate::comparisons::{compare_cut, frames, program_of};
 use filtergen::compile_text;
@@ -7,7 +7,7 @@ use std::process::Abort;
 
 /// Lists of each kind, also behind another test, behind a test of what they share, under `not`, and beside other lists. A frame
 /// is cut between the source and the destination of the first one, of which the second member has the source.
-const LISTS: [&str; 24] = [
+const LISTS: [&str; 32] = [
     "host 10.0.0.2 or 10.0.0.1",
     "host 9.9.9.9 or 10.0.0.3 or 10.0.0.2 or 8.8.8.8",
     "ip host 9.9.9.9 or 10.0.0.2",
@@ -32,6 +32,14 @@ const LISTS: [&str; 24] = [
     "not (host 9.9.9.9 or 10.0.0.3 or 8.8.8.8) and not (port 80 or 81)",
     "ip or host 9.9.9.9 or 10.0.0.2 or port 1 or 2 or 3 or host 8.8.8.8 or 7.7.7.7",
     "host 9.9.9.9 or (port 80 or 53) or host 10.0.0.2 or src host 10.0.0.1 or 10.0.0.3 or ip host 10.0.0.1",
+    "ip[8] = 1 or ip[8] = 64 or ip[8] = 255",
+    "udp[0:2] = 53 or udp[0:2] = 80",
+    "ether[12:2] = 0x800 or ether[12:2] = 0x806",
+    "arp[6:2] = 1 or arp[6:2] = 2",
+    "tcp[2:2] = 80 or ip[8] = 64 or tcp[2:2] = 443 or tcp[2:2] = 9",
+    "not host 9.9.9.9 and not host 10.0.0.2 and not host 8.8.8.8",
+    "tcp and not port 9 and not port 443",
+    "not ip[9] = 17 and not ip[9] = 1 and not port 80 and not port 53",
 ];
 
 #[test]
@@ -47,13 +55,14 @@ fn every_list_on_frames_cut_at_each_byte(rt: HostRuntime) {
 }
 
 /// The words before a list, what stands before the number of each member, how many members, and how many instructions they take.
-const SIZES: [(&str, &str, u32, usize); 6] = [
+const SIZES: [(&str, &str, u32, usize); 7] = [
     ("host ", "10.0.0.", 100, 420),
     ("src host ", "10.0.0.", 100, 220),
     ("net ", "10.0.", 30, 160),
     ("port ", "", 200, 420),
     ("tcp port ", "", 200, 420),
     ("ip proto ", "", 100, 115),
+    ("", "ip[8] = ", 100, 115),
 ];
 
 #[test]

@@ -669,16 +669,17 @@ fn a_layer_is_tested_once_within_a_relation(rt: HostRuntime) {
     has_codes(&rt, &relation, &codes);
 }
 
+// A packet of IPv4 comes to the second relation behind its type; one of another type passes it.
 #[test]
-fn nothing_is_known_behind_a_not_or_an_or(rt: HostRuntime) {
+fn the_type_alone_is_known_behind_a_not_or_an_or(rt: HostRuntime) {
     let first: &[u16] = &FIRST_OF_TCP;
     let byte: &[u16] = &BYTE_BEHIND_HEADER;
     // not tcp[0] = 0 and tcp[0] = 0
     let after_not = both(&rt, negated(&rt, tcp_is_0(&rt, 0)), tcp_is_0(&rt, 0));
-    has_lists(&rt, after_not, &[first, byte, first, byte]);
-    // tcp[0] = 0 or tcp[0] = 0
-    let after_or = either(&rt, tcp_is_0(&rt, 0), tcp_is_0(&rt, 0));
-    has_lists(&rt, after_or, &[first, byte, first, byte]);
+    has_lists(&rt, after_not, &[first, byte, &first[2..], byte]);
+    // tcp[0] = 0 or tcp[1] = 0
+    let after_or = either(&rt, tcp_is_0(&rt, 0), tcp_is_0(&rt, 1));
+    has_lists(&rt, after_or, &[first, byte, &first[2..], byte]);
 }
 
 #[test]
