@@ -1,6 +1,6 @@
 //! `bpftap run`, over files.
 
-ghost use Rattle.std.specs.Prelude.{◌≤◌, IfErr, MatchResult};
+ghost use Rattle.std.specs.Prelude.{◌≡◌, ◌<◌, ◌≤◌, All, IfErr, IfOk, MatchResult, length, vec_len};
 
 use crate::hinting::{NotedInput, hint_plan, hint_run, hint_unopened};
 use crate::tally::{Output, Tallied, flush_all};
@@ -10,8 +10,9 @@ use files::reading::read_file;
 use hints::{Noted, TakesHints};
 use lines::telling::{REFUSED, tell_fault};
 use replay::RunFault;
+use running::plan::{Plan, read_plan};
 use running::reports::tell_run;
-use running::run::{Plan, read_plan, replay_plan};
+use running::run::replay_plan;
 use savefile::{Counted, Fault};
 use std::alloc::{AllocError, Global};
 use std::fs::Files;
@@ -48,7 +49,9 @@ fn all_sources<'r, 'p>(
     files: &'r HostRuntime,
     alloc: Global,
     inputs: &[Vec<&'p str>],
-) -> Result<Vec<Vec<Input<'r, 'p>>>, AllocError> {
+) -> Result<Vec<Vec<Input<'r, 'p>>>, AllocError>
+    ensures { IfOk result (λ all. vec_len all ≡ length inputs.now) }
+{
     let mut all = Vec::with_capacity(alloc, inputs.len())?;
     for paths in inputs {
         all.push(sources(files, alloc, paths.as_slice())?)?;
@@ -61,7 +64,9 @@ fn sinks<'r, 'p>(
     files: &'r HostRuntime,
     alloc: Global,
     outputs: &[&'p str],
-) -> io::Result<Vec<LateOutput<'r, 'p>>> {
+) -> io::Result<Vec<LateOutput<'r, 'p>>>
+    ensures { IfOk result (λ sinks. vec_len sinks ≡ length outputs.now) }
+{
     let mut sinks = Vec::with_capacity(alloc, outputs.len())?;
     for path in outputs {
         let out = Tallied::new(Noted::new(LateFile::new(files, *path)));
@@ -81,7 +86,9 @@ fn read_paths<'a>(alloc: Global, words: &RunWords<'a>) -> Result<Vec<&'a str>, A
 }
 
 /// All paths that are written.
-fn written_paths<'a>(alloc: Global, plan: &Plan<'a>) -> Result<Vec<&'a str>, AllocError> {
+fn written_paths<'a>(alloc: Global, plan: &Plan<'a>) -> Result<Vec<&'a str>, AllocError>
+    ensures { IfOk result (λ paths. vec_len paths ≡ length plan.now.lines.items) }
+{
     plan.lines.iter().map(|line| line.output).collect(alloc)
 }
 
@@ -115,7 +122,9 @@ fn accepted<'p, E: TakesHints>(
     listeners: &'p [u8],
     err: &mut E,
 ) -> Result<Plan<'p>, u8>
-    ensures { IfErr result (λ status. status ≤ 3) }
+    ensures refused { IfErr result (λ status. status ≤ 3) }
+    ensures there { IfOk result (λ plan. All (λ line. line.interface < length words.now.inputs.items) plan.lines.items) }
+    ensures programs { IfOk result (λ plan. length plan.programs.items ≡ length plan.lines.items) }
 {
     let plan = match read_plan(alloc, listeners, words.inputs.len()) {
         Ok(plan) => plan,
@@ -135,6 +144,9 @@ pub struct LateFiles<'r, 'i, 'o> {
     plan: Plan<'o>,
     captures: Vec<Vec<Input<'r, 'i>>>,
     sinks: Vec<LateOutput<'r, 'o>>,
+    ghost interfaces_there: { All (λ line. line.interface < length captures.items) plan.lines.items },
+    ghost all_programs: { length plan.programs.items ≡ length plan.lines.items },
+    ghost all_sinks: { length sinks.items ≡ length plan.lines.items },
 }
 
 /// The files that are replayed, and those that are written.
@@ -143,7 +155,10 @@ fn late_files<'r, 'i, 'o>(
     alloc: Global,
     words: &RunWords<'i>,
     plan: Plan<'o>,
-) -> Result<LateFiles<'r, 'i, 'o>, RunFault> {
+) -> Result<LateFiles<'r, 'i, 'o>, RunFault>
+    requires there { All (λ line. line.interface < length words.now.inputs.items) plan.lines.items }
+    requires programs { length plan.programs.items ≡ length plan.lines.items }
+{
     let captures = all_sources(files, alloc, words.inputs.as_slice())?;
     let outputs = written_paths(alloc, &plan)?;
     let Ok(sinks) = sinks(files, alloc, outputs.as_slice()) else {

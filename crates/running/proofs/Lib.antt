@@ -2,3 +2,6 @@ pub mod Statuses
 pub mod Fielded
 pub mod Outputs
 pub mod Printing
+pub mod Laid
+pub mod Planned
+pub mod Ran

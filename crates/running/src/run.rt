@@ -1,146 +1,40 @@
 //! Captures that are replayed in threads to the listeners of interfaces: `run`, and the parts that it shares with the command
 //! over files.
 
-ghost use Rattle.std.specs.Prelude.{◌≤◌};
+ghost use Rattle.std.specs.Prelude.{◌≡◌, ◌<◌, ◌≤◌, ◌⊎◌, List, All, IfErr, IfOk, length, vec_capacity, vec_len};
+ghost use Rattle.lines.specs.Sending.{streams};
+ghost use Rattle.running.specs.Bare.{HaveTheirListeners};
+ghost use Rattle.running.specs.Layout.{AreSinksOf, places_of};
+ghost use Rattle.running.specs.Replaying.{TellsTo};
+ghost use Rattle.running.specs.Running.{IsNoReplayOf, IsReplayOf, Makes, Ran, Refused};
 
-use crate::listeners::{RunLine, read_run_lines};
+use crate::layout::{interfaces_of, sinks_of};
+use crate::listeners::RunLine;
+use crate::plan::{Plan, read_plan};
 use crate::reports::tell_run;
-use bpfvm::Program;
-use filtergen::{ExpressionFault, Refusal, compile_text};
-use lines::LineFault;
 use lines::telling::{REFUSED, tell_fault};
-use replay::{Interface, InterfaceReport, Open, RunFault, Task};
-use savefile::{Order, Sink, Source, Unit};
-use std::alloc::{AllocError, AllocFailed, Global};
+use replay::{InterfaceReport, Open, RunFault};
+use savefile::{Sink, Source};
+use std::alloc::{AllocError, Global};
 use std::io::Write;
 use std::sync::Wait;
 use std::thread::Threads;
-use thiserror::Error;
 
-/// Why what LISTENERS asks for is not replayed.
-#[derive(Clone, Copy, Debug, PartialEq, Eq, Error)]
-pub enum PlanFault {
-    /// A line has not its form.
-    #[error("{0}")]
-    Line(LineFault),
-    /// The expression of this listener, in the order of the lines from 0, is refused.
-    #[error("Expression {0} {1}")]
-    Expression(usize, filterlang::Fault),
-    /// The expression of this listener is not compiled.
-    #[error("Compile {0} {1}")]
-    Compile(usize, Refusal),
-    #[error("NoMemory")]
-    NoMemory,
-}
-
-impl From<AllocError> for PlanFault {
-    fn from(_e: AllocError) -> PlanFault {
-        PlanFault::NoMemory
-    }
-}
-
-impl<T: Drop> From<AllocFailed<T>> for PlanFault {
-    fn from(_e: AllocFailed<T>) -> PlanFault {
-        PlanFault::NoMemory
-    }
-}
-
-/// What LISTENERS asks for.
-#[derive(Drop)]
-pub struct Plan<'a> {
-    pub lines: Vec<RunLine<'a>>,
-    /// The filter of each line.
-    pub programs: Vec<Program>,
-}
-
-/// The fault of the n-th listener's expression.
-fn refused(n: usize, fault: ExpressionFault) -> PlanFault {
-    match fault {
-        ExpressionFault::Text(filterlang::Fault::NoMemory)
-        | ExpressionFault::Tree(Refusal::NoMemory) => PlanFault::NoMemory,
-        ExpressionFault::Text(fault) => PlanFault::Expression(n, fault),
-        ExpressionFault::Tree(refusal) => PlanFault::Compile(n, refusal),
-    }
-}
-
-/// The program of each listener.
-fn compile_all(alloc: Global, lines: &[RunLine<'_>]) -> Result<Vec<Program>, PlanFault> {
-    let mut programs = Vec::with_capacity(alloc, lines.len())?;
-    for (n, line) in lines.iter().enumerate() {
-        match compile_text(alloc, line.expression, line.snap) {
-            Ok(program) => programs.push(program)?,
-            Err(fault) => return Err(refused(n, fault)),
-        }
-    }
-    Ok(programs)
-}
-
-/// Reads LISTENERS, for so many interfaces, and compiles the expressions once all lines have their form.
-pub fn read_plan(
-    alloc: Global,
-    listeners: &[u8],
-    interfaces: usize,
-) -> Result<Plan<'_>, PlanFault> {
-    let lines = match read_run_lines(alloc, listeners, interfaces) {
-        Ok(lines) => lines,
-        Err(LineFault::NoMemory) => return Err(PlanFault::NoMemory),
-        Err(fault) => return Err(PlanFault::Line(fault)),
-    };
-    let programs = compile_all(alloc, lines.as_slice())?;
-    Ok(Plan { lines, programs })
-}
-
-/// An interface for each list of captures, without listeners so far.
-fn bare_interfaces<R: Drop, W: Drop>(
-    alloc: Global,
-    captures: Vec<Vec<R>>,
-) -> Result<Vec<Interface<R, W>>, AllocError> {
-    let mut interfaces = Vec::with_capacity(alloc, captures.len())?;
-    for captures in captures {
-        let tasks = Vec::new(alloc);
-        interfaces.push(Interface { captures, tasks })?;
-    }
-    Ok(interfaces)
-}
-
-/// The interfaces, the listeners of each in the order of their lines.
-pub fn interfaces_of<R: Drop, W: Drop>(
-    alloc: Global,
-    lines: &[RunLine<'_>],
-    programs: Vec<Program>,
-    captures: Vec<Vec<R>>,
-    sinks: Vec<W>,
-) -> Result<Vec<Interface<R, W>>, AllocError> {
-    let mut interfaces = bare_interfaces(alloc, captures)?;
-    let mut sinks = sinks.into_iter();
-    for (line, program) in lines.iter().zip(programs) {
-        let (Some(interface), Some(sink)) = (interfaces.get_mut(line.interface), sinks.next())
-        else {
-            break;
-        };
-        interface.tasks.push(Task {
-            program,
-            snap: line.snap,
-            capacity: line.capacity,
-            mode: line.mode,
-            flush_every: line.flush_every,
-            spares: line.spares,
-            order: Order::Little,
-            unit: Unit::Micro,
-            sink,
-        })?;
-    }
-    Ok(interfaces)
-}
-
-/// Replays the captures of each interface to its listeners, each of which writes to the sink of its line.
+/// Replays the captures of each interface to its listeners: those of the lines that name it, in their order, each with what its line
+/// says and with the program and the sink at its line's place. The reports are those of [`replay::run`].
 pub fn replay_plan<R: Source + Send + Drop, W: Sink + Send + Drop, T: Threads + Wait + Sync>(
     rt: &T,
     alloc: Global,
     plan: Plan<'_>,
     captures: Vec<Vec<R>>,
     sinks: Vec<W>,
-) -> Result<Vec<InterfaceReport<R, W>>, RunFault> {
+) -> Result<Vec<InterfaceReport<R, W>>, RunFault>
+    requires there { All (λ line. line.interface < length captures.items) plan.lines.items }
+    requires programs { length plan.programs.items ≡ length plan.lines.items }
+    requires sinks { length sinks.items ≡ length plan.lines.items }
+    ensures replayed { IfOk result (λ reports. IsReplayOf R.left R.failures W.taken W.failures plan.entry.lines.items plan.entry.programs.items captures.items sinks.items reports.items) }
+    ensures fault { IfErr result (λ fault. IsNoReplayOf plan.entry.lines.items plan.entry.programs.items captures.items sinks.items fault) }
+{
     let Plan { lines, programs } = plan;
     let interfaces = interfaces_of(alloc, lines.as_slice(), programs, captures, sinks)?;
     replay::run(rt, alloc, interfaces, &Open)
@@ -155,26 +49,6 @@ struct Replayed<R, W> {
     sinks: Vec<W>,
 }
 
-impl<R: Drop, W: Drop> Replayed<R, W> {
-    /// The sinks, in the order of the lines.
-    fn into_sinks(self) -> Vec<W> {
-        let Replayed {
-            mut reports,
-            places,
-            mut sinks,
-        } = self;
-        for place in places {
-            if let Some(report) = reports.get_mut(place) {
-                if !report.listeners.is_empty() {
-                    // There is room.
-                    let _ = sinks.push(report.listeners.remove(0).sink);
-                }
-            }
-        }
-        sinks
-    }
-}
-
 /// The sinks of the lines, each made of its OUT.
 fn make_sinks<W: Drop, M: FnMut(&str) -> W>(
     alloc: Global,
@@ -182,6 +56,7 @@ fn make_sinks<W: Drop, M: FnMut(&str) -> W>(
     mut make: M,
 ) -> Result<Vec<W>, AllocError>
     requires { M.IsAlwaysCallable make }
+    ensures { IfOk result (λ sinks. (last : M) × Makes M.step make lines.now sinks.items last) }
 {
     let mut sinks = Vec::with_capacity(alloc, lines.len())?;
     for line in lines {
@@ -203,7 +78,14 @@ fn replay_made<
     captures: Vec<Vec<R>>,
     make: M,
 ) -> Result<Replayed<R, W>, RunFault>
-    requires { M.IsAlwaysCallable make }
+    requires callable { M.IsAlwaysCallable make }
+    requires there { All (λ line. line.interface < length captures.items) plan.lines.items }
+    requires programs { length plan.programs.items ≡ length plan.lines.items }
+    ensures replayed { IfOk result (λ replayed. (sinks : List W) × (last : M) × Makes M.step make plan.entry.lines.items sinks last
+        × IsReplayOf R.left R.failures W.taken W.failures plan.entry.lines.items plan.entry.programs.items captures.items sinks replayed.reports.items) }
+    ensures places { IfOk result (λ replayed. replayed.places.items ≡ places_of plan.entry.lines.items) }
+    ensures room { IfOk result (λ replayed. (vec_len replayed.sinks ≡ 0) × (length plan.entry.lines.items ≤ vec_capacity replayed.sinks)) }
+    ensures fault { IfErr result (λ fault. (sinks : List W) × IsNoReplayOf plan.entry.lines.items plan.entry.programs.items captures.items sinks fault) }
 {
     let room = Vec::with_capacity(alloc, plan.lines.len())?;
     let places = plan.lines.iter().map(|line| line.interface).collect(alloc)?;
@@ -213,6 +95,29 @@ fn replay_made<
         places,
         sinks: room,
     })
+}
+
+/// Prints and tells the reports, and hands the sinks back.
+fn end_run<R: Drop, W: Drop, O: Write, E: Write>(
+    replayed: Replayed<R, W>,
+    out: &mut O,
+    err: &mut E,
+) -> (u8, Vec<W>)
+    requires there { All (λ place. place < length replayed.reports.items) replayed.places.items }
+    requires counts { HaveTheirListeners replayed.places.items replayed.reports.items }
+    requires room { (vec_len replayed.sinks ≡ 0) × (length replayed.places.items ≤ vec_capacity replayed.sinks) }
+    ensures tells { TellsTo replayed.reports.items (streams (O.contents out.old) (E.contents err.old)) (streams (O.contents out.new) (E.contents err.new)) result.0 }
+    ensures bound { result.0 ≤ 3 }
+    ensures all { length result.1.items ≡ length replayed.places.items }
+    ensures back { AreSinksOf replayed.places.items replayed.reports.items result.1.items }
+{
+    let Replayed {
+        reports,
+        places,
+        sinks,
+    } = replayed;
+    let status = tell_run(reports.as_slice(), out, err);
+    (status, sinks_of(reports, places.as_slice(), sinks))
 }
 
 /// Replays captures in threads to the listeners of interfaces, each of which writes what it keeps as a capture, and prints
@@ -252,17 +157,18 @@ pub fn run<
     err: &mut E,
 ) -> (u8, Vec<W>)
     requires { M.IsAlwaysCallable make }
-    ensures { result.0 ≤ 3 }
+    ensures runs { Ran R.left R.failures W.taken W.failures M.step make listeners.now captures.items
+        (streams (O.contents out.old) (E.contents err.old)) (streams (O.contents out.new) (E.contents err.new)) result.0 result.1.items
+        ⊎ Refused listeners.now captures.items
+        (streams (O.contents out.old) (E.contents err.old)) (streams (O.contents out.new) (E.contents err.new)) result.0 result.1.items }
+    ensures bound { result.0 ≤ 3 }
 {
     let plan = match read_plan(alloc, listeners, captures.len()) {
         Ok(plan) => plan,
         Err(fault) => return (tell_fault(fault, REFUSED, err), Vec::new(alloc)),
     };
     match replay_made(rt, alloc, plan, captures, make) {
-        Ok(replayed) => {
-            let status = tell_run(replayed.reports.as_slice(), out, err);
-            (status, replayed.into_sinks())
-        }
+        Ok(replayed) => end_run(replayed, out, err),
         Err(fault) => (tell_fault(fault, REFUSED, err), Vec::new(alloc)),
     }
 }

@@ -1,15 +1,14 @@
-//! `bpftap run`: what a line asks of its listener, and what is printed of ends that no capture brings about.
+//! `bpftap run`: when a packet can be read, and what is printed of ends that no capture brings about.
 
-use crate::run::{item, replayed};
+use crate::run::replayed;
 use bpfvm::read_listing;
 use fixtures::captures::{HEADER, TCP, concat};
 use handover::{Past, pair, settle};
-use listener::Mode;
-use replay::{Interface, InterfaceEnd, InterfaceReport, ListenerReport, TaskEnd};
+use replay::{InterfaceEnd, InterfaceReport, ListenerReport, TaskEnd};
 use running::reports::tell_run;
-use running::run::{Plan, interfaces_of, read_plan, run};
+use running::run::run;
 use savefile::Counted;
-use std::alloc::{AllocError, Global};
+use std::alloc::Global;
 use std::io::{Read, Write};
 use std::process::Abort;
 use std::sync::Wait;
@@ -93,65 +92,6 @@ fn status_of(
 fn a_flush_and_the_letter_let_a_packet_be_read_at_once(rt: HostRuntime) -> Result<(), Fail> {
     assert_eq!(rt; status_of(&rt, b"0 1 64 4096 2 a")?, 0);
     assert_eq!(rt; status_of(&rt, b"0 0 64 4096i 2 a")?, 0);
-    Ok(())
-}
-
-/// Two interfaces without captures.
-fn no_captures<'a>(alloc: Global) -> Result<Vec<Vec<&'a [u8]>>, AllocError> {
-    let mut captures = Vec::new(alloc);
-    captures.push(Vec::new(alloc))?;
-    captures.push(Vec::new(alloc))?;
-    Ok(captures)
-}
-
-/// A listener of each interface, the second one's first, whose sinks are 1 and 2.
-fn two_interfaces<'a>(
-    rt: &(impl Abort + AllocGlobal),
-) -> Result<Vec<Interface<&'a [u8], i32>>, Fail> {
-    let alloc = rt.alloc();
-    let text = b"1 7 64 4096i 3 a tcp\n0 0 10 96 64 b\n";
-    let Plan { lines, programs } = read_plan(alloc, text, 2).expect(rt, "the lines are well");
-    let (captures, sinks) = (no_captures(alloc)?, Vec::from_slice(alloc, &[1, 2])?);
-    Ok(interfaces_of(alloc, lines.as_slice(), programs, captures, sinks)?)
-}
-
-#[test]
-fn each_listener_gets_the_numbers_of_its_line(rt: HostRuntime) -> Result<(), Fail> {
-    let interfaces = two_interfaces(&rt)?;
-    let wanted = [
-        (0, 10, 96, Mode::Buffered, 64, 2),
-        (7, 64, 4096, Mode::Immediate, 3, 1),
-    ];
-    assert_eq!(rt; interfaces.len(), wanted.len());
-    for (interface, (flush_every, snap, capacity, mode, spares, sink)) in interfaces
-        .iter()
-        .zip(wanted)
-    {
-        let task = item(&rt, interface.tasks.as_slice(), 0);
-        assert_eq!(rt; (task.flush_every, task.snap), (flush_every, snap));
-        assert_eq!(rt; (task.capacity, task.spares), (capacity, spares));
-        assert_eq!(rt; (task.mode, task.sink), (mode, sink));
-    }
-    Ok(())
-}
-
-#[test]
-fn each_sink_is_made_of_its_out(rt: HostRuntime) -> Result<(), Fail> {
-    let alloc = rt.alloc();
-    let captures = no_captures(alloc)?;
-    let make = |out: &str| {
-        let mut bytes: Vec<u8> = Vec::new(alloc);
-        let _ = bytes.extend_from_slice(out.as_bytes());
-        Counted::new(bytes)
-    };
-    let mut out: Vec<u8> = Vec::new(alloc);
-    let mut err: Vec<u8> = Vec::new(alloc);
-    let listeners = b"1 0 10 4096 2 one\n0 0 20 4096 2 two tcp\n";
-    let (status, sinks) = run(&rt, alloc, listeners, captures, make, &mut out, &mut err);
-    assert_eq!(rt; (status, sinks.len()), (0, 2));
-    for (sink, name) in sinks.into_iter().zip(["one", "two"]) {
-        assert!(rt; sink.into_inner().starts_with(name.as_bytes()));
-    }
     Ok(())
 }
 
