@@ -1,13 +1,14 @@
 -- How the printing of a capture ends.
-use Rattle.std.proofs.Common.{◌≡◌, ℕ, inl, inr, Bool, true, false, List, [], ◌∷◌, ◌++◌, length, Option, Some, None, Result, Ok, Err, IfErr, refl, ap, sym, subst, arith}
+use Rattle.std.proofs.Common.{◌≡◌, ℕ, ◌<◌, ◌⊎◌, inl, inr, Bool, true, false, List, [], ◌∷◌, ◌++◌, length, Option, Some, None, Result, Ok, Err, IfErr, refl, ap, sym, subst, arith}
 use Rattle.std.specs.Prelude.{is_err}
 use Rattle.std.proofs.KnownBytes.{Appends-trans}
-use Rattle.std.specs.Io.KnownBytes.{Appends}
+use Rattle.std.specs.Io.KnownBytes.{Appends, Consumes}
 use Rattle.std.specs.List.{AllByRecursion}
 use Rattle.savefile.specs.declared.fault.Fault.{Fault}
+use Rattle.savefile.specs.declared.fault.Fault.TheVariants.{Device, NoMemory}
 use Rattle.savefile.specs.declared.header.Header.{Header}
 use Rattle.savefile.specs.declared.packet.Packet.{Packet}
-use Rattle.savefile.specs.Reader.{HasGiven, IsCause, Leaves, Lends, Reading, WasBegun, WasRead}
+use Rattle.savefile.specs.Reader.{HasGiven, IsCause, Leaves, Lends, Reading, WasBegun, WasRead, WasRefused}
 use Rattle.filtergen.specs.declared.verdict.Verdict.{Verdict}
 use Rattle.lines.specs.Sending.{Takes, TakesPart}
 use Rattle.lines.proofs.Taking.{TakesPart-then}
@@ -16,7 +17,14 @@ use Rattle.verdicts.specs.declared.each.Unprinted.{Unprinted}
 use Rattle.verdicts.specs.declared.filter.Filter.{Filter}
 use Rattle.verdicts.specs.declared.one.Found.{Found}
 use Rattle.verdicts.specs.Answers.{Answer, IsAnswer}
-use Rattle.verdicts.specs.Explained.{is_yes, is_no, is_abort, count_of, AreCounts, counts_text, answer_lines, printed, packets_of, ReadsTo, PrintsLine, PrintsLines, PrintsAll, PrintsFound, PrintsWhole, GoesTo, Finds}
+use Rattle.verdicts.specs.Explained.{is_yes, is_no, is_abort, count_of, AreCounts, counts_text, answer_lines, printed, packets_of, IsUnopened, ReadsTo, PrintsLine, PrintsLines, PrintsAll, PrintsFound, PrintsWhole, GoesTo, Finds}
+
+-- the header was not read
+pub unopened : (from left : Option (List ℕ)) (fault : Fault) → WasRefused from fault ⊎ (fault ≡ Device) ⊎ (fault ≡ NoMemory) →
+    (bytes : List ℕ) × Consumes from left bytes × (fault ≡ Device → length bytes < 24) → IsUnopened from left fault
+unopened from left fault (inl refused) given = inl refused
+unopened from left fault (inr (inl device)) (bytes, gave, short) = inr (inl (device, bytes, gave, short device))
+unopened from left fault (inr (inr wanting)) given = inr (inr wanting)
 
 -- it broke off
 pub broken-off : {A : Type 0} (f : Filter) (from left : Option (List ℕ)) (header : Header) (old new : Option (List ℕ)) (c : Counts) (read : Result A Fault) (done : Result A Unprinted) (x : A) (u : Unprinted) (told : List Answer) →

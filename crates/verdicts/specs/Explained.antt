@@ -1,8 +1,8 @@
 -- What is printed of a capture, and how that ends.
-use Rattle.std.specs.Prelude.{◌≡◌, ℕ, ◌-◌, ◌+◌, ◌^◌, ◌≤◌, ◌⊎◌, Bool, true, false, List, [], ◌∷◌, ◌++◌, length, map, filter, Option, Some, None, Result, Ok, Err, IsOk, IsErr, IsErrOf, MatchResult, codes}
+use Rattle.std.specs.Prelude.{◌≡◌, ℕ, ◌-◌, ◌+◌, ◌^◌, ◌<◌, ◌≤◌, ◌⊎◌, Bool, true, false, List, [], ◌∷◌, ◌++◌, length, map, filter, Option, Some, None, Result, Ok, Err, IsOk, IsErr, IsErrOf, MatchResult, codes}
 use Rattle.std.specs.Fmt.{decimal}
 use Rattle.std.specs.List.{AllByRecursion}
-use Rattle.std.specs.Io.KnownBytes.{Appends, Keeps}
+use Rattle.std.specs.Io.KnownBytes.{Appends, Consumes, Keeps}
 use Rattle.savefile.specs.declared.fault.Fault.{Fault}
 use Rattle.savefile.specs.declared.fault.Fault.TheVariants.{CountFull, Device, NoMemory}
 use Rattle.savefile.specs.declared.header.Header.{Header}
@@ -97,9 +97,12 @@ ReadsTo from left header packets read done =
     ⊎ (IsErrOf read CountFull × (length packets ≡ 2 ^ 64 - 1))
     ⊎ (IsOk read × IsErr done)))
 
--- why no header was read
-abbrev pub IsUnopened : Option (List ℕ) → Fault → Type 0
-IsUnopened from fault = WasRefused from fault ⊎ (fault ≡ Device) ⊎ (fault ≡ NoMemory)
+-- Why no header was read: it is refused, or memory was wanting, or the source broke before it had given the 24 bytes of one.
+abbrev pub IsUnopened : Option (List ℕ) → Option (List ℕ) → Fault → Type 0
+IsUnopened from left fault =
+    WasRefused from fault
+    ⊎ ((fault ≡ Device) × (given : List ℕ) × Consumes from left given × (length given < 24))
+    ⊎ (fault ≡ NoMemory)
 
 -- ---- A capture
 
@@ -118,7 +121,7 @@ PrintsAll filter from left header old new counts read done =
 -- The header was not read, and nothing was printed; or the packets up to some end were answered, and that was printed.
 abbrev pub Explains : {R : Type 0} → (R → Option (List ℕ)) → R → Filter → Option (List ℕ) → Option (List ℕ) → Explained R → Type 0
 Explains left from filter old new e =
-    ((fault : Fault) × IsUnopened (left from) fault × IsErrOf e.read fault × IsOk e.printed × Keeps old new × AreCounts e.counts [])
+    ((fault : Fault) × IsUnopened (left from) (left e.source) fault × IsErrOf e.read fault × IsOk e.printed × Keeps old new × AreCounts e.counts [])
     ⊎ ((header : Header) × PrintsAll filter (left from) (left e.source) header old new e.counts e.read e.printed)
 
 -- ---- A line
@@ -161,7 +164,7 @@ GoesTo left from header place r (Err fault) =
 -- The header was not read; or the capture has a packet at this place, and that was printed; or it has not, or can't be read so far.
 abbrev pub Finds : {R : Type 0} → (R → Option (List ℕ)) → R → Filter → ℕ → Option (List ℕ) → Option (List ℕ) → Found R → Type 0
 Finds left from filter place old new f =
-    ((fault : Fault) × IsUnopened (left from) fault × IsErrOf f.read fault × IsOk f.printed × Keeps old new)
+    ((fault : Fault) × IsUnopened (left from) (left f.source) fault × IsErrOf f.read fault × IsOk f.printed × Keeps old new)
     ⊎ ((header : Header) × (before : List Packet) × (p : Packet) × WasBegun (left from) header (before ++ p ∷ [])
     × (length before ≡ place) × (f.read ≡ Ok true) × PrintsWhole filter place p old new f.printed)
     ⊎ ((header : Header) × (packets : List Packet) × (length packets ≤ place) × IsOk f.printed × Keeps old new

@@ -1,7 +1,11 @@
-use Rattle.std.proofs.Common.{refl, ◌++◌}
-use Rattle.std.proofs.KnownBytes.{Consumes-trans}
-use Rattle.verdicts.proofs.Printing.{finds-it}
+use Rattle.std.proofs.Common.{inl, refl, ◌++◌}
+use Rattle.std.proofs.KnownBytes.{Consumes-trans, Keeps-refl}
+use Rattle.verdicts.proofs.Printing.{finds-it, unopened}
 use Rattle.verdicts.proofs.one.explain_one.Goals as goal
+
+pub returns-in-Err-clause-finds : goal.returns-in-Err-clause-finds
+returns-in-Err-clause-finds g c =
+    inl (c.in-Err.fault, unopened _ _ c.in-Err.fault c.in-Err.ensures.refused c.in-Err.ensures.taken, refl, refl, Keeps-refl _)
 
 pub returns-clause-finds : goal.returns-clause-finds
 returns-clause-finds g c =
