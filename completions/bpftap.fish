@@ -5,17 +5,26 @@ complete -c bpftap -n __fish_use_subcommand -l hints -d 'Tell below a fault what
 complete -c bpftap -n __fish_use_subcommand -s h -l help -d 'Print help'
 complete -c bpftap -n __fish_use_subcommand -s V -l version -d 'Print the version'
 complete -c bpftap -n __fish_use_subcommand -a check -d 'Print the program of an expression'
+complete -c bpftap -n __fish_use_subcommand -a explain -d 'Tell why packets are accepted or rejected'
 complete -c bpftap -n __fish_use_subcommand -a cut -d 'Write what the filter accepts, cut'
 complete -c bpftap -n __fish_use_subcommand -a steps -d 'Play a script to listeners'
 complete -c bpftap -n __fish_use_subcommand -a run -d 'Replay captures in threads'
 complete -c bpftap -n __fish_use_subcommand -a help -d 'Print help of a command'
 
-complete -c bpftap -n '__fish_seen_subcommand_from help' -a 'check cut steps run'
+complete -c bpftap -n '__fish_seen_subcommand_from help' -a 'check explain cut steps run'
 
 complete -c bpftap -n '__fish_seen_subcommand_from check' -s d -d 'Print instructions by their names'
+complete -c bpftap -n '__fish_seen_subcommand_from check' -s x -d 'Print the expression as it was read'
 complete -c bpftap -n '__fish_seen_subcommand_from check' -s s -x -d 'Snapshot length that the program answers'
 complete -c bpftap -n '__fish_seen_subcommand_from check' -s f -r -F -d 'Filter program'
 complete -c bpftap -n '__fish_seen_subcommand_from check' -s h -l help -d 'Print help'
+
+complete -c bpftap -n '__fish_seen_subcommand_from explain' -F
+complete -c bpftap -n '__fish_seen_subcommand_from explain' -s s -x -d 'Snapshot length that the program answers'
+complete -c bpftap -n '__fish_seen_subcommand_from explain' -s e -x -d 'Filter expression'
+complete -c bpftap -n '__fish_seen_subcommand_from explain' -s f -r -F -d 'Filter program'
+complete -c bpftap -n '__fish_seen_subcommand_from explain' -s p -x -d 'Tell this packet alone, in full'
+complete -c bpftap -n '__fish_seen_subcommand_from explain' -s h -l help -d 'Print help'
 
 complete -c bpftap -n '__fish_seen_subcommand_from cut' -F
 complete -c bpftap -n '__fish_seen_subcommand_from cut' -s s -x -d 'Keep at most so many bytes of a packet; 0 means 262144'
@@ -23,6 +32,7 @@ complete -c bpftap -n '__fish_seen_subcommand_from cut' -s e -x -d 'Filter expre
 complete -c bpftap -n '__fish_seen_subcommand_from cut' -s f -r -F -d 'Filter program'
 complete -c bpftap -n '__fish_seen_subcommand_from cut' -s o -x -a 'little big' -d 'Byte order of OUT'
 complete -c bpftap -n '__fish_seen_subcommand_from cut' -s u -x -a 'micro nano' -d 'Unit of the time stamps of OUT'
+complete -c bpftap -n '__fish_seen_subcommand_from cut' -s c -d 'Tell how many packets were written'
 complete -c bpftap -n '__fish_seen_subcommand_from cut' -s h -l help -d 'Print help'
 
 complete -c bpftap -n '__fish_seen_subcommand_from steps' -F

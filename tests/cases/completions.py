@@ -34,14 +34,14 @@ def offered(*words):
 
 # Words, the last one unfinished, and what is offered for it.
 OFFERED = [
-    ([""], ["check", "cut", "steps", "run", "help"]),
+    ([""], ["check", "explain", "cut", "steps", "run", "help"]),
     (["c"], ["check", "cut"]),
     (["steps"], ["steps"]),
     (["x"], []),
     (["--v"], ["--version"]),
     (["--hi"], ["--hints"]),
     (["--hints", "c"], ["check", "cut"]),
-    (["help", ""], ["check", "cut", "steps", "run"]),
+    (["help", ""], ["check", "explain", "cut", "steps", "run"]),
     (["cut", "--"], ["--help"]),
     (["cut", "-o", ""], ["little", "big"]),
     (["cut", "-s", "0", "-o", "b"], ["big"]),
@@ -53,6 +53,9 @@ OFFERED = [
     (["cut", "-s", "0", ""], ["FILES"]),
     (["cut", "-s", "0", "in.pcap", "o"], ["FILES"]),
     (["cut", "-s", "0", "--", "-"], ["FILES"]),
+    (["explain", "-p", ""], []),
+    (["explain", "-f", ""], ["FILES"]),
+    (["explain", "-e", "ip", ""], ["FILES"]),
     (["steps", "-v", ""], ["FILES"]),
     # The name of a command is a file where a file is wanted.
     (["steps", "run"], ["FILES"]),

@@ -73,10 +73,13 @@ REFUSED = [
     ("steps small.txt arrive.txt in.pcap", "Open 1 BadCapacity", 1),
     ("steps none.txt arrive.txt in.pcap", "Device none.txt", 3),
     ("run none.txt in.pcap", "Device none.txt", 3),
+    ("explain -e ip -f all.bpf in.pcap", "FilterTwice", 1),
+    ("explain -p 9 -e ip in.pcap", "NoPacket 9", 1),
+    ("explain -e ip none.pcap", "Device none.pcap", 3),
     (["check", b"\xff"], "a word of the command line is not UTF-8", 1),
 ]
 
-# Listings that `cut` and `check` refuse, and the status.
+# Listings that `cut`, `explain` and `check` refuse, and the status.
 LISTED = [
     ("line.bpf", "BadLine 1", 1),
     ("line3.bpf", "BadLine 3", 1),
@@ -102,7 +105,7 @@ RUNS = [
     ("0 0 10 47 2 out.pcap\n", "in.pcap", "Open 0 0 BadCapacity", 1),
 ]
 
-# Captures that `cut`, `steps` and `run` tell, and the status.
+# Captures that `cut`, `explain`, `steps` and `run` tell, and the status.
 CAPTURES = [
     ("empty.pcap", "ShortHeader", 1),
     ("text.pcap", "NotSavefile", 1),
@@ -119,9 +122,10 @@ PLACES = {"N": r"\d+", "C": r"\d+", "L": r"\d+", "I": r"\d+", "B": r"\d+", "PATH
 
 # The sections of the page that have the lines of a command; those of faults inside a line.
 SHARED = "Files and words"
-LISTINGS = "Listings: `cut -f` and `check -f`"
+LISTINGS = "Listings: `cut -f`, `explain -f` and `check -f`"
 SECTIONS = {
     "check": {SHARED, "Expressions", LISTINGS},
+    "explain": {SHARED, "Expressions", "Captures", LISTINGS, "`explain`"},
     "cut": {SHARED, "Expressions", "Captures", LISTINGS},
     "steps": {SHARED, "`steps`"},
     "run": {SHARED, "`run`"},
@@ -191,6 +195,7 @@ def tell_captures(scene, page):
     scene.put({"run.txt": "0 0 0 1048576 2 run.pcap\n"})
     for path, fault, status in CAPTURES:
         tells(scene, page, f"cut -s 0 {path} out.pcap", fault, status)
+        tells(scene, page, f"explain -e ip {path}", fault, status)
         tells(scene, page, f"steps one.txt arrive.txt in.pcap {path}", f"Capture 1 {fault}", status)
         tells(scene, page, f"run run.txt in.pcap {path}", f"Interface 0 Capture 1 {fault}", status)
     tells(scene, page, "run run.txt in.pcap none.pcap", "Interface 0 Capture 1 Device", 3)
@@ -202,15 +207,17 @@ def tell_expressions(scene, page):
         where = "Compile" if fault in COMPILED else "Expression"
         scene.put({"steps.txt": f"0 1048576\n0 1048576 {text}\n", "run.txt": f"0 0 0 1048576 2 out.pcap {text}\n"})
         tells(scene, page, ["check", text], fault, 1)
+        tells(scene, page, ["explain", "-e", text, "none.pcap"], fault, 1)
         tells(scene, page, ["cut", "-s", "0", "-e", text, "none.pcap", "out.pcap"], fault, 1)
         tells(scene, page, "steps steps.txt arrive.txt in.pcap", f"{where} 1 {fault}", 1)
         tells(scene, page, "run run.txt in.pcap", f"{where} 0 {fault}", 1)
 
 
 def tell_listings(scene, page):
-    """Faults of listings, by both commands that read them."""
+    """Faults of listings, by each command that reads them."""
     for path, fault, status in LISTED:
         tells(scene, page, f"cut -s 0 -f {path} in.pcap out.pcap", fault, status)
+        tells(scene, page, f"explain -f {path} in.pcap", fault, status)
         tells(scene, page, f"check -f {path}", fault, status)
 
 

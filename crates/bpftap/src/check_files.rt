@@ -4,7 +4,7 @@ ghost use Rattle.std.specs.Prelude.{◌≤◌, IfErr};
 
 use crate::hinting::{told_filter, told_print};
 use bpfvm::Program;
-use cutting::check::{Form, check, show};
+use cutting::check::{Form, check, show, show_read};
 use cutting::filter::filter;
 use files::reading::tell_io;
 use hints::TakesHints;
@@ -37,7 +37,7 @@ fn program_of<R: Files + AllocGlobal, E: TakesHints>(
     }
 }
 
-/// Prints the program in the form that is asked for.
+/// Prints the program in the form that is asked for, or the expression as it was read.
 pub fn check_files<R: Files + AllocGlobal, O: Write, E: TakesHints>(
     rt: &R,
     words: &CheckWords<'_>,
@@ -46,6 +46,9 @@ pub fn check_files<R: Files + AllocGlobal, O: Write, E: TakesHints>(
 ) -> u8
     ensures { result ≤ 3 }
 {
+    if let (Some(expr), true) = (words.expr, words.read) {
+        return told_print(expr, show_read(rt.alloc(), expr, out), err);
+    }
     if let (Some(expr), false, lines::MAX_SNAP) = (words.expr, words.named, words.snap) {
         return told_print(expr, check(rt.alloc(), expr, out), err);
     }

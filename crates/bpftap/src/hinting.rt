@@ -43,7 +43,8 @@ fn hint_refusal<E: TakesHints>(refusal: Refusal, err: &mut E) {
     }
 }
 
-fn hint_expression<E: TakesHints>(text: &str, fault: ExpressionFault, err: &mut E) {
+/// Hints on an expression that has no program.
+pub fn hint_expression<E: TakesHints>(text: &str, fault: ExpressionFault, err: &mut E) {
     match fault {
         ExpressionFault::Text(fault) => hint_text_fault(text, fault, err),
         ExpressionFault::Tree(refusal) => hint_refusal(refusal, err),
@@ -110,12 +111,18 @@ pub fn hint_cut<R, W: Write + Drop, E: TakesHints>(
     end: &CutEnd<NotedInput<R>, NotedOutput<W>>,
     err: &mut E,
 ) {
-    let input = &end.source.inner;
     match end.end {
         End::Clean => {}
-        End::Input(Fault::Device) => hint_failure(input, err),
-        End::Input(fault) => hint_capture_fault(input.first(), fault, err),
+        End::Input(fault) => hint_input(&end.source, fault, err),
         End::Output(_) => hint_failure(end.sink.inner.get_ref(), err),
+    }
+}
+
+/// Hints on a capture that was not read to its end.
+pub fn hint_input<R, E: TakesHints>(source: &NotedInput<R>, fault: Fault, err: &mut E) {
+    match fault {
+        Fault::Device => hint_failure(&source.inner, err),
+        _ => hint_capture_fault(source.inner.first(), fault, err),
     }
 }
 
@@ -240,10 +247,7 @@ pub fn hint_unopened<E: TakesHints>(
 /// Hints on the capture that an interface of `run` ended at.
 fn hint_source<R, E: TakesHints>(path: &str, source: &NotedInput<R>, fault: Fault, err: &mut E) {
     give_hint(format_args!("{}:", Path(path)), err);
-    match fault {
-        Fault::Device => hint_failure(&source.inner, err),
-        _ => hint_capture_fault(source.inner.first(), fault, err),
-    }
+    hint_input(source, fault, err);
 }
 
 /// Hints on a capture that a listener of `run` could not write.

@@ -2,6 +2,7 @@
 #![tactic(auto)]
 
 mod check_files;
+mod explain_files;
 mod hinting;
 mod laws;
 mod picture_files;

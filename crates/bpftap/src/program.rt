@@ -3,6 +3,7 @@
 ghost use Rattle.std.specs.Prelude.{◌≤◌, IfErr, MatchResult};
 
 use crate::check_files::check_files;
+use crate::explain_files::explain_files;
 use crate::hinting::{hint_cut, told_filter};
 use crate::run_files::{NamesFiles, run_files};
 use crate::steps_files::steps_files;
@@ -11,7 +12,7 @@ use clap::Error;
 use clap::error::ErrorKind;
 use cutting::cut::{CutEnd, End, cut};
 use cutting::filter::filter;
-use cutting::tell::{tell, tell_filter};
+use cutting::tell::{tell, tell_count, tell_filter};
 use files::late::{LateFile, hold_stream};
 use files::paths::all_apart;
 use files::reading::tell_io;
@@ -47,6 +48,7 @@ pub fn run<
     let _error = hold_stream(rt);
     let ended = match read_words(rt.alloc(), words) {
         Ok(Request::Check(words)) => Ok(check_files(rt, &words, out, err)),
+        Ok(Request::Explain(words)) => explain_files(rt, &words, out, err),
         Ok(Request::Cut(words)) => cut_files(rt, &words, err),
         Ok(Request::Steps(words)) => steps_files(rt, &words, out, err),
         Ok(Request::Run(words)) => run_files(rt, &words, out, err),
@@ -138,6 +140,9 @@ fn cut_files<R: Files + AllocGlobal, E: TakesHints>(
             );
             let end = flushed(end);
             let status = tell(&end, words.input, words.output, err);
+            if words.counted {
+                tell_count(&end, err);
+            }
             hint_cut(&end, err);
             Ok(status)
         }

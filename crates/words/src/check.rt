@@ -15,19 +15,23 @@ pub struct CheckWords<'a> {
     pub snap: u32,
     /// Whether the program is printed by the names of its instructions.
     pub named: bool,
+    /// Whether the expression is printed as it was read, and no program.
+    pub read: bool,
 }
 
 const CHECK_EXAMPLES: &str = "Examples:
   bpftap check 'tcp dst port 80 or 443'
   bpftap check -d 'tcp dst port 80 or 443'    the same program, for a person to read
+  bpftap check -x 'tcp dst port 80 or 443'    what was read: tcp dst port 80 or tcp dst port 443
   tcpdump -ddd 'udp port 53' | bpftap check -d -f /dev/stdin
   bpftap check 'tcp and 80'       prints bpftap: NoQualifier 8
   bpftap check ''                 the empty expression accepts every packet
 
 What is printed is a line with the number of instructions, and a line code jt jf k for each:
 tcpdump -ddd prints the same form, and cut -f reads it. With -d it is a line for each
-instruction by its name, as tcpdump -d prints it. An expression that begins with - is written
-in parentheses. The number behind a fault's name is the byte of the expression that it stands
+instruction by its name, as tcpdump -d prints it. With -x it is the expression as it was read, on
+one line, also where its program is too long. An expression that begins with - is written in
+parentheses. The number behind a fault's name is the byte of the expression that it stands
 at, from 0; docs/LANGUAGE.md has the language.
 
 Exit status: 0 the program is printed; 1 the expression or listing is refused or the program is
@@ -43,6 +47,14 @@ pub fn check_command<'a>(alloc: Global) -> Result<Command<'a>, AllocError> {
                 .short('d')
                 .action(ArgAction::SetTrue)
                 .help("Print instructions by their names, as tcpdump -d does"),
+        )?
+        .arg(
+            Arg::new(alloc, "read")
+                .short('x')
+                .action(ArgAction::SetTrue)
+                .conflicts_with("named")?
+                .conflicts_with("listing")?
+                .help("Print the expression as it was read, with all that it inherits written out"),
         )?
         .arg(
             Arg::new(alloc, "snap")
@@ -72,5 +84,6 @@ pub fn check_words<'a>(matches: &ArgMatches<'a>) -> Option<CheckWords<'a>> {
         listing: matches.get_str("listing"),
         snap: snapshot_length(matches.get_str("snap")?.as_bytes())?,
         named: matches.get_flag("named"),
+        read: matches.get_flag("read"),
     })
 }

@@ -1,5 +1,6 @@
 //! The words of the command line, by `clap`.
 use crate::check::{CheckWords, check_command, check_words};
+use crate::explain::{ExplainWords, bad_explain_words, explain_command, explain_words};
 use crate::run::{RunWords, run_command, run_words};
 use crate::steps::{StepsWords, steps_command, steps_words};
 use clap::error::ErrorKind;
@@ -20,6 +21,8 @@ pub struct CutWords<'a> {
     pub expr: Option<&'a str>,
     pub order: Order,
     pub unit: Unit,
+    /// Whether the packets are counted on standard error.
+    pub counted: bool,
     /// The path of the capture that is read.
     pub input: &'a str,
     /// The path of the capture that is written.
@@ -30,6 +33,7 @@ pub struct CutWords<'a> {
 #[derive(Drop)]
 pub enum Request<'a> {
     Check(CheckWords<'a>),
+    Explain(ExplainWords<'a>),
     Cut(CutWords<'a>),
     Steps(StepsWords<'a>),
     Run(RunWords<'a>),
@@ -43,6 +47,7 @@ const ABOUT: &str =
 
 const EXAMPLES: &str = "Examples:
   bpftap check 'tcp dst port 80 or 443'
+  bpftap explain -e 'tcp dst port 80 or 443' examples/veth.pcap
   bpftap cut -s 0 -e 'udp port 5353' examples/veth.pcap dns.pcap
   bpftap cut -s 0 -f examples/ip.bpf examples/veth.pcap ip.pcap
   bpftap steps -v examples/steps/listeners.txt examples/steps/script.txt examples/veth.pcap
@@ -111,6 +116,13 @@ fn unit_arg<'a>(alloc: Global) -> Arg<'a> {
         .help("Unit of the time stamps of OUT")
 }
 
+fn count_arg<'a>(alloc: Global) -> Arg<'a> {
+    Arg::new(alloc, "counted")
+        .short('c')
+        .action(ArgAction::SetTrue)
+        .help("Tell on standard error how many of how many packets were written")
+}
+
 fn path_arg<'a>(alloc: Global, name: &'a str, help: &'a str) -> Arg<'a> {
     Arg::new(alloc, name).required(true).help(help)
 }
@@ -124,6 +136,7 @@ fn cut_command<'a>(alloc: Global) -> Result<Command<'a>, AllocError> {
         .arg(expr_arg(alloc))?
         .arg(order_arg(alloc))?
         .arg(unit_arg(alloc))?
+        .arg(count_arg(alloc))?
         .arg(path_arg(
             alloc,
             "IN",
@@ -150,6 +163,7 @@ fn program<'a>(alloc: Global) -> Result<Command<'a>, AllocError> {
         .subcommand_required(true)
         .arg_required_else_help(true)
         .subcommand(check_command(alloc)?)?
+        .subcommand(explain_command(alloc)?)?
         .subcommand(cut_command(alloc)?)?
         .subcommand(steps_command(alloc)?)?
         .subcommand(run_command(alloc)?)
@@ -177,6 +191,7 @@ fn request_of<'a>(
 ) -> Result<Option<Request<'a>>, AllocError> {
     match name {
         "check" => Ok(check_words(words).map(|words| Request::Check(words))),
+        "explain" => Ok(explain_words(words).map(|words| Request::Explain(words))),
         "cut" => Ok(cut_words(words).map(|words| Request::Cut(words))),
         "steps" => Ok(steps_words(alloc, words)?.map(|words| Request::Steps(words))),
         "run" => Ok(run_words(alloc, words)?.map(|words| Request::Run(words))),
@@ -184,11 +199,12 @@ fn request_of<'a>(
     }
 }
 
-/// What is wrong with words of a subcommand that `clap` took: of `cut` and `check` the snapshot length; of the others a word is
-/// missing, which `clap` has told.
+/// What is wrong with words of a subcommand that `clap` took: of `cut` and `check` the snapshot length, of `explain` that or the
+/// place; of the others a word is missing, which `clap` has told.
 fn bad_words(alloc: Global, name: &str, program: &mut Command<'_>) -> Result<Error, AllocError> {
     match name {
         "check" | "cut" => bad_snap(alloc, name),
+        "explain" => bad_explain_words(alloc),
         _ => program.error(ErrorKind::MissingRequiredArgument, "a word is wanted"),
     }
 }
@@ -225,6 +241,7 @@ fn cut_words<'a>(matches: &ArgMatches<'a>) -> Option<CutWords<'a>> {
         expr: matches.get_str("expr"),
         order: order_of(matches),
         unit: unit_of(matches),
+        counted: matches.get_flag("counted"),
         input: matches.get_str("IN")?,
         output: matches.get_str("OUT")?,
     })

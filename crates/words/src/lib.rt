@@ -3,5 +3,6 @@
 
 pub mod check;
 pub mod command_line;
+pub mod explain;
 pub mod run;
 pub mod steps;

@@ -1,0 +1,161 @@
+//! `bpftap explain`, over files.
+
+ghost use Rattle.std.specs.Prelude.{◌≤◌, IfErr, MatchResult};
+
+use crate::hinting::{NotedInput, hint_expression, hint_input, told_filter};
+use cutting::filter::{FilterFault, filter};
+use files::paths::{STANDARD_OUTPUT, all_apart};
+use files::reading::{read_file, tell_io};
+use files::retried::Retried;
+use hints::{Noted, TakesHints};
+use lines::telling::{REFUSED, tell_fault};
+use savefile::{Counted, Fault};
+use std::alloc::Global;
+use std::fs;
+use std::fs::Files;
+use std::io::{BufWriter, Read, Write};
+use verdicts::Filter;
+use verdicts::each::{Explained, explain_each};
+use verdicts::filter::{of_expression, of_program};
+use verdicts::one::{Found, explain_one};
+use verdicts::tell::{tell_each, tell_one};
+use words::explain::ExplainWords;
+
+/// How many bytes of output are gathered before they are written.
+const OUTPUT_BUFFER: usize = 1 << 16;
+
+/// The filter of an expression.
+fn expression_filter<R: Files + AllocGlobal, E: TakesHints>(
+    rt: &R,
+    expr: &str,
+    snap: u32,
+    err: &mut E,
+) -> Result<Filter, u8>
+    ensures { IfErr result (λ status. status ≤ 3) }
+{
+    match of_expression(rt.alloc(), expr, snap) {
+        Ok(filter) => Ok(filter),
+        Err(fault) => {
+            let status = tell_fault(fault, REFUSED, err);
+            hint_expression(expr, fault, err);
+            Err(status)
+        }
+    }
+}
+
+/// The filter of a listing's file.
+fn listing_filter<R: Files + AllocGlobal, E: TakesHints>(
+    rt: &R,
+    path: &str,
+    err: &mut E,
+) -> Result<Filter, u8>
+    ensures { IfErr result (λ status. status ≤ 3) }
+{
+    let listing = read_file(rt, path, err)?;
+    let listing = Some(listing.as_slice());
+    let program = told_filter(listing, None, filter(rt.alloc(), listing, None, 0), err)?;
+    match of_program(rt.alloc(), program) {
+        Ok(filter) => Ok(filter),
+        Err(_) => Err(tell_fault(Fault::NoMemory, REFUSED, err)),
+    }
+}
+
+/// The filter that the words give.
+fn filter_of<R: Files + AllocGlobal, E: TakesHints>(
+    rt: &R,
+    words: &ExplainWords<'_>,
+    err: &mut E,
+) -> Result<Filter, u8>
+    ensures { IfErr result (λ status. status ≤ 3) }
+{
+    match (words.expr, words.listing) {
+        (Some(_), Some(_)) => Err(tell_fault(FilterFault::Twice, REFUSED, err)),
+        (None, Some(path)) => listing_filter(rt, path, err),
+        (expr, None) => expression_filter(rt, expr.unwrap_or(""), words.snap, err),
+    }
+}
+
+/// The packet at a place, in full.
+fn explain_place<R: Read + Drop, O: Write, E: TakesHints>(
+    alloc: Global,
+    input: NotedInput<R>,
+    filter: &Filter,
+    place: u64,
+    path: &str,
+    out: &mut O,
+    err: &mut E,
+) -> u8
+    ensures { result ≤ 3 }
+{
+    let Found {
+        source,
+        read,
+        printed,
+    } = explain_one(alloc, input, filter, place, out);
+    let found = Found {
+        source: (),
+        read,
+        printed,
+    };
+    let status = tell_one(found, place, path, err);
+    if let Err(fault) = read {
+        hint_input(&source, fault, err);
+    }
+    status
+}
+
+/// A line for each packet.
+fn explain_all<R: Read + Drop, O: Write, E: TakesHints>(
+    alloc: Global,
+    input: NotedInput<R>,
+    filter: &Filter,
+    path: &str,
+    out: &mut O,
+    err: &mut E,
+) -> u8
+    ensures { result ≤ 3 }
+{
+    let Explained {
+        source,
+        counts,
+        read,
+        printed,
+    } = explain_each(alloc, input, filter, out);
+    let explained = Explained {
+        source: (),
+        counts,
+        read,
+        printed,
+    };
+    let status = tell_each(explained, path, err);
+    if let Err(fault) = read {
+        hint_input(&source, fault, err);
+    }
+    status
+}
+
+/// The filter is accepted before IN is opened, and IN is not the file that is printed to.
+pub fn explain_files<R: Files + AllocGlobal, O: Write, E: TakesHints>(
+    rt: &R,
+    words: &ExplainWords<'_>,
+    out: &mut O,
+    err: &mut E,
+) -> Result<u8, u8>
+    ensures { MatchResult result (λ status. status ≤ 3) (λ status. status ≤ 3) }
+{
+    let filter = filter_of(rt, words, err)?;
+    let listing = words.listing.unwrap_or(words.input);
+    all_apart(rt, Some(STANDARD_OUTPUT), &[listing, words.input], &[], err)?;
+    let input = match fs::open(rt, words.input) {
+        Ok(input) => Counted::new(Noted::new(Retried::new(input))),
+        Err(error) => return Err(tell_io(&error, words.input, err)),
+    };
+    let alloc = rt.alloc();
+    let Ok(mut out) = BufWriter::with_capacity(alloc, OUTPUT_BUFFER, &mut *out) else {
+        return Err(tell_fault(Fault::NoMemory, REFUSED, err));
+    };
+    Ok(match words.place {
+        Some(place) => explain_place(alloc, input, &filter, place, words.input, &mut out, err),
+        None => explain_all(alloc, input, &filter, words.input, &mut out, err),
+    })
+}

@@ -1,0 +1,5 @@
+//! Tests of `verdicts`: packets of captures that are explained.
+#![tactic(auto)]
+
+#[cfg(test)]
+mod page;

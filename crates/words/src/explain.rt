@@ -1,0 +1,103 @@
+//! The words of `bpftap explain`, by `clap`.
+
+use clap::error::ErrorKind;
+use clap::{Arg, ArgMatches, Command, Error};
+use lines::fields::{number, snapshot_length};
+use std::alloc::{AllocError, Global};
+
+/// What one call of `bpftap explain` asks for.
+#[derive(Clone, Copy, Debug)]
+pub struct ExplainWords<'a> {
+    /// The snapshot length of an expression's program, 1 to [`lines::MAX_SNAP`].
+    pub snap: u32,
+    /// The expression, where `-e` is given.
+    pub expr: Option<&'a str>,
+    /// The path of the listing, where `-f` is given.
+    pub listing: Option<&'a str>,
+    /// The place of the packet that is told in full, where `-p` is given.
+    pub place: Option<u64>,
+    /// The path of the capture.
+    pub input: &'a str,
+}
+
+const EXPLAIN_EXAMPLES: &str = "Examples:
+  bpftap explain -e 'tcp dst port 80 or 443' examples/veth.pcap
+  bpftap explain -p 2 -e 'tcp dst port 80 or 443' examples/veth.pcap
+  tcpdump -ddd 'udp port 53' | bpftap explain -f /dev/stdin examples/veth.pcap
+
+For each packet a line is printed with its place, time and lengths; Yes, No or Abort; and the
+primitive or relation that decided, behind not where it stands under one. Abort: a byte past the
+captured ones was wanted, or a divisor was 0, and no not turns that. For a listing it is the number
+that the program returned, and the place and name of the instruction where its run ended. At the
+end stand the counts. With -p that packet is told in full: how the expression was read, what each
+primitive looked at, and the program's run. Places count from 0 here; tcpdump and Wireshark count
+packets from 1.
+
+Exit status: 0 clean; 1 wrong words, a refused expression, file or listing, no packet at PLACE, or
+want of memory; 2 a torn or bad record, after the packets before it; 3 a file or device failed.";
+
+/// The subcommand.
+pub fn explain_command<'a>(alloc: Global) -> Result<Command<'a>, AllocError> {
+    Command::new(alloc, "explain")
+        .about("Tell of each packet of IN whether the filter accepts it, and what decided")
+        .after_help(EXPLAIN_EXAMPLES)
+        .arg(
+            Arg::new(alloc, "snap")
+                .short('s')
+                .value_name("N")
+                .default_value("262144")
+                .help("Snapshot length that the program answers, 0 to 262144 (0 means 262144)"),
+        )?
+        .arg(
+            Arg::new(alloc, "expr")
+                .short('e')
+                .value_name("EXPR")
+                .required_unless_present("listing")?
+                .help("Filter expression of pcap-filter(7), as one word; it may be empty"),
+        )?
+        .arg(
+            Arg::new(alloc, "listing")
+                .short('f')
+                .value_name("LISTING")
+                .help("Filter program, as lines of numbers in the form of tcpdump -ddd"),
+        )?
+        .arg(
+            Arg::new(alloc, "place")
+                .short('p')
+                .value_name("PLACE")
+                .help("Tell this packet alone, counted from 0, in full"),
+        )?
+        .arg(
+            Arg::new(alloc, "IN")
+                .required(true)
+                .help("Capture to read: a classic savefile of Ethernet frames"),
+        )
+}
+
+/// The place of a packet, where one is given; nothing inside where it is no number.
+fn place_of(matches: &ArgMatches<'_>) -> Option<Option<u64>> {
+    match matches.get_str("place") {
+        Some(text) => Some(Some(number(text.as_bytes(), u64::MAX)?)),
+        None => Some(None),
+    }
+}
+
+/// The words that were found, nothing where one is missing, or where the snapshot length or the place is none.
+pub fn explain_words<'a>(matches: &ArgMatches<'a>) -> Option<ExplainWords<'a>> {
+    Some(ExplainWords {
+        snap: snapshot_length(matches.get_str("snap")?.as_bytes())?,
+        expr: matches.get_str("expr"),
+        listing: matches.get_str("listing"),
+        place: place_of(matches)?,
+        input: matches.get_str("IN")?,
+    })
+}
+
+/// The error of a snapshot length or a place that is not digits alone.
+pub fn bad_explain_words(alloc: Global) -> Result<Error, AllocError> {
+    let mut command = explain_command(alloc)?.bin_name("bpftap explain")?;
+    command.error(
+        ErrorKind::ValueValidation,
+        "-s takes a number from 0 to 262144, and -p one from 0 to 18446744073709551615",
+    )
+}

@@ -1,0 +1,155 @@
+"""`bpftap explain`, `check -x` and `cut -c`: what decided of each packet, one packet in full, and counts."""
+import shutil
+import subprocess
+
+from .common import ALL, ARP_RECORD, HEADER, IP, IP_RECORD, TCP_RECORD, TORN, UDP_RECORD, VETH, WHOLE, case, told
+
+MIXED = HEADER + ARP_RECORD + IP_RECORD + TCP_RECORD + UDP_RECORD
+
+ARP_HEAD = "place 0 time 1.000000000 len 14 captured 14 "
+IP_HEAD = "place 1 time 2.000000000 len 14 captured 14 "
+TCP_HEAD = "place 2 time 1.000000000 len 38 captured 38 "
+UDP_HEAD = "place 3 time 2.000000000 len 38 captured 38 "
+
+
+def lines(*ends):
+    """The lines of the four packets, by what stands behind their lengths, and that of the counts."""
+    *packets, counts = ends
+    heads = [ARP_HEAD, IP_HEAD, TCP_HEAD, UDP_HEAD]
+    return "".join(f"{head}{end}\n" for head, end in zip(heads, packets)) + f"4 packets: {counts}\n"
+
+
+# An expression, what stands behind the lengths of each packet, and the counts.
+EXPLAINED = [
+    ("", ["Yes the empty expression"] * 4 + ["4 Yes, 0 No, 0 Abort"]),
+    ("arp", ["Yes arp", "No arp", "No arp", "No arp", "1 Yes, 3 No, 0 Abort"]),
+    ("not tcp", ["Yes not tcp", "Abort not tcp, byte 23 is not captured", "No not tcp", "Yes not tcp", "2 Yes, 1 No, 1 Abort"]),
+    ("udp or arp", ["Yes arp", "Abort udp, byte 23 is not captured", "No arp", "Yes udp", "2 Yes, 1 No, 1 Abort"]),
+    ("not (len / 0x0e = 1)", ["No not (len / 14 = 1)", "No not (len / 14 = 1)", "Yes not (len / 14 = 1)", "Yes not (len / 14 = 1)",
+                              "2 Yes, 2 No, 0 Abort"]),
+    ("1 / (len - 38) = 0", ["Yes 1 / (len - 38) = 0"] * 2 + ["Abort 1 / (len - 38) = 0, the divisor is 0"] * 2
+     + ["2 Yes, 0 No, 2 Abort"]),
+    ("tcp port 80 or 53", ["No tcp port 53", "Abort tcp port 80, byte 23 is not captured", "Yes tcp port 53", "No tcp port 53",
+                           "1 Yes, 2 No, 1 Abort"]),
+]
+
+
+@case
+def each_packet_is_explained(scene):
+    """What decided is named, behind `not` where it stands under one, and an Abort has its cause."""
+    scene.start({"in.pcap": MIXED})
+    for expr, ends in EXPLAINED:
+        scene.expect(["explain", "-e", expr, "in.pcap"], out=lines(*ends))
+
+
+@case
+def a_listing_is_explained(scene):
+    """The number that a program returns stands with the place and the name of the instruction; a run without a return is an Abort."""
+    # The last byte of an IPv4 frame's first 14 is there; byte 23 is not.
+    protocol = "4\n48 0 0 23\n21 0 1 6\n6 0 0 96\n6 0 0 0\n"
+    scene.start({"in.pcap": MIXED, "ip.bpf": IP, "protocol.bpf": protocol})
+    yes, no = "Yes 262144 at 2: ret #262144", "No 0 at 3: ret #0"
+    scene.expect("explain -f ip.bpf in.pcap", out=lines(no, yes, yes, yes, "3 Yes, 1 No, 0 Abort"))
+    abort = "Abort 0 at 0: ldb [23]"
+    scene.expect("explain -f protocol.bpf in.pcap", out=lines(abort, abort, "Yes 96 at 2: ret #96", no, "1 Yes, 1 No, 2 Abort"))
+
+
+@case
+def the_counts_are_those_of_cut(scene):
+    """On the real capture so many packets are accepted as `cut` writes, and each has a line."""
+    for expr in ("tcp port 80 or 8080", "arp or icmp", "not udp"):
+        seen = scene.run(["explain", "-e", expr, str(VETH)])
+        *packets, counts = seen.out.decode().splitlines()
+        accepted = sum(" Yes " in line for line in packets)
+        scene.check(f"lines of {expr}", (len(packets), counts.split(" Yes")[0]), (253, f"253 packets: {accepted}"))
+        scene.expect(["cut", "-s", "0", "-c", "-e", expr, str(VETH), "out.pcap"], err=f"{accepted} of 253 packets\n")
+
+
+@case
+def a_listing_of_tcpdump_is_explained(scene):
+    """A program of tcpdump accepts the packets that the expression accepts here, and is printed as tcpdump prints it."""
+    if shutil.which("tcpdump") is None:
+        return
+    for expr in ("udp port 53 or arp", "tcp[13] & 2 != 0"):
+        numbers, names = (
+            subprocess.run(["tcpdump", option, "-r", str(VETH), expr], capture_output=True).stdout for option in ("-ddd", "-d"))
+        scene.put({"tcpdump.bpf": numbers})
+        scene.expect("check -d -f tcpdump.bpf", out=names)
+        by_listing = scene.run(["explain", "-f", "tcpdump.bpf", str(VETH)]).out.splitlines()
+        by_expression = scene.run(["explain", "-e", expr, str(VETH)]).out.splitlines()
+        scene.check(f"counts of {expr}", by_listing[-1], by_expression[-1])
+        answers = [[line.split()[8] for line in lines[:-1]] for lines in (by_listing, by_expression)]
+        scene.check(f"answers of {expr}", answers[0], answers[1])
+
+
+WHOLE_PACKET = TCP_HEAD + """Yes tcp port 53
+places count from 0; tcpdump and Wireshark count packets from 1, and this is packet 3 there
+
+expression: udp or tcp port 53 or arp
+
+No         udp
+           ether[12:2] = 0x800
+           ether[23] = 0x6
+Yes        tcp port 53
+           ether[12:2] = 0x800
+           ether[23] = 0x6
+           ether[20:2] = 0x0
+           ether[14] = 0x45
+           ether[34:2] = 0x35
+not asked  arp
+
+program, with the registers behind each instruction:
+"""
+
+
+@case
+def one_packet_is_told_in_full(scene):
+    """Each primitive with its own answer and what it looked at, those that are not asked, and the run."""
+    scene.start({"in.pcap": MIXED, "ip.bpf": IP})
+    seen = scene.run(["explain", "-p", "2", "-e", "udp or tcp port 53 or arp", "in.pcap"])
+    text = seen.out.decode()
+    scene.check("the packet", text[: len(WHOLE_PACKET)], WHOLE_PACKET)
+    scene.check("the end", (text.splitlines()[-1], seen.err, seen.status), ("answer 262144", b"", 0))
+    seen = scene.run("explain -p 1 -f ip.bpf in.pcap").out.decode().splitlines()[-4:]
+    scene.check("the run", [" ".join(line.split()) for line in seen], [
+        "(000) ldh [12] A 0x800 X 0x0", "(001) jeq #0x800 jt 2 jf 3 A 0x800 X 0x0", "(002) ret #262144 A 0x800 X 0x0", "answer 262144"])
+    seen = scene.run(["explain", "-p", "1", "-e", "not tcp", "in.pcap"]).out.decode()
+    scene.check("what is missing", "Abort      tcp, byte 23 is not captured\n" in seen and "ether[23] is not captured\n" in seen, True)
+
+
+@case
+def faults_are_told(scene):
+    """A place that there is not, a torn capture, two filters, and wrong words."""
+    scene.start({"in.pcap": WHOLE, "torn.pcap": TORN, "all.bpf": ALL})
+    scene.refuse("explain -p 1 -e ip in.pcap", 1, "NoPacket 1")
+    scene.refuse("explain -p 1 -e ip torn.pcap", 2, "TornRecord 1")
+    scene.refuse("explain -e ip -f all.bpf in.pcap", 1, "FilterTwice")
+    scene.refuse("explain -e 'port http' none.pcap", 1, "BadWord 5")
+    scene.refuse("explain -e ip none.pcap", 3, "Device none.pcap")
+    line = "place 0 time 2.000000000 len 14 captured 14 Yes ip\n1 packets: 1 Yes, 0 No, 0 Abort\n"
+    scene.expect("explain -e ip torn.pcap", 2, told("TornRecord 1"), line)
+    scene.expect("explain -e ip in.pcap", 3, told("Device standard output"), streams=">/dev/full")
+    for words in ("explain in.pcap", "explain -p +1 -e ip in.pcap", "explain -s 262145 -e ip in.pcap"):
+        seen = scene.run(words)
+        scene.check(f"usage behind {words}", (b"Usage: bpftap explain" in seen.err, seen.out, seen.status), (True, b"", 1))
+
+
+@case
+def an_expression_is_printed_as_it_was_read(scene):
+    """What is inherited is written out, on one line, also where the program is too long."""
+    for expr, read in [("tcp port 80 or 8080", "tcp port 80 or tcp port 8080"), ("", ""), ("1=1", "1 = 1")]:
+        scene.expect(["check", "-x", expr], out=read + "\n")
+    scene.expect(["check", "-x", "ip" + "||ip" * 2047], out="ip" + " or ip" * 2047 + "\n")
+    scene.refuse("check -x 'tcp and 80'", 1, "NoQualifier 8")
+    for words in ("check -x -d ip", "check -x -f all.bpf"):
+        seen = scene.run(words)
+        scene.check(f"usage behind {words}", (b"Usage: bpftap check" in seen.err, seen.status), (True, 1))
+
+
+@case
+def packets_are_counted(scene):
+    """`cut -c` tells how many of how many packets were written, behind a torn record too, and nothing where a device failed."""
+    scene.start({"in.pcap": MIXED, "torn.pcap": TORN})
+    scene.expect("cut -s 0 -c -e arp in.pcap out.pcap", err="1 of 4 packets\n")
+    scene.expect("cut -s 0 -c torn.pcap out.pcap", 2, told("TornRecord 1") + "1 of 1 packets\n")
+    scene.expect("cut -s 0 -c in.pcap none/out.pcap", 3, told("Device none/out.pcap"))
