@@ -25,9 +25,8 @@ EXPLAINED = [
     ("arp", ["Yes arp", "No arp", "No arp", "No arp", "1 Yes, 3 No, 0 Abort"]),
     ("not tcp", ["Yes not tcp", "Abort not tcp, byte 23 is not captured", "No not tcp", "Yes not tcp", "2 Yes, 1 No, 1 Abort"]),
     ("udp or arp", ["Yes arp", "Abort udp, byte 23 is not captured", "No arp", "Yes udp", "2 Yes, 1 No, 1 Abort"]),
-    ("not (len / 0x0e = 1)", ["No not (len / 14 = 1)", "No not (len / 14 = 1)", "Yes not (len / 14 = 1)", "Yes not (len / 14 = 1)",
-                              "2 Yes, 2 No, 0 Abort"]),
-    ("1 / (len - 38) = 0", ["Yes 1 / (len - 38) = 0"] * 2 + ["Abort 1 / (len - 38) = 0, the divisor is 0"] * 2
+    ("not (len / 0x0e = 1)", ["No not ((len / 14) = 1)"] * 2 + ["Yes not ((len / 14) = 1)"] * 2 + ["2 Yes, 2 No, 0 Abort"]),
+    ("1 / (len - 38) = 0", ["Yes (1 / (len - 38)) = 0"] * 2 + ["Abort (1 / (len - 38)) = 0, the divisor is 0"] * 2
      + ["2 Yes, 0 No, 2 Abort"]),
     ("tcp port 80 or 53", ["No tcp port 53", "Abort tcp port 80, byte 23 is not captured", "Yes tcp port 53", "No tcp port 53",
                            "1 Yes, 2 No, 1 Abort"]),
