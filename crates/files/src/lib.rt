@@ -3,6 +3,5 @@
 
 pub mod late;
 pub mod paths;
-pub mod piped;
 pub mod reading;
 pub mod retried;

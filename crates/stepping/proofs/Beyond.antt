@@ -7,8 +7,9 @@ use Rattle.tap.specs.declared.fault.Fault.TheVariants.{TooMany, NoListener, Capt
 use Rattle.tap.specs.declared.filters.Spec.{Spec}
 use Rattle.tap.specs.declared.step.Step.{Step}
 use Rattle.tap.specs.Refusals.{AreTooMany, IsFirst}
-use Rattle.stepping.specs.declared.steps.Ended.{Ended}
-use Rattle.stepping.specs.Playing.{Streams, Plays}
+use Rattle.lines.specs.declared.telling.Ended.{Ended}
+use Rattle.lines.specs.Sending.{Streams}
+use Rattle.stepping.specs.Playing.{Plays}
 
 -- ---- What is kept, line by line
 

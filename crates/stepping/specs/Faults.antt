@@ -1,30 +1,15 @@
 -- How the fault of a replay reads: its name, its numbers each behind a space, and a fault inside it behind a space.
 use Rattle.std.specs.Prelude.{ℕ, List, ◌++◌, codes}
 use Rattle.std.specs.Fmt.{decimal}
-use Rattle.savefile.specs.declared.fault.Fault.{Fault as RecordFault}
-use Rattle.savefile.specs.declared.fault.Fault.TheVariants as record_fault
 use Rattle.filterlang.specs.declared.fault.Fault.{Fault as Misreading}
 use Rattle.filterlang.specs.declared.fault.Fault.TheVariants as misread
 use Rattle.filtergen.specs.declared.refusal.Refusal.{Refusal}
 use Rattle.filtergen.specs.declared.refusal.Refusal.TheVariants as uncompiled
 use Rattle.listener.specs.declared.fault.OpenFault.{OpenFault}
 use Rattle.listener.specs.declared.fault.OpenFault.TheVariants as unopened
+use Rattle.lines.specs.Telling.{capture_fault_text}
 use Rattle.tap.specs.declared.fault.Fault.{Fault}
 use Rattle.tap.specs.declared.fault.Fault.TheVariants.{TooMany, NoListener, Capture, Expression, Compile, Open, NoMemory}
-
--- of a capture
-abbrev pub capture_fault_text : RecordFault → List ℕ
-capture_fault_text record_fault.ShortHeader = codes "ShortHeader"
-capture_fault_text record_fault.NotSavefile = codes "NotSavefile"
-capture_fault_text record_fault.Version = codes "Version"
-capture_fault_text record_fault.LinkType = codes "LinkType"
-capture_fault_text (record_fault.TornRecord place) = codes "TornRecord " ++ decimal place
-capture_fault_text (record_fault.BadFraction place) = codes "BadFraction " ++ decimal place
-capture_fault_text (record_fault.TooLong place) = codes "TooLong " ++ decimal place
-capture_fault_text record_fault.NoMemory = codes "NoMemory"
-capture_fault_text record_fault.Device = codes "Device"
-capture_fault_text record_fault.Failed = codes "Failed"
-capture_fault_text record_fault.CountFull = codes "CountFull"
 
 -- of an expression, with the byte at which it stands
 abbrev pub expression_fault_text : Misreading → List ℕ

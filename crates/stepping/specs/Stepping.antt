@@ -6,12 +6,12 @@ use Rattle.tap.specs.declared.step.Step.{Step}
 use Rattle.lines.specs.declared.fault.LineFault.{LineFault}
 use Rattle.lines.specs.declared.fault.LineFault.TheVariants.{Listeners, Script, NoMemory}
 use Rattle.lines.specs.Files.{IsFileOf, IsFirstBad}
-use Rattle.lines.specs.Sending.{Takes}
+use Rattle.lines.specs.declared.telling.Ended.{Ended}
+use Rattle.lines.specs.Sending.{Takes, Streams}
 use Rattle.lines.specs.Telling.{told_line, line_fault_text}
-use Rattle.stepping.specs.declared.steps.Ended.{Ended}
 use Rattle.stepping.specs.Listeners.{IsListenerLine}
 use Rattle.stepping.specs.Script.{IsStepLine}
-use Rattle.stepping.specs.Playing.{Streams, Plays}
+use Rattle.stepping.specs.Playing.{Plays}
 
 -- Why the files are not taken: the first bad line, one of LISTENERS before one of SCRIPT, or want of memory.
 abbrev pub IsRefusedFiles : List ℕ → List ℕ → LineFault → Type 0

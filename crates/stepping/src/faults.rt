@@ -1,9 +1,10 @@
 //! How the fault of a replay reads.
 
 ghost use Rattle.std.specs.Prelude.{Some};
-ghost use Rattle.stepping.specs.Faults.{capture_fault_text, expression_fault_text, compile_fault_text, open_fault_text, fault_text};
+ghost use Rattle.stepping.specs.Faults.{expression_fault_text, compile_fault_text, open_fault_text, fault_text};
 
 use filtergen::Refusal;
+use lines::CaptureFaultText;
 use listener::OpenFault;
 use std::fmt;
 use std::fmt::{Display, Formatter};
@@ -12,26 +13,6 @@ use tap::Fault;
 /// A fault as it is told, by a contract that names each of its bytes: the same text as the fault's own.
 #[derive(Clone, Copy)]
 pub struct FaultText<F>(pub F);
-
-impl Display for FaultText<savefile::Fault> {
-    ghost output = { λ fault. Some (capture_fault_text fault.0) };
-
-    fn fmt<W: fmt::Write>(&self, f: &mut Formatter<W>) -> fmt::Result {
-        match self.0 {
-            savefile::Fault::ShortHeader => f.write_str("ShortHeader"),
-            savefile::Fault::NotSavefile => f.write_str("NotSavefile"),
-            savefile::Fault::Version => f.write_str("Version"),
-            savefile::Fault::LinkType => f.write_str("LinkType"),
-            savefile::Fault::TornRecord(place) => write!(f, "TornRecord {place}"),
-            savefile::Fault::BadFraction(place) => write!(f, "BadFraction {place}"),
-            savefile::Fault::TooLong(place) => write!(f, "TooLong {place}"),
-            savefile::Fault::NoMemory => f.write_str("NoMemory"),
-            savefile::Fault::Device => f.write_str("Device"),
-            savefile::Fault::Failed => f.write_str("Failed"),
-            savefile::Fault::CountFull => f.write_str("CountFull"),
-        }
-    }
-}
 
 impl Display for FaultText<filterlang::Fault> {
     ghost output = { λ fault. Some (expression_fault_text fault.0) };
@@ -87,7 +68,7 @@ impl Display for FaultText<Fault> {
         match self.0 {
             Fault::TooMany => f.write_str("TooMany"),
             Fault::NoListener(step) => write!(f, "NoListener {step}"),
-            Fault::Capture(n, fault) => write!(f, "Capture {n} {}", FaultText(fault)),
+            Fault::Capture(n, fault) => write!(f, "Capture {n} {}", CaptureFaultText(fault)),
             Fault::Expression(l, fault) => write!(f, "Expression {l} {}", FaultText(fault)),
             Fault::Compile(l, fault) => write!(f, "Compile {l} {}", FaultText(fault)),
             Fault::Open(l, fault) => write!(f, "Open {l} {}", FaultText(fault)),

@@ -2,13 +2,13 @@
 
 ghost use Rattle.std.specs.Prelude.{◌≡◌, ◌++◌, ℕ, List, max, map, true, IfOk, IfErr};
 ghost use Rattle.lines.specs.Files.{IsFileOf};
-ghost use Rattle.lines.specs.Sending.{Takes};
-ghost use Rattle.lines.specs.Telling.{told_line};
+ghost use Rattle.lines.specs.Sending.{Takes, streams};
+ghost use Rattle.lines.specs.Telling.{told_line, output_line, print_status_of};
 ghost use Rattle.stepping.specs.Listeners.{AreFirstOf};
 ghost use Rattle.stepping.specs.Script.{IsStepLine};
 ghost use Rattle.stepping.specs.Faults.{fault_text};
 ghost use Rattle.stepping.specs.Printed.{printed_reports};
-ghost use Rattle.stepping.specs.Playing.{streams, print_status_of, record_fault_status, output_line, record_fault_line, Plays};
+ghost use Rattle.stepping.specs.Playing.{record_fault_status, record_fault_line, Plays};
 ghost use Rattle.stepping.specs.Stepping.{IsRefusedFiles, Steps, StepsTo};
 
 use crate::answers::{AnswersLeft, write_answers};
@@ -17,7 +17,7 @@ use crate::listeners::read_listeners;
 use crate::reports::write_reports;
 use crate::script::read_script;
 use lines::LineFault;
-use lines::telling::{BAD_RECORD, DEVICE, REFUSED, tell_line};
+use lines::telling::{BAD_RECORD, Ended, REFUSED, print_status, tell_line, tell_output};
 use std::alloc::Global;
 use std::io;
 use std::io::Write;
@@ -28,15 +28,6 @@ use tap::{Fault, Report, Spec, Step, Trace, replay, trace};
 pub struct Asked {
     pub specs: Vec<Spec>,
     pub steps: Vec<Step>,
-}
-
-/// What playing came to.
-#[derive(Drop)]
-pub struct Ended {
-    /// The exit status.
-    pub status: u8,
-    /// Whether standard error took what was told.
-    pub told: io::Result<()>,
 }
 
 /// Reads what LISTENERS and SCRIPT ask for. A bad line of LISTENERS goes before one of SCRIPT. Of LISTENERS at most 65 listeners
@@ -51,16 +42,6 @@ pub fn read_asked(alloc: Global, listeners: &[u8], script: &[u8]) -> Result<Aske
     Ok(Asked { specs, steps })
 }
 
-/// The exit status of printing.
-fn print_status_of(printed: &io::Result<()>) -> u8
-    ensures { result ≡ print_status_of printed.now }
-{
-    match printed {
-        Ok(()) => 0,
-        Err(_) => DEVICE,
-    }
-}
-
 /// The exit status of a capture that ended with a record fault, if one did.
 fn record_fault_status(record_fault: Option<(u32, savefile::Fault)>) -> u8
     ensures { result ≡ record_fault_status record_fault }
@@ -69,16 +50,6 @@ fn record_fault_status(record_fault: Option<(u32, savefile::Fault)>) -> u8
         Some(_) => BAD_RECORD,
         None => 0,
     }
-}
-
-/// Tells that standard output failed, if this is the status of that.
-fn tell_output<E: Write>(printed: u8, err: &mut E) -> io::Result<()>
-    ensures { Takes (E.contents err.old) (E.contents err.new) result (output_line printed) }
-{
-    if printed == 0 {
-        return Ok(());
-    }
-    tell_line("Device standard output", err)
 }
 
 /// Tells the capture that ended with a record fault, if one did.
@@ -94,14 +65,14 @@ fn tell_record_fault<E: Write>(
     }
 }
 
-/// Tells standard output that failed, if this is the status of that, and then a capture's record fault. Where the first is not taken, the
-/// second is not told.
+/// Tells that standard output failed, if it did, and then a capture's record fault. Where the first is not taken, the second is not
+/// told.
 fn tell_both<E: Write>(
-    printed: u8,
+    printed: &io::Result<()>,
     record_fault: Option<(u32, savefile::Fault)>,
     err: &mut E,
 ) -> io::Result<()>
-    ensures { Takes (E.contents err.old) (E.contents err.new) result (output_line printed ++ record_fault_line record_fault) }
+    ensures { Takes (E.contents err.old) (E.contents err.new) result (output_line printed.now ++ record_fault_line record_fault) }
 {
     tell_output(printed, err)?;
     tell_record_fault(record_fault, err)
@@ -114,12 +85,11 @@ fn end<E: Write>(
     err: &mut E,
 ) -> Ended
     ensures greatest { result.status ≡ max (print_status_of printed) (record_fault_status record_fault) }
-    ensures tells { Takes (E.contents err.old) (E.contents err.new) result.told (output_line (print_status_of printed) ++ record_fault_line record_fault) }
+    ensures tells { Takes (E.contents err.old) (E.contents err.new) result.told (output_line printed ++ record_fault_line record_fault) }
 {
-    let status = print_status_of(&printed);
     Ended {
-        status: status.max(record_fault_status(record_fault)),
-        told: tell_both(status, record_fault, err),
+        status: print_status(&printed).max(record_fault_status(record_fault)),
+        told: tell_both(&printed, record_fault, err),
     }
 }
 

@@ -1,6 +1,7 @@
 //! The texts of a replay's faults, which `stepping` says again by a contract, are the faults' own.
 
 use filtergen::Refusal;
+use lines::CaptureFaultText;
 use listener::OpenFault;
 use std::fmt::Display;
 use std::process::Abort;
@@ -69,7 +70,7 @@ const OF_REPLAYS: [Fault; 14] = [
 #[test]
 fn faults_are_told_by_their_own_texts(rt: HostRuntime) -> Result<(), Fail> {
     for fault in OF_CAPTURES {
-        is_its_own(&rt, FaultText(fault), fault)?;
+        is_its_own(&rt, CaptureFaultText(fault), fault)?;
     }
     for fault in OF_EXPRESSIONS {
         is_its_own(&rt, FaultText(fault), fault)?;
