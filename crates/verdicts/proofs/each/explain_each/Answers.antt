@@ -5,8 +5,14 @@ use Rattle.verdicts.proofs.each.explain_each.Goals as goal
 
 pub returns-in-Err-clause-explains : goal.returns-in-Err-clause-explains
 returns-in-Err-clause-explains g c =
-    inl (c.in-Err.fault, unopened _ _ c.in-Err.fault c.in-Err.ensures.refused c.in-Err.ensures.taken, refl, refl, Keeps-refl _,
-    record { packets = refl; yes = refl; no = refl; abort = refl })
+    inl (
+      c.in-Err.fault,
+      unopened _ _ c.in-Err.fault c.in-Err.ensures.refused c.in-Err.ensures.taken,
+      refl,
+      refl,
+      Keeps-refl _,
+      record { packets = refl; yes = refl; no = refl; abort = refl },
+    )
 
 pub returns-clause-explains : goal.returns-clause-explains
 returns-clause-explains g c =
