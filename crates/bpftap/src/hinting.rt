@@ -22,7 +22,7 @@ use lines::telling::Path;
 use listener::OpenFault;
 use replay::{InterfaceEnd, InterfaceReport, ListenerReport, MOST_SPARES, RunFault, TaskEnd};
 use running::listeners::read_run_lines;
-use running::run::PlanFault;
+use running::plan::PlanFault;
 use savefile::{Counted, Fault};
 use std::alloc::Global;
 use std::io::{BufWriter, ErrorKind, Write};
