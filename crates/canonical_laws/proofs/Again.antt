@@ -1,0 +1,40 @@
+-- A canonical text is read as its tree.
+use Rattle.std.proofs.Common.{◌≡◌, ℕ, Bool, true, false, List, [], ◌∷◌, ◌++◌, None, refl, sym, ap, ◌∙◌, subst}
+use Rattle.std.proofs.lemmas.List.{append-nil}
+use Rattle.filterlang.specs.declared.token.Kind.{Kind}
+use Rattle.filterlang.specs.declared.token.Token.{Token}
+use Rattle.filterlang.specs.Tokens.{Lexes}
+use Rattle.filterlang.specs.Phrases.{kinds}
+use Rattle.filterlang.specs.Trees.{Tree, everything}
+use Rattle.filterlang.specs.Grammar.{Reads, reads_nothing, reads_expr, Expression}
+use Rattle.filterlang.specs.Texts.{ReadsAs}
+use Rattle.canonical.specs.Parentheses.{fits}
+use Rattle.canonical.specs.Canonical.{canonical, tree_text, parentheses_of}
+use Rattle.canonical_laws.proofs.Spelled.{Spelled, spelled_end, lexes_from}
+use Rattle.canonical_laws.proofs.Endings.{ends_end}
+use Rattle.canonical_laws.proofs.Sequences.{Parentheses, tree_tokens}
+use Rattle.canonical_laws.proofs.Terms.{stops_end}
+use Rattle.canonical_laws.proofs.Arithmetic.{Suits}
+use Rattle.canonical_laws.proofs.Expressions.{IsTree, trees_read}
+use Rattle.canonical_laws.proofs.Chosen.{needed, chosen_suits, chosen_fits}
+use Rattle.canonical_laws.proofs.Texts.{tree_spells}
+
+-- what a text is spelled as is read of it
+spelled_reads : (text : List ℕ) (ks : List Kind) (t : Tree) → Spelled text ks → Reads ks t → ReadsAs text t
+spelled_reads text ks t s r =
+    let found = lexes_from {text = text} 0 refl s in
+    (found.0, found.1, subst (λ x. Reads x t) (sym found.2) r)
+
+-- with parentheses that suit a tree, it is read again
+text_reads : (chosen : Parentheses) (t : Tree) → Suits chosen → IsTree t → fits chosen t 64 ≡ true → ReadsAs (tree_text chosen t) t
+text_reads chosen t suits is f =
+    let spelled = subst (λ x. Spelled x (tree_tokens chosen t [])) (append-nil (tree_text chosen t)) (tree_spells chosen t is [] [] ends_end spelled_end) in
+    spelled_reads (tree_text chosen t) (tree_tokens chosen t []) t spelled (reads_expr ((trees_read chosen suits t is 64 f).0 None [] stops_end).1)
+
+pub canonical_reads : (t : Tree) → IsTree t → fits needed t 64 ≡ true → ReadsAs (canonical t) t
+unfolding canonical
+canonical_reads t is f = text_reads (parentheses_of t) t (chosen_suits t) is (chosen_fits t f)
+
+pub empty_reads : ReadsAs (canonical everything) everything
+unfolding canonical fits tree_text
+empty_reads = spelled_reads [] [] everything spelled_end reads_nothing

@@ -1,0 +1,134 @@
+-- No primitive begins a relation, and none has parentheses.
+use Rattle.std.proofs.Common.{◌≡◌, ℕ, zero, suc, ◌+◌, ◌-◌, ◌<◌, ◌≤◌, Bool, true, false, not, List, [], ◌∷◌, Option, Some, None, length, get_or, refl, sym, ap, ◌∙◌, subst, arith, ◌==◌, le-leb, min, max, nat_le}
+use Rattle.std.specs.Prelude.{◌^◌, ◌&&◌, bit_and, if◌then◌else◌, option_map}
+use Rattle.std.specs.Int.{w32, leading_ones, bit_not}
+use Rattle.std.proofs.lemmas.Bool.{eqb-true, eqb-false}
+use Rattle.std.proofs.lemmas.Nat.{leading_le}
+use Rattle.filterlang.specs.declared.token.Kind.{Kind}
+use Rattle.filterlang.specs.declared.token.Kind.TheVariants as kind
+use Rattle.filterlang.specs.declared.token.Protocol.TheVariants as protocols
+use Rattle.filterlang.specs.declared.token.TypeWord.TheVariants as types
+use Rattle.filterlang.specs.declared.token.Parts.TheVariants.{Four}
+use Rattle.filterlang.specs.declared.token.Joint.{Joint}
+use Rattle.filterlang.specs.declared.token.Operator.TheVariants.{Minus, Divide}
+use Rattle.filterlang.specs.declared.token.EthernetAddress.{EthernetAddress}
+use Rattle.filterlang.specs.declared.tree.Direction.{Direction}
+use Rattle.filterlang.specs.declared.tree.Direction.TheVariants.{Dst, Src, SrcAndDst, SrcOrDst}
+use Rattle.filterlang.specs.declared.tree.Network.{Network}
+use Rattle.filterlang.specs.declared.tree.Network.TheVariants as networks
+use Rattle.filterlang.specs.declared.tree.Plain.{Plain}
+use Rattle.filterlang.specs.declared.tree.Plain.TheVariants as plain
+use Rattle.filterlang.specs.declared.tree.Primitive.{Primitive}
+use Rattle.filterlang.specs.declared.tree.Primitive.TheVariants as primitives
+use Rattle.filterlang.specs.declared.tree.Transport.{Transport}
+use Rattle.filterlang.specs.declared.tree.Transport.TheVariants as transports
+use Rattle.filterlang.specs.Phrases.{identifier_at}
+use Rattle.filterlang.specs.Qualifiers.{mask_of, identified, port_of}
+use Rattle.filterlang.specs.Primitives.{ports_between, stands_alone}
+use Rattle.filterlang.specs.Grammar.{begins_relation, bracket_follows, after_matching, operator_follows, Prim, prim_plain, prim_ether_broadcast, prim_ether_multicast, prim_ip_multicast, prim_less, prim_greater, prim_phrase, prim_portrange}
+use Rattle.canonical_laws.proofs.Sequences.{Before, plain_word, network_tokens, transport_tokens, direction_tokens, mask_tokens, net_tokens, ports_tokens, primitive_tokens}
+use Rattle.canonical_laws.proofs.Terms.{IsPrimitive, Stops, stops_end, stops_close, stops_joint, Nearest, IsPrimRead, either_of}
+
+-- no primitive begins a relation, whatever its two forms
+net_apart : (address mask : ℕ) (ks : List Kind) → begins_relation (net_tokens address mask ks) ≡ false
+net_apart address mask ks = either_of (λ ts. begins_relation ts ≡ false) (mask == 4294967295) (kind.Type types.Host ∷ kind.Dotted address Four ∷ ks) (kind.Type types.Net ∷ kind.Dotted address Four ∷ mask_tokens mask ks) (λ e. refl) (λ e. refl)
+
+net_no_bracket : (address mask : ℕ) (ks : List Kind) → bracket_follows (net_tokens address mask ks) ≡ false
+net_no_bracket address mask ks = either_of (λ ts. bracket_follows ts ≡ false) (mask == 4294967295) (kind.Type types.Host ∷ kind.Dotted address Four ∷ ks) (kind.Type types.Net ∷ kind.Dotted address Four ∷ mask_tokens mask ks) (λ e. refl) (λ e. refl)
+
+ports_apart : (low high : ℕ) (ks : List Kind) → begins_relation (ports_tokens low high ks) ≡ false
+ports_apart low high ks = either_of (λ ts. begins_relation ts ≡ false) (low == high) (kind.Type types.Port ∷ kind.Number low ∷ ks) (kind.PortRange ∷ kind.Number low ∷ kind.Operator Minus ∷ kind.Number high ∷ ks) (λ e. refl) (λ e. refl)
+
+ports_no_bracket : (low high : ℕ) (ks : List Kind) → bracket_follows (ports_tokens low high ks) ≡ false
+ports_no_bracket low high ks = either_of (λ ts. bracket_follows ts ≡ false) (low == high) (kind.Type types.Port ∷ kind.Number low ∷ ks) (kind.PortRange ∷ kind.Number low ∷ kind.Operator Minus ∷ kind.Number high ∷ ks) (λ e. refl) (λ e. refl)
+
+-- a direction is no bracket, and begins no relation
+direction_apart : (direction : Direction) (ts : List Kind) → begins_relation ts ≡ false → begins_relation (direction_tokens direction ts) ≡ false
+direction_apart Src ts h = refl
+direction_apart Dst ts h = refl
+direction_apart SrcOrDst ts h = h
+direction_apart SrcAndDst ts h = refl
+
+direction_no_bracket : (direction : Direction) (ts : List Kind) → bracket_follows ts ≡ false → bracket_follows (direction_tokens direction ts) ≡ false
+direction_no_bracket Src ts h = refl
+direction_no_bracket Dst ts h = refl
+direction_no_bracket SrcOrDst ts h = h
+direction_no_bracket SrcAndDst ts h = refl
+
+network_apart : (network : Option Network) (ts : List Kind) → begins_relation ts ≡ false → bracket_follows ts ≡ false → begins_relation (network_tokens network ts) ≡ false
+network_apart None ts h k = h
+network_apart (Some networks.Ip) ts h k = k
+network_apart (Some networks.Arp) ts h k = k
+network_apart (Some networks.Rarp) ts h k = k
+
+transport_apart : (transport : Option Transport) (ts : List Kind) → begins_relation ts ≡ false → bracket_follows ts ≡ false → begins_relation (transport_tokens transport ts) ≡ false
+transport_apart None ts h k = h
+transport_apart (Some transports.Tcp) ts h k = k
+transport_apart (Some transports.Udp) ts h k = k
+transport_apart (Some transports.Sctp) ts h k = k
+
+stops_no_bracket : (ks : List Kind) → Stops ks → bracket_follows ks ≡ false
+stops_no_bracket ks stops_end = refl
+stops_no_bracket ks stops_close = refl
+stops_no_bracket ks stops_joint = refl
+
+pub stops_no_operator : (ks : List Kind) → Stops ks → operator_follows ks ≡ false
+stops_no_operator ks stops_end = refl
+stops_no_operator ks stops_close = refl
+stops_no_operator ks stops_joint = refl
+
+pub primitive_apart : (p : Primitive) (ks : List Kind) → Stops ks → begins_relation (primitive_tokens p ks) ≡ false
+primitive_apart (primitives.Protocol p) ks s = stops_no_bracket ks s
+primitive_apart (primitives.Net network direction address mask) ks s =
+    network_apart network (direction_tokens direction (net_tokens address mask ks)) (direction_apart direction (net_tokens address mask ks) (net_apart address mask ks)) (direction_no_bracket direction (net_tokens address mask ks) (net_no_bracket address mask ks))
+primitive_apart (primitives.EtherHost direction address) ks s = direction_no_bracket direction (kind.Type types.Host ∷ kind.Ethernet address ∷ ks) refl
+primitive_apart (primitives.Ports transport direction low high) ks s =
+    transport_apart transport (direction_tokens direction (ports_tokens low high ks)) (direction_apart direction (ports_tokens low high ks) (ports_apart low high ks)) (direction_no_bracket direction (ports_tokens low high ks) (ports_no_bracket low high ks))
+primitive_apart (primitives.IpProto n) ks s = refl
+primitive_apart (primitives.EtherProto n) ks s = refl
+primitive_apart primitives.EtherBroadcast ks s = refl
+primitive_apart primitives.EtherMulticast ks s = refl
+primitive_apart primitives.IpMulticast ks s = refl
+primitive_apart (primitives.Less n) ks s = refl
+primitive_apart (primitives.Greater n) ks s = refl
+
+-- a primitive has no parentheses
+net_matched : (d address mask : ℕ) (ks : List Kind) → after_matching d (net_tokens address mask ks) ≡ after_matching d ks
+net_matched d address mask ks = either_of (λ ts. after_matching d ts ≡ after_matching d ks) (mask == 4294967295) (kind.Type types.Host ∷ kind.Dotted address Four ∷ ks) (kind.Type types.Net ∷ kind.Dotted address Four ∷ mask_tokens mask ks) (λ e. refl)
+    (λ e. either_of (λ ts. after_matching d ts ≡ after_matching d ks) (mask_of (leading_ones w32 mask) == mask) (kind.Operator Divide ∷ kind.Number (leading_ones w32 mask) ∷ ks) (kind.Mask ∷ kind.Dotted mask Four ∷ ks) (λ e. refl) (λ e. refl))
+
+ports_matched : (d low high : ℕ) (ks : List Kind) → after_matching d (ports_tokens low high ks) ≡ after_matching d ks
+ports_matched d low high ks = either_of (λ ts. after_matching d ts ≡ after_matching d ks) (low == high) (kind.Type types.Port ∷ kind.Number low ∷ ks) (kind.PortRange ∷ kind.Number low ∷ kind.Operator Minus ∷ kind.Number high ∷ ks) (λ e. refl) (λ e. refl)
+
+direction_matched : (d : ℕ) (direction : Direction) (ks : List Kind) → after_matching d (direction_tokens direction ks) ≡ after_matching d ks
+direction_matched d Src ks = refl
+direction_matched d Dst ks = refl
+direction_matched d SrcOrDst ks = refl
+direction_matched d SrcAndDst ks = refl
+
+network_matched : (d : ℕ) (network : Option Network) (ks : List Kind) → after_matching d (network_tokens network ks) ≡ after_matching d ks
+network_matched d None ks = refl
+network_matched d (Some networks.Ip) ks = refl
+network_matched d (Some networks.Arp) ks = refl
+network_matched d (Some networks.Rarp) ks = refl
+
+transport_matched : (d : ℕ) (transport : Option Transport) (ks : List Kind) → after_matching d (transport_tokens transport ks) ≡ after_matching d ks
+transport_matched d None ks = refl
+transport_matched d (Some transports.Tcp) ks = refl
+transport_matched d (Some transports.Udp) ks = refl
+transport_matched d (Some transports.Sctp) ks = refl
+
+pub primitive_matched : (p : Primitive) (d : ℕ) (ks : List Kind) → after_matching d (primitive_tokens p ks) ≡ after_matching d ks
+primitive_matched (primitives.Protocol p) d ks = refl
+primitive_matched (primitives.Net network direction address mask) d ks =
+    network_matched d network (direction_tokens direction (net_tokens address mask ks)) ∙ direction_matched d direction (net_tokens address mask ks) ∙ net_matched d address mask ks
+primitive_matched (primitives.EtherHost direction address) d ks = direction_matched d direction (kind.Type types.Host ∷ kind.Ethernet address ∷ ks)
+primitive_matched (primitives.Ports transport direction low high) d ks =
+    transport_matched d transport (direction_tokens direction (ports_tokens low high ks)) ∙ direction_matched d direction (ports_tokens low high ks) ∙ ports_matched d low high ks
+primitive_matched (primitives.IpProto n) d ks = refl
+primitive_matched (primitives.EtherProto n) d ks = refl
+primitive_matched primitives.EtherBroadcast d ks = refl
+primitive_matched primitives.EtherMulticast d ks = refl
+primitive_matched primitives.IpMulticast d ks = refl
+primitive_matched (primitives.Less n) d ks = refl
+primitive_matched (primitives.Greater n) d ks = refl

@@ -1,0 +1,16 @@
+mod Spelled
+mod Digits
+mod Runs
+mod Numbers
+mod Sequences
+mod Endings
+mod Ethernet
+mod Words
+mod Arithmetic
+mod Terms
+mod Primitives
+mod Apart
+mod Expressions
+mod Chosen
+mod Texts
+mod Again
