@@ -18,6 +18,9 @@ use Rattle.canonical_laws.proofs.Arithmetic.{Suits}
 use Rattle.canonical_laws.proofs.Expressions.{IsTree, trees_read}
 use Rattle.canonical_laws.proofs.Chosen.{needed, chosen_suits, chosen_fits}
 use Rattle.canonical_laws.proofs.Texts.{tree_spells}
+use Rattle.canonical_laws.proofs.Bounds.{AreTokens, tokens_are}
+use Rattle.canonical_laws.proofs.Levels.{reads_made}
+use Rattle.canonical_laws.specs.Laws.{IsReadAgain}
 
 -- what a text is spelled as is read of it
 spelled_reads : (text : List ℕ) (ks : List Kind) (t : Tree) → Spelled text ks → Reads ks t → ReadsAs text t
@@ -38,3 +41,14 @@ canonical_reads t is f = text_reads (parentheses_of t) t (chosen_suits t) is (ch
 pub empty_reads : ReadsAs (canonical everything) everything
 unfolding canonical fits tree_text
 empty_reads = spelled_reads [] [] everything spelled_end reads_nothing
+
+-- a tree that some text reads as is what its canonical text reads as
+again : (tokens : List Token) (tree : Tree) → AreTokens (kinds tokens) → Reads (kinds tokens) tree → ReadsAs (canonical tree) tree
+again tokens tree are reads = by_reading (kinds tokens) tree are reads
+  where
+    by_reading : (ks : List Kind) (t : Tree) → AreTokens ks → Reads ks t → ReadsAs (canonical t) t
+    by_reading ks t is reads_nothing = empty_reads
+    by_reading ks t is (reads_expr h) = let made = reads_made h is in canonical_reads t made.0 made.1
+
+pub read_again : IsReadAgain
+read_again text tree found = again found.0 tree (tokens_are found.1) found.2

@@ -52,7 +52,7 @@ level_most (binary op v w) = precedence_most op
 level_most (accessor layer v size) = omega arith
 
 -- an operator has a precedence below its own
-precedence_some : (op : Operator) → (k : ℕ) × (precedence_of op ≡ suc k)
+pub precedence_some : (op : Operator) → (k : ℕ) × (precedence_of op ≡ suc k)
 precedence_some operator.Plus = (1, refl)
 precedence_some operator.Minus = (1, refl)
 precedence_some operator.Times = (0, refl)

@@ -14,3 +14,7 @@ mod Expressions
 mod Chosen
 mod Texts
 mod Again
+mod Bounds
+mod Identifiers
+mod Made
+mod Levels
