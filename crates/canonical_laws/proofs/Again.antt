@@ -1,12 +1,12 @@
 -- A canonical text is read as its tree.
-use Rattle.std.proofs.Common.{◌≡◌, ℕ, Bool, true, false, List, [], ◌∷◌, ◌++◌, None, refl, sym, ap, ◌∙◌, subst}
+use Rattle.std.proofs.Common.{◌≡◌, ℕ, true, List, [], None, refl, sym, subst}
 use Rattle.std.proofs.lemmas.List.{append-nil}
 use Rattle.filterlang.specs.declared.token.Kind.{Kind}
 use Rattle.filterlang.specs.declared.token.Token.{Token}
 use Rattle.filterlang.specs.Tokens.{Lexes}
 use Rattle.filterlang.specs.Phrases.{kinds}
 use Rattle.filterlang.specs.Trees.{Tree, everything}
-use Rattle.filterlang.specs.Grammar.{Reads, reads_nothing, reads_expr, Expression}
+use Rattle.filterlang.specs.Grammar.{Reads, reads_nothing, reads_expr}
 use Rattle.filterlang.specs.Texts.{ReadsAs}
 use Rattle.canonical.specs.Parentheses.{fits}
 use Rattle.canonical.specs.Canonical.{canonical, tree_text, parentheses_of}
@@ -20,7 +20,7 @@ use Rattle.canonical_laws.proofs.Chosen.{needed, chosen_suits, chosen_fits}
 use Rattle.canonical_laws.proofs.Texts.{tree_spells}
 use Rattle.canonical_laws.proofs.Bounds.{AreTokens, tokens_are}
 use Rattle.canonical_laws.proofs.Levels.{reads_made}
-use Rattle.canonical_laws.specs.Laws.{IsReadAgain}
+use Rattle.canonical_laws.specs.Laws.{IsReadAgain, IsReadAsNoOther}
 
 -- what a text is spelled as is read of it
 spelled_reads : (text : List ℕ) (ks : List Kind) (t : Tree) → Spelled text ks → Reads ks t → ReadsAs text t
@@ -52,3 +52,9 @@ again tokens tree are reads = by_reading (kinds tokens) tree are reads
 
 pub read_again : IsReadAgain
 read_again text tree found = again found.0 tree (tokens_are found.1) found.2
+
+-- and no other tree, since a text has one list of tokens, and these are read as one tree
+pub read_only : ((text : List ℕ) (xs ys : List Token) → Lexes text 0 xs → Lexes text 0 ys → xs ≡ ys) → ((ks : List Kind) (t u : Tree) → Reads ks t → Reads ks u → t ≡ u) → IsReadAsNoOther
+read_only tokens trees text tree other found also =
+    let mine = read_again text tree found in
+    trees (kinds also.0) other tree also.2 (subst (λ xs. Reads (kinds xs) tree) (tokens (canonical tree) mine.0 also.0 mine.1 also.1) mine.2)

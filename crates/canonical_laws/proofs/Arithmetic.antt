@@ -1,8 +1,7 @@
 -- The tokens of a value's canonical text are read as it.
-use Rattle.std.proofs.Common.{◌≡◌, ℕ, zero, suc, ◌+◌, ◌<◌, ◌≤◌, Bool, true, false, not, List, [], ◌∷◌, Option, Some, None, refl, sym, ap, ◌∙◌, subst, arith, ◌==◌, le_refl, nat_lt, nat_le}
-use Rattle.std.specs.Prelude.{◌&&◌, ◌^◌}
+use Rattle.std.proofs.Common.{◌≡◌, ℕ, zero, suc, ◌<◌, ◌≤◌, Bool, true, false, List, ◌∷◌, Some, refl, sym, ap, ◌∙◌, subst, arith, ◌==◌}
+use Rattle.std.specs.Prelude.{◌^◌}
 use Rattle.std.proofs.lemmas.Bool.{eqb-true, eqb-false}
-use Rattle.std.proofs.lemmas.Bool.Decides.{nat_tests}
 use Rattle.filterlang.specs.declared.token.Kind.{Kind}
 use Rattle.filterlang.specs.declared.token.Kind.TheVariants as kind
 use Rattle.filterlang.specs.declared.token.Operator.{Operator}
@@ -15,8 +14,8 @@ use Rattle.filterlang.specs.Trees.{Tree, Amount, number, wire_length, minus, bin
 use Rattle.filterlang.specs.Operators.{precedence_of, loosest, is_barred, layer_of}
 use Rattle.filterlang.specs.Values.{Arith, arith_number, arith_length, arith_minus, arith_open, arith_byte, arith_bytes, arith_tighter, arith_binary}
 use Rattle.filterlang.specs.Grammar.{operator_follows, after_matching, begins_relation}
-use Rattle.filterlang.proofs.Within.{both_true}
-use Rattle.canonical.specs.Parentheses.{is_binary, left_enclosed, right_enclosed, side_enclosed, negated_enclosed, is_joined, behind, fits_behind, value_fits}
+use Rattle.canonical_laws.proofs.Basics.{both_true}
+use Rattle.canonical.specs.Parentheses.{is_binary, left_enclosed, right_enclosed, negated_enclosed, is_joined, behind, fits_behind, value_fits}
 use Rattle.canonical_laws.proofs.Sequences.{Parentheses, Before, within, layer_word, size_tokens, value_tokens}
 
 -- numbers fit a token, and nothing is divided by a number that is 0

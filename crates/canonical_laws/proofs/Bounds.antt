@@ -1,5 +1,5 @@
 -- What the tokens of a text hold is within its bounds.
-use Rattle.std.proofs.Common.{◌≡◌, ℕ, zero, suc, ◌+◌, ◌*◌, ◌<◌, ◌≤◌, Bool, true, false, ◌||◌, ◌==◌, List, [], ◌∷◌, Option, Some, None, Result, Ok, Err, length, drop, get_or, nat_lt, nat_le, refl, sym, ap, ◌∙◌, subst, arith, ltb-true, leb-true}
+use Rattle.std.proofs.Common.{◌≡◌, ℕ, zero, suc, ◌+◌, ◌<◌, ◌≤◌, Bool, true, false, ◌||◌, ◌==◌, List, [], ◌∷◌, Option, Some, None, Result, Ok, Err, length, drop, get_or, nat_lt, nat_le, refl, subst, arith, ltb-true, leb-true}
 use Rattle.std.specs.Prelude.{IfSome, IfOk, option_map, option_and_then, if◌then◌else◌, ◌^◌}
 use Rattle.std.specs.Char.{is_ascii_digit, is_ascii_alphabetic}
 use Rattle.std.specs.Int.{w32, from_be_bytes}
@@ -13,13 +13,12 @@ use Rattle.filterlang.specs.declared.lexer.Cause.{Cause}
 use Rattle.filterlang.specs.declared.lexer.Cause.TheVariants.{BadByte, BadWord, BadNumber}
 use Rattle.filterlang.specs.Words.{Entry, words, names, signs, begins, whole_word, standing, stands, stands_whole, token_of}
 use Rattle.filterlang.specs.Numbers.{run_at, at_most, numeral, number_of, octet, octets, dotted, dotted_of, number_or_dotted_at, ethernet, ethernet_of, ethernet_at}
-use Rattle.filterlang.specs.Tokens.{is_blank, found_or, token_at, front, front_of, placed, Lexes, lexes_end, lexes_blank, lexes_token}
+use Rattle.filterlang.specs.Tokens.{is_blank, found_or, token_at, front, front_of, Lexes, lexes_end, lexes_blank, lexes_token}
 use Rattle.filterlang.specs.Phrases.{kinds}
 use Rattle.std.specs.Prelude.{codes}
 use Rattle.std.specs.List.{starts_with}
-use Rattle.std.proofs.Common.{nat_eq, cond, ◌&&◌}
-use Rattle.filterlang.proofs.Within.{both_true}
-use Rattle.filterlang.proofs.Steps.{at_some}
+use Rattle.std.proofs.Common.{nat_eq, cond}
+use Rattle.canonical_laws.proofs.Basics.{both_true}
 use Rattle.canonical_laws.proofs.Terms.{either_of}
 
 -- numbers and addresses have at most 32 bits, and Ethernet addresses six octets

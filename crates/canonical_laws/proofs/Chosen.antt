@@ -1,6 +1,6 @@
 -- All parentheses, and those that are needed.
 use Rattle.std.proofs.Common.{◌≡◌, ℕ, zero, suc, ◌<◌, ◌≤◌, Bool, true, false, not, refl, arith, ◌==◌, nat_lt, nat_le}
-use Rattle.std.proofs.lemmas.Bool.{eqb-true, eqb-false}
+use Rattle.std.proofs.lemmas.Bool.{eqb-true}
 use Rattle.std.proofs.lemmas.Bool.Decides.{nat_tests}
 use Rattle.filterlang.specs.declared.token.Operator.{Operator}
 use Rattle.filterlang.specs.Operators.{precedence_of}

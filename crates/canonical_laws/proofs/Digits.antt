@@ -1,18 +1,18 @@
 -- The digits of numbers, and where they end.
-use Rattle.std.proofs.Common.{◌≡◌, ℕ, zero, suc, ◌+◌, ◌*◌, ◌-◌, ◌<◌, ◌≤◌, Bool, true, false, not, ◌&&◌, cond, List, [], ◌∷◌, ◌++◌, Option, Some, None, length, get_or, nat_lt, nat_le, nat_eq, refl, sym, ap, ◌∙◌, subst, arith, le-leb, lt-ltb, ◌==◌}
-use Rattle.std.specs.Char.{is_digit, digit_value, is_ascii_digit}
+use Rattle.std.proofs.Common.{◌≡◌, ℕ, zero, suc, ◌+◌, ◌*◌, ◌-◌, ◌<◌, Bool, true, false, ◌&&◌, List, [], ◌∷◌, ◌++◌, Some, length, get_or, nat_eq, refl, sym, ap, ◌∙◌, subst, arith, le-leb, lt-ltb, ◌==◌}
+use Rattle.std.specs.Char.{digit_value}
 use Rattle.std.specs.Fmt.{decimal}
-use Rattle.std.specs.Str.Parse.{AllDigits, digits_value, digits_value_after}
-use Rattle.std.specs.List.{take_while, list_all, list_any, slice_split, onto_first, count_by}
+use Rattle.std.specs.Str.Parse.{AllDigits, digits_value_after}
+use Rattle.std.specs.List.{take_while, list_all}
 use Rattle.std.proofs.lemmas.Fmt.{decimal_is_IsNumeral, first_decimal, length-decimal-le, decimal_digit}
 use Rattle.std.proofs.lemmas.Str.Parse.{digit_from_value}
 use Rattle.std.proofs.lemmas.List.Sums.{take_while-cons}
 use Rattle.filterlang.specs.Words.{begins}
 use Rattle.filterlang.specs.Numbers.{at_most, number_behind, numeral, number_of, octet}
-use Rattle.filterlang.proofs.Within.{both_true}
+use Rattle.canonical_laws.proofs.Basics.{both_true}
 use Rattle.std.proofs.lemmas.Bool.{eqb-true, eqb-false, ne_eqb}
 use Rattle.std.specs.Prelude.{◌^◌}
-use Rattle.filterlang.proofs.Numerals.{numeral_is}
+use Rattle.canonical_laws.proofs.Basics.{numeral_is}
 
 -- a test passes of each number below a bound
 abbrev pub below : (ℕ → Bool) → ℕ → Bool

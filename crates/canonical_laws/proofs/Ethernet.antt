@@ -1,8 +1,8 @@
 -- An Ethernet address, as it is printed, is spelled as itself.
-use Rattle.std.proofs.Common.{◌≡◌, ℕ, zero, suc, ◌+◌, ◌*◌, ◌<◌, ◌≤◌, Bool, true, false, not, ◌&&◌, List, [], ◌∷◌, ◌++◌, Option, Some, None, Ok, length, get_or, refl, sym, ap, ◌∙◌, subst, arith, append_assoc, ◌==◌, ◌/◌, ◌%◌, le-leb}
-use Rattle.std.specs.Prelude.{◌^◌, option_map, codes, slice_index}
+use Rattle.std.proofs.Common.{◌≡◌, ℕ, ◌+◌, ◌*◌, ◌<◌, ◌≤◌, Bool, true, false, not, List, [], ◌∷◌, ◌++◌, Some, Ok, length, get_or, refl, sym, ap, ◌∙◌, subst, arith, ◌==◌, ◌/◌, ◌%◌, le-leb}
+use Rattle.std.specs.Prelude.{codes, slice_index}
 use Rattle.std.specs.Char.{is_digit, digit_value}
-use Rattle.std.specs.Fmt.{digits, digit_glyph}
+use Rattle.std.specs.Fmt.{digit_glyph}
 use Rattle.std.specs.List.{list_all, slice_split}
 use Rattle.std.proofs.lemmas.Bool.{eqb-true}
 use Rattle.std.proofs.lemmas.Fmt.{hex_one_digit}
@@ -12,8 +12,7 @@ use Rattle.filterlang.specs.declared.token.Kind.TheVariants as kind
 use Rattle.filterlang.specs.declared.token.EthernetAddress.{EthernetAddress}
 use Rattle.filterlang.specs.Words.{begins}
 use Rattle.filterlang.specs.Tokens.{is_blank, token_at, front, front_of}
-use Rattle.filterlang.specs.Numbers.{is_in_run, run_at, octet, octets, ethernet, ethernet_of, ethernet_at, number_behind, at_most}
-use Rattle.filterlang.proofs.Within.{both_true}
+use Rattle.filterlang.specs.Numbers.{is_in_run, run_at, octet, ethernet_of, ethernet_at, at_most}
 use Rattle.canonical.specs.Primitives.{octet_text, octets_text, ethernet_text}
 use Rattle.canonical_laws.proofs.Digits.{below, below_all, run_ends}
 use Rattle.canonical_laws.proofs.Runs.{not_true, one_part, first_part}

@@ -1,16 +1,15 @@
 -- The tokens of a tree's canonical text are read as it.
-use Rattle.std.proofs.Common.{◌≡◌, ℕ, zero, suc, Bool, true, false, List, [], ◌∷◌, Option, Some, None, refl, sym, ap, ◌∙◌, subst}
-use Rattle.std.specs.Prelude.{◌&&◌}
+use Rattle.std.proofs.Common.{◌≡◌, ℕ, zero, suc, Bool, true, false, List, ◌∷◌, None, refl, ap, ◌∙◌}
 use Rattle.filterlang.specs.declared.token.Kind.{Kind}
 use Rattle.filterlang.specs.declared.token.Kind.TheVariants as kind
 use Rattle.filterlang.specs.declared.token.Joint.TheVariants.{And, Or}
 use Rattle.filterlang.specs.Trees.{Tree, everything, test, relation, negation, both, either}
-use Rattle.filterlang.specs.Grammar.{operator_follows, after_matching, begins_relation, Expression, expr_one, expr_and, expr_or, Term, term_not, term_open, term_prim, term_relation}
-use Rattle.filterlang.proofs.Within.{both_true}
+use Rattle.filterlang.specs.Grammar.{operator_follows, after_matching, Expression, expr_one, expr_and, expr_or, Term, term_not, term_open, term_prim, term_relation}
+use Rattle.canonical_laws.proofs.Basics.{both_true}
 use Rattle.canonical.specs.Parentheses.{side_enclosed, is_joined, first_enclosed, negated_enclosed, behind, fits_behind, value_fits, fits}
-use Rattle.canonical_laws.proofs.Sequences.{Parentheses, Before, within, value_tokens, primitive_tokens, tree_tokens}
-use Rattle.canonical_laws.proofs.Arithmetic.{IsValue, Suits, level, level_most, value_within, values_read, side_matched, relation_begins}
-use Rattle.canonical_laws.proofs.Terms.{IsPrimitive, Stops, stops_end, stops_close, stops_joint, Nearest}
+use Rattle.canonical_laws.proofs.Sequences.{Parentheses, Before, within, value_tokens, tree_tokens}
+use Rattle.canonical_laws.proofs.Arithmetic.{IsValue, Suits, level_most, value_within, values_read, side_matched, relation_begins}
+use Rattle.canonical_laws.proofs.Terms.{IsPrimitive, Stops, stops_close, stops_joint, Nearest}
 use Rattle.canonical_laws.proofs.Primitives.{primitive_read}
 use Rattle.canonical_laws.proofs.Apart.{stops_no_operator, primitive_apart, primitive_matched}
 
@@ -88,10 +87,12 @@ trees_read chosen suits (test p) is n f =
 trees_read chosen suits (relation c v w) is n f =
     let both = both_true (fits_behind (value_fits chosen v) (behind (side_enclosed chosen v) n)) (fits_behind (value_fits chosen w) (behind (side_enclosed chosen w) n)) f in
     as_term chosen n (relation c v w) (λ q ks s.
-    let more : List Kind = kind.Comparison c ∷ within (side_enclosed chosen w) (value_tokens chosen w) ks in
-    (None, term_relation (relation_begins (side_enclosed chosen v) chosen v more refl)
-    (value_within (side_enclosed chosen v) chosen v n 6 both.0 (λ e. level_most v) (λ m g. values_read chosen suits v is.0 m g) more)
-    (value_within (side_enclosed chosen w) chosen w n 6 both.1 (λ e. level_most w) (λ m g. values_read chosen suits w is.1 m g) ks)))
+    let more : List Kind = kind.Comparison c ∷ within (side_enclosed chosen w) (value_tokens chosen w) ks in (
+      None,
+      term_relation (relation_begins (side_enclosed chosen v) chosen v more refl)
+          (value_within (side_enclosed chosen v) chosen v n 6 both.0 (λ e. level_most v) (λ m g. values_read chosen suits v is.0 m g) more)
+          (value_within (side_enclosed chosen w) chosen w n 6 both.1 (λ e. level_most w) (λ m g. values_read chosen suits w is.1 m g) ks),
+    ))
 trees_read chosen suits (negation t) is zero f = absurd cc
 trees_read chosen suits (negation t) is (suc n) f =
     as_term chosen (suc n) (negation t) (λ q ks s.

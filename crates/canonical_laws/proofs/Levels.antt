@@ -1,7 +1,7 @@
 -- A tree that is read needs no more parentheses than its text has signs open within one another.
-use Rattle.std.proofs.Common.{◌≡◌, ℕ, zero, suc, ◌<◌, ◌≤◌, Bool, true, false, List, [], ◌∷◌, Option, Some, None, refl, sym, ap, ◌∙◌, subst, arith, nat_lt, nat_le, ltb-true, lt-ltb, leb-true}
-use Rattle.std.specs.Prelude.{◌&&◌, ◌^◌}
-use Rattle.filterlang.proofs.Within.{both_true}
+use Rattle.std.proofs.Common.{◌≡◌, ℕ, zero, suc, ◌≤◌, Bool, true, false, List, [], ◌∷◌, None, refl, sym, subst, arith, nat_lt, ltb-true, lt-ltb, leb-true}
+use Rattle.std.specs.Prelude.{◌&&◌}
+use Rattle.canonical_laws.proofs.Basics.{both_true}
 use Rattle.filterlang.specs.declared.token.Kind.{Kind}
 use Rattle.filterlang.specs.declared.token.Kind.TheVariants as kind
 use Rattle.filterlang.specs.declared.token.Joint.TheVariants.{And, Or}
@@ -9,7 +9,7 @@ use Rattle.filterlang.specs.declared.token.Comparison.{Comparison}
 use Rattle.filterlang.specs.declared.token.Operator.{Operator}
 use Rattle.filterlang.specs.declared.tree.Primitive.{Primitive}
 use Rattle.filterlang.specs.Trees.{Amount, number, wire_length, minus, binary, accessor, Tree, everything, test, relation, negation, both, either}
-use Rattle.filterlang.specs.Operators.{precedence_of, loosest}
+use Rattle.filterlang.specs.Operators.{precedence_of}
 use Rattle.filterlang.specs.Qualifiers.{identified}
 use Rattle.filterlang.specs.Values.{Arith, arith_number, arith_named, arith_length, arith_minus, arith_open, arith_byte, arith_bytes, arith_tighter, arith_binary}
 use Rattle.filterlang.specs.Grammar.{Group, group_one, group_and, group_or, GroupTerm, group_not, group_open, group_id, Expression, expr_one, expr_and, expr_or, Term, term_not, term_open, term_prim, term_group, term_relation}
@@ -18,7 +18,7 @@ use Rattle.canonical_laws.proofs.Sequences.{Parentheses, Domain}
 use Rattle.canonical_laws.proofs.Arithmetic.{IsValue, level, level_most, precedence_some}
 use Rattle.canonical_laws.proofs.Terms.{Nearest, IsPrimitive}
 use Rattle.canonical_laws.proofs.Expressions.{IsTree}
-use Rattle.canonical_laws.proofs.Bounds.{IsToken, AreTokens}
+use Rattle.canonical_laws.proofs.Bounds.{AreTokens}
 use Rattle.canonical_laws.proofs.Made.{AreQualifiers, AreNearest, identifier_made, behind_phrase, phrase_gives, prim_made}
 use Rattle.canonical_laws.proofs.Chosen.{needed}
 

@@ -1,3 +1,4 @@
+mod Basics
 mod Spelled
 mod Digits
 mod Runs
@@ -13,8 +14,8 @@ mod Apart
 mod Expressions
 mod Chosen
 mod Texts
-mod Again
 mod Bounds
 mod Identifiers
 mod Made
 mod Levels
+mod Again

@@ -1,6 +1,6 @@
 -- Primitives that tokens are read as, and the qualifiers that they give.
-use Rattle.std.proofs.Common.{◌≡◌, ℕ, zero, suc, ◌<◌, ◌≤◌, Bool, true, false, List, [], ◌∷◌, Option, Some, None, length, refl, sym, ap, ◌∙◌, subst, arith, min, max}
-use Rattle.std.specs.Prelude.{IfSome, option_map, option_and_then, unwrap_or, ◌^◌}
+use Rattle.std.proofs.Common.{◌≡◌, ℕ, ◌<◌, ◌≤◌, List, ◌∷◌, Option, Some, None, subst, arith, min, max}
+use Rattle.std.specs.Prelude.{IfSome, option_map, unwrap_or}
 use Rattle.filterlang.specs.declared.token.Kind.{Kind}
 use Rattle.filterlang.specs.declared.token.Kind.TheVariants as kind
 use Rattle.filterlang.specs.declared.token.Protocol.{Protocol}
@@ -8,7 +8,7 @@ use Rattle.filterlang.specs.declared.token.Protocol.TheVariants as protocols
 use Rattle.filterlang.specs.declared.token.TypeWord.{TypeWord}
 use Rattle.filterlang.specs.declared.token.Side.{Side}
 use Rattle.filterlang.specs.declared.token.Parts.TheVariants.{Two, Three, Four}
-use Rattle.filterlang.specs.declared.token.Operator.TheVariants.{Minus, Divide}
+use Rattle.filterlang.specs.declared.token.Operator.TheVariants.{Divide}
 use Rattle.filterlang.specs.declared.tree.Direction.{Direction}
 use Rattle.filterlang.specs.declared.tree.Direction.TheVariants.{SrcOrDst}
 use Rattle.filterlang.specs.declared.tree.Transport.{Transport}
@@ -17,12 +17,12 @@ use Rattle.filterlang.specs.declared.tree.Primitive.TheVariants as primitives
 use Rattle.filterlang.specs.Phrases.{protocol_at, type_at, longest, joined, direction_at, phrase_at, identifier_at}
 use Rattle.filterlang.specs.Primitives.{ports_between}
 use Rattle.filterlang.specs.Qualifiers.{allowed, qualifiers_of, port_of, identified}
-use Rattle.filterlang.specs.Grammar.{only_protocol, Prim, prim_plain, prim_broadcast, prim_ether_broadcast, prim_multicast, prim_ether_multicast, prim_ip_multicast, prim_less, prim_greater, prim_phrase, prim_inherited, prim_portrange}
-use Rattle.filterlang.proofs.Steps.{at_some}
+use Rattle.filterlang.specs.Grammar.{Prim, prim_plain, prim_broadcast, prim_ether_broadcast, prim_multicast, prim_ether_multicast, prim_ip_multicast, prim_less, prim_greater, prim_phrase, prim_inherited, prim_portrange}
+use Rattle.canonical_laws.proofs.Basics.{at_some}
 use Rattle.canonical_laws.proofs.Sequences.{Domain}
 use Rattle.canonical_laws.proofs.Terms.{IsPrimitive, Nearest}
-use Rattle.canonical_laws.proofs.Bounds.{IsToken, AreTokens, some_map, some_then}
-use Rattle.canonical_laws.proofs.Identifiers.{Under, between_is, under_number, under_ethernet, under_prefix, under_masked, under_masked_two, under_masked_three, under_dotted_two, under_dotted_three, under_dotted_four, under_name_ether, under_name_ip, under_name_arp, under_name_rarp, under_name_tcp, under_name_udp, under_name_icmp, under_name_sctp}
+use Rattle.canonical_laws.proofs.Bounds.{AreTokens, some_map, some_then}
+use Rattle.canonical_laws.proofs.Identifiers.{between_is, under_number, under_ethernet, under_prefix, under_masked, under_masked_two, under_masked_three, under_dotted_two, under_dotted_three, under_dotted_four, under_name_ether, under_name_ip, under_name_arp, under_name_rarp, under_name_tcp, under_name_udp, under_name_icmp, under_name_sctp}
 
 -- an identifier
 abbrev Identifier : Type 0

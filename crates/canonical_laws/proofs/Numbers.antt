@@ -1,9 +1,9 @@
 -- Numbers and addresses, as they are printed, are spelled as themselves.
-use Rattle.std.proofs.Common.{◌≡◌, ℕ, zero, suc, ◌+◌, ◌*◌, ◌<◌, ◌≤◌, Bool, true, false, not, List, [], ◌∷◌, ◌++◌, Option, Some, None, Ok, length, refl, sym, ap, ◌∙◌, subst, arith, append_assoc, ◌==◌, ◌/◌, ◌%◌}
-use Rattle.std.specs.Prelude.{◌^◌, option_map, codes, slice_index}
-use Rattle.std.specs.Char.{is_digit, digit_value, is_ascii_digit}
-use Rattle.std.specs.Fmt.{decimal, digits}
-use Rattle.std.specs.Int.{w32, to_be_bytes, from_be_bytes, byte_at}
+use Rattle.std.proofs.Common.{◌≡◌, ℕ, zero, suc, ◌<◌, true, false, not, List, [], ◌∷◌, ◌++◌, Some, None, Ok, length, refl, sym, ap, ◌∙◌, subst, arith, append_assoc, ◌==◌}
+use Rattle.std.specs.Prelude.{◌^◌, codes}
+use Rattle.std.specs.Char.{digit_value, is_ascii_digit}
+use Rattle.std.specs.Fmt.{decimal}
+use Rattle.std.specs.Int.{w32, from_be_bytes, byte_at}
 use Rattle.std.specs.List.{list_all, list_any, slice_split}
 use Rattle.std.specs.Str.Parse.{AllDigits}
 use Rattle.std.proofs.lemmas.Nat.{from_be_bytes-to_be_bytes_4}
@@ -12,9 +12,8 @@ use Rattle.std.proofs.lemmas.List.Folds.{list_all-append}
 use Rattle.filterlang.specs.declared.token.Kind.{Kind}
 use Rattle.filterlang.specs.declared.token.Kind.TheVariants as kind
 use Rattle.filterlang.specs.declared.token.Parts.TheVariants.{Four}
-use Rattle.filterlang.specs.Words.{begins}
 use Rattle.filterlang.specs.Tokens.{is_blank, token_at, front, front_of}
-use Rattle.filterlang.specs.Numbers.{is_in_run, run_at, octet, octets, dotted, dotted_of, number_of, number_or_dotted_at, ethernet_at}
+use Rattle.filterlang.specs.Numbers.{is_in_run, run_at, dotted_of, number_of, number_or_dotted_at, ethernet_at}
 use Rattle.canonical.specs.Primitives.{address_text}
 use Rattle.canonical_laws.proofs.Digits.{of_digit, of_digits, run_ends, decimal_digits, decimal_some, number_of-decimal, octet-decimal}
 use Rattle.canonical_laws.proofs.Runs.{Follows, follows_run, not_true, count_behind, no_ethernet, digits_no_ethernet, one_part, first_part, any_behind, none_any}
@@ -99,9 +98,9 @@ module _ (a b c d : ℕ) (la : a < 256) (lb : b < 256) (lc : c < 256) (ld : d < 
       let more : List ℕ = (decimal b ++ (46 ∷ (decimal c ++ (46 ∷ decimal d)))) ++ rest in
       let digits_a = decimal_digits a (omega arith) in
       let none : ethernet_at (decimal a ++ 46 ∷ more) ≡ None =
-          no_ethernet (decimal a ++ 46 ∷ more) (decimal a ++ [])
-          (run_ends (is_in_run 58) (decimal a) (46 ∷ more) (of_digits (is_in_run 58) refl (decimal a) digits_a) refl ∙ sym (append-nil (decimal a)))
-          (omega (arith, count_behind (λ x. x == 58) (decimal a) [] (of_digits (λ x. not (x == 58)) refl (decimal a) digits_a))) in
+      no_ethernet (decimal a ++ 46 ∷ more) (decimal a ++ [])
+      (run_ends (is_in_run 58) (decimal a) (46 ∷ more) (of_digits (is_in_run 58) refl (decimal a) digits_a) refl ∙ sym (append-nil (decimal a)))
+      (omega (arith, count_behind (λ x. x == 58) (decimal a) [] (of_digits (λ x. not (x == 58)) refl (decimal a) digits_a))) in
       ap front (split_first rest)
       ∙ digits_front (decimal a) (46 ∷ more) (kind.Dotted (from_be_bytes w32 (a ∷ b ∷ c ∷ d ∷ [])) Four) (length (dots a b c d)) (decimal_some a (omega arith)) digits_a none
       (ap number_or_dotted_at (sym (split_first rest)) ∙ dots_found rest f)
@@ -129,6 +128,6 @@ address_spelled address small rest ks f s =
     let d = byte_at 0 address in
     let text : address_text address ≡ dots a b c d = text_is (decimal a) (decimal b) (decimal c) (decimal d) in
     let whole : Spelled (dots a b c d ++ rest) (kind.Dotted (from_be_bytes w32 (a ∷ b ∷ c ∷ d ∷ [])) Four ∷ ks) =
-        spelled_first (dots a b c d) rest (dots_front a b c d (octet_small 3 address) (octet_small 2 address) (octet_small 1 address) (octet_small 0 address) rest f) s in
+    spelled_first (dots a b c d) rest (dots_front a b c d (octet_small 3 address) (octet_small 2 address) (octet_small 1 address) (octet_small 0 address) rest f) s in
     subst (λ x. Spelled (x ++ rest) (kind.Dotted address Four ∷ ks)) (sym text)
     (subst (λ x. Spelled (dots a b c d ++ rest) (kind.Dotted x Four ∷ ks)) (from_be_bytes-to_be_bytes_4 address small) whole)

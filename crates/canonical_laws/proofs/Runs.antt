@@ -1,7 +1,7 @@
 -- Where the runs of letters, digits and marks end that numbers and addresses are read from.
-use Rattle.std.proofs.Common.{◌≡◌, ℕ, zero, suc, ◌+◌, ◌<◌, ◌≤◌, Bool, true, false, not, ◌&&◌, ◌||◌, cond, List, [], ◌∷◌, ◌++◌, Option, Some, None, length, refl, sym, ap, ◌∙◌, subst, arith, ◌==◌, append_assoc}
+use Rattle.std.proofs.Common.{◌≡◌, ℕ, ◌+◌, ◌<◌, Bool, true, false, not, ◌||◌, cond, List, [], ◌∷◌, ◌++◌, Option, Some, None, length, refl, sym, ap, ◌∙◌, arith, ◌==◌, append_assoc}
 use Rattle.std.specs.Prelude.{option_and_then}
-use Rattle.std.specs.List.{list_all, list_any, slice_split, onto_first, count_by}
+use Rattle.std.specs.List.{list_all, list_any, slice_split, count_by}
 use Rattle.std.specs.Str.Parse.{AllDigits}
 use Rattle.std.proofs.lemmas.List.Splits.{length-slice_split}
 use Rattle.std.proofs.lemmas.Bool.{ne_eqb}
@@ -10,9 +10,9 @@ use Rattle.std.proofs.lemmas.List.{append-nil}
 use Rattle.std.proofs.lemmas.List.Folds.{list_all-append}
 use Rattle.filterlang.specs.Words.{begins}
 use Rattle.filterlang.specs.Numbers.{is_in_run, run_at, octets, ethernet, ethernet_of, ethernet_at}
-use Rattle.filterlang.proofs.Octets.{length-octets}
-use Rattle.filterlang.proofs.Within.{both_true}
-use Rattle.canonical_laws.proofs.Digits.{of_digits, of_digit, run_ends}
+use Rattle.canonical_laws.proofs.Basics.{length-octets}
+use Rattle.canonical_laws.proofs.Basics.{both_true}
+use Rattle.canonical_laws.proofs.Digits.{of_digits, run_ends}
 
 -- What may stand behind a number: nothing, or one of these signs.
 pub data Follows : List ℕ → Type 0 where

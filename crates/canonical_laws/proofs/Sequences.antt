@@ -1,5 +1,5 @@
 -- The tokens of a canonical text, before those that follow it.
-use Rattle.std.proofs.Common.{ℕ, Bool, true, false, cond, List, [], ◌∷◌, ◌++◌, Option, Some, None, ◌==◌}
+use Rattle.std.proofs.Common.{ℕ, Bool, true, false, List, ◌∷◌, Option, Some, None, ◌==◌}
 use Rattle.std.specs.Prelude.{if◌then◌else◌}
 use Rattle.std.specs.Int.{w32, leading_ones}
 use Rattle.filterlang.specs.declared.token.Kind.{Kind}
@@ -10,7 +10,6 @@ use Rattle.filterlang.specs.declared.token.TypeWord.TheVariants as types
 use Rattle.filterlang.specs.declared.token.Side.TheVariants as side
 use Rattle.filterlang.specs.declared.token.Parts.TheVariants.{Four}
 use Rattle.filterlang.specs.declared.token.Joint.TheVariants.{And, Or}
-use Rattle.filterlang.specs.declared.token.Operator.{Operator}
 use Rattle.filterlang.specs.declared.token.Operator.TheVariants.{Minus, Divide}
 use Rattle.filterlang.specs.declared.tree.Direction.{Direction}
 use Rattle.filterlang.specs.declared.tree.Direction.TheVariants.{Dst, Src, SrcAndDst, SrcOrDst}

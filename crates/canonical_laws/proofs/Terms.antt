@@ -1,32 +1,14 @@
 -- What a primitive has that tokens are read as, and what may stand behind it.
-use Rattle.std.proofs.Common.{◌≡◌, ℕ, zero, suc, ◌+◌, ◌-◌, ◌<◌, ◌≤◌, Bool, true, false, not, List, [], ◌∷◌, Option, Some, None, length, get_or, refl, sym, ap, ◌∙◌, subst, arith, ◌==◌, le-leb, min, max, nat_le}
-use Rattle.std.specs.Prelude.{◌^◌, ◌&&◌, bit_and, if◌then◌else◌, option_map}
-use Rattle.std.specs.Int.{w32, leading_ones, bit_not}
-use Rattle.std.proofs.lemmas.Bool.{eqb-true, eqb-false}
-use Rattle.std.proofs.lemmas.Nat.{leading_le}
+use Rattle.std.proofs.Common.{◌≡◌, ℕ, ◌<◌, ◌≤◌, Bool, true, false, List, [], ◌∷◌, Option, length, get_or, refl, ◌==◌}
+use Rattle.std.specs.Prelude.{◌^◌, bit_and, if◌then◌else◌}
 use Rattle.filterlang.specs.declared.token.Kind.{Kind}
 use Rattle.filterlang.specs.declared.token.Kind.TheVariants as kind
-use Rattle.filterlang.specs.declared.token.Protocol.TheVariants as protocols
-use Rattle.filterlang.specs.declared.token.TypeWord.TheVariants as types
-use Rattle.filterlang.specs.declared.token.Parts.TheVariants.{Four}
 use Rattle.filterlang.specs.declared.token.Joint.{Joint}
-use Rattle.filterlang.specs.declared.token.Operator.TheVariants.{Minus, Divide}
-use Rattle.filterlang.specs.declared.token.EthernetAddress.{EthernetAddress}
-use Rattle.filterlang.specs.declared.tree.Direction.{Direction}
-use Rattle.filterlang.specs.declared.tree.Direction.TheVariants.{Dst, Src, SrcAndDst, SrcOrDst}
-use Rattle.filterlang.specs.declared.tree.Network.{Network}
-use Rattle.filterlang.specs.declared.tree.Network.TheVariants as networks
-use Rattle.filterlang.specs.declared.tree.Plain.{Plain}
-use Rattle.filterlang.specs.declared.tree.Plain.TheVariants as plain
 use Rattle.filterlang.specs.declared.tree.Primitive.{Primitive}
 use Rattle.filterlang.specs.declared.tree.Primitive.TheVariants as primitives
-use Rattle.filterlang.specs.declared.tree.Transport.{Transport}
-use Rattle.filterlang.specs.declared.tree.Transport.TheVariants as transports
-use Rattle.filterlang.specs.Phrases.{identifier_at}
-use Rattle.filterlang.specs.Qualifiers.{mask_of, identified, port_of}
-use Rattle.filterlang.specs.Primitives.{ports_between, stands_alone}
-use Rattle.filterlang.specs.Grammar.{begins_relation, bracket_follows, after_matching, operator_follows, Prim, prim_plain, prim_ether_broadcast, prim_ether_multicast, prim_ip_multicast, prim_less, prim_greater, prim_phrase, prim_portrange}
-use Rattle.canonical_laws.proofs.Sequences.{Domain, Before, plain_word, network_tokens, transport_tokens, direction_tokens, mask_tokens, net_tokens, ports_tokens, primitive_tokens}
+use Rattle.filterlang.specs.Qualifiers.{identified}
+use Rattle.filterlang.specs.Grammar.{Prim}
+use Rattle.canonical_laws.proofs.Sequences.{Domain}
 
 -- what the tokens say that a primitive has: numbers within their bounds, an address within its mask, ports in order
 abbrev pub IsPrimitive : Primitive → Type 0

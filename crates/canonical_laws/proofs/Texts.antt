@@ -1,6 +1,6 @@
 -- The canonical text of a tree is spelled as its tokens.
-use Rattle.std.proofs.Common.{◌≡◌, ℕ, zero, suc, ◌<◌, Bool, true, false, List, [], ◌∷◌, ◌++◌, Ok, refl, sym, ap, ◌∙◌, subst, append_assoc}
-use Rattle.std.specs.Prelude.{codes, ◌^◌}
+use Rattle.std.proofs.Common.{◌≡◌, ℕ, Bool, true, false, List, [], ◌∷◌, ◌++◌, refl, sym, ap, ◌∙◌, subst, append_assoc}
+use Rattle.std.specs.Prelude.{codes}
 use Rattle.filterlang.specs.declared.token.Kind.{Kind}
 use Rattle.filterlang.specs.declared.token.Kind.TheVariants as kind
 use Rattle.filterlang.specs.declared.token.Joint.TheVariants.{And, Or}
@@ -17,12 +17,12 @@ use Rattle.filterlang.specs.Words.{words, names, signs}
 use Rattle.filterlang.specs.Numbers.{number_or_dotted_at, ethernet_at}
 use Rattle.filterlang.specs.Tokens.{token_at, front}
 use Rattle.canonical.specs.Parentheses.{is_binary, left_enclosed, right_enclosed, side_enclosed, is_joined, first_enclosed, negated_enclosed, opened, closed, enclosed, between, joined}
-use Rattle.canonical.specs.Canonical.{operator_text, comparison_text, layer_text, size_text, value_text, relation_text, tree_text}
-use Rattle.canonical_laws.proofs.Spelled.{Spelled, spelled_end, spelled_blank, spelled_token}
+use Rattle.canonical.specs.Canonical.{operator_text, comparison_text, layer_text, size_text, value_text, tree_text}
+use Rattle.canonical_laws.proofs.Spelled.{Spelled, spelled_blank, spelled_token}
 use Rattle.canonical_laws.proofs.Numbers.{number_spelled}
 use Rattle.canonical_laws.proofs.Runs.{Follows, follows_end, follows_blank, follows_close, follows_minus, follows_slash, follows_bracket, follows_two, follows_four}
-use Rattle.canonical_laws.proofs.Endings.{Ends, ends_end, ends_blank, ends_close, ends_follow, Spells}
-use Rattle.canonical_laws.proofs.Sequences.{Parentheses, Before, within, layer_word, size_tokens, value_tokens, primitive_tokens, tree_tokens}
+use Rattle.canonical_laws.proofs.Endings.{Ends, ends_blank, ends_close, ends_follow, Spells}
+use Rattle.canonical_laws.proofs.Sequences.{Parentheses, Before, within, layer_word, size_tokens, value_tokens, tree_tokens}
 use Rattle.canonical_laws.proofs.Arithmetic.{IsValue}
 use Rattle.canonical_laws.proofs.Expressions.{IsTree}
 use Rattle.canonical_laws.proofs.Words.{primitive_spelled}

@@ -1,5 +1,5 @@
 -- The words of a primitive's canonical text are spelled as its tokens.
-use Rattle.std.proofs.Common.{◌≡◌, ℕ, zero, suc, ◌+◌, ◌<◌, ◌≤◌, Bool, true, false, List, [], ◌∷◌, ◌++◌, Option, Some, None, Ok, length, get_or, refl, sym, ap, ◌∙◌, subst, arith, append_assoc, ◌==◌}
+use Rattle.std.proofs.Common.{◌≡◌, ℕ, ◌<◌, ◌≤◌, Bool, true, false, List, ◌∷◌, ◌++◌, Option, Some, None, refl, sym, ◌∙◌, subst, arith, append_assoc, ◌==◌}
 use Rattle.std.specs.Prelude.{◌^◌, codes, if◌then◌else◌}
 use Rattle.std.specs.Fmt.{decimal}
 use Rattle.std.specs.Int.{w32, leading_ones, bit_not}
@@ -10,7 +10,7 @@ use Rattle.filterlang.specs.declared.token.Protocol.TheVariants as protocols
 use Rattle.filterlang.specs.declared.token.TypeWord.TheVariants as types
 use Rattle.filterlang.specs.declared.token.Side.TheVariants as side
 use Rattle.filterlang.specs.declared.token.Parts.TheVariants.{Four}
-use Rattle.filterlang.specs.declared.token.Joint.TheVariants.{And, Or}
+use Rattle.filterlang.specs.declared.token.Joint.TheVariants.{And}
 use Rattle.filterlang.specs.declared.token.Operator.TheVariants.{Minus, Divide}
 use Rattle.filterlang.specs.declared.tree.Direction.{Direction}
 use Rattle.filterlang.specs.declared.tree.Direction.TheVariants.{Dst, Src, SrcAndDst, SrcOrDst}
@@ -25,14 +25,14 @@ use Rattle.filterlang.specs.declared.tree.Transport.TheVariants as transports
 use Rattle.filterlang.specs.Qualifiers.{mask_of}
 use Rattle.filterlang.specs.Words.{words, names, signs}
 use Rattle.filterlang.specs.Numbers.{number_or_dotted_at, ethernet_at}
-use Rattle.filterlang.specs.Tokens.{token_at, front, front_of}
+use Rattle.filterlang.specs.Tokens.{token_at, front}
 use Rattle.canonical.specs.Primitives.{plain_text, network_text, transport_text, direction_text, address_text, ethernet_text, mask_text, net_text, ports_text, primitive_text}
-use Rattle.canonical_laws.proofs.Runs.{Follows, follows_end, follows_blank, follows_close, follows_minus, follows_slash}
-use Rattle.canonical_laws.proofs.Spelled.{Spelled, spelled_end, spelled_blank, spelled_token}
+use Rattle.canonical_laws.proofs.Runs.{follows_blank, follows_minus, follows_slash}
+use Rattle.canonical_laws.proofs.Spelled.{Spelled, spelled_blank, spelled_token}
 use Rattle.canonical_laws.proofs.Numbers.{number_spelled, address_spelled}
 use Rattle.canonical_laws.proofs.Ethernet.{ethernet_spelled}
-use Rattle.canonical_laws.proofs.Sequences.{Before, plain_word, network_tokens, transport_tokens, direction_tokens, mask_tokens, net_tokens, ports_tokens, primitive_tokens}
-use Rattle.canonical_laws.proofs.Terms.{IsPrimitive, either_of}
+use Rattle.canonical_laws.proofs.Sequences.{plain_word, network_tokens, transport_tokens, direction_tokens, mask_tokens, net_tokens, ports_tokens, primitive_tokens}
+use Rattle.canonical_laws.proofs.Terms.{IsPrimitive}
 use Rattle.canonical_laws.proofs.Endings.{Ends, ends_end, ends_blank, ends_close, ends_follow, Spells}
 
 -- a word and the space behind it
