@@ -5,6 +5,7 @@ ghost use Rattle.std.specs.Prelude.{◌≤◌, IfErr, MatchResult};
 use crate::hinting::{hint_asked, hint_refused_steps};
 use crate::picture_files::draw;
 use files::paths::{STANDARD_OUTPUT, all_apart};
+use files::piped::Piped;
 use files::reading::read_file;
 use hints::TakesHints;
 use lines::telling::{REFUSED, tell_fault};
@@ -18,6 +19,12 @@ use words::steps::StepsWords;
 
 /// How many bytes of output are gathered before they are written.
 const OUTPUT_BUFFER: usize = 1 << 16;
+
+/// How many bytes of memory what is told has from the start, so that want of memory can be told.
+const TOLD: usize = 256;
+
+/// What is told of standard output that failed.
+const OUTPUT_FAILED: &[u8] = b"bpftap: Device standard output\n";
 
 /// The bytes of all captures.
 fn read_captures<R: Files + AllocGlobal, E: TakesHints>(
@@ -67,7 +74,7 @@ fn read_paths<'a>(alloc: Global, words: &StepsWords<'a>) -> Result<Vec<&'a str>,
     Ok(paths)
 }
 
-/// Plays the script, and prints by pieces.
+/// Plays the script, and prints by pieces. That nobody reads what is printed any more is not told.
 fn play<O: Write, E: TakesHints>(
     alloc: Global,
     asked: &Asked,
@@ -78,10 +85,21 @@ fn play<O: Write, E: TakesHints>(
 ) -> u8
     ensures { result ≤ 3 }
 {
-    let Ok(mut printed) = BufWriter::with_capacity(alloc, OUTPUT_BUFFER, &mut *out) else {
+    let mut piped = Piped::new(out);
+    let (Ok(mut told), Ok(mut printed)) = (
+        Vec::with_capacity(alloc, TOLD),
+        BufWriter::with_capacity(alloc, OUTPUT_BUFFER, &mut piped),
+    ) else {
         return tell_fault(Fault::NoMemory, REFUSED, err);
     };
-    play_asked(alloc, asked, captures, explained, &mut printed, err).status
+    let ended = play_asked(alloc, asked, captures, explained, &mut printed, &mut told);
+    drop(printed);
+    let mut told = told.as_slice();
+    if piped.is_unread() && told.starts_with(OUTPUT_FAILED) {
+        told = &told[OUTPUT_FAILED.len()..];
+    }
+    let _ = err.write_all(told);
+    ended.status
 }
 
 /// Reads LISTENERS and SCRIPT, looks at their lines, reads the captures, and plays the script.

@@ -3,5 +3,6 @@
 
 pub mod late;
 pub mod paths;
+pub mod piped;
 pub mod reading;
 pub mod retried;

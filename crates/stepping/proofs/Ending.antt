@@ -1,10 +1,9 @@
 -- How playing ends.
-use Rattle.std.proofs.Common.{◌≡◌, ℕ, max, Bool, List, [], ◌++◌, Option, Result, Ok, Err, refl}
+use Rattle.std.proofs.Common.{◌≡◌, ℕ, max, inl, inr, Bool, List, [], ◌++◌, Option, Result, Ok, Err, refl}
 use Rattle.std.proofs.KnownBytes.{Appends-trans}
-use Rattle.std.specs.declared.io.Error.{Error}
 use Rattle.lines.specs.declared.telling.Ended.{Ended}
 use Rattle.lines.specs.Sending.{Takes, Streams}
-use Rattle.lines.specs.Telling.{output_line, print_status_of}
+use Rattle.lines.specs.Telling.{print_status_of}
 use Rattle.savefile.specs.declared.fault.Fault.{Fault as RecordFault}
 use Rattle.tap.specs.declared.filters.Spec.{Spec}
 use Rattle.tap.specs.declared.step.Step.{Step}
@@ -13,7 +12,7 @@ use Rattle.tap.specs.declared.report.Report.{Report}
 use Rattle.tap.specs.Headline.{Replays}
 use Rattle.tap.specs.Refusals.{NoneStands}
 use Rattle.stepping.specs.Printed.{printed_reports}
-use Rattle.stepping.specs.Playing.{TakesSome, record_fault_status, record_fault_line, Reported}
+use Rattle.stepping.specs.Playing.{TakesSome, IsPrintStatus, record_fault_status, failed_output_line, record_fault_line, Reported}
 use Rattle.lines.proofs.Taking.{Takes-then}
 
 -- ---- answers, of which no text is said
@@ -34,9 +33,14 @@ TakesBehind-all a b c r text grown taken = (grown.0, Takes-then a b c grown.0 te
 
 -- ---- reports without answers
 
-pub Reported-plain : (explained : Bool) (captures : List (List ℕ)) (specs : List Spec) (steps : List Step) (old new : Streams) (ended : Ended) (reports : List Report) (record_fault : Option (ℕ × RecordFault)) (r : Result (Unit {0}) Error) →
+-- the status of a printing
+print-status : {A E : Type 0} (old new : Option (List ℕ)) (text : List ℕ) (r : Result A E) → Takes old new r text → IsPrintStatus old new text (print_status_of r)
+print-status old new text (Ok x) taken = inl (refl, taken)
+print-status old new text (Err e) taken = inr (refl, taken)
+
+pub Reported-plain : {A E : Type 0} (explained : Bool) (captures : List (List ℕ)) (specs : List Spec) (steps : List Step) (old new : Streams) (ended : Ended) (reports : List Report) (record_fault : Option (ℕ × RecordFault)) (r : Result A E) →
     NoneStands captures specs steps → (playlist : List Placed) × Replays captures specs steps playlist record_fault reports → Takes old.out new.out r (printed_reports reports) →
-    Takes old.err new.err ended.told (output_line r ++ record_fault_line record_fault) → ended.status ≡ max (print_status_of r) (record_fault_status record_fault) →
+    Takes old.err new.err ended.told (failed_output_line (print_status_of r) ++ record_fault_line record_fault) → ended.status ≡ max (print_status_of r) (record_fault_status record_fault) →
     Reported explained captures specs steps old new ended
 Reported-plain explained captures specs steps old new ended reports record_fault r none_stands replays taken tells greatest = record {
   reports = reports;
@@ -46,8 +50,8 @@ Reported-plain explained captures specs steps old new ended reports record_fault
   none_stands = none_stands;
   answers = [];
   unexplained = λ _. refl;
-  printed = r;
-  prints = taken;
+  print_status = print_status_of r;
+  prints = print-status old.out new.out (printed_reports reports) r taken;
   tells = tells;
   greatest = greatest;
 }

@@ -1,7 +1,6 @@
 -- What is printed and told of steps that are played, and the exit status.
-use Rattle.std.specs.Prelude.{◌≡◌, ℕ, ◌⊎◌, max, Bool, false, List, [], ◌++◌, Option, Some, None, Result}
+use Rattle.std.specs.Prelude.{◌≡◌, ℕ, zero, suc, ◌⊎◌, max, Bool, false, List, [], ◌++◌, Option, Some, None, codes}
 use Rattle.std.specs.Io.KnownBytes.{Appends, Keeps}
-use Rattle.std.specs.declared.io.Error.{Error}
 use Rattle.savefile.specs.declared.fault.Fault.{Fault as RecordFault}
 use Rattle.tap.specs.declared.fault.Fault.{Fault}
 use Rattle.tap.specs.declared.fault.Fault.TheVariants.{Capture}
@@ -12,8 +11,8 @@ use Rattle.tap.specs.declared.report.Report.{Report}
 use Rattle.tap.specs.Headline.{Replays}
 use Rattle.tap.specs.Refusals.{IsFirst, NoneStands}
 use Rattle.lines.specs.declared.telling.Ended.{Ended}
-use Rattle.lines.specs.Sending.{Takes, Streams}
-use Rattle.lines.specs.Telling.{told_line, output_line, print_status_of}
+use Rattle.lines.specs.Sending.{Takes, TakesPart, Streams}
+use Rattle.lines.specs.Telling.{told_line}
 use Rattle.stepping.specs.Faults.{fault_text}
 use Rattle.stepping.specs.Printed.{printed_reports}
 
@@ -21,19 +20,27 @@ use Rattle.stepping.specs.Printed.{printed_reports}
 abbrev pub TakesSome : Option (List ℕ) → Option (List ℕ) → Type 0
 TakesSome old new = (text : List ℕ) × Appends old new text
 
+-- How the printing of a text ended, as a status: 0 where the writer took the text, 3 where it failed, and took a beginning of it.
+abbrev pub IsPrintStatus : Option (List ℕ) → Option (List ℕ) → List ℕ → ℕ → Type 0
+IsPrintStatus old new text print_status = ((print_status ≡ 0) × Appends old new text) ⊎ ((print_status ≡ 3) × TakesPart old new text)
+
 -- the status of a capture that ended with a record fault
 abbrev pub record_fault_status : Option (ℕ × RecordFault) → ℕ
 record_fault_status None = 0
 record_fault_status (Some record_fault) = 2
+
+-- the line of standard output that failed
+abbrev pub failed_output_line : ℕ → List ℕ
+failed_output_line zero = []
+failed_output_line (suc status) = told_line (codes "Device standard output")
 
 -- the line of a capture that ended with a record fault
 abbrev pub record_fault_line : Option (ℕ × RecordFault) → List ℕ
 record_fault_line None = []
 record_fault_line (Some record_fault) = told_line (fault_text (Capture record_fault.0 record_fault.1))
 
--- A replay gave reports, and no fault stands against it. They were printed, behind the answers where these are explained: all of
--- that, or a beginning where standard output failed. What is told is that it failed, if it did, and then a capture's record fault.
--- The status is the greatest that stands.
+-- A replay gave reports, and no fault stands against it. They were printed, behind the answers where these are explained; a
+-- capture's record fault was told; the status is the greatest that stands.
 pub record Reported (explained : Bool) (captures : List (List ℕ)) (specs : List Spec) (steps : List Step) (old new : Streams) (ended : Ended) : Type 0 where
   pub reports : List Report
   pub record_fault : Option (ℕ × RecordFault)
@@ -42,10 +49,10 @@ pub record Reported (explained : Bool) (captures : List (List ℕ)) (specs : Lis
   pub none_stands : NoneStands captures specs steps
   pub answers : List ℕ
   pub unexplained : explained ≡ false → answers ≡ []
-  pub printed : Result (Unit {0}) Error
-  pub prints : Takes old.out new.out printed (answers ++ printed_reports reports)
-  pub tells : Takes old.err new.err ended.told (output_line printed ++ record_fault_line record_fault)
-  pub greatest : ended.status ≡ max (print_status_of printed) (record_fault_status record_fault)
+  pub print_status : ℕ
+  pub prints : IsPrintStatus old.out new.out (answers ++ printed_reports reports) print_status
+  pub tells : Takes old.err new.err ended.told (failed_output_line print_status ++ record_fault_line record_fault)
+  pub greatest : ended.status ≡ max print_status (record_fault_status record_fault)
 
 -- There is no replay: the first fault that stands was told, and nothing was printed.
 pub record Refused (captures : List (List ℕ)) (specs : List Spec) (steps : List Step) (old new : Streams) (ended : Ended) : Type 0 where

@@ -3,12 +3,12 @@
 ghost use Rattle.std.specs.Prelude.{◌≡◌, ◌++◌, ℕ, List, max, map, true, IfOk, IfErr};
 ghost use Rattle.lines.specs.Files.{IsFileOf};
 ghost use Rattle.lines.specs.Sending.{Takes, streams};
-ghost use Rattle.lines.specs.Telling.{told_line, output_line, print_status_of};
+ghost use Rattle.lines.specs.Telling.{told_line, print_status_of};
 ghost use Rattle.stepping.specs.Listeners.{AreFirstOf};
 ghost use Rattle.stepping.specs.Script.{IsStepLine};
 ghost use Rattle.stepping.specs.Faults.{fault_text};
 ghost use Rattle.stepping.specs.Printed.{printed_reports};
-ghost use Rattle.stepping.specs.Playing.{record_fault_status, record_fault_line, Plays};
+ghost use Rattle.stepping.specs.Playing.{record_fault_status, failed_output_line, record_fault_line, Plays};
 ghost use Rattle.stepping.specs.Stepping.{IsRefusedFiles, Steps, StepsTo};
 
 use crate::answers::{AnswersLeft, write_answers};
@@ -17,7 +17,7 @@ use crate::listeners::read_listeners;
 use crate::reports::write_reports;
 use crate::script::read_script;
 use lines::LineFault;
-use lines::telling::{BAD_RECORD, Ended, REFUSED, print_status, tell_line, tell_output};
+use lines::telling::{BAD_RECORD, Ended, REFUSED, print_status, tell_line};
 use std::alloc::Global;
 use std::io;
 use std::io::Write;
@@ -52,6 +52,16 @@ fn record_fault_status(record_fault: Option<(u32, savefile::Fault)>) -> u8
     }
 }
 
+/// Tells that standard output failed, if this is the status of that.
+fn tell_failed_output<E: Write>(printed: u8, err: &mut E) -> io::Result<()>
+    ensures { Takes (E.contents err.old) (E.contents err.new) result (failed_output_line printed) }
+{
+    if printed == 0 {
+        return Ok(());
+    }
+    tell_line("Device standard output", err)
+}
+
 /// Tells the capture that ended with a record fault, if one did.
 fn tell_record_fault<E: Write>(
     record_fault: Option<(u32, savefile::Fault)>,
@@ -65,16 +75,16 @@ fn tell_record_fault<E: Write>(
     }
 }
 
-/// Tells that standard output failed, if it did, and then a capture's record fault. Where the first is not taken, the second is not
-/// told.
+/// Tells standard output that failed, if this is the status of that, and then a capture's record fault. Where the first is not
+/// taken, the second is not told.
 fn tell_both<E: Write>(
-    printed: &io::Result<()>,
+    printed: u8,
     record_fault: Option<(u32, savefile::Fault)>,
     err: &mut E,
 ) -> io::Result<()>
-    ensures { Takes (E.contents err.old) (E.contents err.new) result (output_line printed.now ++ record_fault_line record_fault) }
+    ensures { Takes (E.contents err.old) (E.contents err.new) result (failed_output_line printed ++ record_fault_line record_fault) }
 {
-    tell_output(printed, err)?;
+    tell_failed_output(printed, err)?;
     tell_record_fault(record_fault, err)
 }
 
@@ -85,11 +95,12 @@ fn end<E: Write>(
     err: &mut E,
 ) -> Ended
     ensures greatest { result.status ≡ max (print_status_of printed) (record_fault_status record_fault) }
-    ensures tells { Takes (E.contents err.old) (E.contents err.new) result.told (output_line printed ++ record_fault_line record_fault) }
+    ensures tells { Takes (E.contents err.old) (E.contents err.new) result.told (failed_output_line (print_status_of printed) ++ record_fault_line record_fault) }
 {
+    let status = print_status(&printed);
     Ended {
-        status: print_status(&printed).max(record_fault_status(record_fault)),
-        told: tell_both(&printed, record_fault, err),
+        status: status.max(record_fault_status(record_fault)),
+        told: tell_both(status, record_fault, err),
     }
 }
 
