@@ -34,10 +34,12 @@ text_reads chosen t suits is f =
     let spelled = subst (λ x. Spelled x (tree_tokens chosen t [])) (append-nil (tree_text chosen t)) (tree_spells chosen t is [] [] ends_end spelled_end) in
     spelled_reads (tree_text chosen t) (tree_tokens chosen t []) t spelled (reads_expr ((trees_read chosen suits t is 64 f).0 None [] stops_end).1)
 
+-- so it is with those that are chosen for it
 pub canonical_reads : (t : Tree) → IsTree t → fits needed t 64 ≡ true → ReadsAs (canonical t) t
 unfolding canonical
 canonical_reads t is f = text_reads (parentheses_of t) t (chosen_suits t) is (chosen_fits t f)
 
+-- the empty text
 pub empty_reads : ReadsAs (canonical everything) everything
 unfolding canonical fits tree_text
 empty_reads = spelled_reads [] [] everything spelled_end reads_nothing
@@ -50,6 +52,7 @@ again tokens tree are reads = by_reading (kinds tokens) tree are reads
     by_reading ks t is reads_nothing = empty_reads
     by_reading ks t is (reads_expr h) = let made = reads_made h is in canonical_reads t made.0 made.1
 
+-- the law
 pub read_again : IsReadAgain
 read_again text tree found = again found.0 tree (tokens_are found.1) found.2
 

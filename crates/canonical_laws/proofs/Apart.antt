@@ -23,12 +23,15 @@ use Rattle.canonical_laws.proofs.Terms.{Stops, stops_end, stops_close, stops_joi
 net_apart : (address mask : ℕ) (ks : List Kind) → begins_relation (net_tokens address mask ks) ≡ false
 net_apart address mask ks = either_of (λ ts. begins_relation ts ≡ false) (mask == 4294967295) (kind.Type types.Host ∷ kind.Dotted address Four ∷ ks) (kind.Type types.Net ∷ kind.Dotted address Four ∷ mask_tokens mask ks) (λ e. refl) (λ e. refl)
 
+-- nor does it begin with a bracket
 net_no_bracket : (address mask : ℕ) (ks : List Kind) → bracket_follows (net_tokens address mask ks) ≡ false
 net_no_bracket address mask ks = either_of (λ ts. bracket_follows ts ≡ false) (mask == 4294967295) (kind.Type types.Host ∷ kind.Dotted address Four ∷ ks) (kind.Type types.Net ∷ kind.Dotted address Four ∷ mask_tokens mask ks) (λ e. refl) (λ e. refl)
 
+-- the same of ports
 ports_apart : (low high : ℕ) (ks : List Kind) → begins_relation (ports_tokens low high ks) ≡ false
 ports_apart low high ks = either_of (λ ts. begins_relation ts ≡ false) (low == high) (kind.Type types.Port ∷ kind.Number low ∷ ks) (kind.PortRange ∷ kind.Number low ∷ kind.Operator Minus ∷ kind.Number high ∷ ks) (λ e. refl) (λ e. refl)
 
+-- nor do these begin with a bracket
 ports_no_bracket : (low high : ℕ) (ks : List Kind) → bracket_follows (ports_tokens low high ks) ≡ false
 ports_no_bracket low high ks = either_of (λ ts. bracket_follows ts ≡ false) (low == high) (kind.Type types.Port ∷ kind.Number low ∷ ks) (kind.PortRange ∷ kind.Number low ∷ kind.Operator Minus ∷ kind.Number high ∷ ks) (λ e. refl) (λ e. refl)
 
@@ -39,34 +42,40 @@ direction_apart Dst ts h = refl
 direction_apart SrcOrDst ts h = h
 direction_apart SrcAndDst ts h = refl
 
+-- nor is one a bracket
 direction_no_bracket : (direction : Direction) (ts : List Kind) → bracket_follows ts ≡ false → bracket_follows (direction_tokens direction ts) ≡ false
 direction_no_bracket Src ts h = refl
 direction_no_bracket Dst ts h = refl
 direction_no_bracket SrcOrDst ts h = h
 direction_no_bracket SrcAndDst ts h = refl
 
+-- nor does a protocol before them begin a relation
 network_apart : (network : Option Network) (ts : List Kind) → begins_relation ts ≡ false → bracket_follows ts ≡ false → begins_relation (network_tokens network ts) ≡ false
 network_apart None ts h k = h
 network_apart (Some networks.Ip) ts h k = k
 network_apart (Some networks.Arp) ts h k = k
 network_apart (Some networks.Rarp) ts h k = k
 
+-- of nets and of ports
 transport_apart : (transport : Option Transport) (ts : List Kind) → begins_relation ts ≡ false → bracket_follows ts ≡ false → begins_relation (transport_tokens transport ts) ≡ false
 transport_apart None ts h k = h
 transport_apart (Some transports.Tcp) ts h k = k
 transport_apart (Some transports.Udp) ts h k = k
 transport_apart (Some transports.Sctp) ts h k = k
 
+-- what stands behind a term is no bracket
 stops_no_bracket : (ks : List Kind) → Stops ks → bracket_follows ks ≡ false
 stops_no_bracket ks stops_end = refl
 stops_no_bracket ks stops_close = refl
 stops_no_bracket ks stops_joint = refl
 
+-- and no sign of arithmetic
 pub stops_no_operator : (ks : List Kind) → Stops ks → operator_follows ks ≡ false
 stops_no_operator ks stops_end = refl
 stops_no_operator ks stops_close = refl
 stops_no_operator ks stops_joint = refl
 
+-- so no primitive begins a relation
 pub primitive_apart : (p : Primitive) (ks : List Kind) → Stops ks → begins_relation (primitive_tokens p ks) ≡ false
 primitive_apart (primitives.Protocol p) ks s = stops_no_bracket ks s
 primitive_apart (primitives.Net network direction address mask) ks s =
@@ -87,27 +96,32 @@ net_matched : (d address mask : ℕ) (ks : List Kind) → after_matching d (net_
 net_matched d address mask ks = either_of (λ ts. after_matching d ts ≡ after_matching d ks) (mask == 4294967295) (kind.Type types.Host ∷ kind.Dotted address Four ∷ ks) (kind.Type types.Net ∷ kind.Dotted address Four ∷ mask_tokens mask ks) (λ e. refl)
     (λ e. either_of (λ ts. after_matching d ts ≡ after_matching d ks) (mask_of (leading_ones w32 mask) == mask) (kind.Operator Divide ∷ kind.Number (leading_ones w32 mask) ∷ ks) (kind.Mask ∷ kind.Dotted mask Four ∷ ks) (λ e. refl) (λ e. refl))
 
+-- nor have ports
 ports_matched : (d low high : ℕ) (ks : List Kind) → after_matching d (ports_tokens low high ks) ≡ after_matching d ks
 ports_matched d low high ks = either_of (λ ts. after_matching d ts ≡ after_matching d ks) (low == high) (kind.Type types.Port ∷ kind.Number low ∷ ks) (kind.PortRange ∷ kind.Number low ∷ kind.Operator Minus ∷ kind.Number high ∷ ks) (λ e. refl) (λ e. refl)
 
+-- nor a direction
 direction_matched : (d : ℕ) (direction : Direction) (ks : List Kind) → after_matching d (direction_tokens direction ks) ≡ after_matching d ks
 direction_matched d Src ks = refl
 direction_matched d Dst ks = refl
 direction_matched d SrcOrDst ks = refl
 direction_matched d SrcAndDst ks = refl
 
+-- nor a protocol of nets
 network_matched : (d : ℕ) (network : Option Network) (ks : List Kind) → after_matching d (network_tokens network ks) ≡ after_matching d ks
 network_matched d None ks = refl
 network_matched d (Some networks.Ip) ks = refl
 network_matched d (Some networks.Arp) ks = refl
 network_matched d (Some networks.Rarp) ks = refl
 
+-- nor one of ports
 transport_matched : (d : ℕ) (transport : Option Transport) (ks : List Kind) → after_matching d (transport_tokens transport ks) ≡ after_matching d ks
 transport_matched d None ks = refl
 transport_matched d (Some transports.Tcp) ks = refl
 transport_matched d (Some transports.Udp) ks = refl
 transport_matched d (Some transports.Sctp) ks = refl
 
+-- so none has
 pub primitive_matched : (p : Primitive) (d : ℕ) (ks : List Kind) → after_matching d (primitive_tokens p ks) ≡ after_matching d ks
 primitive_matched (primitives.Protocol p) d ks = refl
 primitive_matched (primitives.Net network direction address mask) d ks =

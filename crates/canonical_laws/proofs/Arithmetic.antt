@@ -31,6 +31,7 @@ abbrev pub level : Amount → ℕ
 level (binary op v w) = precedence_of op
 level _ = 0
 
+-- none binds more loosely than the loosest
 precedence_most : (op : Operator) → precedence_of op ≤ 6
 precedence_most operator.Plus = omega arith
 precedence_most operator.Minus = omega arith
@@ -43,6 +44,7 @@ precedence_most operator.BitOr = omega arith
 precedence_most operator.ShiftLeft = omega arith
 precedence_most operator.ShiftRight = omega arith
 
+-- nor does a value
 pub level_most : (v : Amount) → level v ≤ 6
 level_most (number n) = omega arith
 level_most wire_length = omega arith
@@ -96,6 +98,7 @@ pub record Suits (chosen : Parentheses) : Type 0 where
   pub right : (op : Operator) (v : Amount) (k : ℕ) → precedence_of op ≡ suc k → right_enclosed chosen op v ≡ false → level v ≤ k
   pub behind_not : (t : Tree) → negated_enclosed chosen t ≡ false → is_joined t ≡ false
 
+-- the layer that a word stands for
 layer_is : (layer : Layer) → layer_of (layer_word layer) ≡ Some layer
 layer_is layers.Ether = refl
 layer_is layers.Ip = refl
@@ -135,10 +138,12 @@ size_matched d sizes.One ks = refl
 size_matched d sizes.Two ks = refl
 size_matched d sizes.Four ks = refl
 
+-- in parentheses or without
 within_matched : (d : ℕ) (is : Bool) (inner : Before) → ((e : ℕ) (ks : List Kind) → after_matching e (inner ks) ≡ after_matching e ks) → (ks : List Kind) → after_matching d (within is inner ks) ≡ after_matching d ks
 within_matched d true inner h ks = h (suc d) (kind.Close ∷ ks)
 within_matched d false inner h ks = h d ks
 
+-- in each value
 pub value_matched : (chosen : Parentheses) (v : Amount) (d : ℕ) (ks : List Kind) → after_matching d (value_tokens chosen v ks) ≡ after_matching d ks
 value_matched chosen (number n) d ks = refl
 value_matched chosen wire_length d ks = refl
@@ -148,6 +153,7 @@ value_matched chosen (binary op v w) d ks =
     ∙ within_matched d (right_enclosed chosen op w) (value_tokens chosen w) (λ e ls. value_matched chosen w e ls) ks
 value_matched chosen (accessor layer v size) d ks = value_matched chosen v d (size_tokens size ks) ∙ size_matched d size ks
 
+-- and in a side of a comparison
 pub side_matched : (is : Bool) (chosen : Parentheses) (v : Amount) (d : ℕ) (ks : List Kind) → after_matching d (within is (value_tokens chosen v) ks) ≡ after_matching d ks
 side_matched is chosen v d ks = within_matched d is (value_tokens chosen v) (value_matched chosen v) ks
 
@@ -156,6 +162,7 @@ side_begins : (is : Bool) (chosen : Parentheses) (v : Amount) → ((ks : List Ki
 side_begins true chosen v h ks sign = ap operator_follows (value_matched chosen v 0 (kind.Close ∷ ks)) ∙ sign
 side_begins false chosen v h ks sign = h ks sign
 
+-- so each value does
 value_begins : (chosen : Parentheses) (v : Amount) (ks : List Kind) → operator_follows ks ≡ true → begins_relation (value_tokens chosen v ks) ≡ true
 value_begins chosen (number n) ks sign = sign
 value_begins chosen wire_length ks sign = refl
@@ -164,5 +171,6 @@ value_begins chosen (binary op v w) ks sign =
     side_begins (left_enclosed chosen op v) chosen v (λ ls s. value_begins chosen v ls s) (kind.Operator op ∷ within (right_enclosed chosen op w) (value_tokens chosen w) ks) refl
 value_begins chosen (accessor layer v size) ks sign = refl
 
+-- and each side of a comparison
 pub relation_begins : (is : Bool) (chosen : Parentheses) (v : Amount) (ks : List Kind) → operator_follows ks ≡ true → begins_relation (within is (value_tokens chosen v) ks) ≡ true
 relation_begins is chosen v ks sign = side_begins is chosen v (value_begins chosen v) ks sign

@@ -29,6 +29,7 @@ IsToken (kind.Dotted a parts) = a < 2 ^ 32
 IsToken (kind.Ethernet a) = (length a.octets ≡ 6) × ((i : ℕ) → get_or a.octets i 0 < 256)
 IsToken _ = Unit {0}
 
+-- all of these are
 abbrev pub AreTokens : List Kind → Type 0
 AreTokens [] = Unit {0}
 AreTokens (k ∷ ks) = IsToken k × AreTokens ks
@@ -38,6 +39,7 @@ pub some_map : {A B : Type 0} (f : A → B) (P : A → Type 0) (R : B → Type 0
 some_map f P R None h next = tt
 some_map f P R (Some x) h next = next x h
 
+-- or of one that may be there
 pub some_then : {A B : Type 0} (f : A → Option B) (P : A → Type 0) (R : B → Type 0) (o : Option A) → IfSome o P → ((x : A) → P x → IfSome (f x) R) → IfSome (option_and_then f o) R
 some_then f P R None h next = tt
 some_then f P R (Some x) h next = next x h
@@ -47,6 +49,7 @@ within_limit : (limit : ℕ) (o : Option ℕ) → IfSome (at_most limit o) (λ n
 within_limit limit None = tt
 within_limit limit (Some n) = either_of (λ r. IfSome r (λ m. m ≤ limit)) (nat_le n limit) (Some n) None (λ e. leb-true n limit e) (λ e. tt)
 
+-- a part of an address is an octet
 octet_small : (base most : ℕ) (part : List ℕ) → IfSome (octet base most part) (λ n. n < 256)
 octet_small base most part =
     either_of (λ r. IfSome r (λ n. n < 256)) (nat_le (length part) most) (at_most 255 (numeral base part)) None
@@ -56,6 +59,7 @@ octet_small base most part =
     weaker None h = tt
     weaker (Some n) h = omega arith
 
+-- a number has 32 bits
 number_small : (run : List ℕ) → IfSome (number_of run) (λ n. n ≤ 4294967295)
 number_small run =
     within_limit 4294967295 (
@@ -67,13 +71,16 @@ number_small run =
 abbrev AreOctets : List ℕ → Type 0
 AreOctets ns = (i : ℕ) → get_or ns i 0 < 256
 
+-- one octet more
 one_more : (n : ℕ) (ns : List ℕ) → n < 256 → AreOctets ns → AreOctets (n ∷ ns)
 one_more n ns small all zero = small
 one_more n ns small all (suc i) = all i
 
+-- none at all
 none_yet : AreOctets []
 none_yet i = omega arith
 
+-- the parts of an address are octets
 octets_small : (base most : ℕ) (parts : List (List ℕ)) → IfSome (octets base most parts) AreOctets
 octets_small base most [] = none_yet
 octets_small base most (part ∷ parts) =
@@ -94,6 +101,7 @@ ethernet_token text =
 four : (a b c d : ℕ) → a < 256 → b < 256 → c < 256 → d < 256 → from_be_bytes w32 (a ∷ b ∷ c ∷ d ∷ []) < 2 ^ 32
 four a b c d la lb lc ld = omega arith
 
+-- so a dotted address has 32 bits
 dotted_small : (ns : List ℕ) → AreOctets ns → IfSome (dotted ns) IsToken
 dotted_small [] all = tt
 dotted_small (a ∷ []) all = tt
@@ -102,6 +110,7 @@ dotted_small (a ∷ b ∷ c ∷ []) all = four a b c 0 (all 0) (all 1) (all 2) (
 dotted_small (a ∷ b ∷ c ∷ d ∷ []) all = four a b c d (all 0) (all 1) (all 2) (all 3)
 dotted_small (a ∷ b ∷ c ∷ d ∷ e ∷ ns) all = tt
 
+-- a number or a dotted address
 number_token : (text : List ℕ) → IfSome (number_or_dotted_at text) (λ t. IsToken t.0)
 unfolding number_or_dotted_at
 number_token text =
@@ -122,6 +131,7 @@ is_word (kind.Dotted a parts) = false
 is_word (kind.Ethernet a) = false
 is_word _ = true
 
+-- they hold no number, or a small one
 word_is : (k : Kind) → is_word k ≡ true → IsToken k
 word_is (kind.Number n) e = absurd cc
 word_is (kind.Named n) e = ltb-true n 4294967296 e
@@ -138,6 +148,7 @@ found_has p q (y ∷ table) x all e = at_test (p y) (both_true (q y) (list_all q
     at_test true each e later = let same : y ≡ x = cc in subst (λ z. q z ≡ true) same each.0
     at_test false each e later = later each.1 e
 
+-- so a word that is found is a token
 found_token : (p : Entry → Bool) (table : List Entry) → list_all (λ x. is_word x.1) table ≡ true → IfSome (option_map token_of (find p table)) (λ t. IsToken t.0)
 found_token p table all = by_found (find p table) refl
   where
@@ -145,14 +156,17 @@ found_token p table all = by_found (find p table) refl
     by_found None e = tt
     by_found (Some x) e = word_is x.1 (found_has p (λ y. is_word y.1) table x all e)
 
+-- the three tables have such words
 words_words : list_all (λ x. is_word x.1) words ≡ true
 unfolding words
 words_words = refl
 
+-- names
 names_words : list_all (λ x. is_word x.1) names ≡ true
 unfolding names
 names_words = refl
 
+-- and signs
 signs_words : list_all (λ x. is_word x.1) signs ≡ true
 unfolding signs
 signs_words = refl
@@ -162,10 +176,12 @@ or_else : {A : Type 0} (P : A → Type 0) (o : Option A) (r : Result A Cause) �
 or_else P None r h k = k
 or_else P (Some x) r h k = h
 
+-- or why there is none
 or_cause : {A : Type 0} (P : A → Type 0) (o : Option A) (c : Cause) → IfSome o P → IfOk (ok_or o c) P
 or_cause P None c h = tt
 or_cause P (Some x) c h = h
 
+-- it is one of them
 token_is : (text : List ℕ) → IfOk (token_at text) (λ t. IsToken t.0)
 unfolding token_at
 token_is text =
@@ -184,6 +200,7 @@ front_ok : (r : Result (Kind × ℕ) Cause) (k : Kind) (n : ℕ) → IfOk r (λ 
 front_ok (Ok t) k n is e = let same : t.0 ≡ k = cc in subst IsToken same is
 front_ok (Err c) k n is e = absurd cc
 
+-- at the front of a text
 front_token : (text : List ℕ) (k : Kind) (n : ℕ) → front text ≡ front_of (Ok (k, n)) → IsToken k
 unfolding front
 front_token [] k n e = absurd cc

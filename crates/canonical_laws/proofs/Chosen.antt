@@ -24,6 +24,7 @@ all_of = parentheses_of everything
 abbrev pub needed : Parentheses
 needed = parentheses_of (nots 65)
 
+-- with all parentheses, what stands on the left without binds as tightly
 left_all : (op : Operator) (v : Amount) → left_enclosed all_of op v ≡ false → level v ≤ precedence_of op
 unfolding fits
 left_all op (number n) e = omega arith
@@ -36,6 +37,7 @@ left_all op (binary inner v w) e = at_test (precedence_of inner == precedence_of
     at_test true same f = let s = eqb-true (precedence_of inner) (precedence_of op) same in omega arith
     at_test false other f = absurd cc
 
+-- and so it does with those that are needed
 left_needed : (op : Operator) (v : Amount) → left_enclosed needed op v ≡ false → level v ≤ precedence_of op
 unfolding fits
 left_needed op (number n) e = omega arith
@@ -47,6 +49,7 @@ left_needed op (binary inner v w) e = not_less (precedence_of op) (precedence_of
     not_less : (a b : ℕ) → nat_lt a b ≡ false → b ≤ a
     not_less a b e = grind (arith, nat_tests)
 
+-- what stands on the right without has no operator
 right_all : (op : Operator) (v : Amount) (k : ℕ) → precedence_of op ≡ suc k → right_enclosed all_of op v ≡ false → level v ≤ k
 unfolding fits
 right_all op (number n) k p e = omega arith
@@ -55,6 +58,7 @@ right_all op (minus v) k p e = omega arith
 right_all op (accessor layer v size) k p e = omega arith
 right_all op (binary inner v w) k p e = absurd cc
 
+-- or binds more tightly
 right_needed : (op : Operator) (v : Amount) (k : ℕ) → precedence_of op ≡ suc k → right_enclosed needed op v ≡ false → level v ≤ k
 unfolding fits
 right_needed op (number n) k p e = omega arith
@@ -66,6 +70,7 @@ right_needed op (binary inner v w) k p e = let less = not_at_most (precedence_of
     not_at_most : (a b : ℕ) → nat_le a b ≡ false → b < a
     not_at_most a b e = grind (arith, nat_tests)
 
+-- what stands behind `not` without is joined to nothing
 behind_all : (t : Tree) → negated_enclosed all_of t ≡ false → is_joined t ≡ false
 unfolding fits
 behind_all everything e = refl
@@ -75,6 +80,7 @@ behind_all (negation t) e = refl
 behind_all (both t u) e = absurd cc
 behind_all (either t u) e = absurd cc
 
+-- either way
 behind_needed : (t : Tree) → negated_enclosed needed t ≡ false → is_joined t ≡ false
 unfolding fits
 behind_needed everything e = refl
@@ -84,9 +90,11 @@ behind_needed (negation t) e = refl
 behind_needed (both t u) e = absurd cc
 behind_needed (either t u) e = absurd cc
 
+-- so all of them suit
 all_suits : Suits all_of
 all_suits = record { left = left_all; right = right_all; behind_not = behind_all }
 
+-- and those that are needed do
 needed_suits : Suits needed
 needed_suits = record { left = left_needed; right = right_needed; behind_not = behind_needed }
 
@@ -95,6 +103,7 @@ pub chosen_suits : (t : Tree) → Suits (parentheses_of t)
 unfolding fits
 chosen_suits t = either_of Suits _ _ _ (λ e. all_suits) (λ e. needed_suits)
 
+-- nor are they too deep where those that are needed are not
 pub chosen_fits : (t : Tree) → fits needed t 64 ≡ true → fits (parentheses_of t) t 64 ≡ true
 unfolding fits
 chosen_fits t f = either_of (λ chosen. fits chosen t 64 ≡ true) _ all_of needed (λ e. e) (λ e. f)

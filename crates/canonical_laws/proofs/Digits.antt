@@ -19,6 +19,7 @@ abbrev pub below : (ℕ → Bool) → ℕ → Bool
 below p zero = true
 below p (suc n) = p n && below p n
 
+-- so it passes of any of them
 pub below_all : (p : ℕ → Bool) (n : ℕ) → below p n ≡ true → (k : ℕ) → k < n → p k ≡ true
 below_all p zero e k less = absurd (omega arith)
 below_all p (suc n) e k less = at_test (k == n) refl (both_true (p n) (below p n) e) (below_all p n)
@@ -34,6 +35,7 @@ of_digit p e c is =
     let c_is : 48 + (c - 48) ≡ c = omega arith in
     subst (λ x. p x ≡ true) c_is (below_all (λ d. p (48 + d)) 10 e (c - 48) (omega arith))
 
+-- and of digits
 pub of_digits : (p : ℕ → Bool) → below (λ d. p (48 + d)) 10 ≡ true → (ds : List ℕ) → AllDigits 10 ds → list_all p ds ≡ true
 of_digits p e [] all = refl
 of_digits p e (c ∷ cs) all = rw (of_digit p e c all.0, of_digits p e cs all.1) refl

@@ -31,6 +31,7 @@ glyph_has p e d small = below_all (λ k. p (glyph k)) 16 e d small
 pair : ℕ → List ℕ
 pair o = glyph (o / 16) ∷ glyph (o % 16) ∷ []
 
+-- as they are printed
 pair_is : (o : ℕ) → o < 256 → octet_text o ≡ pair o
 unfolding pair glyph
 pair_is o small = rw (hex_one_digit false (o / 16) (omega arith), hex_one_digit false (o % 16) (omega arith)) refl
@@ -45,6 +46,7 @@ glyph_digit : (d : ℕ) → d < 16 → is_digit (glyph d) 16 ≡ true
 unfolding glyph
 glyph_digit d small = below_all (λ k. is_digit (glyph k) 16) 16 refl d small
 
+-- the value of one
 glyph_value : (d : ℕ) → d < 16 → digit_value (glyph d) ≡ d
 unfolding glyph
 glyph_value d small = eqb-true (digit_value (glyph d)) d (below_all (λ k. digit_value (glyph k) == k) 16 refl d small)
@@ -60,6 +62,7 @@ two_digits a b la lb =
     at_limit : (n : ℕ) → n ≤ 255 → at_most 255 (Some n) ≡ Some n
     at_limit n le = rw (le-leb n 255 le) refl
 
+-- so two of them are an octet
 octet_is : (o : ℕ) → o < 256 → octet 16 2 (pair o) ≡ Some o
 unfolding pair
 octet_is o small = let whole : o / 16 * 16 + o % 16 ≡ o = omega arith in two_digits (o / 16) (o % 16) (omega arith) (omega arith) ∙ ap Some whole
@@ -129,14 +132,17 @@ six (a ∷ b ∷ c ∷ d ∷ f ∷ []) e = absurd (omega arith)
 six (a ∷ b ∷ c ∷ d ∷ f ∷ g ∷ []) e = refl
 six (a ∷ b ∷ c ∷ d ∷ f ∷ g ∷ h ∷ os) e = absurd (omega arith)
 
+-- as they are printed, three
 three_is : (a b c : ℕ) → a < 256 → b < 256 → c < 256 → octets_text a b c ≡ pair a ++ (58 ∷ (pair b ++ (58 ∷ pair c)))
 unfolding octets_text pair
 three_is a b c la lb lc = rw (pair_is a la, pair_is b lb, pair_is c lc) refl
 
+-- and six
 text_is : (a b c d e f : ℕ) → a < 256 → b < 256 → c < 256 → d < 256 → e < 256 → f < 256 → octets_text a b c ++ (codes ":" ++ octets_text d e f) ≡ pairs a b c d e f
 unfolding pairs pair
 text_is a b c d e f la lb lc ld le lf = rw (three_is a b c la lb lc, three_is d e f ld le lf) refl
 
+-- an Ethernet address
 pub ethernet_spelled : (address : EthernetAddress) → length address.octets ≡ 6 → ((i : ℕ) → get_or address.octets i 0 < 256) → Spells (ethernet_text address.octets) (λ ks. kind.Ethernet address ∷ ks) Ends
 unfolding ethernet_text
 ethernet_spelled address long small rest ks behind s =

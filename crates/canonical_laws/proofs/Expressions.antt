@@ -27,6 +27,7 @@ within_matched : (is : Bool) (inner : Before) → ((e : ℕ) (ks : List Kind) �
 within_matched true inner h d ks = h (suc d) (kind.Close ∷ ks)
 within_matched false inner h d ks = h d ks
 
+-- each tree
 tree_matched : (chosen : Parentheses) (t : Tree) (d : ℕ) (ks : List Kind) → after_matching d (tree_tokens chosen t ks) ≡ after_matching d ks
 tree_matched chosen everything d ks = refl
 tree_matched chosen (test p) d ks = primitive_matched p d ks
@@ -45,6 +46,7 @@ tree_matched chosen (either t u) d ks =
 abbrev pub IsExpression : ℕ → Nearest → List Kind → Tree → List Kind → Type 0
 IsExpression n q ts t rest = (r : Nearest) × Expression n q ts t r rest
 
+-- as a term
 abbrev pub IsTerm : ℕ → Nearest → List Kind → Tree → List Kind → Type 0
 IsTerm n q ts t rest = (r : Nearest) × Term n q ts t r rest
 
@@ -54,9 +56,11 @@ IsTreeRead chosen n t =
     ((q : Nearest) (ks : List Kind) → Stops ks → IsExpression n q (tree_tokens chosen t ks) t ks)
     × (is_joined t ≡ false → (q : Nearest) (ks : List Kind) → Stops ks → IsTerm n q (tree_tokens chosen t ks) t ks)
 
+-- a term is an expression
 as_term : (chosen : Parentheses) (n : ℕ) (t : Tree) → ((q : Nearest) (ks : List Kind) → Stops ks → IsTerm n q (tree_tokens chosen t ks) t ks) → IsTreeRead chosen n t
 as_term chosen n t h = (λ q ks s. let found = h q ks s in (found.0, expr_one found.1), λ e. h)
 
+-- expressions that are joined are no term
 as_joined : (chosen : Parentheses) (n : ℕ) (t : Tree) → is_joined t ≡ true → ((q : Nearest) (ks : List Kind) → Stops ks → IsExpression n q (tree_tokens chosen t ks) t ks) → IsTreeRead chosen n t
 as_joined chosen n t is h = (h, λ e. absurd cc)
 

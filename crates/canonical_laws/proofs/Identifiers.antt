@@ -47,24 +47,29 @@ host_net a small = let whole : a % 2 ^ 32 ≡ a = omega arith in eq-eqb (bit_and
 net_is : (network : Option Network) (direction : Direction) (a mask : ℕ) → a < 2 ^ 32 → mask < 2 ^ 32 → IfSome (net_of network direction a mask) IsPrimitive
 net_is network direction a mask la lm = either_of (λ r. IfSome r IsPrimitive) (bit_and a mask == a) (Some (primitives.Net network direction a mask)) None (λ e. (la, lm, e)) (λ e. tt)
 
+-- the same, by how many bits the mask has
 prefix_is : (network : Option Network) (direction : Direction) (a bits : ℕ) → a < 2 ^ 32 → IfSome (if nat_le bits 32 then net_of network direction a (mask_of bits) else None) IsPrimitive
 prefix_is network direction a bits la = either_of (λ r. IfSome r IsPrimitive) (nat_le bits 32) (net_of network direction a (mask_of bits)) None (λ e. net_is network direction a (mask_of bits) la (mask_small bits)) (λ e. tt)
 
+-- the net of a first octet
 first_is : (network : Option Network) (direction : Direction) (n : ℕ) → IfSome (option_map (λ first. primitives.Net network direction (first * 2 ^ 24) (mask_of 8)) (between 0 255 n)) IsPrimitive
 first_is network direction n = some_map (λ first. primitives.Net network direction (first * 2 ^ 24) (mask_of 8)) (λ m. (0 ≤ m) × (m ≤ 255)) IsPrimitive (between 0 255 n) (between_is 0 255 n) (λ m h. (shifted m h.1, mask_small 8, octet_net m h.1))
   where
     shifted : (m : ℕ) → m ≤ 255 → m * 2 ^ 24 < 2 ^ 32
     shifted m le = omega arith
 
+-- a port
 port_is : (transport : Option Transport) (direction : Direction) (n : ℕ) → IfSome (option_map (λ port. primitives.Ports transport direction port port) (port_of n)) IsPrimitive
 port_is transport direction n = some_map (λ port. primitives.Ports transport direction port port) (λ m. (0 ≤ m) × (m ≤ 65535)) IsPrimitive (port_of n) (between_is 0 65535 n) (λ m h. (le_refl m, below_end m h.1))
   where
     below_end : (m : ℕ) → m ≤ 65535 → m < 65536
     below_end m le = omega arith
 
+-- a protocol of IPv4
 proto_is : (n : ℕ) → IfSome (option_map primitives.IpProto (between 0 255 n)) IsPrimitive
 proto_is n = some_map primitives.IpProto (λ m. (0 ≤ m) × (m ≤ 255)) IsPrimitive (between 0 255 n) (between_is 0 255 n) (λ m h. omega (arith, h.1))
 
+-- a type of frames
 type_is : (n : ℕ) → IfSome (option_map primitives.EtherProto (between 1501 65535 n)) IsPrimitive
 type_is n = some_map primitives.EtherProto (λ m. (1501 ≤ m) × (m ≤ 65535)) IsPrimitive (between 1501 65535 n) (between_is 1501 65535 n) (λ m h. (omega (arith, h.0), omega (arith, h.1)))
 

@@ -31,14 +31,17 @@ both_hold false b e h = absurd cc
 abbrev Grows : (ℕ → Bool) → Type 0
 Grows f = (m : ℕ) → f m ≡ true → f (suc m) ≡ true
 
+-- behind a sign that may stand there
 grows_behind : (f : ℕ → Bool) → Grows f → (b : Bool) → Grows (λ n. fits_behind f (behind b n))
 grows_behind f h true zero e = absurd cc
 grows_behind f h true (suc m) e = h m e
 grows_behind f h false n e = h n e
 
+-- of two
 both_grow : (f g : ℕ → Bool) → Grows f → Grows g → Grows (λ n. f n && g n)
 both_grow f g h k m e = let each = both_true (f m) (g m) e in both_hold (f (suc m)) (g (suc m)) (h m each.0) (k m each.1)
 
+-- of a value
 value_grows : (chosen : Parentheses) (v : Amount) → Grows (value_fits chosen v)
 unfolding value_fits
 value_grows chosen (number k) m e = refl
@@ -50,6 +53,7 @@ value_grows chosen (binary op v w) m e =
     (grows_behind (value_fits chosen v) (λ n h. value_grows chosen v n h) (left_enclosed chosen op v)) (grows_behind (value_fits chosen w) (λ n h. value_grows chosen w n h) (right_enclosed chosen op w)) m e
 value_grows chosen (accessor layer v size) m e = grows_behind (value_fits chosen v) (λ n h. value_grows chosen v n h) true m e
 
+-- of a tree
 tree_grows : (chosen : Parentheses) (t : Tree) → Grows (fits chosen t)
 unfolding fits
 tree_grows chosen everything m e = refl
@@ -83,12 +87,15 @@ behind_sign f h false n e = h n e
 abbrev Fits : ℕ → ℕ → Amount → Type 0
 Fits n p v = fits_behind (value_fits needed v) (behind (nat_lt p (level v)) n) ≡ true
 
+-- without parentheses it fits
 fits_bare : (n p : ℕ) (v : Amount) → level v ≤ p → Fits n p v → value_fits needed v n ≡ true
 fits_bare n p v le e = fewer (value_fits needed v) (value_grows needed v) (nat_lt p (level v)) false n (λ f. absurd cc) e
 
+-- and so it does in turn
 bare_fits : (n p : ℕ) (v : Amount) → level v ≤ p → value_fits needed v n ≡ true → Fits n p v
 bare_fits n p v le e = fewer (value_fits needed v) (value_grows needed v) false (nat_lt p (level v)) n (λ f. let less = ltb-true p (level v) f in absurd (omega arith)) e
 
+-- an operator binds more loosely than none
 binary_level : (v : Amount) → is_binary v ≡ true → nat_lt 0 (level v) ≡ true
 binary_level (number k) e = absurd cc
 binary_level wire_length e = absurd cc
@@ -96,6 +103,7 @@ binary_level (minus v) e = absurd cc
 binary_level (binary op v w) e = let p = precedence_some op in lt-ltb 0 (precedence_of op) (omega (arith, p.1))
 binary_level (accessor layer v size) e = absurd cc
 
+-- on the left of an operator stand those parentheses that a looser one needs
 left_level : (op : Operator) (p : ℕ) (v : Amount) → precedence_of op ≡ suc p → left_enclosed needed op v ≡ true → nat_lt (suc p) (level v) ≡ true
 unfolding fits
 left_level op p (number k) e h = absurd cc
@@ -104,6 +112,7 @@ left_level op p (minus v) e h = absurd cc
 left_level op p (binary inner v w) e h = subst (λ x. nat_lt x (precedence_of inner) ≡ true) e h
 left_level op p (accessor layer v size) e h = absurd cc
 
+-- on its right also those that an equal one needs
 right_level : (op : Operator) (p : ℕ) (v : Amount) → precedence_of op ≡ suc p → right_enclosed needed op v ≡ true → nat_lt p (level v) ≡ true
 unfolding fits
 right_level op p (number k) e h = absurd cc
@@ -148,32 +157,40 @@ Made n t rest = IsTree t × (fits needed t n ≡ true) × AreTokens rest
 abbrev MadeTerm : ℕ → Tree → List Kind → Type 0
 MadeTerm n t rest = IsTree t × (fits_behind (fits needed t) (behind (is_joined t) n) ≡ true) × AreTokens rest
 
+-- a term is an expression
 as_expression : (n : ℕ) (t : Tree) (rest : List Kind) → MadeTerm n t rest → Made n t rest
 as_expression n t rest made = (made.0, fewer (fits needed t) (tree_grows needed t) (is_joined t) false n (λ f. absurd cc) made.1, made.2)
 
+-- an expression in parentheses is a term
 as_opened : (n : ℕ) (t : Tree) (rest : List Kind) → Made n t (kind.Close ∷ rest) → MadeTerm (suc n) t rest
 as_opened n t rest made = (made.0, behind_sign (fits needed t) (tree_grows needed t) (is_joined t) n made.1, made.2.1)
 
+-- behind `not` stand those that are needed
 not_enclosed : (t : Tree) → negated_enclosed needed t ≡ is_joined t
 unfolding fits
 not_enclosed t = refl
 
+-- a negated term
 as_negated : (n : ℕ) (t : Tree) (rest : List Kind) → MadeTerm n t rest → MadeTerm (suc n) (negation t) rest
 unfolding fits
 as_negated n t rest made = (made.0, subst (λ b. fits_behind (fits needed t) (behind b n) ≡ true) (sym (not_enclosed t)) made.1, made.2)
 
+-- a primitive
 as_test : (n : ℕ) (p : Primitive) (rest : List Kind) → IsPrimitive p → AreTokens rest → MadeTerm n (test p) rest
 unfolding fits
 as_test n p rest is are = (is, refl, are)
 
+-- two with `and` between them
 as_both : (n : ℕ) (t u : Tree) (mid rest : List Kind) → Made n t mid → MadeTerm n u rest → Made n (both t u) rest
 unfolding fits
 as_both n t u mid rest first second = ((first.0, second.0), both_hold _ _ first.1 second.1, second.2)
 
+-- two with `or` between them
 as_either : (n : ℕ) (t u : Tree) (mid rest : List Kind) → Made n t mid → MadeTerm n u rest → Made n (either t u) rest
 unfolding fits
 as_either n t u mid rest first second = ((first.0, second.0), both_hold _ _ first.1 second.1, second.2)
 
+-- a relation
 as_relation : (n : ℕ) (c : Comparison) (v w : Amount) → value_fits needed v n ≡ true → value_fits needed w n ≡ true → fits needed (relation c v w) n ≡ true
 unfolding fits
 as_relation n c v w e h = both_hold _ _ e h

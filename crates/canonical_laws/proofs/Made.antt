@@ -62,9 +62,11 @@ identifier_is ks is = tt
 abbrev pub AreQualifiers : Domain identified → Type 0
 AreQualifiers g = (x : Identifier) → IsIdentifier x → IfSome (identified g x) IsPrimitive
 
+-- those of the nearest primitive, where there are any
 abbrev pub AreNearest : Nearest → Type 0
 AreNearest q = IfSome q AreQualifiers
 
+-- each that the table allows
 allowed_are : (word : TypeWord) (protocol : Option Protocol) (written : Option Direction) (direction : Direction) → IfSome (allowed word protocol written direction) AreQualifiers
 allowed_are word protocol written direction = each (allowed word protocol written direction) (λ x h. h word protocol written direction)
   where
@@ -77,19 +79,23 @@ protocol_behind : (ks : List Kind) → AreTokens ks → AreTokens (protocol_at k
 protocol_behind (kind.Protocol p ∷ ks) is = is.1
 protocol_behind ks is = is
 
+-- behind a type
 type_behind : (ks : List Kind) → AreTokens ks → AreTokens (type_at ks).1
 type_behind (kind.Type w ∷ ks) is = is.1
 type_behind ks is = is
 
+-- behind a direction of three words or of one
 longest_behind : (o : Option Direction) (first : Side) (rest later : List Kind) → AreTokens rest → AreTokens later → AreTokens (longest o first rest later).1
 longest_behind None first rest later h k = h
 longest_behind (Some d) first rest later h k = k
 
+-- behind a direction
 direction_behind : (ks : List Kind) → AreTokens ks → AreTokens (direction_at ks).1
 direction_behind (kind.Side a ∷ kind.Joint j ∷ kind.Side b ∷ ks) is = longest_behind (joined a j b) a (kind.Joint j ∷ kind.Side b ∷ ks) ks is.1 is.1.1.1
 direction_behind (kind.Side a ∷ ks) is = is.1
 direction_behind ks is = is
 
+-- behind all of it
 pub phrase_behind : (ks : List Kind) → AreTokens ks → AreTokens (phrase_at ks).1
 phrase_behind ks is = type_behind (direction_at (protocol_at ks).1).1 (direction_behind (protocol_at ks).1 (protocol_behind ks is))
 
@@ -108,9 +114,11 @@ identifier_made g x ks rest p are is a b =
     let found = at_some (λ y. AreTokens y.1 × IsIdentifier y.0) (identifier_at ks) (x, rest) a (identifier_is ks is) in
     (at_some IsPrimitive (identified g x) p b (are x found.1), found.0)
 
+-- what is known to stand behind one
 pub behind_phrase : (ts : List Kind) {rest : List Kind} {P : Domain qualifiers_of} → phrase_at ts ≡ (P, rest) → AreTokens ts → AreTokens rest
 behind_phrase ts e is = subst (λ u. AreTokens u.1) e (phrase_behind ts is)
 
+-- the qualifiers that a phrase gives
 pub phrase_gives : (P : Domain qualifiers_of) (g : Domain identified) → qualifiers_of P ≡ Some g → AreQualifiers g
 phrase_gives P g e = at_some AreQualifiers (qualifiers_of P) g e (allowed_are _ P.protocol P.direction _)
 

@@ -105,7 +105,7 @@ module _ (a b c d : ℕ) (la : a < 256) (lb : b < 256) (lc : c < 256) (ld : d < 
       ∙ digits_front (decimal a) (46 ∷ more) (kind.Dotted (from_be_bytes w32 (a ∷ b ∷ c ∷ d ∷ [])) Four) (length (dots a b c d)) (decimal_some a (omega arith)) digits_a none
       (ap number_or_dotted_at (sym (split_first rest)) ∙ dots_found rest f)
 
--- an IPv4 address
+-- the text of four octets, from the left
 text_is : (A B C D : List ℕ) → A ++ codes "." ++ B ++ codes "." ++ C ++ codes "." ++ D ≡ A ++ (46 ∷ (B ++ (46 ∷ (C ++ (46 ∷ D)))))
 text_is A B C D =
     let p : List ℕ = codes "." in
@@ -115,10 +115,12 @@ text_is A B C D =
     ∙ append_assoc (A ++ p) B (p ++ (C ++ (p ++ D)))
     ∙ append_assoc A p (B ++ (p ++ (C ++ (p ++ D))))
 
+-- a byte of a number is an octet
 octet_small : (i n : ℕ) → byte_at i n < 256
 octet_small zero n = omega arith
 octet_small (suc i) n = omega arith
 
+-- an IPv4 address
 pub address_spelled : (address : ℕ) → address < 2 ^ 32 → (rest : List ℕ) (ks : List Kind) → Follows rest → Spelled rest ks → Spelled (address_text address ++ rest) (kind.Dotted address Four ∷ ks)
 unfolding address_text dots
 address_spelled address small rest ks f s =

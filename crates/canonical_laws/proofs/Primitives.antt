@@ -160,6 +160,7 @@ alone plain.Sctp ks stops_end = refl
 alone plain.Sctp ks stops_close = refl
 alone plain.Sctp ks stops_joint = refl
 
+-- so it is a primitive
 plain_prim : (q : Nearest) (p : Plain) (ks : List Kind) → Stops ks → IsPrimRead q (kind.Protocol (plain_word p) ∷ ks) (primitives.Protocol p) ks
 plain_prim q plain.Ip ks stops_end = (None, prim_plain {protocol = protocols.Ip} refl refl refl)
 plain_prim q plain.Ip ks stops_close = (None, prim_plain {protocol = protocols.Ip} refl refl refl)
@@ -187,6 +188,7 @@ plain_prim q plain.Sctp ks stops_joint = (None, prim_plain {protocol = protocols
 port_is : (n : ℕ) → n < 65536 → port_of n ≡ Some n
 port_is n small = rw (le-leb 0 n (omega arith), le-leb n 65535 (omega arith)) refl
 
+-- two ports in order
 between_is : (transport : Option Transport) (direction : Direction) (low high : ℕ) → low ≤ high → high < 65536 → ports_between transport direction low high ≡ Some (primitives.Ports transport direction low high)
 between_is transport direction low high order small =
     let less : min low high ≡ low = omega arith in
@@ -215,9 +217,11 @@ ports_prim q transport direction low high ks order small =
     (λ e. subst (λ m. IsPrimRead q (transport_tokens transport (direction_tokens direction (kind.Type types.Port ∷ kind.Number low ∷ ks))) (primitives.Ports transport direction low m) ks) (eqb-true low high e) (port_prim q transport direction low ks (port_is low (omega arith))))
     (λ e. range_prim q transport direction low high ks (between_is transport direction low high order small))
 
+-- a protocol of IPv4
 ip_identified : (n : ℕ) → n < 256 → (nat_le 0 n && nat_le n 255) ≡ true
 ip_identified n small = rw (le-leb 0 n (omega arith), le-leb n 255 (omega arith)) refl
 
+-- a type of frames
 ether_identified : (n : ℕ) → 1500 < n → n < 65536 → (nat_le 1501 n && nat_le n 65535) ≡ true
 ether_identified n some small = rw (le-leb 1501 n (omega arith), le-leb n 65535 (omega arith)) refl
 

@@ -36,10 +36,12 @@ follows_run rest follows_bracket = refl
 follows_run rest follows_two = refl
 follows_run rest follows_four = refl
 
+-- what does not hold
 pub not_true : (b : Bool) → not b ≡ true → b ≡ false
 not_true true e = absurd cc
 not_true false e = refl
 
+-- nothing more
 plus_none : (a b : ℕ) → a ≡ 0 → a + b ≡ b
 plus_none a b e = omega arith
 
@@ -62,6 +64,7 @@ few_marks run few = at_octets (octets 16 2 (slice_split (λ b. b == 58) run)) re
     at_octets None e = refl
     at_octets (Some ns) e = other ns (omega (arith, length-octets 16 2 (slice_split (λ b. b == 58) run) ns e, length-slice_split (λ b. b == 58) run))
 
+-- where the run of a text has few, none stands there
 pub no_ethernet : (text run : List ℕ) → run_at 58 text ≡ run → count_by (λ b. b == 58) run < 5 → ethernet_at text ≡ None
 unfolding ethernet_at
 no_ethernet text run e few = rw (e, few_marks run few) refl
@@ -121,6 +124,7 @@ any_behind p (c ∷ cs) m more mark = at_test (p c) (any_behind p cs m more mark
     at_test true e = refl
     at_test false e = e
 
+-- nor is one found where none is
 pub none_any : (p : ℕ → Bool) (ds : List ℕ) → list_all (λ b. not (p b)) ds ≡ true → list_any p ds ≡ false
 none_any p [] all = refl
 none_any p (c ∷ cs) all =

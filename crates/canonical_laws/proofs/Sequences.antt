@@ -41,6 +41,7 @@ Parentheses = Domain left_enclosed
 abbrev pub Before : Type 0
 Before = List Kind → List Kind
 
+-- the word of a primitive that is one word
 abbrev pub plain_word : Plain → Protocol
 plain_word plain.Ip = protocols.Ip
 plain_word plain.Arp = protocols.Arp
@@ -50,39 +51,46 @@ plain_word plain.Udp = protocols.Udp
 plain_word plain.Icmp = protocols.Icmp
 plain_word plain.Sctp = protocols.Sctp
 
+-- the qualifiers of nets
 abbrev pub network_tokens : Option Network → Before
 network_tokens None ks = ks
 network_tokens (Some networks.Ip) ks = kind.Protocol protocols.Ip ∷ ks
 network_tokens (Some networks.Arp) ks = kind.Protocol protocols.Arp ∷ ks
 network_tokens (Some networks.Rarp) ks = kind.Protocol protocols.Rarp ∷ ks
 
+-- and of ports
 abbrev pub transport_tokens : Option Transport → Before
 transport_tokens None ks = ks
 transport_tokens (Some transports.Tcp) ks = kind.Protocol protocols.Tcp ∷ ks
 transport_tokens (Some transports.Udp) ks = kind.Protocol protocols.Udp ∷ ks
 transport_tokens (Some transports.Sctp) ks = kind.Protocol protocols.Sctp ∷ ks
 
+-- a direction
 abbrev pub direction_tokens : Direction → Before
 direction_tokens Src ks = kind.Side side.Src ∷ ks
 direction_tokens Dst ks = kind.Side side.Dst ∷ ks
 direction_tokens SrcOrDst ks = ks
 direction_tokens SrcAndDst ks = kind.Side side.Src ∷ kind.Joint And ∷ kind.Side side.Dst ∷ ks
 
+-- a mask
 abbrev pub mask_tokens : ℕ → Before
 mask_tokens mask ks =
     if mask_of (leading_ones w32 mask) == mask then kind.Operator Divide ∷ kind.Number (leading_ones w32 mask) ∷ ks
     else kind.Mask ∷ kind.Dotted mask Four ∷ ks
 
+-- a host or a net
 abbrev pub net_tokens : ℕ → ℕ → Before
 net_tokens address mask ks =
     if mask == 4294967295 then kind.Type types.Host ∷ kind.Dotted address Four ∷ ks
     else kind.Type types.Net ∷ kind.Dotted address Four ∷ mask_tokens mask ks
 
+-- a port or a range
 abbrev pub ports_tokens : ℕ → ℕ → Before
 ports_tokens low high ks =
     if low == high then kind.Type types.Port ∷ kind.Number low ∷ ks
     else kind.PortRange ∷ kind.Number low ∷ kind.Operator Minus ∷ kind.Number high ∷ ks
 
+-- a primitive
 abbrev pub primitive_tokens : Primitive → Before
 primitive_tokens (primitives.Protocol p) ks = kind.Protocol (plain_word p) ∷ ks
 primitive_tokens (primitives.Net network direction address mask) ks = network_tokens network (direction_tokens direction (net_tokens address mask ks))
@@ -101,6 +109,7 @@ abbrev pub within : Bool → Before → Before
 within true inner ks = kind.Open ∷ inner (kind.Close ∷ ks)
 within false inner ks = inner ks
 
+-- the word of a layer
 abbrev pub layer_word : Layer → Protocol
 layer_word layers.Ether = protocols.Ether
 layer_word layers.Ip = protocols.Ip
@@ -110,11 +119,13 @@ layer_word layers.Tcp = protocols.Tcp
 layer_word layers.Udp = protocols.Udp
 layer_word layers.Icmp = protocols.Icmp
 
+-- a size and its bracket
 abbrev pub size_tokens : Size → Before
 size_tokens sizes.One ks = kind.CloseBracket ∷ ks
 size_tokens sizes.Two ks = kind.Colon ∷ kind.Number 2 ∷ kind.CloseBracket ∷ ks
 size_tokens sizes.Four ks = kind.Colon ∷ kind.Number 4 ∷ kind.CloseBracket ∷ ks
 
+-- a value
 abbrev pub value_tokens : Parentheses → Amount → Before
 value_tokens chosen (number n) ks = kind.Number n ∷ ks
 value_tokens chosen wire_length ks = kind.Len ∷ ks
@@ -123,6 +134,7 @@ value_tokens chosen (binary op v w) ks =
     within (left_enclosed chosen op v) (value_tokens chosen v) (kind.Operator op ∷ within (right_enclosed chosen op w) (value_tokens chosen w) ks)
 value_tokens chosen (accessor layer v size) ks = kind.Protocol (layer_word layer) ∷ kind.OpenBracket ∷ value_tokens chosen v (size_tokens size ks)
 
+-- a tree
 abbrev pub tree_tokens : Parentheses → Tree → Before
 tree_tokens chosen everything ks = ks
 tree_tokens chosen (test p) ks = primitive_tokens p ks

@@ -32,10 +32,12 @@ open_sign : (rest : List ℕ) (ks : List Kind) → Spelled rest ks → Spelled (
 unfolding front token_at ethernet_at number_or_dotted_at words names signs
 open_sign rest ks s = spelled_token {n = 1} refl s
 
+-- the `)` that closes it
 close_sign : (rest : List ℕ) (ks : List Kind) → Spelled rest ks → Spelled (41 ∷ rest) (kind.Close ∷ ks)
 unfolding front token_at ethernet_at number_or_dotted_at words names signs
 close_sign rest ks s = spelled_token {n = 1} refl s
 
+-- the `-` before a value
 minus_sign : (rest : List ℕ) (ks : List Kind) → Spelled rest ks → Spelled (45 ∷ rest) (kind.Operator operator.Minus ∷ ks)
 unfolding front token_at ethernet_at number_or_dotted_at words names signs
 minus_sign rest ks s = spelled_token {n = 1} refl s
@@ -54,6 +56,7 @@ operator_sign operator.BitOr rest ks s = spelled_blank (spelled_token {n = 1} re
 operator_sign operator.ShiftLeft rest ks s = spelled_blank (spelled_token {n = 2} refl (spelled_blank s))
 operator_sign operator.ShiftRight rest ks s = spelled_blank (spelled_token {n = 2} refl (spelled_blank s))
 
+-- the same of a comparison
 comparison_sign : (c : Comparison) (rest : List ℕ) (ks : List Kind) → Spelled rest ks → Spelled (comparison_text c ++ rest) (kind.Comparison c ∷ ks)
 unfolding front token_at ethernet_at number_or_dotted_at words names signs
 comparison_sign comparison.Equal rest ks s = spelled_blank (spelled_token {n = 1} refl (spelled_blank s))
@@ -63,14 +66,17 @@ comparison_sign comparison.Greater rest ks s = spelled_blank (spelled_token {n =
 comparison_sign comparison.LessOrEqual rest ks s = spelled_blank (spelled_token {n = 2} refl (spelled_blank s))
 comparison_sign comparison.GreaterOrEqual rest ks s = spelled_blank (spelled_token {n = 2} refl (spelled_blank s))
 
+-- of `and`
 and_sign : (rest : List ℕ) (ks : List Kind) → Spelled rest ks → Spelled (codes " and " ++ rest) (kind.Joint And ∷ ks)
 unfolding front token_at ethernet_at number_or_dotted_at words names signs
 and_sign rest ks s = spelled_blank (spelled_token {n = 3} refl (spelled_blank s))
 
+-- of `or`
 or_sign : (rest : List ℕ) (ks : List Kind) → Spelled rest ks → Spelled (codes " or " ++ rest) (kind.Joint Or ∷ ks)
 unfolding front token_at ethernet_at number_or_dotted_at words names signs
 or_sign rest ks s = spelled_blank (spelled_token {n = 2} refl (spelled_blank s))
 
+-- and `not`
 not_word : (rest : List ℕ) (ks : List Kind) → Spelled rest ks → Spelled (codes "not " ++ rest) (kind.Not ∷ ks)
 unfolding front token_at ethernet_at number_or_dotted_at words names signs
 not_word rest ks s = spelled_token {n = 3} refl (spelled_blank s)
@@ -105,6 +111,7 @@ size_spelled sizes.One rest ks s = spelled_token {n = 1} refl s
 size_spelled sizes.Two rest ks s = spelled_token {n = 1} refl (spelled_token {n = 1} refl (spelled_token {n = 1} refl s))
 size_spelled sizes.Four rest ks s = spelled_token {n = 1} refl (spelled_token {n = 1} refl (spelled_token {n = 1} refl s))
 
+-- a number may stand before it
 size_follows : (size : Size) (rest : List ℕ) → Follows (size_text size ++ rest)
 size_follows sizes.One rest = follows_bracket
 size_follows sizes.Two rest = follows_two
@@ -151,6 +158,7 @@ operator_blank operator.BitOr rest = follows_blank
 operator_blank operator.ShiftLeft rest = follows_blank
 operator_blank operator.ShiftRight rest = follows_blank
 
+-- the same of a comparison
 comparison_blank : (c : Comparison) (rest : List ℕ) → Follows (comparison_text c ++ rest)
 comparison_blank comparison.Equal rest = follows_blank
 comparison_blank comparison.NotEqual rest = follows_blank

@@ -163,6 +163,7 @@ last_multicast rest ks ends_end s = spelled_token {n = 9} refl s
 last_multicast rest ks ends_blank s = spelled_token {n = 9} refl s
 last_multicast rest ks ends_close s = spelled_token {n = 9} refl s
 
+-- so a primitive that is one word
 plain_spelled : (p : Plain) → Spells (plain_text p) (λ ks. kind.Protocol (plain_word p) ∷ ks) Ends
 plain_spelled plain.Ip = last_ip
 plain_spelled plain.Arp = last_arp
@@ -179,12 +180,14 @@ network_spelled (Some networks.Ip) rest ks s = ip_word rest ks s
 network_spelled (Some networks.Arp) rest ks s = arp_word rest ks s
 network_spelled (Some networks.Rarp) rest ks s = rarp_word rest ks s
 
+-- of ports
 transport_spelled : (transport : Option Transport) (rest : List ℕ) (ks : List Kind) → Spelled rest ks → Spelled (transport_text transport ++ rest) (transport_tokens transport ks)
 transport_spelled None rest ks s = s
 transport_spelled (Some transports.Tcp) rest ks s = tcp_word rest ks s
 transport_spelled (Some transports.Udp) rest ks s = udp_word rest ks s
 transport_spelled (Some transports.Sctp) rest ks s = sctp_word rest ks s
 
+-- a direction
 direction_spelled : (direction : Direction) (rest : List ℕ) (ks : List Kind) → Spelled rest ks → Spelled (direction_text direction ++ rest) (direction_tokens direction ks)
 direction_spelled Src rest ks s = src_word rest ks s
 direction_spelled Dst rest ks s = dst_word rest ks s
@@ -196,6 +199,7 @@ slash : (rest : List ℕ) (ks : List Kind) → Spelled rest ks → Spelled (47 �
 unfolding front token_at ethernet_at number_or_dotted_at words names signs
 slash rest ks s = spelled_token {n = 1} refl s
 
+-- a `-`
 dash : (rest : List ℕ) (ks : List Kind) → Spelled rest ks → Spelled (45 ∷ rest) (kind.Operator Minus ∷ ks)
 unfolding front token_at ethernet_at number_or_dotted_at words names signs
 dash rest ks s = spelled_token {n = 1} refl s
@@ -248,11 +252,13 @@ network_behind network direction text rest ks s =
     subst (λ x. Spelled x (network_tokens network (direction_tokens direction ks))) (sym (append_assoc (network_text network ++ direction_text direction) text rest ∙ append_assoc (network_text network) (direction_text direction) (text ++ rest)))
     (network_spelled network (direction_text direction ++ (text ++ rest)) (direction_tokens direction ks) (direction_spelled direction (text ++ rest) ks s))
 
+-- the same of ports
 transport_behind : (transport : Option Transport) (direction : Direction) (text rest : List ℕ) (ks : List Kind) → Spelled (text ++ rest) ks → Spelled ((transport_text transport ++ direction_text direction ++ text) ++ rest) (transport_tokens transport (direction_tokens direction ks))
 transport_behind transport direction text rest ks s =
     subst (λ x. Spelled x (transport_tokens transport (direction_tokens direction ks))) (sym (append_assoc (transport_text transport ++ direction_text direction) text rest ∙ append_assoc (transport_text transport) (direction_text direction) (text ++ rest)))
     (transport_spelled transport (direction_text direction ++ (text ++ rest)) (direction_tokens direction ks) (direction_spelled direction (text ++ rest) ks s))
 
+-- the text of an Ethernet host, from the left
 ether_text_is : (direction : List ℕ) (address rest : List ℕ) → (codes "ether " ++ direction ++ codes "host " ++ address) ++ rest ≡ codes "ether " ++ (direction ++ (codes "host " ++ (address ++ rest)))
 ether_text_is direction address rest =
     append_assoc (codes "ether " ++ direction ++ codes "host ") address rest ∙ append_assoc (codes "ether " ++ direction) (codes "host ") (address ++ rest) ∙ append_assoc (codes "ether ") direction (codes "host " ++ (address ++ rest))
