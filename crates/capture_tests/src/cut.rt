@@ -1,7 +1,7 @@
 //! Worked examples over the public functions, and devices that break.
 
 use bpfvm::Program;
-use cutting::cut::{CutEnd, End, cut};
+use cutting::cut::{CutEnd, End, Tally, cut};
 use cutting::filter::filter;
 use cutting::tell::{tell, tell_filter};
 use fixtures::captures::{ARP_RECORD, HEADER, IP_RECORD, bytes_of, concat};
@@ -36,6 +36,7 @@ fn seen_of<R>(alloc: Global, end: CutEnd<R, Counted<Vec<u8>>>) -> (R, Seen) {
         source,
         sink,
         sent,
+        tally: _,
         end: _,
     } = end;
     let written = sink.into_inner();
@@ -212,6 +213,7 @@ fn faults_that_no_capture_shows_are_told(rt: HostRuntime) -> Result<(), Fail> {
             source: (),
             sink: (),
             sent: 0,
+            tally: Tally::NONE,
             end,
         };
         let mut err: Vec<u8> = Vec::new(rt.alloc());
