@@ -9,3 +9,4 @@ pub mod Listings
 pub mod Written
 pub mod Outcomes
 pub mod Traces
+pub mod Images

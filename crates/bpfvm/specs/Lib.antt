@@ -6,3 +6,5 @@ pub mod Traces
 pub mod Listing
 pub mod Laws
 pub mod Lines
+pub mod Images
+pub mod Naming

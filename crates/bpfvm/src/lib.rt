@@ -17,7 +17,7 @@ mod program;
 mod tracing;
 
 pub use fault::{Invalid, ListingFault, NoMemory};
-pub use image::write_image;
+pub use image::{Brief, Placed, write_image};
 pub use insn::Insn;
 pub use listing::{read_listing, write_listing};
 pub use machine::run;

@@ -1,6 +1,7 @@
 //! The filter machine: worked examples of its programs, their validator and their listings.
 
 mod caller;
+mod named;
 mod traced;
 
 use bpfvm::{
