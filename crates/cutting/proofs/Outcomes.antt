@@ -29,7 +29,7 @@ nothing-appended None = tt
 nothing-appended (Some bytes) = sym (append-nil bytes)
 
 -- the text that a source has left, where it tells
-told-text : (left : Option (List ℕ)) → IfSome left (λ bytes. bytes ≡ unwrap_or left [])
+pub told-text : (left : Option (List ℕ)) → IfSome left (λ bytes. bytes ≡ unwrap_or left [])
 told-text None = tt
 told-text (Some bytes) = refl
 
@@ -41,16 +41,16 @@ IsOutcome taken from left to sink count program snap order unit tally end =
     × (AllSent text program snap order unit tally end sent ⊎ BrokeOff text given program snap order unit end sent)
 
 -- a reader read the text
-is-read : (from : Option (List ℕ)) (header : Header) (packets : List Packet) (fault : Option Fault) (w : WasRead from header packets fault) → IsCapture w.text packets fault
+pub is-read : (from : Option (List ℕ)) (header : Header) (packets : List Packet) (fault : Option Fault) (w : WasRead from header packets fault) → IsCapture w.text packets fault
 is-read from header packets fault w = record { order = header.order; unit = header.unit; snap = header.snap; holds = w.holds }
 
 -- what was taken stops behind the packets that a reader gave
-stops-behind : (from left : Option (List ℕ)) (header : Header) (packets : List Packet) (w : WasTaken from left header packets) → StopsBehind w.text packets
+pub stops-behind : (from left : Option (List ℕ)) (header : Header) (packets : List Packet) (w : WasTaken from left header packets) → StopsBehind w.text packets
 stops-behind from left header packets w =
     record { order = header.order; unit = header.unit; snap = header.snap; rest = w.rest; reads = w.reads; no_more = w.no_more }
 
 -- what the closed writer's sink took
-took : {W : Type 0} (taken : W → Option (List ℕ)) (to sink : W) (count : ℕ) (sent : List ℕ) (writer : Writer W) → sink ≡ writer.sink → count ≡ writer.sent → Sent taken (taken to) sent writer → Took taken to sink count sent
+pub took : {W : Type 0} (taken : W → Option (List ℕ)) (to sink : W) (count : ℕ) (sent : List ℕ) (writer : Writer W) → sink ≡ writer.sink → count ≡ writer.sent → Sent taken (taken to) sent writer → Took taken to sink count sent
 took taken to sink count sent writer is told s =
     record { appends = subst (λ x. Appends (taken to) (taken x) sent) (sym is) s.bytes; counts = told ∙ s.count }
 

@@ -180,7 +180,7 @@ fn copy_accepted<R: Source, W: Sink>(
             Ok(true) => {
                 // Where the sink breaks, what was read so far begins what the capture holds.
                 given_so_far(reader);
-                match put_one(writer, &reader.packet(), program, snap, &mut tally) {
+                match put_accepted(writer, &reader.packet(), program, snap, &mut tally) {
                     Ok(()) => {}
                     Err(fault) => return (tally, End::Output(fault)),
                 }
@@ -191,9 +191,13 @@ fn copy_accepted<R: Source, W: Sink>(
     }
 }
 
-/// A packet, cut, where the program accepts it. It is counted.
+/// Writes a packet, cut, where a program accepts it, as [`cut`] does, and counts it: one step of a cut, for who reads the packets
+/// himself. Nothing is kept beyond `snap` bytes, which is taken as it stands.
+///
+/// The error is [`Fault::Device`] exactly where the sink failed; [`Fault::CountFull`] where the text has 2^64 bytes or more. The
+/// sink then took a beginning of the text with this packet.
 #[inline]
-fn put_one<W: Sink>(
+pub fn put_accepted<W: Sink>(
     writer: &mut Writer<W>,
     packet: &PacketRef<'_>,
     program: &Program,

@@ -32,11 +32,11 @@ loop-reader-preserved g c = record {
       let p = c.advance.new.self.lent in (
         packets ++ p ∷ [],
         c.in-Ok-true.ensures.packet from header packets gives (cc),
-        subst (λ (ps : List Packet). HasWritten g.W.Sink.taken to order unit head ps c.put_one.new.writer)
+        subst (λ (ps : List Packet). HasWritten g.W.Sink.taken to order unit head ps c.put_accepted.new.writer)
             (ap (λ (q : Packet). accepted program c.args.snap packets ++ accepted program c.args.snap (q ∷ [])) c.packet.ensures ∙ sym (accepted-append program c.args.snap packets (p ∷ [])))
             (c.in-Ok.ensures.writes to order unit head (accepted program c.args.snap packets) wrote),
-        tally-more program packets p c.loop-reader.tally c.put_one.new.tally
-            (subst (λ (q : Packet). c.put_one.new.tally ≡ tallied (accepts program q) c.loop-reader.tally) c.packet.ensures c.put_one.ensures.counts) counted,
+        tally-more program packets p c.loop-reader.tally c.put_accepted.new.tally
+            (subst (λ (q : Packet). c.put_accepted.new.tally ≡ tallied (accepts program q) c.loop-reader.tally) c.packet.ensures c.put_accepted.ensures.counts) counted,
       );
   read = search rules;
   written = search rules;
@@ -48,16 +48,16 @@ loop-reader-preserved g c = record {
   sink_works = same-unless-different _ _ (λ different. let broke = c.in-Ok.ensures.sink_broke.1 different in cc) ∙ c.loop-reader.invariant.sink_works;
 }
 
-pub returns-in-Err-put_one-clause-copies : goal.returns-in-Err-put_one-clause-copies
-returns-in-Err-put_one-clause-copies g c = λ from header to order unit head given written.
+pub returns-in-Err-put_accepted-clause-copies : goal.returns-in-Err-put_accepted-clause-copies
+returns-in-Err-put_accepted-clause-copies g c = λ from header to order unit head given written.
     let program = c.args.program.now in
     let (packets, gives, wrote, counted) = c.loop-reader.invariant.copies from header to order unit head given written in
     let p = c.advance.new.self.lent in (
       packets ++ p ∷ [],
       c.given_so_far.ensures from header (packets ++ p ∷ []) (c.in-Ok-true.ensures.packet from header packets gives (cc)),
-      subst (λ (ps : List Packet). Wrote g.W.Sink.taken to order unit head ps (Err c.in-Err-put_one.fault) c.put_one.new.writer)
+      subst (λ (ps : List Packet). Wrote g.W.Sink.taken to order unit head ps (Err c.in-Err-put_accepted.fault) c.put_accepted.new.writer)
           (ap (λ (q : Packet). accepted program c.args.snap packets ++ accepted program c.args.snap (q ∷ [])) c.packet.ensures ∙ sym (accepted-append program c.args.snap packets (p ∷ [])))
-          (c.in-Err-put_one.ensures.writes to order unit head (accepted program c.args.snap packets) wrote),
+          (c.in-Err-put_accepted.ensures.writes to order unit head (accepted program c.args.snap packets) wrote),
     )
 
 pub returns-in-Ok-false-clause-copies : goal.returns-in-Ok-false-clause-copies
@@ -78,8 +78,8 @@ returns-in-Err-clause-copies g c = λ from header to order unit head given writt
       ],
     )
 
-pub returns-in-Err-put_one-clause-taken : goal.returns-in-Err-put_one-clause-taken
-returns-in-Err-put_one-clause-taken g c =
+pub returns-in-Err-put_accepted-clause-taken : goal.returns-in-Err-put_accepted-clause-taken
+returns-in-Err-put_accepted-clause-taken g c =
     let (before, took) = c.loop-reader.invariant.taken in
     let (more, goes) = c.in-Ok-true.ensures.taken in
     (before ++ more, Consumes-trans _ _ _ before more took goes)

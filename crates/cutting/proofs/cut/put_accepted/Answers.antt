@@ -5,7 +5,7 @@ use Rattle.savefile.specs.Writer.{HasWritten}
 use Rattle.cutting.specs.Copying.{Wrote}
 use Rattle.cutting.specs.Cut.{accepted, answer}
 use Rattle.cutting.proofs.Writing.{put-goes-on, rejected-goes-on, accepted-goes-on}
-use Rattle.cutting.proofs.cut.put_one.Goals as goal
+use Rattle.cutting.proofs.cut.put_accepted.Goals as goal
 
 pub returns-then-verdict-eq0-clause-writes : goal.returns-then-verdict-eq0-clause-writes
 returns-then-verdict-eq0-clause-writes g c = λ start order unit head before written.
