@@ -10,3 +10,5 @@ pub mod Written
 pub mod Outcomes
 pub mod Traces
 pub mod Images
+pub mod Entries
+pub mod Turning

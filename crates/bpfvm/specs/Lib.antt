@@ -2,6 +2,8 @@ pub mod Codes
 pub mod Machine
 pub mod Validity
 pub mod Next
+pub mod Decoding
+pub mod Turns
 pub mod Traces
 pub mod Listing
 pub mod Laws

@@ -7,6 +7,7 @@
 #![tactic(auto)]
 
 pub mod code;
+mod decoded;
 mod fault;
 mod image;
 mod insn;
@@ -14,12 +15,13 @@ pub mod laws;
 mod listing;
 mod machine;
 mod program;
+mod running;
 mod tracing;
 
 pub use fault::{Invalid, ListingFault, NoMemory};
 pub use image::{Brief, Placed, write_image};
 pub use insn::Insn;
 pub use listing::{read_listing, write_listing};
-pub use machine::run;
 pub use program::{MAX_INSNS, Program};
+pub use running::run;
 pub use tracing::{Executed, Stored, Traced, trace};
