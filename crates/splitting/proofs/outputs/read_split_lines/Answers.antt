@@ -1,0 +1,23 @@
+use Rattle.std.proofs.Common.{◌≡◌, ◌≢◌, ◌+◌, ◌≤◌, [], length, rules, arith}
+use Rattle.splitting.proofs.OwnOutputs.{formless_read, named_read, more_read}
+use Rattle.splitting.proofs.outputs.read_split_lines.Goals as goal
+
+pub returns-in_default-clause-fault : goal.returns-in_default-clause-fault
+returns-in_default-clause-fault c =
+    let rest : c.loop-rest.rest.now ≢ [] = search rules in
+    formless_read c.args.text.now _ _ c.loop-rest.number _ _ _ (c.first_line.ensures.first rest) c.loop-rest.invariant.so_far c.in_default.ensures.none
+
+pub returns-then-not-branch-clause-fault : goal.returns-then-not-branch-clause-fault
+returns-then-not-branch-clause-fault c =
+    let rest : c.loop-rest.rest.now ≢ [] = search rules in
+    named_read c.args.text.now _ _ c.loop-rest.number _ _ _ c.in-Some.asked (c.first_line.ensures.first rest) c.loop-rest.invariant.so_far c.in-Some.ensures.some (search rules)
+
+pub loop-rest-preserved : goal.loop-rest-preserved
+loop-rest-preserved c =
+    let rest : c.loop-rest.rest.now ≢ [] = search rules in
+    record {
+      so_far = rw c.in_ok-push.ensures.items
+          (more_read _ _ _ c.loop-rest.number c.loop-rest.lines.items c.loop-rest.outputs c.insert.new.self _ c.in-Some.asked (c.first_line.ensures.first rest) c.loop-rest.invariant.so_far c.in-Some.ensures.some
+          (search rules) c.in_ok-insert.ensures.updates);
+      left = omega (arith, c.first_line.ensures.shorter rest);
+    }

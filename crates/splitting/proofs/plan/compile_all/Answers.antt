@@ -1,0 +1,11 @@
+use Rattle.splitting.specs.Planning.{IsCompiled}
+use Rattle.splitting.proofs.Planned.{zip_more, first_uncompiled}
+use Rattle.splitting.proofs.plan.compile_all.Goals as goal
+
+pub returns-in-Err-clause-fault : goal.returns-in-Err-clause-fault
+returns-in-Err-clause-fault c =
+    first_uncompiled c.args.lines.now c.loop-n.n _ _ _ c.loop-n-test.true c.loop-n.invariant c.in-Err.ensures.fault
+
+pub loop-n-preserved : goal.loop-n-preserved
+loop-n-preserved c =
+    rw c.in_ok-push-in-Ok.ensures.items (zip_more IsCompiled c.args.lines.now _ c.loop-n.n _ _ c.loop-n-test.true c.loop-n.invariant c.in-Ok.ensures.program)
