@@ -1,9 +1,9 @@
 //! One listener: a program, a store and a hold.
 
-ghost use Rattle.std.specs.Prelude.{◌≡◌, ◌≢◌, ◌-◌, ◌<◌, ◌≤◌, ◌^◌, ◌++◌, [], length, Some, None, IfOk, IfErr, OnOk, IsTrue, ◌↔◌};
+ghost use Rattle.std.specs.Prelude.{◌≡◌, ◌≢◌, ℕ, ◌-◌, ◌<◌, ◌≤◌, ◌^◌, ◌++◌, [], length, Some, None, IfOk, IfErr, OnOk, IsTrue, ◌↔◌, option_map};
 ghost use Rattle.listener.specs.Buffers.{filled};
 ghost use Rattle.listener.specs.Listening.{listening, seen_by, TakesStep, RefusesOpen, InRange};
-ghost use Rattle.listener.specs.Messages.{arrival};
+ghost use Rattle.listener.specs.Messages.{arrival, size_of};
 ghost use Rattle.listener.specs.PlainList.{terms, empty, arrived, flushed, read, closed};
 ghost use Rattle.listener.specs.declared.answer.Read.{Read};
 ghost use Rattle.listener.specs.declared.fault.OpenFault.TheVariants.{NoMemory};
@@ -179,6 +179,18 @@ impl Listener {
         mem::swap(&mut self.store, &mut self.hold);
         let _moved = self.store.put(capture, place, packet, kept);
         Fed::Rotated
+    }
+
+    /// The bytes of the record that a packet takes in a buffer, or would take; nothing where the program rejects it.
+    ///
+    /// The program is asked once more, and nothing changes.
+    pub fn record_size(&self, packet: &PacketRef<'_>) -> Option<usize>
+        ensures { (capture place : ℕ) → result ≡ option_map size_of (seen_by self.now (arrival capture place packet.now)) }
+    {
+        let Some(kept) = kept_of(&self.program, self.snap, packet) else {
+            return None;
+        };
+        Some(size(kept))
     }
 
     /// Makes a nonempty store the hold where the hold is empty, and tells whether it did: what the read timeout of bpf(4)

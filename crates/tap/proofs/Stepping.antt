@@ -6,12 +6,18 @@ use Rattle.listener.specs.Listening.{Listening, listening, TakesStep}
 use Rattle.listener.specs.PlainList.{Terms, PlainList, Request, Event, answer, answers, next, run, request_of, batch_in, batches, load}
 use Rattle.listener.specs.Laws.{AnswersAreRight}
 use Rattle.tap.specs.declared.answer.Answered.{Answered}
-use Rattle.tap.specs.Answers.{answer_in, answered, all_answered}
+use Rattle.tap.specs.Answers.{answer_in, size_in, answered, all_answered}
 use Rattle.tap.specs.Watching.{watch, with_answer, after, stepped, all_stepped}
 
 -- an answer as the code writes it
-pub told_as : (s : PlainList) (e : Event) (shut : Bool) (bytes many : ℕ) → shut ≡ s.closed → bytes ≡ load s → many ≡ s.in_hold → record { closed = shut; load = bytes; in_hold = many; answer = answer_in e } ≡ answered s e
-told_as s e shut bytes many closed loaded in_hold = λ i. record { closed = closed i; load = loaded i; in_hold = in_hold i; answer = answer_in e }
+pub told_as : (s : PlainList) (e : Event) (shut : Bool) (bytes many taken : ℕ) → shut ≡ s.closed → bytes ≡ load s → many ≡ s.in_hold → taken ≡ size_in e →
+    record { closed = shut; load = bytes; in_hold = many; size = taken; answer = answer_in e } ≡ answered s e
+told_as s e shut bytes many taken closed loaded in_hold takes = λ i. record { closed = closed i; load = loaded i; in_hold = in_hold i; size = takes i; answer = answer_in e }
+
+-- where answers are not followed, none is added
+told_alike : (before : Option (List Answered)) (a b : Answered) → ((followed : List Answered) → before ≡ Some followed → a ≡ b) → with_answer a before ≡ with_answer b before
+told_alike None a b same = refl
+told_alike (Some followed) a b same = ap (λ (x : Answered). with_answer x (Some followed)) (same followed refl)
 
 -- the one right answer is what the listener answers
 pub step_is : (law : AnswersAreRight) (old new : Listening) (bs : List (List Message)) (before : Option (List Answered)) (e : Event) (r : Request) →
@@ -31,13 +37,14 @@ step_without law old new bs before e r is none takes =
     ap (λ (l : List (List Message)). watch new l (with_answer (answered old.list e) before)) (sym (ap (λ (l : List (List Message)). bs ++ l) none ∙ append-nil bs))
     ∙ step_is law old new bs before e r is takes
 
--- the same, with the answer as the code writes it
+-- the same, with the answer as the code writes it: its size is looked for only where answers are followed
 pub step_told : (law : AnswersAreRight) (old new : Listening) (bs : List (List Message)) (before after : Option (List Answered)) (told : Answered) (e : Event) (r : Request) →
-    request_of e ≡ r → batch_in e ≡ [] → (shut : Bool) (bytes many : ℕ) → shut ≡ old.list.closed → bytes ≡ load old.list → many ≡ old.list.in_hold →
-    told ≡ record { closed = shut; load = bytes; in_hold = many; answer = answer_in e } → TakesStep old e new → after ≡ with_answer told before →
+    request_of e ≡ r → batch_in e ≡ [] → (shut : Bool) (bytes many taken : ℕ) → shut ≡ old.list.closed → bytes ≡ load old.list → many ≡ old.list.in_hold →
+    ((followed : List Answered) → before ≡ Some followed → taken ≡ size_in e) →
+    told ≡ record { closed = shut; load = bytes; in_hold = many; size = taken; answer = answer_in e } → TakesStep old e new → after ≡ with_answer told before →
     watch new bs after ≡ stepped r (watch old bs before)
-step_told law old new bs before after told e r is none shut bytes many closed loaded in_hold same takes adds =
-    ap (watch new bs) (adds ∙ ap (λ (a : Answered). with_answer a before) (same ∙ told_as old.list e shut bytes many closed loaded in_hold))
+step_told law old new bs before after told e r is none shut bytes many taken closed loaded in_hold sized same takes adds =
+    ap (watch new bs) (adds ∙ told_alike before told (answered old.list e) (λ followed some. same ∙ told_as old.list e shut bytes many taken closed loaded in_hold (sized followed some)))
     ∙ step_without law old new bs before e r is none takes
 
 -- the answers behind others

@@ -3,7 +3,7 @@ use Rattle.std.specs.Prelude.{◌≡◌, ℕ, List, [], ◌∷◌, Option, Some,
 use Rattle.std.specs.List.{slice_get}
 use Rattle.savefile.specs.declared.fault.Fault.{Fault}
 use Rattle.listener.specs.declared.message.Message.{Message}
-use Rattle.listener.specs.Messages.{Arrival}
+use Rattle.listener.specs.Messages.{Arrival, size_of}
 use Rattle.listener.specs.PlainList.{Terms, PlainList, Event, Request, arrived, flushed, read, closed, load, next, empty, Legal, requests}
 use Rattle.tap.specs.declared.answer.Answer.{Answer}
 use Rattle.tap.specs.declared.answer.Answer.TheVariants.{Arrived, Flushed, Read, Closed}
@@ -24,9 +24,20 @@ answer_in (read (Some batch)) = Read true
 answer_in (read None) = Read false
 answer_in closed = Closed
 
--- the answer of an event, with how the listener stood before it: whether it was closed, the load and the number of held messages
+-- the bytes of the record of what a filter keeps; 0 where it keeps nothing
+abbrev pub size_kept : Option Message → ℕ
+size_kept (Some m) = size_of m
+size_kept None = 0
+
+-- the bytes of the record that an arrival takes, or would take if there were room
+abbrev pub size_in : Event → ℕ
+size_in (arrived kept fed) = size_kept kept
+size_in other = 0
+
+-- the answer of an event, with how the listener stood before it (whether it was closed, the load and the number of held messages),
+-- and with the bytes of an arrival's record
 abbrev pub answered : PlainList → Event → Answered
-answered s e = record { closed = s.closed; load = load s; in_hold = s.in_hold; answer = answer_in e }
+answered s e = record { closed = s.closed; load = load s; in_hold = s.in_hold; size = size_in e; answer = answer_in e }
 
 -- the same of each event, from a state on
 abbrev pub all_answered : PlainList → List Event → List Answered

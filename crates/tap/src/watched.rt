@@ -1,10 +1,14 @@
 //! A listener with what was read from it, and what it answered.
 
-ghost use Rattle.std.specs.Prelude.{◌≡◌, ◌<◌, ◌-◌, ◌^◌, ◌++◌, [], Option, IfOk, IfErr, OnOk, option_map, false};
+ghost use Rattle.std.specs.Prelude.{◌≡◌, ℕ, ◌<◌, ◌-◌, ◌^◌, ◌++◌, List, [], Option, Some, IfOk, IfErr, OnOk, option_map, false};
 ghost use Rattle.listener.specs.Buffers.{filled};
+ghost use Rattle.listener.specs.Listening.{seen_by};
+ghost use Rattle.listener.specs.Messages.{arrival};
 ghost use Rattle.listener.specs.PlainList.{load};
 ghost use Rattle.listener.specs.PlainList as P;
+ghost use Rattle.tap.specs.Answers.{size_kept};
 ghost use Rattle.tap.specs.Watching.{watch, stepped, arrived_at, with_answer, no_answers, Tells};
+ghost use Rattle.tap.specs.declared.answer.Answered.{Answered};
 ghost use Rattle.tap.specs.declared.fault.Fault.TheVariants.{NoMemory};
 
 use crate::answer::{Answer, Answered};
@@ -12,6 +16,7 @@ use crate::fault::Fault;
 use crate::playlist::Placed;
 use crate::report::Report;
 use listener::{Buffer, Listener, Message, Read};
+use savefile::PacketRef;
 use std::alloc::{AllocError, Global};
 use std::marker::Model;
 
@@ -61,13 +66,15 @@ impl Before {
         }
     }
 
-    fn answered(self, answer: Answer) -> Answered
-        ensures { result ≡ record { closed = self.closed; load = self.load; in_hold = self.in_hold; answer = answer } }
+    /// The answer to a step, of an arrival with the bytes of its record.
+    fn answered(self, size: usize, answer: Answer) -> Answered
+        ensures { result ≡ record { closed = self.closed; load = self.load; in_hold = self.in_hold; size = size; answer = answer } }
     {
         Answered {
             closed: self.closed,
             load: self.load,
             in_hold: self.in_hold,
+            size,
             answer,
         }
     }
@@ -98,6 +105,17 @@ impl Watched {
         }
     }
 
+    /// The bytes of the record that a packet takes, or would take. Nothing is asked where answers are not followed.
+    fn size_told(&self, packet: &PacketRef<'_>) -> usize
+        ensures { (followed : List Answered) → self.now.answers ≡ Some followed → (capture place : ℕ) →
+            result ≡ size_kept (seen_by self.now.listener (arrival capture place packet.now)) }
+    {
+        if self.answers.is_none() {
+            return 0;
+        }
+        self.listener.record_size(packet).unwrap_or(0)
+    }
+
     /// A packet arrives.
     pub fn arrive(&mut self, placed: &Placed) -> Result<(), Fault>
         requires { self.old.listener.list.received < 2 ^ 64 - 1 }
@@ -107,8 +125,12 @@ impl Watched {
         listener::laws::answers();
         let before = Before::of(&self.listener, self.closed);
         let packet = placed.packet.as_ref();
+        let size = self.size_told(&packet);
         let fed = self.listener.arrive(placed.capture, placed.place, &packet);
-        follow(&mut self.answers, before.answered(Answer::Arrived(fed)))?;
+        follow(
+            &mut self.answers,
+            before.answered(size, Answer::Arrived(fed)),
+        )?;
         Ok(())
     }
 
@@ -119,7 +141,7 @@ impl Watched {
         listener::laws::answers();
         let before = Before::of(&self.listener, self.closed);
         let full = self.listener.flush();
-        follow(&mut self.answers, before.answered(Answer::Flushed(full)))?;
+        follow(&mut self.answers, before.answered(0, Answer::Flushed(full)))?;
         Ok(())
     }
 
@@ -131,7 +153,7 @@ impl Watched {
         let before = Before::of(&self.listener, self.closed);
         self.listener.close();
         self.closed = true;
-        follow(&mut self.answers, before.answered(Answer::Closed))?;
+        follow(&mut self.answers, before.answered(0, Answer::Closed))?;
         Ok(())
     }
 
@@ -165,12 +187,12 @@ impl Watched {
                 self.batches.push(batch)?;
                 full.clear();
                 self.spare = Some(full);
-                follow(&mut self.answers, before.answered(Answer::Read(true)))?;
+                follow(&mut self.answers, before.answered(0, Answer::Read(true)))?;
                 return Ok(());
             }
             Read::Nothing(empty) => {
                 self.spare = Some(empty);
-                follow(&mut self.answers, before.answered(Answer::Read(false)))?;
+                follow(&mut self.answers, before.answered(0, Answer::Read(false)))?;
                 return Ok(());
             }
         }
