@@ -1,6 +1,6 @@
 //! Laws of the files LISTENERS and SCRIPT.
 
-ghost use Rattle.stepping.specs.Laws.{NoneIsBad};
+ghost use Rattle.stepping.specs.Laws.{NoneIsBad, FirstBadIsOne};
 ghost use Rattle.stepping.specs.Listeners.{IsListenerLine};
 ghost use Rattle.stepping.specs.Script.{IsStepLine};
 
@@ -8,4 +8,10 @@ ghost use Rattle.stepping.specs.Script.{IsStepLine};
 pub fn none_is_bad()
     ensures listeners { NoneIsBad IsListenerLine }
     ensures script { NoneIsBad IsStepLine }
+{}
+
+/// A file has one first bad line: so the number that is told is the only one that could be.
+pub fn first_bad_is_one()
+    ensures listeners { FirstBadIsOne IsListenerLine }
+    ensures script { FirstBadIsOne IsStepLine }
 {}
