@@ -9,6 +9,10 @@
   bench/bench.py --run             packets per second of `bpftap run` with 1 to 8 listeners and 1 to 4 interfaces, beside as many `cut`
                                    and tcpdump at once; what is dropped with few buffers; instructions of a packet that nobody accepts, and
                                    of the same by `cut`
+  bench/bench.py --waiting         processor time of `bpftap run` with 1, 8 and 64 listeners over a fifo that is silent for five seconds;
+                                   packets per second and what is dropped with 1 to 8 listeners and few or many spare buffers, with
+                                   16 interfaces of 8 listeners, and with an OUT of which 1 MB a second is read; with `--beside PATH`
+                                   the same of another built program, interleaved
   bench/bench.py --handover        arrivals per second at a listener, at a pair in one thread and in two, and at a listener under
                                    a lock in two threads; proves and builds bench/handover in a copy first
   bench/bench.py --expressions     wall time of `check` on expressions of some 8,192 bytes, interleaved runs, on a small stack
@@ -255,7 +259,7 @@ FILTERS = ["", "ip", "udp port 53", "arp", "tcp", "port 54", "not ip", "less 500
 def replay_words(folder, capture, interfaces, listeners, spares):
     """A replay of the capture at so many interfaces, each with so many listeners."""
     lines = [
-        f"{i} 0 0 1048576 {spares} {folder / f'{i}-{l}.pcap'} {FILTERS[l]}".rstrip() + "\n"
+        f"{i} 0 0 1048576 {spares} {folder / f'{i}-{l}.pcap'} {FILTERS[l % len(FILTERS)]}".rstrip() + "\n"
         for i in range(interfaces) for l in range(listeners)]
     path = folder / f"{interfaces}-{listeners}-{spares}.txt"
     path.write_text("".join(lines))
@@ -318,6 +322,93 @@ def replays(folder, packets, rounds):
             dropped = sum(int(line[line.index("dropped") + 1]) for line in counts)
             shares.append(100 * dropped / matched)
         print(f"{spares:2} spare buffers of 1 MiB: {statistics.median(shares):5.1f} % of what matched is dropped")
+
+
+def processor_seconds(process):
+    """User and system time of a process so far, and how often its threads gave up the processor by themselves."""
+    fields = pathlib.Path(f"/proc/{process}/stat").read_text().rpartition(")")[2].split()
+    switches = 0
+    for status in pathlib.Path(f"/proc/{process}/task").glob("*/status"):
+        switches += int(re.search(r"^voluntary_ctxt_switches:\s*(\d+)", status.read_text(), re.MULTILINE).group(1))
+    return (int(fields[11]) + int(fields[12])) / os.sysconf("SC_CLK_TCK"), switches
+
+
+def silent(folder, program, listeners):
+    """Processor time, and switches, of a replay with so many listeners in five seconds in which nothing comes."""
+    pipe, some = folder / "silent.pipe", folder / "some.pcap"
+    os.mkfifo(pipe)
+    generate(some, 10)
+    words = [program, *replay_words(folder, pipe, 1, listeners, 8)[1:]]
+    with subprocess.Popen(words, stdout=subprocess.DEVNULL) as replay:
+        with open(pipe, "wb") as to:
+            to.write(some.read_bytes())
+            to.flush()
+            time.sleep(0.5)
+            before, switched = processor_seconds(replay.pid)
+            time.sleep(5)
+            after, switches = processor_seconds(replay.pid)
+    pipe.unlink()
+    if replay.returncode != 0:
+        sys.exit(f"a silent replay ended with {replay.returncode}")
+    return after - before, switches - switched
+
+
+def counted(words):
+    """Seconds of a replay, and the share of what matched that was dropped."""
+    start = time.perf_counter()
+    done = subprocess.run(words, check=True, capture_output=True, text=True)
+    seconds = time.perf_counter() - start
+    lines = [line.split() for line in done.stdout.splitlines()]
+    matched, dropped = (sum(int(line[line.index(word) + 1]) for line in lines) for word in ("matched", "dropped"))
+    return seconds, dropped / matched
+
+
+def slow_sink(folder, program, capture):
+    """Processor seconds, seconds and the dropped share of a replay of which one OUT is read at 1 MB a second, and another at once."""
+    pipe, lines = folder / "slow.pipe", folder / "slow.txt"
+    os.mkfifo(pipe)
+    lines.write_text(f"0 0 0 1048576 2 {pipe}\n0 0 0 1048576 2 {folder / 'fast.pcap'} udp port 53\n")
+    start = time.perf_counter()
+    with subprocess.Popen([program, "run", str(lines), str(capture)], stdout=subprocess.PIPE, text=True) as replay:
+        with open(pipe, "rb", buffering=0) as taken:
+            while taken.read(10_000):
+                time.sleep(0.01)
+        told = [line.split() for line in replay.stdout]
+        # What its children took is told once they were waited for.
+        _, status, used = os.wait4(replay.pid, 0)
+        replay.returncode = os.waitstatus_to_exitcode(status)
+    pipe.unlink()
+    if replay.returncode != 0:
+        sys.exit(f"a replay into a slow OUT ended with {replay.returncode}")
+    share = sum(int(line[line.index("dropped") + 1]) for line in told) / sum(int(line[line.index("matched") + 1]) for line in told)
+    return used.ru_utime + used.ru_stime, time.perf_counter() - start, share
+
+
+def waiting(folder, packets, rounds, programs):
+    """What threads cost that wait, and what it costs to wake them; interleaved over the programs."""
+    for listeners in (1, 8, 64):
+        for name, program in programs.items():
+            seconds, switches = silent(folder, program, listeners)
+            print(f"silent for 5 s, {listeners:2} listeners, {name}: {100 * seconds / 5:6.2f} % of a processor, {switches} switches")
+    capture = folder / "in.pcap"
+    generate(capture, packets)
+    print(f"{packets} packets, {capture.stat().st_size / 1e6:.0f} MB, median of {rounds} rounds, {os.cpu_count()} processors")
+    cases = [(1, listeners, spares) for listeners in (1, 2, 4, 8) for spares in (2, 8, 64)] + [(16, 8, 8)]
+    for interfaces, listeners, spares in cases:
+        seen = {name: [] for name in programs}
+        for _ in range(rounds):
+            for name, program in programs.items():
+                seen[name].append(counted([program, *replay_words(folder, capture, interfaces, listeners, spares)[1:]]))
+        for name, runs in seen.items():
+            rate = interfaces * packets / statistics.median(seconds for seconds, _ in runs) / 1e6
+            dropped = 100 * statistics.median(share for _, share in runs)
+            print(f"{interfaces:2} interfaces, {listeners} listeners each, {spares:2} spares, {name}: "
+                  f"{rate:.2f} million packets a second, {dropped:.1f} % dropped")
+    few = folder / "few.pcap"
+    generate(few, min(packets, 5000))
+    for name, program in programs.items():
+        used, seconds, share = slow_sink(folder, program, few)
+        print(f"an OUT of which 1 MB a second is read, {name}: {used:.2f} s of a processor in {seconds:.1f} s, {100 * share:.1f} % dropped")
 
 
 def handing_over(folder, rounds):
@@ -400,6 +491,8 @@ def main():
     parser.add_argument("--listener", action="store_true")
     parser.add_argument("--steps", action="store_true")
     parser.add_argument("--run", action="store_true")
+    parser.add_argument("--waiting", action="store_true")
+    parser.add_argument("--beside", metavar="PATH", help="another built program, for --waiting")
     parser.add_argument("--handover", action="store_true")
     parser.add_argument("--packets", type=int, default=150000)
     parser.add_argument("--rounds", type=int, default=5)
@@ -421,6 +514,9 @@ def main():
             steps(folder)
         elif words.run:
             replays(folder, words.packets, words.rounds)
+        elif words.waiting:
+            programs = {"this": str(PROGRAM), **({"beside": words.beside} if words.beside else {})}
+            waiting(folder, words.packets, words.rounds, programs)
         elif words.expressions:
             expressions(20 * words.rounds)
         else:

@@ -2,7 +2,8 @@
 
 ghost use Rattle.std.specs.Prelude.{◌≡◌};
 
-use handover::{Feeder, Link};
+use crate::link::TaskLink;
+use handover::Feeder;
 
 /// A feeder, and after how many arrivals it is flushed.
 #[derive(Drop)]
@@ -14,7 +15,7 @@ pub(crate) struct Entry {
 /// Where packets go into one listener, and after how many arrivals it is flushed.
 #[derive(Drop)]
 pub(crate) struct Inlet<'a> {
-    pub(crate) link: &'a Link,
+    pub(crate) link: &'a TaskLink,
     pub(crate) feeder: Feeder,
     pub(crate) flush_every: u32,
     ghost pair: { feeder.pair ≡ link.now },

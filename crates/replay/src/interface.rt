@@ -13,12 +13,12 @@ use crate::fault::RunFault;
 use crate::gate::Gate;
 use crate::inlet::{Entry, Inlet};
 use crate::laid::Laid;
+use crate::link::TaskLink;
 use crate::playing::{PlaysOut, play_out};
 use crate::reading::ListenerId;
 use crate::ready::{Ready, Running};
 use crate::room::Room;
 use crate::threads::start;
-use handover::Link;
 use savefile::{Sink, Source};
 use std::alloc::Global;
 use std::snapshot::Snapshot;
@@ -28,7 +28,7 @@ use std::thread::{Scope, Threads};
 /// Each feeder beside its link.
 fn join_links<'a>(
     alloc: Global,
-    links: &'a [Link],
+    links: &'a [TaskLink],
     entries: Vec<Entry>,
 ) -> Result<Vec<Inlet<'a>>, RunFault>
     requires { map (λ e. e.feeder.pair) entries.items ≡ links.now }
@@ -53,7 +53,7 @@ fn join_links<'a>(
 /// Gives an interface its links.
 fn link_one<'a, R: Drop, W: Sink + Drop>(
     alloc: Global,
-    links: &'a [Link],
+    links: &'a [TaskLink],
     laid: Laid<R, W>,
 ) -> Result<Ready<'a, R, W>, RunFault>
     requires { map stage_pair laid.stages.items ≡ links.now }
@@ -81,7 +81,7 @@ fn link_one<'a, R: Drop, W: Sink + Drop>(
 /// Gives all interfaces their links.
 pub(crate) fn link_all<'a, R: Drop, W: Sink + Drop>(
     alloc: Global,
-    links: &'a [Vec<Link>],
+    links: &'a [Vec<TaskLink>],
     laid: Vec<Laid<R, W>>,
 ) -> Result<Vec<Ready<'a, R, W>>, RunFault>
     requires { AllZip HasLinks links.now laid.items }
@@ -108,7 +108,7 @@ fn start_all<
     scope: &Scope<'s, E>,
     gate: &'s G,
     interface: u32,
-    links: &'a [Link],
+    links: &'a [TaskLink],
     stages: Vec<Stage<W>>,
     mut crews: Vec<Crew<W>>,
 ) -> Result<Vec<Crew<W>>, RunFault>

@@ -7,8 +7,8 @@ ghost use Rattle.replay.specs.Rooms.{HasRoom};
 
 use crate::crew::Stage;
 use crate::inlet::Entry;
+use crate::link::TaskLink;
 use crate::room::Room;
-use handover::Link;
 use savefile::Sink;
 
 /// An interface that is ready to be replayed, but for the links of its tasks.
@@ -26,6 +26,6 @@ pub(crate) struct Laid<R, W: Sink + Drop> {
 /// What is made for all interfaces: the links stand apart, since threads borrow them.
 #[derive(Drop)]
 pub(crate) struct AllLaid<R, W: Sink + Drop> {
-    pub(crate) links: Vec<Vec<Link>>,
+    pub(crate) links: Vec<Vec<TaskLink>>,
     pub(crate) laid: Vec<Laid<R, W>>,
 }

@@ -8,6 +8,8 @@ mod gate;
 mod inlet;
 mod interface;
 mod laid;
+mod link;
+mod patience;
 mod player;
 mod playing;
 mod reading;

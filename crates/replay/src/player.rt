@@ -13,7 +13,9 @@ ghost use Rattle.replay.specs.Writing.{IsTimely};
 
 use crate::gate::Gate;
 use crate::inlet::Inlet;
+use crate::link::TaskLink;
 use crate::report::InterfaceEnd;
+use listener::Fed;
 use savefile::{PacketRef, Reader, Source};
 use std::alloc::Global;
 
@@ -45,17 +47,33 @@ fn is_due(every: u32, n: u64) -> bool
     every != 0 && (n + 1) % every as u64 == 0
 }
 
-/// Gives a packet to a feeder, and flushes it if that is due.
+/// Whether an arrival made the store the hold.
+fn is_hold_made(fed: Fed) -> bool {
+    matches!(fed, Fed::Held | Fed::Rotated)
+}
+
+fn wake_reader_if(link: &TaskLink, is_hold_made: bool) {
+    if is_hold_made {
+        link.wake_reader();
+    }
+}
+
+/// Gives a packet to a feeder, flushes it if that is due, and wakes its reader where there is a hold to read.
 fn give(inlet: &mut Inlet<'_>, placed: &Placed<'_>)
     requires n { placed.now.n < 2 ^ 64 - 2 }
     requires room { count is_arrival (line_of inlet.old).asks < 2 ^ 64 - 1 }
     ensures { line_of inlet.new ≡ fed_with placed.now.n (arrival placed.now.capture placed.now.place placed.now.packet.now) (line_of inlet.old) }
 {
-    inlet
-        .feeder
-        .arrive(inlet.link, placed.capture, placed.place, placed.packet);
+    let fed = inlet.feeder.arrive(
+        inlet.link.pair(),
+        placed.capture,
+        placed.place,
+        placed.packet,
+    );
+    wake_reader_if(inlet.link, is_hold_made(fed));
     if is_due(inlet.flush_every, placed.n) {
-        inlet.feeder.flush(inlet.link);
+        let flushed = inlet.feeder.flush(inlet.link.pair());
+        wake_reader_if(inlet.link, flushed);
     }
 }
 

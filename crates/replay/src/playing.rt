@@ -43,7 +43,8 @@ fn end_all(inlets: Vec<Inlet<'_>>, mut ends: Vec<FeedEnd>) -> Vec<FeedEnd>
     ensures { map ended_of result.items ≡ ended_all (map line_of inlets.entry.items) }
 {
     for inlet in inlets {
-        ends.push_reserved(inlet.feeder.end(inlet.link));
+        ends.push_reserved(inlet.feeder.end(inlet.link.pair()));
+        inlet.link.wake_reader();
     }
     ends
 }

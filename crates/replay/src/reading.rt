@@ -8,12 +8,13 @@ ghost use Rattle.handover.specs.History.{batches_of, ended_in};
 ghost use Rattle.replay.specs.Reading.{HasRead, messages_of};
 
 use crate::gate::Gate;
-use handover::{Drain, DrainEnd, Link, Read};
+use crate::link::TaskLink;
+use crate::patience::Patience;
+use handover::{Drain, DrainEnd, Read};
 use listener::Buffer;
 use rtrb::{Consumer, Finished, Producer, PushError};
 use std::snapshot::Snapshot;
 use std::sync::Wait;
-use std::thread;
 use std::thread::Promise;
 
 /// Which listener of which interface a thread works for.
@@ -65,17 +66,18 @@ enum Once {
 }
 
 /// Pushes a buffer as soon as there is room for it.
-fn push_waiting(rt: &impl Wait, producer: &mut Producer<Buffer>, buffer: Buffer)
+fn push_waiting<R: Wait>(rt: &R, link: &TaskLink, producer: &mut Producer<Buffer>, buffer: Buffer)
     ensures ring { SameProducer producer.old producer.new }
     ensures sent { sent producer.new ≡ sent producer.old ++ buffer ∷ [] }
 {
     let mut buffer = buffer;
+    let mut patience = Patience::new();
     for _ in rt.forever() {
         match producer.push(buffer) {
             Ok(()) => return,
             Err(PushError::Full(back)) => buffer = back,
         }
-        thread::yield_now();
+        patience.wait(rt, &link.reader);
     }
     unreachable!()
 }
@@ -85,7 +87,7 @@ fn push_waiting(rt: &impl Wait, producer: &mut Producer<Buffer>, buffer: Buffer)
 fn read_once<G: Gate, R: Wait>(
     rt: &R,
     gate: &G,
-    link: &Link,
+    link: &TaskLink,
     drain: &mut Drain,
     full: &mut Producer<Buffer>,
     empty: Buffer,
@@ -101,14 +103,15 @@ fn read_once<G: Gate, R: Wait>(
     ensures ended { result ≡ Once.Ended → ended_in drain.new.takes ≡ true }
 {
     gate.before_read(listener_id.interface, listener_id.listener);
-    match drain.read(link, empty) {
+    match drain.read(link.pair(), empty) {
         Read::Full(buffer) => {
             gate.after_read(
                 listener_id.interface,
                 listener_id.listener,
                 buffer.len() as u32,
             );
-            push_waiting(rt, full, buffer);
+            push_waiting(rt, link, full, buffer);
+            link.wake_writer();
             Once::Pushed
         }
         Read::Nothing(buffer) => {
@@ -123,10 +126,16 @@ fn read_once<G: Gate, R: Wait>(
 }
 
 /// The next empty buffer, cleared.
-fn next_empty(rt: &impl Wait, empty: &mut Consumer<Buffer>, capacity: usize) -> Result<Buffer, Stop>
+fn next_empty<R: Wait>(
+    rt: &R,
+    link: &TaskLink,
+    empty: &mut Consumer<Buffer>,
+    capacity: usize,
+) -> Result<Buffer, Stop>
     ensures ok { IfOk result (λ buffer. buffer ≡ filled capacity []) }
     ensures err { IfErr result (λ stop. stop ≢ Stop.Ended) }
 {
+    let mut patience = Patience::new();
     for _ in rt.forever() {
         match empty.pop() {
             Ok(mut buffer) => {
@@ -140,7 +149,7 @@ fn next_empty(rt: &impl Wait, empty: &mut Consumer<Buffer>, capacity: usize) -> 
                 if empty.is_abandoned() {
                     return Err(Stop::Abandoned);
                 }
-                thread::yield_now();
+                patience.wait(rt, &link.reader);
             }
         }
     }
@@ -151,7 +160,7 @@ fn next_empty(rt: &impl Wait, empty: &mut Consumer<Buffer>, capacity: usize) -> 
 pub(crate) fn read_out<G: Gate, R: Wait>(
     rt: &R,
     gate: &G,
-    link: &Link,
+    link: &TaskLink,
     mut drain: Drain,
     mut full: Producer<Buffer>,
     mut empty: Consumer<Buffer>,
@@ -164,10 +173,11 @@ pub(crate) fn read_out<G: Gate, R: Wait>(
     let capacity = drain.capacity();
     let mut spare: Option<Buffer> = None;
     let mut stop = Stop::Abandoned;
+    let mut patience = Patience::new();
     for _ in rt.forever() {
         let buffer = match spare.take() {
             Some(buffer) => buffer,
-            None => match next_empty(rt, &mut empty, capacity) {
+            None => match next_empty(rt, link, &mut empty, capacity) {
                 Ok(buffer) => buffer,
                 Err(why) => {
                     stop = why;
@@ -176,10 +186,10 @@ pub(crate) fn read_out<G: Gate, R: Wait>(
             },
         };
         match read_once(rt, gate, link, &mut drain, &mut full, buffer, listener_id) {
-            Once::Pushed => {}
+            Once::Pushed => patience = Patience::new(),
             Once::StillEmpty(buffer) => {
                 spare = Some(buffer);
-                thread::yield_now();
+                patience.wait(rt, &link.reader);
             }
             Once::Ended => {
                 stop = Stop::Ended;
@@ -187,9 +197,11 @@ pub(crate) fn read_out<G: Gate, R: Wait>(
             }
         }
     }
-    ReadEnd {
-        drain: drain.close(link),
+    let end = ReadEnd {
+        drain: drain.close(link.pair()),
         finished: full.finish(),
         stop,
-    }
+    };
+    link.wake_writer();
+    end
 }

@@ -7,10 +7,10 @@ ghost use Rattle.replay.specs.Rooms.{HasRoom};
 
 use crate::crew::{Crew, Stage};
 use crate::inlet::{Entry, Inlet};
+use crate::link::TaskLink;
 use crate::playing::{PlayEnd, PlaysOut};
 use crate::report::ListenerReport;
 use crate::room::Room;
-use handover::Link;
 use savefile::{Sink, Source};
 use std::snapshot::Snapshot;
 use std::thread::PromisedHandle;
@@ -18,7 +18,7 @@ use std::thread::PromisedHandle;
 /// An interface that is ready to be replayed.
 #[derive(Drop)]
 pub(crate) struct Ready<'a, R, W: Sink + Drop> {
-    pub(crate) links: &'a [Link],
+    pub(crate) links: &'a [TaskLink],
     pub(crate) entries: Snapshot<Vec<Entry>>,
     pub(crate) inlets: Vec<Inlet<'a>>,
     pub(crate) captures: Vec<R>,

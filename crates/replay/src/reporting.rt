@@ -10,19 +10,20 @@ ghost use Rattle.replay.specs.RunsEnded.{HasItsPairs, IsReportOf, past_pair};
 ghost use Rattle.replay.specs.Writing.{IsTimely};
 
 use crate::crew::Crew;
+use crate::link::TaskLink;
 use crate::playing::PlayEnd;
 use crate::ready::Running;
 use crate::report::{InterfaceReport, ListenerReport};
 use crate::settling::settled;
 use crate::threads::finish;
-use handover::{FeedEnd, Link};
+use handover::FeedEnd;
 use savefile::{Sink, Source};
 use std::thread::Threads;
 
 /// Waits for the threads of an interface's tasks, and settles them.
 fn report_tasks<W: Sink + Drop, R: Threads>(
     rt: &R,
-    links: Vec<Link>,
+    links: Vec<TaskLink>,
     ends: Vec<FeedEnd>,
     crews: Vec<Crew<W>>,
     mut reports: Vec<ListenerReport<W>>,
@@ -52,7 +53,7 @@ fn report_tasks<W: Sink + Drop, R: Threads>(
 /// Waits for the threads of an interface.
 fn report_one<S: Source + Drop, W: Sink + Drop, R: Threads>(
     rt: &R,
-    links: Vec<Link>,
+    links: Vec<TaskLink>,
     running: Running<S, W>,
 ) -> InterfaceReport<S, W>
     requires { map crew_pair running.crews.items ≡ links.items }
@@ -74,7 +75,7 @@ fn report_one<S: Source + Drop, W: Sink + Drop, R: Threads>(
 /// Waits for the threads of all interfaces.
 pub(crate) fn report_all<S: Source + Drop, W: Sink + Drop, R: Threads>(
     rt: &R,
-    links: Vec<Vec<Link>>,
+    links: Vec<Vec<TaskLink>>,
     running: Vec<Running<S, W>>,
     mut reports: Vec<InterfaceReport<S, W>>,
 ) -> Vec<InterfaceReport<S, W>>

@@ -14,11 +14,12 @@ ghost use Rattle.replay.specs.Writing.{IsTimely, Writes};
 ghost use Rattle.replay.specs.declared.writing.Output.{Output};
 
 use crate::crew::Done;
+use crate::link::TaskLink;
 use crate::reading::{ReadEnd, Stop};
 use crate::report::{ListenerReport, TaskEnd};
 use crate::writer::WriteEnd;
 use crate::writing::Written;
-use handover::{FeedEnd, Link, Past, Settled, settle};
+use handover::{FeedEnd, Past, Settled, settle};
 use listener::{Buffer, Counts};
 use rtrb::Consumer;
 use savefile::Sink;
@@ -79,7 +80,11 @@ fn report<W: Sink>(
 }
 
 /// Settles the two ends, and writes what the writer thread left: the buffers in the ring, the hold and the rest.
-pub(crate) fn settled<W: Sink + Drop>(link: Link, feed: FeedEnd, done: Done<W>) -> ListenerReport<W>
+pub(crate) fn settled<W: Sink + Drop>(
+    link: TaskLink,
+    feed: FeedEnd,
+    done: Done<W>,
+) -> ListenerReport<W>
     requires pair { (feed.pair ≡ link) × (done.read.drain.pair ≡ link) }
     requires profile { feed.profile ≡ profile_of done.task.value.capacity done.task.value.mode }
     requires timely { All (λ m. IsTimely m.nanos) (all_accepted (asks feed.feeds)) }
@@ -107,7 +112,7 @@ pub(crate) fn settled<W: Sink + Drop>(link: Link, feed: FeedEnd, done: Done<W>) 
         rest,
         counts,
         past,
-    } = settle(link, feed, drain);
+    } = settle(link.into_pair(), feed, drain);
     let Some(mut finished) = finished else {
         return report(written, counts, TaskEnd::Unfinished, past);
     };

@@ -12,10 +12,11 @@ use crate::crew::Stage;
 use crate::fault::RunFault;
 use crate::inlet::Entry;
 use crate::laid::{AllLaid, Laid};
+use crate::link::TaskLink;
 use crate::room::room_for;
 use crate::task::{Interface, Task};
 use crate::writing::Output;
-use handover::{Link, pair_as};
+use handover::pair_as;
 use listener::Buffer;
 use rtrb::{Consumer, Producer, RingBuffer};
 use savefile::Sink;
@@ -25,7 +26,7 @@ use std::snapshot::Snapshot;
 /// What is made for a task: what its two ends share, its feeder, and what its threads are given.
 #[derive(Drop)]
 struct Made<W> {
-    link: Link,
+    link: TaskLink,
     entry: Entry,
     stage: Stage<W>,
 }
@@ -87,7 +88,7 @@ fn make<W: Sink + Drop>(alloc: Global, task: Task<W>) -> Result<Made<W>, RunFaul
         },
     };
     Ok(Made {
-        link,
+        link: TaskLink::new(link),
         entry: Entry {
             feeder,
             flush_every,
@@ -100,7 +101,7 @@ fn make<W: Sink + Drop>(alloc: Global, task: Task<W>) -> Result<Made<W>, RunFaul
 fn lay<R: Drop, W: Sink + Drop>(
     alloc: Global,
     interface: Interface<R, W>,
-) -> Result<(Vec<Link>, Laid<R, W>), RunFault>
+) -> Result<(Vec<TaskLink>, Laid<R, W>), RunFault>
     requires { IsInBounds interface }
     ensures links { IfOk result (λ p. HasLinks p.0 p.1) }
     ensures laid { IfOk result (λ p. IsLaidFor interface p.1) }

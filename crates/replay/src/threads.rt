@@ -7,9 +7,9 @@ ghost use Rattle.replay.specs.declared.fault.RunFault.TheVariants.{NoStart};
 use crate::crew::{Crew, Done, Stage};
 use crate::fault::RunFault;
 use crate::gate::Gate;
+use crate::link::TaskLink;
 use crate::reading::{ListenerId, ReadsOut, read_out};
 use crate::writer::{WritesOut, write_out};
-use handover::Link;
 use savefile::Sink;
 use std::snapshot::Snapshot;
 use std::sync::Wait;
@@ -27,7 +27,7 @@ pub(crate) fn start<
     rt: &'s R,
     scope: &Scope<'s, E>,
     gate: &'s G,
-    link: &'a Link,
+    link: &'a TaskLink,
     stage: Stage<W>,
     listener_id: ListenerId,
 ) -> Result<Crew<W>, RunFault>
@@ -58,8 +58,10 @@ pub(crate) fn start<
     ) else {
         return Err(RunFault::NoStart);
     };
-    let Ok(writer) = scope.spawn_with(writes, move || write_out(rt, output, full_out, empty_in))
-    else {
+    let Ok(writer) = scope.spawn_with(
+        writes,
+        move || write_out(rt, link, output, full_out, empty_in),
+    ) else {
         return Err(RunFault::NoStart);
     };
     Ok(Crew {

@@ -4,13 +4,14 @@ ghost use Rattle.std.specs.Prelude.{◌≡◌, []};
 ghost use Rattle.rtrb.specs.Ring.{received};
 ghost use Rattle.replay.specs.WrittenOut.{HasWrittenOut};
 
+use crate::link::TaskLink;
+use crate::patience::Patience;
 use crate::writing::{Output, Written};
 use listener::Buffer;
 use rtrb::{Consumer, Producer};
 use savefile::Sink;
 use std::snapshot::Snapshot;
 use std::sync::Wait;
-use std::thread;
 use std::thread::Promise;
 
 /// What a writer thread hands back.
@@ -40,6 +41,7 @@ fn give_back(empty: &mut Producer<Buffer>, buffer: Buffer) {
 /// Writes what comes through the ring, until its other end is dropped and nothing is in it, or a fault came.
 pub(crate) fn write_out<W: Sink, R: Wait>(
     rt: &R,
+    link: &TaskLink,
     output: Output<W>,
     mut full: Consumer<Buffer>,
     mut empty: Producer<Buffer>,
@@ -49,6 +51,7 @@ pub(crate) fn write_out<W: Sink, R: Wait>(
 {
     let mut written = Written::open(output);
     let mut last = false;
+    let mut patience = Patience::new();
     for _ in rt.forever() {
         if !written.works {
             break;
@@ -57,6 +60,8 @@ pub(crate) fn write_out<W: Sink, R: Wait>(
             Ok(buffer) => {
                 written.put_all(&buffer);
                 give_back(&mut empty, buffer);
+                link.wake_reader();
+                patience = Patience::new();
             }
             Err(_) => {
                 if last {
@@ -64,9 +69,13 @@ pub(crate) fn write_out<W: Sink, R: Wait>(
                 }
                 // Something may have come before the other end was dropped: look once more.
                 last = full.is_abandoned();
-                thread::yield_now();
+                if !last {
+                    patience.wait(rt, &link.writer);
+                }
             }
         }
     }
+    drop(empty);
+    link.wake_reader();
     WriteEnd { written, full }
 }
