@@ -15,6 +15,7 @@
                                    the same of another built program, interleaved
   bench/bench.py --handover        arrivals per second at a listener, at a pair in one thread and in two, and at a listener under
                                    a lock in two threads; proves and builds bench/handover in a copy first
+  bench/bench.py --split           wall time of `split` with eight filters, beside a cut and a tcpdump for each, one by one and at once
   bench/bench.py --expressions     wall time of `check` on expressions of some 8,192 bytes, interleaved runs, on a small stack
 
 Machines are noisy, so the ratios of one run are what to compare. Instructions are repeatable. The captures that
@@ -411,6 +412,54 @@ def waiting(folder, packets, rounds, programs):
         print(f"an OUT of which 1 MB a second is read, {name}: {used:.2f} s of a processor in {seconds:.1f} s, {100 * share:.1f} % dropped")
 
 
+# Filters of a split, each of which keeps another part of a capture that is made here; the last keeps nothing.
+SPLIT_FILTERS = [
+    "udp port 53", "udp port 54", "arp", "src port 1000", "dst port 53 and src port 1001", "less 300", "greater 1000", "host 10.0.0.9"]
+
+
+def one_by_one(commands):
+    """Seconds for commands that run one behind the other."""
+    return sum(at_once([words]) for words in commands)
+
+
+def split_commands(folder, capture):
+    """The words of a split, and those of a cut and of a tcpdump for each of its filters."""
+    lines = folder / "lines.txt"
+    lines.write_text("".join(f"0 {folder}/{at}-split.pcap {expr}\n" for at, expr in enumerate(SPLIT_FILTERS)))
+    commands = {"split": [[str(PROGRAM), "split", str(lines), str(capture)]], "cut": []}
+    for at, expr in enumerate(SPLIT_FILTERS):
+        commands["cut"].append([str(PROGRAM), "cut", "-s", "0", "-e", expr, str(capture), f"{folder}/{at}-cut.pcap"])
+        if shutil.which("tcpdump"):
+            stay = ["-Z", "root"] if os.geteuid() == 0 else []
+            words = ["tcpdump", *stay, "-r", str(capture), "-w", f"{folder}/{at}-tcpdump.pcap", expr]
+            commands.setdefault("tcpdump", []).append(words)
+    return commands
+
+
+def splits(folder, packets, rounds):
+    """One pass with eight filters beside a cut, and a tcpdump, for each of them: one behind the other, and all at once."""
+    capture = folder / "in.pcap"
+    generate(capture, packets)
+    commands = split_commands(folder, capture)
+    runs = [("split", "split", one_by_one)]
+    for name in commands.keys() - {"split"}:
+        runs += [(f"{name}, one by one", name, one_by_one), (f"{name}, all at once", name, at_once)]
+    seen = {}
+    for _ in range(rounds):
+        for told, name, way in sorted(runs):
+            seen.setdefault(told, []).append(way(commands[name]))
+    for at, expr in enumerate(SPLIT_FILTERS):
+        for name in commands.keys() - {"split"}:
+            if not filecmp.cmp(folder / f"{at}-split.pcap", folder / f"{at}-{name}.pcap", shallow=False):
+                sys.exit(f"{expr}: split and {name} wrote different captures")
+    timer = gnu_time()
+    peak = f", split takes {run(commands['split'][0], folder, timer)[2] / 1024:.1f} MiB" if timer else ""
+    print(f"{packets} packets, {capture.stat().st_size / 1e6:.0f} MB, {len(SPLIT_FILTERS)} filters, median of {rounds} rounds, "
+          f"{os.cpu_count()} processors{peak}")
+    for told, times in seen.items():
+        print(f"{told:22} {statistics.median(times):6.2f} s")
+
+
 def handing_over(folder, rounds):
     """Arrivals per second at a listener, at a pair in one thread and in two, and at a listener under a lock in two."""
     program = handover_program(folder)
@@ -494,6 +543,7 @@ def main():
     parser.add_argument("--waiting", action="store_true")
     parser.add_argument("--beside", metavar="PATH", help="another built program, for --waiting")
     parser.add_argument("--handover", action="store_true")
+    parser.add_argument("--split", action="store_true")
     parser.add_argument("--packets", type=int, default=150000)
     parser.add_argument("--rounds", type=int, default=5)
     words = parser.parse_args()
@@ -517,6 +567,8 @@ def main():
         elif words.waiting:
             programs = {"this": str(PROGRAM), **({"beside": words.beside} if words.beside else {})}
             waiting(folder, words.packets, words.rounds, programs)
+        elif words.split:
+            splits(folder, words.packets, words.rounds)
         elif words.expressions:
             expressions(20 * words.rounds)
         else:

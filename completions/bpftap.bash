@@ -1,12 +1,12 @@
 # Completions of bpftap for bash. Source this file, or let bash-completion find it under the name bpftap.
 
-_bpftap_commands='check explain cut steps run help'
+_bpftap_commands='check explain cut split steps run help'
 
 # Whether the value of an option is wanted behind it, and then what it may be: words, the name of a file, or anything.
 _bpftap_value() {
   case $1,$2 in
-    cut,-o) mapfile -t COMPREPLY < <(compgen -W 'little big' -- "$3") ;;
-    cut,-u) mapfile -t COMPREPLY < <(compgen -W 'micro nano' -- "$3") ;;
+    cut,-o | split,-o) mapfile -t COMPREPLY < <(compgen -W 'little big' -- "$3") ;;
+    cut,-u | split,-u) mapfile -t COMPREPLY < <(compgen -W 'micro nano' -- "$3") ;;
     check,-f | explain,-f | cut,-f | steps,-p) compopt -o default ;;
     check,-s | explain,-s | explain,-e | explain,-p | cut,-s | cut,-e) ;;
     *) return 1 ;;
@@ -21,6 +21,7 @@ _bpftap_options() {
     explain) echo '-s -e -f -p -h --help' ;;
     run) echo '-h --help' ;;
     cut) echo '-s -e -f -o -u -c -h --help' ;;
+    split) echo '-o -u -h --help' ;;
     steps) echo '-v -p -h --help' ;;
   esac
 }
@@ -46,7 +47,7 @@ _bpftap() {
     '') mapfile -t COMPREPLY < <(compgen -W "$_bpftap_commands" -- "$word") ;;
     help) mapfile -t COMPREPLY < <(compgen -W "${_bpftap_commands% help}" -- "$word") ;;
     # The word of `check` is an expression.
-    explain | cut | steps | run) compopt -o default ;;
+    explain | cut | split | steps | run) compopt -o default ;;
   esac
 }
 

@@ -7,11 +7,12 @@ complete -c bpftap -n __fish_use_subcommand -s V -l version -d 'Print the versio
 complete -c bpftap -n __fish_use_subcommand -a check -d 'Print the program of an expression'
 complete -c bpftap -n __fish_use_subcommand -a explain -d 'Tell why packets are accepted or rejected'
 complete -c bpftap -n __fish_use_subcommand -a cut -d 'Write what the filter accepts, cut'
+complete -c bpftap -n __fish_use_subcommand -a split -d 'Write several captures in one pass'
 complete -c bpftap -n __fish_use_subcommand -a steps -d 'Play a script to listeners'
 complete -c bpftap -n __fish_use_subcommand -a run -d 'Replay captures in threads'
 complete -c bpftap -n __fish_use_subcommand -a help -d 'Print help of a command'
 
-complete -c bpftap -n '__fish_seen_subcommand_from help' -a 'check explain cut steps run'
+complete -c bpftap -n '__fish_seen_subcommand_from help' -a 'check explain cut split steps run'
 
 complete -c bpftap -n '__fish_seen_subcommand_from check' -s d -d 'Print instructions by their names'
 complete -c bpftap -n '__fish_seen_subcommand_from check' -s x -d 'Print the expression as it was read'
@@ -34,6 +35,11 @@ complete -c bpftap -n '__fish_seen_subcommand_from cut' -s o -x -a 'little big' 
 complete -c bpftap -n '__fish_seen_subcommand_from cut' -s u -x -a 'micro nano' -d 'Unit of the time stamps of OUT'
 complete -c bpftap -n '__fish_seen_subcommand_from cut' -s c -d 'Tell how many packets were written'
 complete -c bpftap -n '__fish_seen_subcommand_from cut' -s h -l help -d 'Print help'
+
+complete -c bpftap -n '__fish_seen_subcommand_from split' -F
+complete -c bpftap -n '__fish_seen_subcommand_from split' -s o -x -a 'little big' -d 'Byte order of each OUT'
+complete -c bpftap -n '__fish_seen_subcommand_from split' -s u -x -a 'micro nano' -d 'Unit of the time stamps of each OUT'
+complete -c bpftap -n '__fish_seen_subcommand_from split' -s h -l help -d 'Print help'
 
 complete -c bpftap -n '__fish_seen_subcommand_from steps' -F
 complete -c bpftap -n '__fish_seen_subcommand_from steps' -s v -d 'Print the answers first, and why'

@@ -34,14 +34,14 @@ def offered(*words):
 
 # Words, the last one unfinished, and what is offered for it.
 OFFERED = [
-    ([""], ["check", "explain", "cut", "steps", "run", "help"]),
+    ([""], ["check", "explain", "cut", "split", "steps", "run", "help"]),
     (["c"], ["check", "cut"]),
     (["steps"], ["steps"]),
     (["x"], []),
     (["--v"], ["--version"]),
     (["--hi"], ["--hints"]),
     (["--hints", "c"], ["check", "cut"]),
-    (["help", ""], ["check", "explain", "cut", "steps", "run"]),
+    (["help", ""], ["check", "explain", "cut", "split", "steps", "run"]),
     (["cut", "--"], ["--help"]),
     (["cut", "-o", ""], ["little", "big"]),
     (["cut", "-s", "0", "-o", "b"], ["big"]),
@@ -53,6 +53,10 @@ OFFERED = [
     (["cut", "-s", "0", ""], ["FILES"]),
     (["cut", "-s", "0", "in.pcap", "o"], ["FILES"]),
     (["cut", "-s", "0", "--", "-"], ["FILES"]),
+    (["split", "-o", ""], ["little", "big"]),
+    (["split", "-u", "m"], ["micro"]),
+    (["split", ""], ["FILES"]),
+    (["split", "lines.txt", "i"], ["FILES"]),
     (["explain", "-p", ""], []),
     (["explain", "-f", ""], ["FILES"]),
     (["explain", "-e", "ip", ""], ["FILES"]),

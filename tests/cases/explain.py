@@ -54,6 +54,17 @@ def a_listing_is_explained(scene):
 
 
 @case
+def the_program_answers_the_snapshot_length(scene):
+    """`-s` is what the program of the expression answers, 0 the greatest; a listing has its own, and the lines are the same."""
+    scene.start({"in.pcap": WHOLE, "ip.bpf": IP})
+    for length, answer in [("96", 96), ("0", 262144), ("1", 1)]:
+        seen = scene.run(f"explain -s {length} -p 0 -e ip in.pcap")
+        scene.check(f"answer with -s {length}", seen.out.decode().splitlines()[-1], f"answer {answer}")
+        scene.check(f"line with -s {length}", scene.run(f"explain -s {length} -e ip in.pcap"), scene.run("explain -e ip in.pcap"))
+    scene.check("a listing", scene.run("explain -s 96 -f ip.bpf in.pcap"), scene.run("explain -f ip.bpf in.pcap"))
+
+
+@case
 def the_counts_are_those_of_cut(scene):
     """On the real capture so many packets are accepted as `cut` writes, and each has a line."""
     for expr in ("tcp port 80 or 8080", "arp or icmp", "not udp"):
@@ -114,6 +125,11 @@ def one_packet_is_told_in_full(scene):
         "(000) ldh [12] A 0x800 X 0x0", "(001) jeq #0x800 jt 2 jf 3 A 0x800 X 0x0", "(002) ret #262144 A 0x800 X 0x0", "answer 262144"])
     seen = scene.run(["explain", "-p", "1", "-e", "not tcp", "in.pcap"]).out.decode()
     scene.check("what is missing", "Abort      tcp, byte 23 is not captured\n" in seen and "ether[23] is not captured\n" in seen, True)
+    broken = "the last instruction was not carried out: a byte that it loads is not captured\nanswer 0\n"
+    scene.check("the run that broke off", seen.endswith(broken), True)
+    scene.put({"divided.bpf": "2\n60 0 0 0\n6 0 0 9\n"})
+    seen = scene.run("explain -p 0 -f divided.bpf in.pcap").out.decode()
+    scene.check("a division", seen.endswith("the last instruction was not carried out: its divisor is 0\nanswer 0\n"), True)
 
 
 @case
@@ -128,9 +144,14 @@ def faults_are_told(scene):
     line = "place 0 time 2.000000000 len 14 captured 14 Yes ip\n1 packets: 1 Yes, 0 No, 0 Abort\n"
     scene.expect("explain -e ip torn.pcap", 2, told("TornRecord 1"), line)
     scene.expect("explain -e ip in.pcap", 3, told("Device standard output"), streams=">/dev/full")
-    for words in ("explain in.pcap", "explain -p +1 -e ip in.pcap", "explain -s 262145 -e ip in.pcap"):
+    snap, place = "-s takes a number from 0 to 262144", "-p takes a number from 0 to 18446744073709551615"
+    for words, said in [
+        ("explain in.pcap", "<-e <EXPR>|-f <LISTING>>"), ("explain -p +1 -e ip in.pcap", place), ("explain -p -1 -e ip in.pcap", place),
+        ("explain -p x -e ip in.pcap", place), ("explain -s 262145 -e ip in.pcap", snap), ("explain -s -1 -e ip in.pcap", snap),
+    ]:
         seen = scene.run(words)
-        scene.check(f"usage behind {words}", (b"Usage: bpftap explain" in seen.err, seen.out, seen.status), (True, b"", 1))
+        told_so = (said in seen.err.decode(), b"Usage: bpftap explain" in seen.err, b"tip:" in seen.err)
+        scene.check(f"told behind {words}", (told_so, seen.out, seen.status), ((True, True, False), b"", 1))
 
 
 @case

@@ -105,7 +105,16 @@ RUNS = [
     ("0 0 10 47 2 out.pcap\n", "in.pcap", "Open 0 0 BadCapacity", 1),
 ]
 
-# Captures that `cut`, `explain`, `steps` and `run` tell, and the status.
+# A file LINES of `split`, the captures behind it, the fault and the status.
+SPLITS = [
+    ("0\n", "in.pcap", "Lines 1", 1),
+    ("0 out.pcap\n262145 other.pcap\n", "in.pcap", "Lines 2", 1),
+    ("0 out.pcap\n0 out.pcap\n", "in.pcap", "Lines 2", 1),
+    ("0 in.pcap\n", "in.pcap", "SameFile in.pcap", 1),
+    ("0 none/out.pcap\n", "in.pcap", "Device none/out.pcap", 3),
+]
+
+# Captures that `cut`, `explain`, `split`, `steps` and `run` tell, and the status.
 CAPTURES = [
     ("empty.pcap", "ShortHeader", 1),
     ("text.pcap", "NotSavefile", 1),
@@ -127,6 +136,7 @@ SECTIONS = {
     "check": {SHARED, "Expressions", LISTINGS},
     "explain": {SHARED, "Expressions", "Captures", LISTINGS, "`explain`"},
     "cut": {SHARED, "Expressions", "Captures", LISTINGS},
+    "split": {SHARED, "`split`"},
     "steps": {SHARED, "`steps`"},
     "run": {SHARED, "`run`"},
 }
@@ -192,23 +202,27 @@ def tells(scene, page, words, fault, status, streams=""):
 
 def tell_captures(scene, page):
     """Faults of captures, by each command that reads them."""
-    scene.put({"run.txt": "0 0 0 1048576 2 run.pcap\n"})
+    scene.put({"run.txt": "0 0 0 1048576 2 run.pcap\n", "split.txt": "0 split.pcap\n"})
     for path, fault, status in CAPTURES:
         tells(scene, page, f"cut -s 0 {path} out.pcap", fault, status)
         tells(scene, page, f"explain -e ip {path}", fault, status)
+        tells(scene, page, f"split split.txt in.pcap {path}", f"Capture 1 {fault}", status)
         tells(scene, page, f"steps one.txt arrive.txt in.pcap {path}", f"Capture 1 {fault}", status)
         tells(scene, page, f"run run.txt in.pcap {path}", f"Interface 0 Capture 1 {fault}", status)
     tells(scene, page, "run run.txt in.pcap none.pcap", "Interface 0 Capture 1 Device", 3)
+    tells(scene, page, "split split.txt in.pcap none.pcap", "Capture 1 Device", 3)
 
 
 def tell_expressions(scene, page):
     """Faults of expressions, by each command that reads them."""
     for text, fault in EXPRESSIONS:
         where = "Compile" if fault in COMPILED else "Expression"
-        scene.put({"steps.txt": f"0 1048576\n0 1048576 {text}\n", "run.txt": f"0 0 0 1048576 2 out.pcap {text}\n"})
+        scene.put({"steps.txt": f"0 1048576\n0 1048576 {text}\n", "run.txt": f"0 0 0 1048576 2 out.pcap {text}\n",
+                   "split.txt": f"0 out.pcap\n0 other.pcap {text}\n"})
         tells(scene, page, ["check", text], fault, 1)
         tells(scene, page, ["explain", "-e", text, "none.pcap"], fault, 1)
         tells(scene, page, ["cut", "-s", "0", "-e", text, "none.pcap", "out.pcap"], fault, 1)
+        tells(scene, page, "split split.txt in.pcap", f"{where} 1 {fault}", 1)
         tells(scene, page, "steps steps.txt arrive.txt in.pcap", f"{where} 1 {fault}", 1)
         tells(scene, page, "run run.txt in.pcap", f"{where} 0 {fault}", 1)
 
@@ -219,6 +233,13 @@ def tell_listings(scene, page):
         tells(scene, page, f"cut -s 0 -f {path} in.pcap out.pcap", fault, status)
         tells(scene, page, f"explain -f {path} in.pcap", fault, status)
         tells(scene, page, f"check -f {path}", fault, status)
+
+
+def tell_splits(scene, page):
+    """What `split` refuses, and an OUT that fails."""
+    for lines, captures, fault, status in SPLITS:
+        scene.put({"split.txt": lines})
+        tells(scene, page, f"split split.txt {captures}", fault, status)
 
 
 def tell_runs(scene, page):
@@ -244,6 +265,7 @@ def the_program_prints_the_lines_of_the_page(scene):
     tell_listings(scene, page)
     tell_captures(scene, page)
     tell_expressions(scene, page)
+    tell_splits(scene, page)
     tell_runs(scene, page)
     scene.check("lines that were not printed, or are said not to be", page.amiss(), [])
 

@@ -2,7 +2,7 @@
 
 ghost use Rattle.std.specs.Prelude.{◌≤◌, IfErr, MatchResult};
 
-use crate::hinting::{NotedInput, hint_expression, hint_input, told_filter};
+use crate::hinting::{NotedInput, hint_expression, hint_input, hint_output, told_filter};
 use cutting::filter::{FilterFault, filter};
 use files::paths::{STANDARD_OUTPUT, all_apart};
 use files::reading::{read_file, tell_io};
@@ -54,10 +54,7 @@ fn listing_filter<R: Files + AllocGlobal, E: TakesHints>(
     let listing = read_file(rt, path, err)?;
     let listing = Some(listing.as_slice());
     let program = told_filter(listing, None, filter(rt.alloc(), listing, None, 0), err)?;
-    match of_program(rt.alloc(), program) {
-        Ok(filter) => Ok(filter),
-        Err(_) => Err(tell_fault(Fault::NoMemory, REFUSED, err)),
-    }
+    Ok(of_program(program))
 }
 
 /// The filter that the words give.
@@ -151,11 +148,14 @@ pub fn explain_files<R: Files + AllocGlobal, O: Write, E: TakesHints>(
         Err(error) => return Err(tell_io(&error, words.input, err)),
     };
     let alloc = rt.alloc();
-    let Ok(mut out) = BufWriter::with_capacity(alloc, OUTPUT_BUFFER, &mut *out) else {
+    let noted = Noted::new(&mut *out);
+    let Ok(mut out) = BufWriter::with_capacity(alloc, OUTPUT_BUFFER, noted) else {
         return Err(tell_fault(Fault::NoMemory, REFUSED, err));
     };
-    Ok(match words.place {
+    let status = match words.place {
         Some(place) => explain_place(alloc, input, &filter, place, words.input, &mut out, err),
         None => explain_all(alloc, input, &filter, words.input, &mut out, err),
-    })
+    };
+    hint_output(out.get_ref(), err);
+    Ok(status)
 }

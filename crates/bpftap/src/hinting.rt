@@ -25,6 +25,7 @@ use running::listeners::read_run_lines;
 use running::plan::PlanFault;
 use savefile::{Counted, Fault};
 use std::alloc::Global;
+use std::io;
 use std::io::{BufWriter, ErrorKind, Write};
 use stepping::steps::Asked;
 use tap::{Filter, Spec};
@@ -97,12 +98,24 @@ pub fn told_print<E: TakesHints>(expr: &str, printed: Result<(), PrintFault>, er
         }
         Err(PrintFault::Output(error)) => {
             let status = tell_print(Err(PrintFault::Output(error)), err);
-            if error.kind() != ErrorKind::BrokenPipe {
-                hint_reason(&error, err);
-            }
+            hint_unprinted(&error, err);
             status
         }
         printed => tell_print(printed, err),
+    }
+}
+
+/// Hints on why standard output failed. Where nobody reads it any more, nothing was told either.
+fn hint_unprinted<E: TakesHints>(error: &io::Error, err: &mut E) {
+    if error.kind() != ErrorKind::BrokenPipe {
+        hint_reason(error, err);
+    }
+}
+
+/// Hints on standard output that failed, if it did.
+pub fn hint_output<T, E: TakesHints>(noted: &Noted<T>, err: &mut E) {
+    if let Some(error) = noted.failure() {
+        hint_unprinted(&error, err);
     }
 }
 
@@ -126,7 +139,8 @@ pub fn hint_input<R, E: TakesHints>(source: &NotedInput<R>, fault: Fault, err: &
     }
 }
 
-fn hint_failure<T, E: TakesHints>(noted: &Noted<T>, err: &mut E) {
+/// Hints on a device that failed.
+pub fn hint_failure<T, E: TakesHints>(noted: &Noted<T>, err: &mut E) {
     if let Some(error) = noted.failure() {
         hint_reason(&error, err);
     }
@@ -159,8 +173,14 @@ fn hint_listener<E: TakesHints>(spec: &Spec, fault: tap::Fault, err: &mut E) {
     }
 }
 
-/// Hints on why `steps` refuses what was asked for, which is found once more.
-pub fn hint_refused_steps<E: TakesHints>(
+/// Hints on a capture of `steps`.
+fn hint_capture<E: TakesHints>(captures: &[&[u8]], capture: u32, fault: Fault, err: &mut E) {
+    let first = captures.get(capture as usize).copied().unwrap_or(&[]);
+    hint_capture_fault(first, fault, err);
+}
+
+/// Hints on why `steps` refuses what was asked for, or on the record that a capture ended at, which is found once more.
+pub fn hint_steps<E: TakesHints>(
     alloc: Global,
     script: &[u8],
     asked: &Asked,
@@ -172,10 +192,8 @@ pub fn hint_refused_steps<E: TakesHints>(
     }
     let (specs, steps) = (asked.specs.as_slice(), asked.steps.as_slice());
     match tap::replay(alloc, captures, specs, steps) {
-        Err(tap::Fault::Capture(capture, fault)) => {
-            let first = captures.get(capture as usize).copied().unwrap_or(&[]);
-            hint_capture_fault(first, fault, err);
-        }
+        Ok((_, Some((capture, fault)))) => hint_capture(captures, capture, fault, err),
+        Err(tap::Fault::Capture(capture, fault)) => hint_capture(captures, capture, fault, err),
         Err(tap::Fault::NoListener(step)) => hint_no_listener(script, step, specs.len(), err),
         Err(
             fault @ (tap::Fault::Expression(listener, _)
@@ -266,6 +284,16 @@ fn hint_sink<W: Write + Drop, E: TakesHints>(
             err,
         );
         hint_reason(&error, err);
+    }
+}
+
+/// Hints on standard output that the lines of `run` could not be printed to, if it failed.
+pub fn hint_printed_run<T, E: TakesHints>(noted: &Noted<T>, err: &mut E) {
+    if let Some(error) = noted.failure() {
+        if error.kind() != ErrorKind::BrokenPipe {
+            give_hint("standard output:", err);
+            hint_reason(&error, err);
+        }
     }
 }
 

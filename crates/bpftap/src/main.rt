@@ -8,6 +8,7 @@ mod laws;
 mod picture_files;
 mod program;
 mod run_files;
+mod split_files;
 mod steps_files;
 #[cfg(test)]
 mod system_tests;

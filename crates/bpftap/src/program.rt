@@ -6,6 +6,7 @@ use crate::check_files::check_files;
 use crate::explain_files::explain_files;
 use crate::hinting::{hint_cut, told_filter};
 use crate::run_files::{NamesFiles, run_files};
+use crate::split_files::split_files;
 use crate::steps_files::steps_files;
 use bpfvm::Program;
 use clap::Error;
@@ -52,6 +53,7 @@ pub fn run<
         Ok(Request::Cut(words)) => cut_files(rt, &words, err),
         Ok(Request::Steps(words)) => steps_files(rt, &words, out, err),
         Ok(Request::Run(words)) => run_files(rt, &words, out, err),
+        Ok(Request::Split(words)) => split_files(rt, &words, out, err),
         Err(error) => Err(tell_clap(rt.alloc(), words, &error, out, err)),
     };
     match ended {
@@ -141,7 +143,7 @@ fn cut_files<R: Files + AllocGlobal, E: TakesHints>(
             let end = flushed(end);
             let status = tell(&end, words.input, words.output, err);
             if words.counted {
-                tell_count(&end, err);
+                let _ = tell_count(&end, err);
             }
             hint_cut(&end, err);
             Ok(status)

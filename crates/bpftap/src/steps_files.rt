@@ -2,12 +2,12 @@
 
 ghost use Rattle.std.specs.Prelude.{◌≤◌, IfErr, MatchResult};
 
-use crate::hinting::{hint_asked, hint_refused_steps};
+use crate::hinting::{hint_asked, hint_output, hint_steps};
 use crate::picture_files::draw;
 use files::paths::{STANDARD_OUTPUT, all_apart};
 use files::piped::Piped;
 use files::reading::read_file;
-use hints::TakesHints;
+use hints::{Noted, TakesHints};
 use lines::telling::{REFUSED, tell_fault};
 use savefile::Fault;
 use std::alloc::{AllocError, Global};
@@ -85,20 +85,21 @@ fn play<O: Write, E: TakesHints>(
 ) -> u8
     ensures { result ≤ 3 }
 {
-    let mut piped = Piped::new(out);
+    let mut noted = Noted::new(Piped::new(out));
     let (Ok(mut told), Ok(mut printed)) = (
         Vec::with_capacity(alloc, TOLD),
-        BufWriter::with_capacity(alloc, OUTPUT_BUFFER, &mut piped),
+        BufWriter::with_capacity(alloc, OUTPUT_BUFFER, &mut noted),
     ) else {
         return tell_fault(Fault::NoMemory, REFUSED, err);
     };
     let ended = play_asked(alloc, asked, captures, explained, &mut printed, &mut told);
     drop(printed);
     let mut told = told.as_slice();
-    if piped.is_unread() && told.starts_with(OUTPUT_FAILED) {
+    if noted.get_ref().is_unread() && told.starts_with(OUTPUT_FAILED) {
         told = &told[OUTPUT_FAILED.len()..];
     }
     let _ = err.write_all(told);
+    hint_output(&noted, err);
     ended.status
 }
 
@@ -135,8 +136,8 @@ pub fn steps_files<R: Files + AllocGlobal, O: Write, E: TakesHints>(
         out,
         err,
     );
-    if status == REFUSED {
-        hint_refused_steps(alloc, script.as_slice(), &asked, captures.as_slice(), err);
+    if status != 0 {
+        hint_steps(alloc, script.as_slice(), &asked, captures.as_slice(), err);
     }
     match words.picture {
         Some(path) if status != REFUSED => {

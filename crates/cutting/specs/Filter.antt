@@ -3,6 +3,7 @@ use Rattle.std.specs.Prelude.{◌≡◌, ℕ, List, [], ◌++◌, Option, Some, 
 use Rattle.std.specs.Io.KnownBytes.{Appends, Keeps}
 use Rattle.bpfvm.specs.declared.insn.Insn.{Insn}
 use Rattle.bpfvm.specs.Listing.{IsListing, IsRefusedListing, listing_of}
+use Rattle.bpfvm.specs.Images.{image_of}
 use Rattle.bpfvm.specs.Validity.{IsValidProgram}
 use Rattle.filterlang.specs.Texts.{ReadsAs, IsRefusalOf}
 use Rattle.filterlang.specs.Trees.{Tree}
@@ -53,12 +54,17 @@ IsUnread old new text (print.Expression (faults.Tree refusal)) = ⊥
 IsUnread old new text print.NoMemory = (tree : Tree) × ReadsAs text tree × Keeps old new
 IsUnread old new text (print.Output error) = (tree : Tree) × ReadsAs text tree × TakesPart old new (canonical tree ++ end_of_line)
 
+-- a program as numbers, or by the names of its instructions
+abbrev pub program_text : Form → List Insn → List ℕ
+program_text forms.Listing program = listing_of program
+program_text forms.Image program = image_of program
+
 -- Why a program is not printed: memory for its text was wanting, and nothing was taken; or the writer failed, which took a
--- beginning of the listing, where that is the form.
+-- beginning of it.
 abbrev pub IsUnshown : Option (List ℕ) → Option (List ℕ) → Form → List Insn → PrintFault → Type 0
 IsUnshown old new form program (print.Expression fault) = ⊥
 IsUnshown old new form program print.NoMemory = Keeps old new
-IsUnshown old new form program (print.Output error) = form ≡ forms.Listing → TakesPart old new (listing_of program)
+IsUnshown old new form program (print.Output error) = TakesPart old new (program_text form program)
 
 -- Why the listing of an expression's program is not printed: the expression has none, and nothing was taken; or it has one, which
 -- is not printed.

@@ -2,12 +2,10 @@
 
 ghost use Rattle.std.specs.Prelude.{◌≡◌, ◌++◌, IfOk, OnOk, IfErr, string_bytes};
 ghost use Rattle.std.specs.Io.KnownBytes.{Appends};
-ghost use Rattle.bpfvm.specs.Listing.{listing_of};
 ghost use Rattle.filterlang.specs.Trees.{tree_of};
 ghost use Rattle.lines.specs.Telling.{end_of_line};
 ghost use Rattle.canonical.specs.Canonical.{canonical};
-ghost use Rattle.cutting.specs.Filter.{Prints, PrintsRead, IsPart, IsUnchecked, IsUnread, IsUnshown};
-ghost use Rattle.cutting.specs.declared.check.Form.TheVariants.{Listing};
+ghost use Rattle.cutting.specs.Filter.{Prints, PrintsRead, IsPart, IsUnchecked, IsUnread, IsUnshown, program_text};
 
 use bpfvm::{NoMemory, Program, write_image, write_listing};
 use canonical::Canonical;
@@ -59,7 +57,7 @@ pub enum Form {
 }
 
 fn text_of(alloc: Global, program: &Program, form: Form) -> Result<Vec<u8>, NoMemory>
-    ensures { form ≡ Listing → IfOk result (λ text. text.items ≡ listing_of program.now) }
+    ensures { IfOk result (λ text. text.items ≡ program_text form program.now) }
 {
     match form {
         Form::Listing => write_listing(alloc, program),
@@ -79,15 +77,14 @@ fn print<O: Write>(text: &[u8], out: &mut O) -> Result<(), PrintFault>
 }
 
 /// Prints a program in one of two forms. The fault is [`PrintFault::NoMemory`], and then nothing was printed, or
-/// [`PrintFault::Output`]: `out` failed, and took a beginning of the text and no more. What the text of an image says is
-/// tested, and no clause speaks of it.
+/// [`PrintFault::Output`]: `out` failed, and took a beginning of the text and no more.
 pub fn show<O: Write>(
     alloc: Global,
     program: &Program,
     form: Form,
     out: &mut O,
 ) -> Result<(), PrintFault>
-    ensures printed { form ≡ Listing → OnOk result (Appends (O.contents out.old) (O.contents out.new) (listing_of program.now)) }
+    ensures printed { OnOk result (Appends (O.contents out.old) (O.contents out.new) (program_text form program.now)) }
     ensures fault { IfErr result (IsUnshown (O.contents out.old) (O.contents out.new) form program.now) }
 {
     match text_of(alloc, program, form) {

@@ -1,15 +1,19 @@
 //! How a cut or a print ended, or why there is no filter, as it is told.
 
 ghost use Rattle.std.specs.Prelude.{◌≡◌, Ok, IfOk, IfErr, IsErr};
+ghost use Rattle.lines.specs.Sending.{Takes};
 ghost use Rattle.lines.specs.Telling.{fault_status};
-ghost use Rattle.cutting.specs.Telling.{print_status, status_of};
+ghost use Rattle.cutting.specs.Telling.{count_told, is_counted, print_status, status_of, tally_line};
 
 use crate::check::PrintFault;
-use crate::cut::{CutEnd, End};
+use crate::cut::{CutEnd, End, Tally};
 use crate::filter::FilterFault;
 use bpfvm::Program;
-use lines::telling::{REFUSED, fault_status, tell_device, tell_fault, tell_written};
+use lines::Line;
+use lines::sending::send;
+use lines::telling::{BAD_RECORD, REFUSED, fault_status, tell_device, tell_fault, tell_written};
 use savefile::Fault;
+use std::io;
 use std::io::Write;
 
 /// A fault of the file or device at a path.
@@ -33,16 +37,45 @@ pub fn tell<R, W, E: Write>(end: &CutEnd<R, W>, from: &str, to: &str, err: &mut 
     }
 }
 
+/// Whether what OUT has is known by packets: the capture was read to its end or to a torn or bad record, and all was written.
+fn is_counted(end: End) -> bool
+    ensures { result ≡ is_counted end }
+{
+    match end {
+        End::Clean => true,
+        End::Input(fault) => fault_status(fault) == BAD_RECORD,
+        End::Output(_) => false,
+    }
+}
+
+/// The line of a tally.
+#[tactic(auto, unfolding(crate::specs::Telling::tally_line))]
+fn tally_line(tally: Tally) -> io::Result<Line>
+    ensures { IfOk result (λ line. line ≡ tally_line tally) }
+{
+    let mut line = Line::new();
+    writeln!(line, "{} of {} packets", tally.written, tally.read)?;
+    Ok(line)
+}
+
+/// Tells a tally.
+fn tell_tally<E: Write>(tally: Tally, err: &mut E) -> io::Result<()>
+    ensures { Takes (E.contents err.old) (E.contents err.new) result (tally_line tally) }
+{
+    let line = tally_line(tally)?;
+    send(line.as_bytes(), err)
+}
+
 /// Tells how many packets were written of how many, where the capture was read to its end or to a torn or bad record, and all
-/// was written: a line `67 of 253 packets`. Where standard error fails there is nobody to tell it to.
-pub fn tell_count<R, W, E: Write>(end: &CutEnd<R, W>, err: &mut E) {
-    let tally = end.tally;
-    match end.end {
-        End::Clean | End::Input(Fault::TornRecord(_) | Fault::BadFraction(_) | Fault::TooLong(_)) =>
-            {
-                let _ = writeln!(err, "{} of {} packets", tally.written, tally.read);
-            }
-        _ => {}
+/// was written: a line `67 of 253 packets`. Else nothing is told. The fault is that of standard error, which took a beginning of
+/// the line.
+pub fn tell_count<R, W, E: Write>(end: &CutEnd<R, W>, err: &mut E) -> io::Result<()>
+    ensures { Takes (E.contents err.old) (E.contents err.new) result (count_told end.now.end end.now.tally) }
+{
+    if is_counted(end.end) {
+        tell_tally(end.tally, err)
+    } else {
+        Ok(())
     }
 }
 

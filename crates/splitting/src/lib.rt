@@ -1,4 +1,4 @@
-//! Captures that are split by several filters in one pass. The program has no command for it yet.
+//! Captures that are split by several filters in one pass: the functions under `bpftap split`.
 #![tactic(auto)]
 
 pub mod outputs;

@@ -1,4 +1,4 @@
-//! The file LINES: the captures that are wanted.
+//! The file LINES of `bpftap split`: the captures that are wanted.
 
 ghost use Rattle.std.specs.Prelude.{ℕ, List, IfOk, IfErr, IfSome, IfNone};
 ghost use Rattle.splitting.specs.Outputs.{AreFields, AreSplitLines, IsRefusedLines, IsSplitLine};

@@ -1,4 +1,4 @@
-//! Captures that are split.
+//! Captures that are split: the function under `bpftap split`.
 
 ghost use Rattle.std.specs.Prelude.{◌≡◌, ◌≢◌, ◌↔◌, ◌≤◌, ◌<◌, ◌+◌, ◌∷◌, ◌++◌, ℕ, List, [], Option, Err, IfOk, OnErr, OnOk, length, true, vec_capacity};
 ghost use Rattle.std.specs.Io.KnownBytes.{Consumes};

@@ -1,4 +1,4 @@
-//! What is printed of each OUT of a split, what is told, and the exit status.
+//! What `bpftap split` prints of each OUT, what it tells, and its exit status.
 
 ghost use Rattle.std.specs.Prelude.{◌≡◌, ◌≤◌, OnOk, slice_get};
 ghost use Rattle.lines.specs.Sending.{Takes};

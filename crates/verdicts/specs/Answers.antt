@@ -40,7 +40,7 @@ pub record Decides (tree : Tree) (a : Answer) : Type 0 where
 abbrev pub ended_as : ℕ → ℕ → Verdict
 ended_as code n = if code == 6 then (if n == 0 then No else Yes) else if code == 22 then (if n == 0 then No else Yes) else Abort
 
--- Of a program: the end of its run; told is the number that it answers, the place of its last instruction, and a name.
+-- Of a program: the end of its run; told is the number that it answers, and its last instruction with its place.
 pub record EndsRun (program : List Insn) (a : Answer) : Type 0 where
   pub before : List Executed
   pub last : Executed
@@ -49,8 +49,7 @@ pub record EndsRun (program : List Insn) (a : Answer) : Type 0 where
   pub insn : Insn
   pub here : slice_get program last.place ≡ Some insn
   pub answers : a.verdict ≡ ended_as insn.code number
-  pub name : List ℕ
-  pub told : a.reason ≡ end_text number last.place ++ name
+  pub told : a.reason ≡ end_text number last.place insn
 
 abbrev pub IsAnswerOf : Option Expr → List Insn → Answer → Type 0
 IsAnswerOf (Some expr) program a = Decides (tree_of expr) a

@@ -2,6 +2,8 @@
 use Rattle.std.specs.Prelude.{ℕ, Bool, true, false, List, [], ◌++◌, length, Option, Some, None, codes}
 use Rattle.std.specs.Fmt.{decimal}
 use Rattle.savefile.specs.declared.packet.Packet.{Packet}
+use Rattle.bpfvm.specs.declared.insn.Insn.{Insn}
+use Rattle.bpfvm.specs.Images.{brief_text}
 use Rattle.filterlang.specs.Trees.{Tree}
 use Rattle.filterlang.specs.Trees as trees
 use Rattle.filtergen.specs.declared.verdict.Verdict.{Verdict}
@@ -47,6 +49,6 @@ cause_text (Some ZeroDivisor) = codes ", the divisor is 0"
 abbrev pub question_text : Question → List ℕ
 question_text q = part_text q.negated q.part ++ cause_text q.cause
 
--- the number that a program answers, and the place of the instruction where its run ended
-unfoldable pub end_text : (number place : ℕ) → List ℕ
-end_text number place = decimal number ++ codes " at " ++ decimal place
+-- the number that a program answers, the place of the instruction where its run ended, and that instruction
+unfoldable pub end_text : (number place : ℕ) → Insn → List ℕ
+end_text number place insn = decimal number ++ codes " at " ++ decimal place ++ codes ": " ++ brief_text insn

@@ -57,7 +57,7 @@ impl From<io::Error> for Unprinted {
 #[derive(Debug, Drop)]
 pub struct Explained<R> {
     pub source: R,
-    /// Of the packets whose lines were printed.
+    /// Of the packets whose lines were printed, where all was printed.
     pub counts: Counts,
     /// The fault that ended the capture, if one did.
     pub read: Result<(), Fault>,
@@ -136,25 +136,17 @@ pub fn explain_each<R: Source, O: Write>(
     }
 }
 
-/// What printing came to.
-#[derive(Drop)]
-struct Ended {
-    counts: Counts,
-    read: Result<(), Fault>,
-    printed: Result<(), Unprinted>,
-}
-
-impl Ended {
-    fn of(counts: Counts, read: Result<(), Fault>, printed: Result<(), Unprinted>) -> Ended
-        ensures counts { result.counts ≡ counts }
-        ensures read { result.read ≡ read }
-        ensures printed { result.printed ≡ printed }
-    {
-        Ended {
-            counts,
-            read,
-            printed,
-        }
+/// What printing came to, of a reader that its caller has.
+fn outcome(counts: Counts, read: Result<(), Fault>, printed: Result<(), Unprinted>) -> Explained<()>
+    ensures counts { result.counts ≡ counts }
+    ensures read { result.read ≡ read }
+    ensures printed { result.printed ≡ printed }
+{
+    Explained {
+        source: (),
+        counts,
+        read,
+        printed,
     }
 }
 
@@ -164,7 +156,7 @@ fn print_all<R: Source, O: Write>(
     reader: &mut Reader<R>,
     filter: &Filter,
     out: &mut O,
-) -> Ended
+) -> Explained<()>
     ensures prints { (from : Option (List ℕ)) (header : Header) → HasGiven R.left from header [] reader.old →
         PrintsAll filter.now from (R.left reader.new.source) header (O.contents out.old) (O.contents out.new) result.counts result.read result.printed }
     ensures taken { (bytes : List ℕ) × Consumes (R.left reader.old.source) (R.left reader.new.source) bytes }
@@ -176,7 +168,8 @@ fn print_all<R: Source, O: Write>(
         return ended;
     }
     let printed = print_counts(ended.counts, &mut line, out);
-    Ended {
+    Explained {
+        source: (),
         counts: ended.counts,
         read: ended.read,
         printed,
@@ -190,7 +183,7 @@ fn print_lines<R: Source, O: Write>(
     filter: &Filter,
     line: &mut String,
     out: &mut O,
-) -> Ended
+) -> Explained<()>
     ensures prints { (from : Option (List ℕ)) (header : Header) → HasGiven R.left from header [] reader.old →
         PrintsLines filter.now from (R.left reader.new.source) header (O.contents out.old) (O.contents out.new) result.counts result.read result.printed }
     ensures taken { (bytes : List ℕ) × Consumes (R.left reader.old.source) (R.left reader.new.source) bytes }
@@ -204,11 +197,11 @@ fn print_lines<R: Source, O: Write>(
                 given_so_far(reader);
                 match print_line(alloc, filter, counts.packets, &reader.packet(), line, out) {
                     Ok(verdict) => counts.count(verdict),
-                    Err(unprinted) => return Ended::of(counts, Ok(()), Err(unprinted)),
+                    Err(unprinted) => return outcome(counts, Ok(()), Err(unprinted)),
                 }
             }
-            Ok(false) => return Ended::of(counts, Ok(()), Ok(())),
-            Err(fault) => return Ended::of(counts, Err(fault), Ok(())),
+            Ok(false) => return outcome(counts, Ok(()), Ok(())),
+            Err(fault) => return outcome(counts, Err(fault), Ok(())),
         }
     }
 }

@@ -4,9 +4,9 @@ ghost use Rattle.std.specs.Prelude.{◌≡◌, None, IfOk, IfErr};
 ghost use Rattle.filtergen.specs.Expressions.{IsUncompiled};
 ghost use Rattle.verdicts.specs.Filter.{IsOfExpression};
 
-use bpfvm::{NoMemory, Program, write_image};
+use bpfvm::Program;
 use filtergen::{ExpressionFault, compile};
-use filterlang::{Expr, Fault, parse};
+use filterlang::{Expr, parse};
 use std::alloc::Global;
 
 /// A filter that packets are asked: an expression with its program, or a program alone.
@@ -15,19 +15,6 @@ pub struct Filter {
     /// The expression, where it is one.
     pub(crate) expr: Option<Expr>,
     pub(crate) program: Program,
-    /// The instructions of the program, as `tcpdump -d` names them.
-    pub(crate) names: Vec<String>,
-}
-
-/// The lines of a program by the names of its instructions.
-fn names_of(alloc: Global, program: &Program) -> Result<Vec<String>, NoMemory> {
-    let image = write_image(alloc, program)?;
-    let image = String::from_utf8_lossy(alloc, image.as_slice())?;
-    let mut names = Vec::new(alloc);
-    for line in image.as_str().lines() {
-        names.push(String::from_str(alloc, line)?)?;
-    }
-    Ok(names)
 }
 
 /// The filter of an expression, whose program answers the snapshot length, 1 to 262,144, where the expression accepts a packet.
@@ -42,29 +29,22 @@ pub fn of_expression(alloc: Global, text: &str, snap: u32) -> Result<Filter, Exp
         Ok(expr) => expr,
         Err(fault) => return Err(ExpressionFault::Text(fault)),
     };
-    let program = match compile(&expr, snap) {
-        Ok(program) => program,
-        Err(refusal) => return Err(ExpressionFault::Tree(refusal)),
-    };
-    match names_of(alloc, &program) {
-        Ok(names) => Ok(Filter {
+    match compile(&expr, snap) {
+        Ok(program) => Ok(Filter {
             expr: Some(expr),
             program,
-            names,
         }),
-        Err(_) => Err(ExpressionFault::Text(Fault::NoMemory)),
+        Err(refusal) => Err(ExpressionFault::Tree(refusal)),
     }
 }
 
 /// The filter that a program is, as that of a listing.
-pub fn of_program(alloc: Global, program: Program) -> Result<Filter, NoMemory>
-    ensures expr { IfOk result (λ filter. filter.expr ≡ None) }
-    ensures program { IfOk result (λ filter. filter.program ≡ program) }
+pub fn of_program(program: Program) -> Filter
+    ensures expr { result.expr ≡ None }
+    ensures program { result.program ≡ program }
 {
-    let names = names_of(alloc, &program)?;
-    Ok(Filter {
+    Filter {
         expr: None,
         program,
-        names,
-    })
+    }
 }

@@ -7,7 +7,7 @@ ghost use Rattle.verdicts.specs.Answers.{answer, answer_line, ended_as, Decides,
 ghost use Rattle.verdicts.specs.Printed.{packet_text, verdict_text, part_text, cause_text, question_text, end_text};
 
 use crate::filter::Filter;
-use bpfvm::{NoMemory, code, trace};
+use bpfvm::{Brief, Insn, NoMemory, Program, code, trace};
 use canonical::Canonical;
 use explaining::{Asked, Cause, decide};
 use filtergen::Verdict;
@@ -109,50 +109,36 @@ fn ended_as(code: u16, answer: u32) -> Verdict
     }
 }
 
-/// Appends the number that a program answers, and the place where its run ended.
+/// Appends the number that a program answers, the place where its run ended, and the instruction there.
 #[tactic(auto, unfolding(crate::specs::Printed::end_text))]
-fn put_number(line: &mut String, number: u32, place: usize) -> Result<(), NoMemory>
-    ensures { OnOk result (string_bytes line.new ≡ string_bytes line.old ++ end_text number place) }
+fn put_number(line: &mut String, number: u32, place: usize, insn: &Insn) -> Result<(), NoMemory>
+    ensures { OnOk result (string_bytes line.new ≡ string_bytes line.old ++ end_text number place insn.now) }
 {
-    write!(line, "{number} at {place}")?;
+    write!(line, "{number} at {place}: {}", Brief(insn))?;
     Ok(())
 }
 
-/// Appends what a program answers to a packet, where its run ended, and the instruction there by its name.
+/// Appends what a program answers to a packet, where its run ended, and the instruction there.
 fn put_end(
     alloc: Global,
     line: &mut String,
-    filter: &Filter,
+    program: &Program,
     packet: &PacketRef<'_>,
 ) -> Result<Verdict, NoMemory>
-    ensures { IfOk result (PutsAnswer (string_bytes line.old) (string_bytes line.new) (EndsRun filter.now.program) packet.now) }
+    ensures { IfOk result (PutsAnswer (string_bytes line.old) (string_bytes line.new) (EndsRun program.now) packet.now) }
 {
-    let run = trace(alloc, &filter.program, packet.bytes, packet.len)?;
+    let run = trace(alloc, program, packet.bytes, packet.len)?;
     // Each run executes an instruction of the program, so there is a last one.
     let Some((last, _)) = run.executed.as_slice().split_last() else {
         return Err(NoMemory);
     };
-    let Some(insn) = filter.program.insns().get(last.place) else {
+    let Some(insn) = program.insns().get(last.place) else {
         return Err(NoMemory);
     };
     let verdict = ended_as(insn.code, run.answer);
     put_verdict(line, verdict)?;
-    put_number(line, run.answer, last.place)?;
-    put_name(line, filter.names.as_slice(), last.place)?;
+    put_number(line, run.answer, last.place, insn)?;
     Ok(verdict)
-}
-
-/// Appends the name of the instruction at a place behind a colon, in single spaces.
-fn put_name(line: &mut String, names: &[String], place: usize) -> Result<(), NoMemory>
-    ensures { OnOk result ((name : List ℕ) × (string_bytes line.new ≡ string_bytes line.old ++ name)) }
-{
-    write!(line, ":")?;
-    if let Some(name) = names.get(place) {
-        for word in name.as_str().split_whitespace().skip(1) {
-            write!(line, " {word}")?;
-        }
-    }
-    Ok(())
 }
 
 /// Puts the line of a packet in place of what the line has: its place and time, what the filter answers, and why.
@@ -169,7 +155,7 @@ pub(crate) fn put_line(
     put_packet(line, place, packet)?;
     let verdict = match &filter.expr {
         Some(expr) => put_decision(line, expr, packet)?,
-        None => put_end(alloc, line, filter, packet)?,
+        None => put_end(alloc, line, &filter.program, packet)?,
     };
     write!(line, "\n")?;
     Ok(verdict)

@@ -3,7 +3,7 @@
 use crate::filter::Filter;
 use crate::line::{put_cause, put_part, verdict_text};
 use crate::looking::{Looked, looked_at};
-use bpfvm::{Executed, NoMemory, trace};
+use bpfvm::{Executed, Insn, NoMemory, Placed, Program, code, trace};
 use canonical::Canonical;
 use explaining::decide;
 use filtergen::Verdict;
@@ -92,23 +92,50 @@ fn put_parts(
     }
 }
 
-/// Appends an instruction by its name, in a column, and what the registers hold behind it.
-fn put_executed(text: &mut String, names: &[String], executed: &Executed) -> Result<(), NoMemory> {
+/// Appends the instruction at a place of a program by its name, in a column.
+fn put_insn(
+    alloc: Global,
+    text: &mut String,
+    program: &Program,
+    place: usize,
+) -> Result<(), NoMemory> {
     let start = text.len();
-    if let Some(name) = names.get(executed.place) {
-        for character in name.as_str().chars() {
+    if let (Some(insn), Ok(place)) = (program.insns().get(place), u32::try_from(place)) {
+        let line = format!(in alloc; "{}", Placed { place, insn })?;
+        for character in line.as_str().chars() {
             text.push(if character == '\t' { ' ' } else { character })?;
         }
     }
     for _ in text.len().saturating_sub(start)..NAME {
         text.push(' ')?;
     }
+    Ok(())
+}
+
+/// Appends what the registers hold behind an instruction, and what it stored.
+fn put_registers(text: &mut String, executed: &Executed) -> Result<(), NoMemory> {
     let (accumulator, index) = (executed.accumulator, executed.index);
     write!(text, " A {accumulator:#x} X {index:#x}")?;
     if let Some(stored) = executed.stored {
         write!(text, " M[{}] {:#x}", stored.cell, stored.value)?;
     }
     write!(text, "\n")?;
+    Ok(())
+}
+
+/// Appends why the run ended at an instruction that is no return: it was not carried out.
+fn put_broken_off(text: &mut String, insn: &Insn) -> Result<(), NoMemory> {
+    match insn.code {
+        code::RET_K | code::RET_A => {}
+        code::DIV_X | code::MOD_X => write!(
+            text,
+            "the last instruction was not carried out: its divisor is 0\n"
+        )?,
+        _ => write!(
+            text,
+            "the last instruction was not carried out: a byte that it loads is not captured\n"
+        )?,
+    }
     Ok(())
 }
 
@@ -125,7 +152,13 @@ fn put_run(
         "\nprogram, with the registers behind each instruction:\n"
     )?;
     for executed in run.executed.iter() {
-        put_executed(text, filter.names.as_slice(), executed)?;
+        put_insn(alloc, text, &filter.program, executed.place)?;
+        put_registers(text, executed)?;
+    }
+    if let Some(last) = run.executed.as_slice().last() {
+        if let Some(insn) = filter.program.insns().get(last.place) {
+            put_broken_off(text, insn)?;
+        }
     }
     write!(text, "answer {}\n", run.answer)?;
     Ok(())

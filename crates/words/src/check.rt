@@ -23,16 +23,16 @@ const CHECK_EXAMPLES: &str = "Examples:
   bpftap check 'tcp dst port 80 or 443'
   bpftap check -d 'tcp dst port 80 or 443'    the same program, for a person to read
   bpftap check -x 'tcp dst port 80 or 443'    what was read: tcp dst port 80 or tcp dst port 443
-  tcpdump -ddd 'udp port 53' | bpftap check -d -f /dev/stdin
+  tcpdump -y EN10MB -ddd 'udp port 53' | bpftap check -d -f /dev/stdin
   bpftap check 'tcp and 80'       prints bpftap: NoQualifier 8
   bpftap check ''                 the empty expression accepts every packet
 
 What is printed is a line with the number of instructions, and a line code jt jf k for each:
 tcpdump -ddd prints the same form, and cut -f reads it. With -d it is a line for each
 instruction by its name, as tcpdump -d prints it. With -x it is the expression as it was read, on
-one line, also where its program is too long. An expression that begins with - is written in
-parentheses. The number behind a fault's name is the byte of the expression that it stands
-at, from 0; docs/LANGUAGE.md has the language.
+one line, also where its program is too long. -s is for an expression alone. An expression that
+begins with - is written in parentheses. The number behind a fault's name is the byte of the
+expression that it stands at, from 0; docs/LANGUAGE.md has the language.
 
 Exit status: 0 the program is printed; 1 the expression or listing is refused or the program is
 too long, wrong words, or want of memory; 3 a file or standard output failed.";
@@ -60,8 +60,11 @@ pub fn check_command<'a>(alloc: Global) -> Result<Command<'a>, AllocError> {
             Arg::new(alloc, "snap")
                 .short('s')
                 .value_name("N")
+                .allow_negative_numbers(true)
                 .default_value("262144")
-                .help("Snapshot length that the program answers, 0 to 262144 (0 means 262144)"),
+                .help(
+                    "Snapshot length that the program of EXPR answers, 0 to 262144 (0 means 262144)",
+                ),
         )?
         .arg(
             Arg::new(alloc, "listing")

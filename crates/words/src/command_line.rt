@@ -2,6 +2,7 @@
 use crate::check::{CheckWords, check_command, check_words};
 use crate::explain::{ExplainWords, bad_explain_words, explain_command, explain_words};
 use crate::run::{RunWords, run_command, run_words};
+use crate::split::{SplitWords, split_command, split_words};
 use crate::steps::{StepsWords, steps_command, steps_words};
 use clap::error::ErrorKind;
 use clap::{Arg, ArgAction, ArgMatches, Command, Error};
@@ -37,6 +38,7 @@ pub enum Request<'a> {
     Cut(CutWords<'a>),
     Steps(StepsWords<'a>),
     Run(RunWords<'a>),
+    Split(SplitWords<'a>),
 }
 
 /// What the program calls itself, and what it was proved with.
@@ -50,6 +52,7 @@ const EXAMPLES: &str = "Examples:
   bpftap explain -e 'tcp dst port 80 or 443' examples/veth.pcap
   bpftap cut -s 0 -e 'udp port 5353' examples/veth.pcap dns.pcap
   bpftap cut -s 0 -f examples/ip.bpf examples/veth.pcap ip.pcap
+  bpftap split examples/split/lines.txt examples/veth.pcap
   bpftap steps -v examples/steps/listeners.txt examples/steps/script.txt examples/veth.pcap
   bpftap run examples/run/listeners.txt examples/veth.pcap
 
@@ -82,6 +85,7 @@ fn snap_arg<'a>(alloc: Global) -> Arg<'a> {
         .short('s')
         .value_name("N")
         .required(true)
+        .allow_negative_numbers(true)
         .help("Snapshot length: keep at most N bytes of a packet, 0 to 262144 (0 means 262144)")
 }
 
@@ -98,7 +102,7 @@ fn expr_arg<'a>(alloc: Global) -> Arg<'a> {
     )
 }
 
-fn order_arg<'a>(alloc: Global) -> Arg<'a> {
+pub(crate) fn order_arg<'a>(alloc: Global) -> Arg<'a> {
     Arg::new(alloc, "order")
         .short('o')
         .value_name("ORDER")
@@ -107,7 +111,7 @@ fn order_arg<'a>(alloc: Global) -> Arg<'a> {
         .help("Byte order of OUT")
 }
 
-fn unit_arg<'a>(alloc: Global) -> Arg<'a> {
+pub(crate) fn unit_arg<'a>(alloc: Global) -> Arg<'a> {
     Arg::new(alloc, "unit")
         .short('u')
         .value_name("UNIT")
@@ -165,18 +169,19 @@ fn program<'a>(alloc: Global) -> Result<Command<'a>, AllocError> {
         .subcommand(check_command(alloc)?)?
         .subcommand(explain_command(alloc)?)?
         .subcommand(cut_command(alloc)?)?
+        .subcommand(split_command(alloc)?)?
         .subcommand(steps_command(alloc)?)?
         .subcommand(run_command(alloc)?)
 }
 
-fn order_of(matches: &ArgMatches<'_>) -> Order {
+pub(crate) fn order_of(matches: &ArgMatches<'_>) -> Order {
     match matches.get_str("order") {
         Some("big") => Order::Big,
         _ => Order::Little,
     }
 }
 
-fn unit_of(matches: &ArgMatches<'_>) -> Unit {
+pub(crate) fn unit_of(matches: &ArgMatches<'_>) -> Unit {
     match matches.get_str("unit") {
         Some("nano") => Unit::Nano,
         _ => Unit::Micro,
@@ -195,16 +200,22 @@ fn request_of<'a>(
         "cut" => Ok(cut_words(words).map(|words| Request::Cut(words))),
         "steps" => Ok(steps_words(alloc, words)?.map(|words| Request::Steps(words))),
         "run" => Ok(run_words(alloc, words)?.map(|words| Request::Run(words))),
+        "split" => Ok(split_words(alloc, words)?.map(|words| Request::Split(words))),
         _ => Ok(None),
     }
 }
 
 /// What is wrong with words of a subcommand that `clap` took: of `cut` and `check` the snapshot length, of `explain` that or the
 /// place; of the others a word is missing, which `clap` has told.
-fn bad_words(alloc: Global, name: &str, program: &mut Command<'_>) -> Result<Error, AllocError> {
+fn bad_words(
+    alloc: Global,
+    name: &str,
+    words: &ArgMatches<'_>,
+    program: &mut Command<'_>,
+) -> Result<Error, AllocError> {
     match name {
         "check" | "cut" => bad_snap(alloc, name),
-        "explain" => bad_explain_words(alloc),
+        "explain" => bad_explain_words(alloc, words),
         _ => program.error(ErrorKind::MissingRequiredArgument, "a word is wanted"),
     }
 }
@@ -218,7 +229,7 @@ pub fn read_words<'a, S: AsStr>(alloc: Global, words: &'a [S]) -> Result<Request
     };
     match request_of(alloc, name, given)? {
         Some(request) => Ok(request),
-        None => Err(bad_words(alloc, name, &mut program)?),
+        None => Err(bad_words(alloc, name, given, &mut program)?),
     }
 }
 

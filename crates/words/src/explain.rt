@@ -1,7 +1,7 @@
 //! The words of `bpftap explain`, by `clap`.
 
 use clap::error::ErrorKind;
-use clap::{Arg, ArgMatches, Command, Error};
+use clap::{Arg, ArgGroup, ArgMatches, Command, Error};
 use lines::fields::{number, snapshot_length};
 use std::alloc::{AllocError, Global};
 
@@ -23,15 +23,15 @@ pub struct ExplainWords<'a> {
 const EXPLAIN_EXAMPLES: &str = "Examples:
   bpftap explain -e 'tcp dst port 80 or 443' examples/veth.pcap
   bpftap explain -p 2 -e 'tcp dst port 80 or 443' examples/veth.pcap
-  tcpdump -ddd 'udp port 53' | bpftap explain -f /dev/stdin examples/veth.pcap
+  tcpdump -y EN10MB -ddd 'udp port 53' | bpftap explain -f /dev/stdin examples/veth.pcap
 
 For each packet a line is printed with its place, time and lengths; Yes, No or Abort; and the
 primitive or relation that decided, behind not where it stands under one. Abort: a byte past the
 captured ones was wanted, or a divisor was 0, and no not turns that. For a listing it is the number
-that the program returned, and the place and name of the instruction where its run ended. At the
-end stand the counts. With -p that packet is told in full: how the expression was read, what each
-primitive looked at, and the program's run. Places count from 0 here; tcpdump and Wireshark count
-packets from 1.
+that the program returned, and the place and name of the instruction where its run ended; -s is for
+an expression alone. At the end stand the counts. With -p that packet is told in full: how the
+expression was read, what each primitive looked at, and the program's run. Places count from 0
+here; tcpdump and Wireshark count packets from 1.
 
 Exit status: 0 clean; 1 wrong words, a refused expression, file or listing, no packet at PLACE, or
 want of memory; 2 a torn or bad record, after the packets before it; 3 a file or device failed.";
@@ -45,15 +45,16 @@ pub fn explain_command<'a>(alloc: Global) -> Result<Command<'a>, AllocError> {
             Arg::new(alloc, "snap")
                 .short('s')
                 .value_name("N")
+                .allow_negative_numbers(true)
                 .default_value("262144")
-                .help("Snapshot length that the program answers, 0 to 262144 (0 means 262144)"),
+                .help(
+                    "Snapshot length that the program of EXPR answers, 0 to 262144 (0 means 262144)",
+                ),
         )?
         .arg(
-            Arg::new(alloc, "expr")
-                .short('e')
-                .value_name("EXPR")
-                .required_unless_present("listing")?
-                .help("Filter expression of pcap-filter(7), as one word; it may be empty"),
+            Arg::new(alloc, "expr").short('e').value_name("EXPR").help(
+                "Filter expression of pcap-filter(7), as one word; it may be empty",
+            ),
         )?
         .arg(
             Arg::new(alloc, "listing")
@@ -65,12 +66,20 @@ pub fn explain_command<'a>(alloc: Global) -> Result<Command<'a>, AllocError> {
             Arg::new(alloc, "place")
                 .short('p')
                 .value_name("PLACE")
+                .allow_negative_numbers(true)
                 .help("Tell this packet alone, counted from 0, in full"),
         )?
         .arg(
             Arg::new(alloc, "IN")
                 .required(true)
                 .help("Capture to read: a classic savefile of Ethernet frames"),
+        )?
+        .group(
+            ArgGroup::new(alloc, "filter")
+                .arg("expr")?
+                .arg("listing")?
+                .required(true)
+                .multiple(true),
         )
 }
 
@@ -93,11 +102,16 @@ pub fn explain_words<'a>(matches: &ArgMatches<'a>) -> Option<ExplainWords<'a>> {
     })
 }
 
+/// What a snapshot length or a place has to be that was found to be none.
+fn wanted(matches: &ArgMatches<'_>) -> &'static str {
+    match place_of(matches) {
+        Some(_) => "-s takes a number from 0 to 262144",
+        None => "-p takes a number from 0 to 18446744073709551615",
+    }
+}
+
 /// The error of a snapshot length or a place that is not digits alone.
-pub fn bad_explain_words(alloc: Global) -> Result<Error, AllocError> {
+pub fn bad_explain_words(alloc: Global, matches: &ArgMatches<'_>) -> Result<Error, AllocError> {
     let mut command = explain_command(alloc)?.bin_name("bpftap explain")?;
-    command.error(
-        ErrorKind::ValueValidation,
-        "-s takes a number from 0 to 262144, and -p one from 0 to 18446744073709551615",
-    )
+    command.error(ErrorKind::ValueValidation, wanted(matches))
 }

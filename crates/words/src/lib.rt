@@ -5,4 +5,5 @@ pub mod check;
 pub mod command_line;
 pub mod explain;
 pub mod run;
+pub mod split;
 pub mod steps;

@@ -70,7 +70,7 @@ returns-in-Err-print_line-clause-prints g c = λ from header given.
     let begun = c.in-Ok-true.ensures.so_far from header (packets_of answers) gives in
     let further = c.given_so_far.ensures from header (packets_of answers ++ p ∷ []) (c.in-Ok-true.ensures.packet from header (packets_of answers) gives (cc)) in
     let (told, every, which, part) = breaks-off f _ _ _ answers c.loop-reader.counts c.packet.result c.in-Err-print_line.unprinted all lines are c.in-Err-print_line.ensures.fault in
-    broken-off f from _ header _ _ _ _ _ _ _ told c.of.ensures.read c.of.ensures.printed every
+    broken-off f from _ header _ _ _ _ _ _ _ told c.outcome.ensures.read c.outcome.ensures.printed every
     (elim which [
       | inl same ↦ subst (WasBegun from header) (sym same) begun
       | inr more ↦ subst (WasBegun from header) (sym (more ∙ ap (λ (q : Packet). packets_of answers ++ q ∷ []) c.packet.ensures)) further
@@ -80,7 +80,7 @@ returns-in-Err-print_line-clause-prints g c = λ from header given.
 pub returns-in-Ok-false-clause-prints : goal.returns-in-Ok-false-clause-prints
 returns-in-Ok-false-clause-prints g c = λ from header given.
     let (answers, gives, all, lines, are) = c.loop-reader.invariant.prints from header given in
-    let told = c.of-in-Ok-false.ensures in
+    let told = c.outcome-in-Ok-false.ensures in
     read-whole c.args.filter.now from _ header _ _ _ _ _ _ _ answers told.read told.printed all
     (c.in-Ok-false.ensures.end from header (packets_of answers) gives (cc)) lines
     (subst (λ (k : Counts). AreCounts k answers) (sym told.counts) are)
@@ -88,7 +88,7 @@ returns-in-Ok-false-clause-prints g c = λ from header given.
 pub returns-in-Err-clause-prints : goal.returns-in-Err-clause-prints
 returns-in-Err-clause-prints g c = λ from header given.
     let (answers, gives, all, lines, are) = c.loop-reader.invariant.prints from header given in
-    let told = c.of-in-Err.ensures in
+    let told = c.outcome-in-Err.ensures in
     read-part c.args.filter.now from _ header _ _ _ _ _ _ _ answers told.read told.printed all lines
     (subst (λ (k : Counts). AreCounts k answers) (sym told.counts) are)
     (c.in-Err.ensures.so_far from header (packets_of answers) gives) (c.in-Err.ensures.cause from header (packets_of answers) gives)

@@ -1,4 +1,4 @@
-use Rattle.std.proofs.Common.{refl, ◌≡◌, ◌++◌, ℕ, List, Some, ap, sym, subst, ◌∙◌, append_assoc}
+use Rattle.std.proofs.Common.{refl, ◌≡◌, ◌++◌, ℕ, List, Some, ap, sym, subst, ◌∙◌}
 use Rattle.std.specs.Prelude.{slice_get}
 use Rattle.std.proofs.lemmas.Option.{slice_get_read}
 use Rattle.bpfvm.specs.declared.insn.Insn.{Insn}
@@ -10,16 +10,15 @@ use Rattle.verdicts.proofs.line.put_end.Goals as goal
 
 pub returns : goal.returns
 returns c =
-    let program = c.args.filter.now.program in
+    let program = c.args.program.now in
     let r = c.packet.inside in
     let run = c.in_ok-run.run' in
     let last = c.in-Some.last.now in
     let insn = c.in-Some-get.insn.now in
     let (_, reads, _, (inside, _), _) = c.in-Some-get.ensures.lookup in
-    let (name, named) = c.in_ok-put_name.ensures in
-    let text = end_text run.answer last.place in
+    let text = end_text run.answer last.place insn in
     rw (sym c.packet.view_is) (
-      text ++ name,
+      text,
       record {
         before = c.in-Some.field-0-1.now;
         last = last;
@@ -28,9 +27,7 @@ returns c =
         insn = insn;
         here = subst (λ (l : List Insn). slice_get l last.place ≡ Some insn) c.insns.ensures.value (slice_get_read c.insns.result.now _ last.place insn refl inside reads);
         answers = c.ended_as-verdict.ensures;
-        name = name;
         told = refl;
       },
-      named ∙ ap (λ (t : List ℕ). t ++ name) (c.in_ok-put_number.ensures ∙ ap (λ (t : List ℕ). t ++ text) c.in_ok-put_verdict.ensures)
-          ∙ append_assoc _ text name,
+      c.in_ok-put_number.ensures ∙ ap (λ (t : List ℕ). t ++ text) c.in_ok-put_verdict.ensures,
     )

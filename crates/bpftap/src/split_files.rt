@@ -1,0 +1,207 @@
+//! `bpftap split`, over files.
+
+ghost use Rattle.std.specs.Prelude.{◌≤◌, IfErr, MatchResult};
+
+use crate::hinting::{NotedInput, NotedOutput, hint_expression, hint_failure, hint_input};
+use bpfvm::Program;
+use files::late::{LateFile, LateInput};
+use files::paths::{STANDARD_OUTPUT, all_apart};
+use files::reading::read_file;
+use hints::files::hint_bad_line;
+use hints::stream::give_hint;
+use hints::{Noted, TakesHints};
+use lines::telling::{Path, REFUSED, tell_fault};
+use savefile::{Counted, Fault};
+use splitting::outputs::{SplitLine, read_split_lines};
+use splitting::part::{Part, PartEnd};
+use splitting::plan::{Plan, PlanFault, read_plan};
+use splitting::split::{SplitEnd, Stop, split};
+use splitting::tell::tell_split;
+use std::alloc::{AllocError, Global};
+use std::fs::Files;
+use std::io;
+use std::io::{BufWriter, Write};
+use words::split::SplitWords;
+
+/// How many bytes of a capture are gathered before they are written.
+const OUTPUT_BUFFER: usize = 1 << 16;
+
+/// The form of a line of LINES.
+const LINES_OF_SPLIT: &str = "SNAP OUT EXPRESSION";
+
+/// A capture that is read.
+type Input<'r, 'p, R> = NotedInput<LateInput<'r, 'p, R>>;
+
+/// A capture that is written.
+type LateOutput<'r, 'p, R> = NotedOutput<LateFile<'r, 'p, R>>;
+
+/// The captures that are read, none of them opened.
+fn sources<'r, 'p, R: Files>(
+    rt: &'r R,
+    alloc: Global,
+    paths: &[&'p str],
+) -> Result<Vec<Input<'r, 'p, R>>, AllocError> {
+    let mut sources = Vec::with_capacity(alloc, paths.len())?;
+    for path in paths {
+        sources.push(Counted::new(Noted::new(LateInput::new(rt, *path))))?;
+    }
+    Ok(sources)
+}
+
+/// The captures that are written, none of them made: what each line asks for, with its program.
+fn parts<'r, 'p, R: Files>(
+    rt: &'r R,
+    alloc: Global,
+    lines: &[SplitLine<'p>],
+    programs: Vec<Program>,
+) -> io::Result<Vec<Part<LateOutput<'r, 'p, R>>>> {
+    let mut parts = Vec::with_capacity(alloc, lines.len())?;
+    for (line, program) in lines.iter().zip(programs) {
+        let late = Noted::new(LateFile::new(rt, line.output));
+        parts.push(Part {
+            program,
+            snap: line.snap,
+            sink: Counted::new(BufWriter::with_capacity(alloc, OUTPUT_BUFFER, late)?),
+        })?;
+    }
+    Ok(parts)
+}
+
+/// Nothing may be lost: no OUT is a file that is read, the file of another OUT, or the one that the lines are printed to.
+fn looked_at<R: Files + AllocGlobal, E: TakesHints>(
+    rt: &R,
+    words: &SplitWords<'_>,
+    lines: &[SplitLine<'_>],
+    err: &mut E,
+) -> Result<(), u8>
+    ensures { IfErr result (λ status. status ≤ 3) }
+{
+    let Ok((read, written)) = all_paths(rt.alloc(), words, lines) else {
+        return Err(tell_fault(Fault::NoMemory, REFUSED, err));
+    };
+    all_apart(
+        rt,
+        Some(STANDARD_OUTPUT),
+        read.as_slice(),
+        written.as_slice(),
+        err,
+    )
+}
+
+/// All paths that are read, and all that are written.
+fn all_paths<'a, 'b>(
+    alloc: Global,
+    words: &SplitWords<'a>,
+    lines: &[SplitLine<'b>],
+) -> Result<(Vec<&'a str>, Vec<&'b str>), AllocError> {
+    let mut read = Vec::new(alloc);
+    read.push(words.lines)?;
+    read.extend_from_slice(words.inputs.as_slice())?;
+    let written = lines.iter().map(|line| line.output).collect(alloc)?;
+    Ok((read, written))
+}
+
+/// Looks at the lines of LINES, and compiles the expressions.
+fn accepted<'p, E: TakesHints>(alloc: Global, lines: &'p [u8], err: &mut E) -> Result<Plan<'p>, u8>
+    ensures { IfErr result (λ status. status ≤ 3) }
+{
+    match read_plan(alloc, lines) {
+        Ok(plan) => Ok(plan),
+        Err(fault) => {
+            let status = tell_fault(fault, REFUSED, err);
+            hint_lines(alloc, lines, fault, err);
+            Err(status)
+        }
+    }
+}
+
+/// Hints on LINES that is refused.
+fn hint_lines<E: TakesHints>(alloc: Global, lines: &[u8], fault: PlanFault, err: &mut E) {
+    match fault {
+        PlanFault::Line(line) => hint_bad_line(lines, line, LINES_OF_SPLIT, err),
+        PlanFault::Expression(n, fault) => {
+            if let Ok(lines) = read_split_lines(alloc, lines) {
+                if let Some(line) = lines.get(n) {
+                    hint_expression(line.expression, fault, err);
+                }
+            }
+        }
+        PlanFault::NoMemory => {}
+    }
+}
+
+/// Hints on the captures that were not written, and on the one that ended the reading.
+fn hint_split<R, W: Write + Drop, E: TakesHints>(
+    inputs: &[&str],
+    lines: &[SplitLine<'_>],
+    end: &SplitEnd<NotedInput<R>, NotedOutput<W>>,
+    err: &mut E,
+) {
+    for (line, part) in lines.iter().zip(end.parts.iter()) {
+        if part.written.is_err() {
+            give_hint(format_args!("{}:", Path(line.output)), err);
+            hint_failure(part.sink.inner.get_ref(), err);
+        }
+    }
+    if let Err(Stop::AtHeader(n, fault) | Stop::AtRecord(n, fault)) = end.end {
+        if let (Some(path), Some(source)) = (inputs.get(n), end.sources.get(n)) {
+            give_hint(format_args!("{}:", Path(*path)), err);
+            hint_input(source, fault, err);
+        }
+    }
+}
+
+/// Empties the buffers before all OUT. What fails only now is a fault of its OUT too.
+fn flush_all<W: Write>(parts: &mut [PartEnd<Counted<W>>]) {
+    for part in parts {
+        if part.sink.inner.flush().is_err() {
+            part.written = Err(Fault::Device);
+        }
+    }
+}
+
+/// Splits the captures as the lines ask.
+fn split_captures<R: Files + AllocGlobal, O: Write, E: TakesHints>(
+    rt: &R,
+    words: &SplitWords<'_>,
+    plan: Plan<'_>,
+    out: &mut O,
+    err: &mut E,
+) -> Result<u8, u8>
+    ensures { MatchResult result (λ status. status ≤ 3) (λ status. status ≤ 3) }
+{
+    let alloc = rt.alloc();
+    let Plan { lines, programs } = plan;
+    let (Ok(captures), Ok(parts)) = (
+        sources(rt, alloc, words.inputs.as_slice()),
+        parts(rt, alloc, lines.as_slice(), programs),
+    ) else {
+        return Err(tell_fault(Fault::NoMemory, REFUSED, err));
+    };
+    let Ok(mut end) = split(alloc, captures, parts, words.order, words.unit) else {
+        return Err(tell_fault(Fault::NoMemory, REFUSED, err));
+    };
+    flush_all(end.parts.as_mut_slice());
+    let status = tell_split(lines.as_slice(), &end, out, err);
+    hint_split(words.inputs.as_slice(), lines.as_slice(), &end, err);
+    Ok(status)
+}
+
+/// `bpftap split`: LINES is accepted, and the paths are compared, before a capture is opened. An OUT is made at its first write.
+pub fn split_files<R: Files + AllocGlobal, O: Write, E: TakesHints>(
+    rt: &R,
+    words: &SplitWords<'_>,
+    out: &mut O,
+    err: &mut E,
+) -> Result<u8, u8>
+    ensures { MatchResult result (λ status. status ≤ 3) (λ status. status ≤ 3) }
+{
+    let alloc = rt.alloc();
+    let text = read_file(rt, words.lines, err)?;
+    let plan = accepted(alloc, text.as_slice(), err)?;
+    looked_at(rt, words, plan.lines.as_slice(), err)?;
+    let Ok(mut out) = BufWriter::with_capacity(alloc, OUTPUT_BUFFER, &mut *out) else {
+        return Err(tell_fault(Fault::NoMemory, REFUSED, err));
+    };
+    split_captures(rt, words, plan, &mut out, err)
+}

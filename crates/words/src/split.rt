@@ -1,0 +1,71 @@
+//! The words of `bpftap split`, by `clap`.
+
+use crate::command_line::{order_arg, order_of, unit_arg, unit_of};
+use clap::{Arg, ArgMatches, Command};
+use savefile::{Order, Unit};
+use std::alloc::{AllocError, Global};
+
+/// What one call of `bpftap split` asks for.
+#[derive(Drop)]
+pub struct SplitWords<'a> {
+    /// The path of LINES.
+    pub lines: &'a str,
+    /// The byte order of each OUT.
+    pub order: Order,
+    /// The unit of time of each OUT.
+    pub unit: Unit,
+    /// The paths of the captures, in order.
+    pub inputs: Vec<&'a str>,
+}
+
+const SPLIT_EXAMPLES: &str =
+    "LINES has a line SNAP OUT EXPRESSION for each capture that is written: the most bytes that are kept of
+a packet (0 means 262144), the path, and the filter, which may be empty. Each OUT is what cut would
+write of all IN, one behind the other, up to the first fault; each IN is read once. A packet that
+several lines accept goes into each of their OUTs, and one that none accepts into none.
+
+Printed is a line OUT 67 of 253 for each: how many of how many packets were written.
+
+Examples:
+  bpftap split examples/split/lines.txt examples/veth.pcap
+  bpftap split examples/split/lines.txt examples/veth.pcap examples/veth-big-nano.pcap
+
+Exit status: 0 clean; 1 wrong words, a refused line, expression or file, or want of memory;
+2 a torn or bad record, after the packets before it; 3 a file or device failed.";
+
+/// The subcommand.
+pub fn split_command<'a>(alloc: Global) -> Result<Command<'a>, AllocError> {
+    Command::new(alloc, "split")
+        .about(
+            "Write the packets of captures to several OUT, each by a filter of its own, in one pass",
+        )
+        .after_help(SPLIT_EXAMPLES)
+        .arg(order_arg(alloc))?
+        .arg(unit_arg(alloc))?
+        .arg(
+            Arg::new(alloc, "LINES").required(true).help(
+                "File with a line SNAP OUT EXPRESSION for each capture that is written",
+            ),
+        )?
+        .arg(
+            Arg::new(alloc, "IN").required(true).num_args(1..).help(
+                "Captures to read, in order: classic savefiles of Ethernet frames",
+            ),
+        )
+}
+
+/// The words that were found, nothing where one is missing.
+pub fn split_words<'a>(
+    alloc: Global,
+    matches: &ArgMatches<'a>,
+) -> Result<Option<SplitWords<'a>>, AllocError> {
+    let (Some(lines), Some(inputs)) = (matches.get_str("LINES"), matches.get_strs("IN")) else {
+        return Ok(None);
+    };
+    Ok(Some(SplitWords {
+        lines,
+        order: order_of(matches),
+        unit: unit_of(matches),
+        inputs: Vec::from_slice(alloc, inputs)?,
+    }))
+}

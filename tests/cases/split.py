@@ -1,0 +1,138 @@
+"""`bpftap split`: what is refused before a file is opened, what each OUT has, and what is printed and told."""
+from .common import ARP_RECORD, HEADER, IP_RECORD, ROOT, TCP_RECORD, TORN, UDP_RECORD, VETH, case, header, records, told
+
+T, U = TCP_RECORD, UDP_RECORD
+CAPTURES = {
+    "t.pcap": HEADER + T, "tu.pcap": HEADER + T + U, "torn.pcap": TORN, "empty.pcap": "", "bad.pcap": "0123456789abcdef01234567",
+    "kept.pcap": "kept"}
+
+# The lines of LINES, the captures, and the fault.
+REFUSED = [
+    ("0", "t.pcap", "Lines 1"),
+    ("0  tcp", "t.pcap", "Lines 1"),
+    ("262145 kept.pcap", "t.pcap", "Lines 1"),
+    ("0 kept.pcap\n\n", "t.pcap", "Lines 2"),
+    # Two lines with one OUT.
+    ("0 kept.pcap\n64 kept.pcap tcp\n", "none.pcap", "Lines 2"),
+    # A bad line goes before an expression, and that before a path.
+    ("0 kept.pcap tcp and 80\nx", "none.pcap", "Lines 2"),
+    ("0 new.pcap\n0 t.pcap tcp and 80", "t.pcap", "Expression 1 NoQualifier 8"),
+    # An OUT that is a file that is read, or the OUT of another line.
+    ("0 t.pcap\n", "t.pcap", "SameFile t.pcap"),
+    ("0 new.pcap\n0 ./kept.pcap\n", "t.pcap tu.pcap kept.pcap", "SameFile ./kept.pcap"),
+    ("0 kept.pcap\n0 ./kept.pcap\n", "t.pcap", "SameFile ./kept.pcap"),
+    ("0 lines.txt\n", "t.pcap", "SameFile lines.txt"),
+    ("0 ./none.pcap\n", "t.pcap none.pcap", "SameFile ./none.pcap"),
+    # The header of the first capture.
+    ("0 kept.pcap\n0 new.pcap\n", "empty.pcap t.pcap", "Capture 0 ShortHeader"),
+    ("0 kept.pcap\n0 new.pcap\n", "bad.pcap", "Capture 0 NotSavefile"),
+]
+
+
+@case
+def no_file_is_touched_where_a_split_is_refused(scene):
+    """Nothing is made or changed before the header of the first capture was read."""
+    scene.put(CAPTURES)
+    for lines, captures, fault in REFUSED:
+        scene.put({"lines.txt": lines})
+        scene.refuse(f"split lines.txt {captures}", 1, fault)
+    scene.refuse("split none.txt none.pcap", 3, "Device none.txt")
+    scene.put({"lines.txt": "0 kept.pcap"})
+    scene.refuse("split lines.txt none.pcap", 3, "Capture 0 Device")
+
+
+# Filters, and how many packets of the real capture each keeps.
+FILTERS = [("udp port 5353", 67), ("tcp port 8080", 120), ("icmp", 49), ("arp", 7), ("not ip", 0), ("", 253)]
+
+
+@case
+def each_out_is_what_cut_writes(scene):
+    """Of one capture and of three, in two forms, each OUT has the bytes of `cut` of all of them."""
+    lines = "".join(f"{64 * n} {n}.pcap {expr}\n" for n, (expr, _) in enumerate(FILTERS))
+    scene.put({"lines.txt": lines})
+    big = ROOT / "examples" / "veth-big-nano.pcap"
+    for options, order, unit in [("", "little", "micro"), ("-o big -u nano", "big", "nano")]:
+        for captures in ([VETH], [VETH, big, VETH]):
+            seen = scene.run(["split", *options.split(), "lines.txt", *captures])
+            scene.check("told, and the status", (seen.err, seen.status), (b"", 0))
+            counts = [line.split() for line in seen.out.decode().splitlines()]
+            scene.check("names and all", [(name, of) for name, _, _, of in counts],
+                        [(f"{n}.pcap", str(253 * len(captures))) for n in range(len(FILTERS))])
+            for n, (expr, _) in enumerate(FILTERS):
+                whole = b""
+                for capture in captures:
+                    words = ["cut", "-s", str(64 * n), "-e", expr, "-o", order, "-u", unit, capture, "cut.pcap"]
+                    scene.check(f"cut of {expr}", scene.run(words).status, 0)
+                    text = scene.read("cut.pcap")
+                    whole += text if not whole else text[24:]
+                scene.check(f"{expr} of {len(captures)}", scene.read(f"{n}.pcap"), whole)
+    # What tcpdump keeps of one capture (tests/vectors), by its counts.
+    kept = [(expr, count) for expr, count in FILTERS if expr != "not ip"]
+    scene.put({"lines.txt": "".join(f"0 {n}.pcap {expr}\n" for n, (expr, _) in enumerate(kept))})
+    printed = "".join(f"{n}.pcap {count} of 253\n" for n, (_, count) in enumerate(kept))
+    scene.expect(["split", "lines.txt", VETH], out=printed)
+
+
+@case
+def captured_bytes_are_cut_by_their_own_line(scene):
+    """A packet of which less was captured than it had on the wire keeps that length, and each line cuts for itself."""
+    short = bytes.fromhex("03000000 00000000 0e000000 ea050000") + IP_RECORD[16:]
+    scene.put({"in.pcap": HEADER + short + T, "lines.txt": "10 ten.pcap\n0 all.pcap\n20 tcp.pcap tcp\n"})
+    scene.expect("split lines.txt in.pcap", out="ten.pcap 2 of 2\nall.pcap 2 of 2\ntcp.pcap 1 of 2\n")
+    scene.check("all", scene.read("all.pcap"), HEADER + short + T)
+    ten = bytes.fromhex("03000000 00000000 0a000000 ea050000") + short[16:26]
+    ten_of_tcp = bytes.fromhex("01000000 00000000 0a000000 26000000") + T[16:26]
+    scene.check("ten", scene.read("ten.pcap"), header(10) + ten + ten_of_tcp)
+    scene.check("tcp", [len(record) for record in records(scene.read("tcp.pcap"))], [36])
+
+
+@case
+def a_fault_of_a_capture_ends_the_reading(scene):
+    """What was read before it is written, and no capture behind it is read."""
+    scene.put({**CAPTURES, "lines.txt": "0 all.pcap\n0 udp.pcap udp\n"})
+    for captures, fault, status, packets in [
+            ("tu.pcap torn.pcap t.pcap", "Capture 1 TornRecord 1", 2, [T, U, IP_RECORD]),
+            ("t.pcap empty.pcap tu.pcap", "Capture 1 ShortHeader", 1, [T]),
+            ("t.pcap bad.pcap tu.pcap", "Capture 1 NotSavefile", 1, [T]),
+            ("t.pcap none.pcap tu.pcap", "Capture 1 Device", 3, [T]),
+            ("t.pcap . tu.pcap", "Capture 1 Device", 3, [T])]:
+        udp = [packet for packet in packets if packet == U]
+        out = f"all.pcap {len(packets)} of {len(packets)}\nudp.pcap {len(udp)} of {len(packets)}\n"
+        scene.expect(f"split lines.txt {captures}", status, told(fault), out)
+        scene.check(f"all of {captures}", scene.read("all.pcap"), HEADER + b"".join(packets))
+        scene.check(f"udp of {captures}", scene.read("udp.pcap"), HEADER + b"".join(udp))
+
+
+@case
+def a_failed_out_ends_alone(scene):
+    """An OUT that cannot be made, or takes no more, is told; the others have all their packets, and the greatest status stands."""
+    scene.put({**CAPTURES, "lines.txt": "0 none/out.pcap\n0 all.pcap\n0 /dev/full udp\n"})
+    failed = told("Device none/out.pcap", "Device /dev/full")
+    scene.expect("split lines.txt tu.pcap", 3, failed, "all.pcap 2 of 2\n")
+    scene.check("all", scene.read("all.pcap"), HEADER + T + U)
+    scene.expect("split lines.txt torn.pcap", 3, failed + told("Capture 0 TornRecord 1"), "all.pcap 1 of 1\n")
+    # Where standard output fails, all OUT are written all the same.
+    scene.put({"lines.txt": "0 all.pcap\n"})
+    scene.expect("split lines.txt tu.pcap t.pcap", 3, told("Device standard output"), streams="> /dev/full")
+    scene.check("all behind a failed output", scene.read("all.pcap"), HEADER + T + U + T)
+
+
+@case
+def streams_are_captures_too(scene):
+    """LINES and a capture may be pipes, and an OUT a pipe that another program reads."""
+    scene.put(CAPTURES)
+    scene.put({"lines.txt": "0 out.pcap"})
+    scene.expect("split lines.txt /dev/stdin t.pcap", out="out.pcap 3 of 3\n", streams="< tu.pcap")
+    scene.check("of standard input", scene.read("out.pcap"), HEADER + T + U + T)
+    scene.expect("split /dev/stdin tu.pcap", out="a.pcap 1 of 2\n", streams="<<< '0 a.pcap tcp'")
+    # An empty LINES reads the captures, whose faults are told.
+    scene.put({"lines.txt": ""})
+    scene.expect("split lines.txt tu.pcap torn.pcap", 2, told("Capture 1 TornRecord 1"))
+
+
+@case
+def a_header_alone_is_written_where_no_packet_matches(scene):
+    """An OUT is made, with its header, also where no packet came."""
+    scene.put({"in.pcap": HEADER, "arp.pcap": HEADER + ARP_RECORD, "lines.txt": "64 ip.pcap ip\n"})
+    scene.expect("split lines.txt in.pcap arp.pcap", out="ip.pcap 0 of 1\n")
+    scene.check("header", scene.read("ip.pcap"), header(64))
