@@ -46,6 +46,14 @@ def bars_are_as_high_as_the_loads(scene):
 
 
 @case
+def the_example_is_drawn_as_its_page_shows_it(scene):
+    """The file beside the example, which was drawn by another program from the table of its page."""
+    files = [STEPS / "listeners.txt", STEPS / "script.txt", VETH]
+    scene.run(["steps", "-p", "steps.svg", *files])
+    scene.check("the picture", scene.read("steps.svg"), (STEPS / "steps.svg").read_bytes())
+
+
+@case
 def a_picture_that_cannot_be_made_is_told(scene):
     """The reports are printed, and FILE is told with status 3."""
     files = [STEPS / "listeners.txt", STEPS / "script.txt", VETH]

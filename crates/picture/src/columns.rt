@@ -2,7 +2,7 @@
 
 use listener::Fed;
 use std::slice::Iter;
-use tap::{Answer, Answered, Placed, Spec, Step, Trace};
+use tap::{Answer, Answered, Placed, Step, Trace};
 
 /// A step as one listener sees it.
 #[derive(Clone, Copy)]
@@ -18,21 +18,14 @@ pub struct Column<'a> {
     pub load: u64,
     /// The bytes of the hold before the step.
     pub hold_load: u64,
-    /// The bytes of the record that the listener would keep of the packet.
+    /// The bytes of the record that the packet takes, or would take; 0 where the filter rejects it.
     pub more: u64,
-}
-
-/// The bytes of the record that a listener keeps of a packet.
-fn record_size(spec: &Spec, placed: &Placed) -> u64 {
-    let kept = placed.packet.bytes.as_slice().len().min(spec.snap as usize) as u64;
-    32u64.wrapping_add(kept.wrapping_add(7) / 8 * 8)
 }
 
 /// How a listener stands between the steps of a replay.
 #[derive(Drop)]
 pub struct Columns<'a> {
     listener: u32,
-    spec: &'a Spec,
     packets: Iter<'a, Placed>,
     answers: Iter<'a, Answered>,
     count: u64,
@@ -42,15 +35,9 @@ pub struct Columns<'a> {
 
 impl<'a> Columns<'a> {
     /// Before the first step, of a listener whose answers these are.
-    pub fn new(
-        listener: u32,
-        spec: &'a Spec,
-        trace: &'a Trace,
-        answers: &'a [Answered],
-    ) -> Columns<'a> {
+    pub fn new(listener: u32, trace: &'a Trace, answers: &'a [Answered]) -> Columns<'a> {
         Columns {
             listener,
-            spec,
             packets: trace.playlist.iter(),
             answers: answers.iter(),
             count: 0,
@@ -80,7 +67,7 @@ impl<'a> Columns<'a> {
             answer: answered.map(|before| before.answer),
             load: self.load,
             hold_load: self.hold_load,
-            more: packet.map_or(0, |placed| record_size(self.spec, placed)),
+            more: answered.map_or(0, |before| before.size as u64),
         };
         self.count = self.count.wrapping_add(1);
         self.go_on(&column);

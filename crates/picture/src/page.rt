@@ -117,7 +117,7 @@ fn write_lane<O: Write>(
     let y = u64::from(l).saturating_mul(LANE).saturating_add(HEAD);
     let pixels = step_width(steps.len());
     let width = (steps.len() as u64).saturating_mul(pixels);
-    let columns = || Columns::new(l, spec, trace, answers);
+    let columns = || Columns::new(l, trace, answers);
     writeln!(out, "<g transform=\"translate(0,{y})\">")?;
     let scale = Scale::new(spec.capacity, highest(columns(), steps));
     write_asked(l, spec, scale.drawn, out)?;

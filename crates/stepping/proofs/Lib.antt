@@ -2,5 +2,6 @@ pub mod Beyond
 pub mod Words
 pub mod Fielded
 pub mod Ending
+pub mod Answering
 pub mod FirstBad
-pub mod Sizes
+pub mod Lefts

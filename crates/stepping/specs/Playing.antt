@@ -1,24 +1,23 @@
 -- What is printed and told of steps that are played, and the exit status.
-use Rattle.std.specs.Prelude.{◌≡◌, ℕ, zero, suc, ◌⊎◌, max, Bool, false, List, [], ◌++◌, Option, Some, None, codes}
+use Rattle.std.specs.Prelude.{◌≡◌, ℕ, zero, suc, ◌⊎◌, max, Bool, true, false, List, [], ◌++◌, Option, Some, None, codes}
 use Rattle.std.specs.Io.KnownBytes.{Appends, Keeps}
 use Rattle.savefile.specs.declared.fault.Fault.{Fault as RecordFault}
 use Rattle.tap.specs.declared.fault.Fault.{Fault}
 use Rattle.tap.specs.declared.fault.Fault.TheVariants.{Capture}
+use Rattle.tap.specs.declared.answer.Answered.{Answered}
 use Rattle.tap.specs.declared.filters.Spec.{Spec}
 use Rattle.tap.specs.declared.step.Step.{Step}
 use Rattle.tap.specs.declared.playlist.Placed.{Placed}
 use Rattle.tap.specs.declared.report.Report.{Report}
+use Rattle.tap.specs.Answers.{Traces}
 use Rattle.tap.specs.Headline.{Replays}
 use Rattle.tap.specs.Refusals.{IsFirst, NoneStands}
 use Rattle.lines.specs.declared.telling.Ended.{Ended}
 use Rattle.lines.specs.Sending.{Takes, TakesPart, Streams}
 use Rattle.lines.specs.Telling.{told_line}
+use Rattle.stepping.specs.Answers.{ArePrintedAnswers}
 use Rattle.stepping.specs.Faults.{fault_text}
 use Rattle.stepping.specs.Printed.{printed_reports}
-
--- some text was taken
-abbrev pub TakesSome : Option (List ℕ) → Option (List ℕ) → Type 0
-TakesSome old new = (text : List ℕ) × Appends old new text
 
 -- How the printing of a text ended, as a status: 0 where the writer took the text, 3 where it failed, and took a beginning of it.
 abbrev pub IsPrintStatus : Option (List ℕ) → Option (List ℕ) → List ℕ → ℕ → Type 0
@@ -39,6 +38,14 @@ abbrev pub record_fault_line : Option (ℕ × RecordFault) → List ℕ
 record_fault_line None = []
 record_fault_line (Some record_fault) = told_line (fault_text (Capture record_fault.0 record_fault.1))
 
+-- What is printed before the reports: where answers are explained, the legal answers of all listeners over this playlist, each with
+-- its reason, and else nothing.
+abbrev pub IsAnswersText : Bool → List (List ℕ) → List Spec → List Step → List Placed → Option (ℕ × RecordFault) → List ℕ → Type 0
+IsAnswersText true captures specs steps playlist record_fault text =
+    (answers : List (List Answered)) × Traces captures specs steps playlist record_fault answers
+    × ArePrintedAnswers specs steps playlist answers text
+IsAnswersText false captures specs steps playlist record_fault text = text ≡ []
+
 -- A replay gave reports, and no fault stands against it. They were printed, behind the answers where these are explained; a
 -- capture's record fault was told; the status is the greatest that stands.
 pub record Reported (explained : Bool) (captures : List (List ℕ)) (specs : List Spec) (steps : List Step) (old new : Streams) (ended : Ended) : Type 0 where
@@ -47,10 +54,10 @@ pub record Reported (explained : Bool) (captures : List (List ℕ)) (specs : Lis
   pub playlist : List Placed
   pub replays : Replays captures specs steps playlist record_fault reports
   pub none_stands : NoneStands captures specs steps
-  pub answers : List ℕ
-  pub unexplained : explained ≡ false → answers ≡ []
+  pub answers_text : List ℕ
+  pub explains : IsAnswersText explained captures specs steps playlist record_fault answers_text
   pub print_status : ℕ
-  pub prints : IsPrintStatus old.out new.out (answers ++ printed_reports reports) print_status
+  pub prints : IsPrintStatus old.out new.out (answers_text ++ printed_reports reports) print_status
   pub tells : Takes old.err new.err ended.told (failed_output_line print_status ++ record_fault_line record_fault)
   pub greatest : ended.status ≡ max print_status (record_fault_status record_fault)
 

@@ -34,15 +34,15 @@ sum_text load more = decimal load ++ codes " stored and " ++ decimal more ++ cod
 
 -- of an arrival, whose record takes so many bytes, or would take them
 abbrev pub arrival_text : Standing → ℕ → Fed → List ℕ
-arrival_text before more fed.Passed = codes "Passed, the filter rejects it"
-arrival_text before more fed.Stored = codes "Stored, " ++ sum_text before.load more ++ codes " are within " ++ decimal before.capacity
-arrival_text before more fed.Held = codes "Held, " ++ sum_text before.load more ++ codes " are within " ++ decimal before.capacity
+arrival_text before size fed.Passed = codes "Passed, the filter rejects it"
+arrival_text before size fed.Stored = codes "Stored, " ++ sum_text before.load size ++ codes " are within " ++ decimal before.capacity
+arrival_text before size fed.Held = codes "Held, " ++ sum_text before.load size ++ codes " are within " ++ decimal before.capacity
     ++ codes ", and the empty hold takes them at once"
-arrival_text before more fed.Rotated = codes "Rotated, " ++ sum_text before.load more ++ codes " exceed " ++ decimal before.capacity
+arrival_text before size fed.Rotated = codes "Rotated, " ++ sum_text before.load size ++ codes " exceed " ++ decimal before.capacity
     ++ codes ", and the empty hold takes the " ++ decimal before.load
-arrival_text before more fed.Dropped = codes "Dropped, " ++ sum_text before.load more ++ codes " exceed " ++ decimal before.capacity
+arrival_text before size fed.Dropped = codes "Dropped, " ++ sum_text before.load size ++ codes " exceed " ++ decimal before.capacity
     ++ codes "; " ++ hold_text (full_hold_of before) ++ codes " is not read"
-arrival_text before more fed.Closed = codes "Closed"
+arrival_text before size fed.Closed = codes "Closed"
 
 -- what a flush comes to: a closed listener and a hold that is not read come before an empty store
 abbrev pub flush_end : Standing → FlushEnd
@@ -72,10 +72,10 @@ read_text (read.Takes hold) = codes "read, it takes " ++ hold_text hold
 
 -- the answer to a step, and why it was given
 abbrev pub reason : Standing → ℕ → Answer → List ℕ
-reason before more (Arrived fed) = arrival_text before more fed
-reason before more (Flushed full) = flush_text (flush_end before)
-reason before more (Read full) = read_text (read_end before)
-reason before more Closed = codes "closed"
+reason before size (Arrived fed) = arrival_text before size fed
+reason before size (Flushed full) = flush_text (flush_end before)
+reason before size (Read full) = read_text (read_end before)
+reason before size Closed = codes "closed"
 
 -- the line of the l-th listener below its step
 abbrev pub answer_line : ℕ → List ℕ → List ℕ

@@ -1,13 +1,13 @@
 //! What listeners answered, and why: what `bpftap steps -v` prints before the reports.
 
-ghost use Rattle.std.specs.Prelude.{◌≡◌, OnOk};
-ghost use Rattle.listener.specs.Messages.{cut_to, size_of};
-ghost use Rattle.tap.specs.OwnSteps.{arrival_of};
-ghost use Rattle.stepping.specs.Playing.{TakesSome};
+ghost use Rattle.std.specs.Prelude.{◌≡◌, ◌++◌, map, IfOk, OnOk};
+ghost use Rattle.lines.specs.Sending.{Takes};
+ghost use Rattle.lines.specs.Texts.{numbered};
+ghost use Rattle.stepping.specs.Answers.{IsAllLeft, fills_hold, next_line, behind, one_behind, line_at, arrival_line, no_packet_line, own_line, step_text, packets_behind, left_behind, answers_from, AreAllLeft};
 ghost use Rattle.stepping.specs.Reasons.{answer_line, reason};
+ghost use Rattle.tap.specs.declared.step.Step.TheVariants.{Arrive};
 
 use crate::reasons::{ArrivalEnd, Standing, flush_end, read_end};
-use crate::steps::Asked;
 use lines::Line;
 use lines::sending::send;
 use lines::time::NineDigits;
@@ -15,16 +15,8 @@ use listener::Fed;
 use std::alloc::{AllocError, Global};
 use std::io;
 use std::io::Write;
-use std::slice::Iter;
-use tap::{Answer, Answered, Placed, Spec, Step, Trace};
-
-/// The bytes of the record that a listener has or would have of a packet that its expression accepts.
-fn size_kept(spec: &Spec, placed: &Placed) -> usize
-    ensures { result ≡ size_of (cut_to spec.now.snap (arrival_of placed.now)) }
-{
-    let kept = (spec.snap as usize).min(placed.packet.bytes.as_slice().len());
-    32 + (kept + 7) / 8 * 8
-}
+use std::marker::Model;
+use tap::{Answer, Answered, Placed, Spec, Step};
 
 /// Puts the answer of the l-th listener, and why it was given, in place of what the line has. The record of an arrival has, or
 /// would have, so many bytes.
@@ -32,17 +24,17 @@ fn put_answer(
     line: &mut Line,
     l: usize,
     before: Standing,
-    more: usize,
+    size: usize,
     answer: Answer,
 ) -> io::Result<()>
-    ensures { OnOk result (line.new ≡ answer_line l (reason before more answer)) }
+    ensures { OnOk result (line.new ≡ answer_line l (reason before size answer)) }
 {
     line.clear();
     match answer {
         Answer::Arrived(fed) => writeln!(
             line,
             "  listener {l} {}",
-            ArrivalEnd { before, more, fed }
+            ArrivalEnd { before, size, fed }
         ),
         Answer::Flushed(_) => writeln!(line, "  listener {l} {}", flush_end(&before)),
         Answer::Read(_) => writeln!(line, "  listener {l} {}", read_end(&before)),
@@ -50,165 +42,286 @@ fn put_answer(
     }
 }
 
-/// What is left of a listener's answers.
-#[derive(Drop)]
-struct Watching<'a> {
-    spec: &'a Spec,
-    answers: Iter<'a, Answered>,
-    /// The step that made the store the hold last, from 1.
-    held_since: usize,
-}
-
-impl Watching<'_> {
-    /// How the listener stood before the n-th step, and its answer to it.
-    fn next(&mut self, n: usize) -> Option<(Standing, Answer)> {
-        let answered = self.answers.next()?;
-        let before = Standing::before(answered, self.held_since, self.spec.capacity);
-        if let Answer::Arrived(Fed::Rotated | Fed::Held) | Answer::Flushed(true) = answered.answer {
-            self.held_since = n;
-        }
-        Some((before, answered.answer))
+/// Whether an answer tells that the store became the hold.
+fn fills_hold(answer: Answer) -> bool
+    ensures { result ≡ fills_hold answer }
+{
+    match answer {
+        Answer::Arrived(fed) => match fed {
+            Fed::Rotated => true,
+            Fed::Held => true,
+            Fed::Passed => false,
+            Fed::Stored => false,
+            Fed::Dropped => false,
+            Fed::Closed => false,
+        },
+        Answer::Flushed(full) => full,
+        Answer::Read(_) => false,
+        Answer::Closed => false,
     }
 }
 
-/// What is left of all listeners' answers.
+/// What is left of a listener's answers behind some steps.
 #[derive(Drop)]
 pub struct AnswersLeft<'a> {
-    listeners: Vec<Watching<'a>>,
+    capacity: usize,
+    /// The step that made the store the hold last, from 1.
+    held_since: usize,
+    answers: &'a [Answered],
+}
+
+impl<'a> Model for AnswersLeft<'a> {
+    ghost use Rattle.stepping.specs.Answers.{Left, left};
+
+    ghost Value = { Left };
+
+    ghost view = { λ x. left x.capacity x.held_since x.answers.now };
 }
 
 impl<'a> AnswersLeft<'a> {
-    /// All answers of a trace of what was asked for. No call behind it takes memory.
-    pub fn new(
-        alloc: Global,
-        asked: &'a Asked,
-        trace: &'a Trace,
-    ) -> Result<AnswersLeft<'a>, AllocError> {
-        let mut listeners = Vec::with_capacity(alloc, asked.specs.len())?;
-        for (spec, answers) in asked.specs.iter().zip(trace.answers.iter()) {
-            listeners.push(Watching {
-                spec,
-                answers: answers.iter(),
-                held_since: 0,
-            })?;
+    /// All answers of a listener.
+    fn new(spec: &Spec, answers: &'a [Answered]) -> AnswersLeft<'a>
+        ensures { IsAllLeft spec.now answers.now result }
+    {
+        AnswersLeft {
+            capacity: spec.capacity,
+            held_since: 0,
+            answers,
         }
-        Ok(AnswersLeft { listeners })
+    }
+
+    /// Writes the next answer, as the l-th listener's.
+    fn write_next<O: Write>(&self, l: usize, line: &mut Line, out: &mut O) -> io::Result<()>
+        ensures { Takes (O.contents out.old) (O.contents out.new) result (next_line l self.now) }
+    {
+        let Some((answered, _)) = self.answers.split_first() else {
+            return Ok(());
+        };
+        let before = Standing::before(answered, self.held_since, self.capacity);
+        put_answer(line, l, before, answered.size, answered.answer)?;
+        send(line.as_bytes(), out)
+    }
+
+    /// Goes over the next answer, which is that to the n-th step.
+    fn go_on(&mut self, n: usize)
+        ensures { self.new ≡ behind n self.old }
+    {
+        let Some((answered, later)) = self.answers.split_first() else {
+            return;
+        };
+        if fills_hold(answered.answer) {
+            self.held_since = n;
+        }
+        self.answers = later;
     }
 }
 
-/// Writes the line of the l-th listener below the n-th step, of an arrival with its packet.
-fn write_answer<O: Write>(
-    n: usize,
-    l: usize,
-    placed: Option<&Placed>,
-    watching: &mut Watching<'_>,
-    line: &mut Line,
-    out: &mut O,
-) -> io::Result<()>
-    ensures { TakesSome (O.contents out.old) (O.contents out.new) }
+/// All answers that a trace of these listeners tells. Nothing behind it takes memory.
+pub fn all_left<'a>(
+    alloc: Global,
+    specs: &[Spec],
+    answers: &'a [Vec<Answered>],
+) -> Result<Vec<AnswersLeft<'a>>, AllocError>
+    ensures { IfOk result (λ all. AreAllLeft specs.now (map (λ a. a.items) answers.now) all.items) }
 {
-    let Some((before, answer)) = watching.next(n) else {
-        return Ok(());
-    };
-    let more = match placed {
-        Some(placed) => size_kept(watching.spec, placed),
-        None => 0,
-    };
-    put_answer(line, l, before, more, answer)?;
-    send(line.as_bytes(), out)
+    let mut all = Vec::with_capacity(alloc, specs.len())?;
+    for (spec, own) in specs.iter().zip(answers) {
+        all.push(AnswersLeft::new(spec, own.as_slice()))?;
+    }
+    Ok(all)
 }
 
-/// Writes the head of the n-th step, and the line of each listener below it.
-fn write_arrivals<O: Write>(
-    n: usize,
-    placed: &Placed,
-    answers_left: &mut AnswersLeft<'_>,
-    line: &mut Line,
-    out: &mut O,
-) -> io::Result<()>
-    ensures { TakesSome (O.contents out.old) (O.contents out.new) }
+/// Writes the next answer of each listener.
+fn write_all<O: Write>(all: &[AnswersLeft<'_>], line: &mut Line, out: &mut O) -> io::Result<()>
+    ensures { Takes (O.contents out.old) (O.contents out.new) result (numbered next_line 0 all.now) }
 {
-    line.clear();
-    let packet = &placed.packet;
-    writeln!(
-        line,
-        "step {n} arrive capture {} place {} time {}.{} len {}",
-        placed.capture,
-        placed.place,
-        packet.sec,
-        NineDigits(packet.nanos),
-        packet.len
-    )?;
-    send(line.as_bytes(), out)?;
-    for (l, watching) in answers_left.listeners.iter_mut().enumerate() {
-        write_answer(n, l, Some(placed), watching, line, out)?;
+    for (l, one) in all.iter().enumerate() {
+        one.write_next(l, line, out)?;
     }
     Ok(())
 }
 
-/// Writes the head of the n-th step, which names the l-th listener, and that listener's line below it.
-fn write_own<O: Write>(
-    n: usize,
-    word: &str,
-    l: u32,
-    answers_left: &mut AnswersLeft<'_>,
+/// Goes over the next answer of each listener, which is that to the n-th step.
+fn go_on_all(all: &mut Vec<AnswersLeft<'_>>, n: usize)
+    ensures { all.new.items ≡ map (behind n) all.old.items }
+{
+    for one in all.iter_mut() {
+        one.go_on(n);
+    }
+}
+
+/// Writes the next answer of the l-th listener.
+fn write_one<O: Write>(
+    all: &[AnswersLeft<'_>],
+    l: usize,
     line: &mut Line,
     out: &mut O,
 ) -> io::Result<()>
-    ensures { TakesSome (O.contents out.old) (O.contents out.new) }
+    ensures { Takes (O.contents out.old) (O.contents out.new) result (line_at l all.now) }
 {
-    line.clear();
-    writeln!(line, "step {n} {word} {l}")?;
-    send(line.as_bytes(), out)?;
-    match answers_left.listeners.get_mut(l as usize) {
-        Some(watching) => write_answer(n, l as usize, None, watching, line, out),
+    match all.get(l) {
+        Some(one) => one.write_next(l, line, out),
         None => Ok(()),
     }
 }
 
-/// Writes what was answered to a step, and the packets that are left behind it.
-fn write_step<'a, O: Write>(
-    n: usize,
-    step: Step,
-    packets: &'a [Placed],
-    answers_left: &mut AnswersLeft<'_>,
-    line: &mut Line,
-    out: &mut O,
-) -> io::Result<&'a [Placed]>
-    ensures { TakesSome (O.contents out.old) (O.contents out.new) }
+/// Goes over the next answer of the l-th listener, which is that to the n-th step.
+fn go_on_one(all: &mut Vec<AnswersLeft<'_>>, n: usize, l: usize)
+    ensures { all.new.items ≡ one_behind n l all.old.items }
 {
-    match step {
-        Step::Arrive => {
-            let Some((placed, left)) = packets.split_first() else {
-                line.clear();
-                writeln!(line, "step {n} arrive, no packet is left")?;
-                send(line.as_bytes(), out)?;
-                return Ok(packets);
-            };
-            write_arrivals(n, placed, answers_left, line, out)?;
-            return Ok(left);
-        }
-        Step::Flush(l) => write_own(n, "flush", l, answers_left, line, out)?,
-        Step::Read(l) => write_own(n, "read", l, answers_left, line, out)?,
-        Step::Close(l) => write_own(n, "close", l, answers_left, line, out)?,
+    if l < all.len() {
+        let one = &mut all[l];
+        one.go_on(n);
     }
-    Ok(packets)
 }
 
-/// Writes for each step a head line, and below it a line for each listener that it reaches: what it answered, and why. A step is
-/// counted as a line of SCRIPT, from 1. It takes no memory.
-pub fn write_answers<O: Write>(
-    asked: &Asked,
-    trace: &Trace,
-    answers_left: &mut AnswersLeft<'_>,
+/// Puts the line of the n-th step, an arrival that takes this packet, in place of what the line has.
+#[tactic(auto, unfolding(crate::specs::Answers::arrival_line))]
+fn put_arrival(line: &mut Line, n: usize, placed: &Placed) -> io::Result<()>
+    ensures { OnOk result (line.new ≡ arrival_line n placed.now) }
+{
+    line.clear();
+    let packet = &placed.packet;
+    write!(
+        line,
+        "step {n} arrive capture {} place {} time {}.{}",
+        placed.capture,
+        placed.place,
+        packet.sec,
+        NineDigits(packet.nanos)
+    )?;
+    writeln!(line, " len {}", packet.len)
+}
+
+/// Writes the n-th step, an arrival that takes this packet, and all answers to it.
+fn write_arrival<O: Write>(
+    n: usize,
+    placed: &Placed,
+    all: &[AnswersLeft<'_>],
+    line: &mut Line,
     out: &mut O,
 ) -> io::Result<()>
-    ensures { TakesSome (O.contents out.old) (O.contents out.new) }
+    ensures { Takes (O.contents out.old) (O.contents out.new) result (arrival_line n placed.now ++ numbered next_line 0 all.now) }
+{
+    put_arrival(line, n, placed)?;
+    send(line.as_bytes(), out)?;
+    write_all(all, line, out)
+}
+
+/// Puts the line of the n-th step, an arrival for which no packet is left, in place of what the line has.
+fn put_no_packet(line: &mut Line, n: usize) -> io::Result<()>
+    ensures { OnOk result (line.new ≡ no_packet_line n) }
+{
+    line.clear();
+    writeln!(line, "step {n} arrive, no packet is left")
+}
+
+/// Writes the n-th step, an arrival for which no packet is left.
+fn write_no_packet<O: Write>(n: usize, line: &mut Line, out: &mut O) -> io::Result<()>
+    ensures { Takes (O.contents out.old) (O.contents out.new) result (no_packet_line n) }
+{
+    put_no_packet(line, n)?;
+    send(line.as_bytes(), out)
+}
+
+/// Puts the line of the n-th step, which names the l-th listener, in place of what the line has.
+fn put_own(line: &mut Line, n: usize, word: &str, l: usize) -> io::Result<()>
+    ensures { OnOk result (line.new ≡ own_line n word.now l) }
+{
+    line.clear();
+    writeln!(line, "step {n} {word} {l}")
+}
+
+/// Writes the n-th step, which names the l-th listener, and the answer to it, and goes over that.
+fn write_own<O: Write>(
+    n: usize,
+    word: &str,
+    l: usize,
+    all: &mut Vec<AnswersLeft<'_>>,
+    line: &mut Line,
+    out: &mut O,
+) -> io::Result<()>
+    ensures text { Takes (O.contents out.old) (O.contents out.new) result (own_line n word.now l ++ line_at l all.old.items) }
+    ensures left { OnOk result (all.new.items ≡ one_behind n l all.old.items) }
+{
+    put_own(line, n, word, l)?;
+    send(line.as_bytes(), out)?;
+    write_one(all.as_slice(), l, line, out)?;
+    go_on_one(all, n, l);
+    Ok(())
+}
+
+/// Writes the n-th step, an arrival, and all answers to it, and goes over these. Where no packet is left there are none.
+fn write_arrive<O: Write>(
+    n: usize,
+    packets: &[Placed],
+    all: &mut Vec<AnswersLeft<'_>>,
+    line: &mut Line,
+    out: &mut O,
+) -> io::Result<()>
+    ensures text { Takes (O.contents out.old) (O.contents out.new) result (step_text n Arrive packets.now all.old.items) }
+    ensures left { OnOk result (all.new.items ≡ left_behind n Arrive packets.now all.old.items) }
+{
+    let Some((placed, _)) = packets.split_first() else {
+        return write_no_packet(n, line, out);
+    };
+    write_arrival(n, placed, all.as_slice(), line, out)?;
+    go_on_all(all, n);
+    Ok(())
+}
+
+/// Writes the n-th step and the answers to it, and goes over these.
+fn write_step<O: Write>(
+    n: usize,
+    step: Step,
+    packets: &[Placed],
+    all: &mut Vec<AnswersLeft<'_>>,
+    line: &mut Line,
+    out: &mut O,
+) -> io::Result<()>
+    ensures text { Takes (O.contents out.old) (O.contents out.new) result (step_text n step packets.now all.old.items) }
+    ensures left { OnOk result (all.new.items ≡ left_behind n step packets.now all.old.items) }
+{
+    match step {
+        Step::Arrive => write_arrive(n, packets, all, line, out),
+        Step::Flush(l) => write_own(n, "flush", l as usize, all, line, out),
+        Step::Read(l) => write_own(n, "read", l as usize, all, line, out),
+        Step::Close(l) => write_own(n, "close", l as usize, all, line, out),
+    }
+}
+
+/// The packets that are left behind a step.
+fn packets_behind(step: Step, packets: &[Placed]) -> &[Placed]
+    ensures { result.now ≡ packets_behind step packets.now }
+{
+    match step {
+        Step::Arrive => match packets.split_first() {
+            Some((_, later)) => later,
+            None => packets,
+        },
+        Step::Flush(_) => packets,
+        Step::Read(_) => packets,
+        Step::Close(_) => packets,
+    }
+}
+
+/// Writes for each step a line, and below it a line for each listener that it reaches: what it answered, and why. Steps are counted
+/// from 1, as the lines of SCRIPT. `all` are the answers of [`all_left`], of a trace of these steps and this playlist.
+///
+/// Where it fails, `out` took a beginning of the text and no more. It takes no memory.
+pub fn write_answers<O: Write>(
+    steps: &[Step],
+    playlist: &[Placed],
+    all: &mut Vec<AnswersLeft<'_>>,
+    out: &mut O,
+) -> io::Result<()>
+    ensures { Takes (O.contents out.old) (O.contents out.new) result (answers_from 1 steps.now playlist.now all.old.items) }
 {
     let mut line = Line::new();
-    let mut packets = trace.playlist.as_slice();
-    for (n, step) in asked.steps.iter().enumerate() {
-        packets = write_step(n + 1, *step, packets, answers_left, &mut line, out)?;
+    let mut packets = playlist;
+    for (n, step) in steps.iter().enumerate() {
+        write_step(n + 1, *step, packets, all, &mut line, out)?;
+        packets = packets_behind(*step, packets);
     }
     Ok(())
 }

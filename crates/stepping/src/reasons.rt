@@ -87,12 +87,12 @@ impl Display for Sum {
 pub struct ArrivalEnd {
     pub before: Standing,
     /// The bytes of the record that the packet takes, or would take.
-    pub more: usize,
+    pub size: usize,
     pub fed: Fed,
 }
 
 impl Display for ArrivalEnd {
-    ghost output = { λ arrival. Some (arrival_text arrival.before arrival.more arrival.fed) };
+    ghost output = { λ arrival. Some (arrival_text arrival.before arrival.size arrival.fed) };
 
     fn fmt<W: fmt::Write>(&self, f: &mut Formatter<W>) -> fmt::Result {
         let Standing {
@@ -104,7 +104,7 @@ impl Display for ArrivalEnd {
         } = self.before;
         let sum = Sum {
             load,
-            more: self.more,
+            more: self.size,
         };
         match self.fed {
             Fed::Passed => f.write_str("Passed, the filter rejects it"),

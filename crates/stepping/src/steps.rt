@@ -1,17 +1,18 @@
 //! Listeners that are played a script over captures: the function under `bpftap steps`.
 
-ghost use Rattle.std.specs.Prelude.{◌≡◌, ◌++◌, ℕ, List, max, map, true, IfOk, IfErr};
+ghost use Rattle.std.specs.Prelude.{◌≡◌, ◌++◌, max, map, true, IfOk, IfErr};
 ghost use Rattle.lines.specs.Files.{IsFileOf};
 ghost use Rattle.lines.specs.Sending.{Takes, streams};
 ghost use Rattle.lines.specs.Telling.{told_line, print_status_of};
 ghost use Rattle.stepping.specs.Listeners.{AreFirstOf};
 ghost use Rattle.stepping.specs.Script.{IsStepLine};
+ghost use Rattle.stepping.specs.Answers.{answers_from};
 ghost use Rattle.stepping.specs.Faults.{fault_text};
 ghost use Rattle.stepping.specs.Printed.{printed_reports};
 ghost use Rattle.stepping.specs.Playing.{record_fault_status, failed_output_line, record_fault_line, Plays};
 ghost use Rattle.stepping.specs.Stepping.{IsRefusedFiles, Steps, StepsTo};
 
-use crate::answers::{AnswersLeft, write_answers};
+use crate::answers::{AnswersLeft, all_left, write_answers};
 use crate::faults::FaultText;
 use crate::listeners::read_listeners;
 use crate::reports::write_reports;
@@ -125,14 +126,15 @@ fn print_reports<O: Write>(reports: &[Report], out: &mut O) -> io::Result<()>
 
 /// Prints the answers, and then the reports.
 fn print_trace<O: Write>(
-    asked: &Asked,
+    steps: &[Step],
     trace: &Trace,
-    answers_left: &mut AnswersLeft<'_>,
+    answers: &mut Vec<AnswersLeft<'_>>,
     out: &mut O,
 ) -> io::Result<()>
-    ensures { (answers : List ℕ) × Takes (O.contents out.old) (O.contents out.new) result (answers ++ printed_reports trace.now.reports.items) }
+    ensures { Takes (O.contents out.old) (O.contents out.new) result
+        (answers_from 1 steps.now trace.now.playlist.items answers.old.items ++ printed_reports trace.now.reports.items) }
 {
-    write_answers(asked, trace, answers_left, out)?;
+    write_answers(steps, trace.playlist.as_slice(), answers, out)?;
     print_reports(trace.reports.as_slice(), out)
 }
 
@@ -189,10 +191,10 @@ fn play_explained<O: Write, E: Write>(
         Ok(traced) => traced,
         Err(fault) => return refuse(fault, err),
     };
-    let Ok(mut answers_left) = AnswersLeft::new(alloc, asked, &traced) else {
+    let Ok(mut answers) = all_left(alloc, asked.specs.as_slice(), traced.answers.as_slice()) else {
         return refuse(Fault::NoMemory, err);
     };
-    let printed = print_trace(asked, &traced, &mut answers_left, out);
+    let printed = print_trace(asked.steps.as_slice(), &traced, &mut answers, out);
     end(printed, traced.record_fault, err)
 }
 

@@ -1,8 +1,20 @@
-use Rattle.stepping.proofs.Ending.{Grows-then}
+use Rattle.std.proofs.Common.{◌+◌, [], refl, arith}
+use Rattle.std.proofs.KnownBytes.{Appends-nil}
+use Rattle.std.proofs.lemmas.Result.{err_from_is_err_and}
+use Rattle.stepping.proofs.Answering.{step_fails, step_done, all_done}
 use Rattle.stepping.proofs.answers.write_answers.Goals as goal
 
-pub returns-in_err-packets : goal.returns-in_err-packets
-returns-in_err-packets g c = Grows-then _ _ _ c.loop-n.invariant c.write_step.ensures
+pub returns-in_err-write_step : goal.returns-in_err-write_step
+returns-in_err-write_step g c =
+    let p = err_from_is_err_and c.from_residual.result c.from_residual.ensures.1 in
+    rw p.1 (step_fails _ _ _ _ c.loop-n.n (c.loop-n.n + 1) _ c.args.steps.now _ _ (omega arith) c.loop-n-test.true _ c.loop-n.invariant c.in_err-write_step.ensures.text)
 
 pub loop-n-preserved : goal.loop-n-preserved
-loop-n-preserved g c = Grows-then _ _ _ c.loop-n.invariant c.write_step.ensures
+loop-n-preserved g c =
+    step_done _ _ _ _ c.loop-n.n (c.loop-n.n + 1) _ c.args.steps.now _ _ (omega arith) c.loop-n-test.true _ c.loop-n.invariant _ _ c.packets_behind-packets.ensures c.in_ok-write_step.ensures.left c.in_ok-write_step.ensures.text
+
+pub returns : goal.returns
+returns g c = all_done _ _ _ c.loop-n.n c.args.steps.now _ _ c.loop-n-test.false c.loop-n.invariant
+
+pub loop-n-init : goal.loop-n-init
+loop-n-init g c = ([], Appends-nil _, refl)
