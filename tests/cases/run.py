@@ -1,5 +1,6 @@
 """`bpftap run`: what is refused before a file is opened, when each file is opened, and what is printed and written."""
 import os
+import pathlib
 import re
 import resource
 import shutil
@@ -224,7 +225,7 @@ def a_failed_out_is_told_by_what_it_has(scene):
 
 
 def size_while_open(scene, flush, seconds):
-    """The size of OUT while the fifo of 5,000 packets that fit into a store is still open, or once it is above 0."""
+    """The size of OUT while the fifo of 5,000 packets that fit into a store is still open, or once packets are in it."""
     scene.start({"listeners.txt": f"0 {flush} 0 1048576 2 out.pcap\n"})
     os.mkfifo(scene.folder / "fifo")
     out = scene.folder / "out.pcap"
@@ -234,7 +235,7 @@ def size_while_open(scene, flush, seconds):
             fifo.write(HEADER + T * 5000)
             fifo.flush()
             end = time.monotonic() + seconds
-            while size == 0 and time.monotonic() < end:
+            while size <= len(HEADER) and time.monotonic() < end:
                 time.sleep(0.01)
                 size = out.stat().st_size if out.exists() else 0
         printed = running.communicate(timeout=LIMIT)[0].decode()
@@ -245,9 +246,81 @@ def size_while_open(scene, flush, seconds):
 
 @case
 def a_flush_of_0_is_none(scene):
-    """With FLUSH 0 nothing is written of a store that is not full, and with another one behind so many packets."""
-    scene.check("FLUSH 4096 writes", size_while_open(scene, 4096, 60) > 0, True)
-    scene.check("FLUSH 0 writes", size_while_open(scene, 0, 1), 0)
+    """With FLUSH 0 no packet is written of a store that is not full, and with another one behind so many packets."""
+    scene.check("FLUSH 4096 writes", size_while_open(scene, 4096, 60) > len(HEADER), True)
+    scene.check("FLUSH 0 writes", size_while_open(scene, 0, 1) > len(HEADER), False)
+
+
+def sizes_reached(scene, sizes, seconds=60):
+    """Whether each of these files has so many bytes before the time is up."""
+    end = time.monotonic() + seconds
+    while time.monotonic() < end:
+        if all((scene.folder / name).exists() and (scene.folder / name).stat().st_size == size for name, size in sizes.items()):
+            return True
+        time.sleep(0.01)
+    return False
+
+
+@case
+def an_out_is_followed(scene):
+    """With FLUSH 1, and with an `i`, a packet is in OUT while the capture is still open, also where the OUT before is not read."""
+    scene.start({"listeners.txt": "0 1 0 1048576 2 unread\n0 1 0 1048576 2 flushed.pcap\n0 0 0 1048576i 2 held.pcap tcp\n"})
+    for name in ["fifo", "unread"]:
+        os.mkfifo(scene.folder / name)
+    with subprocess.Popen([PROGRAM, "run", "listeners.txt", "fifo"], cwd=scene.folder, stdout=subprocess.PIPE) as running:
+        with open(scene.folder / "fifo", "wb", buffering=0) as fifo:
+            fifo.write(HEADER)
+            scene.check("headers", sizes_reached(scene, {"flushed.pcap": 24, "held.pcap": 24}), True)
+            for packets in range(1, 6):
+                fifo.write(T)
+                size = 24 + packets * len(T)
+                scene.check(f"{packets} packets", sizes_reached(scene, {"flushed.pcap": size, "held.pcap": size}), True)
+        # The run waits for the fifo that nobody reads.
+        with open(scene.folder / "unread", "rb") as unread:
+            scene.check("the fifo", unread.read(), HEADER + T * 5)
+        printed = running.communicate(timeout=LIMIT)[0].decode()
+    scene.check("printed", printed, report((0, 0), 5, 5) + report((0, 1), 5, 5) + report((0, 2), 5, 5))
+    scene.check("OUT", (scene.read("flushed.pcap"), scene.read("held.pcap")), (HEADER + T * 5, HEADER + T * 5))
+
+
+def processor_seconds(process):
+    """User and system time of a process so far."""
+    fields = pathlib.Path(f"/proc/{process}/stat").read_text().rpartition(")")[2].split()
+    return (int(fields[11]) + int(fields[12])) / os.sysconf("SC_CLK_TCK")
+
+
+@case
+def threads_that_wait_sleep(scene):
+    """Where nothing comes, a run of eight listeners takes no fifth of a processor: a thread that tries without an end takes one whole."""
+    scene.start({"listeners.txt": "".join(f"0 0 0 1048576 2 {out}.pcap\n" for out in range(8))})
+    os.mkfifo(scene.folder / "fifo")
+    with subprocess.Popen([PROGRAM, "run", "listeners.txt", "fifo"], cwd=scene.folder, stdout=subprocess.PIPE) as running:
+        with open(scene.folder / "fifo", "wb", buffering=0) as fifo:
+            fifo.write(HEADER + T)
+            time.sleep(1)
+            before = processor_seconds(running.pid)
+            time.sleep(2)
+            taken = processor_seconds(running.pid) - before
+        printed = running.communicate(timeout=LIMIT)[0].decode()
+    scene.check(f"{taken} s of a processor in 2 s", taken < 0.4, True)
+    scene.check("printed", printed, "".join(report((0, out), 1, 1) for out in range(8)))
+
+
+@case
+def a_replay_ends_on_one_processor(scene):
+    """With buffers of a packet or two, on one processor, each run ends, and what matched was written or dropped."""
+    text = VETH.read_bytes()
+    scene.start({"veth.pcap": text, "listeners.txt": "".join(
+        f"0 {out} {96 + out} {160 + out}{'i' * (out % 2)} {1 + out % 3} {out}.pcap\n" for out in range(6))})
+    one = {min(os.sched_getaffinity(0))}
+    line = re.compile(r"interface 0 listener \d received 759 matched 759 dropped (\d+) written (\d+) Clean")
+    for _ in range(20):
+        done = subprocess.run(
+            [PROGRAM, "run", "listeners.txt", *["veth.pcap"] * 3], cwd=scene.folder, stdin=subprocess.DEVNULL, capture_output=True,
+            text=True, timeout=LIMIT, preexec_fn=lambda: os.sched_setaffinity(0, one))
+        found = [line.fullmatch(told) for told in done.stdout.splitlines()]
+        counts = [sum(map(int, one.groups())) for one in found if one]
+        scene.check("a run", (done.stderr, done.returncode, counts), ("", 0, [759] * 6))
 
 
 # A user who has no processes, so that a limit on his counts those of a run alone.

@@ -3,6 +3,8 @@ use Rattle.std.proofs.Common.{◌≡◌, ◌≢◌, ℕ, ◌+◌, ◌*◌, ◌<�
 use Rattle.std.proofs.Math.Seq.{drop-append_seam, take-append-add, take-append_seam}
 use Rattle.std.proofs.lemmas.List.{append-nil, drop-append-le, length-map, map-append, take-append-le, take_all}
 use Rattle.std.proofs.lemmas.Bool.{cases_eq, cases_lt}
+use Rattle.std.proofs.KnownBytes.{Appends-kept}
+use Rattle.std.specs.Io.KnownBytes.{Keeps}
 use Rattle.listener.specs.declared.message.Message.{Message}
 use Rattle.savefile.specs.declared.fault.Fault.{Fault}
 use Rattle.savefile.specs.declared.fault.Fault.TheVariants.{Device, CountFull, Failed}
@@ -130,6 +132,27 @@ module _ {W : Type 0} (taken : W → Option (List ℕ)) (failures : W → ℕ) (
         whole = λ _. (
           omega (arith, count, was.0, length-append messages (m ∷ [])),
           subst (λ (ps : List Packet). HasWritten taken (taken o.sink) o.order o.unit o.snap ps new.writer) (sym (map-append as_written messages (m ∷ []))) written,
+          same ∙ was.2,
+        );
+        broke = λ e. let bad : true ≡ false = sym works ∙ e in absurd cc;
+      }
+
+  -- the sink handed on what it had gathered
+  pub still-written : (messages : List Message) (old new : Written W) → old.works ≡ true → Writes taken failures o messages old
+      → new.works ≡ true → new.count ≡ old.count → new.writer.order ≡ old.writer.order → new.writer.unit ≡ old.writer.unit
+      → new.writer.sent ≡ old.writer.sent → new.writer.failed ≡ old.writer.failed
+      → Keeps (taken old.writer.sink) (taken new.writer.sink) → failures new.writer.sink ≡ failures old.writer.sink
+      → Writes taken failures o messages new
+  still-written messages old new worked t works count order unit sent failed keeps same =
+      let was = t.whole worked in record {
+        whole = λ _. (
+          count ∙ was.0,
+          record {
+            sent = record { bytes = Appends-kept (taken o.sink) (taken old.writer.sink) (taken new.writer.sink) _ was.1.sent.bytes keeps; count = sent ∙ was.1.sent.count };
+            works = failed ∙ was.1.works;
+            in_order = order ∙ was.1.in_order;
+            in_unit = unit ∙ was.1.in_unit;
+          },
           same ∙ was.2,
         );
         broke = λ e. let bad : true ≡ false = sym works ∙ e in absurd cc;

@@ -30,6 +30,11 @@ impl Patience {
         }
     }
 
+    /// Whether the next wait is the first that parks.
+    pub(crate) fn is_out(&self) -> bool {
+        self.turns == TURNS && self.millis == FIRST_MILLIS
+    }
+
     /// Waits a while. It may be woken before.
     pub(crate) fn wait<R: Wait>(&mut self, rt: &R, parker: &Parker) {
         if self.turns < TURNS {

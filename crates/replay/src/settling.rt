@@ -121,6 +121,7 @@ pub(crate) fn settled<W: Sink + Drop>(
     write_left(&mut written, &mut full, left);
     written.put_all(&hold);
     written.put_all(&rest);
+    written.flush();
     let end = end_of(stop, written.works, written.writer.sent());
     report(written, counts, end, past)
 }

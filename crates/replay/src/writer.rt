@@ -1,7 +1,10 @@
 //! The thread that writes what was read.
 
-ghost use Rattle.std.specs.Prelude.{◌≡◌, []};
+ghost use Rattle.std.specs.Prelude.{◌≡◌, List, []};
 ghost use Rattle.rtrb.specs.Ring.{received};
+ghost use Rattle.listener.specs.declared.message.Message.{Message};
+ghost use Rattle.replay.specs.Writing.{Writes};
+ghost use Rattle.replay.specs.declared.writing.Output.{Output};
 ghost use Rattle.replay.specs.WrittenOut.{HasWrittenOut};
 
 use crate::link::TaskLink;
@@ -38,7 +41,24 @@ fn give_back(empty: &mut Producer<Buffer>, buffer: Buffer) {
     let _ = empty.push(buffer);
 }
 
-/// Writes what comes through the ring, until its other end is dropped and nothing is in it, or a fault came.
+/// Waits a while. Before it parks the sink hands on what it has gathered.
+fn wait<W: Sink, R: Wait>(
+    rt: &R,
+    link: &TaskLink,
+    written: &mut Written<W>,
+    patience: &mut Patience,
+)
+    ensures { (output : Output W) (messages : List Message) → Writes W.taken W.failures output messages written.old →
+        Writes W.taken W.failures output messages written.new }
+{
+    if patience.is_out() {
+        written.flush();
+    }
+    patience.wait(rt, &link.writer);
+}
+
+/// Writes what comes through the ring, until its other end is dropped and nothing is in it, or a fault came. The sink hands on what
+/// it has gathered before the thread parks, and in the end.
 pub(crate) fn write_out<W: Sink, R: Wait>(
     rt: &R,
     link: &TaskLink,
@@ -70,12 +90,13 @@ pub(crate) fn write_out<W: Sink, R: Wait>(
                 // Something may have come before the other end was dropped: look once more.
                 last = full.is_abandoned();
                 if !last {
-                    patience.wait(rt, &link.writer);
+                    wait(rt, link, &mut written, &mut patience);
                 }
             }
         }
     }
     drop(empty);
     link.wake_reader();
+    written.flush();
     WriteEnd { written, full }
 }

@@ -80,6 +80,17 @@ impl<W: Sink> Written<W> {
         }
     }
 
+    /// Lets the sink hand on what it has gathered.
+    pub(crate) fn flush(&mut self)
+        ensures { (output : Output W) (messages : List Message) → Writes W.taken W.failures output messages self.old →
+            Writes W.taken W.failures output messages self.new }
+    {
+        if !self.works {
+            return;
+        }
+        self.writer.flush();
+    }
+
     /// Writes the messages of a buffer.
     pub(crate) fn put_all(&mut self, buffer: &Buffer)
         ensures { (output : Output W) (messages : List Message) → Writes W.taken W.failures output messages self.old →

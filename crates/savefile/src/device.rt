@@ -1,7 +1,7 @@
 //! What a savefile is read from and written to.
 
 ghost use Rattle.std.specs.Prelude.{◌≡◌, ℕ, List, Option, None, Some, ◌<◌, ◌≤◌, length, IfOk};
-ghost use Rattle.std.specs.Io.KnownBytes.{ReadConsumes, WriteAppends};
+ghost use Rattle.std.specs.Io.KnownBytes.{Keeps, ReadConsumes, WriteAppends};
 ghost use Rattle.savefile.specs.Device.{CountsFailure};
 
 use std::io::{Read, Write};
@@ -42,6 +42,14 @@ pub trait Sink {
         ensures progress { IfOk result (λ n. 0 < length from.now → 0 < n) }
         ensures bytes { WriteAppends (taken self.old) (taken self.new) result from.now }
         ensures failures { CountsFailure (failures self.old) (failures self.new) result };
+
+    /// Hands on what the sink has gathered of what it took, where it gathers; where not, it does nothing. What can't be handed on
+    /// stays gathered, and no failure is told: whoever empties the sink in the end finds it.
+    #[tactic(auto, using(crate::proofs::Gathering::keeps_itself))]
+    fn flush(&mut self)
+        ensures bytes { Keeps (taken self.old) (taken self.new) }
+        ensures failures { failures self.new ≡ failures self.old }
+    {}
 }
 
 /// Bytes in memory, which never fail.
@@ -61,7 +69,7 @@ impl Source for &[u8] {
 /// Makes a [`Source`] of any [`Read`] and a [`Sink`] of any [`Write`], and counts the failures.
 ///
 /// Its bytes are told where those of `T` are: over memory, and not over a file. An error, and a
-/// write of no byte of a slice that is not empty, are [`Broken`]. No call is tried again.
+/// write of no byte of a slice that is not empty, are [`Broken`]. No call is tried again. An error of a flush is not told.
 #[derive(Debug, Drop)]
 pub struct Counted<T> {
     pub inner: T,
@@ -116,5 +124,9 @@ impl<T: Write> Sink for Counted<T> {
                 Err(Broken)
             }
         }
+    }
+
+    fn flush(&mut self) {
+        let _ = self.inner.flush();
     }
 }

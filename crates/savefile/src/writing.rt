@@ -1,6 +1,7 @@
 //! Writing a savefile, packet by packet.
 
 ghost use Rattle.std.specs.Prelude.{◌≡◌, ◌≢◌, ℕ, List, [], ◌∷◌, ◌++◌, Option, true, false, ◌+◌, ◌^◌, ◌<◌, ◌≤◌, ◌↔◌, ◌⊎◌, length, IfErr, OnOk, OnErr};
+ghost use Rattle.std.specs.Io.KnownBytes.{Keeps};
 ghost use Rattle.savefile.specs.declared.packet.Packet.{Packet};
 ghost use Rattle.savefile.specs.Device.{CountsFailure};
 ghost use Rattle.savefile.specs.Filling.{Fills};
@@ -250,6 +251,15 @@ impl<W: Sink> Writer<W> {
         let fraction = nanos / self.unit.nanos();
         let header = record_header(self.order, sec, fraction, bytes.len() as u32, len);
         self.send_both(&header, bytes)
+    }
+
+    /// Lets the sink hand on what it has gathered. What it took and how often it failed stays as it was.
+    pub fn flush(&mut self)
+        ensures same { (self.new.order ≡ self.old.order) × (self.new.unit ≡ self.old.unit) × (self.new.sent ≡ self.old.sent) × (self.new.failed ≡ self.old.failed) }
+        ensures bytes { Keeps (W.taken self.old.sink) (W.taken self.new.sink) }
+        ensures failures { W.failures self.new.sink ≡ W.failures self.old.sink }
+    {
+        self.sink.flush();
     }
 
     /// How many bytes the sink took since the writer was opened.

@@ -45,11 +45,12 @@ returns-clause-report g c =
     let one = c.write_left.ensures o _ c.requires.done.writes in
     let two = c.put_all.ensures o _ one in
     let three = c.put_all-2.ensures o _ two in
-    let w = c.put_all-2.new.self in
+    let four = c.flush.ensures o _ three in
+    let w = c.flush.new.self in
     finished T F d.task.value c.args.feed.feeds d.read.drain.takes c.report-2.result c.settle-hold.result.counts hold rest
     (subst (λ p. LegalHistory (terms_of p) c.args.feed.feeds d.read.drain.takes (merge c.args.feed.feeds d.read.drain.takes)) c.requires.profile s.history)
     s.counts.0 s.counts.1 whole told.counts w told.sink
     (as-they-are _ (all-of-contained (λ (m : Message). IsTimely m.nanos) _ (λ m here. All-contains (λ (m : Message). IsTimely m.nanos) _ m c.requires.timely (whole.accepted m here))))
-    (subst (λ (ms : List Message). Writes T F o ms w) all three)
+    (subst (λ (ms : List Message). Writes T F o ms w) all four)
     (λ e. let ends = c.end_of-end.ensures.clean (sym told.end ∙ e) in (ends.1, whole.unclosed (c.requires.done.ended ends.0)))
     (λ n e. let breaks = c.end_of-end.ensures.broke n (sym told.end ∙ e) in (breaks.0, breaks.1 ∙ c.sent.ensures))
