@@ -1,5 +1,6 @@
 //! The caller on the crate's page.
 
+use crate::split::item;
 use fixtures::captures::{ARP_RECORD, HEADER, TCP, UDP, concat};
 use savefile::{Counted, Order, Unit};
 use splitting::part::Part;
@@ -53,7 +54,7 @@ fn captures_are_split_as_the_page_says(rt: HostRuntime) -> Result<(), Fail> {
     );
     let tcp = concat(alloc, &[HEADER, TCP])?;
     let ip = concat(alloc, &[HEADER, TCP, UDP])?;
-    assert_eq!(rt; written[0].as_slice(), tcp.as_slice());
-    assert_eq!(rt; written[1].as_slice(), ip.as_slice());
+    assert_eq!(rt; item(&rt, written.as_slice(), 0).as_slice(), tcp.as_slice());
+    assert_eq!(rt; item(&rt, written.as_slice(), 1).as_slice(), ip.as_slice());
     Ok(())
 }

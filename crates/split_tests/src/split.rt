@@ -60,7 +60,31 @@ fn split_to<'a>(
     split(alloc, captures, parts, Order::Little, Unit::Micro).expect(rt, "memory")
 }
 
-/// Checks what a part came to: what its sink took, how many of how many packets, and whether all was written.
+/// The n-th item, which is there.
+pub(crate) fn item<'a, T>(rt: &'a impl Abort, items: &'a [T], n: usize) -> &'a T {
+    items.get(n).expect(rt, "there is such an item")
+}
+
+/// The first n bytes, of which there are so many.
+fn front<'a>(rt: &'a impl Abort, bytes: &'a [u8], n: usize) -> &'a [u8] {
+    bytes.get(..n).expect(rt, "there are so many bytes")
+}
+
+/// What the n-th part came to.
+fn part_at<'a>(
+    rt: &'a impl Abort,
+    end: &'a Split<'_>,
+    n: usize,
+) -> &'a PartEnd<Counted<BreakingWriter>> {
+    item(rt, end.parts.as_slice(), n)
+}
+
+/// Checks that no byte of the n-th capture was read.
+fn check_unread(rt: &impl Abort, end: &Split<'_>, n: usize, text: &[u8]) {
+    assert_eq!(rt; item(rt, end.sources.as_slice(), n).inner.left, text);
+}
+
+/// Checks what a part came to: what its sink took, and whether all was written.
 fn check(
     rt: &(impl Abort + AllocGlobal),
     what: &str,
@@ -124,99 +148,105 @@ fn each_part_has_its_packets_of_all_captures(rt: HostRuntime) -> Result<(), Fail
     let texts = [first.as_slice(), second.as_slice(), third.as_slice()];
     let end = split_to(&rt, &texts, false, three_parts(&rt, ROOM)?);
     assert_eq!(rt; end.end, Ok(()));
-    check(&rt, "tcp", &end.parts[0], &[HEADER, TCP, TCP], Ok(()));
-    check_tally(&rt, "tcp", &end.parts[0], (2, 4));
-    check(&rt, "udp", &end.parts[1], &[HEADER_20, SHORT_UDP], Ok(()));
-    check_tally(&rt, "udp", &end.parts[1], (1, 4));
+    check(
+        &rt,
+        "tcp",
+        part_at(&rt, &end, 0),
+        &[HEADER, TCP, TCP],
+        Ok(()),
+    );
+    check_tally(&rt, "tcp", part_at(&rt, &end, 0), (2, 4));
+    check(
+        &rt,
+        "udp",
+        part_at(&rt, &end, 1),
+        &[HEADER_20, SHORT_UDP],
+        Ok(()),
+    );
+    check_tally(&rt, "udp", part_at(&rt, &end, 1), (1, 4));
     let all = [HEADER, TCP, ARP_RECORD, LITTLE_UDP, TCP];
-    check(&rt, "all", &end.parts[2], &all, Ok(()));
-    check_tally(&rt, "all", &end.parts[2], (4, 4));
+    check(&rt, "all", part_at(&rt, &end, 2), &all, Ok(()));
+    check_tally(&rt, "all", part_at(&rt, &end, 2), (4, 4));
+    Ok(())
+}
+
+/// The first 20 bytes of the UDP frame.
+const KEPT_UDP: &str =
+    "02000000 00000000 14000000 26000000 ffffffffffff 000102030405 0800 450000180000";
+
+/// Splits two captures to three parts, of which the first has room for so many bytes: it takes these, and the others take all.
+fn check_broken(rt: &(impl Abort + AllocGlobal), room: usize, taken: &[&str]) -> Result<(), Fail> {
+    let first = concat(rt.alloc(), &[HEADER, TCP])?;
+    let second = concat(rt.alloc(), &[HEADER, TCP, UDP])?;
+    let texts = [first.as_slice(), second.as_slice()];
+    let end = split_to(rt, &texts, false, three_parts(rt, room)?);
+    assert_eq!(rt; end.end, Ok(()));
+    check(rt, "tcp", part_at(rt, &end, 0), taken, Err(Fault::Device));
+    check(
+        rt,
+        "udp",
+        part_at(rt, &end, 1),
+        &[HEADER_20, KEPT_UDP],
+        Ok(()),
+    );
+    check(
+        rt,
+        "all",
+        part_at(rt, &end, 2),
+        &[HEADER, TCP, TCP, UDP],
+        Ok(()),
+    );
+    check_tally(rt, "all", part_at(rt, &end, 2), (3, 3));
     Ok(())
 }
 
 #[test]
 fn a_failing_sink_ends_its_part_alone(rt: HostRuntime) -> Result<(), Fail> {
-    let alloc = rt.alloc();
-    let first = concat(alloc, &[HEADER, TCP])?;
-    let second = concat(alloc, &[HEADER, TCP, UDP])?;
-    let texts = [first.as_slice(), second.as_slice()];
     // Inside the header, inside the first record and inside the second one.
-    let broken = [
-        (3, "d4c3b2"),
-        (
-            26,
-            "d4c3b2a1 02000400 00000000 00000000 00000400 01000000 0100",
-        ),
-    ];
-    for (room, taken) in broken {
-        let end = split_to(&rt, &texts, false, three_parts(&rt, room)?);
-        assert_eq!(rt; end.end, Ok(()));
-        check(&rt, "tcp", &end.parts[0], &[taken], Err(Fault::Device));
-        check(
-            &rt,
-            "udp",
-            &end.parts[1],
-            &[
-                HEADER_20,
-                "02000000 00000000 14000000 26000000 ffffffffffff 000102030405 0800 450000180000",
-            ],
-            Ok(()),
-        );
-        check(&rt, "all", &end.parts[2], &[HEADER, TCP, TCP, UDP], Ok(()));
-        check_tally(&rt, "all", &end.parts[2], (3, 3));
-    }
-    let end = split_to(&rt, &texts, false, three_parts(&rt, 24 + 54 + 1)?);
-    check(
-        &rt,
-        "second record",
-        &end.parts[0],
-        &[HEADER, TCP, "01"],
-        Err(Fault::Device),
-    );
-    check(&rt, "all", &end.parts[2], &[HEADER, TCP, TCP, UDP], Ok(()));
+    check_broken(&rt, 3, &["d4c3b2"])?;
+    check_broken(&rt, 26, &[HEADER, "0100"])?;
+    check_broken(&rt, 24 + 54 + 1, &[HEADER, TCP, "01"])
+}
+
+/// Splits three captures, of which the second is this text: it ends the reading, behind so many TCP packets, and the third is not read.
+fn check_second(
+    rt: &(impl Abort + AllocGlobal),
+    text: &[u8],
+    stop: Stop,
+    tcp: u64,
+) -> Result<(), Fail> {
+    let good = concat(rt.alloc(), &[HEADER, TCP])?;
+    let texts = [good.as_slice(), text, good.as_slice()];
+    let end = split_to(rt, &texts, false, three_parts(rt, ROOM)?);
+    assert_eq!(rt; end.end, Err(stop));
+    check_tally(rt, "tcp", part_at(rt, &end, 0), (tcp, tcp));
+    check_tally(rt, "udp", part_at(rt, &end, 1), (0, tcp));
+    assert_eq!(rt; end.sources.len(), 3);
+    check_unread(rt, &end, 2, good.as_slice());
     Ok(())
 }
 
 #[test]
 fn an_unreadable_second_capture_ends_the_reading(rt: HostRuntime) -> Result<(), Fail> {
     let alloc = rt.alloc();
-    let good = concat(alloc, &[HEADER, TCP])?;
-    let torn = concat(alloc, &[HEADER, TCP, "0100"])?;
     let bad = bytes_of(
         alloc,
         "0a0d0d0a 00000000 00000000 00000000 00000000 00000000",
     )?;
-    let cases = [
-        (
-            bad.as_slice(),
-            false,
-            Stop::AtHeader(1, Fault::NotSavefile),
-            1,
-        ),
-        (
-            b"".as_slice(),
-            false,
-            Stop::AtHeader(1, Fault::ShortHeader),
-            1,
-        ),
-        (
-            torn.as_slice(),
-            false,
-            Stop::AtRecord(1, Fault::TornRecord(1)),
-            2,
-        ),
-    ];
-    for (text, breaks, stop, tcp) in cases {
-        let texts = [good.as_slice(), text, good.as_slice()];
-        let end = split_to(&rt, &texts, breaks, three_parts(&rt, ROOM)?);
-        assert_eq!(rt; end.end, Err(stop));
-        check_tally(&rt, "tcp", &end.parts[0], (tcp, tcp));
-        check_tally(&rt, "udp", &end.parts[1], (0, tcp));
-        // The capture behind was not read.
-        assert_eq!(rt; end.sources.len(), 3);
-        assert_eq!(rt; end.sources[2].inner.left, good.as_slice());
-    }
-    Ok(())
+    check_second(
+        &rt,
+        bad.as_slice(),
+        Stop::AtHeader(1, Fault::NotSavefile),
+        1,
+    )?;
+    check_second(&rt, b"", Stop::AtHeader(1, Fault::ShortHeader), 1)?;
+    let torn = concat(alloc, &[HEADER, TCP, "0100"])?;
+    check_second(
+        &rt,
+        torn.as_slice(),
+        Stop::AtRecord(1, Fault::TornRecord(1)),
+        2,
+    )
 }
 
 #[test]
@@ -227,13 +257,19 @@ fn a_source_that_breaks_ends_the_reading_behind_its_packets(rt: HostRuntime) -> 
     let texts = [first.as_slice(), torn.as_slice()];
     let end = split_to(&rt, &texts, true, three_parts(&rt, ROOM)?);
     assert_eq!(rt; end.end, Err(Stop::AtRecord(1, Fault::Device)));
-    check(&rt, "tcp", &end.parts[0], &[HEADER, TCP], Ok(()));
-    check(&rt, "all", &end.parts[2], &[HEADER, UDP, TCP], Ok(()));
+    check(&rt, "tcp", part_at(&rt, &end, 0), &[HEADER, TCP], Ok(()));
+    check(
+        &rt,
+        "all",
+        part_at(&rt, &end, 2),
+        &[HEADER, UDP, TCP],
+        Ok(()),
+    );
 
-    let texts = [first.as_slice(), &first[..23]];
+    let texts = [first.as_slice(), front(&rt, first.as_slice(), 23)];
     let end = split_to(&rt, &texts, true, three_parts(&rt, ROOM)?);
     assert_eq!(rt; end.end, Err(Stop::AtHeader(1, Fault::Device)));
-    check(&rt, "all", &end.parts[2], &[HEADER, UDP], Ok(()));
+    check(&rt, "all", part_at(&rt, &end, 2), &[HEADER, UDP], Ok(()));
     Ok(())
 }
 
@@ -241,14 +277,14 @@ fn a_source_that_breaks_ends_the_reading_behind_its_packets(rt: HostRuntime) -> 
 fn nothing_is_written_where_no_header_was_read(rt: HostRuntime) -> Result<(), Fail> {
     let alloc = rt.alloc();
     let good = concat(alloc, &[HEADER, TCP])?;
-    let texts = [&good[..23], good.as_slice()];
+    let texts = [front(&rt, good.as_slice(), 23), good.as_slice()];
     let end = split_to(&rt, &texts, false, three_parts(&rt, ROOM)?);
     assert_eq!(rt; end.end, Err(Stop::AtHeader(0, Fault::ShortHeader)));
     for part in end.parts.as_slice() {
         check(&rt, "refused", part, &[], Ok(()));
         check_tally(&rt, "refused", part, (0, 0));
     }
-    assert_eq!(rt; end.sources[1].inner.left, good.as_slice());
+    check_unread(&rt, &end, 1, good.as_slice());
 
     let end = split_to(&rt, &[], false, three_parts(&rt, ROOM)?);
     assert_eq!(rt; end.end, Ok(()));
