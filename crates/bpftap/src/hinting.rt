@@ -262,8 +262,13 @@ pub fn hint_unopened<E: TakesHints>(
     }
 }
 
-/// Hints on the capture that an interface of `run` ended at.
-fn hint_source<R, E: TakesHints>(path: &str, source: &NotedInput<R>, fault: Fault, err: &mut E) {
+/// Hints on one of several captures, which was not read to its end.
+pub fn hint_source<R, E: TakesHints>(
+    path: &str,
+    source: &NotedInput<R>,
+    fault: Fault,
+    err: &mut E,
+) {
     give_hint(format_args!("{}:", Path(path)), err);
     hint_input(source, fault, err);
 }
@@ -287,8 +292,8 @@ fn hint_sink<W: Write + Drop, E: TakesHints>(
     }
 }
 
-/// Hints on standard output that the lines of `run` could not be printed to, if it failed.
-pub fn hint_printed_run<T, E: TakesHints>(noted: &Noted<T>, err: &mut E) {
+/// Hints on standard output that failed, if it did, where other files are told of too.
+pub fn hint_printed<T, E: TakesHints>(noted: &Noted<T>, err: &mut E) {
     if let Some(error) = noted.failure() {
         if error.kind() != ErrorKind::BrokenPipe {
             give_hint("standard output:", err);

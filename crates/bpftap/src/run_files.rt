@@ -2,7 +2,7 @@
 
 ghost use Rattle.std.specs.Prelude.{◌≡◌, ◌<◌, ◌≤◌, All, IfErr, IfOk, MatchResult, length, vec_len};
 
-use crate::hinting::{NotedInput, hint_plan, hint_printed_run, hint_run, hint_unopened};
+use crate::hinting::{NotedInput, hint_plan, hint_printed, hint_run, hint_unopened};
 use crate::tally::{Output, Tallied, flush_all};
 use files::late::{LateFile, LateInput};
 use files::paths::{STANDARD_OUTPUT, all_apart};
@@ -225,7 +225,7 @@ pub fn run_files<
             flush_all(reports.as_mut_slice());
             let status = tell_run(reports.as_slice(), &mut out, err);
             hint_run(words.inputs.as_slice(), reports.as_slice(), err);
-            hint_printed_run(out.get_ref(), err);
+            hint_printed(out.get_ref(), err);
             Ok(status)
         }
         Err(fault) => {

@@ -2,12 +2,14 @@
 
 ghost use Rattle.std.specs.Prelude.{◌≤◌, IfErr, MatchResult};
 
-use crate::hinting::{NotedInput, NotedOutput, hint_expression, hint_failure, hint_input};
+use crate::hinting::{
+    NotedInput, NotedOutput, hint_expression, hint_failure, hint_printed, hint_source,
+};
 use bpfvm::Program;
 use files::late::{LateFile, LateInput};
 use files::paths::{STANDARD_OUTPUT, all_apart};
 use files::reading::read_file;
-use hints::files::hint_bad_line;
+use hints::files::{LINES, hint_bad_line};
 use hints::stream::give_hint;
 use hints::{Noted, TakesHints};
 use lines::telling::{Path, REFUSED, tell_fault};
@@ -25,9 +27,6 @@ use words::split::SplitWords;
 
 /// How many bytes of a capture are gathered before they are written.
 const OUTPUT_BUFFER: usize = 1 << 16;
-
-/// The form of a line of LINES.
-const LINES_OF_SPLIT: &str = "SNAP OUT EXPRESSION";
 
 /// A capture that is read.
 type Input<'r, 'p, R> = NotedInput<LateInput<'r, 'p, R>>;
@@ -118,7 +117,7 @@ fn accepted<'p, E: TakesHints>(alloc: Global, lines: &'p [u8], err: &mut E) -> R
 /// Hints on LINES that is refused.
 fn hint_lines<E: TakesHints>(alloc: Global, lines: &[u8], fault: PlanFault, err: &mut E) {
     match fault {
-        PlanFault::Line(line) => hint_bad_line(lines, line, LINES_OF_SPLIT, err),
+        PlanFault::Line(line) => hint_bad_line(lines, line, LINES, err),
         PlanFault::Expression(n, fault) => {
             if let Ok(lines) = read_split_lines(alloc, lines) {
                 if let Some(line) = lines.get(n) {
@@ -145,8 +144,7 @@ fn hint_split<R, W: Write + Drop, E: TakesHints>(
     }
     if let Err(Stop::AtHeader(n, fault) | Stop::AtRecord(n, fault)) = end.end {
         if let (Some(path), Some(source)) = (inputs.get(n), end.sources.get(n)) {
-            give_hint(format_args!("{}:", Path(*path)), err);
-            hint_input(source, fault, err);
+            hint_source(*path, source, fault, err);
         }
     }
 }
@@ -160,7 +158,7 @@ fn flush_all<W: Write>(parts: &mut [PartEnd<Counted<W>>]) {
     }
 }
 
-/// Splits the captures as the lines ask.
+/// Splits the captures as the lines ask, and prints how many packets each part has.
 fn split_captures<R: Files + AllocGlobal, O: Write, E: TakesHints>(
     rt: &R,
     words: &SplitWords<'_>,
@@ -200,8 +198,11 @@ pub fn split_files<R: Files + AllocGlobal, O: Write, E: TakesHints>(
     let text = read_file(rt, words.lines, err)?;
     let plan = accepted(alloc, text.as_slice(), err)?;
     looked_at(rt, words, plan.lines.as_slice(), err)?;
-    let Ok(mut out) = BufWriter::with_capacity(alloc, OUTPUT_BUFFER, &mut *out) else {
+    let noted = Noted::new(&mut *out);
+    let Ok(mut out) = BufWriter::with_capacity(alloc, OUTPUT_BUFFER, noted) else {
         return Err(tell_fault(Fault::NoMemory, REFUSED, err));
     };
-    split_captures(rt, words, plan, &mut out, err)
+    let status = split_captures(rt, words, plan, &mut out, err)?;
+    hint_printed(out.get_ref(), err);
+    Ok(status)
 }

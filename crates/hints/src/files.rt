@@ -1,4 +1,4 @@
-//! Hints on files, and on the lines of LISTENERS, SCRIPT and LISTING.
+//! Hints on files, and on the lines of LINES, LISTENERS, SCRIPT and LISTING.
 
 ghost use Rattle.std.specs.Prelude.{◌≡◌, false};
 ghost use Rattle.listener.specs.Messages.{size};
@@ -7,6 +7,9 @@ use crate::shown::Shown;
 use crate::stream::{TakesHints, give_hint};
 use lines::fields::first_line;
 use std::io;
+
+/// The form of a line of LINES.
+pub const LINES: &str = "SNAP OUT EXPRESSION";
 
 /// The form of a line of LISTENERS of `bpftap steps`.
 pub const LISTENERS_OF_STEPS: &str = "SNAP CAPACITY EXPRESSION";

@@ -1,4 +1,4 @@
-//! A hint on an expression whose quotes are wanting.
+//! A hint on an expression whose quotes are wanting, or the option before it.
 
 ghost use Rattle.std.specs.Prelude.{◌≡◌, false};
 
@@ -36,10 +36,21 @@ fn is_lexed(alloc: Global, word: &str) -> bool {
     }
 }
 
-/// The words of a command line that look like an expression whose quotes are wanting: from one on that is a word of the filter
-/// language, all that are of its tokens. One word alone is none.
-fn unquoted<S: AsStr>(alloc: Global, words: &[S]) -> &[S] {
-    let Some(start) = words.iter().position(|word| is_word(word.as_str())) else {
+/// Whether a word begins with a word of the filter language.
+fn begins_expression(word: &str) -> bool {
+    match word.split_once(' ') {
+        Some((first, _)) => is_word(first),
+        None => is_word(word),
+    }
+}
+
+/// The words of a command line that look like an expression: from one on that begins with a word of the filter language, all that
+/// are of its tokens.
+fn expression_in<S: AsStr>(alloc: Global, words: &[S]) -> &[S] {
+    let Some(start) = words
+        .iter()
+        .position(|word| begins_expression(word.as_str()))
+    else {
         return &[];
     };
     let rest = &words[start..];
@@ -47,22 +58,43 @@ fn unquoted<S: AsStr>(alloc: Global, words: &[S]) -> &[S] {
         .iter()
         .position(|word| !is_lexed(alloc, word.as_str()))
         .unwrap_or(rest.len());
-    if end < 2 { &[] } else { &rest[..end] }
+    &rest[..end]
 }
 
-/// A hint on words that are refused: where they look like an expression without quotes, that it goes in quotes.
+/// Whether a word is an option that gives a filter.
+fn gives_filter(word: &str) -> bool {
+    word.starts_with("-e") || word.starts_with("-f")
+}
+
+/// Whether these are words of a command that takes an expression behind an option, and give it no filter.
+fn lacks_option<S: AsStr>(words: &[S]) -> bool {
+    let takes_one = words
+        .iter()
+        .any(|word| matches!(word.as_str(), "explain" | "cut"));
+    takes_one && !words.iter().any(|word| gives_filter(word.as_str()))
+}
+
+/// A hint on words that are refused: where they look like an expression without quotes, or without an option before it, how it is
+/// given.
 pub fn hint_unquoted<S: AsStr, E: TakesHints>(alloc: Global, words: &[S], err: &mut E)
     ensures quiet { E.takes_hints err.old ≡ false → err.new ≡ err.old }
 {
-    let expression = unquoted(alloc, words);
-    if expression.is_empty() {
-        return;
+    let expression = expression_in(alloc, words);
+    if !expression.is_empty() && lacks_option(words) {
+        give_hint(
+            format_args!(
+                "an expression stands behind -e, in quotes: -e '{}'",
+                Joined(expression)
+            ),
+            err,
+        )
+    } else if expression.len() > 1 {
+        give_hint(
+            format_args!(
+                "an expression is one word, in quotes: '{}'",
+                Joined(expression)
+            ),
+            err,
+        )
     }
-    give_hint(
-        format_args!(
-            "an expression is one word, in quotes: '{}'",
-            Joined(expression)
-        ),
-        err,
-    )
 }
