@@ -32,6 +32,12 @@ none_behind n (suc l) (x ∷ xs) outside = ap (λ (us : List Left). x ∷ us) (n
 
 -- ---- Step by step
 
+-- an element of a list stands in it, whatever is taken past its end
+pub get_or_again : {X : Type 0} (xs : List X) (i : ℕ) (d : X) → get_or xs i d ≡ get_or xs i (get_or xs i d)
+get_or_again [] i d = refl
+get_or_again (x ∷ xs) zero d = refl
+get_or_again (x ∷ xs) (suc i) d = get_or_again xs i d
+
 -- the writer took a front of a text, and this is the rest
 abbrev pub IsSoFar : Option (List ℕ) → Option (List ℕ) → List ℕ → List ℕ → Type 0
 IsSoFar old new whole rest = (front : List ℕ) × Appends old new front × (whole ≡ front ++ rest)

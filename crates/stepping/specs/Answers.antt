@@ -61,15 +61,22 @@ line_of l (Some x) = next_line l x
 abbrev pub line_at : ℕ → List Left → List ℕ
 line_at l xs = line_of l (slice_get xs l)
 
--- `step N arrive capture C place P time S.NNNNNNNNN len W`
-unfoldable pub arrival_line : ℕ → Placed → List ℕ
-arrival_line n p = codes "step " ++ decimal n ++ codes " arrive capture " ++ decimal p.capture ++ codes " place " ++ decimal p.place
-    ++ codes " time " ++ decimal p.packet.sec ++ codes "." ++ nine_digits p.packet.nanos
-    ++ codes " len " ++ decimal p.packet.len ++ end_of_line
+-- `capture C place P time S.NNNNNNNNN len W`
+unfoldable pub placed_text : Placed → List ℕ
+placed_text p = codes "capture " ++ decimal p.capture ++ codes " place " ++ decimal p.place
+    ++ codes " time " ++ decimal p.packet.sec ++ codes "." ++ nine_digits p.packet.nanos ++ codes " len " ++ decimal p.packet.len
+
+-- `step N arrive PACKET`
+abbrev pub arrival_line : ℕ → Placed → List ℕ
+arrival_line n p = codes "step " ++ decimal n ++ codes " arrive " ++ placed_text p ++ end_of_line
+
+-- `step N TEXT`
+abbrev pub step_line : ℕ → List ℕ → List ℕ
+step_line n text = codes "step " ++ decimal n ++ codes " " ++ text ++ end_of_line
 
 -- `step N arrive, no packet is left`
 abbrev pub no_packet_line : ℕ → List ℕ
-no_packet_line n = codes "step " ++ decimal n ++ codes " arrive, no packet is left" ++ end_of_line
+no_packet_line n = step_line n (codes "arrive, no packet is left")
 
 -- `step N WORD L`
 abbrev pub own_line : ℕ → List ℕ → ℕ → List ℕ

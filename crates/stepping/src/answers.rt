@@ -1,9 +1,9 @@
 //! What listeners answered, and why: what `bpftap steps -v` prints before the reports.
 
-ghost use Rattle.std.specs.Prelude.{◌≡◌, ◌++◌, map, IfOk, OnOk};
+ghost use Rattle.std.specs.Prelude.{◌≡◌, ◌++◌, map, IfOk, OnOk, Some};
 ghost use Rattle.lines.specs.Sending.{Takes};
 ghost use Rattle.lines.specs.Texts.{numbered};
-ghost use Rattle.stepping.specs.Answers.{IsAllLeft, fills_hold, next_line, behind, one_behind, line_at, arrival_line, no_packet_line, own_line, step_text, packets_behind, left_behind, answers_from, AreAllLeft};
+ghost use Rattle.stepping.specs.Answers.{IsAllLeft, fills_hold, next_line, behind, one_behind, line_at, placed_text, arrival_line, step_line, no_packet_line, own_line, step_text, packets_behind, left_behind, answers_from, AreAllLeft};
 ghost use Rattle.stepping.specs.Reasons.{answer_line, reason};
 ghost use Rattle.tap.specs.declared.step.Step.TheVariants.{Arrive};
 
@@ -13,9 +13,10 @@ use lines::sending::send;
 use lines::time::NineDigits;
 use listener::Fed;
 use std::alloc::{AllocError, Global};
-use std::io;
+use std::fmt::{Display, Formatter};
 use std::io::Write;
 use std::marker::Model;
+use std::{fmt, io};
 use tap::{Answer, Answered, Placed, Spec, Step};
 
 /// Puts the answer of the l-th listener, and why it was given, in place of what the line has. The record of an arrival has, or
@@ -175,22 +176,36 @@ fn go_on_one(all: &mut Vec<AnswersLeft<'_>>, n: usize, l: usize)
     }
 }
 
+/// A packet that arrives.
+#[derive(Clone, Copy)]
+struct Arriving<'a>(&'a Placed);
+
+impl Display for Arriving<'_> {
+    ghost output = { λ arriving. Some (placed_text arriving.0.now) };
+
+    #[tactic(auto, unfolding(crate::specs::Answers::placed_text))]
+    fn fmt<W: fmt::Write>(&self, f: &mut Formatter<W>) -> fmt::Result {
+        let Placed {
+            capture,
+            place,
+            packet,
+        } = self.0;
+        write!(
+            f,
+            "capture {capture} place {place} time {}.{}",
+            packet.sec,
+            NineDigits(packet.nanos)
+        )?;
+        write!(f, " len {}", packet.len)
+    }
+}
+
 /// Puts the line of the n-th step, an arrival that takes this packet, in place of what the line has.
-#[tactic(auto, unfolding(crate::specs::Answers::arrival_line))]
 fn put_arrival(line: &mut Line, n: usize, placed: &Placed) -> io::Result<()>
     ensures { OnOk result (line.new ≡ arrival_line n placed.now) }
 {
     line.clear();
-    let packet = &placed.packet;
-    write!(
-        line,
-        "step {n} arrive capture {} place {} time {}.{}",
-        placed.capture,
-        placed.place,
-        packet.sec,
-        NineDigits(packet.nanos)
-    )?;
-    writeln!(line, " len {}", packet.len)
+    writeln!(line, "step {n} arrive {}", Arriving(placed))
 }
 
 /// Writes the n-th step, an arrival that takes this packet, and all answers to it.
@@ -208,19 +223,19 @@ fn write_arrival<O: Write>(
     write_all(all, line, out)
 }
 
-/// Puts the line of the n-th step, an arrival for which no packet is left, in place of what the line has.
-fn put_no_packet(line: &mut Line, n: usize) -> io::Result<()>
-    ensures { OnOk result (line.new ≡ no_packet_line n) }
+/// Puts the line of the n-th step, of which this is told, in place of what the line has.
+fn put_step(line: &mut Line, n: usize, text: &str) -> io::Result<()>
+    ensures { OnOk result (line.new ≡ step_line n text.now) }
 {
     line.clear();
-    writeln!(line, "step {n} arrive, no packet is left")
+    writeln!(line, "step {n} {text}")
 }
 
 /// Writes the n-th step, an arrival for which no packet is left.
 fn write_no_packet<O: Write>(n: usize, line: &mut Line, out: &mut O) -> io::Result<()>
     ensures { Takes (O.contents out.old) (O.contents out.new) result (no_packet_line n) }
 {
-    put_no_packet(line, n)?;
+    put_step(line, n, "arrive, no packet is left")?;
     send(line.as_bytes(), out)
 }
 

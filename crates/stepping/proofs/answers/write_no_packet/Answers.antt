@@ -1,6 +1,8 @@
-use Rattle.std.proofs.Common.{◌∙◌, subst}
-use Rattle.lines.specs.Sending.{Takes}
+use Rattle.std.proofs.lemmas.Result.{err_from_is_err_and}
+use Rattle.lines.proofs.Taking.{TakesPart-none}
 use Rattle.stepping.proofs.answers.write_no_packet.Goals as goal
 
-pub returns : goal.returns
-returns g c = subst (λ text. Takes _ _ c.send.result text) (c.as_bytes.ensures ∙ c.in_ok-put_no_packet.ensures) c.send.ensures
+pub returns-in_err-put_step : goal.returns-in_err-put_step
+returns-in_err-put_step g c =
+    let p = err_from_is_err_and c.from_residual.result c.from_residual.ensures.1 in
+    rw p.1 (TakesPart-none _ _)

@@ -1,7 +1,9 @@
-use Rattle.std.proofs.Common.{inl, inr, true}
+use Rattle.std.proofs.Common.{inl, inr, true, refl}
 use Rattle.std.proofs.KnownBytes.{Keeps-refl}
 use Rattle.tap.specs.declared.fault.Fault.TheVariants.{NoMemory}
+use Rattle.stepping.specs.Answers.{answers_from}
 use Rattle.stepping.proofs.Ending.{Reported-of}
+use Rattle.stepping.proofs.Lefts.{lists}
 use Rattle.stepping.proofs.steps.play_explained.Goals as goal
 
 pub returns-in_default : goal.returns-in_default
@@ -14,4 +16,15 @@ returns-in_default g c = inr (record {
 })
 
 pub returns : goal.returns
-returns g c = ?
+returns g c =
+    let traced = c.in-Ok.traced in
+    let all = c.in-Ok-all_left.answers.items in
+    let stands = rw c.as_slice.ensures.value at (rw c.as_slice-2.ensures.value at c.in-Ok.ensures.stands) in
+    let replays = rw c.as_slice.ensures.value at (rw c.as_slice-2.ensures.value at c.in-Ok.ensures.tells) in
+    let traces = rw c.as_slice.ensures.value at (rw c.as_slice-2.ensures.value at c.in-Ok.ensures.answers) in
+    let complete = rw c.as_slice-3.ensures.value at (rw c.as_slice-4.ensures.value at c.in-Ok-all_left.ensures) in
+    let taken = rw c.as_slice-5.ensures.value at c.print_trace-printed.ensures in
+    inl (Reported-of true _ _ _ _ _ c.end.result traced.reports.items traced.record_fault traced.playlist.items c.print_trace-printed.result
+    (answers_from 1 c.args.asked.now.steps.items traced.playlist.items all) stands replays
+    (lists traced.answers.items, traces, record { all = all; complete = complete; is = refl })
+    taken c.end.ensures.tells c.end.ensures.greatest)
