@@ -1,14 +1,17 @@
 """`bpftap run`: what is refused before a file is opened, when each file is opened, and what is printed and written."""
+import fcntl
 import os
 import pathlib
 import re
 import resource
 import shutil
+import struct
 import subprocess
+import termios
 import time
 
 from .common import (
-    HEADER, IP_RECORD, LIMIT, PROGRAM, ROOT, TCP_RECORD, TORN, UDP_RECORD, VETH, case, header, records, told)
+    HEADER, IP_RECORD, LIMIT, PROGRAM, ROOT, TCP_RECORD, TORN, UDP_RECORD, VETH, as_bytes, case, header, records, told)
 
 T, U = TCP_RECORD, UDP_RECORD
 CAPTURES = {"t.pcap": HEADER + T, "tu.pcap": HEADER + T + U, "torn.pcap": TORN, "empty.pcap": "", "kept.pcap": "kept"}
@@ -327,21 +330,26 @@ def a_replay_ends_on_one_processor(scene):
 NOBODY = 54321
 
 
-def run_with_threads(scene, most):
+def run_with_threads(scene, most, captures):
     """What a run tells that may have so many threads, its first one among them, and the status; only root can try it."""
     def limited():
         resource.setrlimit(resource.RLIMIT_NPROC, (most, most))
         os.setgid(NOBODY)
         os.setuid(NOBODY)
     done = subprocess.run(
-        ["./bpftap", "run", "listeners.txt", "t.pcap", "+", "tu.pcap"], cwd=scene.folder, stdin=subprocess.DEVNULL,
+        ["./bpftap", "run", "listeners.txt", *captures.split()], cwd=scene.folder, stdin=subprocess.DEVNULL,
         capture_output=True, timeout=LIMIT, preexec_fn=limited)
     return done.stdout.decode(), done.stderr.decode(), done.returncode
 
 
+def unread(pipe):
+    """How many bytes of a pipe nobody has read."""
+    return struct.unpack("i", fcntl.ioctl(pipe, termios.FIONREAD, bytes(4)))[0]
+
+
 @case
 def each_thread_is_refused_in_turn(scene):
-    """Where one of the threads of a run is refused, that alone is told; with as many as it takes, all is written."""
+    """Where a thread of a run is refused, that alone is told, nothing is read of IN, and there is no OUT; else all is written."""
     if os.geteuid() != 0:
         return
     program = PROGRAM if PROGRAM != str(ROOT / "bpftap") else ROOT / "crates" / "bpftap" / "out" / "bpftap"
@@ -349,9 +357,18 @@ def each_thread_is_refused_in_turn(scene):
     for folder in [scene.folder, scene.folder.parent]:
         folder.chmod(0o777)
     scene.put({**CAPTURES, "listeners.txt": "0 0 0 1048576 2 left.pcap\n1 0 0 1048576 2 right.pcap\n1 0 96 1048576 2 /dev/null tcp\n"})
+    fifo = scene.folder / "in"
+    os.mkfifo(fifo)
+    fifo.chmod(0o666)
+    pipe = os.open(fifo, os.O_RDWR)
+    os.write(pipe, as_bytes(HEADER + T + U))
+    waiting = unread(pipe)
+    # One replays each interface, and for each listener one reads and one writes: nine with the first one. Some order of the
+    # threads that start may let one of them do something, so each is refused several times.
+    for most in 13 * [*range(1, 9)]:
+        scene.check(f"{most} threads", run_with_threads(scene, most, "in + in"), ("", told("NoStart"), 1))
+        scene.check("IN and OUT", (unread(pipe), scene.read("left.pcap"), scene.read("right.pcap")), (waiting, None, None))
+    os.close(pipe)
     reports = report((0, 0), 1, 1) + report((1, 0), 2, 2) + report((1, 1), 2, 1)
-    # One replays each interface, and for each listener one reads and one writes.
-    for most in range(1, 9):
-        scene.check(f"{most} threads", run_with_threads(scene, most), ("", told("NoStart"), 1))
-    scene.check("9 threads", run_with_threads(scene, 9), (reports, "", 0))
+    scene.check("9 threads", run_with_threads(scene, 9, "t.pcap + tu.pcap"), (reports, "", 0))
     scene.check("OUT", (scene.read("left.pcap"), scene.read("right.pcap")), (HEADER + T, HEADER + T + U))

@@ -35,8 +35,8 @@ pub(crate) struct Stage<W> {
 #[derive(Drop)]
 pub(crate) struct Crew<W: Sink + Drop> {
     pub(crate) task: Snapshot<Task<W>>,
-    pub(crate) reader: PromisedHandle<ReadEnd, ReadsOut>,
-    pub(crate) writer: PromisedHandle<WriteEnd<W>, WritesOut<W>>,
+    pub(crate) reader: PromisedHandle<Option<ReadEnd>, ReadsOut>,
+    pub(crate) writer: PromisedHandle<Option<WriteEnd<W>>, WritesOut<W>>,
     ghost profile: { reader.promise.drain.value.profile ≡ profile_of task.value.capacity task.value.mode },
     ghost out: { (writer.promise.output.value.sink ≡ task.value.sink) × (writer.promise.output.value.order ≡ task.value.order)
         × (writer.promise.output.value.unit ≡ task.value.unit) × (writer.promise.output.value.snap ≡ task.value.snap) },

@@ -13,6 +13,7 @@ use crate::fault::RunFault;
 use crate::gate::Gate;
 use crate::inlet::{Entry, Inlet};
 use crate::laid::Laid;
+use crate::launch::Launch;
 use crate::link::TaskLink;
 use crate::playing::{PlaysOut, play_out};
 use crate::reading::ListenerId;
@@ -22,7 +23,7 @@ use crate::threads::start;
 use savefile::{Sink, Source};
 use std::alloc::Global;
 use std::snapshot::Snapshot;
-use std::sync::{Mutex, Wait};
+use std::sync::Wait;
 use std::thread::{Scope, Threads};
 
 /// Each feeder beside its link.
@@ -106,6 +107,7 @@ fn start_all<
 >(
     rt: &'s R,
     scope: &Scope<'s, E>,
+    launch: &'s Launch,
     gate: &'s G,
     interface: u32,
     links: &'a [TaskLink],
@@ -125,14 +127,13 @@ fn start_all<
             interface,
             listener: k as u32,
         };
-        crews.push_reserved(start(rt, scope, gate, &links[k], stage, listener_id)?);
+        crews.push_reserved(start(rt, scope, launch, gate, &links[k], stage, listener_id)?);
     }
     Ok(crews)
 }
 
-/// Starts the threads of an interface. The replaying thread comes first, so that no task waits for packets where it is refused;
-/// it waits until `started` can be locked.
-fn launch<
+/// Starts the threads of an interface.
+fn launch_one<
     's,
     'a: 's,
     E,
@@ -144,8 +145,8 @@ fn launch<
     rt: &'s R,
     scope: &Scope<'s, E>,
     alloc: Global,
+    launch: &'s Launch,
     gate: &'s G,
-    started: &'s Mutex<()>,
     interface: u32,
     ready: Ready<'a, S, W>,
 ) -> Result<Running<S, W>, RunFault>
@@ -173,12 +174,12 @@ fn launch<
     let Ok(player) = scope.spawn_with(
         plays,
         move || play_out(
-            rt, started, alloc, gate, interface, inlets, captures, ends, sources,
+            rt, launch, alloc, gate, interface, inlets, captures, ends, sources,
         ),
     ) else {
         return Err(RunFault::NoStart);
     };
-    let crews = start_all(rt, scope, gate, interface, links, stages, crews)?;
+    let crews = start_all(rt, scope, launch, gate, interface, links, stages, crews)?;
     Ok(Running {
         player,
         crews,
@@ -186,7 +187,7 @@ fn launch<
     })
 }
 
-/// Starts the threads of all interfaces.
+/// Starts the threads of all interfaces, and lets them go. Where one is refused, the others end without having done anything.
 pub(crate) fn launch_all<
     's,
     'a: 's,
@@ -199,8 +200,8 @@ pub(crate) fn launch_all<
     rt: &'s R,
     scope: &Scope<'s, E>,
     alloc: Global,
+    launch: &'s Launch,
     gate: &'s G,
-    started: &'s Mutex<()>,
     ready: Vec<Ready<'a, S, W>>,
     mut running: Vec<Running<S, W>>,
 ) -> Result<Vec<Running<S, W>>, RunFault>
@@ -209,10 +210,10 @@ pub(crate) fn launch_all<
     ensures running { IfOk result (λ all. AllZip IsRunningOf ready.entry.items all.items) }
     ensures refused { IfErr result (λ fault. fault ≡ NoStart) }
 {
-    // Held until all threads were started, or one was refused.
-    let _starting = started.lock(rt);
+    let mut all_started = launch.begin(rt);
     for (i, one) in ready.into_iter().enumerate() {
-        running.push_reserved(launch(rt, scope, alloc, gate, started, i as u32, one)?);
+        running.push_reserved(launch_one(rt, scope, alloc, launch, gate, i as u32, one)?);
     }
+    *all_started = true;
     Ok(running)
 }

@@ -8,6 +8,7 @@ mod gate;
 mod inlet;
 mod interface;
 mod laid;
+mod launch;
 mod link;
 mod patience;
 mod player;

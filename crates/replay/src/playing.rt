@@ -1,6 +1,6 @@
 //! The thread that reads the captures of an interface.
 
-ghost use Rattle.std.specs.Prelude.{◌≡◌, ◌≤◌, ◌-◌, ◌^◌, All, List, [], map, length, vec_capacity};
+ghost use Rattle.std.specs.Prelude.{◌≡◌, ◌≤◌, ◌-◌, ◌^◌, All, IfSome, List, [], map, length, vec_capacity};
 ghost use Rattle.listener.specs.Messages.{Arrival};
 ghost use Rattle.replay.specs.Lines.{HasArrived, IsFresh, Line, entry_line, ended_all, ended_of, line_of};
 ghost use Rattle.replay.specs.Captures.{GivesPlaylist};
@@ -9,13 +9,14 @@ ghost use Rattle.replay.specs.Writing.{IsTimely};
 
 use crate::gate::Gate;
 use crate::inlet::{Entry, Inlet};
+use crate::launch::Launch;
 use crate::player::Player;
 use crate::report::InterfaceEnd;
 use handover::FeedEnd;
 use savefile::Source;
 use std::alloc::Global;
 use std::snapshot::Snapshot;
-use std::sync::{Mutex, Wait};
+use std::sync::Wait;
 use std::thread::Promise;
 
 /// What the replaying thread of an interface hands back.
@@ -26,15 +27,15 @@ pub(crate) struct PlayEnd<R> {
     pub(crate) end: InterfaceEnd,
 }
 
-/// A replaying thread hands back these feeders ended, behind the packets of these captures.
+/// A replaying thread hands back these feeders ended, behind the packets of these captures; nothing where a thread was refused.
 #[derive(Drop)]
 pub(crate) struct PlaysOut<R> {
     pub(crate) entries: Snapshot<Vec<Entry>>,
     pub(crate) captures: Snapshot<Vec<R>>,
 }
 
-impl<R: Source> Promise<PlayEnd<R>> for PlaysOut<R> {
-    ghost kept_by = { λ p r. HasPlayedOut R.left R.failures (map entry_line p.entries.value.items) p.captures.value.items r };
+impl<R: Source> Promise<Option<PlayEnd<R>>> for PlaysOut<R> {
+    ghost kept_by = { λ p r. IfSome r (HasPlayedOut R.left R.failures (map entry_line p.entries.value.items) p.captures.value.items) };
 }
 
 /// Ends all feeders.
@@ -49,10 +50,10 @@ fn end_all(inlets: Vec<Inlet<'_>>, mut ends: Vec<FeedEnd>) -> Vec<FeedEnd>
     ends
 }
 
-/// Gives the packets of all captures to the feeders, once `started` can be locked, and ends these.
+/// Gives the packets of all captures to the feeders, and ends these. Where a thread was refused, it does nothing.
 pub(crate) fn play_out<S: Source + Drop, G: Gate, R: Wait>(
     rt: &R,
-    started: &Mutex<()>,
+    launch: &Launch,
     alloc: Global,
     gate: &G,
     interface: u32,
@@ -60,14 +61,16 @@ pub(crate) fn play_out<S: Source + Drop, G: Gate, R: Wait>(
     captures: Vec<S>,
     ends: Vec<FeedEnd>,
     sources: Vec<S>,
-) -> PlayEnd<S>
+) -> Option<PlayEnd<S>>
     requires fresh { All IsFresh (map line_of inlets.items) }
     requires few { length captures.items ≤ 65536 }
     requires room { (length ends.items ≡ 0) × (length inlets.items ≤ vec_capacity ends)
         × (length sources.items ≡ 0) × (length captures.items ≤ vec_capacity sources) }
-    ensures { HasPlayedOut S.left S.failures (map line_of inlets.entry.items) captures.items result }
+    ensures { IfSome result (HasPlayedOut S.left S.failures (map line_of inlets.entry.items) captures.items) }
 {
-    drop(started.lock(rt));
+    if !launch.is_whole(rt) {
+        return None;
+    }
     let mut player = Player {
         interface,
         inlets,
@@ -75,5 +78,5 @@ pub(crate) fn play_out<S: Source + Drop, G: Gate, R: Wait>(
     };
     let (sources, end) = player.give_captures(alloc, gate, captures, sources);
     let ends = end_all(player.inlets, ends);
-    PlayEnd { ends, sources, end }
+    Some(PlayEnd { ends, sources, end })
 }

@@ -1,6 +1,6 @@
 //! The thread that reads a listener.
 
-ghost use Rattle.std.specs.Prelude.{◌≡◌, ◌≢◌, [], ◌∷◌, ◌++◌, true, IfOk, IfErr};
+ghost use Rattle.std.specs.Prelude.{◌≡◌, ◌≢◌, [], ◌∷◌, ◌++◌, true, IfOk, IfErr, IfSome};
 ghost use Rattle.rtrb.specs.Ring.{sent, SameProducer};
 ghost use Rattle.listener.specs.Buffers.{filled};
 ghost use Rattle.handover.specs.Ends.{IsSameDrain};
@@ -8,6 +8,7 @@ ghost use Rattle.handover.specs.History.{batches_of, ended_in};
 ghost use Rattle.replay.specs.Reading.{HasRead, messages_of};
 
 use crate::gate::Gate;
+use crate::launch::Launch;
 use crate::link::TaskLink;
 use crate::patience::Patience;
 use handover::{Drain, DrainEnd, Read};
@@ -44,15 +45,15 @@ pub(crate) enum Stop {
     Foreign,
 }
 
-/// A reading thread hands back what it read of this drain, and pushed into this ring.
+/// A reading thread hands back what it read of this drain, and pushed into this ring; nothing where a thread was refused.
 #[derive(Drop)]
 pub(crate) struct ReadsOut {
     pub(crate) drain: Snapshot<Drain>,
     pub(crate) full: Snapshot<Producer<Buffer>>,
 }
 
-impl Promise<ReadEnd> for ReadsOut {
-    ghost kept_by = { λ p r. HasRead p.drain.value p.full.value r };
+impl Promise<Option<ReadEnd>> for ReadsOut {
+    ghost kept_by = { λ p r. IfSome r (HasRead p.drain.value p.full.value) };
 }
 
 /// What came of one read.
@@ -156,20 +157,25 @@ fn next_empty<R: Wait>(
     unreachable!()
 }
 
-/// Reads until the end is found, or until nobody gives buffers back any more. Then it closes the drain.
+/// Reads until the end is found, or until nobody gives buffers back any more. Then it closes the drain. Where a thread was
+/// refused, it does nothing.
 pub(crate) fn read_out<G: Gate, R: Wait>(
     rt: &R,
+    launch: &Launch,
     gate: &G,
     link: &TaskLink,
     mut drain: Drain,
     mut full: Producer<Buffer>,
     mut empty: Consumer<Buffer>,
     listener_id: ListenerId,
-) -> ReadEnd
+) -> Option<ReadEnd>
     requires pair { drain.pair ≡ link.now }
     requires new { (drain.takes ≡ []) × (sent full ≡ []) }
-    ensures { HasRead drain full result }
+    ensures { IfSome result (HasRead drain full) }
 {
+    if !launch.is_whole(rt) {
+        return None;
+    }
     let capacity = drain.capacity();
     let mut spare: Option<Buffer> = None;
     let mut stop = Stop::Abandoned;
@@ -203,5 +209,5 @@ pub(crate) fn read_out<G: Gate, R: Wait>(
         stop,
     };
     link.wake_writer();
-    end
+    Some(end)
 }

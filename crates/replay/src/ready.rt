@@ -36,7 +36,7 @@ pub(crate) struct Ready<'a, R, W: Sink + Drop> {
 /// An interface that is replayed.
 #[derive(Drop)]
 pub(crate) struct Running<R: Source + Drop, W: Sink + Drop> {
-    pub(crate) player: PromisedHandle<PlayEnd<R>, PlaysOut<R>>,
+    pub(crate) player: PromisedHandle<Option<PlayEnd<R>>, PlaysOut<R>>,
     pub(crate) crews: Vec<Crew<W>>,
     pub(crate) reports: Vec<ListenerReport<W>>,
     ghost lines: { map entry_line player.promise.entries.value.items ≡ map crew_line crews.items },

@@ -1,6 +1,6 @@
 //! Waiting for the threads of interfaces, and telling what became of them.
 
-ghost use Rattle.std.specs.Prelude.{◌≡◌, ◌≤◌, length, map, vec_capacity, List, All};
+ghost use Rattle.std.specs.Prelude.{◌≡◌, ◌≤◌, length, map, vec_capacity, List, All, IfErr, IfOk};
 ghost use Rattle.std.specs.List.{AllZip};
 ghost use Rattle.listener.specs.Messages.{Arrival};
 ghost use Rattle.replay.specs.Crews.{crew_line, crew_pair, crew_task};
@@ -8,8 +8,10 @@ ghost use Rattle.replay.specs.Lines.{ended_all, ended_of, fed_all};
 ghost use Rattle.replay.specs.Replayed.{IsServed};
 ghost use Rattle.replay.specs.RunsEnded.{HasItsPairs, IsReportOf, past_pair};
 ghost use Rattle.replay.specs.Writing.{IsTimely};
+ghost use Rattle.replay.specs.declared.fault.RunFault.TheVariants.{NoStart};
 
 use crate::crew::Crew;
+use crate::fault::RunFault;
 use crate::link::TaskLink;
 use crate::playing::PlayEnd;
 use crate::ready::Running;
@@ -27,13 +29,15 @@ fn report_tasks<W: Sink + Drop, R: Threads>(
     ends: Vec<FeedEnd>,
     crews: Vec<Crew<W>>,
     mut reports: Vec<ListenerReport<W>>,
-) -> Vec<ListenerReport<W>>
+) -> Result<Vec<ListenerReport<W>>, RunFault>
     requires pairs { map crew_pair crews.items ≡ links.items }
     requires fed { (playlist : List Arrival) × All (λ a. IsTimely a.packet.nanos) playlist × (map ended_of ends.items ≡ ended_all (map (fed_all playlist) (map crew_line crews.items))) }
     requires room { (length reports.items ≡ 0) × (length crews.items ≤ vec_capacity reports) }
-    ensures pairs { map past_pair result.items ≡ map crew_pair crews.items }
-    ensures served { (playlist : List Arrival) → All (λ a. IsTimely a.packet.nanos) playlist → map ended_of ends.items ≡ ended_all (map (fed_all playlist) (map crew_line crews.items)) →
-        AllZip (IsServed W.taken W.failures playlist) (map crew_task crews.items) result.items }
+    ensures pairs { IfOk result (λ reports. map past_pair reports.items ≡ map crew_pair crews.items) }
+    ensures served { IfOk result (λ reports. (playlist : List Arrival) → All (λ a. IsTimely a.packet.nanos) playlist →
+        map ended_of ends.items ≡ ended_all (map (fed_all playlist) (map crew_line crews.items)) →
+        AllZip (IsServed W.taken W.failures playlist) (map crew_task crews.items) reports.items) }
+    ensures refused { IfErr result (λ fault. fault ≡ NoStart) }
 {
     let mut links = links.into_iter();
     let mut ends = ends.into_iter();
@@ -44,10 +48,12 @@ fn report_tasks<W: Sink + Drop, R: Threads>(
         let Some(feed) = ends.next() else {
             unreachable!()
         };
-        let done = finish(rt, crew);
+        let Some(done) = finish(rt, crew) else {
+            return Err(RunFault::NoStart);
+        };
         reports.push_reserved(settled(link, feed, done));
     }
-    reports
+    Ok(reports)
 }
 
 /// Waits for the threads of an interface.
@@ -55,21 +61,24 @@ fn report_one<S: Source + Drop, W: Sink + Drop, R: Threads>(
     rt: &R,
     links: Vec<TaskLink>,
     running: Running<S, W>,
-) -> InterfaceReport<S, W>
+) -> Result<InterfaceReport<S, W>, RunFault>
     requires { map crew_pair running.crews.items ≡ links.items }
-    ensures { IsReportOf S.left S.failures W.taken W.failures running result }
+    ensures report { IfOk result (IsReportOf S.left S.failures W.taken W.failures running) }
+    ensures refused { IfErr result (λ fault. fault ≡ NoStart) }
 {
     let Running {
         player,
         crews,
         reports,
     } = running;
-    let PlayEnd { ends, sources, end } = player.join(rt);
-    InterfaceReport {
+    let Some(PlayEnd { ends, sources, end }) = player.join(rt) else {
+        return Err(RunFault::NoStart);
+    };
+    Ok(InterfaceReport {
         end,
         sources,
-        listeners: report_tasks(rt, links, ends, crews, reports),
-    }
+        listeners: report_tasks(rt, links, ends, crews, reports)?,
+    })
 }
 
 /// Waits for the threads of all interfaces.
@@ -78,17 +87,18 @@ pub(crate) fn report_all<S: Source + Drop, W: Sink + Drop, R: Threads>(
     links: Vec<Vec<TaskLink>>,
     running: Vec<Running<S, W>>,
     mut reports: Vec<InterfaceReport<S, W>>,
-) -> Vec<InterfaceReport<S, W>>
+) -> Result<Vec<InterfaceReport<S, W>>, RunFault>
     requires pairs { AllZip HasItsPairs links.items running.items }
     requires room { (length reports.items ≡ 0) × (length running.items ≤ vec_capacity reports) }
-    ensures { AllZip (IsReportOf S.left S.failures W.taken W.failures) running.items result.items }
+    ensures reports { IfOk result (λ reports. AllZip (IsReportOf S.left S.failures W.taken W.failures) running.items reports.items) }
+    ensures refused { IfErr result (λ fault. fault ≡ NoStart) }
 {
     let mut links = links.into_iter();
     for one in running {
         let Some(its_links) = links.next() else {
             unreachable!()
         };
-        reports.push_reserved(report_one(rt, its_links, one));
+        reports.push_reserved(report_one(rt, its_links, one)?);
     }
-    reports
+    Ok(reports)
 }

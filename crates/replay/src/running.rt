@@ -12,6 +12,7 @@ use crate::fault::RunFault;
 use crate::gate::Gate;
 use crate::interface::{launch_all, link_all};
 use crate::laid::AllLaid;
+use crate::launch::Launch;
 use crate::ready::{Ready, Running};
 use crate::report::InterfaceReport;
 use crate::reporting::report_all;
@@ -19,7 +20,7 @@ use crate::setup::lay_all;
 use crate::task::Interface;
 use savefile::{Sink, Source};
 use std::alloc::Global;
-use std::sync::{Mutex, Wait};
+use std::sync::Wait;
 use std::thread;
 use std::thread::Threads;
 
@@ -42,15 +43,15 @@ fn in_threads<
     ensures running { IfOk result (λ all. AllZip IsRunningOf ready.entry.items all.items) }
     ensures refused { IfErr result (λ fault. fault ≡ NoStart) }
 {
-    let started = Mutex::new(());
-    let begun = &started;
+    let launch = Launch::new();
+    let launched = &launch;
     thread::scope(
         thread::scope_env(),
         rt,
         move |scope| -> Result<Vec<Running<S, W>>, RunFault>
             requires { (length ready.items ≤ 16) × (length running.items ≡ 0) × (length ready.items ≤ vec_capacity running) }
             ensures { IfOk result (λ all. AllZip IsRunningOf ready.entry.items all.items) × IfErr result (λ fault. fault ≡ NoStart) }
-        { launch_all(rt, scope, alloc, gate, begun, ready, running) },
+        { launch_all(rt, scope, alloc, launched, gate, ready, running) },
     )
 }
 
@@ -73,8 +74,9 @@ fn in_threads<
 ///
 /// Before anything is read, written or made the numbers are tested, and the first fault is answered: [`RunFault::TooMany`], then
 /// by interface and task [`RunFault::Open`]. [`RunFault::NoStart`] comes only where none stands: memory or a thread was refused,
-/// and what the sinks hold is not said then. What the call grows it grows before the threads' work (tried by hand, not proved), but
-/// for the half mebibyte with which each capture is read; where that is refused it is the capture's fault.
+/// and nothing was read, written or told to the gate (tested, not proved). What the call grows it grows before the threads' work
+/// (tried by hand, not proved), but for the half mebibyte with which each capture is read; where that is refused it is the
+/// capture's fault.
 pub fn run<
     S: Source + Send + Drop,
     W: Sink + Send + Drop,
@@ -96,5 +98,5 @@ pub fn run<
     let AllLaid { links, laid } = lay_all(alloc, interfaces)?;
     let ready = link_all(alloc, links.as_slice(), laid)?;
     let running = in_threads(rt, alloc, gate, ready, running)?;
-    Ok(report_all(rt, links, running, reports))
+    report_all(rt, links, running, reports)
 }

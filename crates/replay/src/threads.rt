@@ -1,12 +1,13 @@
 //! Starting the two threads of a task, and waiting for them.
 
-ghost use Rattle.std.specs.Prelude.{◌≡◌, IfOk, IfErr};
+ghost use Rattle.std.specs.Prelude.{◌≡◌, IfOk, IfErr, IfSome};
 ghost use Rattle.replay.specs.Crews.{IsDone, crew_pair};
 ghost use Rattle.replay.specs.declared.fault.RunFault.TheVariants.{NoStart};
 
 use crate::crew::{Crew, Done, Stage};
 use crate::fault::RunFault;
 use crate::gate::Gate;
+use crate::launch::Launch;
 use crate::link::TaskLink;
 use crate::reading::{ListenerId, ReadsOut, read_out};
 use crate::writer::{WritesOut, write_out};
@@ -15,7 +16,7 @@ use std::snapshot::Snapshot;
 use std::sync::Wait;
 use std::thread::{Scope, Threads};
 
-/// Starts the threads of a task. Where the writer is refused, the reading thread ends as soon as it has no buffer left.
+/// Starts the threads of a task.
 pub(crate) fn start<
     's,
     'a: 's,
@@ -26,6 +27,7 @@ pub(crate) fn start<
 >(
     rt: &'s R,
     scope: &Scope<'s, E>,
+    launch: &'s Launch,
     gate: &'s G,
     link: &'a TaskLink,
     stage: Stage<W>,
@@ -54,13 +56,22 @@ pub(crate) fn start<
     };
     let Ok(reader) = scope.spawn_with(
         reads,
-        move || read_out(rt, gate, link, drain, full_in, empty_out, listener_id),
+        move || read_out(
+            rt,
+            launch,
+            gate,
+            link,
+            drain,
+            full_in,
+            empty_out,
+            listener_id,
+        ),
     ) else {
         return Err(RunFault::NoStart);
     };
     let Ok(writer) = scope.spawn_with(
         writes,
-        move || write_out(rt, link, output, full_out, empty_in),
+        move || write_out(rt, launch, link, output, full_out, empty_in),
     ) else {
         return Err(RunFault::NoStart);
     };
@@ -71,18 +82,18 @@ pub(crate) fn start<
     })
 }
 
-/// Waits for the threads of a task.
-pub(crate) fn finish<W: Sink + Drop, R: Threads>(rt: &R, crew: Crew<W>) -> Done<W>
-    ensures task { result.task.value ≡ crew.task.value }
-    ensures pair { result.read.drain.pair ≡ crew_pair crew }
-    ensures done { IsDone W.taken W.failures result }
+/// Waits for the threads of a task, and tells what they did where all were started.
+pub(crate) fn finish<W: Sink + Drop, R: Threads>(rt: &R, crew: Crew<W>) -> Option<Done<W>>
+    ensures task { IfSome result (λ done. done.task.value ≡ crew.task.value) }
+    ensures pair { IfSome result (λ done. done.read.drain.pair ≡ crew_pair crew) }
+    ensures done { IfSome result (IsDone W.taken W.failures) }
 {
     let Crew {
         task,
         reader,
         writer,
     } = crew;
-    let read = reader.join(rt);
-    let write = writer.join(rt);
-    Done { task, read, write }
+    let read = reader.join(rt)?;
+    let write = writer.join(rt)?;
+    Some(Done { task, read, write })
 }

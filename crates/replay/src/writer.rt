@@ -1,12 +1,13 @@
 //! The thread that writes what was read.
 
-ghost use Rattle.std.specs.Prelude.{◌≡◌, List, []};
+ghost use Rattle.std.specs.Prelude.{◌≡◌, IfSome, List, []};
 ghost use Rattle.rtrb.specs.Ring.{received};
 ghost use Rattle.listener.specs.declared.message.Message.{Message};
 ghost use Rattle.replay.specs.Writing.{Writes};
 ghost use Rattle.replay.specs.declared.writing.Output.{Output};
 ghost use Rattle.replay.specs.WrittenOut.{HasWrittenOut};
 
+use crate::launch::Launch;
 use crate::link::TaskLink;
 use crate::patience::Patience;
 use crate::writing::{Output, Written};
@@ -25,15 +26,15 @@ pub(crate) struct WriteEnd<W> {
     pub(crate) full: Consumer<Buffer>,
 }
 
-/// A writer thread hands back what it wrote into this savefile, out of this ring.
+/// A writer thread hands back what it wrote into this savefile, out of this ring; nothing where a thread was refused.
 #[derive(Drop)]
 pub(crate) struct WritesOut<W> {
     pub(crate) output: Snapshot<Output<W>>,
     pub(crate) full: Snapshot<Consumer<Buffer>>,
 }
 
-impl<W: Sink> Promise<WriteEnd<W>> for WritesOut<W> {
-    ghost kept_by = { λ p r. HasWrittenOut W.taken W.failures p.output.value p.full.value r };
+impl<W: Sink> Promise<Option<WriteEnd<W>>> for WritesOut<W> {
+    ghost kept_by = { λ p r. IfSome r (HasWrittenOut W.taken W.failures p.output.value p.full.value) };
 }
 
 /// Gives an empty buffer back. Where nobody takes it, it is let go.
@@ -58,17 +59,21 @@ fn wait<W: Sink, R: Wait>(
 }
 
 /// Writes what comes through the ring, until its other end is dropped and nothing is in it, or a fault came. The sink hands on what
-/// it has gathered before the thread parks, and in the end.
-pub(crate) fn write_out<W: Sink, R: Wait>(
+/// it has gathered before the thread parks, and in the end. Where a thread was refused, it does nothing.
+pub(crate) fn write_out<W: Sink + Drop, R: Wait>(
     rt: &R,
+    launch: &Launch,
     link: &TaskLink,
     output: Output<W>,
     mut full: Consumer<Buffer>,
     mut empty: Producer<Buffer>,
-) -> WriteEnd<W>
+) -> Option<WriteEnd<W>>
     requires { received full ≡ [] }
-    ensures { HasWrittenOut W.taken W.failures output full result }
+    ensures { IfSome result (HasWrittenOut W.taken W.failures output full) }
 {
+    if !launch.is_whole(rt) {
+        return None;
+    }
     let mut written = Written::open(output);
     let mut last = false;
     let mut patience = Patience::new();
@@ -98,5 +103,5 @@ pub(crate) fn write_out<W: Sink, R: Wait>(
     drop(empty);
     link.wake_reader();
     written.flush();
-    WriteEnd { written, full }
+    Some(WriteEnd { written, full })
 }
