@@ -7,7 +7,7 @@ pub loop-i-preserved : goal.loop-i-preserved
 loop-i-preserved g c = (
   search rules,
   search rules,
-  completes-next IsRunningOf _ _ _ c.in-Some.one _ _ _ c.loop-i.invariant.2 c.in-Some.ensures.steps.0.0 c.push_reserved.ensures.items c.in_ok-launch.ensures.running,
+  completes-next IsRunningOf _ _ _ c.in-Some.one _ _ _ c.loop-i.invariant.2 c.in-Some.ensures.steps.0.0 c.push_reserved.ensures.items c.in_ok-launch_one.ensures.running,
   search rules,
   search rules,
   search rules,

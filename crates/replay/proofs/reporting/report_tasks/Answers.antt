@@ -30,18 +30,18 @@ loop-crew-preserved g c =
             n.1,
             completes-next (IsServed g.W.Sink.taken g.W.Sink.failures playlist) _ _ _ (crew_task c.in-Some.crew) _ _ _ so_far
                 (ap (λ cs. map crew_task cs) c.in-Some.ensures.steps.0) c.push_reserved.ensures.items
-                (served g.W.Sink.taken g.W.Sink.failures playlist (crew_task c.in-Some.crew) c.in-Some-next-2.feed.feeds c.finish-done.result.read.drain.takes c.settled.result
+                (served g.W.Sink.taken g.W.Sink.failures playlist (crew_task c.in-Some.crew) c.in-Some-next-2.feed.feeds c.in-Some-finish.done.read.drain.takes c.settled.result
                 (ap (λ (l : EndedLine). l.asks) n.0) (c.settled.ensures.past.1, c.settled.ensures.past.2)
                 (c.settled.ensures.past.3 ∙ ap (λ (l : EndedLine). l.profile) n.0)
-                (subst (λ (t : Task _). IsReported g.W.Sink.taken g.W.Sink.failures t c.in-Some-next-2.feed.feeds c.finish-done.result.read.drain.takes c.settled.result)
-                c.finish-done.ensures.task c.settled.ensures.report)),
+                (subst (λ (t : Task _). IsReported g.W.Sink.taken g.W.Sink.failures t c.in-Some-next-2.feed.feeds c.in-Some-finish.done.read.drain.takes c.settled.result)
+                c.in-Some-finish.ensures.task c.settled.ensures.report)),
           )),
       (let all = map crew_pair c.args.crews.items in
           let rest = c.next.new.self.rest.items in
           let before : map past_pair c.loop-crew.reports.items ++ map crew_pair (c.in-Some.crew ∷ rest) ≡ all =
           subst (λ cs. map past_pair c.loop-crew.reports.items ++ map crew_pair cs ≡ all) c.in-Some.ensures.steps.0 c.loop-crew.invariant.5 in
           subst (λ rs. map past_pair rs ++ map crew_pair rest ≡ all) (sym c.push_reserved.ensures.items)
-          (moved past_pair crew_pair c.loop-crew.reports.items c.settled.result c.in-Some.crew rest all before (c.settled.ensures.past.0 ∙ c.finish-done.ensures.pair))),
+          (moved past_pair crew_pair c.loop-crew.reports.items c.settled.result c.in-Some.crew rest all before (c.settled.ensures.past.0 ∙ c.in-Some-finish.ensures.pair))),
       search rules,
       search rules,
     )
