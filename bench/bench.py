@@ -288,22 +288,29 @@ def beside(folder, capture, interfaces, listeners):
             ["tcpdump", *stay, "-r", str(capture), "-w", str(folder / f"{i}-{l}-tcpdump.pcap"), *FILTERS[l].split()] for i, l in places]
 
 
+def rejected(folder):
+    """User instructions of a packet that no listener accepts, of one listener and of each more, and of the same by `cut`."""
+    filtered = ["-s", "0", "-e", "less 1"]
+    counts = {}
+    for many in (1000, 11000):
+        capture = folder / f"{many}.pcap"
+        generate(capture, many)
+        for listeners in (1, 2):
+            lines = folder / f"nobody-{listeners}.txt"
+            lines.write_text("".join(f"0 0 0 1048576 2 {folder / f'nobody-{l}.pcap'} less 1\n" for l in range(listeners)))
+            counts[listeners, many] = instructions_of([str(PROGRAM), "run", str(lines), str(capture)], folder)
+        counts["cut", many] = instructions_of([str(PROGRAM), "cut", *filtered, str(capture), str(folder / "nobody.pcap")], folder)
+    of = {name: (counts[name, 11000] - counts[name, 1000]) / 10000 for name in (1, 2, "cut")}
+    print(f"user instructions for each packet that nobody accepts: run {of[1]:.0f}, each listener more {of[2] - of[1]:.0f}, cut {of['cut']:.0f}")
+
+
 def replays(folder, packets, rounds):
     """Replays beside as many cuts, and what small rings cost. The reader of a capture does not wait for its listeners, so a
     listener that is slower drops."""
     capture = folder / "in.pcap"
     generate(capture, packets)
     if shutil.which("valgrind"):
-        nobody, listeners = folder / "nobody.pcap", folder / "nobody.txt"
-        listeners.write_text(f"0 0 0 1048576 2 {nobody} less 1\n")
-        counts = {}
-        for many in (1000, 11000):
-            small = folder / f"{many}.pcap"
-            generate(small, many)
-            for name, words in [("run", [str(listeners), str(small)]), ("cut", ["-s", "0", "-e", "less 1", str(small), str(nobody)])]:
-                counts[name, many] = instructions_of([str(PROGRAM), name, *words], folder)
-        told = ", ".join(f"{name} {(counts[name, 11000] - counts[name, 1000]) / 10000:.0f}" for name in ["run", "cut"])
-        print(f"user instructions for each packet that nobody accepts: {told}")
+        rejected(folder)
     print(f"{packets} packets, {capture.stat().st_size / 1e6:.0f} MB, median of {rounds} rounds, {os.cpu_count()} processors")
     for interfaces, listeners in [(1, 1), (1, 2), (1, 4), (1, 8), (2, 1), (4, 1)]:
         seen, many = {}, interfaces * packets
