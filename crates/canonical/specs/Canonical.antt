@@ -1,7 +1,7 @@
 -- The canonical text of a tree: operators and comparisons with a space on both sides, accessors without.
 use Rattle.std.specs.Prelude.{ℕ, List, [], ◌++◌, if◌then◌else◌, codes}
 use Rattle.std.specs.Fmt.{decimal}
-use Rattle.filterlang.specs.Trees.{Amount, number, wire_length, minus, binary, accessor, Tree, everything, test, relation, negation, both, either}
+use Rattle.syntax.specs.Trees.{Amount, number, wire_length, minus, binary, accessor, Tree, everything, test, relation, negation, both, either}
 use Rattle.canonical.specs.Types.{Parentheses, All, Needed, Operator, Comparison, Layer, Size, And, Or}
 use Rattle.canonical.specs.Types.operator
 use Rattle.canonical.specs.Types.comparison

@@ -1,6 +1,6 @@
 -- Where parentheses stand, and how deep they and the other signs lie within one another.
 use Rattle.std.specs.Prelude.{ℕ, zero, suc, Bool, true, false, not, ◌&&◌, ◌==◌, nat_lt, nat_le, if◌then◌else◌, List, [], ◌++◌, codes, Option, Some, None}
-use Rattle.filterlang.specs.Trees.{Amount, number, wire_length, minus, binary, accessor, Tree, everything, test, relation, negation, both, either}
+use Rattle.syntax.specs.Trees.{Amount, number, wire_length, minus, binary, accessor, Tree, everything, test, relation, negation, both, either}
 use Rattle.filterlang.specs.Operators.{precedence_of}
 use Rattle.canonical.specs.Types.{Parentheses, All, Needed, Operator, Joint, And, Or}
 

@@ -7,7 +7,7 @@ mod values;
 
 ghost use Rattle.std.specs.Prelude.{◌≡◌, Some};
 ghost use Rattle.std.specs.Fmt.{WritesOnOk};
-ghost use Rattle.filterlang.specs.Trees.{amount_of, tree_of};
+ghost use Rattle.syntax.specs.Trees.{amount_of, tree_of};
 ghost use Rattle.canonical.specs.Canonical.{canonical, relation_text, tree_text, parentheses_of};
 
 use crate::parentheses::{

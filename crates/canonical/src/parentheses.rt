@@ -1,7 +1,7 @@
 //! Where parentheses stand, and how deep they and the other signs lie within one another.
 
 ghost use Rattle.std.specs.Prelude.{◌≡◌, ◌&&◌};
-ghost use Rattle.filterlang.specs.Trees.{amount_of, tree_of};
+ghost use Rattle.syntax.specs.Trees.{amount_of, tree_of};
 ghost use Rattle.filterlang.specs.Operators.{precedence_of};
 ghost use Rattle.canonical.specs.Parentheses.{is_binary, left_enclosed, right_enclosed, side_enclosed, is_joined, first_enclosed, negated_enclosed, behind, fits_behind, value_fits, fits};
 

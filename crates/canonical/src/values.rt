@@ -2,7 +2,7 @@
 
 ghost use Rattle.std.specs.Prelude.{◌≡◌};
 ghost use Rattle.std.specs.Fmt.{WritesOnOk};
-ghost use Rattle.filterlang.specs.Trees.{amount_of};
+ghost use Rattle.syntax.specs.Trees.{amount_of};
 ghost use Rattle.canonical.specs.Canonical.{operator_text, comparison_text, layer_text, size_text, value_text};
 ghost use Rattle.canonical.specs.Parentheses.{opened, closed, between};
 

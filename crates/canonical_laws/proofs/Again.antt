@@ -5,7 +5,7 @@ use Rattle.filterlang.specs.declared.token.Kind.{Kind}
 use Rattle.filterlang.specs.declared.token.Token.{Token}
 use Rattle.filterlang.specs.Tokens.{Lexes}
 use Rattle.filterlang.specs.Phrases.{kinds}
-use Rattle.filterlang.specs.Trees.{Tree, everything}
+use Rattle.syntax.specs.Trees.{Tree, everything}
 use Rattle.filterlang.specs.Grammar.{Reads, reads_nothing, reads_expr}
 use Rattle.filterlang.specs.Texts.{ReadsAs}
 use Rattle.canonical.specs.Parentheses.{fits}

@@ -5,15 +5,15 @@ use Rattle.filterlang.specs.declared.token.Kind.{Kind}
 use Rattle.filterlang.specs.declared.token.Kind.TheVariants as kind
 use Rattle.filterlang.specs.declared.token.TypeWord.TheVariants as types
 use Rattle.filterlang.specs.declared.token.Parts.TheVariants.{Four}
-use Rattle.filterlang.specs.declared.token.Operator.TheVariants.{Minus, Divide}
-use Rattle.filterlang.specs.declared.tree.Direction.{Direction}
-use Rattle.filterlang.specs.declared.tree.Direction.TheVariants.{Dst, Src, SrcAndDst, SrcOrDst}
-use Rattle.filterlang.specs.declared.tree.Network.{Network}
-use Rattle.filterlang.specs.declared.tree.Network.TheVariants as networks
-use Rattle.filterlang.specs.declared.tree.Primitive.{Primitive}
-use Rattle.filterlang.specs.declared.tree.Primitive.TheVariants as primitives
-use Rattle.filterlang.specs.declared.tree.Transport.{Transport}
-use Rattle.filterlang.specs.declared.tree.Transport.TheVariants as transports
+use Rattle.syntax.specs.declared.tree.Operator.TheVariants.{Minus, Divide}
+use Rattle.syntax.specs.declared.tree.Direction.{Direction}
+use Rattle.syntax.specs.declared.tree.Direction.TheVariants.{Dst, Src, SrcAndDst, SrcOrDst}
+use Rattle.syntax.specs.declared.tree.Network.{Network}
+use Rattle.syntax.specs.declared.tree.Network.TheVariants as networks
+use Rattle.syntax.specs.declared.tree.Primitive.{Primitive}
+use Rattle.syntax.specs.declared.tree.Primitive.TheVariants as primitives
+use Rattle.syntax.specs.declared.tree.Transport.{Transport}
+use Rattle.syntax.specs.declared.tree.Transport.TheVariants as transports
 use Rattle.filterlang.specs.Qualifiers.{mask_of}
 use Rattle.filterlang.specs.Grammar.{begins_relation, bracket_follows, after_matching, operator_follows, Prim}
 use Rattle.canonical_laws.proofs.Sequences.{network_tokens, transport_tokens, direction_tokens, mask_tokens, net_tokens, ports_tokens, primitive_tokens}

@@ -4,13 +4,13 @@ use Rattle.std.specs.Prelude.{◌^◌}
 use Rattle.std.proofs.lemmas.Bool.{eqb-true, eqb-false}
 use Rattle.filterlang.specs.declared.token.Kind.{Kind}
 use Rattle.filterlang.specs.declared.token.Kind.TheVariants as kind
-use Rattle.filterlang.specs.declared.token.Operator.{Operator}
-use Rattle.filterlang.specs.declared.token.Operator.TheVariants as operator
-use Rattle.filterlang.specs.declared.tree.Layer.{Layer}
-use Rattle.filterlang.specs.declared.tree.Layer.TheVariants as layers
-use Rattle.filterlang.specs.declared.tree.Size.{Size}
-use Rattle.filterlang.specs.declared.tree.Size.TheVariants as sizes
-use Rattle.filterlang.specs.Trees.{Tree, Amount, number, wire_length, minus, binary, accessor}
+use Rattle.syntax.specs.declared.tree.Operator.{Operator}
+use Rattle.syntax.specs.declared.tree.Operator.TheVariants as operator
+use Rattle.syntax.specs.declared.tree.Layer.{Layer}
+use Rattle.syntax.specs.declared.tree.Layer.TheVariants as layers
+use Rattle.syntax.specs.declared.tree.Size.{Size}
+use Rattle.syntax.specs.declared.tree.Size.TheVariants as sizes
+use Rattle.syntax.specs.Trees.{Tree, Amount, number, wire_length, minus, binary, accessor}
 use Rattle.filterlang.specs.Operators.{precedence_of, loosest, is_barred, layer_of}
 use Rattle.filterlang.specs.Values.{Arith, arith_number, arith_length, arith_minus, arith_open, arith_byte, arith_bytes, arith_tighter, arith_binary}
 use Rattle.filterlang.specs.Grammar.{operator_follows, after_matching, begins_relation}

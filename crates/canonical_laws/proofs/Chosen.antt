@@ -2,9 +2,9 @@
 use Rattle.std.proofs.Common.{◌≡◌, ℕ, zero, suc, ◌<◌, ◌≤◌, Bool, true, false, not, refl, arith, ◌==◌, nat_lt, nat_le}
 use Rattle.std.proofs.lemmas.Bool.{eqb-true}
 use Rattle.std.proofs.lemmas.Bool.Decides.{nat_tests}
-use Rattle.filterlang.specs.declared.token.Operator.{Operator}
+use Rattle.syntax.specs.declared.tree.Operator.{Operator}
 use Rattle.filterlang.specs.Operators.{precedence_of}
-use Rattle.filterlang.specs.Trees.{Amount, number, wire_length, minus, binary, accessor, Tree, everything, test, relation, negation, both, either}
+use Rattle.syntax.specs.Trees.{Amount, number, wire_length, minus, binary, accessor, Tree, everything, test, relation, negation, both, either}
 use Rattle.canonical.specs.Parentheses.{left_enclosed, right_enclosed, negated_enclosed, is_joined, fits}
 use Rattle.canonical.specs.Canonical.{parentheses_of}
 use Rattle.canonical_laws.proofs.Sequences.{Parentheses}

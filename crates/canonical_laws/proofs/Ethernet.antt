@@ -9,7 +9,7 @@ use Rattle.std.proofs.lemmas.Fmt.{hex_one_digit}
 use Rattle.std.proofs.lemmas.List.Folds.{list_all-append}
 use Rattle.filterlang.specs.declared.token.Kind.{Kind}
 use Rattle.filterlang.specs.declared.token.Kind.TheVariants as kind
-use Rattle.filterlang.specs.declared.token.EthernetAddress.{EthernetAddress}
+use Rattle.syntax.specs.declared.tree.EthernetAddress.{EthernetAddress}
 use Rattle.filterlang.specs.Words.{begins}
 use Rattle.filterlang.specs.Tokens.{is_blank, token_at, front, front_of}
 use Rattle.filterlang.specs.Numbers.{is_in_run, run_at, octet, ethernet_of, ethernet_at, at_most}

@@ -3,7 +3,7 @@ use Rattle.std.proofs.Common.{◌≡◌, ℕ, zero, suc, Bool, true, false, List
 use Rattle.filterlang.specs.declared.token.Kind.{Kind}
 use Rattle.filterlang.specs.declared.token.Kind.TheVariants as kind
 use Rattle.filterlang.specs.declared.token.Joint.TheVariants.{And, Or}
-use Rattle.filterlang.specs.Trees.{Tree, everything, test, relation, negation, both, either}
+use Rattle.syntax.specs.Trees.{Tree, everything, test, relation, negation, both, either}
 use Rattle.filterlang.specs.Grammar.{operator_follows, after_matching, Expression, expr_one, expr_and, expr_or, Term, term_not, term_open, term_prim, term_relation}
 use Rattle.canonical_laws.proofs.Basics.{both_true}
 use Rattle.canonical.specs.Parentheses.{side_enclosed, is_joined, first_enclosed, negated_enclosed, behind, fits_behind, value_fits, fits}

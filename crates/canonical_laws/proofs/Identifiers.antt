@@ -11,12 +11,12 @@ use Rattle.filterlang.specs.declared.token.TypeWord.{TypeWord}
 use Rattle.filterlang.specs.declared.token.TypeWord.TheVariants as types
 use Rattle.filterlang.specs.declared.token.Parts.{Parts}
 use Rattle.filterlang.specs.declared.token.Parts.TheVariants.{Two, Three, Four}
-use Rattle.filterlang.specs.declared.token.Operator.TheVariants.{Divide}
-use Rattle.filterlang.specs.declared.token.EthernetAddress.{EthernetAddress}
-use Rattle.filterlang.specs.declared.tree.Direction.{Direction}
-use Rattle.filterlang.specs.declared.tree.Network.{Network}
-use Rattle.filterlang.specs.declared.tree.Transport.{Transport}
-use Rattle.filterlang.specs.declared.tree.Primitive.TheVariants as primitives
+use Rattle.syntax.specs.declared.tree.Operator.TheVariants.{Divide}
+use Rattle.syntax.specs.declared.tree.EthernetAddress.{EthernetAddress}
+use Rattle.syntax.specs.declared.tree.Direction.{Direction}
+use Rattle.syntax.specs.declared.tree.Network.{Network}
+use Rattle.syntax.specs.declared.tree.Transport.{Transport}
+use Rattle.syntax.specs.declared.tree.Primitive.TheVariants as primitives
 use Rattle.filterlang.specs.Phrases.{identifier_at}
 use Rattle.filterlang.specs.Qualifiers.{allowed, mask_of, bits_of, net_of, between, port_of, identified}
 use Rattle.filterlang.specs.Grammar.{Prim}

@@ -5,10 +5,10 @@ use Rattle.canonical_laws.proofs.Basics.{both_true}
 use Rattle.filterlang.specs.declared.token.Kind.{Kind}
 use Rattle.filterlang.specs.declared.token.Kind.TheVariants as kind
 use Rattle.filterlang.specs.declared.token.Joint.TheVariants.{And, Or}
-use Rattle.filterlang.specs.declared.token.Comparison.{Comparison}
-use Rattle.filterlang.specs.declared.token.Operator.{Operator}
-use Rattle.filterlang.specs.declared.tree.Primitive.{Primitive}
-use Rattle.filterlang.specs.Trees.{Amount, number, wire_length, minus, binary, accessor, Tree, everything, test, relation, negation, both, either}
+use Rattle.syntax.specs.declared.tree.Comparison.{Comparison}
+use Rattle.syntax.specs.declared.tree.Operator.{Operator}
+use Rattle.syntax.specs.declared.tree.Primitive.{Primitive}
+use Rattle.syntax.specs.Trees.{Amount, number, wire_length, minus, binary, accessor, Tree, everything, test, relation, negation, both, either}
 use Rattle.filterlang.specs.Operators.{precedence_of}
 use Rattle.filterlang.specs.Qualifiers.{identified}
 use Rattle.filterlang.specs.Values.{Arith, arith_number, arith_named, arith_length, arith_minus, arith_open, arith_byte, arith_bytes, arith_tighter, arith_binary}

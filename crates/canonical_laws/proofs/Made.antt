@@ -8,12 +8,12 @@ use Rattle.filterlang.specs.declared.token.Protocol.TheVariants as protocols
 use Rattle.filterlang.specs.declared.token.TypeWord.{TypeWord}
 use Rattle.filterlang.specs.declared.token.Side.{Side}
 use Rattle.filterlang.specs.declared.token.Parts.TheVariants.{Two, Three, Four}
-use Rattle.filterlang.specs.declared.token.Operator.TheVariants.{Divide}
-use Rattle.filterlang.specs.declared.tree.Direction.{Direction}
-use Rattle.filterlang.specs.declared.tree.Direction.TheVariants.{SrcOrDst}
-use Rattle.filterlang.specs.declared.tree.Transport.{Transport}
-use Rattle.filterlang.specs.declared.tree.Primitive.{Primitive}
-use Rattle.filterlang.specs.declared.tree.Primitive.TheVariants as primitives
+use Rattle.syntax.specs.declared.tree.Operator.TheVariants.{Divide}
+use Rattle.syntax.specs.declared.tree.Direction.{Direction}
+use Rattle.syntax.specs.declared.tree.Direction.TheVariants.{SrcOrDst}
+use Rattle.syntax.specs.declared.tree.Transport.{Transport}
+use Rattle.syntax.specs.declared.tree.Primitive.{Primitive}
+use Rattle.syntax.specs.declared.tree.Primitive.TheVariants as primitives
 use Rattle.filterlang.specs.Phrases.{protocol_at, type_at, longest, joined, direction_at, phrase_at, identifier_at}
 use Rattle.filterlang.specs.Primitives.{ports_between}
 use Rattle.filterlang.specs.Qualifiers.{allowed, qualifiers_of, port_of, identified}

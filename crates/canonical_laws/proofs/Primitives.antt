@@ -9,18 +9,18 @@ use Rattle.filterlang.specs.declared.token.Kind.TheVariants as kind
 use Rattle.filterlang.specs.declared.token.Protocol.TheVariants as protocols
 use Rattle.filterlang.specs.declared.token.TypeWord.TheVariants as types
 use Rattle.filterlang.specs.declared.token.Parts.TheVariants.{Four}
-use Rattle.filterlang.specs.declared.token.Operator.TheVariants.{Minus, Divide}
-use Rattle.filterlang.specs.declared.token.EthernetAddress.{EthernetAddress}
-use Rattle.filterlang.specs.declared.tree.Direction.{Direction}
-use Rattle.filterlang.specs.declared.tree.Direction.TheVariants.{Dst, Src, SrcAndDst, SrcOrDst}
-use Rattle.filterlang.specs.declared.tree.Network.{Network}
-use Rattle.filterlang.specs.declared.tree.Network.TheVariants as networks
-use Rattle.filterlang.specs.declared.tree.Plain.{Plain}
-use Rattle.filterlang.specs.declared.tree.Plain.TheVariants as plain
-use Rattle.filterlang.specs.declared.tree.Primitive.{Primitive}
-use Rattle.filterlang.specs.declared.tree.Primitive.TheVariants as primitives
-use Rattle.filterlang.specs.declared.tree.Transport.{Transport}
-use Rattle.filterlang.specs.declared.tree.Transport.TheVariants as transports
+use Rattle.syntax.specs.declared.tree.Operator.TheVariants.{Minus, Divide}
+use Rattle.syntax.specs.declared.tree.EthernetAddress.{EthernetAddress}
+use Rattle.syntax.specs.declared.tree.Direction.{Direction}
+use Rattle.syntax.specs.declared.tree.Direction.TheVariants.{Dst, Src, SrcAndDst, SrcOrDst}
+use Rattle.syntax.specs.declared.tree.Network.{Network}
+use Rattle.syntax.specs.declared.tree.Network.TheVariants as networks
+use Rattle.syntax.specs.declared.tree.Plain.{Plain}
+use Rattle.syntax.specs.declared.tree.Plain.TheVariants as plain
+use Rattle.syntax.specs.declared.tree.Primitive.{Primitive}
+use Rattle.syntax.specs.declared.tree.Primitive.TheVariants as primitives
+use Rattle.syntax.specs.declared.tree.Transport.{Transport}
+use Rattle.syntax.specs.declared.tree.Transport.TheVariants as transports
 use Rattle.filterlang.specs.Phrases.{identifier_at}
 use Rattle.filterlang.specs.Qualifiers.{mask_of, port_of}
 use Rattle.filterlang.specs.Primitives.{ports_between, stands_alone}

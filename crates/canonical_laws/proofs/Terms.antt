@@ -4,8 +4,8 @@ use Rattle.std.specs.Prelude.{◌^◌, bit_and, if◌then◌else◌}
 use Rattle.filterlang.specs.declared.token.Kind.{Kind}
 use Rattle.filterlang.specs.declared.token.Kind.TheVariants as kind
 use Rattle.filterlang.specs.declared.token.Joint.{Joint}
-use Rattle.filterlang.specs.declared.tree.Primitive.{Primitive}
-use Rattle.filterlang.specs.declared.tree.Primitive.TheVariants as primitives
+use Rattle.syntax.specs.declared.tree.Primitive.{Primitive}
+use Rattle.syntax.specs.declared.tree.Primitive.TheVariants as primitives
 use Rattle.filterlang.specs.Qualifiers.{identified}
 use Rattle.filterlang.specs.Grammar.{Prim}
 use Rattle.canonical_laws.proofs.Sequences.{Domain}

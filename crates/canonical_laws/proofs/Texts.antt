@@ -4,15 +4,15 @@ use Rattle.std.specs.Prelude.{codes}
 use Rattle.filterlang.specs.declared.token.Kind.{Kind}
 use Rattle.filterlang.specs.declared.token.Kind.TheVariants as kind
 use Rattle.filterlang.specs.declared.token.Joint.TheVariants.{And, Or}
-use Rattle.filterlang.specs.declared.token.Comparison.{Comparison}
-use Rattle.filterlang.specs.declared.token.Comparison.TheVariants as comparison
-use Rattle.filterlang.specs.declared.token.Operator.{Operator}
-use Rattle.filterlang.specs.declared.token.Operator.TheVariants as operator
-use Rattle.filterlang.specs.declared.tree.Layer.{Layer}
-use Rattle.filterlang.specs.declared.tree.Layer.TheVariants as layers
-use Rattle.filterlang.specs.declared.tree.Size.{Size}
-use Rattle.filterlang.specs.declared.tree.Size.TheVariants as sizes
-use Rattle.filterlang.specs.Trees.{Amount, number, wire_length, minus, binary, accessor, Tree, everything, test, relation, negation, both, either}
+use Rattle.syntax.specs.declared.tree.Comparison.{Comparison}
+use Rattle.syntax.specs.declared.tree.Comparison.TheVariants as comparison
+use Rattle.syntax.specs.declared.tree.Operator.{Operator}
+use Rattle.syntax.specs.declared.tree.Operator.TheVariants as operator
+use Rattle.syntax.specs.declared.tree.Layer.{Layer}
+use Rattle.syntax.specs.declared.tree.Layer.TheVariants as layers
+use Rattle.syntax.specs.declared.tree.Size.{Size}
+use Rattle.syntax.specs.declared.tree.Size.TheVariants as sizes
+use Rattle.syntax.specs.Trees.{Amount, number, wire_length, minus, binary, accessor, Tree, everything, test, relation, negation, both, either}
 use Rattle.filterlang.specs.Words.{words, names, signs}
 use Rattle.filterlang.specs.Numbers.{number_or_dotted_at, ethernet_at}
 use Rattle.filterlang.specs.Tokens.{token_at, front}

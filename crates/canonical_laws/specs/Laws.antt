@@ -1,6 +1,6 @@
 -- The law of canonical texts.
 use Rattle.std.specs.Prelude.{◌≡◌, ℕ, List}
-use Rattle.filterlang.specs.Trees.{Tree}
+use Rattle.syntax.specs.Trees.{Tree}
 use Rattle.filterlang.specs.Texts.{ReadsAs}
 use Rattle.canonical.specs.Canonical.{canonical}
 

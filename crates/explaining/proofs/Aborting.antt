@@ -5,23 +5,23 @@ use Rattle.std.specs.Prelude.{IsSome, option_and_then}
 use Rattle.std.specs.Option.{option_or}
 use Rattle.bpfvm.specs.Codes.{Subtract}
 use Rattle.bpfvm.specs.Machine.{number_at, calculated}
-use Rattle.filterlang.specs.Trees.{Amount}
-use Rattle.filterlang.specs.Trees as trees
-use Rattle.filterlang.specs.declared.token.Operator.{Operator}
-use Rattle.filterlang.specs.declared.token.Operator.TheVariants as operators
-use Rattle.filterlang.specs.declared.tree.Direction.{Direction}
-use Rattle.filterlang.specs.declared.tree.Direction.TheVariants.{Src, Dst, SrcOrDst, SrcAndDst}
-use Rattle.filterlang.specs.declared.tree.Layer.{Layer}
-use Rattle.filterlang.specs.declared.tree.Layer.TheVariants as layers
-use Rattle.filterlang.specs.declared.tree.Network.{Network}
-use Rattle.filterlang.specs.declared.tree.Network.TheVariants as networks
-use Rattle.filterlang.specs.declared.tree.Plain.{Plain}
-use Rattle.filterlang.specs.declared.tree.Plain.TheVariants as words
-use Rattle.filterlang.specs.declared.tree.Primitive.TheVariants.{Protocol, Net, EtherHost, Ports, IpProto, EtherProto, EtherBroadcast, EtherMulticast, IpMulticast, Less, Greater}
-use Rattle.filterlang.specs.declared.tree.Transport.{Transport}
-use Rattle.filtergen.specs.declared.verdict.Verdict.{Verdict}
-use Rattle.filtergen.specs.declared.verdict.Verdict.TheVariants.{Yes, No, Abort}
-use Rattle.filtergen.specs.Meaning.{Packet, Test, and_then, or_else, decided, check, byte, half, is_type, is_protocol, is_first_fragment_of, plain_test, by_direction, has_address, in_net, in_any_net, is_address, half_behind_header, within, has_port, has_ports, has_any_ports, protocol_number, arithmetic_of, bytes_of, behind_header, accessed, value, in_layer, in_layers, compared, check_both, address_number}
+use Rattle.syntax.specs.Trees.{Amount}
+use Rattle.syntax.specs.Trees as trees
+use Rattle.syntax.specs.declared.tree.Operator.{Operator}
+use Rattle.syntax.specs.declared.tree.Operator.TheVariants as operators
+use Rattle.syntax.specs.declared.tree.Direction.{Direction}
+use Rattle.syntax.specs.declared.tree.Direction.TheVariants.{Src, Dst, SrcOrDst, SrcAndDst}
+use Rattle.syntax.specs.declared.tree.Layer.{Layer}
+use Rattle.syntax.specs.declared.tree.Layer.TheVariants as layers
+use Rattle.syntax.specs.declared.tree.Network.{Network}
+use Rattle.syntax.specs.declared.tree.Network.TheVariants as networks
+use Rattle.syntax.specs.declared.tree.Plain.{Plain}
+use Rattle.syntax.specs.declared.tree.Plain.TheVariants as words
+use Rattle.syntax.specs.declared.tree.Primitive.TheVariants.{Protocol, Net, EtherHost, Ports, IpProto, EtherProto, EtherBroadcast, EtherMulticast, IpMulticast, Less, Greater}
+use Rattle.syntax.specs.declared.tree.Transport.{Transport}
+use Rattle.semantics.specs.declared.verdict.Verdict.{Verdict}
+use Rattle.semantics.specs.declared.verdict.Verdict.TheVariants.{Yes, No, Abort}
+use Rattle.semantics.specs.Meaning.{Packet, Test, and_then, or_else, decided, check, byte, half, is_type, is_protocol, is_first_fragment_of, plain_test, by_direction, has_address, in_net, in_any_net, is_address, half_behind_header, within, has_port, has_ports, has_any_ports, protocol_number, arithmetic_of, bytes_of, behind_header, accessed, value, in_layer, in_layers, compared, check_both, address_number}
 use Rattle.explaining.specs.declared.cause.Cause.{Cause}
 use Rattle.explaining.specs.declared.cause.Cause.TheVariants.{ZeroDivisor}
 use Rattle.explaining.specs.Causes.{missing, why_type, why_protocol, why_first, why_plain, directed, why_addresses, why_net, by_verdict, why_any_net, why_port, why_ports, why_layer, why_layers, why_behind_header, why_access, why_operator, why_value}

@@ -4,7 +4,7 @@ use Rattle.std.proofs.lemmas.Bool.Decides.{nat_tests}
 use Rattle.std.specs.Prelude.{option_and_then}
 use Rattle.std.specs.Option.{option_or}
 use Rattle.bpfvm.specs.Machine.{big_endian, number_at}
-use Rattle.filtergen.specs.Meaning.{Packet, byte}
+use Rattle.semantics.specs.Meaning.{Packet, byte}
 use Rattle.explaining.specs.declared.cause.Cause.{Cause}
 use Rattle.explaining.specs.Causes.{missing}
 

@@ -1,10 +1,10 @@
 -- The last question decides.
 use Rattle.std.proofs.Common.{◌≡◌, Bool, true, false, not, List, [], ◌∷◌, ◌++◌, refl, sym, ap, ◌∙◌, append_assoc, append-nil}
-use Rattle.filterlang.specs.Trees.{Tree}
-use Rattle.filterlang.specs.Trees as trees
-use Rattle.filtergen.specs.declared.verdict.Verdict.{Verdict}
-use Rattle.filtergen.specs.declared.verdict.Verdict.TheVariants.{Yes, No, Abort}
-use Rattle.filtergen.specs.Meaning.{Packet, and_then, or_else, opposite, meaning}
+use Rattle.syntax.specs.Trees.{Tree}
+use Rattle.syntax.specs.Trees as trees
+use Rattle.semantics.specs.declared.verdict.Verdict.{Verdict}
+use Rattle.semantics.specs.declared.verdict.Verdict.TheVariants.{Yes, No, Abort}
+use Rattle.semantics.specs.Meaning.{Packet, and_then, or_else, opposite, meaning}
 use Rattle.explaining.specs.Asking.{Question, question, where_yes, where_no, questions, turned, IsLast, LastDecides}
 use Rattle.explaining.specs.Laws.{TheLastDecides}
 

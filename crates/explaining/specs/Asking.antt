@@ -1,10 +1,10 @@
 -- Which primitives and relations of an expression a packet is asked, and which one decides.
 use Rattle.std.specs.Prelude.{◌≡◌, Bool, true, false, not, List, [], ◌∷◌, ◌++◌, Option, None}
-use Rattle.filterlang.specs.Trees.{Tree, tree_of}
-use Rattle.filterlang.specs.Trees as trees
-use Rattle.filtergen.specs.declared.verdict.Verdict.{Verdict}
-use Rattle.filtergen.specs.declared.verdict.Verdict.TheVariants.{Yes, No, Abort}
-use Rattle.filtergen.specs.Meaning.{Packet, opposite, meaning}
+use Rattle.syntax.specs.Trees.{Tree, tree_of}
+use Rattle.syntax.specs.Trees as trees
+use Rattle.semantics.specs.declared.verdict.Verdict.{Verdict}
+use Rattle.semantics.specs.declared.verdict.Verdict.TheVariants.{Yes, No, Abort}
+use Rattle.semantics.specs.Meaning.{Packet, opposite, meaning}
 use Rattle.explaining.specs.declared.cause.Cause.{Cause}
 use Rattle.explaining.specs.declared.asking.Asked.{Asked}
 use Rattle.explaining.specs.Causes.{why}

@@ -2,23 +2,23 @@
 -- These speak of tests that abort; where another answer was given they mean nothing.
 use Rattle.std.specs.Prelude.{ℕ, ◌+◌, ◌*◌, ◌%◌, ◌^◌, ◌==◌, length, max, nat_le, Option, Some, None, if◌then◌else◌, bit_and, option_and_then}
 use Rattle.std.specs.Option.{option_or}
-use Rattle.filterlang.specs.Trees.{Amount, Tree}
-use Rattle.filterlang.specs.Trees as trees
-use Rattle.filterlang.specs.declared.token.Operator.{Operator}
-use Rattle.filterlang.specs.declared.token.Operator.TheVariants as operators
-use Rattle.filterlang.specs.declared.tree.Direction.{Direction}
-use Rattle.filterlang.specs.declared.tree.Direction.TheVariants.{Src, Dst, SrcOrDst, SrcAndDst}
-use Rattle.filterlang.specs.declared.tree.Layer.{Layer}
-use Rattle.filterlang.specs.declared.tree.Layer.TheVariants as layers
-use Rattle.filterlang.specs.declared.tree.Network.{Network}
-use Rattle.filterlang.specs.declared.tree.Network.TheVariants as networks
-use Rattle.filterlang.specs.declared.tree.Plain.{Plain}
-use Rattle.filterlang.specs.declared.tree.Plain.TheVariants as words
-use Rattle.filterlang.specs.declared.tree.Primitive.{Primitive}
-use Rattle.filterlang.specs.declared.tree.Primitive.TheVariants.{Protocol, Net, EtherHost, Ports, IpProto, EtherProto, EtherBroadcast, EtherMulticast, IpMulticast, Less, Greater}
-use Rattle.filtergen.specs.declared.verdict.Verdict.{Verdict}
-use Rattle.filtergen.specs.declared.verdict.Verdict.TheVariants.{Yes, No, Abort}
-use Rattle.filtergen.specs.Meaning.{Packet, byte, is_type, bytes_of, value}
+use Rattle.syntax.specs.Trees.{Amount, Tree}
+use Rattle.syntax.specs.Trees as trees
+use Rattle.syntax.specs.declared.tree.Operator.{Operator}
+use Rattle.syntax.specs.declared.tree.Operator.TheVariants as operators
+use Rattle.syntax.specs.declared.tree.Direction.{Direction}
+use Rattle.syntax.specs.declared.tree.Direction.TheVariants.{Src, Dst, SrcOrDst, SrcAndDst}
+use Rattle.syntax.specs.declared.tree.Layer.{Layer}
+use Rattle.syntax.specs.declared.tree.Layer.TheVariants as layers
+use Rattle.syntax.specs.declared.tree.Network.{Network}
+use Rattle.syntax.specs.declared.tree.Network.TheVariants as networks
+use Rattle.syntax.specs.declared.tree.Plain.{Plain}
+use Rattle.syntax.specs.declared.tree.Plain.TheVariants as words
+use Rattle.syntax.specs.declared.tree.Primitive.{Primitive}
+use Rattle.syntax.specs.declared.tree.Primitive.TheVariants.{Protocol, Net, EtherHost, Ports, IpProto, EtherProto, EtherBroadcast, EtherMulticast, IpMulticast, Less, Greater}
+use Rattle.semantics.specs.declared.verdict.Verdict.{Verdict}
+use Rattle.semantics.specs.declared.verdict.Verdict.TheVariants.{Yes, No, Abort}
+use Rattle.semantics.specs.Meaning.{Packet, byte, is_type, bytes_of, value}
 use Rattle.explaining.specs.declared.cause.Cause.{Cause}
 use Rattle.explaining.specs.declared.cause.Cause.TheVariants.{NotCaptured, ZeroDivisor}
 

@@ -1,10 +1,10 @@
 -- What holds of the definitions, whatever the code does.
 use Rattle.std.specs.Prelude.{◌≡◌, Bool, IsSome}
-use Rattle.filterlang.specs.Trees.{Amount, Tree}
-use Rattle.filterlang.specs.declared.token.Comparison.{Comparison}
-use Rattle.filterlang.specs.declared.tree.Primitive.{Primitive}
-use Rattle.filtergen.specs.declared.verdict.Verdict.TheVariants.{Abort}
-use Rattle.filtergen.specs.Meaning.{Packet, primitive_test, relation_test, meaning}
+use Rattle.syntax.specs.Trees.{Amount, Tree}
+use Rattle.syntax.specs.declared.tree.Comparison.{Comparison}
+use Rattle.syntax.specs.declared.tree.Primitive.{Primitive}
+use Rattle.semantics.specs.declared.verdict.Verdict.TheVariants.{Abort}
+use Rattle.semantics.specs.Meaning.{Packet, primitive_test, relation_test, meaning}
 use Rattle.explaining.specs.Causes.{why_primitive, why_relation}
 use Rattle.explaining.specs.Asking.{questions, turned, LastDecides}
 

@@ -1,17 +1,17 @@
 //! The primitives and relations that a packet is asked.
 
 ghost use Rattle.std.specs.Prelude.{◌≡◌, ◌++◌, [], ◌∷◌, map, IfOk, false};
-ghost use Rattle.filterlang.specs.Trees.{tree_of};
-ghost use Rattle.filtergen.specs.Meaning.{packet_of, opposite, meaning};
+ghost use Rattle.syntax.specs.Trees.{tree_of};
+ghost use Rattle.semantics.specs.Meaning.{packet_of, opposite, meaning};
 ghost use Rattle.explaining.specs.Causes.{why};
 ghost use Rattle.explaining.specs.Asking.{where_abort, question_of, question, questions, LastDecides};
 
 use crate::cause::Cause;
 use crate::missing::why;
 use bpfvm::NoMemory;
-use filtergen::{Verdict, evaluate};
-use filterlang::Expr;
+use semantics::{Verdict, evaluate};
 use std::alloc::Global;
+use syntax::Expr;
 
 /// A primitive or a relation that was asked, and what it answered.
 #[derive(Clone, Copy, Debug)]

@@ -1,13 +1,13 @@
 //! The primitive or relation that decides.
 
 ghost use Rattle.std.specs.Prelude.{◌≡◌, false};
-ghost use Rattle.filterlang.specs.Trees.{tree_of};
-ghost use Rattle.filtergen.specs.Meaning.{packet_of, meaning};
+ghost use Rattle.syntax.specs.Trees.{tree_of};
+ghost use Rattle.semantics.specs.Meaning.{packet_of, meaning};
 ghost use Rattle.explaining.specs.Asking.{question_of, question, questions, turned, IsLast};
 
 use crate::asking::{Asked, cause_of, opposite};
-use filtergen::{Verdict, evaluate};
-use filterlang::Expr;
+use semantics::{Verdict, evaluate};
+use syntax::Expr;
 
 impl Asked<'_> {
     /// Its answer, turned where it is negated: of the one that decides, what the whole expression answers.

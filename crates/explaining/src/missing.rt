@@ -1,13 +1,13 @@
 //! What is missing where a primitive or a relation aborts.
 
 ghost use Rattle.std.specs.Prelude.{◌≡◌, ◌+◌, ◌<◌, ◌≤◌, ◌^◌, option_and_then};
-ghost use Rattle.filterlang.specs.Trees.{amount_of, tree_of};
-ghost use Rattle.filtergen.specs.Meaning.{packet_of, byte, bytes_of, value};
+ghost use Rattle.syntax.specs.Trees.{amount_of, tree_of};
+ghost use Rattle.semantics.specs.Meaning.{packet_of, byte, bytes_of, value};
 ghost use Rattle.explaining.specs.Causes.{missing, why_type, why_protocol, why_first, why_plain, directed, why_addresses, why_net, why_any_net, why_port, why_ports, why_primitive, why_layer, why_layers, why_behind_header, why_access, zero_divisor, why_operator, why_value, why_relation, why};
 
 use crate::cause::Cause;
-use filtergen::{Verdict, evaluate, value_of};
-use filterlang::{Direction, Expr, Layer, Network, Operator, Plain, Primitive, Size, Value};
+use semantics::{Verdict, evaluate, value_of};
+use syntax::{Direction, Expr, Layer, Network, Operator, Plain, Primitive, Size, Value};
 
 /// The Ethernet type of IPv4.
 const IP: u16 = 0x0800;

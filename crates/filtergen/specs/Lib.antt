@@ -1,11 +1,4 @@
-pub mod Meaning
-pub mod Compiling
-pub mod Insns
-pub mod Emission
-pub mod Ways
-pub mod Parts
-pub mod Knowing
-pub mod Reaching
-pub mod Trimming
-pub mod Lists
+pub use Rattle.semantics.specs.Meaning
+pub use Rattle.generation.specs.Compiling
+pub use Rattle.trimming.specs.Reaching
 pub mod Expressions

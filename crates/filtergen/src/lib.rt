@@ -6,29 +6,9 @@
 //! [`compile_text`] reads the text too, and takes memory for its tree.
 #![tactic(auto)]
 
-mod among;
-mod arithmetic;
-mod behind;
-mod code;
-mod compiler;
-mod evaluator;
 mod expression;
-mod insns;
-mod known;
-mod listed;
-mod lists;
-mod primitives;
-mod refusal;
-mod relations;
-mod trimming;
-mod values;
-mod verdict;
-mod ways;
-mod weighing;
 
-pub use compiler::{MAX_SNAP, compile};
-pub use evaluator::{evaluate, value_of};
+pub use analysis::{MAX_NEED, MAX_WEIGHT, need, weight};
 pub use expression::{ExpressionFault, compile_text};
-pub use refusal::Refusal;
-pub use verdict::Verdict;
-pub use weighing::{MAX_NEED, MAX_WEIGHT, need, weight};
+pub use generation::{MAX_SNAP, Refusal, compile};
+pub use semantics::{Verdict, evaluate, value_of};

@@ -4,12 +4,12 @@ use Rattle.std.specs.Prelude.{if◌then◌else◌}
 use Rattle.std.proofs.lemmas.Bool.{eq-eqb, ne_eqb}
 use Rattle.filterlang.specs.declared.token.Kind.{Kind}
 use Rattle.filterlang.specs.declared.token.Kind.TheVariants as kind
-use Rattle.filterlang.specs.declared.token.Comparison.{Comparison}
-use Rattle.filterlang.specs.declared.token.Operator.{Operator}
-use Rattle.filterlang.specs.declared.token.Operator.TheVariants.{Minus}
+use Rattle.syntax.specs.declared.tree.Comparison.{Comparison}
+use Rattle.syntax.specs.declared.tree.Operator.{Operator}
+use Rattle.syntax.specs.declared.tree.Operator.TheVariants.{Minus}
 use Rattle.filterlang.specs.declared.token.Protocol.{Protocol}
-use Rattle.filterlang.specs.declared.tree.Size.{Size}
-use Rattle.filterlang.specs.Trees.{Amount, number, wire_length, relation, binary, accessor}
+use Rattle.syntax.specs.declared.tree.Size.{Size}
+use Rattle.syntax.specs.Trees.{Amount, number, wire_length, relation, binary, accessor}
 use Rattle.filterlang.specs.Operators.{precedence_of, loosest, is_barred}
 use Rattle.filterlang.specs.Values.{Arith, arith_number, arith_named, arith_length, arith_minus, arith_open, arith_byte, arith_bytes, arith_tighter, arith_binary}
 use Rattle.filterlang.specs.Readers.{◌>>=◌, chain, closed}

@@ -6,7 +6,7 @@ pub mod Finding
 pub mod Qualifiers
 pub mod Phrases
 pub mod Primitives
-pub mod Trees
+pub use Rattle.syntax.specs.Trees
 pub mod Operators
 pub mod Values
 pub mod Grammar

@@ -16,8 +16,8 @@ mod values;
 pub use fault::Fault;
 pub use lexer::{Cause, MAX_TEXT, lex};
 pub use parser::parse;
-pub use token::{
-    Comparison, EthernetAddress, Joint, Kind, Operator, Parts, Protocol, Side, Span, Token,
-    TypeWord,
+pub use syntax::{
+    Comparison, Direction, EthernetAddress, Expr, Layer, Network, Operator, Plain, Primitive, Size,
+    Transport, Value,
 };
-pub use tree::{Direction, Expr, Layer, Network, Plain, Primitive, Size, Transport, Value};
+pub use token::{Joint, Kind, Parts, Protocol, Side, Span, Token, TypeWord};

@@ -7,7 +7,8 @@ ghost use Rattle.filterlang.specs.Reading.{beginning};
 ghost use Rattle.filterlang.specs.ValueReading.{opening};
 
 use crate::phrases::next;
-use crate::token::{Kind, Operator, Token};
+use crate::token::{Kind, Token};
+use syntax::Operator;
 
 /// What the first token of a term says of it, where it is no relation.
 #[derive(Clone, Copy)]

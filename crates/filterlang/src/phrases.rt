@@ -13,8 +13,8 @@ pub(crate) mod primitives;
 pub(crate) mod qualifiers;
 
 use crate::phrases::qualifiers::{Identifier, Phrase};
-use crate::token::{Joint, Kind, Operator, Parts, Protocol, Side, Token, TypeWord};
-use crate::tree::Direction;
+use crate::token::{Joint, Kind, Parts, Protocol, Side, Token, TypeWord};
+use syntax::{Direction, Operator};
 
 /// What the next token is, and what follows it.
 pub(crate) fn next(tokens: &[Token]) -> Option<(Kind, &[Token])>

@@ -1,5 +1,7 @@
 //! The tokens of the language.
 
+use syntax::{Comparison, EthernetAddress, Operator};
+
 /// A protocol word.
 #[derive(Clone, Copy, Debug, PartialEq, Eq)]
 pub enum Protocol {
@@ -36,44 +38,12 @@ pub enum Joint {
     Or,
 }
 
-/// A sign of arithmetic. `Minus` is the unary sign too.
-#[derive(Clone, Copy, Debug, PartialEq, Eq)]
-pub enum Operator {
-    Plus,
-    Minus,
-    Times,
-    Divide,
-    Modulo,
-    BitAnd,
-    BitXor,
-    BitOr,
-    ShiftLeft,
-    ShiftRight,
-}
-
-/// A comparison of two values.
-#[derive(Clone, Copy, Debug, PartialEq, Eq)]
-pub enum Comparison {
-    Equal,
-    NotEqual,
-    Less,
-    Greater,
-    LessOrEqual,
-    GreaterOrEqual,
-}
-
 /// How many parts a dotted address was written with.
 #[derive(Clone, Copy, Debug, PartialEq, Eq)]
 pub enum Parts {
     Two,
     Three,
     Four,
-}
-
-/// An Ethernet address: its six octets in network order.
-#[derive(Clone, Copy, Debug, PartialEq, Eq)]
-pub struct EthernetAddress {
-    pub octets: [u8; 6],
 }
 
 /// What a token is, with its value read.

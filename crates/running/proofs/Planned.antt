@@ -4,8 +4,8 @@ use Rattle.std.specs.List.{AllZip}
 use Rattle.std.proofs.lemmas.List.{take_more}
 use Rattle.filterlang.specs.declared.fault.Fault.{Fault as Misreading}
 use Rattle.filterlang.specs.declared.fault.Fault.TheVariants as misread
-use Rattle.filtergen.specs.declared.refusal.Refusal.{Refusal}
-use Rattle.filtergen.specs.declared.refusal.Refusal.TheVariants as uncompiled
+use Rattle.generation.specs.declared.refusal.Refusal.{Refusal}
+use Rattle.generation.specs.declared.refusal.Refusal.TheVariants as uncompiled
 use Rattle.bpfvm.specs.declared.insn.Insn.{Insn}
 use Rattle.filtergen.specs.declared.expression.ExpressionFault.{ExpressionFault}
 use Rattle.filtergen.specs.Expressions.{IsUncompiled}

@@ -6,8 +6,8 @@ use Rattle.filterlang.specs.declared.fault.Fault.{Fault as Misreading}
 use Rattle.filterlang.specs.declared.fault.Fault.TheVariants as misread
 use Rattle.filtergen.specs.declared.expression.ExpressionFault.{ExpressionFault}
 use Rattle.filtergen.specs.declared.expression.ExpressionFault.TheVariants.{Text, Tree}
-use Rattle.filtergen.specs.declared.refusal.Refusal.{Refusal}
-use Rattle.filtergen.specs.declared.refusal.Refusal.TheVariants as uncompiled
+use Rattle.generation.specs.declared.refusal.Refusal.{Refusal}
+use Rattle.generation.specs.declared.refusal.Refusal.TheVariants as uncompiled
 use Rattle.filtergen.specs.Expressions.{IsProgramOf, IsUncompiled}
 use Rattle.lines.specs.declared.fault.LineFault.{LineFault}
 use Rattle.lines.specs.declared.fault.LineFault.TheVariants as line

@@ -3,8 +3,8 @@ use Rattle.std.specs.Prelude.{ℕ, List, ◌++◌, codes}
 use Rattle.std.specs.Fmt.{decimal}
 use Rattle.filterlang.specs.declared.fault.Fault.{Fault as Misreading}
 use Rattle.filterlang.specs.declared.fault.Fault.TheVariants as misread
-use Rattle.filtergen.specs.declared.refusal.Refusal.{Refusal}
-use Rattle.filtergen.specs.declared.refusal.Refusal.TheVariants as uncompiled
+use Rattle.generation.specs.declared.refusal.Refusal.{Refusal}
+use Rattle.generation.specs.declared.refusal.Refusal.TheVariants as uncompiled
 use Rattle.listener.specs.declared.fault.OpenFault.{OpenFault}
 use Rattle.listener.specs.declared.fault.OpenFault.TheVariants as unopened
 use Rattle.lines.specs.Telling.{capture_fault_text}

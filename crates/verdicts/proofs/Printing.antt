@@ -9,7 +9,7 @@ use Rattle.savefile.specs.declared.fault.Fault.TheVariants.{Device, NoMemory}
 use Rattle.savefile.specs.declared.header.Header.{Header}
 use Rattle.savefile.specs.declared.packet.Packet.{Packet}
 use Rattle.savefile.specs.Reader.{HasGiven, IsCause, Leaves, Lends, Reading, WasBegun, WasRead, WasRefused}
-use Rattle.filtergen.specs.declared.verdict.Verdict.{Verdict}
+use Rattle.semantics.specs.declared.verdict.Verdict.{Verdict}
 use Rattle.lines.specs.Sending.{Takes, TakesPart}
 use Rattle.lines.proofs.Taking.{TakesPart-then}
 use Rattle.verdicts.specs.declared.each.Counts.{Counts}

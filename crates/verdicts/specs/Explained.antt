@@ -8,8 +8,8 @@ use Rattle.savefile.specs.declared.fault.Fault.TheVariants.{CountFull, Device, N
 use Rattle.savefile.specs.declared.header.Header.{Header}
 use Rattle.savefile.specs.declared.packet.Packet.{Packet}
 use Rattle.savefile.specs.Reader.{HasGiven, IsCause, Reading, WasBegun, WasRead, WasRefused, WasTaken}
-use Rattle.filtergen.specs.declared.verdict.Verdict.{Verdict}
-use Rattle.filtergen.specs.declared.verdict.Verdict.TheVariants.{Yes, No, Abort}
+use Rattle.semantics.specs.declared.verdict.Verdict.{Verdict}
+use Rattle.semantics.specs.declared.verdict.Verdict.TheVariants.{Yes, No, Abort}
 use Rattle.lines.specs.Sending.{TakesPart}
 use Rattle.lines.specs.Telling.{end_of_line}
 use Rattle.lines.specs.Texts.{numbered}

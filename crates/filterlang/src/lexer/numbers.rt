@@ -5,7 +5,8 @@ ghost use Rattle.std.specs.List.{prefix_len, slice_split};
 ghost use Rattle.filterlang.specs.Numbers.{is_in_run, numeral, octet, octets, at_most, number_of, dotted_of, ethernet_of, number_or_dotted_at, ethernet_at};
 ghost use Rattle.filterlang.specs.Finding.{IsLengthWithin};
 
-use crate::token::{EthernetAddress, Kind, Parts};
+use crate::token::{Kind, Parts};
+use syntax::EthernetAddress;
 
 /// The most bytes of an Ethernet address.
 const MAX_ETHERNET: usize = 17;

@@ -4,7 +4,8 @@ ghost use Rattle.std.specs.Prelude.{◌≡◌, length, IfSome};
 ghost use Rattle.filterlang.specs.Words.{words, names, signs, stands, stands_whole, whole_word, standing};
 ghost use Rattle.filterlang.specs.Finding.{IsLengthWithin, first_of};
 
-use crate::token::{Comparison, Joint, Kind, Operator, Protocol, Side, TypeWord};
+use crate::token::{Joint, Kind, Protocol, Side, TypeWord};
+use syntax::{Comparison, Operator};
 
 /// The words of pcap-filter(7), the hyphenated ones first: of two that stand at a place the first is meant.
 pub(crate) const WORDS: [(&[u8], Kind); 38] = [

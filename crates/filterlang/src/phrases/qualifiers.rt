@@ -5,8 +5,8 @@ ghost use Rattle.std.specs.Result.{result_ok};
 ghost use Rattle.filterlang.specs.Qualifiers.{network_of, transport_of, qualifiers_of, mask_of, bits_of, between, port_of, net_of, identified};
 ghost use Rattle.filterlang.specs.declared.phrases.qualifiers.Qualifiers.TheVariants.{Net, IpProto, EtherProto};
 
-use crate::token::{EthernetAddress, Parts, Protocol, TypeWord};
-use crate::tree::{Direction, Network, Primitive, Transport};
+use crate::token::{Parts, Protocol, TypeWord};
+use syntax::{Direction, EthernetAddress, Network, Primitive, Transport};
 
 /// The qualifiers before an identifier, as they are written.
 #[derive(Clone, Copy)]

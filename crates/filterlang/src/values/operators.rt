@@ -2,16 +2,16 @@
 
 ghost use Rattle.std.specs.Prelude.{◌≡◌, option_map};
 ghost use Rattle.filterlang.specs.Phrases.{kinds};
-ghost use Rattle.filterlang.specs.Trees.{amount_of};
+ghost use Rattle.syntax.specs.Trees.{amount_of};
 ghost use Rattle.filterlang.specs.Operators.{precedence_of, divides, is_zero, layer_of, size_of};
 ghost use Rattle.filterlang.specs.Readers.{Gives};
 ghost use Rattle.filterlang.specs.ValueReading.{operator_at, operated};
 
 use crate::fault::Fault;
 use crate::phrases::next;
-use crate::token::{Kind, Operator, Protocol, Token};
-use crate::tree::{Layer, Size, Value};
+use crate::token::{Kind, Protocol, Token};
 use std::alloc::Global;
+use syntax::{Layer, Operator, Size, Value};
 
 /// The precedence of the operators that bind most loosely.
 pub(crate) const LOOSEST: usize = 6;

@@ -1,6 +1,6 @@
 use Rattle.std.proofs.Common.{false, List, ◌++◌, map, sym, ap, subst, ◌∙◌}
-use Rattle.filterlang.specs.Trees.{tree_of}
-use Rattle.filtergen.specs.Meaning.{packet_of, meaning}
+use Rattle.syntax.specs.Trees.{tree_of}
+use Rattle.semantics.specs.Meaning.{packet_of, meaning}
 use Rattle.explaining.specs.declared.asking.Asked.{Asked}
 use Rattle.explaining.specs.Asking.{Question, question_of, questions, LastDecides}
 use Rattle.explaining.proofs.Deciding.{last-decides}

@@ -1,6 +1,6 @@
 use Rattle.std.proofs.Common.{◌∙◌, sym}
-use Rattle.filterlang.specs.Trees.{tree_of}
-use Rattle.filtergen.specs.Meaning.{packet_of, meaning}
+use Rattle.syntax.specs.Trees.{tree_of}
+use Rattle.semantics.specs.Meaning.{packet_of, meaning}
 use Rattle.explaining.specs.Asking.{questions}
 use Rattle.explaining.proofs.Deciding.{last_yes, last_no}
 use Rattle.explaining.proofs.decided.+decide_in.Goals as goal

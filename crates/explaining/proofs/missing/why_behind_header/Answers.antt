@@ -1,5 +1,5 @@
 use Rattle.std.proofs.Common.{sym, ◌∙◌, ◌+◌, ◌*◌, ◌%◌, ◌^◌, bit_and}
-use Rattle.filtergen.specs.Meaning.{packet_of}
+use Rattle.semantics.specs.Meaning.{packet_of}
 use Rattle.explaining.specs.Causes.{missing}
 use Rattle.explaining.proofs.Captured.{missing-behind}
 use Rattle.explaining.proofs.missing.why_behind_header.Goals as goal

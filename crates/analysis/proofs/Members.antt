@@ -1,0 +1,225 @@
+-- Primitives and relations that become members of lists.
+use Rattle.std.proofs.Common.{◌≡◌, ℕ, ◌+◌, ◌<◌, ◌≤◌, ◌⊎◌, inl, inr, ◌==◌, ◌&&◌, Bool, true, false, List, [], ◌∷◌, ◌++◌, length, Option, Some, None, refl, sym, ap, ◌∙◌, arith, bit_and}
+use Rattle.std.proofs.lemmas.Bool.{cases_lt}
+use Rattle.std.proofs.lemmas.Bool.Decides.{nat_tests}
+use Rattle.std.proofs.lemmas.List.{length-append}
+use Rattle.syntax.specs.Trees.{Tree}
+use Rattle.syntax.specs.Trees as trees
+use Rattle.syntax.specs.declared.tree.Comparison.TheVariants as comparisons
+use Rattle.syntax.specs.declared.tree.Layer.{Layer}
+use Rattle.syntax.specs.declared.tree.Size.{Size}
+use Rattle.syntax.specs.declared.tree.Direction.{Direction}
+use Rattle.syntax.specs.declared.tree.Direction.TheVariants.{Src, Dst, SrcOrDst, SrcAndDst}
+use Rattle.syntax.specs.declared.tree.Network.{Network}
+use Rattle.syntax.specs.declared.tree.Network.TheVariants as networks
+use Rattle.syntax.specs.declared.tree.Transport.{Transport}
+use Rattle.syntax.specs.declared.tree.Transport.TheVariants as transports
+use Rattle.semantics.specs.declared.verdict.Verdict.{Verdict}
+use Rattle.semantics.specs.declared.verdict.Verdict.TheVariants.{Yes, No, Abort}
+use Rattle.semantics.specs.Meaning.{Packet, Test, and_then, or_else, opposite, and_test, check, decided, byte, word, is_type, is_protocol, by_direction, has_address, in_any_net, within, has_any_ports, bytes_of, accessed, in_layer, check_both, compared, relation_test, meaning}
+use Rattle.analysis.specs.declared.lists.Chain.{Chain}
+use Rattle.analysis.specs.declared.lists.Chain.TheVariants as chains
+use Rattle.analysis.specs.declared.lists.Form.{Form}
+use Rattle.analysis.specs.declared.lists.Form.TheVariants as forms
+use Rattle.analysis.specs.declared.lists.Bytes.{Bytes}
+use Rattle.analysis.specs.declared.lists.Sides.{Sides}
+use Rattle.analysis.specs.declared.lists.Kind.{Kind}
+use Rattle.analysis.specs.declared.lists.Span.{Span}
+use Rattle.analysis.specs.Weights.{weight}
+use Rattle.analysis.specs.Lists.{any_of, in_span, net_form, ports_form, bytes_test, form_test, kind_test, chained, turned, weighed, Takes, EndsIn}
+
+pub equal-true : (m n : ℕ) → (m == n) ≡ true → m ≡ n
+equal-true m n is = grind (arith, nat_tests)
+
+pub or-assoc : (u v w : Verdict) → or_else (or_else u v) w ≡ or_else u (or_else v w)
+or-assoc Yes v w = refl
+or-assoc No v w = refl
+or-assoc Abort v w = refl
+
+pub or-no : (v : Verdict) → or_else v No ≡ v
+or-no Yes = refl
+or-no No = refl
+or-no Abort = refl
+
+pub any-first : {X : Type 0} (t : X → Test) (p : Packet) (x : X) (xs : List X) → any_of t (xs ++ (x ∷ [])) p ≡ or_else (t x p) (any_of t xs p)
+any-first t p x [] = sym (or-no (t x p))
+any-first t p x (y ∷ xs) = ap (λ v. or_else v (t y p)) (any-first t p x xs) ∙ or-assoc (t x p) (any_of t xs p) (t y p)
+
+-- where each member aborts, the first one does
+pub and-assoc : (u v w : Verdict) → and_then (and_then u v) w ≡ and_then u (and_then v w)
+and-assoc Yes v w = refl
+and-assoc No v w = refl
+and-assoc Abort v w = refl
+
+-- a span of one number
+pub within-one : (low high n : ℕ) → low ≡ high → (n == low) ≡ within low high n
+within-one low high n is = by_cases (cases_lt n low) (cases_lt low n)
+  where
+    by_cases : (n < low) ⊎ (low ≤ n) → (low < n) ⊎ (n ≤ low) → (n == low) ≡ within low high n
+    by_cases (inl below) (inl above) = absurd (omega arith)
+    by_cases (inl below) (inr upto) = grind (arith, nat_tests)
+    by_cases (inr from) (inl above) = grind (arith, nat_tests)
+    by_cases (inr from) (inr upto) = grind (arith, nat_tests)
+
+abbrev pub span_of : ℕ → Span
+span_of n = record { low = n; high = n }
+
+-- a number is a span
+pub number-member : (n : ℕ) (v : Option ℕ) → check (λ b. b == n) v ≡ check (within n n) v
+number-member n None = refl
+number-member n (Some b) = ap decided (within-one n n b refl)
+
+pub protocol-member : (n : ℕ) (p : Packet) → is_protocol n p ≡ and_test (is_type 0x0800) (λ q. check (within n n) (byte 23 q)) p
+protocol-member n p = ap (and_then (is_type 0x0800 p)) (number-member n (byte 23 p))
+
+address-member : (a m o : ℕ) (p : Packet) → has_address a m o p ≡ in_span (span_of a) m o p
+address-member a m o p = by_value (word o p)
+  where
+    by_value : (v : Option ℕ) → check (λ w. bit_and w m == a) v ≡ check (λ w. within a a (bit_and w m)) v
+    by_value None = refl
+    by_value (Some w) = ap decided (within-one a a (bit_and w m) refl)
+
+addresses-member : (d : Direction) (a m o o' : ℕ) (p : Packet) → by_direction d (has_address a m o) (has_address a m o') p ≡ by_direction d (in_span (span_of a) m o) (in_span (span_of a) m o') p
+addresses-member Src a m o o' p = address-member a m o p
+addresses-member Dst a m o o' p = address-member a m o' p
+addresses-member SrcOrDst a m o o' p = ap (λ v. or_else v (has_address a m o' p)) (address-member a m o p) ∙ ap (or_else (in_span (span_of a) m o p)) (address-member a m o' p)
+addresses-member SrcAndDst a m o o' p = ap (λ v. and_then v (has_address a m o' p)) (address-member a m o p) ∙ ap (and_then (in_span (span_of a) m o p)) (address-member a m o' p)
+
+pub net-member : (network : Option Network) (d : Direction) (a m : ℕ) (b : Bytes) (p : Packet) → in_any_net network d a m p ≡ form_test (net_form network) d m b (span_of a) p
+net-member (Some networks.Ip) d a m b p = ap (and_then (is_type 0x0800 p)) (addresses-member d a m 26 30 p)
+net-member (Some networks.Arp) d a m b p = ap (and_then (is_type 0x0806 p)) (addresses-member d a m 28 38 p)
+net-member (Some networks.Rarp) d a m b p = ap (and_then (is_type 0x8035 p)) (addresses-member d a m 28 38 p)
+net-member None d a m b p =
+    ap (λ v. of_types v (by_direction d (has_address a m 28) (has_address a m 38) p)) (addresses-member d a m 26 30 p)
+    ∙ ap (of_types (by_direction d (in_span (span_of a) m 26) (in_span (span_of a) m 30) p)) (addresses-member d a m 28 38 p)
+  where
+    of_types : Verdict → Verdict → Verdict
+    of_types v w = or_else (or_else (and_then (is_type 0x0800 p) v) (and_then (is_type 0x0806 p) w)) (and_then (is_type 0x8035 p) w)
+
+pub ports-member : (transport : Option Transport) (d : Direction) (m low high : ℕ) (b : Bytes) (p : Packet)
+    → has_any_ports transport d low high p ≡ form_test (ports_form transport) d m b (record { low = low; high = high }) p
+ports-member None d m low high b p = refl
+ports-member (Some transports.Tcp) d m low high b p = refl
+ports-member (Some transports.Udp) d m low high b p = refl
+ports-member (Some transports.Sctp) d m low high b p = refl
+
+-- what a chain makes of two members
+turned-either : (c : Chain) (v w : Verdict) → turned c (or_else v w) ≡ chained c (turned c v) (turned c w)
+turned-either chains.AnyOf v w = refl
+turned-either chains.NoneOf Yes w = refl
+turned-either chains.NoneOf No w = refl
+turned-either chains.NoneOf Abort w = refl
+
+-- bytes that are compared with a number
+pub bytes-member : (l : Layer) (i : ℕ) (size : Size) (n : ℕ) (p : Packet)
+    → relation_test comparisons.Equal (trees.accessor l (trees.number i) size) (trees.number n) p ≡ bytes_test (record { layer = l; index = i; size = size }) (span_of n) p
+bytes-member l i size n p =
+    ap (λ v. and_then v (check_both (compared comparisons.Equal) (accessed l (bytes_of size) p i) (Some n))) (passed-twice (in_layer l p))
+    ∙ ap (and_then (in_layer l p)) (by_value (accessed l (bytes_of size) p i))
+  where
+    passed-twice : (v : Verdict) → and_then (and_then v Yes) Yes ≡ v
+    passed-twice Yes = refl
+    passed-twice No = refl
+    passed-twice Abort = refl
+
+    by_value : (v : Option ℕ) → check_both (compared comparisons.Equal) v (Some n) ≡ check (within n n) v
+    by_value None = refl
+    by_value (Some b) = ap decided (within-one n n b refl)
+
+pub both-true : (a b : Bool) → true ≡ (a && b) → (a ≡ true) × (true ≡ b)
+both-true true b is = (refl, is)
+both-true false b is = absurd cc
+
+abbrev pub kind_of : Form → Sides → ℕ → Bytes → Kind
+kind_of form sides mask bytes = record { form = form; sides = sides; mask = mask; bytes = bytes }
+
+pub kind-same : (j k : Kind) → j.form ≡ k.form → j.sides ≡ k.sides → j.mask ≡ k.mask → j.bytes ≡ k.bytes → j ≡ k
+kind-same j k form sides mask bytes =
+    ap (λ f. kind_of f j.sides j.mask j.bytes) form ∙ ap (λ s. kind_of k.form s j.mask j.bytes) sides ∙ ap (λ m. kind_of k.form k.sides m j.bytes) mask
+    ∙ ap (kind_of k.form k.sides k.mask) bytes
+
+abbrev pub bytes-at : Layer → ℕ → Size → Bytes
+bytes-at layer index size = record { layer = layer; index = index; size = size }
+
+pub bytes-same : (b c : Bytes) → b.layer ≡ c.layer → b.index ≡ c.index → b.size ≡ c.size → b ≡ c
+bytes-same b c layer index size =
+    ap (λ l. bytes-at l b.index b.size) layer ∙ ap (λ i. bytes-at c.layer i b.size) index ∙ ap (bytes-at c.layer c.index) size
+
+-- one member more
+pub weighed-more : (f : Form) (n : ℕ) → weighed f (n + 1) ≡ weighed f n + weighed f 1
+weighed-more forms.Net n = omega arith
+weighed-more forms.IpNet n = omega arith
+weighed-more forms.ArpNet n = omega arith
+weighed-more forms.RarpNet n = omega arith
+weighed-more forms.Ports n = omega arith
+weighed-more forms.TcpPorts n = omega arith
+weighed-more forms.UdpPorts n = omega arith
+weighed-more forms.SctpPorts n = omega arith
+weighed-more forms.IpProto n = omega arith
+weighed-more forms.EtherProto n = omega arith
+weighed-more forms.Bytes n = omega arith
+
+-- a primitive weighs no less
+pub weighed_one : (f : Form) → weighed f 1 ≤ 40
+weighed_one forms.Net = omega arith
+weighed_one forms.IpNet = omega arith
+weighed_one forms.ArpNet = omega arith
+weighed_one forms.RarpNet = omega arith
+weighed_one forms.Ports = omega arith
+weighed_one forms.TcpPorts = omega arith
+weighed_one forms.UdpPorts = omega arith
+weighed_one forms.SctpPorts = omega arith
+weighed_one forms.IpProto = omega arith
+weighed_one forms.EtherProto = omega arith
+weighed_one forms.Bytes = omega arith
+
+-- one more member
+pub takes-one : (chain : Chain) (kind : Kind) (t : Tree) (x : Span) (old new : List Span) → ((p : Packet) → meaning t p ≡ turned chain (kind_test kind x p)) → weighed kind.form 1 ≤ weight t
+    → new ≡ old ++ (x ∷ []) → Takes chain kind t None old new
+takes-one chain kind t x old new same weighs is = record {
+  same = λ p.
+      ap (λ v. chained chain v (turned chain (any_of (kind_test kind) old p))) (same p)
+      ∙ sym (turned-either chain (kind_test kind x p) (any_of (kind_test kind) old p))
+      ∙ ap (turned chain) (sym (any-first (kind_test kind) p x old))
+      ∙ sym (ap (λ l. turned chain (any_of (kind_test kind) l p)) is);
+  weighs =
+      let more : weighed kind.form (length new) ≡ weighed kind.form (length old) + weighed kind.form 1 =
+      ap (λ l. weighed kind.form (length l)) is ∙ ap (weighed kind.form) (length-append old (x ∷ [])) ∙ weighed-more kind.form (length old) in
+      omega (arith, weighs, more);
+  smaller = omega arith;
+  needs = omega arith;
+}
+
+-- none
+pub takes-none : (chain : Chain) (kind : Kind) (t : Tree) (old : List Span) → Takes chain kind t (Some t) old old
+takes-none chain kind t old = record { same = λ p. refl; weighs = omega arith; smaller = omega arith; needs = omega arith }
+
+-- the right operand, and what becomes of the left one
+pub takes-right : (kind : Kind) (t u : Tree) (left : Option Tree) (old mid new : List Span) → Takes chains.AnyOf kind u None old mid → Takes chains.AnyOf kind t left mid new
+    → Takes chains.AnyOf kind (trees.either t u) left old new
+takes-right kind t u left old mid new right others = record {
+  same = λ p. or-assoc (meaning t p) (meaning u p) (any_of (kind_test kind) old p) ∙ ap (or_else (meaning t p)) (right.same p) ∙ others.same p;
+  weighs = omega (arith, right.weighs, others.weighs);
+  smaller = omega (arith, others.smaller);
+  needs = omega (arith, others.needs);
+}
+
+pub takes-negated : (kind : Kind) (t u : Tree) (left : Option Tree) (old mid new : List Span) → Takes chains.NoneOf kind u None old mid → Takes chains.NoneOf kind t left mid new
+    → Takes chains.NoneOf kind (trees.both t u) left old new
+takes-negated kind t u left old mid new right others = record {
+  same = λ p. and-assoc (meaning t p) (meaning u p) (opposite (any_of (kind_test kind) old p)) ∙ ap (and_then (meaning t p)) (right.same p) ∙ others.same p;
+  weighs = omega (arith, right.weighs, others.weighs);
+  smaller = omega (arith, others.smaller);
+  needs = omega (arith, others.needs);
+}
+
+-- the last member, and those to its left
+pub ends-in : (chain : Chain) (kind : Kind) (t u : Tree) (left : Option Tree) (x : Span) (spans : List Span) → ((p : Packet) → meaning u p ≡ turned chain (kind_test kind x p)) → weighed kind.form 1 ≤ weight u
+    → 2 ≤ length spans → Takes chain kind t left (x ∷ []) spans → EndsIn chain kind t u left spans
+ends-in chain kind t u left x spans same weighs many takes = record {
+  many = many;
+  same = λ p. ap (chained chain (meaning t p)) (same p) ∙ takes.same p;
+  weighs = omega (arith, weighs, takes.weighs);
+  smaller = takes.smaller;
+  needs = takes.needs;
+}

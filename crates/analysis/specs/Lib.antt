@@ -1,0 +1,5 @@
+pub use Rattle.syntax.specs.Trees
+pub use Rattle.semantics.specs.Meaning
+pub mod Weights
+pub mod Knowing
+pub mod Lists

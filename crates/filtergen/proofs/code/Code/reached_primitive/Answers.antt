@@ -1,9 +1,0 @@
-use Rattle.filtergen.proofs.Leading.{renews-all-later}
-use Rattle.filtergen.proofs.Narrowed.{behind-renewed}
-use Rattle.filtergen.proofs.code.Code.reached_primitive.Goals as goal
-
-pub returns : goal.returns
-returns c =
-    let renewed = c.renew-ways.ensures in
-    let done = c.primitive_behind-entry.ensures in
-    (behind-renewed renewed.extends renewed.renews done, renews-all-later renewed.renews done.extends)

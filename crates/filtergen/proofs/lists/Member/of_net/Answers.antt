@@ -1,6 +1,0 @@
-use Rattle.filtergen.specs.Lists.{no_bytes}
-use Rattle.filtergen.proofs.Taking.{net-member}
-use Rattle.filtergen.proofs.lists.Member.of_net.Goals as goal
-
-pub returns-in-Some : goal.returns-in-Some
-returns-in-Some c = rw (c.net_form.ensures, c.in-Some.ensures) (λ p. net-member c.args.network c.args.direction c.args.address c.args.mask no_bytes p)

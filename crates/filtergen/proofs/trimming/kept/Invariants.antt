@@ -1,6 +1,0 @@
-use Rattle.std.proofs.Common.{◌≡◌}
-use Rattle.filtergen.specs.Trimming.{marked}
-use Rattle.filtergen.proofs.trimming.kept.Given as goal
-
-abbrev pub invariant-loop-mark : goal.invariant-loop-mark
-invariant-loop-mark l = l.kept ≡ marked l.mark-index l.fn.behind

@@ -1,0 +1,44 @@
+-- Lists behind what their members share.
+use Rattle.std.proofs.Common.{◌≡◌, ◌<◌, ◌==◌, List, length, Option, refl, sym, ap, ◌∙◌}
+use Rattle.syntax.specs.declared.tree.Direction.{Direction}
+use Rattle.syntax.specs.declared.tree.Transport.{Transport}
+use Rattle.analysis.specs.declared.known.Known.{Known}
+use Rattle.analysis.specs.declared.lists.Bytes.{Bytes}
+use Rattle.analysis.specs.declared.lists.Span.{Span}
+use Rattle.semantics.specs.declared.verdict.Verdict.TheVariants.{Yes}
+use Rattle.semantics.specs.Meaning.{Packet, Test, and_then, and_test, check, half, is_type, by_direction, within, has_port, has_any_ports, bytes_of, accessed, in_layer}
+use Rattle.analysis.specs.Knowing.{shows, rest_of, of_layer, is_unfragmented}
+use Rattle.generation.specs.Parts.{number_of, of_transport}
+use Rattle.analysis.specs.Lists.{any_of, of_any_type, bytes_test}
+use Rattle.generation.specs.Listed.{among}
+use Rattle.generation.proofs.Knowing.{rest-same, layer-shown}
+use Rattle.generation.proofs.Neighbours.{any-same, any-guarded, any-chosen, any-checked}
+use Rattle.generation.proofs.Nets.{by_type, by-type}
+use Rattle.generation.proofs.Narrowed.{of-transport-is}
+use Rattle.generation.proofs.Sharing.{number-shared}
+
+-- the type
+pub types-shared : (t u : Span → Test) (xs : List Span) (p : Packet) → 0 < length xs → of_any_type (any_of t xs) (any_of u xs) p ≡ any_of (λ x. of_any_type (t x) (u x)) xs p
+types-shared t u xs p some =
+    sym (by-type (any_of t xs) (any_of u xs) p)
+    ∙ sym (any-chosen (half 12 p) (λ n. n == 0x0800) (λ n. n == 0x0806) (λ n. n == 0x8035) t u xs p some)
+    ∙ any-same (λ x q. by_type (t x) (u x) p (half 12 p)) (λ x. of_any_type (t x) (u x)) p (λ x. by-type (t x) (u x) p) xs
+
+-- the protocol and the fragment
+pub ports-shared : (asked : Option Transport) (d : Direction) (xs : List Span) (p : Packet) → 0 < length xs
+    → of_transport asked (any_of (λ (x : Span). by_direction d (has_port x.low x.high 0) (has_port x.low x.high 2)) xs) p ≡ any_of (λ (x : Span). has_any_ports asked d x.low x.high) xs p
+ports-shared asked d xs p some =
+    let g : Test = and_test (and_test (is_type 0x0800) (number_of asked)) is_unfragmented in
+    let t = λ (x : Span). by_direction d (has_port x.low x.high 0) (has_port x.low x.high 2) in
+    sym (number-shared asked (any_of t xs) p)
+    ∙ sym (any-guarded g t xs p some)
+    ∙ any-same (λ x. and_test g (t x)) (λ (x : Span). has_any_ports asked d x.low x.high) p (λ x. number-shared asked (t x) p ∙ of-transport-is asked d x.low x.high p) xs
+
+-- the layer
+pub bytes-shared : (known : Known) (b : Bytes) (xs : List Span) (p : Packet) → 0 < length xs → shows known p ≡ Yes
+    → and_then (rest_of known (of_layer b.layer) p) (check (among xs) (accessed b.layer (bytes_of b.size) p b.index)) ≡ any_of (bytes_test b) xs p
+bytes-shared known b xs p some holds =
+    let number : Span → Test = (λ (x : Span) q. check (within x.low x.high) (accessed b.layer (bytes_of b.size) q b.index)) in
+    ap (λ v. and_then v (check (among xs) (accessed b.layer (bytes_of b.size) p b.index))) (rest-same known (of_layer b.layer) p holds ∙ layer-shown b.layer p)
+    ∙ ap (and_then (in_layer b.layer p)) (sym (any-same number (λ (x : Span) q. check (within x.low x.high) (accessed b.layer (bytes_of b.size) p b.index)) p (λ x. refl) xs ∙ any-checked xs p (accessed b.layer (bytes_of b.size) p b.index) some))
+    ∙ sym (any-guarded (in_layer b.layer) number xs p some)

@@ -1,0 +1,18 @@
+use Rattle.syntax.specs.Trees.{amount_of}
+use Rattle.semantics.specs.Meaning.{relation_test}
+use Rattle.generation.specs.Parts.{relation_cost}
+use Rattle.analysis.specs.Knowing.{narrowed, rest_of_relation}
+use Rattle.analysis.specs.declared.known.Known.TheVariants as facts
+use Rattle.generation.proofs.Knowing.{relation-ip}
+use Rattle.generation.proofs.Narrowed.{behind-same}
+use Rattle.generation.proofs.code.Code.ip_relation.Goals as goal
+
+pub returns : goal.returns
+returns c =
+    let known = c.args.known in
+    let comparison = c.args.comparison in
+    let left = amount_of c.args.left.now in
+    let right = amount_of c.args.right.now in
+    let inner = rw (c.ip_exits.ensures, c.narrowed-of_ip.ensures) at c.in_ok-inner.ensures in
+    behind-same known _ (relation_test comparison left right) (λ p holds. relation-ip known comparison left right p c.requires.begins holds)
+    (c.behind_ip_unless.ensures.guards (relation_cost left right) (rest_of_relation (narrowed known (facts.Type 0x0800)) comparison left right) c.args.self.now c.requires.ways inner)

@@ -1,0 +1,9 @@
+use Rattle.generation.proofs.Leading.{renews-all-later}
+use Rattle.generation.proofs.Narrowed.{behind-renewed}
+use Rattle.generation.proofs.code.Code.reached_primitive.Goals as goal
+
+pub returns : goal.returns
+returns c =
+    let renewed = c.renew-ways.ensures in
+    let done = c.primitive_behind-entry.ensures in
+    (behind-renewed renewed.extends renewed.renews done, renews-all-later renewed.renews done.extends)

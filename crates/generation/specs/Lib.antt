@@ -1,0 +1,9 @@
+pub use Rattle.syntax.specs.Trees
+pub use Rattle.semantics.specs.Meaning
+pub use Rattle.trimming.specs.Reaching
+pub mod Compiling
+pub mod Insns
+pub mod Emission
+pub mod Ways
+pub mod Parts
+pub mod Listed

@@ -1,0 +1,73 @@
+-- What code does that asks once for all members of a list. Private clauses alone say this.
+use Rattle.std.specs.Prelude.{◌≡◌, ℕ, ◌+◌, ◌*◌, ◌≤◌, Bool, true, false, List, [], ◌∷◌, Option, Some, None, if◌then◌else◌, bit_and, option_map}
+use Rattle.bpfvm.specs.declared.insn.Insn.{Insn}
+use Rattle.bpfvm.specs.Codes.{Accumulator}
+use Rattle.bpfvm.specs.Machine.{Registers, with_value}
+use Rattle.syntax.specs.Trees.{Tree}
+use Rattle.semantics.specs.Meaning.{Packet, Test, check, half, word, within, meaning}
+use Rattle.analysis.specs.declared.known.Known.{Known}
+use Rattle.analysis.specs.declared.lists.Chain.{Chain}
+use Rattle.analysis.specs.declared.lists.Chain.TheVariants as chains
+use Rattle.analysis.specs.declared.lists.Form.{Form}
+use Rattle.analysis.specs.declared.lists.Form.TheVariants as forms
+use Rattle.analysis.specs.declared.lists.Span.{Span}
+use Rattle.analysis.specs.Weights.{weight, need}
+use Rattle.analysis.specs.Lists.{chained, left_chained, left_weight, left_size, left_need, size}
+use Rattle.generation.specs.declared.code.Exits.{Exits}
+use Rattle.generation.specs.declared.among.Spot.{Spot}
+use Rattle.generation.specs.declared.among.Spot.TheVariants as spots
+use Rattle.generation.specs.declared.ways.Way.{Way}
+use Rattle.generation.specs.declared.ways.Ways.{Ways}
+use Rattle.generation.specs.Emission.{IsPlace, run_from, Extends, front, field_of}
+use Rattle.generation.specs.Ways.{RenewsBoth, DecidesBehind}
+
+-- in one of these spans
+abbrev pub among : List Span → ℕ → Bool
+among [] n = false
+among (x ∷ xs) n = if within x.low x.high n then true else among xs n
+
+-- how many instructions a list of so many takes at most
+abbrev pub listed_cost : Form → ℕ → ℕ
+listed_cost forms.Bytes n = 7 * n + 14
+listed_cost other n = 28 * n + 22
+
+-- the number at a spot
+abbrev pub spot_value : Spot → Registers → Packet → Option ℕ
+spot_value (spots.At field) r p = field_of field p
+spot_value (spots.Masked o mask) r p = option_map (λ w. bit_and w mask) (word o p)
+spot_value (spots.Behind o) r p = half (r.index + o) p
+
+abbrev pub found_at : Spot → Registers → Span → Test
+found_at spot r x p = check (within x.low x.high) (spot_value spot r p)
+
+-- a run that ends with 0 where there is no number, and else goes on with the number in the accumulator
+abbrev pub onward : Option ℕ → (Registers → ℕ) → Registers → ℕ
+onward None run r = 0
+onward (Some n) run r = run (with_value Accumulator n r)
+
+-- the front of new loads the number at a spot, and goes on over old
+pub record LoadsSpot (spot : Spot) (old new : List Insn) : Type 0 where
+  pub extends : Extends 2 old new
+  pub loads : (p : Packet) (r : Registers) → front new p r ≡ onward (spot_value spot r p) (front old p) r
+
+-- from entry a run of new goes to an exit by a condition on the registers, which it leaves as they are
+pub record ChoosesFrom (most : ℕ) (choice : Registers → Bool) (exits : Exits) (entry : ℕ) (old new : List Insn) : Type 0 where
+  pub extends : Extends most old new
+  pub here : IsPlace new entry
+  pub chooses : (p : Packet) (r : Registers)
+      → run_from new entry p r ≡ (if choice r then run_from old exits.yes p r else run_from old exits.no p r)
+
+abbrev pub turned_ways : Chain → Ways → Ways
+turned_ways chains.AnyOf ways = ways
+turned_ways chains.NoneOf ways = record { yes = ways.no; no = ways.yes }
+
+-- the code of the list that a chain ends in, behind what is left of its left operand
+pub record EmitsList (known : Known) (chain : Chain) (first second : Tree) (left : Option Tree) (ways renewed : Ways) (entry : Way) (old new : List Insn) : Type 0 where
+  pub test : Test
+  pub most : ℕ
+  pub same : (p : Packet) → chained chain (meaning first p) (meaning second p) ≡ left_chained chain left test p
+  pub fits : left_weight left + most ≤ weight first + weight second
+  pub smaller : left_size left ≤ size first
+  pub needs : left_need left ≤ need first
+  pub decides : DecidesBehind known most test ways entry old new
+  pub renews : RenewsBoth ways renewed old new

@@ -1,0 +1,178 @@
+//! Tests of whether a number is one of many. Code is written from its end: what is tested last comes first here.
+
+ghost use Rattle.std.specs.Prelude.{◌≡◌, ℕ, ◌+◌, ◌*◌, ◌<◌, ◌≤◌, length, IfOk};
+ghost use Rattle.bpfvm.specs.Machine.{Registers};
+ghost use Rattle.analysis.specs.declared.lists.Span.{Span as Reach};
+ghost use Rattle.semantics.specs.Meaning.{Packet, HasBytes, check, by_direction, has_port, bytes_of, accessed};
+ghost use Rattle.analysis.specs.Lists.{any_of, direction_of, in_span};
+ghost use Rattle.generation.specs.Listed.{among, found_at, LoadsSpot, ChoosesFrom};
+ghost use Rattle.generation.specs.Emission.{AreExits, same_index, Follows, Decides, OrFull};
+
+use crate::code::{Code, Exits, Full, REACH};
+use crate::insns::{Field, load_insn, plain_insn};
+use crate::values::base_of;
+use analysis::{Bytes, Sides, Span};
+use bpfvm::code;
+
+/// From how far the jumps of a list reach its exit: what one member takes may come in between.
+const NEAR: usize = REACH - 6;
+
+/// Where a list looks for its numbers.
+#[derive(Clone, Copy)]
+pub(crate) enum Spot {
+    At(Field),
+    /// The bits of a word of the frame under a mask.
+    Masked { offset: u32, mask: u32 },
+    /// A half so many bytes behind that of which the index register has the offset.
+    Behind(u32),
+}
+
+impl Spot {
+    /// An IPv4 address under a mask. A mask of ones takes no instruction.
+    fn of_address(offset: u32, mask: u32) -> Spot
+        ensures { (p : Packet) (r : Registers) (x : Reach) → HasBytes p → found_at result r x p ≡ in_span x mask offset p }
+    {
+        if mask == u32::MAX {
+            Spot::At(Field::Word(offset))
+        } else {
+            Spot::Masked { offset, mask }
+        }
+    }
+}
+
+impl Code {
+    /// Goes to an exit by whether the accumulator is in one of these spans, of which the first one is tested last. An exit that
+    /// comes out of reach is brought near once for all that follow.
+    fn among(&mut self, spans: &[Span], exits: Exits) -> Result<usize, Full>
+        requires exits { AreExits self.old exits }
+        ensures { OrFull (7 * length spans.now) self.old result (λ entry.
+            ChoosesFrom (7 * length spans.now) (λ r. among spans.now r.accumulator) exits entry self.old self.new
+            × (0 < length spans.now → entry ≡ length self.new)) }
+    {
+        let Exits { mut yes, mut no } = exits;
+        for span in spans {
+            self.room(7)?;
+            yes = self.near(yes, NEAR);
+            self.branch_within(span.low, span.high, Exits { yes, no });
+            no = self.len();
+        }
+        Ok(no)
+    }
+
+    /// Loads the number at a spot.
+    fn load_spot(&mut self, spot: Spot)
+        requires room { length self.old + 2 ≤ 512 }
+        ensures { LoadsSpot spot self.old self.new }
+    {
+        match spot {
+            Spot::At(field) => self.push(load_insn(field)),
+            Spot::Masked { offset, mask } => {
+                self.push(plain_insn(code::AND_K, mask));
+                self.push(load_insn(Field::Word(offset)));
+            }
+            Spot::Behind(offset) => self.push(plain_insn(code::LD_H_IND, offset)),
+        }
+    }
+
+    /// Goes to an exit by whether the number at a spot is in one of these spans.
+    pub fn seek(&mut self, spot: Spot, spans: &[Span], exits: Exits) -> Result<usize, Full>
+        requires some { 0 < length spans.now }
+        requires exits { AreExits self.old exits }
+        ensures { OrFull (7 * length spans.now + 2) self.old result (λ entry.
+            Follows same_index (7 * length spans.now + 2) (λ r. any_of (found_at spot r) spans.now) exits entry self.old self.new
+            × (entry ≡ length self.new)) }
+    {
+        self.among(spans, exits)?;
+        self.room(2)?;
+        self.load_spot(spot);
+        Ok(self.len())
+    }
+
+    /// The same of the spots of the source and of the destination. The first member's source is asked for alone. Then the
+    /// destination is loaded, and no load can fail any more: all members ask for it together, and then all others for the source.
+    pub fn seek_sides(
+        &mut self,
+        sides: Sides,
+        source: Spot,
+        destination: Spot,
+        spans: &[Span],
+        exits: Exits,
+    ) -> Result<usize, Full>
+        requires many { 2 ≤ length spans.now }
+        requires exits { AreExits self.old exits }
+        ensures { OrFull (14 * length spans.now + 6) self.old result (λ entry.
+            Follows same_index (14 * length spans.now + 6)
+            (λ r. any_of (λ x. by_direction (direction_of sides) (found_at source r x) (found_at destination r x)) spans.now) exits
+            entry self.old self.new
+            × (entry ≡ length self.new)) }
+    {
+        match sides {
+            Sides::Source => self.seek(source, spans, exits),
+            Sides::Destination => self.seek(destination, spans, exits),
+            Sides::Either => {
+                let others = spans.len() - 1;
+                let third = self.seek(source, &spans[..others], exits)?;
+                let second = self.seek(destination, spans, Exits { no: third, ..exits })?;
+                self.seek(
+                    source,
+                    &spans[others..],
+                    Exits {
+                        no: second,
+                        ..exits
+                    },
+                )
+            }
+        }
+    }
+
+    /// Bytes of a layer, where the packet has it.
+    pub fn seek_bytes(&mut self, bytes: Bytes, spans: &[Span], exits: Exits) -> Result<usize, Full>
+        requires some { 0 < length spans.now }
+        requires exits { AreExits self.old exits }
+        ensures { OrFull (7 * length spans.now + 2) self.old result (λ entry. Decides (7 * length spans.now + 2)
+            (λ p. check (among spans.now) (accessed bytes.layer (bytes_of bytes.size) p bytes.index)) exits entry
+            self.old self.new) }
+    {
+        self.among(spans, exits)?;
+        self.room(2)?;
+        let index = u32::from(bytes.index);
+        self.access_at(base_of(bytes.layer), bytes.size, index);
+        Ok(self.len())
+    }
+
+    /// Addresses of IPv4 at these offsets of the frame.
+    pub fn seek_addresses(
+        &mut self,
+        offsets: (u32, u32),
+        sides: Sides,
+        mask: u32,
+        spans: &[Span],
+        exits: Exits,
+    ) -> Result<usize, Full>
+        requires many { 2 ≤ length spans.now }
+        requires exits { AreExits self.old exits }
+        ensures { OrFull (14 * length spans.now + 6) self.old result (λ entry. Decides (14 * length spans.now + 6)
+            (any_of (λ x. by_direction (direction_of sides) (in_span x mask offsets.0) (in_span x mask offsets.1)) spans.now) exits
+            entry self.old self.new) }
+    {
+        let source = Spot::of_address(offsets.0, mask);
+        let destination = Spot::of_address(offsets.1, mask);
+        self.seek_sides(sides, source, destination, spans, exits)
+    }
+
+    /// Ports behind the IPv4 header. An exit that begins with the same header's length is passed.
+    pub fn seek_ports(&mut self, sides: Sides, spans: &[Span], exits: Exits) -> Result<usize, Full>
+        requires many { 2 ≤ length spans.now }
+        requires exits { AreExits self.old exits }
+        ensures { OrFull (14 * length spans.now + 7) self.old result (λ entry. Decides (14 * length spans.now + 7)
+            (any_of (λ x. by_direction (direction_of sides) (has_port x.low x.high 0) (has_port x.low x.high 2)) spans.now) exits
+            entry self.old self.new) }
+    {
+        let header = plain_insn(code::LDX_MSH, 14);
+        let exits = self.both_passed(header, exits);
+        self.seek_sides(sides, Spot::Behind(14), Spot::Behind(16), spans, exits)?;
+        self.room(1)?;
+        self.push(header);
+        Ok(self.len())
+    }
+}

@@ -1,0 +1,230 @@
+//! Code that is written from its end, so that what a jump leads to is there before the jump.
+
+ghost use Rattle.std.specs.Prelude.{◌≡◌, ℕ, ◌+◌, ◌-◌, ◌<◌, ◌≤◌, List, [], ◌∷◌, length, None, reverse, bit_and, MatchResult};
+ghost use Rattle.bpfvm.specs.declared.insn.Insn.{Insn};
+ghost use Rattle.bpfvm.specs.Validity.{fault_of, IsValidProgram};
+ghost use Rattle.bpfvm.specs.Machine.{holds, verdict};
+ghost use Rattle.semantics.specs.Meaning.{check, within};
+ghost use Rattle.trimming.specs.Reaching.{IsAllReached};
+ghost use Rattle.generation.specs.Insns.{plain_insn};
+ghost use Rattle.generation.specs.Emission.{IsPlace, AreExits, comparison_of, condition, field_of, Passes, Nears, Chooses, Decides};
+
+use crate::insns::{Field, Jump, Operand, branch_insn, load_insn, plain_insn};
+use arrayvec::ArrayVec;
+use bpfvm::{Insn, MAX_INSNS, Program, code};
+use std::marker::Model;
+use trimming::without_unreached;
+
+/// How many instructions a conditional jump passes at most, by its own offset of 8 bits.
+pub(crate) const REACH: usize = 255;
+
+/// Where a test goes on: places of the code, counted from its end.
+#[derive(Clone, Copy)]
+pub(crate) struct Exits {
+    pub yes: usize,
+    pub no: usize,
+}
+
+impl Exits {
+    /// The exits of the opposite test.
+    pub fn swapped(self) -> Exits
+        ensures { result ≡ record { yes = self.no; no = self.yes } }
+    {
+        Exits {
+            yes: self.no,
+            no: self.yes,
+        }
+    }
+}
+
+/// There is no room for more instructions.
+#[derive(Drop)]
+pub(crate) struct Full;
+
+/// The end of a program, which is a program of its own at each moment. Instructions are put in front of it.
+#[derive(Drop)]
+pub(crate) struct Code {
+    /// The last instruction comes first.
+    insns: ArrayVec<Insn, MAX_INSNS>,
+}
+
+impl Model for Code {
+    ghost use Rattle.std.specs.Prelude.{List, reverse};
+    ghost use Rattle.bpfvm.specs.declared.insn.Insn.{Insn};
+    ghost use Rattle.bpfvm.specs.Validity.{IsValidProgram};
+
+    ghost Value = { List Insn };
+
+    ghost view = { λ c. reverse c.insns.items };
+
+    ghost invariant = { λ c. IsValidProgram (reverse c.insns.items) };
+}
+
+impl Code {
+    /// A return with the snapshot length, and behind it one with 0.
+    pub fn new(snap: u32) -> Code
+        ensures { result ≡ plain_insn 6 snap ∷ plain_insn 6 0 ∷ [] }
+    {
+        let mut insns = ArrayVec::new();
+        insns.push(plain_insn(code::RET_K, 0));
+        insns.push(plain_insn(code::RET_K, snap));
+        Code { insns }
+    }
+
+    /// How many instructions there are, and so the place of the first one.
+    pub fn len(&self) -> usize
+        ensures value { result ≡ length self.now }
+        ensures within { result ≤ 512 }
+    {
+        self.insns.len()
+    }
+
+    /// Whether there is room for so many more instructions.
+    pub fn room(&self, more: usize) -> Result<(), Full>
+        requires { more ≤ 40 }
+        ensures { MatchResult result (λ _. length self.now + more ≤ 512) (λ _. 512 < length self.now + more) }
+    {
+        if self.len() + more <= MAX_INSNS {
+            Ok(())
+        } else {
+            Err(Full)
+        }
+    }
+
+    /// Puts an instruction in front.
+    pub fn push(&mut self, insn: Insn)
+        requires room { length self.old < 512 }
+        requires sound { fault_of (length self.old + 1) 0 insn ≡ None }
+        ensures { self.new ≡ insn ∷ self.old }
+    {
+        self.insns.push(insn);
+    }
+
+    /// Puts an instruction in front that is sound wherever it stands.
+    pub fn put(&mut self, code: u16, k: u32)
+        requires room { length self.old < 512 }
+        requires sound { fault_of 1 0 (plain_insn code k) ≡ None }
+        ensures { self.new ≡ plain_insn code k ∷ self.old }
+    {
+        self.push(plain_insn(code, k));
+    }
+
+    /// The place, or one that goes on there, where the place is farther than reach.
+    pub fn near(&mut self, place: usize, reach: usize) -> usize
+        requires room { length self.old < 512 }
+        requires place { IsPlace self.old place }
+        ensures { Nears place reach result self.old self.new }
+    {
+        let distance = self.len() - place;
+        if distance <= reach {
+            place
+        } else {
+            self.push(plain_insn(code::JA, distance as u32));
+            self.len()
+        }
+    }
+
+    /// Goes to an exit by a comparison of the accumulator.
+    pub fn branch(&mut self, jump: Jump, operand: Operand, exits: Exits)
+        requires room { length self.old + 3 ≤ 512 }
+        requires exits { AreExits self.old exits }
+        ensures { Chooses 3 (condition jump operand) exits self.old self.new }
+    {
+        // The jump to `yes` may need an instruction in front of the one to `no`.
+        let reach = if self.len() - exits.yes > REACH {
+            REACH - 1
+        } else {
+            REACH
+        };
+        let no = self.near(exits.no, reach);
+        let yes = self.near(exits.yes, REACH);
+        let jt = (self.len() - yes) as u8;
+        let jf = (self.len() - no) as u8;
+        self.push(branch_insn(jump, operand, jt, jf));
+    }
+
+    /// Goes to an exit by whether the accumulator is from low to high.
+    pub fn branch_within(&mut self, low: u32, high: u32, exits: Exits)
+        requires room { length self.old + 6 ≤ 512 }
+        requires exits { AreExits self.old exits }
+        ensures { Chooses 6 (λ r. within low high r.accumulator) exits self.old self.new }
+    {
+        if low == high {
+            self.branch(Jump::Equal, Operand::Constant(low), exits);
+        } else {
+            self.branch(Jump::Greater, Operand::Constant(high), exits.swapped());
+            let upper = self.len();
+            let exits = Exits {
+                yes: upper,
+                ..exits
+            };
+            self.branch(Jump::GreaterOrEqual, Operand::Constant(low), exits);
+        }
+    }
+
+    /// The place, or the one behind it where this instruction stands there: for a run in which it would change nothing.
+    fn passed(&self, insn: Insn, place: usize) -> usize
+        requires { IsPlace self.now place }
+        ensures { Passes insn place result self.now }
+    {
+        let found = self.insns.as_slice()[place - 1];
+        if place > 1 && found == insn {
+            place - 1
+        } else {
+            place
+        }
+    }
+
+    /// The exits, or the places behind them where this instruction stands there.
+    pub fn both_passed(&self, insn: Insn, exits: Exits) -> Exits
+        requires { AreExits self.now exits }
+        ensures yes { Passes insn exits.yes result.yes self.now }
+        ensures no { Passes insn exits.no result.no self.now }
+    {
+        Exits {
+            yes: self.passed(insn, exits.yes),
+            no: self.passed(insn, exits.no),
+        }
+    }
+
+    /// Goes to an exit by a comparison of a number of the packet. An exit that begins with the same load is passed: the
+    /// number is still in the accumulator.
+    pub fn test(&mut self, field: Field, jump: Jump, value: u32, exits: Exits) -> usize
+        requires room { length self.old + 4 ≤ 512 }
+        requires exits { AreExits self.old exits }
+        ensures { Decides 4 (λ p. check (λ n. holds (comparison_of jump) n value) (field_of field p)) exits result
+            self.old self.new }
+    {
+        let load = load_insn(field);
+        let exits = self.both_passed(load, exits);
+        self.branch(jump, Operand::Constant(value), exits);
+        self.push(load);
+        self.len()
+    }
+
+    /// Goes to an exit by whether the bits of a number under a mask are these.
+    pub fn masked_test(&mut self, field: Field, mask: u32, bits: u32, exits: Exits) -> usize
+        requires room { length self.old + 5 ≤ 512 }
+        requires exits { AreExits self.old exits }
+        ensures { Decides 5 (λ p. check (λ n. holds (comparison_of Jump.Equal) (bit_and n mask) bits) (field_of field p)) exits
+            result self.old self.new }
+    {
+        self.branch(Jump::Equal, Operand::Constant(bits), exits);
+        self.push(plain_insn(code::AND_K, mask));
+        self.push(load_insn(field));
+        self.len()
+    }
+
+    /// The program that this code is, without the instructions that nothing reaches.
+    pub fn into_program(mut self) -> Program
+        ensures same { (packet : List ℕ) (wire : ℕ) → verdict result packet wire ≡ verdict self packet wire }
+        ensures reached { IsAllReached result }
+    {
+        self.insns.reverse();
+        let reached = without_unreached(self.insns.as_slice());
+        match Program::new(reached.as_slice()) {
+            Ok(program) => program,
+            Err(_) => unreachable!(),
+        }
+    }
+}

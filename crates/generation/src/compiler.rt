@@ -1,0 +1,208 @@
+//! Expressions to programs.
+
+ghost use Rattle.std.specs.Prelude.{◌≡◌, ◌≢◌, ◌↔◌, ℕ, ◌+◌, ◌<◌, ◌≤◌, length, Some, None, Err, IfOk, MatchOption, MatchResult};
+ghost use Rattle.syntax.specs.Trees.{tree_of};
+ghost use Rattle.semantics.specs.Meaning.{primitive_test, meaning};
+ghost use Rattle.generation.specs.Parts.{cost};
+ghost use Rattle.analysis.specs.Weights.{weight, need};
+ghost use Rattle.generation.specs.Compiling.{StandsFor, IsBadSnap};
+ghost use Rattle.trimming.specs.Reaching.{IsAllReached};
+ghost use Rattle.generation.specs.Emission.{OrFull};
+ghost use Rattle.generation.specs.Ways.{AreWays, DecidesBehind, RenewsBoth};
+ghost use Rattle.analysis.specs.Lists.{behind_left};
+ghost use Rattle.generation.specs.Listed.{turned_ways, EmitsList};
+
+use crate::code::{Code, Full};
+use crate::primitives::cost;
+use crate::refusal::Refusal;
+use crate::ways::{Way, Ways};
+use analysis::{Chain, Known, MAX_NEED, Neighbours, need};
+use bpfvm::Program;
+use syntax::{Expr, Primitive};
+
+/// The largest snapshot length.
+pub const MAX_SNAP: u32 = 262_144;
+
+/// The code of an expression.
+#[derive(Clone, Copy)]
+struct Emitted {
+    /// Where its run begins.
+    entry: Way,
+    /// Ways that lead on as the expression's, which may have come out of reach.
+    ways: Ways,
+}
+
+/// A list of which the code is there.
+#[derive(Clone, Copy)]
+struct Listed<'a> {
+    emitted: Emitted,
+    /// What stands to its left.
+    left: Option<&'a Expr>,
+}
+
+/// The ways of the test whether any member of a list holds.
+fn turned(chain: Chain, ways: Ways) -> Ways
+    ensures { result ≡ turned_ways chain ways }
+{
+    match chain {
+        Chain::AnyOf => ways,
+        Chain::NoneOf => ways.swapped(),
+    }
+}
+
+impl Code {
+    /// What is left of the list at the right end of a chain of these two, where one is. The list takes some memory of the stack,
+    /// which is not to be in each frame of the walk down a tree.
+    #[inline(never)]
+    fn list<'a>(
+        &mut self,
+        known: Known,
+        chain: Chain,
+        left: &'a Expr,
+        right: &Expr,
+        ways: Ways,
+    ) -> Result<Option<Listed<'a>>, Full>
+        requires ways { AreWays self.old ways }
+        ensures { OrFull (weight (tree_of left.now) + weight (tree_of right.now)) self.old result (λ found.
+            MatchOption found (self.new ≡ self.old) (λ listed. MatchOption listed.left
+            (EmitsList known chain (tree_of left.now) (tree_of right.now) None ways listed.emitted.ways listed.emitted.entry
+            self.old self.new)
+            (λ rest. EmitsList (behind_left chain known (tree_of rest.now)) chain (tree_of left.now) (tree_of right.now)
+            (Some (tree_of rest.now)) ways listed.emitted.ways listed.emitted.entry self.old self.new))) }
+    {
+        let Some((list, left)) = Neighbours::at_end(chain, left, right) else {
+            return Ok(None);
+        };
+        self.room(2)?;
+        let ways = self.renew(ways);
+        let known = chain.known_behind(known, left);
+        let turned = turned(chain, ways);
+        let entry = self.listed(known, list.kind, list.spans.as_slice(), turned)?;
+        let emitted = Emitted { entry, ways };
+        Ok(Some(Listed { emitted, left }))
+    }
+
+    /// What is left of a primitive. Its ways are renewed first, so that its jumps and those in front of it reach them.
+    fn reached_primitive(&mut self, known: Known, primitive: Primitive, ways: Ways) -> Emitted
+        requires room { length self.old + (2 + cost primitive) ≤ 512 }
+        requires ways { AreWays self.old ways }
+        ensures { DecidesBehind known (2 + cost primitive) (primitive_test primitive) ways result.entry self.old self.new
+            × RenewsBoth ways result.ways self.old self.new }
+    {
+        let ways = self.renew(ways);
+        let entry = self.primitive_behind(known, primitive, ways);
+        Emitted { entry, ways }
+    }
+
+    /// What is left of an expression behind what is known. It goes on by its ways. The right operand is there before the left one.
+    fn expression(&mut self, known: Known, expr: &Expr, ways: Ways) -> Result<Emitted, Full>
+        requires need { need (tree_of expr.now) ≤ 16 }
+        requires ways { AreWays self.old ways }
+        ensures { OrFull (weight (tree_of expr.now)) self.old result (λ emitted.
+            DecidesBehind known (weight (tree_of expr.now)) (meaning (tree_of expr.now)) ways emitted.entry self.old self.new
+            × RenewsBoth ways emitted.ways self.old self.new) }
+    {
+        match expr {
+            Expr::Everything => {
+                let entry = ways.yes;
+                Ok(Emitted { entry, ways })
+            }
+            Expr::Test(primitive) => {
+                self.room(2 + cost(*primitive))?;
+                Ok(self.reached_primitive(known, *primitive, ways))
+            }
+            Expr::Relation(comparison, left, right) => {
+                self.room(2)?;
+                let ways = self.renew(ways);
+                let entry = self.relation_behind(known, *comparison, left, right, ways)?;
+                Ok(Emitted { entry, ways })
+            }
+            Expr::Not(operand) => {
+                let inner = self.expression(known, operand, ways.swapped())?;
+                let (entry, ways) = (inner.entry, inner.ways.swapped());
+                Ok(Emitted { entry, ways })
+            }
+            Expr::And(left, right) => {
+                if let Some(listed) = self.list(known, Chain::NoneOf, left, right, ways)? {
+                    let Some(left) = listed.left else {
+                        return Ok(listed.emitted);
+                    };
+                    let second = listed.emitted;
+                    let (yes, no) = (second.entry, second.ways.no);
+                    let first = self.expression(known, left, Ways { yes, no })?;
+                    let (yes, no) = (second.ways.yes, first.ways.no);
+                    let (entry, ways) = (first.entry, Ways { yes, no });
+                    return Ok(Emitted { entry, ways });
+                }
+                let second = self.expression(known.behind(left), right, ways)?;
+                let (yes, no) = (second.entry, second.ways.no);
+                let first = self.expression(known, left, Ways { yes, no })?;
+                let (yes, no) = (second.ways.yes, first.ways.no);
+                let (entry, ways) = (first.entry, Ways { yes, no });
+                Ok(Emitted { entry, ways })
+            }
+            Expr::Or(left, right) => {
+                if let Some(listed) = self.list(known, Chain::AnyOf, left, right, ways)? {
+                    let Some(left) = listed.left else {
+                        return Ok(listed.emitted);
+                    };
+                    let second = listed.emitted;
+                    let (yes, no) = (second.ways.yes, second.entry);
+                    let first = self.expression(known, left, Ways { yes, no })?;
+                    let (yes, no) = (first.ways.yes, second.ways.no);
+                    let (entry, ways) = (first.entry, Ways { yes, no });
+                    return Ok(Emitted { entry, ways });
+                }
+                let second = self.expression(known, right, ways)?;
+                let (yes, no) = (second.ways.yes, second.entry);
+                let first = self.expression(known, left, Ways { yes, no })?;
+                let (yes, no) = (first.ways.yes, second.ways.no);
+                let (entry, ways) = (first.entry, Ways { yes, no });
+                Ok(Emitted { entry, ways })
+            }
+        }
+    }
+}
+
+/// The program of an expression, whose entry is its first instruction.
+fn program_of(expr: &Expr, snap: u32) -> Result<Program, Full>
+    requires { need (tree_of expr.now) ≤ 16 }
+    ensures { MatchResult result
+        (λ program. StandsFor program (tree_of expr.now) snap × IsAllReached program) (λ _. 500 < weight (tree_of expr.now)) }
+{
+    let mut code = Code::new(snap);
+    let (yes, no) = (Way::to(2), Way::to(1));
+    let emitted = code.expression(Known::Nothing, expr, Ways { yes, no })?;
+    code.room(1)?;
+    code.near(emitted.entry.any, 0);
+    Ok(code.into_program())
+}
+
+/// Compiles an expression: the program answers the snapshot length where the expression accepts the packet, and else 0.
+///
+/// What an expression means is told in docs/LANGUAGE.md, after pcap-filter(7). A packet is what was captured of it and
+/// its length on the wire, in bytes; where a test wants a byte past the captured ones, or divides by 0, the packet is
+/// rejected, also under a `not`. Some path of jumps leads from the program's first instruction to each of the others.
+///
+/// `BadSnap` comes exactly where `snap` is not from 1 to [`MAX_SNAP`] bytes; else `TooDeep` exactly where the
+/// expression needs more than 16 cells of the scratch memory (see [`need`](analysis::need)). `TooLong` comes only where its
+/// weight exceeds 500 (see [`weight`](analysis::weight)). `NoMemory` does not come: it takes none.
+pub fn compile(expr: &Expr, snap: u32) -> Result<Program, Refusal>
+    ensures program { IfOk result (λ program. StandsFor program (tree_of expr.now) snap) }
+    ensures reached { IfOk result IsAllReached }
+    ensures bad_snap { (result ≡ Err Refusal.BadSnap) ↔ IsBadSnap snap }
+    ensures too_deep { (result ≡ Err Refusal.TooDeep) ↔ ((0 < snap) × (snap ≤ 262144) × (16 < need (tree_of expr.now))) }
+    ensures too_long { result ≡ Err Refusal.TooLong → 500 < weight (tree_of expr.now) }
+    ensures no_memory { result ≢ Err Refusal.NoMemory }
+{
+    if snap == 0 || snap > MAX_SNAP {
+        return Err(Refusal::BadSnap);
+    }
+    if need(expr) > MAX_NEED {
+        return Err(Refusal::TooDeep);
+    }
+    match program_of(expr, snap) {
+        Ok(program) => Ok(program),
+        Err(_) => Err(Refusal::TooLong),
+    }
+}

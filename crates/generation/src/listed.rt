@@ -1,0 +1,248 @@
+//! Lists by their kinds. Code is written from its end: of two tests that follow each other, the second one comes first here.
+
+ghost use Rattle.std.specs.Prelude.{◌≡◌, ℕ, ◌+◌, ◌*◌, ◌≤◌, length};
+ghost use Rattle.semantics.specs.Meaning.{check, byte, half, and_test, is_type, by_direction, within, has_any_ports};
+ghost use Rattle.analysis.specs.Lists.{any_of, direction_of, in_span, of_any_type, bytes_test, kind_test};
+ghost use Rattle.generation.specs.Listed.{listed_cost};
+ghost use Rattle.generation.specs.Emission.{OrFull};
+ghost use Rattle.generation.specs.Ways.{AreWays, DecidesBy, DecidesBehind};
+
+use crate::among::Spot;
+use crate::code::{Code, Exits, Full};
+use crate::insns::{Field, Jump, Operand, load_insn};
+use crate::primitives::{ARP_ADDRESSES, IP_ADDRESSES};
+use crate::ways::{Way, Ways};
+use analysis::{Bytes, Form, Kind, Known, Sides, Span};
+use semantics::{ARP, IP, RARP};
+use syntax::Transport;
+
+impl Code {
+    /// Ethernet types.
+    fn listed_types(&mut self, spans: &[Span], ways: Ways) -> Result<Way, Full>
+        requires many { 2 ≤ length spans.now }
+        requires ways { AreWays self.old ways }
+        ensures { OrFull (7 * length spans.now + 2) self.old result (λ way. DecidesBy (7 * length spans.now + 2)
+            (any_of (λ x p. check (within x.low x.high) (half 12 p)) spans.now) ways way self.old self.new) }
+    {
+        let entry = self.seek(Spot::At(Field::Half(12)), spans, ways.any_exits())?;
+        Ok(Way::to(entry))
+    }
+
+    /// Protocol numbers of IPv4.
+    fn listed_protocols(&mut self, known: Known, spans: &[Span], ways: Ways) -> Result<Way, Full>
+        requires many { 2 ≤ length spans.now }
+        requires ways { AreWays self.old ways }
+        ensures { OrFull (7 * length spans.now + 6) self.old result (λ way. DecidesBehind known (7 * length spans.now + 6)
+            (any_of (λ x. and_test (is_type 0x0800) (λ p. check (within x.low x.high) (byte 23 p))) spans.now) ways way
+            self.old self.new) }
+    {
+        let inner = self.seek(Spot::At(Field::Byte(23)), spans, ways.ip_exits())?;
+        self.room(4)?;
+        Ok(self.behind_ip_unless(known, inner, ways))
+    }
+
+    /// Hosts or nets of IPv4.
+    fn listed_ip_nets(
+        &mut self,
+        known: Known,
+        sides: Sides,
+        mask: u32,
+        spans: &[Span],
+        ways: Ways,
+    ) -> Result<Way, Full>
+        requires many { 2 ≤ length spans.now }
+        requires ways { AreWays self.old ways }
+        ensures { OrFull (14 * length spans.now + 10) self.old result (λ way. DecidesBehind known (14 * length spans.now + 10)
+            (any_of (λ x. and_test (is_type 0x0800) (by_direction (direction_of sides) (in_span x mask 26) (in_span x mask 30))) spans.now)
+            ways way self.old self.new) }
+    {
+        let inner = self.seek_addresses(IP_ADDRESSES, sides, mask, spans, ways.ip_exits())?;
+        self.room(4)?;
+        Ok(self.behind_ip_unless(known, inner, ways))
+    }
+
+    /// Hosts or nets of ARP or RARP. A packet of another type may still be of IPv4, so it goes on at the exits for any.
+    fn listed_arp_nets(
+        &mut self,
+        number: u32,
+        sides: Sides,
+        mask: u32,
+        spans: &[Span],
+        ways: Ways,
+    ) -> Result<Way, Full>
+        requires many { 2 ≤ length spans.now }
+        requires ways { AreWays self.old ways }
+        ensures { OrFull (14 * length spans.now + 10) self.old result (λ way. DecidesBy (14 * length spans.now + 10)
+            (any_of (λ x. and_test (is_type number) (by_direction (direction_of sides) (in_span x mask 28) (in_span x mask 38))) spans.now)
+            ways way self.old self.new) }
+    {
+        let exits = ways.any_exits();
+        let inner = self.seek_addresses(ARP_ADDRESSES, sides, mask, spans, exits)?;
+        self.room(4)?;
+        Ok(Way::to(self.ether_type(
+            number,
+            Exits {
+                yes: inner,
+                ..exits
+            },
+        )))
+    }
+
+    /// Hosts or nets of any protocol: three comparisons of one type. ARP and RARP have their addresses at the same places.
+    fn listed_any_nets(
+        &mut self,
+        sides: Sides,
+        mask: u32,
+        spans: &[Span],
+        ways: Ways,
+    ) -> Result<Way, Full>
+        requires many { 2 ≤ length spans.now }
+        requires ways { AreWays self.old ways }
+        ensures { OrFull (28 * length spans.now + 22) self.old result (λ way. DecidesBy (28 * length spans.now + 22)
+            (any_of (λ x. of_any_type
+            (by_direction (direction_of sides) (in_span x mask 26) (in_span x mask 30))
+            (by_direction (direction_of sides) (in_span x mask 28) (in_span x mask 38))) spans.now) ways way self.old self.new) }
+    {
+        let exits = ways.other_exits();
+        let inner = self.seek_addresses(ARP_ADDRESSES, sides, mask, spans, exits)?;
+        self.room(6)?;
+        let arp = Exits {
+            yes: inner,
+            ..exits
+        };
+        self.branch(Jump::Equal, Operand::Constant(RARP), arp);
+        let rarp = self.len();
+        self.branch(
+            Jump::Equal,
+            Operand::Constant(ARP),
+            Exits { no: rarp, ..arp },
+        );
+        let other = self.len();
+        let ip = self.seek_addresses(IP_ADDRESSES, sides, mask, spans, ways.ip_exits())?;
+        self.room(4)?;
+        self.branch(
+            Jump::Equal,
+            Operand::Constant(IP),
+            Exits { yes: ip, no: other },
+        );
+        self.push(load_insn(Field::Half(12)));
+        let any = self.len();
+        Ok(Way {
+            any,
+            other: any,
+            ..Way::to(ip)
+        })
+    }
+
+    /// The same of a packet of which something is known.
+    fn listed_nets(
+        &mut self,
+        known: Known,
+        sides: Sides,
+        mask: u32,
+        spans: &[Span],
+        ways: Ways,
+    ) -> Result<Way, Full>
+        requires many { 2 ≤ length spans.now }
+        requires ways { AreWays self.old ways }
+        ensures { OrFull (28 * length spans.now + 22) self.old result (λ way. DecidesBehind known (28 * length spans.now + 22)
+            (any_of (λ x. of_any_type
+            (by_direction (direction_of sides) (in_span x mask 26) (in_span x mask 30))
+            (by_direction (direction_of sides) (in_span x mask 28) (in_span x mask 38))) spans.now) ways way self.old self.new) }
+    {
+        if known.has_type(IP) {
+            self.listed_ip_nets(known, sides, mask, spans, ways)
+        } else {
+            self.listed_any_nets(sides, mask, spans, ways)
+        }
+    }
+
+    /// Ports, or port ranges.
+    fn listed_ports(
+        &mut self,
+        known: Known,
+        asked: Option<Transport>,
+        sides: Sides,
+        spans: &[Span],
+        ways: Ways,
+    ) -> Result<Way, Full>
+        requires many { 2 ≤ length spans.now }
+        requires ways { AreWays self.old ways }
+        ensures { OrFull (14 * length spans.now + 25) self.old result (λ way. DecidesBehind known (14 * length spans.now + 25)
+            (any_of (λ x. has_any_ports asked (direction_of sides) x.low x.high) spans.now) ways way self.old self.new) }
+    {
+        match known.transport_of(asked) {
+            Some(transport) => {
+                let exits = ways.first_fragment_exits(Some(transport));
+                let inner = self.seek_ports(sides, spans, exits)?;
+                self.room(4)?;
+                Ok(self.behind_known_transport(known, asked, transport, inner, ways))
+            }
+            None => {
+                let exits = ways.first_fragment_exits(asked);
+                let inner = self.seek_ports(sides, spans, exits)?;
+                self.room(18)?;
+                Ok(self.behind_transport(asked, inner, ways))
+            }
+        }
+    }
+
+    /// Bytes of a layer.
+    fn listed_bytes(
+        &mut self,
+        known: Known,
+        bytes: Bytes,
+        spans: &[Span],
+        ways: Ways,
+    ) -> Result<Way, Full>
+        requires many { 2 ≤ length spans.now }
+        requires ways { AreWays self.old ways }
+        ensures { OrFull (7 * length spans.now + 14) self.old result (λ way. DecidesBehind known (7 * length spans.now + 14)
+            (any_of (bytes_test bytes) spans.now) ways way self.old self.new) }
+    {
+        let exits = ways.any_exits();
+        let inner = self.seek_bytes(bytes, spans, exits)?;
+        self.room(12)?;
+        let layer = Known::of_layer(bytes.layer);
+        let exits = Exits {
+            yes: inner,
+            ..exits
+        };
+        Ok(Way::to(self.rest_of(known, layer, exits)))
+    }
+
+    /// What is left of a list.
+    pub fn listed(
+        &mut self,
+        known: Known,
+        kind: Kind,
+        spans: &[Span],
+        ways: Ways,
+    ) -> Result<Way, Full>
+        requires many { 2 ≤ length spans.now }
+        requires ways { AreWays self.old ways }
+        ensures { OrFull (listed_cost kind.form (length spans.now)) self.old result (λ way.
+            DecidesBehind known (listed_cost kind.form (length spans.now)) (any_of (kind_test kind) spans.now) ways way
+            self.old self.new) }
+    {
+        let Kind {
+            form,
+            sides,
+            mask,
+            bytes,
+        } = kind;
+        match form {
+            Form::Net => self.listed_nets(known, sides, mask, spans, ways),
+            Form::IpNet => self.listed_ip_nets(known, sides, mask, spans, ways),
+            Form::ArpNet => self.listed_arp_nets(ARP, sides, mask, spans, ways),
+            Form::RarpNet => self.listed_arp_nets(RARP, sides, mask, spans, ways),
+            Form::Ports => self.listed_ports(known, None, sides, spans, ways),
+            Form::TcpPorts => self.listed_ports(known, Some(Transport::Tcp), sides, spans, ways),
+            Form::UdpPorts => self.listed_ports(known, Some(Transport::Udp), sides, spans, ways),
+            Form::SctpPorts => self.listed_ports(known, Some(Transport::Sctp), sides, spans, ways),
+            Form::IpProto => self.listed_protocols(known, spans, ways),
+            Form::EtherProto => self.listed_types(spans, ways),
+            Form::Bytes => self.listed_bytes(known, bytes, spans, ways),
+        }
+    }
+}

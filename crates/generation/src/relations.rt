@@ -1,0 +1,183 @@
+//! Relations. Code is written from its end: of two tests that follow each other, the second one comes first here.
+
+ghost use Rattle.std.specs.Prelude.{◌≡◌, ◌+◌, ◌≤◌, length, max};
+ghost use Rattle.syntax.specs.Trees.{amount_of};
+ghost use Rattle.semantics.specs.Meaning.{value, compared, check_both};
+ghost use Rattle.analysis.specs.Weights.{value_need};
+ghost use Rattle.analysis.specs.Knowing.{rest_of_type, rest_of_protocol, rest_of_first_fragment, rest_of, rest_of_layers, rest_of_relation};
+ghost use Rattle.generation.specs.Parts.{layers_cost, compare_cost, relation_cost};
+ghost use Rattle.generation.specs.Emission.{AreExits, value_of, Chooses, Decides, OrFull};
+
+use crate::arithmetic::constant;
+use crate::code::{Code, Exits, Full};
+use crate::insns::{Jump, Operand};
+use analysis::Known;
+use semantics::IP;
+use syntax::{Comparison, Value};
+
+impl Code {
+    /// What is left of a test of the Ethernet type.
+    fn rest_of_type(&mut self, known: Known, number: u32, exits: Exits) -> usize
+        requires room { length self.old + 4 ≤ 512 }
+        requires exits { AreExits self.old exits }
+        ensures { Decides 4 (rest_of_type known number) exits result self.old self.new }
+    {
+        if known.has_type(number) {
+            return exits.yes;
+        }
+        self.ether_type(number, exits)
+    }
+
+    /// What is left of a test of IPv4 with this protocol number.
+    fn rest_of_protocol(&mut self, known: Known, number: u32, exits: Exits) -> usize
+        requires room { length self.old + 8 ≤ 512 }
+        requires exits { AreExits self.old exits }
+        ensures { Decides 8 (rest_of_protocol known number) exits result self.old self.new }
+    {
+        if known.has_protocol(number) {
+            return exits.yes;
+        }
+        let inner = self.protocol_number(number, exits);
+        let exits = Exits {
+            yes: inner,
+            ..exits
+        };
+        self.rest_of_type(known, IP, exits)
+    }
+
+    /// What is left of a test of the same, and of no later fragment.
+    fn rest_of_first_fragment(&mut self, known: Known, number: u32, exits: Exits) -> usize
+        requires room { length self.old + 12 ≤ 512 }
+        requires exits { AreExits self.old exits }
+        ensures { Decides 12 (rest_of_first_fragment known number) exits result self.old self.new }
+    {
+        if known.has_first_fragment(number) {
+            return exits.yes;
+        }
+        let inner = self.unfragmented(exits);
+        let exits = Exits {
+            yes: inner,
+            ..exits
+        };
+        self.rest_of_protocol(known, number, exits)
+    }
+
+    /// What is left of a test, behind what is known.
+    pub fn rest_of(&mut self, known: Known, fact: Known, exits: Exits) -> usize
+        requires room { length self.old + 12 ≤ 512 }
+        requires exits { AreExits self.old exits }
+        ensures { Decides 12 (rest_of known fact) exits result self.old self.new }
+    {
+        match fact {
+            Known::Nothing => exits.yes,
+            Known::Type(number) => self.rest_of_type(known, number, exits),
+            Known::Protocol(number) => self.rest_of_protocol(known, number, exits),
+            Known::FirstFragment(number) => self.rest_of_first_fragment(known, number, exits),
+        }
+    }
+
+    /// What is left of the layers of a value's accessors. A constant has none: what stands to the left of one is not asked for
+    /// what it shows, so that the time of a chain of them does not grow with the square of its length.
+    fn layers(&mut self, known: Known, value: &Value, exits: Exits) -> Result<usize, Full>
+        requires { AreExits self.old exits }
+        ensures { OrFull (layers_cost (amount_of value.now)) self.old result
+            (λ entry. Decides (layers_cost (amount_of value.now)) (rest_of_layers known (amount_of value.now)) exits entry
+            self.old self.new) }
+    {
+        match value {
+            Value::Number(_) | Value::Length => Ok(exits.yes),
+            Value::Negation(operand) => self.layers(known, operand, exits),
+            Value::Binary(_, left, right) => {
+                if constant(right).is_some() {
+                    return self.layers(known, left, exits);
+                }
+                let second = self.layers(known.behind_layers(left), right, exits)?;
+                let exits = Exits {
+                    yes: second,
+                    ..exits
+                };
+                self.layers(known, left, exits)
+            }
+            Value::Accessor(layer, index, _) => {
+                let fact = Known::of_layer(*layer);
+                let second = self.layers(known.narrowed(fact), index, exits)?;
+                self.room(12)?;
+                let exits = Exits {
+                    yes: second,
+                    ..exits
+                };
+                Ok(self.rest_of(known, fact, exits))
+            }
+        }
+    }
+
+    /// Compares the accumulator with an operand.
+    fn compare_with(&mut self, comparison: Comparison, operand: Operand, exits: Exits)
+        requires room { length self.old + 3 ≤ 512 }
+        requires exits { AreExits self.old exits }
+        ensures { Chooses 3 (λ r. compared comparison r.accumulator (value_of operand r)) exits self.old self.new }
+    {
+        match comparison {
+            Comparison::Equal => self.branch(Jump::Equal, operand, exits),
+            Comparison::NotEqual => self.branch(Jump::Equal, operand, exits.swapped()),
+            Comparison::Less => self.branch(Jump::GreaterOrEqual, operand, exits.swapped()),
+            Comparison::Greater => self.branch(Jump::Greater, operand, exits),
+            Comparison::LessOrEqual => self.branch(Jump::Greater, operand, exits.swapped()),
+            Comparison::GreaterOrEqual => self.branch(Jump::GreaterOrEqual, operand, exits),
+        }
+    }
+
+    /// Computes two values, the left one first, and compares them.
+    fn compare(
+        &mut self,
+        comparison: Comparison,
+        left: &Value,
+        right: &Value,
+        exits: Exits,
+    ) -> Result<usize, Full>
+        requires need { max (value_need (amount_of left.now)) (1 + value_need (amount_of right.now)) ≤ 16 }
+        requires exits { AreExits self.old exits }
+        ensures { OrFull (compare_cost (amount_of left.now) (amount_of right.now)) self.old result
+            (λ entry. Decides (compare_cost (amount_of left.now) (amount_of right.now))
+            (λ p. check_both (compared comparison) (value (amount_of left.now) p) (value (amount_of right.now) p)) exits entry
+            self.old self.new) }
+    {
+        self.room(3)?;
+        if let Some(n) = constant(right) {
+            self.compare_with(comparison, Operand::Constant(n), exits);
+            self.value(left, 0)?;
+            return Ok(self.len());
+        }
+        self.compare_with(comparison, Operand::Index, exits);
+        self.pair(left, right, 0)?;
+        Ok(self.len())
+    }
+
+    /// A relation: what is left of the layers of its accessors comes first, and then the values.
+    pub fn relation(
+        &mut self,
+        known: Known,
+        comparison: Comparison,
+        left: &Value,
+        right: &Value,
+        exits: Exits,
+    ) -> Result<usize, Full>
+        requires need { max (value_need (amount_of left.now)) (1 + value_need (amount_of right.now)) ≤ 16 }
+        requires exits { AreExits self.old exits }
+        ensures { OrFull (relation_cost (amount_of left.now) (amount_of right.now)) self.old result
+            (λ entry. Decides (relation_cost (amount_of left.now) (amount_of right.now))
+            (rest_of_relation known comparison (amount_of left.now) (amount_of right.now)) exits entry self.old self.new) }
+    {
+        let compared = self.compare(comparison, left, right, exits)?;
+        let exits = Exits {
+            yes: compared,
+            ..exits
+        };
+        let second = self.layers(known.behind_layers(left), right, exits)?;
+        let exits = Exits {
+            yes: second,
+            ..exits
+        };
+        self.layers(known, left, exits)
+    }
+}

@@ -1,0 +1,3 @@
+pub use Rattle.syntax.specs.Trees
+pub mod Meaning
+pub mod Sides

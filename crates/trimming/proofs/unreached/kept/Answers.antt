@@ -1,0 +1,28 @@
+use Rattle.std.proofs.Common.{◌≡◌, ◌∙◌, ap, arith}
+use Rattle.std.proofs.lemmas.List.{length-take-le}
+use Rattle.trimming.specs.Trimming.{marked}
+use Rattle.trimming.proofs.Reached.{marked-within, counted, uncounted}
+use Rattle.trimming.proofs.unreached.kept.Goals as goal
+use Rattle.trimming.proofs.unreached.kept.Goals.{then-mark, else-mark}
+
+pub overflow_add-kept : goal.overflow_add-kept
+overflow_add-kept c = let within = marked-within c.args.behind.now c.loop-mark.mark-index in omega arith
+
+pub loop-mark-preserved : goal.loop-mark-preserved
+loop-mark-preserved c =
+    elim c.if-mark.branch [
+      | then-mark w ↦ w.kept-is ∙ counted c.args.behind.now c.args.passed c.loop-mark.mark-index c.loop-mark.kept c.loop-mark-test.true c.loop-mark.invariant w.if-mark.true
+      | else-mark w ↦ w.kept-is ∙ uncounted c.args.behind.now c.args.passed c.loop-mark.mark-index c.loop-mark.kept c.loop-mark-test.true c.loop-mark.invariant w.if-mark.false
+    ]
+
+pub returns-clause-within : goal.returns-clause-within
+returns-clause-within c =
+    let size = length-take-le c.args.passed c.args.behind.now c.requires in
+    let within = marked-within c.args.behind.now c.loop-mark.mark-index in
+    omega (arith, size)
+
+pub returns-clause-value : goal.returns-clause-value
+returns-clause-value c =
+    let size = length-take-le c.args.passed c.args.behind.now c.requires in
+    let at : c.loop-mark.mark-index ≡ c.args.passed = omega (arith, size) in
+    c.loop-mark.invariant ∙ ap (λ n. marked n c.args.behind.now) at

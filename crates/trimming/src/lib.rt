@@ -1,0 +1,6 @@
+//! Programs of the filter machine without the instructions that nothing reaches.
+#![tactic(auto)]
+
+mod unreached;
+
+pub use unreached::without_unreached;
