@@ -6,7 +6,7 @@ use Rattle.bpfvm.specs.Listing.{IsListing, IsRefusedListing, listing_of}
 use Rattle.bpfvm.specs.Images.{image_of}
 use Rattle.bpfvm.specs.Validity.{IsValidProgram}
 use Rattle.filterlang.specs.Texts.{ReadsAs, IsRefusalOf}
-use Rattle.syntax.specs.Trees.{Tree}
+use Rattle.filterlang.specs.Trees.{Tree}
 use Rattle.canonical.specs.Canonical.{canonical}
 use Rattle.filtergen.specs.declared.expression.ExpressionFault.TheVariants as faults
 use Rattle.filtergen.specs.Expressions.{IsProgramOf, IsUncompiled}

@@ -2,7 +2,7 @@
 
 ghost use Rattle.std.specs.Prelude.{◌≡◌, ◌++◌, IfOk, OnOk, IfErr, string_bytes};
 ghost use Rattle.std.specs.Io.KnownBytes.{Appends};
-ghost use Rattle.syntax.specs.Trees.{tree_of};
+ghost use Rattle.filterlang.specs.Trees.{tree_of};
 ghost use Rattle.lines.specs.Telling.{end_of_line};
 ghost use Rattle.canonical.specs.Canonical.{canonical};
 ghost use Rattle.cutting.specs.Filter.{Prints, PrintsRead, IsPart, IsUnchecked, IsUnread, IsUnshown, program_text};

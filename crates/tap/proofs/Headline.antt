@@ -3,10 +3,11 @@ use Rattle.std.proofs.Common.{◌≡◌, ℕ, ◌<◌, ◌≤◌, Bool, true, fa
 use Rattle.std.proofs.lemmas.Bool.{lt-ltb}
 use Rattle.bpfvm.specs.declared.insn.Insn.{Insn}
 use Rattle.bpfvm.specs.Machine.{verdict}
-use Rattle.syntax.specs.Trees.{Tree}
-use Rattle.semantics.specs.Meaning.{HasBytes, packet_of, accepts}
+use Rattle.filterlang.specs.Trees.{Tree}
+use Rattle.filtergen.specs.Meaning.{HasBytes}
 use Rattle.listener.specs.declared.message.Message.{Message}
-use Rattle.generation.specs.Compiling.{StandsFor}
+use Rattle.filtergen.specs.Compiling.{StandsFor}
+use Rattle.filtergen.specs.Meaning.{packet_of, accepts}
 use Rattle.listener.specs.Messages.{Arrival, cut_to, kept_by, size}
 use Rattle.listener.specs.Listening.{listening}
 use Rattle.listener.specs.PlainList.{Terms, Request, Event, Legal, answers, empty, batches, requests}

@@ -13,7 +13,7 @@ use Rattle.tap.specs.Refusals.{RefusesCapture}
 use Rattle.tap.specs.declared.fault.Fault.{Fault as TapFault}
 use Rattle.tap.specs.declared.fault.Fault.TheVariants as faults
 use Rattle.std.proofs.lemmas.Bool.{false≢true}
-use Rattle.semantics.specs.Meaning.{HasBytes, packet_of}
+use Rattle.filtergen.specs.Meaning.{HasBytes, packet_of}
 use Rattle.std.specs.List.{AllByRecursion}
 use Rattle.tap.specs.Watching.{AllPackets}
 use Rattle.tap.specs.declared.playlist.Placed.{Placed}

@@ -4,12 +4,12 @@ use Rattle.std.specs.Prelude.{String, Result, Err}
 use Rattle.std.specs.declared.alloc.Global.{Global}
 use Rattle.filterlang.specs.declared.fault.Fault.{Fault as Misread}
 use Rattle.filterlang.specs.declared.fault.Fault.TheVariants as misread
-use Rattle.syntax.specs.Trees.{Tree}
+use Rattle.filterlang.specs.Trees.{Tree}
 use Rattle.filterlang.specs.Texts.{ReadsAs, IsRefusalOf}
 use Rattle.generation.specs.declared.refusal.Refusal.{Refusal}
 use Rattle.generation.specs.declared.refusal.Refusal.TheVariants.{TooLong, TooDeep, BadSnap, NoMemory}
-use Rattle.analysis.specs.Weights.{need, weight}
-use Rattle.generation.specs.Compiling.{IsBadSnap}
+use Rattle.filtergen.specs.Weights.{need, weight}
+use Rattle.filtergen.specs.Compiling.{IsBadSnap}
 use Rattle.tap.specs.declared.fault.Fault.{Fault}
 use Rattle.tap.specs.declared.fault.Fault.TheVariants.{Expression, Compile}
 use Rattle.tap.specs.declared.fault.Fault.TheVariants as faults

@@ -1,8 +1,8 @@
 -- What a listener's filter keeps of a packet.
 use Rattle.std.specs.Prelude.{◌≡◌, ℕ, List, Option, Some, None, string_bytes, if◌then◌else◌}
-use Rattle.syntax.specs.Trees.{Tree}
+use Rattle.filterlang.specs.Trees.{Tree}
 use Rattle.filterlang.specs.Texts.{ReadsAs}
-use Rattle.semantics.specs.Meaning.{packet_of, accepts}
+use Rattle.filtergen.specs.Meaning.{packet_of, accepts}
 use Rattle.listener.specs.declared.message.Message.{Message}
 use Rattle.listener.specs.Messages.{Arrival, cut_to, kept_by}
 use Rattle.tap.specs.declared.filters.Filter.{Filter}

@@ -3,11 +3,11 @@ use Rattle.std.specs.Prelude.{◌≡◌, ℕ, ◌<◌, ◌≤◌, ◌⊎◌, Lis
 use Rattle.savefile.specs.Savefile.{RefusesHeader}
 use Rattle.filterlang.specs.declared.fault.Fault.TheVariants as misread
 use Rattle.filterlang.specs.declared.lexer.TheConstants.{MAX_TEXT}
-use Rattle.syntax.specs.Trees.{Tree}
+use Rattle.filterlang.specs.Trees.{Tree}
 use Rattle.filterlang.specs.Texts.{ReadsAs, IsRefusalOf}
 use Rattle.generation.specs.declared.refusal.Refusal.TheVariants as uncompiled
-use Rattle.analysis.specs.Weights.{need, weight}
-use Rattle.generation.specs.Compiling.{IsBadSnap}
+use Rattle.filtergen.specs.Weights.{need, weight}
+use Rattle.filtergen.specs.Compiling.{IsBadSnap}
 use Rattle.listener.specs.declared.fault.OpenFault.TheVariants as unopened
 use Rattle.listener.specs.Listening.{RefusesOpen, InRange}
 use Rattle.tap.specs.declared.fault.Fault.{Fault}

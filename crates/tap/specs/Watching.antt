@@ -3,9 +3,9 @@ use Rattle.std.specs.Prelude.{◌≡◌, ℕ, ◌+◌, ◌<◌, ◌^◌, Bool, L
 use Rattle.std.specs.List.{AllZip}
 use Rattle.bpfvm.specs.declared.insn.Insn.{Insn}
 use Rattle.savefile.specs.declared.fault.Fault.{Fault}
-use Rattle.syntax.specs.Trees.{Tree}
-use Rattle.generation.specs.Compiling.{StandsFor}
-use Rattle.semantics.specs.Meaning.{HasBytes, packet_of}
+use Rattle.filterlang.specs.Trees.{Tree}
+use Rattle.filtergen.specs.Compiling.{StandsFor}
+use Rattle.filtergen.specs.Meaning.{HasBytes, packet_of}
 use Rattle.listener.specs.declared.message.Message.{Message}
 use Rattle.listener.specs.Listening.{Listening, listening, seen_by, InRange}
 use Rattle.listener.specs.PlainList.{Request, Event, answer, next, batch_in, empty}

@@ -6,10 +6,10 @@ use Rattle.bpfvm.specs.declared.tracing.Executed.{Executed}
 use Rattle.bpfvm.specs.Machine.{beginning}
 use Rattle.bpfvm.specs.Traces.{Runs}
 use Rattle.syntax.specs.declared.tree.Expr.{Expr}
-use Rattle.syntax.specs.Trees.{Tree, tree_of}
+use Rattle.filterlang.specs.Trees.{Tree, tree_of}
 use Rattle.semantics.specs.declared.verdict.Verdict.{Verdict}
 use Rattle.semantics.specs.declared.verdict.Verdict.TheVariants.{Yes, No, Abort}
-use Rattle.semantics.specs.Meaning.{Packet as Frame, packet_of, meaning}
+use Rattle.filtergen.specs.Meaning.{Packet as Frame, packet_of, meaning}
 use Rattle.explaining.specs.Asking.{Question, questions, IsLast}
 use Rattle.lines.specs.Telling.{end_of_line}
 use Rattle.verdicts.specs.declared.filter.Filter.{Filter}

@@ -2,8 +2,8 @@
 use Rattle.std.specs.Prelude.{◌≡◌, ℕ, List, Some}
 use Rattle.syntax.specs.declared.tree.Expr.{Expr}
 use Rattle.filterlang.specs.Texts.{ReadsAs}
-use Rattle.syntax.specs.Trees.{tree_of}
-use Rattle.generation.specs.Compiling.{StandsFor}
+use Rattle.filterlang.specs.Trees.{tree_of}
+use Rattle.filtergen.specs.Compiling.{StandsFor}
 use Rattle.verdicts.specs.declared.filter.Filter.{Filter}
 
 -- a filter is the expression that a text reads as, and a program that stands for it

@@ -4,8 +4,8 @@ use Rattle.std.specs.Fmt.{decimal}
 use Rattle.savefile.specs.declared.packet.Packet.{Packet}
 use Rattle.bpfvm.specs.declared.insn.Insn.{Insn}
 use Rattle.bpfvm.specs.Images.{brief_text}
-use Rattle.syntax.specs.Trees.{Tree}
-use Rattle.syntax.specs.Trees as trees
+use Rattle.filterlang.specs.Trees.{Tree}
+use Rattle.filterlang.specs.Trees as trees
 use Rattle.semantics.specs.declared.verdict.Verdict.{Verdict}
 use Rattle.semantics.specs.declared.verdict.Verdict.TheVariants.{Yes, No, Abort}
 use Rattle.canonical.specs.Canonical.{canonical}

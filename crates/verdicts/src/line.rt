@@ -1,7 +1,7 @@
 //! The line of a packet.
 
 ghost use Rattle.std.specs.Prelude.{◌≡◌, ◌++◌, ℕ, List, IfOk, OnOk, string_bytes, codes};
-ghost use Rattle.syntax.specs.Trees.{tree_of};
+ghost use Rattle.filterlang.specs.Trees.{tree_of};
 ghost use Rattle.explaining.specs.Asking.{question_of};
 ghost use Rattle.verdicts.specs.Answers.{answer, answer_line, ended_as, Decides, EndsRun, IsAnswer, PutsAnswer};
 ghost use Rattle.verdicts.specs.Printed.{packet_text, verdict_text, part_text, cause_text, question_text, end_text};

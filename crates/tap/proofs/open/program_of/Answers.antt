@@ -1,5 +1,5 @@
 use Rattle.std.proofs.Common.{◌≡◌, inr, refl, sym, subst, ◌⊎◌}
-use Rattle.syntax.specs.Trees.{Tree, tree_of}
+use Rattle.filterlang.specs.Trees.{Tree, tree_of}
 use Rattle.filterlang.specs.Texts.{ReadsAs, IsRefusalOf}
 use Rattle.tap.specs.declared.fault.Fault.TheVariants.{NoMemory, Compile}
 use Rattle.tap.specs.Refusals.{FilterIsRight, RefusesFilter}
