@@ -1,8 +1,7 @@
--- What tests that were passed have shown of a packet, and what is left to be tested behind them. Private clauses alone say this.
-use Rattle.std.specs.Prelude.{ℕ, ◌-◌, ◌==◌, Bool, true, false, Some, None, if◌then◌else◌, bit_and}
+-- What tests that were passed have shown of a packet, as what stands in an expression tells.
+use Rattle.std.specs.Prelude.{ℕ, ◌-◌, ◌==◌, Bool, true, false, Some, None, if◌then◌else◌}
 use Rattle.syntax.specs.Trees.{Amount, Tree}
 use Rattle.syntax.specs.Trees as trees
-use Rattle.syntax.specs.declared.tree.Comparison.{Comparison}
 use Rattle.syntax.specs.declared.tree.Layer.{Layer}
 use Rattle.syntax.specs.declared.tree.Layer.TheVariants as layers
 use Rattle.syntax.specs.declared.tree.Network.{Network}
@@ -13,22 +12,7 @@ use Rattle.syntax.specs.declared.tree.Primitive.{Primitive}
 use Rattle.syntax.specs.declared.tree.Primitive.TheVariants.{Protocol, Net, EtherHost, Ports, IpProto, EtherProto, EtherBroadcast, EtherMulticast, IpMulticast, Less, Greater}
 use Rattle.analysis.specs.declared.known.Known.{Known}
 use Rattle.analysis.specs.declared.known.Known.TheVariants as known
-use Rattle.semantics.specs.declared.verdict.Verdict.TheVariants.{Yes}
-use Rattle.semantics.specs.Meaning.{Test, and_test, check, check_both, compared, byte, half, is_type, is_protocol, is_first_fragment_of, protocol_number, value}
-
--- no later fragment of IPv4
-abbrev pub is_unfragmented : Test
-is_unfragmented p = check (λ b. bit_and b 0x1fff == 0) (half 20 p)
-
-abbrev pub always : Test
-always p = Yes
-
--- the test that was passed
-abbrev pub shows : Known → Test
-shows known.Nothing = always
-shows (known.Type n) = is_type n
-shows (known.Protocol n) = is_protocol n
-shows (known.FirstFragment n) = is_first_fragment_of n
+use Rattle.semantics.specs.Meaning.{protocol_number}
 
 -- the type field is known to be this
 abbrev pub has_type : Known → ℕ → Bool
@@ -61,25 +45,6 @@ implies k (known.FirstFragment n) = has_first_fragment k n
 abbrev pub narrowed : Known → Known → Known
 narrowed k fact = if implies k fact then k else fact
 
-abbrev pub unless_known : Bool → Test → Test
-unless_known b t = if b then always else t
-
--- what is left of a test
-abbrev pub rest_of_type : Known → ℕ → Test
-rest_of_type k n = unless_known (has_type k n) (is_type n)
-
-abbrev pub rest_of_protocol : Known → ℕ → Test
-rest_of_protocol k n = unless_known (has_protocol k n) (and_test (rest_of_type k 0x0800) (λ p. check (λ b. b == n) (byte 23 p)))
-
-abbrev pub rest_of_first_fragment : Known → ℕ → Test
-rest_of_first_fragment k n = unless_known (has_first_fragment k n) (and_test (rest_of_protocol k n) is_unfragmented)
-
-abbrev pub rest_of : Known → Known → Test
-rest_of k known.Nothing = always
-rest_of k (known.Type n) = rest_of_type k n
-rest_of k (known.Protocol n) = rest_of_protocol k n
-rest_of k (known.FirstFragment n) = rest_of_first_fragment k n
-
 -- what an accessor's layer shows
 abbrev pub of_layer : Layer → Known
 of_layer layers.Ether = known.Nothing
@@ -105,18 +70,6 @@ behind_layers k trees.wire_length = k
 behind_layers k (trees.minus v) = behind_layers k v
 behind_layers k (trees.binary o v w) = behind_layers (behind_layers k v) w
 behind_layers k (trees.accessor layer v size) = behind_layers (narrowed k (of_layer layer)) v
-
--- what is left of the layers of a value
-abbrev pub rest_of_layers : Known → Amount → Test
-rest_of_layers k (trees.number n) = always
-rest_of_layers k trees.wire_length = always
-rest_of_layers k (trees.minus v) = rest_of_layers k v
-rest_of_layers k (trees.binary o v w) = and_test (rest_of_layers k v) (rest_of_layers (behind_layers k v) w)
-rest_of_layers k (trees.accessor layer v size) = and_test (rest_of k (of_layer layer)) (rest_of_layers (narrowed k (of_layer layer)) v)
-
-abbrev pub rest_of_relation : Known → Comparison → Amount → Amount → Test
-rest_of_relation k c v w =
-    and_test (and_test (rest_of_layers k v) (rest_of_layers (behind_layers k v) w)) (λ p. check_both (compared c) (value v p) (value w p))
 
 -- what a primitive shows where it is passed
 abbrev pub of_plain : Plain → Known

@@ -24,7 +24,8 @@ use Rattle.generation.specs.declared.values.Leaf.TheVariants as leaves
 use Rattle.analysis.specs.declared.known.Known.{Known}
 use Rattle.semantics.specs.declared.verdict.Verdict.{Verdict}
 use Rattle.semantics.specs.declared.verdict.Verdict.TheVariants.{Yes, No, Abort}
-use Rattle.analysis.specs.Knowing.{behind_layers, rest_of_layers}
+use Rattle.analysis.specs.Knowing.{behind_layers}
+use Rattle.generation.specs.Remaining.{rest_of_layers}
 use Rattle.semantics.specs.Meaning.{Packet, and_then, byte, decided, arithmetic_of, bytes_of, accessed, value, check_both}
 use Rattle.generation.specs.Parts.{constant_of, IsLeaf, leaf_value, base_of, read_from, value_cost}
 use Rattle.generation.specs.Insns.{plain_insn, calculation_insn, absolute_code, indirect_code}

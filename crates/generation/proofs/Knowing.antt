@@ -16,7 +16,8 @@ use Rattle.semantics.specs.declared.verdict.Verdict.{Verdict}
 use Rattle.semantics.specs.declared.verdict.Verdict.TheVariants.{Yes, No, Abort}
 use Rattle.semantics.specs.Meaning.{Packet, Test, and_then, check, check_both, compared, byte, half, is_type, is_protocol, is_first_fragment_of, value, in_layer, in_layers, relation_test, primitive_test, meaning}
 use Rattle.analysis.proofs.Members.{and-assoc}
-use Rattle.analysis.specs.Knowing.{shows, has_type, has_protocol, has_first_fragment, implies, narrowed, unless_known, rest_of_type, rest_of_protocol, rest_of_first_fragment, rest_of, of_layer, begins_with_ip, behind_layers, rest_of_layers, rest_of_relation, of_primitive, behind}
+use Rattle.analysis.specs.Knowing.{has_type, has_protocol, has_first_fragment, implies, narrowed, of_layer, begins_with_ip, behind_layers, of_primitive, behind}
+use Rattle.generation.specs.Remaining.{shows, unless_known, rest_of_type, rest_of_protocol, rest_of_first_fragment, rest_of, rest_of_layers, rest_of_relation}
 
 -- where both are Yes, each is
 pub and-left : (v w : Verdict) → and_then v w ≡ Yes → v ≡ Yes

@@ -10,7 +10,7 @@ use Rattle.semantics.specs.declared.verdict.Verdict.{Verdict}
 use Rattle.semantics.specs.declared.verdict.Verdict.TheVariants.{Yes, No, Abort}
 use Rattle.semantics.specs.Meaning.{Packet, HasBytes, Test, and_then, or_else, and_test, or_test, not_test, check, decided, byte, is_type, protocol_number}
 use Rattle.generation.specs.Emission.{IsPlace, Answers, Extends, outcome, Nears, Decides}
-use Rattle.analysis.specs.Knowing.{is_unfragmented}
+use Rattle.generation.specs.Remaining.{is_unfragmented}
 use Rattle.generation.specs.Parts.{has_port_number, is_any_first}
 use Rattle.generation.specs.Ways.{is_first_fragment, Suits, Serves, IsWay, AreWays, Renews, RenewsBoth, DecidesBy, IsFor}
 use Rattle.generation.proofs.Runs.{extends-both, extends-more, answers-kept}

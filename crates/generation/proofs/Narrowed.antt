@@ -14,7 +14,7 @@ use Rattle.semantics.specs.declared.verdict.Verdict.{Verdict}
 use Rattle.semantics.specs.declared.verdict.Verdict.TheVariants.{Yes, No, Abort}
 use Rattle.semantics.specs.Meaning.{Packet, Test, and_then, or_else, and_test, or_test, not_test, check, decided, byte, half, is_type, is_protocol, is_first_fragment_of, by_direction, has_address, in_any_net, has_port, has_any_ports, protocol_number}
 use Rattle.generation.specs.Emission.{Extends, outcome, Decides}
-use Rattle.analysis.specs.Knowing.{shows, is_unfragmented}
+use Rattle.generation.specs.Remaining.{shows, is_unfragmented}
 use Rattle.generation.specs.Parts.{of_transport}
 use Rattle.analysis.specs.Lists.{of_any_type}
 use Rattle.generation.specs.Ways.{is_first_fragment, IsWay, AreWays, RenewsBoth, DecidesBy, DecidesBehind, IsFor}

@@ -7,7 +7,8 @@ use Rattle.analysis.specs.declared.lists.Bytes.{Bytes}
 use Rattle.analysis.specs.declared.lists.Span.{Span}
 use Rattle.semantics.specs.declared.verdict.Verdict.TheVariants.{Yes}
 use Rattle.semantics.specs.Meaning.{Packet, Test, and_then, and_test, check, half, is_type, by_direction, within, has_port, has_any_ports, bytes_of, accessed, in_layer}
-use Rattle.analysis.specs.Knowing.{shows, rest_of, of_layer, is_unfragmented}
+use Rattle.analysis.specs.Knowing.{of_layer}
+use Rattle.generation.specs.Remaining.{shows, rest_of, is_unfragmented}
 use Rattle.generation.specs.Parts.{number_of, of_transport}
 use Rattle.analysis.specs.Lists.{any_of, of_any_type, bytes_test}
 use Rattle.generation.specs.Listed.{among}

@@ -6,7 +6,7 @@ use Rattle.semantics.specs.declared.verdict.Verdict.{Verdict}
 use Rattle.semantics.specs.declared.verdict.Verdict.TheVariants.{Yes, No, Abort}
 use Rattle.syntax.specs.declared.tree.Transport.{Transport}
 use Rattle.semantics.specs.Meaning.{Packet, Test, and_then, or_else, opposite, and_test, check, decided, byte, is_type}
-use Rattle.analysis.specs.Knowing.{is_unfragmented}
+use Rattle.generation.specs.Remaining.{is_unfragmented}
 use Rattle.generation.specs.Parts.{number_of, of_transport}
 use Rattle.analysis.proofs.Members.{and-assoc}
 use Rattle.generation.specs.Ways.{is_first_fragment}

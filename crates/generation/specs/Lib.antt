@@ -4,6 +4,7 @@ pub use Rattle.trimming.specs.Reaching
 pub mod Compiling
 pub mod Insns
 pub mod Emission
+pub mod Remaining
 pub mod Ways
 pub mod Parts
 pub mod Listed

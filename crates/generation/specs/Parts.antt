@@ -20,7 +20,7 @@ use Rattle.generation.specs.declared.values.Leaf.{Leaf}
 use Rattle.generation.specs.declared.values.Leaf.TheVariants as leaves
 use Rattle.generation.specs.declared.values.Base.{Base}
 use Rattle.generation.specs.declared.values.Base.TheVariants as bases
-use Rattle.analysis.specs.Knowing.{is_unfragmented}
+use Rattle.generation.specs.Remaining.{is_unfragmented}
 use Rattle.semantics.specs.Meaning.{Packet, arithmetic_of, in_frame, behind_ethernet, behind_header, Test, and_test, or_test, check, byte, half, is_type, is_first_fragment_of, protocol_number, has_address, is_address, within}
 
 abbrev pub side_cost : Side → ℕ

@@ -10,7 +10,7 @@ use Rattle.generation.specs.Parts.{is_any_first, of_transport}
 use Rattle.generation.specs.Emission.{IsPlace, Answers, Extends, outcome, Decides}
 use Rattle.generation.specs.declared.code.Exits.{Exits}
 use Rattle.analysis.specs.declared.known.Known.{Known}
-use Rattle.analysis.specs.Knowing.{shows}
+use Rattle.generation.specs.Remaining.{shows}
 
 -- IPv4 of this protocol, or of any that has ports, and no later fragment
 abbrev pub is_first_fragment : Option Transport → Test

@@ -7,7 +7,7 @@ ghost use Rattle.generation.specs.Insns.{plain_insn};
 ghost use Rattle.generation.specs.Emission.{IsPlace, AreExits, ChoosesBehind, same_index, Follows, Decides};
 ghost use Rattle.generation.specs.Ways.{IsWay, AreWays, DecidesBy, GuardsPorts};
 ghost use Rattle.generation.specs.Parts.{side_cost, side_offset, side_test, port_behind, has_port_number, number_of, plain_cost, cost};
-ghost use Rattle.analysis.specs.Knowing.{is_unfragmented};
+ghost use Rattle.generation.specs.Remaining.{is_unfragmented};
 
 use crate::code::{Code, Exits};
 use crate::insns::{Field, Jump, Operand, load_insn, plain_insn};

@@ -4,7 +4,7 @@ ghost use Rattle.std.specs.Prelude.{◌≡◌, ◌+◌, ◌≤◌, length, max};
 ghost use Rattle.syntax.specs.Trees.{amount_of};
 ghost use Rattle.semantics.specs.Meaning.{value, compared, check_both};
 ghost use Rattle.analysis.specs.Weights.{value_need};
-ghost use Rattle.analysis.specs.Knowing.{rest_of_type, rest_of_protocol, rest_of_first_fragment, rest_of, rest_of_layers, rest_of_relation};
+ghost use Rattle.generation.specs.Remaining.{rest_of_type, rest_of_protocol, rest_of_first_fragment, rest_of, rest_of_layers, rest_of_relation};
 ghost use Rattle.generation.specs.Parts.{layers_cost, compare_cost, relation_cost};
 ghost use Rattle.generation.specs.Emission.{AreExits, value_of, Chooses, Decides, OrFull};
 

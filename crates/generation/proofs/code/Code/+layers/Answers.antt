@@ -2,7 +2,7 @@ use Rattle.std.proofs.Common.{◌≡◌, true, sym, ◌∙◌, arith}
 use Rattle.std.specs.Option.{is_some}
 use Rattle.std.proofs.lemmas.Result.{MatchResult-weaker}
 use Rattle.syntax.specs.Trees.{amount_of, binary}
-use Rattle.analysis.specs.Knowing.{rest_of_layers}
+use Rattle.generation.specs.Remaining.{rest_of_layers}
 use Rattle.generation.specs.Parts.{constant_of}
 use Rattle.generation.proofs.Computing.{constant-right}
 use Rattle.generation.proofs.Deciding.{decides-both, decides-more, decides-same}

@@ -1,7 +1,8 @@
 use Rattle.syntax.specs.Trees.{amount_of}
 use Rattle.semantics.specs.Meaning.{relation_test}
 use Rattle.generation.specs.Parts.{relation_cost}
-use Rattle.analysis.specs.Knowing.{narrowed, rest_of_relation}
+use Rattle.analysis.specs.Knowing.{narrowed}
+use Rattle.generation.specs.Remaining.{rest_of_relation}
 use Rattle.analysis.specs.declared.known.Known.TheVariants as facts
 use Rattle.generation.proofs.Knowing.{relation-ip}
 use Rattle.generation.proofs.Narrowed.{behind-same}

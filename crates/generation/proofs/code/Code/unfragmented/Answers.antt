@@ -1,5 +1,5 @@
 use Rattle.semantics.specs.Meaning.{half}
-use Rattle.analysis.specs.Knowing.{is_unfragmented}
+use Rattle.generation.specs.Remaining.{is_unfragmented}
 use Rattle.generation.proofs.Deciding.{decides-not, decides-same}
 use Rattle.generation.proofs.Sharing.{no_bit}
 use Rattle.generation.proofs.code.Code.unfragmented.Goals as goal
