@@ -7,7 +7,7 @@ use std::process::Abort;
 
 /// Lists of each kind, also behind another test, behind a test of what they share, under `not`, and beside other lists. A frame
 /// is cut between the source and the destination of the first one, of which the second member has the source.
-const LISTS: [&str; 32] = [
+const LISTS: [&str; 38] = [
     "host 10.0.0.2 or 10.0.0.1",
     "host 9.9.9.9 or 10.0.0.3 or 10.0.0.2 or 8.8.8.8",
     "ip host 9.9.9.9 or 10.0.0.2",
@@ -15,9 +15,15 @@ const LISTS: [&str; 32] = [
     "rarp host 10.0.0.3 or 10.0.0.1",
     "src host 9.9.9.9 or 10.0.0.3 or 10.0.0.1",
     "dst host 10.0.0.1 or 224.0.0.1",
+    "src host 9.9.9.9 or 10.0.0.2 or 8.8.8.8",
+    "dst host 10.0.0.3 or 10.0.0.2",
+    "src net 11.0.0.0/8 or 10.0.0.0/8 or 9.0.0.0/8",
     "src and dst host 10.0.0.1 or 10.0.0.2",
     "net 11.0.0.0/8 or 9.0.0.0/8",
     "net 11.0.0.0/8 or 10.0.0.0/8 or 10.0.0.0/16 or 224.0.0.0/16",
+    "(host 9.9.9.9 or 10.0.0.2 or 8.8.8.8) and port 80",
+    "(src host 10.0.0.1 or 10.0.0.2) and not udp",
+    "not (dst net 11.0.0.0/8 or 224.0.0.0/8) and not tcp",
     "port 9 or 80 or 53",
     "tcp port 443 or 80",
     "udp src port 80 or 53",
@@ -55,10 +61,11 @@ fn every_list_on_frames_cut_at_each_byte(rt: HostRuntime) {
 }
 
 /// The words before a list, what stands before the number of each member, how many members, and how many instructions they take.
-const SIZES: [(&str, &str, u32, usize); 7] = [
-    ("host ", "10.0.0.", 100, 420),
-    ("src host ", "10.0.0.", 100, 220),
-    ("net ", "10.0.", 30, 160),
+const SIZES: [(&str, &str, u32, usize); 8] = [
+    ("host ", "10.0.0.", 100, 320),
+    ("src host ", "10.0.0.", 100, 115),
+    ("dst net ", "10.0.", 100, 115),
+    ("net ", "10.0.", 30, 115),
     ("port ", "", 200, 420),
     ("tcp port ", "", 200, 420),
     ("ip proto ", "", 100, 115),

@@ -8,7 +8,7 @@ use Rattle.semantics.specs.declared.verdict.Verdict.{Verdict}
 use Rattle.semantics.specs.declared.verdict.Verdict.TheVariants.{Yes, No, Abort}
 use Rattle.semantics.specs.Meaning.{Packet, HasBytes, Test, and_then, or_else, opposite, and_test, or_test, not_test, check, decided}
 use Rattle.generation.specs.Insns.{plain_insn}
-use Rattle.generation.specs.Emission.{AreExits, HasCells, Answers, Passes, outcome, Chooses, with_loaded, Decides}
+use Rattle.generation.specs.Emission.{AreExits, HasCells, Answers, Passes, Extends, outcome, Chooses, with_loaded, Decides}
 use Rattle.generation.proofs.Runs.{after, answer-first, front-place, extends-none, extends-one, extends-both, extends-more, answers-kept, mask-effect}
 use Rattle.generation.proofs.Following.{decides-followed, follows-loaded, follows-exits}
 
@@ -68,6 +68,21 @@ decides-same t u {exits} {a} {b} same first = record {
 
 pub decides-more : {k : ℕ} (l : ℕ) {e : ℕ} {t : Test} {exits : Exits} {a b : List Insn} → k ≤ l → Decides k t exits e a b → Decides l t exits e a b
 decides-more l more first = record { extends = extends-more l more first.extends; here = first.here; decides = first.decides }
+
+-- what is put in front changes nothing, and the exits may have been there earlier
+pub decides-kept : {k l e : ℕ} {t : Test} {exits : Exits} {a b c : List Insn} → Decides k t exits e a b → Extends l b c → Decides (k + l) t exits e a c
+decides-kept {k} {l} {e} first further = record {
+  extends = extends-both first.extends further;
+  here = (first.here.0, omega (arith, first.here.1, further.longer));
+  decides = λ p m n bytes yes' no'. answers-kept e _ p further first.here.1 (first.decides p m n bytes yes' no');
+}
+
+pub decides-later : {k l e : ℕ} {t : Test} {exits : Exits} {a b c : List Insn} → AreExits a exits → Extends k a b → Decides l t exits e b c → Decides (k + l) t exits e a c
+decides-later {k} {l} {e} {t} {exits} are earlier first = record {
+  extends = extends-both earlier first.extends;
+  here = first.here;
+  decides = λ p m n bytes yes' no'. first.decides p m n bytes (answers-kept exits.yes m p earlier are.0.1 yes') (answers-kept exits.no n p earlier are.1.1 no');
+}
 
 -- the entry of the second test is an exit of the first
 pub yes-exits : {k e : ℕ} {t : Test} {exits : Exits} {a b : List Insn} → AreExits a exits → Decides k t exits e a b → AreExits b (record { yes = e; no = exits.no })

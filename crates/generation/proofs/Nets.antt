@@ -13,12 +13,13 @@ use Rattle.semantics.specs.declared.verdict.Verdict.TheVariants.{Yes, No}
 use Rattle.generation.specs.declared.ways.Ways.{Ways}
 use Rattle.semantics.specs.Meaning.{Packet, Test, check, decided, half, is_type}
 use Rattle.generation.specs.Insns.{load_insn}
-use Rattle.generation.specs.Emission.{HasCells, run_from, Answers, Extends, outcome, condition, Chooses, Decides}
+use Rattle.generation.specs.Emission.{HasCells, run_from, AreExits, Answers, Extends, outcome, condition, Chooses, any_registers, Follows, Decides}
 use Rattle.generation.specs.Ways.{AreWays, DecidesBy}
 use Rattle.analysis.specs.Lists.{of_any_type}
 use Rattle.generation.proofs.Runs.{after, answer-first, answers-kept, extends-both, extends-more, extends-one, front-place, load-effect}
-use Rattle.generation.proofs.Following.{one_of, follows-no, follows-kept, follows-decided, follows-chosen}
-use Rattle.generation.proofs.Leading.{place-kept, first-ip}
+use Rattle.generation.proofs.Deciding.{decides-kept, decides-later}
+use Rattle.generation.proofs.Following.{one_of, follows-no, follows-kept, follows-more, follows-decided, follows-chosen}
+use Rattle.generation.proofs.Leading.{place-kept, first-ip, decides-by-more}
 use Rattle.generation.proofs.Sharing.{chosen_by, by_number}
 
 apart : (n : ℕ) → (n == 0x0800) ≡ true → ((n == 0x0806) ≡ false) × ((n == 0x8035) ≡ false)
@@ -52,40 +53,31 @@ of-ip t u p (Some n) known = by_test (n == 0x0800) known
     by_test true is = refl
     by_test false is = absurd cc
 
-pub decides-any-net : {e f y n g h : ℕ} (t u : Test) (ways : Ways) {c0 c1 c2 c3 c4 c5 : List Insn} → AreWays c0 ways
-    → Decides g u (record { yes = ways.yes.other; no = ways.no.other }) e c0 c1
-    → y ≡ length c2 → n ≡ length c3
-    → Chooses 3 (condition jumps.Equal (operands.Constant 0x8035)) (record { yes = e; no = ways.no.other }) c1 c2
-    → Chooses 3 (condition jumps.Equal (operands.Constant 0x0806)) (record { yes = e; no = y }) c2 c3
-    → Decides h t (record { yes = ways.yes.ip; no = ways.no.ip }) f c3 c4
-    → Chooses 3 (condition jumps.Equal (operands.Constant 0x0800)) (record { yes = f; no = n }) c4 c5
-    → DecidesBy (g + h + 10) (of_any_type t u) ways (record { any = suc (length c5); ip = f; other = suc (length c5); first_fragment = f; transport = None }) c0 (load_insn (fields.Half 12) ∷ c5)
-decides-any-net {e} {f} {y} {n} {g} {h} t u ways {c0} {c1} {c2} {c3} {c4} {c5} are arp at-rarp at-other rarp-jump arp-jump ip ip-jump =
+-- the load of the type and the comparison with that of IPv4, in front of the test of IPv4 and of those of the other types
+decides-by-type : {g h f n : ℕ} (t u : Test) (ways : Ways) {a b c : List Insn} → Decides g t (record { yes = ways.yes.ip; no = ways.no.ip }) f a b
+    → Follows any_registers h (by_other u) (record { yes = ways.yes.other; no = ways.no.other }) n a b
+    → Chooses 3 (condition jumps.Equal (operands.Constant 0x0800)) (record { yes = f; no = n }) b c
+    → DecidesBy (g + 4) (of_any_type t u) ways (record { any = suc (length c); ip = f; other = suc (length c); first_fragment = f; transport = None }) a (load_insn (fields.Half 12) ∷ c)
+decides-by-type {g} {h} {f} {n} t u ways {a} {b} {c} ip other-test ip-jump =
     let load = load_insn (fields.Half 12) in
-    let others : Exits = record { yes = ways.yes.other; no = ways.no.other } in
-    let none = follows-kept (λ r p. No) (follows-no others c0 (λ r. tt) (are.0.other, are.1.other)) arp.extends in
-    let arp' = follows-decided u arp in
-    let rarp-test = follows-chosen (λ r. u) (λ r p. No) (λ r. r.accumulator == 0x8035) arp' none rarp-jump in
-    let other-test = follows-chosen (λ r. u) _ (λ r. r.accumulator == 0x0806) (follows-kept (λ r. u) arp' rarp-jump.extends) rarp-test (rw at-rarp at arp-jump) in
-    let behind : Extends 4 c4 (load ∷ c5) = extends-both ip-jump.extends (extends-one load c5) in
-    let whole = extends-both other-test.extends (extends-both ip.extends behind) in
+    let behind : Extends 4 b (load ∷ c) = extends-both ip-jump.extends (extends-one load c) in
     let here = place-kept f behind ip.here in
     record {
-      extends = extends-more (g + h + 10) (omega arith) whole;
+      extends = extends-both ip.extends behind;
       here = record { any = (omega arith, omega arith); ip = here; other = (omega arith, omega arith); first_fragment = here };
       decides = λ p k l bytes yes' no'.
-          let inside = ip.decides p yes'.ip.found no'.ip.found bytes (answers-kept ways.yes.ip _ p other-test.extends are.0.ip.1 yes'.ip.answers) (answers-kept ways.no.ip _ p other-test.extends are.1.ip.1 no'.ip.answers) in
+          let inside = ip.decides p yes'.ip.found no'.ip.found bytes yes'.ip.answers no'.ip.answers in
           let inside' = answers-kept f _ p behind ip.here.1 inside in
-          let outside : (r : Registers) → HasCells r → run_from c3 (length c3) p r ≡ outcome (by_other u r p) yes'.other.found no'.other.found =
+          let outside : (r : Registers) → HasCells r → run_from b n p r ≡ outcome (by_other u r p) yes'.other.found no'.other.found =
           λ r cells. other-test.follows p _ _ r bytes cells (λ s kept like. yes'.other.answers.always s kept) (λ s kept like. no'.other.answers.always s kept) in
           let right : is_type 0x0800 p ≡ Yes → outcome (t p) yes'.ip.found no'.ip.found ≡ outcome (of_any_type t u p) k l =
           λ known.
           ap (λ v. outcome v yes'.ip.found no'.ip.found) (of-ip t u p (half 12 p) known ∙ by-type t u p)
           ∙ ap (λ x. outcome (of_any_type t u p) x no'.ip.found) (yes'.ip.right known)
           ∙ ap (λ x. outcome (of_any_type t u p) k x) (no'.ip.right known) in
-          let any' : Answers (load ∷ c5) (suc (length c5)) p (outcome (of_any_type t u p) k l) = record {
+          let any' : Answers (load ∷ c) (suc (length c)) p (outcome (of_any_type t u p) k l) = record {
             always = λ r cells.
-                front-place (load ∷ c5) p r ∙ answer-first load c5 p r _ (load-effect (fields.Half 12) p r)
+                front-place (load ∷ c) p r ∙ answer-first load c p r _ (load-effect (fields.Half 12) p r)
                 ∙ by_value p k l _ _ _ r cells (half 12 p) refl inside outside right yes'.other.right no'.other.right;
           } in
           record {
@@ -113,9 +105,9 @@ decides-any-net {e} {f} {y} {n} {g} {h} t u ways {c0} {c1} {c2} {c3} {c4} {c5} a
     behind_no false v w is = refl
 
     by_value : (p : Packet) (k l k' l' found : ℕ) (r : Registers) → HasCells r → (v : Option ℕ) → half 12 p ≡ v
-        → Answers c4 f p found → ((s : Registers) → HasCells s → run_from c3 (length c3) p s ≡ outcome (by_other u s p) k' l')
+        → Answers b f p found → ((s : Registers) → HasCells s → run_from b n p s ≡ outcome (by_other u s p) k' l')
         → (is_type 0x0800 p ≡ Yes → found ≡ outcome (of_any_type t u p) k l) → (is_type 0x0800 p ≡ No → k' ≡ k) → (is_type 0x0800 p ≡ No → l' ≡ l)
-        → after c5 p (loaded Accumulator r v) ≡ outcome (of_any_type t u p) k l
+        → after c p (loaded Accumulator r v) ≡ outcome (of_any_type t u p) k l
     by_value p k l k' l' found r cells None is inside outside right yes' no' =
         sym (ap (λ v. outcome v k l) (sym (by-type t u p) ∙ ap (by_type t u p) is))
     by_value p k l k' l' found r cells (Some x) is inside outside right yes' no' =
@@ -124,6 +116,47 @@ decides-any-net {e} {f} {y} {n} {g} {h} t u ways {c0} {c1} {c2} {c3} {c4} {c5} a
         let whole : by_type t u p (Some x) ≡ of_any_type t u p = sym (ap (by_type t u p) is) ∙ by-type t u p in
         ip-jump.chooses p s
         ∙ by_test p k l k' l' s (x == 0x0800) _ _ found (λ known. right (typed ∙ known)) (inside.always s cells)
-        (ap (λ place. run_from c4 place p s) at-other ∙ ip.extends.same (length c3) p s (omega arith) ∙ outside s cells)
+        (outside s cells)
         (λ known. yes' (typed ∙ known)) (λ known. no' (typed ∙ known))
         (λ known. one-of-is (x == 0x0806) (x == 0x8035) u p ∙ behind_no (x == 0x0800) (t p) _ known ∙ whole)
+
+-- the comparisons with the types of ARP and RARP, in front of the test of both
+follows-other : {e y k : ℕ} (u : Test) (exits : Exits) {a b c d : List Insn} → AreExits a exits → Decides k u exits e a b → y ≡ length c
+    → Chooses 3 (condition jumps.Equal (operands.Constant 0x8035)) (record { yes = e; no = exits.no }) b c
+    → Chooses 3 (condition jumps.Equal (operands.Constant 0x0806)) (record { yes = e; no = y }) c d
+    → Follows any_registers (k + 6) (by_other u) exits (length d) a d
+follows-other {e} {y} {k} u exits {a} {b} {c} {d} are arp at-rarp rarp-jump arp-jump =
+    let none = follows-kept (λ r p. No) (follows-no exits a (λ r. tt) are) arp.extends in
+    let arp' = follows-decided u arp in
+    let rarp-test = follows-chosen (λ r. u) (λ r p. No) (λ r. r.accumulator == 0x8035) arp' none rarp-jump in
+    follows-more (k + 6) (by_other u) (omega arith)
+    (follows-chosen (λ r. u) _ (λ r. r.accumulator == 0x0806) (follows-kept (λ r. u) arp' rarp-jump.extends) rarp-test (rw at-rarp at arp-jump))
+
+-- The test of IPv4 stands behind that of the other types, or before it.
+pub decides-any-net : {e f y n g h : ℕ} (t u : Test) (ways : Ways) {c0 c1 c2 c3 c4 c5 : List Insn} → AreWays c0 ways
+    → Decides g u (record { yes = ways.yes.other; no = ways.no.other }) e c0 c1
+    → y ≡ length c2 → n ≡ length c3
+    → Chooses 3 (condition jumps.Equal (operands.Constant 0x8035)) (record { yes = e; no = ways.no.other }) c1 c2
+    → Chooses 3 (condition jumps.Equal (operands.Constant 0x0806)) (record { yes = e; no = y }) c2 c3
+    → Decides h t (record { yes = ways.yes.ip; no = ways.no.ip }) f c3 c4
+    → Chooses 3 (condition jumps.Equal (operands.Constant 0x0800)) (record { yes = f; no = n }) c4 c5
+    → DecidesBy (g + h + 10) (of_any_type t u) ways (record { any = suc (length c5); ip = f; other = suc (length c5); first_fragment = f; transport = None }) c0 (load_insn (fields.Half 12) ∷ c5)
+decides-any-net {e} {f} {y} {n} {g} {h} t u ways are arp at-rarp at-other rarp-jump arp-jump ip ip-jump =
+    let others : Exits = record { yes = ways.yes.other; no = ways.no.other } in
+    let other-test = follows-other u others (are.0.other, are.1.other) arp at-rarp rarp-jump arp-jump in
+    decides-by-more (g + h + 10) (omega arith)
+    (decides-by-type t u ways (decides-later (are.0.ip, are.1.ip) other-test.extends ip) (follows-kept (by_other u) other-test ip.extends) (rw at-other at ip-jump))
+
+pub decides-listed-nets : {e f y n g h m : ℕ} (t u : Test) (ways : Ways) {c0 c1 c2 c3 c4 c5 : List Insn} → AreWays c0 ways
+    → Decides h t (record { yes = ways.yes.ip; no = ways.no.ip }) f c0 c1 → Extends m c1 c2
+    → Decides g u (record { yes = ways.yes.other; no = ways.no.other }) e c0 c2
+    → y ≡ length c3 → n ≡ length c4
+    → Chooses 3 (condition jumps.Equal (operands.Constant 0x8035)) (record { yes = e; no = ways.no.other }) c2 c3
+    → Chooses 3 (condition jumps.Equal (operands.Constant 0x0806)) (record { yes = e; no = y }) c3 c4
+    → Chooses 3 (condition jumps.Equal (operands.Constant 0x0800)) (record { yes = f; no = n }) c4 c5
+    → DecidesBy (h + m + 10) (of_any_type t u) ways (record { any = suc (length c5); ip = f; other = suc (length c5); first_fragment = f; transport = None }) c0 (load_insn (fields.Half 12) ∷ c5)
+decides-listed-nets {e} {f} {y} {n} {g} {h} {m} t u ways are ip between arp at-rarp at-other rarp-jump arp-jump ip-jump =
+    let others : Exits = record { yes = ways.yes.other; no = ways.no.other } in
+    let other-test = follows-other u others (are.0.other, are.1.other) arp at-rarp rarp-jump arp-jump in
+    decides-by-more (h + m + 10) (omega arith)
+    (decides-by-type t u ways (decides-kept ip (extends-both between (extends-both rarp-jump.extends arp-jump.extends))) other-test (rw at-other at ip-jump))

@@ -1,9 +1,11 @@
 -- Code that asks whether a number is one of many.
-use Rattle.std.proofs.Common.{◌≡◌, ℕ, suc, ◌+◌, ◌*◌, ◌<◌, Bool, true, false, List, [], ◌∷◌, ◌++◌, length, Option, Some, None, refl, sym, ap, ◌∙◌, arith, if◌then◌else◌, bit_and, option_map, take, get_or}
-use Rattle.std.proofs.lemmas.List.{take_more, length-append}
+use Rattle.std.proofs.Common.{◌≡◌, ℕ, suc, ◌+◌, ◌-◌, ◌*◌, ◌<◌, ◌≤◌, Bool, true, false, List, [], ◌∷◌, ◌++◌, length, Option, Some, None, refl, sym, ap, ◌∙◌, arith, if◌then◌else◌, bit_and, option_map, take, get_or}
+use Rattle.std.proofs.lemmas.List.{take_more, length-append, length-take}
 use Rattle.bpfvm.specs.declared.insn.Insn.{Insn}
 use Rattle.bpfvm.specs.Codes.{Accumulator, Index}
 use Rattle.bpfvm.specs.Machine.{Registers, Goes, with_value, loaded, effect}
+use Rattle.analysis.specs.declared.lists.Sides.{Sides}
+use Rattle.analysis.specs.declared.lists.Sides.TheVariants.{Source, Destination, Either}
 use Rattle.syntax.specs.declared.tree.Direction.{Direction}
 use Rattle.syntax.specs.declared.tree.Direction.TheVariants.{Src, Dst, SrcOrDst, SrcAndDst}
 use Rattle.generation.specs.declared.code.Exits.{Exits}
@@ -22,7 +24,7 @@ use Rattle.generation.specs.Parts.{port_behind, base_of, read_from}
 use Rattle.semantics.specs.Sides.{directed}
 use Rattle.generation.specs.Emission.{AreExits, HasCells, IsPlace, run_from, front, field_of, Answers, Passes, outcome, Extends, Chooses, Nears, Computes, same_index, Follows, Decides}
 use Rattle.analysis.specs.Lists.{any_of, in_span}
-use Rattle.generation.specs.Listed.{among, spot_value, found_at, onward, LoadsSpot, ChoosesFrom}
+use Rattle.generation.specs.Listed.{among, asked_last, asked_before_cost, spot_value, found_at, onward, LoadsSpot, ChoosesFrom, IsChoice}
 use Rattle.generation.proofs.Runs.{after, answer-first, front-place, extends-none, extends-one, extends-both, extends-more, load-effect, mask-effect, half-effect, header-effect}
 use Rattle.generation.proofs.Computing.{computes-same, read-accessed, decides-valued}
 use Rattle.generation.proofs.Deciding.{outcome-either, decides-same}
@@ -33,6 +35,41 @@ use Rattle.generation.proofs.Neighbours.{any-same, any-abort, any-checked, any-p
 -- no span is asked for
 pub chooses-none : (exits : Exits) (a : List Insn) → AreExits a exits → ChoosesFrom 0 (λ r. among [] r.accumulator) exits exits.no a a
 chooses-none exits a are = record { extends = extends-none a; here = are.1; chooses = λ p r. refl }
+
+both-exits : (b : Bool) (k l m n : ℕ) → k ≡ m → l ≡ n → (if b then k else l) ≡ (if b then m else n)
+both-exits true k l m n first second = first
+both-exits false k l m n first second = second
+
+-- a choice stays one, whatever is put in front
+pub choice-kept : {k e : ℕ} (choice : Registers → Bool) {exits : Exits} {a b : List Insn} → AreExits a exits → Extends k a b → IsChoice choice exits e a → IsChoice choice exits e b
+choice-kept {k} {e} choice {exits} {a} {b} are extends there = record {
+  here = (there.here.0, omega (arith, there.here.1, extends.longer));
+  chooses = λ p r.
+      extends.same e p r there.here.1 ∙ there.chooses p r
+      ∙ both-exits (choice r) _ _ _ _ (sym (extends.same exits.yes p r are.0.1)) (sym (extends.same exits.no p r are.1.1));
+}
+
+pub choice-made : {k e : ℕ} (choice : Registers → Bool) {exits : Exits} {a b : List Insn} → AreExits a exits → ChoosesFrom k choice exits e a b → IsChoice choice exits e b
+choice-made {k} {e} choice {exits} {a} {b} are made = record {
+  here = made.here;
+  chooses = λ p r.
+      made.chooses p r
+      ∙ both-exits (choice r) _ _ _ _ (sym (made.extends.same exits.yes p r are.0.1)) (sym (made.extends.same exits.no p r are.1.1));
+}
+
+pub choice-from : {e : ℕ} (choice : Registers → Bool) {exits : Exits} {a : List Insn} → IsChoice choice exits e a → ChoosesFrom 0 choice exits e a a
+choice-from choice {exits} {a} there = record { extends = extends-none a; here = there.here; chooses = there.chooses }
+
+-- a jump to it is the same choice
+pub choice-near : {e near : ℕ} (choice : Registers → Bool) {exits : Exits} {a b : List Insn} → AreExits a exits → Nears e 0 near a b → IsChoice choice exits e a → IsChoice choice exits (length b) b
+choice-near {e} {near} choice {exits} {a} {b} are nears there =
+    let at : length b ≡ near = omega (arith, nears.reached, nears.here.1) in
+    record {
+      here = (omega (arith, nears.here.0, nears.here.1), omega arith);
+      chooses = λ p r.
+          ap (λ place. run_from b place p r) at ∙ nears.leads p r ∙ there.chooses p r
+          ∙ both-exits (choice r) _ _ _ _ (sym (nears.extends.same exits.yes p r are.0.1)) (sym (nears.extends.same exits.no p r are.1.1));
+    }
 
 -- a place that leads on as an exit
 pub record LeadsAs (new : List Insn) (near : ℕ) (old : List Insn) (place : ℕ) : Type 0 where
@@ -175,18 +212,29 @@ sides-shared source destination r p spans others (x ∷ []) is one some =
     ∙ any-same (λ (y : Span) q. or_else (check (within y.low y.high) v) (check (within y.low y.high) w)) (λ y. or_test (found_at source r y) (found_at destination r y)) p (λ y. refl) (others ++ (x ∷ []))
     ∙ ap (λ l. any_of (λ x'. or_test (found_at source r x') (found_at destination r x')) l p) (sym is)
 
-pub follows-sides : {e f g : ℕ} (source destination : Spot) (spans others first : List Span) {exits : Exits} {a b c d : List Insn} → spans ≡ others ++ first → length first ≡ 1 → 0 < length others
-    → AreExits a exits → Follows same_index (7 * length others + 2) (λ r. any_of (found_at source r) others) exits g a b
+pub follows-sides : {k e f g : ℕ} (source destination : Spot) (spans others first : List Span) {exits : Exits} {a b c d : List Insn} → spans ≡ others ++ first → length first ≡ 1 → 0 < length others
+    → AreExits a exits → Follows same_index k (λ r. any_of (found_at source r) others) exits g a b
     → Follows same_index (7 * length spans + 2) (λ r. any_of (found_at destination r) spans) (record { yes = exits.yes; no = g }) f b c
     → Follows same_index (7 * length first + 2) (λ r. any_of (found_at source r) first) (record { yes = exits.yes; no = f }) e c d
-    → Follows same_index (14 * length spans + 6) (λ r. any_of (λ x. or_test (found_at source r x) (found_at destination r x)) spans) exits e a d
-follows-sides source destination spans others first is one some are third second begin =
+    → Follows same_index (k + (7 * length spans + 11)) (λ r. any_of (λ x. or_test (found_at source r x) (found_at destination r x)) spans) exits e a d
+follows-sides {k} source destination spans others first is one some are third second begin =
     let later = follows-else (λ r. any_of (found_at destination r) spans) (λ r. any_of (found_at source r) others) (sought-same source others) are third second in
-    follows-more (14 * length spans + 6) _ (omega (arith, ap length is, length-append others first, one))
+    follows-more (k + (7 * length spans + 11)) _ (omega (arith, one))
     (follows-same _ (λ r. any_of (λ x. or_test (found_at source r x) (found_at destination r x)) spans) (λ r p. sides-shared source destination r p spans others first is one some)
     (follows-else (λ r. any_of (found_at source r) first) (λ r. or_test (any_of (found_at destination r) spans) (any_of (found_at source r) others))
     (λ p r s same. ap (λ v. or_else v (any_of (found_at source s) others p)) (sought-same destination spans p r s same) ∙ ap (or_else (any_of (found_at destination r) spans p)) (sought-same source others p r s same))
     are later begin))
+
+-- what is asked last and what stands in front of it
+pub asked-some : (s : Sides) (xs : List Span) → 2 ≤ length xs → 0 < length (asked_last s xs)
+asked-some Source xs many = omega (arith, many)
+asked-some Destination xs many = omega (arith, many)
+asked-some Either xs many = omega (arith, many, length-take (length xs - 1) xs)
+
+pub asked-fits : (s : Sides) (xs : List Span) → 2 ≤ length xs → 7 * length (asked_last s xs) + asked_before_cost s (length xs) ≤ 14 * length xs + 6
+asked-fits Source xs many = omega (arith, many)
+asked-fits Destination xs many = omega (arith, many)
+asked-fits Either xs many = omega (arith, many, length-take (length xs - 1) xs)
 
 -- the same of both fields in other words
 pub directed-same : (d : Direction) (s t s' t' : Test) (p : Packet) → s p ≡ s' p → t p ≡ t' p → by_direction d s t p ≡ by_direction d s' t' p

@@ -5,8 +5,8 @@ ghost use Rattle.bpfvm.specs.Machine.{Registers};
 ghost use Rattle.analysis.specs.declared.lists.Span.{Span as Reach};
 ghost use Rattle.semantics.specs.Meaning.{Packet, HasBytes, check, by_direction, has_port, bytes_of, accessed};
 ghost use Rattle.analysis.specs.Lists.{any_of, direction_of, in_span};
-ghost use Rattle.generation.specs.Listed.{among, found_at, LoadsSpot, ChoosesFrom};
-ghost use Rattle.generation.specs.Emission.{AreExits, same_index, Follows, Decides, OrFull};
+ghost use Rattle.generation.specs.Listed.{among, asked_last, asked_before_cost, found_at, LoadsSpot, ChoosesFrom, IsChoice};
+ghost use Rattle.generation.specs.Emission.{AreExits, Extends, same_index, Follows, Decides, OrFull};
 
 use crate::code::{Code, Exits, Full, REACH};
 use crate::insns::{Field, load_insn, plain_insn};
@@ -88,9 +88,74 @@ impl Code {
         Ok(self.len())
     }
 
-    /// The same of the spots of the source and of the destination. The first member's source is asked for alone. Then the
-    /// destination is loaded, and no load can fail any more: all members ask for it together, and then all others for the source.
-    pub fn seek_sides(
+    /// What a list asks last: of one side all members, of both sides the sources of all but the first member. What is asked is
+    /// in the accumulator.
+    pub fn among_last(&mut self, sides: Sides, spans: &[Span], exits: Exits) -> Result<usize, Full>
+        requires many { 2 ≤ length spans.now }
+        requires exits { AreExits self.old exits }
+        ensures { OrFull (7 * length (asked_last sides spans.now)) self.old result (λ entry.
+            Extends (7 * length (asked_last sides spans.now)) self.old self.new
+            × IsChoice (λ r. among (asked_last sides spans.now) r.accumulator) exits (length self.new) self.new
+            × (entry ≡ length self.new)) }
+    {
+        match sides {
+            Sides::Source | Sides::Destination => self.among(spans, exits),
+            Sides::Either => {
+                let others = spans.len() - 1;
+                self.among(&spans[..others], exits)
+            }
+        }
+    }
+
+    /// Goes to an exit by whether the number at the spot of the source or of the destination is in one of these spans, where the
+    /// code begins with what is asked last. The first member's source is asked for alone. Then the destination is loaded, and no
+    /// load can fail any more: all members ask for it together, and then all others for the source.
+    fn seek_before(
+        &mut self,
+        sides: Sides,
+        source: Spot,
+        destination: Spot,
+        spans: &[Span],
+        exits: Exits,
+    ) -> Result<usize, Full>
+        requires many { 2 ≤ length spans.now }
+        requires exits { AreExits self.old exits }
+        requires last { IsChoice (λ r. among (asked_last sides spans.now) r.accumulator) exits (length self.old) self.old }
+        ensures { OrFull (asked_before_cost sides (length spans.now)) self.old result (λ entry.
+            Follows same_index (asked_before_cost sides (length spans.now))
+            (λ r. any_of (λ x. by_direction (direction_of sides) (found_at source r x) (found_at destination r x)) spans.now) exits
+            entry self.old self.new
+            × (entry ≡ length self.new)) }
+    {
+        self.room(2)?;
+        match sides {
+            Sides::Source => {
+                self.load_spot(source);
+                Ok(self.len())
+            }
+            Sides::Destination => {
+                self.load_spot(destination);
+                Ok(self.len())
+            }
+            Sides::Either => {
+                self.load_spot(source);
+                let third = self.len();
+                let second = self.seek(destination, spans, Exits { no: third, ..exits })?;
+                let others = spans.len() - 1;
+                self.seek(
+                    source,
+                    &spans[others..],
+                    Exits {
+                        no: second,
+                        ..exits
+                    },
+                )
+            }
+        }
+    }
+
+    /// The same with what is asked last.
+    fn seek_sides(
         &mut self,
         sides: Sides,
         source: Spot,
@@ -106,23 +171,8 @@ impl Code {
             entry self.old self.new
             × (entry ≡ length self.new)) }
     {
-        match sides {
-            Sides::Source => self.seek(source, spans, exits),
-            Sides::Destination => self.seek(destination, spans, exits),
-            Sides::Either => {
-                let others = spans.len() - 1;
-                let third = self.seek(source, &spans[..others], exits)?;
-                let second = self.seek(destination, spans, Exits { no: third, ..exits })?;
-                self.seek(
-                    source,
-                    &spans[others..],
-                    Exits {
-                        no: second,
-                        ..exits
-                    },
-                )
-            }
-        }
+        self.among_last(sides, spans, exits)?;
+        self.seek_before(sides, source, destination, spans, exits)
     }
 
     /// Bytes of a layer, where the packet has it.
@@ -158,6 +208,28 @@ impl Code {
         let source = Spot::of_address(offsets.0, mask);
         let destination = Spot::of_address(offsets.1, mask);
         self.seek_sides(sides, source, destination, spans, exits)
+    }
+
+    /// The same where the code begins with what is asked last.
+    pub fn seek_addresses_before(
+        &mut self,
+        offsets: (u32, u32),
+        sides: Sides,
+        mask: u32,
+        spans: &[Span],
+        exits: Exits,
+    ) -> Result<usize, Full>
+        requires many { 2 ≤ length spans.now }
+        requires exits { AreExits self.old exits }
+        requires last { IsChoice (λ r. among (asked_last sides spans.now) r.accumulator) exits (length self.old) self.old }
+        ensures { OrFull (asked_before_cost sides (length spans.now)) self.old result (λ entry.
+            Decides (asked_before_cost sides (length spans.now))
+            (any_of (λ x. by_direction (direction_of sides) (in_span x mask offsets.0) (in_span x mask offsets.1)) spans.now) exits
+            entry self.old self.new) }
+    {
+        let source = Spot::of_address(offsets.0, mask);
+        let destination = Spot::of_address(offsets.1, mask);
+        self.seek_before(sides, source, destination, spans, exits)
     }
 
     /// Ports behind the IPv4 header. An exit that begins with the same header's length is passed.

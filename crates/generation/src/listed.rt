@@ -3,8 +3,8 @@
 ghost use Rattle.std.specs.Prelude.{◌≡◌, ℕ, ◌+◌, ◌*◌, ◌≤◌, length};
 ghost use Rattle.semantics.specs.Meaning.{check, byte, half, and_test, is_type, by_direction, within, has_any_ports};
 ghost use Rattle.analysis.specs.Lists.{any_of, direction_of, in_span, of_any_type, bytes_test, kind_test};
-ghost use Rattle.generation.specs.Listed.{listed_cost};
-ghost use Rattle.generation.specs.Emission.{OrFull};
+ghost use Rattle.generation.specs.Listed.{among, asked_last, listed_cost, IsChoice};
+ghost use Rattle.generation.specs.Emission.{Extends, OrFull};
 ghost use Rattle.generation.specs.Ways.{AreWays, DecidesBy, DecidesBehind};
 
 use crate::among::Spot;
@@ -88,7 +88,34 @@ impl Code {
         )))
     }
 
-    /// Hosts or nets of any protocol: three comparisons of one type. ARP and RARP have their addresses at the same places.
+    /// What a list asks last of another type than IPv4: what it asks of IPv4, which is there, if that leads on in the same way.
+    fn among_last_of_others(
+        &mut self,
+        of_ip: usize,
+        sides: Sides,
+        spans: &[Span],
+        ways: Ways,
+    ) -> Result<(), Full>
+        requires many { 2 ≤ length spans.now }
+        requires ways { AreWays self.old ways }
+        requires there { IsChoice (λ r. among (asked_last sides spans.now) r.accumulator)
+            (record { yes = ways.yes.ip; no = ways.no.ip }) of_ip self.old }
+        ensures { OrFull (7 * length (asked_last sides spans.now)) self.old result (λ done.
+            Extends (7 * length (asked_last sides spans.now)) self.old self.new
+            × IsChoice (λ r. among (asked_last sides spans.now) r.accumulator)
+            (record { yes = ways.yes.other; no = ways.no.other }) (length self.new) self.new) }
+    {
+        if ways.is_one_for_all_types() {
+            self.room(1)?;
+            self.near(of_ip, 0);
+        } else {
+            self.among_last(sides, spans, ways.other_exits())?;
+        }
+        Ok(())
+    }
+
+    /// Hosts or nets of any protocol: three comparisons of one type. ARP and RARP have their addresses at the same places. What
+    /// is asked last stands once for all types, where all go on in the same way; for IPv4 no jump leads there.
     fn listed_any_nets(
         &mut self,
         sides: Sides,
@@ -103,9 +130,13 @@ impl Code {
             (by_direction (direction_of sides) (in_span x mask 26) (in_span x mask 30))
             (by_direction (direction_of sides) (in_span x mask 28) (in_span x mask 38))) spans.now) ways way self.old self.new) }
     {
+        let of_ip = ways.ip_exits();
+        let last = self.among_last(sides, spans, of_ip)?;
+        let ip = self.seek_addresses_before(IP_ADDRESSES, sides, mask, spans, of_ip)?;
+        self.among_last_of_others(last, sides, spans, ways)?;
         let exits = ways.other_exits();
-        let inner = self.seek_addresses(ARP_ADDRESSES, sides, mask, spans, exits)?;
-        self.room(6)?;
+        let inner = self.seek_addresses_before(ARP_ADDRESSES, sides, mask, spans, exits)?;
+        self.room(10)?;
         let arp = Exits {
             yes: inner,
             ..exits
@@ -118,8 +149,6 @@ impl Code {
             Exits { no: rarp, ..arp },
         );
         let other = self.len();
-        let ip = self.seek_addresses(IP_ADDRESSES, sides, mask, spans, ways.ip_exits())?;
-        self.room(4)?;
         self.branch(
             Jump::Equal,
             Operand::Constant(IP),

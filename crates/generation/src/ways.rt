@@ -1,6 +1,7 @@
 //! Where the test of an expression goes on, by what is known of the packet.
 
 ghost use Rattle.std.specs.Prelude.{◌≡◌, ◌+◌, ◌≤◌, ◌⊎◌, length, None};
+ghost use Rattle.std.specs.Bool.{OnTrue};
 ghost use Rattle.generation.specs.Emission.{IsPlace, Extends};
 ghost use Rattle.generation.specs.Ways.{IsWay, AreWays, Renews, RenewsBoth};
 
@@ -96,6 +97,13 @@ impl Ways {
             yes: self.yes.other,
             no: self.no.other,
         }
+    }
+
+    /// Whether a packet of IPv4 goes on where one of another type does.
+    pub fn is_one_for_all_types(self) -> bool
+        ensures { OnTrue result ((self.yes.other ≡ self.yes.ip) × (self.no.other ≡ self.no.ip)) }
+    {
+        self.yes.other == self.yes.ip && self.no.other == self.no.ip
     }
 
     /// The exits for a packet of IPv4 of this protocol (`None` is any that has ports) that is no later fragment.
