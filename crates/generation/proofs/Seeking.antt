@@ -226,15 +226,20 @@ follows-sides {k} source destination spans others first is one some are third se
     are later begin))
 
 -- what is asked last and what stands in front of it
-pub asked-some : (s : Sides) (xs : List Span) → 2 ≤ length xs → 0 < length (asked_last s xs)
-asked-some Source xs many = omega (arith, many)
-asked-some Destination xs many = omega (arith, many)
-asked-some Either xs many = omega (arith, many, length-take (length xs - 1) xs)
+pub asked_some : (s : Sides) (xs : List Span) → 2 ≤ length xs → 0 < length (asked_last s xs)
+asked_some Source xs many = omega (arith, many)
+asked_some Destination xs many = omega (arith, many)
+asked_some Either xs many = omega (arith, many, length-take (length xs - 1) xs)
 
-pub asked-fits : (s : Sides) (xs : List Span) → 2 ≤ length xs → 7 * length (asked_last s xs) + asked_before_cost s (length xs) ≤ 14 * length xs + 6
-asked-fits Source xs many = omega (arith, many)
-asked-fits Destination xs many = omega (arith, many)
-asked-fits Either xs many = omega (arith, many, length-take (length xs - 1) xs)
+pub asked_least : (s : Sides) (n : ℕ) → 2 ≤ asked_before_cost s n
+asked_least Source n = omega arith
+asked_least Destination n = omega arith
+asked_least Either n = omega arith
+
+pub asked_fits : (s : Sides) (xs : List Span) → 2 ≤ length xs → 7 * length (asked_last s xs) + asked_before_cost s (length xs) ≤ 14 * length xs + 6
+asked_fits Source xs many = omega (arith, many)
+asked_fits Destination xs many = omega (arith, many)
+asked_fits Either xs many = omega (arith, many, length-take (length xs - 1) xs)
 
 -- the same of both fields in other words
 pub directed-same : (d : Direction) (s t s' t' : Test) (p : Packet) → s p ≡ s' p → t p ≡ t' p → by_direction d s t p ≡ by_direction d s' t' p

@@ -110,6 +110,7 @@ impl Code {
     /// Goes to an exit by whether the number at the spot of the source or of the destination is in one of these spans, where the
     /// code begins with what is asked last. The first member's source is asked for alone. Then the destination is loaded, and no
     /// load can fail any more: all members ask for it together, and then all others for the source.
+    #[tactic(auto, using(crate::proofs::Seeking::asked_least))]
     fn seek_before(
         &mut self,
         sides: Sides,
@@ -155,6 +156,7 @@ impl Code {
     }
 
     /// The same with what is asked last.
+    #[tactic(auto, using(crate::proofs::Seeking::asked_fits))]
     fn seek_sides(
         &mut self,
         sides: Sides,

@@ -4,7 +4,7 @@ ghost use Rattle.std.specs.Prelude.{◌≡◌, ℕ, ◌+◌, ◌*◌, ◌≤◌,
 ghost use Rattle.semantics.specs.Meaning.{check, byte, half, and_test, is_type, by_direction, within, has_any_ports};
 ghost use Rattle.analysis.specs.Lists.{any_of, direction_of, in_span, of_any_type, bytes_test, kind_test};
 ghost use Rattle.generation.specs.Listed.{among, asked_last, listed_cost, IsChoice};
-ghost use Rattle.generation.specs.Emission.{Extends, OrFull};
+ghost use Rattle.generation.specs.Emission.{AreExits, Extends, OrFull};
 ghost use Rattle.generation.specs.Ways.{AreWays, DecidesBy, DecidesBehind};
 
 use crate::among::Spot;
@@ -89,6 +89,7 @@ impl Code {
     }
 
     /// What a list asks last of another type than IPv4: what it asks of IPv4, which is there, if that leads on in the same way.
+    #[tactic(auto, using(crate::proofs::Seeking::asked_some))]
     fn among_last_of_others(
         &mut self,
         of_ip: usize,
@@ -97,7 +98,8 @@ impl Code {
         ways: Ways,
     ) -> Result<(), Full>
         requires many { 2 ≤ length spans.now }
-        requires ways { AreWays self.old ways }
+        requires ip { AreExits self.old (record { yes = ways.yes.ip; no = ways.no.ip }) }
+        requires other { AreExits self.old (record { yes = ways.yes.other; no = ways.no.other }) }
         requires there { IsChoice (λ r. among (asked_last sides spans.now) r.accumulator)
             (record { yes = ways.yes.ip; no = ways.no.ip }) of_ip self.old }
         ensures { OrFull (7 * length (asked_last sides spans.now)) self.old result (λ done.
@@ -108,14 +110,16 @@ impl Code {
         if ways.is_one_for_all_types() {
             self.room(1)?;
             self.near(of_ip, 0);
+            Ok(())
         } else {
             self.among_last(sides, spans, ways.other_exits())?;
+            Ok(())
         }
-        Ok(())
     }
 
     /// Hosts or nets of any protocol: three comparisons of one type. ARP and RARP have their addresses at the same places. What
     /// is asked last stands once for all types, where all go on in the same way; for IPv4 no jump leads there.
+    #[tactic(auto, using(crate::proofs::Seeking::asked_fits))]
     fn listed_any_nets(
         &mut self,
         sides: Sides,

@@ -1,7 +1,7 @@
 use Rattle.std.proofs.Common.{◌+◌, ◌*◌, length, arith}
 use Rattle.generation.specs.Listed.{among, asked_last}
 use Rattle.generation.proofs.Runs.{extends-more}
-use Rattle.generation.proofs.Seeking.{asked-some, choice-near}
+use Rattle.generation.proofs.Seeking.{asked_some, choice-near}
 use Rattle.generation.proofs.code.Code.among_last_of_others.Goals as goal
 
 pub returns-then-is_one_for_all_types : goal.returns-then-is_one_for_all_types
@@ -12,6 +12,6 @@ returns-then-is_one_for_all_types c =
     let same = c.if-is_one_for_all_types.ensures in
     let nears = c.near.ensures in
     rw (same.0, same.1) (
-      extends-more (7 * length last) (omega (arith, asked-some c.args.sides spans c.requires.many)) nears.extends,
-      choice-near (λ r. among last r.accumulator) (c.requires.ways.0.ip, c.requires.ways.1.ip) nears c.requires.there,
+      extends-more (7 * length last) (omega (arith, asked_some c.args.sides spans c.requires.many)) nears.extends,
+      choice-near (λ r. among last r.accumulator) c.requires.ip nears c.requires.there,
     )

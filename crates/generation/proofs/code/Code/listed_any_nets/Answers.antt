@@ -8,7 +8,7 @@ use Rattle.generation.proofs.Deciding.{decides-later}
 use Rattle.generation.proofs.Growing.{load-sound}
 use Rattle.generation.proofs.Leading.{decides-by-same, decides-by-more}
 use Rattle.generation.proofs.Runs.{extends-both, exits-kept}
-use Rattle.generation.proofs.Seeking.{asked-fits, choice-kept}
+use Rattle.generation.proofs.Seeking.{asked_fits, choice-kept}
 use Rattle.generation.proofs.Shared.{types-shared}
 use Rattle.generation.proofs.Nets.{decides-listed-nets}
 use Rattle.generation.proofs.code.Code.listed_any_nets.Goals as goal
@@ -32,7 +32,7 @@ returns c =
     let m = c.args.mask in
     let ways = c.requires.ways in
     let some : 0 < length spans = omega (arith, c.requires.many) in
-    let fits = asked-fits c.args.sides spans c.requires.many in
+    let fits = asked_fits c.args.sides spans c.requires.many in
     let t = λ (x : Span). by_direction d (in_span x m 26) (in_span x m 30) in
     let u = λ (x : Span). by_direction d (in_span x m 28) (in_span x m 38) in
     let last = c.in_ok-last.ensures in

@@ -4,14 +4,14 @@ use Rattle.semantics.specs.Meaning.{by_direction}
 use Rattle.analysis.specs.Lists.{any_of, direction_of}
 use Rattle.generation.specs.Listed.{found_at}
 use Rattle.generation.proofs.Following.{follows-later, follows-more}
-use Rattle.generation.proofs.Seeking.{asked-fits}
+use Rattle.generation.proofs.Seeking.{asked_fits}
 use Rattle.generation.proofs.code.Code.seek_sides.Goals as goal
 
 pub returns : goal.returns
 returns c =
     let spans = c.args.spans.now in
     let last = c.in_ok-among_last.ensures in
-    let fits = asked-fits c.args.sides spans c.requires.many in
+    let fits = asked_fits c.args.sides spans c.requires.many in
     let test = λ r. any_of (λ x. by_direction (direction_of c.args.sides) (found_at c.args.source r x) (found_at c.args.destination r x)) spans in
     MatchResult-weaker c.seek_before.result c.seek_before.ensures
     (λ entry done. (follows-more (14 * length spans + 6) test fits (follows-later test c.requires.exits last.0 done.0), done.1))
