@@ -1,5 +1,5 @@
 -- Code that asks whether a number is one of many.
-use Rattle.std.proofs.Common.{◌≡◌, ℕ, suc, ◌+◌, ◌-◌, ◌*◌, ◌<◌, ◌≤◌, Bool, true, false, List, [], ◌∷◌, ◌++◌, length, Option, Some, None, refl, sym, ap, ◌∙◌, arith, if◌then◌else◌, bit_and, option_map, take, get_or}
+use Rattle.std.proofs.Common.{◌≡◌, ℕ, suc, ◌+◌, ◌-◌, ◌*◌, ◌<◌, ◌≤◌, ◌⊎◌, inl, inr, Bool, true, false, List, [], ◌∷◌, ◌++◌, length, Option, Some, None, refl, sym, ap, ◌∙◌, arith, if◌then◌else◌, bit_and, option_map, take, get_or}
 use Rattle.std.proofs.lemmas.List.{take_more, length-append, length-take}
 use Rattle.bpfvm.specs.declared.insn.Insn.{Insn}
 use Rattle.bpfvm.specs.Codes.{Accumulator, Index}
@@ -226,6 +226,10 @@ follows-sides {k} source destination spans others first is one some are third se
     are later begin))
 
 -- what is asked last and what stands in front of it
+pub asked-one : (s : Sides) (xs : List Span) → (s ≡ Source) ⊎ (s ≡ Destination) → asked_last s xs ≡ xs
+asked-one s xs (inl is) = ap (λ x. asked_last x xs) is
+asked-one s xs (inr is) = ap (λ x. asked_last x xs) is
+
 pub asked_some : (s : Sides) (xs : List Span) → 2 ≤ length xs → 0 < length (asked_last s xs)
 asked_some Source xs many = omega (arith, many)
 asked_some Destination xs many = omega (arith, many)

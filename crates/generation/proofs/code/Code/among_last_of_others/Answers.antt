@@ -4,8 +4,8 @@ use Rattle.generation.proofs.Runs.{extends-more}
 use Rattle.generation.proofs.Seeking.{asked_some, choice-near}
 use Rattle.generation.proofs.code.Code.among_last_of_others.Goals as goal
 
-pub returns-then-is_one_for_all_types : goal.returns-then-is_one_for_all_types
-returns-then-is_one_for_all_types c =
+pub returns-in_ok-room : goal.returns-in_ok-room
+returns-in_ok-room c =
     let spans = c.args.spans.now in
     let ways = c.args.ways in
     let last = asked_last c.args.sides spans in
