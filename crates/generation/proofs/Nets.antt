@@ -16,7 +16,7 @@ use Rattle.generation.specs.Insns.{load_insn}
 use Rattle.generation.specs.Emission.{HasCells, run_from, AreExits, Answers, Extends, outcome, condition, Chooses, any_registers, Follows, Decides}
 use Rattle.generation.specs.Ways.{AreWays, DecidesBy}
 use Rattle.analysis.specs.Lists.{of_any_type}
-use Rattle.generation.proofs.Runs.{after, answer-first, answers-kept, extends-both, extends-more, extends-one, front-place, load-effect}
+use Rattle.generation.proofs.Runs.{after, answer-first, answers-kept, extends-both, extends-one, front-place, load-effect}
 use Rattle.generation.proofs.Deciding.{decides-kept, decides-later}
 use Rattle.generation.proofs.Following.{one_of, follows-no, follows-kept, follows-more, follows-decided, follows-chosen}
 use Rattle.generation.proofs.Leading.{place-kept, first-ip, decides-by-more}

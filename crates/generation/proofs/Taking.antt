@@ -5,10 +5,9 @@ use Rattle.analysis.specs.declared.lists.Chain.{Chain}
 use Rattle.analysis.specs.declared.lists.Chain.TheVariants as chains
 use Rattle.analysis.specs.declared.lists.Form.{Form}
 use Rattle.analysis.specs.declared.lists.Form.TheVariants as forms
-use Rattle.analysis.specs.declared.lists.Bytes.{Bytes}
 use Rattle.analysis.specs.declared.lists.Kind.{Kind}
 use Rattle.analysis.specs.declared.lists.Span.{Span}
-use Rattle.semantics.specs.Meaning.{Test, opposite, and_test, or_test, meaning}
+use Rattle.semantics.specs.Meaning.{Test, and_test, or_test, meaning}
 use Rattle.analysis.specs.Weights.{weight}
 use Rattle.std.specs.Option.{MatchOption}
 use Rattle.bpfvm.specs.declared.insn.Insn.{Insn}

@@ -1,4 +1,4 @@
-use Rattle.std.proofs.Common.{◌+◌, ◌*◌, length, arith}
+use Rattle.std.proofs.Common.{◌*◌, length, arith}
 use Rattle.generation.specs.Listed.{among, asked_last}
 use Rattle.generation.proofs.Runs.{extends-more}
 use Rattle.generation.proofs.Seeking.{asked_some, choice-near}

@@ -1,4 +1,4 @@
-use Rattle.std.proofs.Common.{◌+◌, ◌*◌, ◌<◌, length, arith}
+use Rattle.std.proofs.Common.{◌<◌, length, arith}
 use Rattle.generation.specs.declared.insns.Field.TheVariants as fields
 use Rattle.analysis.specs.declared.lists.Span.{Span}
 use Rattle.semantics.specs.Meaning.{by_direction}
