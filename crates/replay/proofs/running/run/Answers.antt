@@ -1,6 +1,9 @@
 use Rattle.std.proofs.Common.{length, arith, ap}
+use Rattle.std.specs.List.{AllZip}
+use Rattle.std.proofs.lemmas.Result.{IfOk-weaker}
 use Rattle.std.proofs.lemmas.Slice.Zip.{AllZip-long}
 use Rattle.replay.specs.Runs.{IsReadyFor, IsRunningOf}
+use Rattle.replay.specs.RunsEnded.{IsReportOf}
 use Rattle.replay.specs.Setups.{IsLaidFor}
 use Rattle.replay.proofs.Chained.{all-told, still-paired}
 use Rattle.replay.proofs.running.run.Goals as goal
@@ -36,5 +39,8 @@ report_all-requires-clause-room g c =
 
 pub returns-clause-replayed : goal.returns-clause-replayed
 returns-clause-replayed g c =
-    all-told g.S.Source.left g.S.Source.failures g.W.Sink.taken g.W.Sink.failures c.args.interfaces.items c.in_ok-links.field-0.laid.items c.in_ok-ready.ready.items
-    c.in_ok-running-2.running.items c.report_all.result.items c.in_ok-links.ensures.laid c.in_ok-ready.ensures.ready c.in_ok-running-2.ensures.running c.report_all.ensures
+    IfOk-weaker _ (λ told. AllZip (IsReportOf g.S.Source.left g.S.Source.failures g.W.Sink.taken g.W.Sink.failures) c.in_ok-running-2.running.items told.items) _
+        (λ told reported. all-told g.S.Source.left g.S.Source.failures g.W.Sink.taken g.W.Sink.failures c.args.interfaces.items c.in_ok-links.field-0.laid.items
+            c.in_ok-ready.ready.items c.in_ok-running-2.running.items told.items c.in_ok-links.ensures.laid c.in_ok-ready.ensures.ready
+            c.in_ok-running-2.ensures.running reported)
+        c.report_all.ensures.reports
