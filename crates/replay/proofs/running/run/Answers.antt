@@ -40,7 +40,7 @@ report_all-requires-clause-room g c =
 pub returns-clause-replayed : goal.returns-clause-replayed
 returns-clause-replayed g c =
     IfOk-weaker _ (λ told. AllZip (IsReportOf g.S.Source.left g.S.Source.failures g.W.Sink.taken g.W.Sink.failures) c.in_ok-running-2.running.items told.items) _
-        (λ told reported. all-told g.S.Source.left g.S.Source.failures g.W.Sink.taken g.W.Sink.failures c.args.interfaces.items c.in_ok-links.field-0.laid.items
-            c.in_ok-ready.ready.items c.in_ok-running-2.running.items told.items c.in_ok-links.ensures.laid c.in_ok-ready.ensures.ready
-            c.in_ok-running-2.ensures.running reported)
-        c.report_all.ensures.reports
+    (λ told reported. all-told g.S.Source.left g.S.Source.failures g.W.Sink.taken g.W.Sink.failures c.args.interfaces.items c.in_ok-links.field-0.laid.items
+    c.in_ok-ready.ready.items c.in_ok-running-2.running.items told.items c.in_ok-links.ensures.laid c.in_ok-ready.ensures.ready
+    c.in_ok-running-2.ensures.running reported)
+    c.report_all.ensures.reports
