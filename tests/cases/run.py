@@ -317,7 +317,7 @@ def a_replay_ends_on_one_processor(scene):
         f"0 {out} {96 + out} {160 + out}{'i' * (out % 2)} {1 + out % 3} {out}.pcap\n" for out in range(6))})
     one = {min(os.sched_getaffinity(0))}
     line = re.compile(r"interface 0 listener \d received 759 matched 759 dropped (\d+) written (\d+) Clean")
-    for _ in range(20):
+    for _ in range(200):
         done = subprocess.run(
             [PROGRAM, "run", "listeners.txt", *["veth.pcap"] * 3], cwd=scene.folder, stdin=subprocess.DEVNULL, capture_output=True,
             text=True, timeout=LIMIT, preexec_fn=lambda: os.sched_setaffinity(0, one))
