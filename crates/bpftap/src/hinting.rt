@@ -2,7 +2,6 @@
 
 ghost use Rattle.std.specs.Prelude.{◌≤◌, IfErr};
 
-use crate::tally::Output;
 use bpfvm::{ListingFault, Program};
 use cutting::check::PrintFault;
 use cutting::cut::{CutEnd, End};
@@ -23,6 +22,7 @@ use listener::OpenFault;
 use replay::{InterfaceEnd, InterfaceReport, ListenerReport, MOST_SPARES, RunFault, TaskEnd};
 use running::listeners::read_run_lines;
 use running::plan::PlanFault;
+use running::tally::Output;
 use savefile::{Counted, Fault};
 use std::alloc::Global;
 use std::io;

@@ -10,9 +10,6 @@ mod program;
 mod run_files;
 mod split_files;
 mod steps_files;
-#[cfg(test)]
-mod system_tests;
-mod tally;
 
 use hints::ErrorStream;
 use lines::telling::tell_words;

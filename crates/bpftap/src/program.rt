@@ -20,7 +20,6 @@ use files::reading::tell_io;
 use files::retried::Retried;
 use hints::quotes::hint_unquoted;
 use hints::{Noted, TakesHints};
-use lines::telling::{REFUSED, tell_fault, tell_written};
 use savefile::{Counted, Fault};
 use std::alloc::Global;
 use std::convert::AsStr;
@@ -30,6 +29,7 @@ use std::io::{BufWriter, Write};
 use std::sync::Wait;
 use std::thread::Threads;
 use words::command_line::{CutWords, Request, read_words};
+use words::telling::tell_words_fault;
 
 /// How many bytes of output are gathered before they are written.
 const OUTPUT_BUFFER: usize = 1 << 18;
@@ -61,7 +61,7 @@ pub fn run<
     }
 }
 
-/// Help goes to `out` with status 0, what is wrong with the words to `err` with status 1.
+/// Tells what is wrong with the words, or help, and answers the exit status.
 fn tell_clap<S: AsStr, O: Write, E: TakesHints>(
     alloc: Global,
     words: &[S],
@@ -71,17 +71,11 @@ fn tell_clap<S: AsStr, O: Write, E: TakesHints>(
 ) -> u8
     ensures { result ≤ 3 }
 {
-    if error.kind() == ErrorKind::OutOfMemory {
-        tell_fault(Fault::NoMemory, REFUSED, err)
-    } else if error.use_stderr() {
-        let _ = write!(err, "{error}");
-        if error.kind() == ErrorKind::UnknownArgument {
-            hint_unquoted(alloc, words, err);
-        }
-        REFUSED
-    } else {
-        tell_written(write!(out, "{error}"), err)
+    let status = tell_words_fault(error, out, err);
+    if error.kind() == ErrorKind::UnknownArgument {
+        hint_unquoted(alloc, words, err);
     }
+    status
 }
 
 /// The filter that the words give: a listing's file is read, unless there is an expression too.
@@ -158,40 +152,4 @@ fn flushed<R, W: Write>(mut end: CutEnd<R, Counted<W>>) -> CutEnd<R, Counted<W>>
         end.end = End::Output(Fault::Device);
     }
     end
-}
-
-#[cfg(test)]
-mod tests {
-    use super::*;
-    use std::alloc::AllocError;
-    use std::io;
-
-    #[test]
-    fn want_of_memory_is_told_by_its_name(rt: HostRuntime) {
-        let mut out: Vec<u8> = Vec::new(rt.alloc());
-        let mut err: Vec<u8> = Vec::new(rt.alloc());
-        let refused = io::Error::from(io::ErrorKind::OutOfMemory);
-        assert_eq!(rt; tell_io(&refused, "in.pcap", &mut err), 1);
-        let (words, wanting) = (["bpftap"], Error::from(AllocError));
-        assert_eq!(rt;
-            tell_clap(rt.alloc(), &words, &wanting, &mut out, &mut err),
-            1
-        );
-        assert_eq!(rt;
-            err.as_slice(),
-            b"bpftap: NoMemory\nbpftap: NoMemory\n".as_slice()
-        );
-        assert!(rt; out.is_empty());
-    }
-
-    #[test]
-    fn control_characters_of_a_path_are_escaped(rt: HostRuntime) {
-        let mut err: Vec<u8> = Vec::new(rt.alloc());
-        let gone = io::Error::from(io::ErrorKind::NotFound);
-        assert_eq!(rt; tell_io(&gone, "a\n\u{1b}[1mé b", &mut err), 3);
-        assert_eq!(rt;
-            err.as_slice(),
-            "bpftap: Device a\\n\\u{1b}[1mé b\n".as_bytes()
-        );
-    }
 }

@@ -3,7 +3,6 @@
 ghost use Rattle.std.specs.Prelude.{◌≡◌, ◌<◌, ◌≤◌, All, IfErr, IfOk, MatchResult, length, vec_len};
 
 use crate::hinting::{NotedInput, hint_plan, hint_printed, hint_run, hint_unopened};
-use crate::tally::{Output, Tallied, flush_all};
 use files::late::{LateFile, LateInput};
 use files::paths::{STANDARD_OUTPUT, all_apart};
 use files::reading::read_file;
@@ -13,6 +12,7 @@ use replay::RunFault;
 use running::plan::{Plan, read_plan};
 use running::reports::tell_run;
 use running::run::replay_plan;
+use running::tally::{Output, Tallied, flush_all};
 use savefile::{Counted, Fault};
 use std::alloc::{AllocError, Global};
 use std::fs::Files;

@@ -27,14 +27,14 @@ const NO_ACCESS: i32 = 13;
 
 /// What tells a file or a folder from each other one of the system.
 #[derive(Clone, Copy, Debug, PartialEq, Eq, PartialOrd, Ord)]
-struct FileId {
-    device: u64,
-    inode: u64,
+pub struct FileId {
+    pub device: u64,
+    pub inode: u64,
 }
 
 /// Where a path leads.
 #[derive(Debug, Drop, PartialEq, Eq, PartialOrd, Ord)]
-enum Target {
+pub enum Target {
     /// A regular file or a fifo that is there.
     File(FileId),
     /// A file that is not there yet: the folder that it would be made in, and its name.
@@ -143,7 +143,7 @@ fn in_folder<R: Files + AllocGlobal>(rt: &R, path: &str) -> io::Result<Option<Ta
 
 /// Where a path leads; nothing where no file stands or can be made, and at a device or a folder, which lose nothing. An error
 /// says that the system does not tell.
-fn target_of<R: Files + AllocGlobal>(rt: &R, path: &str) -> io::Result<Option<Target>> {
+pub fn target_of<R: Files + AllocGlobal>(rt: &R, path: &str) -> io::Result<Option<Target>> {
     match standing(rt, path)? {
         Some(metadata) => {
             let is_lost = metadata.is_file() || metadata.file_type().is_fifo();
@@ -274,6 +274,3 @@ pub fn all_apart<R: Files + AllocGlobal, E: TakesHints>(
         Err(fault) => Err(tell_path(&fault, err)),
     }
 }
-
-#[cfg(test)]
-mod tests;

@@ -1,9 +1,13 @@
 -- The fields of a line.
-use Rattle.std.specs.Prelude.{◌≡◌, ℕ, ◌-◌, ◌^◌, List, ◌++◌, codes}
-use Rattle.bpfvm.specs.Listing.{IsNumber}
+use Rattle.std.specs.Prelude.{◌≡◌, ◌≢◌, ℕ, ◌-◌, ◌^◌, List, ◌++◌, codes, All}
+use Rattle.bpfvm.specs.Listing.{space, IsNumber}
 use Rattle.listener.specs.declared.mode.Mode.{Mode}
 use Rattle.listener.specs.declared.mode.Mode.TheVariants.{Buffered, Immediate}
 use Rattle.lines.specs.Snapshot.{meant}
+
+-- a text without a space
+abbrev pub IsWord : List ℕ → Type 0
+IsWord text = All (λ byte. byte ≢ space) text
 
 -- a decimal number up to 262,144, where 0 stands for the largest
 abbrev pub IsSnap : List ℕ → ℕ → Type 0

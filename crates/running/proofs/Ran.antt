@@ -1,18 +1,16 @@
 -- What a replay of lines hands back.
 use denote.Ref.{Bor}
-use Rattle.std.proofs.Common.{◌≡◌, ◌+◌, ◌<◌, ℕ, List, [], ◌∷◌, ◌++◌, All, Option, Some, get_or, length, map, slice_get, take, refl, ap, sym, subst, ◌∙◌, arith, zero, suc, inr, Result, Ok, Err, IfOk, IfErr, OnOk}
+use Rattle.std.proofs.Common.{◌≡◌, ◌+◌, ◌<◌, ℕ, List, [], ◌∷◌, ◌++◌, All, Option, Some, get_or, length, slice_get, take, refl, ap, sym, subst, ◌∙◌, arith, zero, suc, inr, Result, Ok, Err, IfOk, IfErr, OnOk}
 use Rattle.std.specs.List.{AllZip}
 use Rattle.std.specs.declared.alloc.Global.{Global}
 use Rattle.std.specs.declared.vec.Vec.{Vec}
 use Rattle.std.proofs.lemmas.List.{take_more}
 use Rattle.std.proofs.lemmas.List.Elements.{All-nil, All-cons, All-take, All-map, All-same}
-use Rattle.std.proofs.lemmas.Option.{slice_get_within, slice_get-get_or, get_or_from_slice_get}
 use Rattle.bpfvm.specs.declared.insn.Insn.{Insn}
 use Rattle.lines.specs.Files.{Say}
 use Rattle.replay.specs.Replayed.{IsReplayed, IsServed}
 use Rattle.replay.specs.declared.report.InterfaceReport.{InterfaceReport}
 use Rattle.replay.specs.declared.task.Interface.{Interface}
-use Rattle.replay.specs.declared.task.Task.{Task}
 use Rattle.running.specs.declared.listeners.RunLine.{RunLine}
 use Rattle.running.specs.Bare.{HaveTheirListeners}
 use Rattle.replay.specs.Refusals.{IsFirst, NoneStands}

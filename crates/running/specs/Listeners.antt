@@ -1,16 +1,12 @@
 -- The file LISTENERS.
-use Rattle.std.specs.Prelude.{◌≡◌, ◌≢◌, ℕ, ◌+◌, ◌-◌, ◌^◌, ◌<◌, ◌⊎◌, List, [], ◌∷◌, ◌++◌, length, take, All, Any, AllPairs}
+use Rattle.std.specs.Prelude.{◌≡◌, ◌≢◌, ℕ, ◌+◌, ◌-◌, ◌^◌, ◌<◌, ◌⊎◌, List, [], ◌∷◌, ◌++◌, length, take, Any, AllPairs}
 use Rattle.std.specs.Str.{IsUtf8}
 use Rattle.bpfvm.specs.Listing.{space, IsNumber, further_lines}
 use Rattle.lines.specs.declared.fault.LineFault.{LineFault}
 use Rattle.lines.specs.declared.fault.LineFault.TheVariants.{Listeners, Script, NoMemory}
-use Rattle.lines.specs.Fields.{IsSnap, IsCapacity}
+use Rattle.lines.specs.Fields.{IsWord, IsSnap, IsCapacity}
 use Rattle.lines.specs.Files.{Say, IsFileOf}
 use Rattle.running.specs.declared.listeners.RunLine.{RunLine}
-
--- a text without a space
-abbrev pub IsWord : List ℕ → Type 0
-IsWord text = All (λ byte. byte ≢ space) text
 
 -- INTERFACE, FLUSH, SNAP, CAPACITY and SPARES, each with one space behind it, and the rest, which is OUT, a space and EXPRESSION.
 -- Where EXPRESSION is empty the space before it may be missing. EXPRESSION alone may have spaces.

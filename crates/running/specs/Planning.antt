@@ -9,7 +9,6 @@ use Rattle.filtergen.specs.declared.expression.ExpressionFault.TheVariants.{Text
 use Rattle.generation.specs.declared.refusal.Refusal.{Refusal}
 use Rattle.generation.specs.declared.refusal.Refusal.TheVariants as uncompiled
 use Rattle.filtergen.specs.Expressions.{IsProgramOf, IsUncompiled}
-use Rattle.lines.specs.declared.fault.LineFault.{LineFault}
 use Rattle.lines.specs.declared.fault.LineFault.TheVariants as line
 use Rattle.running.specs.declared.listeners.RunLine.{RunLine}
 use Rattle.running.specs.declared.plan.PlanFault.{PlanFault}

@@ -6,3 +6,4 @@ pub mod listeners;
 pub mod plan;
 pub mod reports;
 pub mod run;
+pub mod tally;

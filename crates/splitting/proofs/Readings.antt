@@ -14,7 +14,7 @@ use Rattle.splitting.specs.declared.split.Stop.{Stop}
 use Rattle.splitting.specs.declared.split.Stop.TheVariants.{AtHeader, AtRecord}
 use Rattle.std.specs.Result.{is_err}
 use Rattle.splitting.specs.Splitting.{passes_header}
-use Rattle.splitting.specs.Reading.{EndsSo, GaveSo, HasOpened, Reads, ReadsAll, ReadsSoFar, end_of}
+use Rattle.splitting.specs.Reading.{EndsSo, GaveSo, HasOpened, ReadsOne, ReadsAll, ReadsSoFar, end_of}
 
 -- more bytes were taken
 pub takes-more : (a b c : Option (List ℕ)) → (bytes : List ℕ) × Consumes a b bytes → (bytes : List ℕ) × Consumes b c bytes → (bytes : List ℕ) × Consumes a c bytes
@@ -74,9 +74,9 @@ module _ {R : Type 0} (left : R → Option (List ℕ)) (failures : R → ℕ) wh
   -- a capture whose header was read
   pub reads-opened : (from to behind : R) (reader : Reader R) (total n : ℕ) (packets : List Packet) (given : Result (Unit {0}) Fault) → (o : HasOpened left failures from reader) →
       to ≡ behind → (bytes : List ℕ) × Consumes (left reader.source) (left behind) bytes → GaveSo (left from) (left behind) o.header total packets given →
-      ((given ≡ Err Device) ↔ (failures behind ≢ failures reader.source)) → Reads left failures from to total n packets (end_of n given)
+      ((given ≡ Err Device) ↔ (failures behind ≢ failures reader.source)) → ReadsOne left failures from to total n packets (end_of n given)
   reads-opened from to behind reader total n packets given o is (bytes, took) gave broke =
-      subst (λ t. Reads left failures from t total n packets (end_of n given)) (sym is)
+      subst (λ t. ReadsOne left failures from t total n packets (end_of n given)) (sym is)
       (let (text, told, given', gone, ends) = gone-so from behind o.header total n packets given (o.bytes ++ bytes) (Consumes-trans _ _ _ o.bytes bytes o.took took) gave in record {
         text = text;
         told = told;
@@ -92,7 +92,7 @@ module _ {R : Type 0} (left : R → Option (List ℕ)) (failures : R → ℕ) wh
   -- a capture whose header was not read
   pub reads-unopened : (from back : R) (total n : ℕ) (fault : Fault) → WasRefused (left from) fault ⊎ (fault ≡ Device) ⊎ (fault ≡ NoMemory) →
       (given : List ℕ) × Consumes (left from) (left back) given × (fault ≡ Device → length given < 24) → ((fault ≡ Device) ↔ (failures back ≢ failures from)) →
-      Reads left failures from back total n [] (Err (AtHeader n fault))
+      ReadsOne left failures from back total n [] (Err (AtHeader n fault))
   reads-unopened from back total n fault why (given, gave, short) broke =
       let (text, told, ends) = unread why in record {
         text = text;
@@ -114,19 +114,19 @@ module _ {R : Type 0} (left : R → Option (List ℕ)) (failures : R → ℕ) wh
       at-header end is (inr e) = absurd (cc)
 
   -- a capture that was read whole is one of any number in all
-  any-total : (from to : R) (total other n : ℕ) (packets : List Packet) (done : Unit {0}) → Reads left failures from to total n packets (Ok done) → Reads left failures from to other n packets (Ok done)
+  any-total : (from to : R) (total other n : ℕ) (packets : List Packet) (done : Unit {0}) → ReadsOne left failures from to total n packets (Ok done) → ReadsOne left failures from to other n packets (Ok done)
   any-total from to total other n packets done r = record { text = r.text; told = r.told; given = r.given; gave = r.gave; ends = r.ends; broke = r.broke }
 
   -- the first capture was read
-  pub first-read : (s t : R) (total : ℕ) (rest : List R) (packets : List Packet) (end : Result (Unit {0}) Stop) → Reads left failures s t total 0 packets end → total ≡ length packets →
+  pub first-read : (s t : R) (total : ℕ) (rest : List R) (packets : List Packet) (end : Result (Unit {0}) Stop) → ReadsOne left failures s t total 0 packets end → total ≡ length packets →
       ReadsSoFar left failures (s ∷ rest) (t ∷ []) 1 rest packets end
   first-read s t total rest packets (Ok done) r many = λ all others more end reads. (packets, more, refl, inl (any-total s t total all 0 packets done r, reads))
   first-read s t total rest packets (Err stop) r many =
-      (packets, [], sym (append-nil packets), inr (stop, refl, subst (λ k. Reads left failures s t k 0 packets (Err stop)) many r, refl, refl))
+      (packets, [], sym (append-nil packets), inr (stop, refl, subst (λ k. ReadsOne left failures s t k 0 packets (Err stop)) many r, refl, refl))
 
   -- one capture more was read whole
   one-whole : (all sources : List R) (n total : ℕ) (s t : R) (rest : List R) (packets these : List Packet) (done done' : Unit {0})
-      → ReadsSoFar left failures all sources n (s ∷ rest) packets (Ok done) → Reads left failures s t total n these (Ok done')
+      → ReadsSoFar left failures all sources n (s ∷ rest) packets (Ok done) → ReadsOne left failures s t total n these (Ok done')
       → ReadsSoFar left failures all (sources ++ t ∷ []) (n + 1) rest (packets ++ these) (Ok done')
   one-whole all sources n total s t rest packets these done done' so r = λ whole others more end reads.
       subst (λ ts. ReadsAll left failures whole 0 all ts ((packets ++ these) ++ more) end) (sym (append_assoc sources (t ∷ []) others))
@@ -135,16 +135,16 @@ module _ {R : Type 0} (left : R → Option (List ℕ)) (failures : R → ℕ) wh
 
   -- one capture more was read, and ended the reading
   one-ending : (all sources : List R) (n total : ℕ) (s t : R) (rest : List R) (packets these : List Packet) (done : Unit {0}) (stop : Stop)
-      → ReadsSoFar left failures all sources n (s ∷ rest) packets (Ok done) → Reads left failures s t total n these (Err stop) → total ≡ length (packets ++ these)
+      → ReadsSoFar left failures all sources n (s ∷ rest) packets (Ok done) → ReadsOne left failures s t total n these (Err stop) → total ≡ length (packets ++ these)
       → ReadsSoFar left failures all (sources ++ t ∷ []) (n + 1) rest (packets ++ these) (Err stop)
   one-ending all sources n total s t rest packets these done stop so r many =
       subst (λ ts. ReadsAll left failures (length (packets ++ these)) 0 all ts (packets ++ these) (Err stop)) (sym (append_assoc sources (t ∷ []) rest))
       (so (length (packets ++ these)) (t ∷ rest) these (Err stop)
-      (these, [], sym (append-nil these), inr (stop, refl, subst (λ k. Reads left failures s t k n these (Err stop)) many r, refl, refl)))
+      (these, [], sym (append-nil these), inr (stop, refl, subst (λ k. ReadsOne left failures s t k n these (Err stop)) many r, refl, refl)))
 
   -- one capture more was read
   pub one-more : (all sources : List R) (n total : ℕ) (s t : R) (rest : List R) (packets these : List Packet) (done : Unit {0}) (end : Result (Unit {0}) Stop)
-      → ReadsSoFar left failures all sources n (s ∷ rest) packets (Ok done) → Reads left failures s t total n these end → total ≡ length (packets ++ these)
+      → ReadsSoFar left failures all sources n (s ∷ rest) packets (Ok done) → ReadsOne left failures s t total n these end → total ≡ length (packets ++ these)
       → ReadsSoFar left failures all (sources ++ t ∷ []) (n + 1) rest (packets ++ these) end
   one-more all sources n total s t rest packets these done (Ok done') so r many = one-whole all sources n total s t rest packets these done done' so r
   one-more all sources n total s t rest packets these done (Err stop) so r many = one-ending all sources n total s t rest packets these done stop so r many

@@ -12,7 +12,7 @@ use Rattle.splitting.specs.declared.part.PartEnd.{PartEnd}
 use Rattle.splitting.specs.declared.split.SplitEnd.{SplitEnd}
 use Rattle.splitting.specs.declared.split.Stop.{Stop}
 use Rattle.splitting.specs.declared.split.Stop.TheVariants.{AtHeader}
-use Rattle.splitting.specs.Reading.{Reads, ReadsAll}
+use Rattle.splitting.specs.Reading.{ReadsOne, ReadsAll}
 use Rattle.splitting.specs.Splitting.{Splits, WritesAll, passes_header}
 use Rattle.splitting.specs.Writing.{IsLeft, IsWritten}
 
@@ -38,7 +38,7 @@ module _ {R W : Type 0} (left : R → Option (List ℕ)) (broken : R → ℕ) (t
       (record { packets = []; reads = subst (λ ts. ReadsAll left broken 0 0 [] ts [] (Ok tt)) (sym back) (refl, refl); writes = each })
 
   -- the header of the first one was not read
-  pub unread-first : (s t : R) (rest : List R) (fault : Fault) → captures ≡ s ∷ rest → sources.items ≡ t ∷ rest → Reads left broken s t 0 0 [] (Err (AtHeader zero fault))
+  pub unread-first : (s t : R) (rest : List R) (fault : Fault) → captures ≡ s ∷ rest → sources.items ≡ t ∷ rest → ReadsOne left broken s t 0 0 [] (Err (AtHeader zero fault))
       → AllZip IsLeft parts ends.items → Splits left broken taken failures captures parts order unit (ending (Err (AtHeader zero fault)))
   unread-first s t rest fault some back r each = subst (λ cs. Splits left broken taken failures cs parts order unit (ending (Err (AtHeader zero fault)))) (sym some)
       (record {

@@ -21,7 +21,7 @@ use Rattle.lines.specs.Snapshot.{meant}
 use Rattle.splitting.specs.declared.part.Outlet.{Outlet}
 use Rattle.splitting.specs.declared.part.Part.{Part}
 use Rattle.splitting.specs.declared.part.PartEnd.{PartEnd}
-use Rattle.splitting.specs.Standing.{Stands}
+use Rattle.splitting.specs.Standing.{HasTaken}
 use Rattle.splitting.specs.Writing.{IsSent, IsWritten}
 
 -- what the law of the growing text says
@@ -45,7 +45,7 @@ pub stands-begun : {W : Type 0} (taken : W → Option (List ℕ)) (failures : W 
     outlet.program ≡ part.program → outlet.snap ≡ n → n ≡ meant part.snap → outlet.tally.read ≡ 0 → outlet.tally.written ≡ 0 →
     OnOk outlet.written (HasWritten taken (taken part.sink) order unit n [] outlet.writer) →
     OnErr outlet.written (HasWrittenPart taken (taken part.sink) order unit n [] outlet.writer) → IfErr outlet.written (λ why. why ≡ Device) →
-    ((outlet.written ≡ Err Device) ↔ (failures outlet.writer.sink ≢ failures part.sink)) → Stands taken failures order unit [] part outlet
+    ((outlet.written ≡ Err Device) ↔ (failures outlet.writer.sink ≢ failures part.sink)) → HasTaken taken failures order unit [] part outlet
 stands-begun taken failures order unit part outlet n program snap means read written ok err only broke = record {
   program = program;
   snap = snap ∙ means;
@@ -60,13 +60,13 @@ stands-begun taken failures order unit part outlet n program snap means read wri
 
 -- a part that has failed stands behind one packet more as it did
 pub stands-failed : {W : Type 0} (taken : W → Option (List ℕ)) (failures : W → ℕ) (order : Order) (unit : TimeUnit) (packets : List Packet) (part : Part W) (outlet : Outlet W) (p : Packet) →
-    Growing → is_err outlet.written ≡ true → Stands taken failures order unit packets part outlet → Stands taken failures order unit (packets ++ p ∷ []) part outlet
+    Growing → is_err outlet.written ≡ true → HasTaken taken failures order unit packets part outlet → HasTaken taken failures order unit (packets ++ p ∷ []) part outlet
 stands-failed taken failures order unit packets part outlet p growing failed stands = by_result outlet.written refl
   where
     snap : ℕ
     snap = meant part.snap
 
-    by_result : (result : Result (Unit {0}) Fault) → outlet.written ≡ result → Stands taken failures order unit (packets ++ p ∷ []) part outlet
+    by_result : (result : Result (Unit {0}) Fault) → outlet.written ≡ result → HasTaken taken failures order unit (packets ++ p ∷ []) part outlet
     by_result (Ok done) is = let sound : is_err outlet.written ≡ false = ap is_err is in let wrong : true ≡ false = sym failed ∙ sound in absurd cc
     by_result (Err fault) is = record {
       program = stands.program;
@@ -102,10 +102,10 @@ pub stands-more : {W : Type 0} (taken : W → Option (List ℕ)) (failures : W �
     ((start : Option (List ℕ)) (order : Order) (unit : TimeUnit) (head : ℕ) (before : List Packet) → HasWritten taken start order unit head before old.writer →
     Wrote taken start order unit head (before ++ accepted old.program old.snap (p ∷ [])) new.written new.writer) →
     ((new.written ≡ Err Device) ↔ (failures new.writer.sink ≢ failures old.writer.sink)) →
-    Stands taken failures order unit packets part old → Stands taken failures order unit (packets ++ p ∷ []) part new
+    HasTaken taken failures order unit packets part old → HasTaken taken failures order unit (packets ++ p ∷ []) part new
 stands-more taken failures order unit packets part old new p works program snap tally writes broke stands = by_result old.written refl
   where
-    by_result : (result : Result (Unit {0}) Fault) → old.written ≡ result → Stands taken failures order unit (packets ++ p ∷ []) part new
+    by_result : (result : Result (Unit {0}) Fault) → old.written ≡ result → HasTaken taken failures order unit (packets ++ p ∷ []) part new
     by_result (Err fault) is = let failed : is_err old.written ≡ true = ap is_err is in let wrong : true ≡ false = sym failed ∙ works in absurd cc
     by_result (Ok done) is =
         let n = meant part.snap in
@@ -130,7 +130,7 @@ stands-more taken failures order unit packets part old new p works program snap 
 -- a part that was ended
 pub written-of : {W : Type 0} (taken : W → Option (List ℕ)) (failures : W → ℕ) (order : Order) (unit : TimeUnit) (packets : List Packet) (part : Part W) (outlet : Outlet W) (end : PartEnd W) →
     end.sink ≡ outlet.writer.sink → end.sent ≡ outlet.writer.sent → end.tally ≡ outlet.tally → end.written ≡ outlet.written →
-    Stands taken failures order unit packets part outlet → IsWritten taken failures order unit packets part end
+    HasTaken taken failures order unit packets part outlet → IsWritten taken failures order unit packets part end
 unfolding cut_text
 written-of taken failures order unit packets part outlet end sink sent tally written stands = by_result end.written refl
   where

@@ -8,7 +8,7 @@ use Rattle.splitting.specs.declared.part.Part.{Part}
 use Rattle.splitting.specs.declared.split.Splitter.{Splitter}
 use Rattle.splitting.specs.declared.split.Stop.{Stop}
 use Rattle.splitting.specs.declared.split.Stop.TheVariants.{AtHeader, AtRecord}
-use Rattle.splitting.specs.Reading.{EndsSo, Reads, ReadsSoFar}
+use Rattle.splitting.specs.Reading.{EndsSo, ReadsOne, ReadsSoFar}
 use Rattle.splitting.specs.Splitting.{passes_header}
 use Rattle.splitting.specs.Standing.{GoesOn, HasParts, HasSplit}
 use Rattle.splitting.proofs.Readings.{one-more, one-unread}
@@ -17,7 +17,7 @@ module _ {R W : Type 0} (left : R → Option (List ℕ)) (broken : R → ℕ) (t
   -- the n-th capture was read, where none before has ended the reading
   abbrev pub IsNext : R → R → ℕ → Splitter W → Splitter W → Result (Unit {0}) Stop → Result (Unit {0}) Stop → Type 0
   IsNext s t n old new end ended =
-      OnOk end ((these : List Packet) × Reads left broken s t new.read n these ended × GoesOn taken failures these old new)
+      OnOk end ((these : List Packet) × ReadsOne left broken s t new.read n these ended × GoesOn taken failures these old new)
       × OnErr end ((t ≡ s) × (ended ≡ end) × (new ≡ old))
 
   -- the parts go on
@@ -42,7 +42,7 @@ module _ {R W : Type 0} (left : R → Option (List ℕ)) (broken : R → ℕ) (t
             (subst (λ ts. ReadsSoFar left broken all ts (length sources + 1) rest' ((packets ++ more) ++ these) ended) (sym given)
             (one-more left broken all sources (length sources) new.read s t rest' (packets ++ more) these done ended
             (subst (λ xs. ReadsSoFar left broken all sources (length sources) xs (packets ++ more) (Ok done)) taken-out so)
-            (subst (λ k. Reads left broken s t new.read k these ended) here next.0.1) now.0))),
+            (subst (λ k. ReadsOne left broken s t new.read k these ended) here next.0.1) now.0))),
       )
   reads-on order unit packets more parts all sources sources' s t rest rest' n old new (Err stop) ended has so taken-out given here next = (
     more,

@@ -1,17 +1,13 @@
 -- The file LINES.
-use Rattle.std.specs.Prelude.{◌≡◌, ◌≢◌, ℕ, ◌+◌, ◌⊎◌, List, [], ◌∷◌, ◌++◌, length, All, Any, AllPairs}
+use Rattle.std.specs.Prelude.{◌≡◌, ◌≢◌, ℕ, ◌+◌, ◌⊎◌, List, [], ◌∷◌, ◌++◌, length, Any, AllPairs}
 use Rattle.std.specs.Str.{IsUtf8}
 use Rattle.bpfvm.specs.Listing.{space, further_lines}
 use Rattle.filtergen.specs.declared.expression.ExpressionFault.{ExpressionFault}
-use Rattle.lines.specs.Fields.{IsSnap}
+use Rattle.lines.specs.Fields.{IsWord, IsSnap}
 use Rattle.lines.specs.Files.{Say, IsFileOf}
 use Rattle.splitting.specs.declared.outputs.SplitLine.{SplitLine}
 use Rattle.splitting.specs.declared.plan.PlanFault.{PlanFault}
 use Rattle.splitting.specs.declared.plan.PlanFault.TheVariants.{Line, Expression, NoMemory}
-
--- a text without a space
-abbrev pub IsWord : List ℕ → Type 0
-IsWord text = All (λ byte. byte ≢ space) text
 
 -- SNAP with one space behind it, and the rest, which is OUT, a space and EXPRESSION. Where EXPRESSION is empty the space before it may
 -- be missing. EXPRESSION alone may have spaces.

@@ -28,7 +28,7 @@ EndsSo text given total n packets (Err (AtRecord m fault)) =
 
 -- The n-th capture was read, whose source was `from` and is `to`: the text that it had left, and what it gave of that. A fault of
 -- the device is told exactly where it failed.
-pub record Reads {R : Type 0} (left : R → Option (List ℕ)) (failures : R → ℕ) (from to : R) (total n : ℕ) (packets : List Packet) (end : Result (Unit {0}) Stop) : Type 0 where
+pub record ReadsOne {R : Type 0} (left : R → Option (List ℕ)) (failures : R → ℕ) (from to : R) (total n : ℕ) (packets : List Packet) (end : Result (Unit {0}) Stop) : Type 0 where
   pub text : List ℕ
   pub told : IfSome (left from) (λ bytes. bytes ≡ text)
   pub given : List ℕ
@@ -44,8 +44,8 @@ ReadsAll left failures total n [] (t ∷ ts) packets end = ⊥
 ReadsAll left failures total n (s ∷ ss) [] packets end = ⊥
 ReadsAll left failures total n (s ∷ ss) (t ∷ ts) packets end =
     (these : List Packet) × (more : List Packet) × (packets ≡ these ++ more)
-    × ((Reads left failures s t total n these (Ok tt) × ReadsAll left failures total (n + 1) ss ts more end)
-    ⊎ ((stop : Stop) × (end ≡ Err stop) × Reads left failures s t total n these end × (more ≡ []) × (ts ≡ ss)))
+    × ((ReadsOne left failures s t total n these (Ok tt) × ReadsAll left failures total (n + 1) ss ts more end)
+    ⊎ ((stop : Stop) × (end ≡ Err stop) × ReadsOne left failures s t total n these end × (more ≡ []) × (ts ≡ ss)))
 
 -- How a reader that has given these packets came to an end, with `left` left in its source.
 abbrev pub GaveSo : Option (List ℕ) → Option (List ℕ) → Header → ℕ → List Packet → Result (Unit {0}) Fault → Type 0

@@ -16,7 +16,7 @@ use Rattle.splitting.specs.declared.split.Splitter.{Splitter}
 use Rattle.splitting.specs.Writing.{IsWritten}
 
 -- Its writer wrote what it accepts of them, or failed at that, and it counted them.
-pub record Stands {W : Type 0} (taken : W → Option (List ℕ)) (failures : W → ℕ) (order : Order) (unit : TimeUnit) (packets : List Packet) (part : Part W) (outlet : Outlet W) : Type 0 where
+pub record HasTaken {W : Type 0} (taken : W → Option (List ℕ)) (failures : W → ℕ) (order : Order) (unit : TimeUnit) (packets : List Packet) (part : Part W) (outlet : Outlet W) : Type 0 where
   pub program : outlet.program ≡ part.program
   pub snap : outlet.snap ≡ meant part.snap
   pub wrote : Wrote taken (taken part.sink) order unit (meant part.snap) (accepted part.program (meant part.snap) packets) outlet.written outlet.writer
@@ -29,12 +29,12 @@ pub record Stands {W : Type 0} (taken : W → Option (List ℕ)) (failures : W �
 abbrev pub IsGiven : {W : Type 0} → (W → Option (List ℕ)) → (W → ℕ) → Packet → Outlet W → Outlet W → Type 0
 IsGiven {W} taken failures p old new =
     (order : Order) (unit : TimeUnit) (packets : List Packet) (part : Part W)
-    → Stands taken failures order unit packets part old → Stands taken failures order unit (packets ++ p ∷ []) part new
+    → HasTaken taken failures order unit packets part old → HasTaken taken failures order unit (packets ++ p ∷ []) part new
 
 -- So many packets were read, and each part stands behind them.
 abbrev pub HasSplit : {W : Type 0} → (W → Option (List ℕ)) → (W → ℕ) → Order → TimeUnit → List Packet → List (Part W) → Splitter W → Type 0
 HasSplit taken failures order unit packets parts splitter =
-    (splitter.read ≡ length packets) × (splitter.read < 2 ^ 64) × AllZip (Stands taken failures order unit packets) parts splitter.outlets.items
+    (splitter.read ≡ length packets) × (splitter.read < 2 ^ 64) × AllZip (HasTaken taken failures order unit packets) parts splitter.outlets.items
 
 -- the same, of some packets and parts
 abbrev pub HasParts : {W : Type 0} → (W → Option (List ℕ)) → (W → ℕ) → Splitter W → Type 0
@@ -51,4 +51,4 @@ GoesOn {W} taken failures packets old new =
 abbrev pub IsEndOf : {W : Type 0} → (W → Option (List ℕ)) → (W → ℕ) → Outlet W → PartEnd W → Type 0
 IsEndOf {W} taken failures outlet end =
     (order : Order) (unit : TimeUnit) (packets : List Packet) (part : Part W)
-    → Stands taken failures order unit packets part outlet → IsWritten taken failures order unit packets part end
+    → HasTaken taken failures order unit packets part outlet → IsWritten taken failures order unit packets part end

@@ -6,7 +6,7 @@ ghost use Rattle.savefile.specs.Savefile.{IsWritable};
 ghost use Rattle.savefile.specs.declared.header.Order.{Order};
 ghost use Rattle.savefile.specs.declared.header.Unit.{Unit};
 ghost use Rattle.savefile.specs.declared.packet.Packet.{Packet};
-ghost use Rattle.splitting.specs.Standing.{IsEndOf, IsGiven, Stands};
+ghost use Rattle.splitting.specs.Standing.{IsEndOf, IsGiven, HasTaken};
 ghost use Rattle.splitting.specs.Writing.{IsLeft};
 ghost use Rattle.splitting.specs.declared.part.Part.{Part};
 
@@ -51,7 +51,7 @@ pub(crate) struct Outlet<W> {
 
 /// Begins a part: its header is written.
 fn begin<W: Sink>(part: Part<W>, order: Order, unit: Unit) -> Outlet<W>
-    ensures { Stands W.taken W.failures order unit [] part result }
+    ensures { HasTaken W.taken W.failures order unit [] part result }
 {
     let Part {
         program,
@@ -77,7 +77,7 @@ pub(crate) fn begin_all<W: Sink + Drop>(
     mut outlets: Vec<Outlet<W>>,
 ) -> Vec<Outlet<W>>
     requires room { (length outlets.items ≡ 0) × (length parts.items ≤ vec_capacity outlets) }
-    ensures { AllZip (Stands W.taken W.failures order unit []) parts.items result.items }
+    ensures { AllZip (HasTaken W.taken W.failures order unit []) parts.items result.items }
 {
     for part in parts {
         outlets.push_reserved(begin(part, order, unit));
@@ -89,7 +89,7 @@ pub(crate) fn begin_all<W: Sink + Drop>(
 fn give<W: Sink>(outlet: &mut Outlet<W>, packet: &PacketRef<'_>)
     requires writable { IsWritable packet.now }
     requires so_far { (order : Order) × (unit : Unit) × (packets : List Packet) × (part : Part W)
-        × Stands W.taken W.failures order unit packets part outlet.old × (length packets + 1 < 2 ^ 64) }
+        × HasTaken W.taken W.failures order unit packets part outlet.old × (length packets + 1 < 2 ^ 64) }
     ensures { IsGiven W.taken W.failures packet.now outlet.old outlet.new }
 {
     // What a failed part has written begins the text of more packets too.
@@ -110,10 +110,10 @@ fn give<W: Sink>(outlet: &mut Outlet<W>, packet: &PacketRef<'_>)
 pub(crate) fn give_all<W: Sink>(outlets: &mut Vec<Outlet<W>>, packet: &PacketRef<'_>)
     requires writable { IsWritable packet.now }
     requires so_far { (order : Order) × (unit : Unit) × (packets : List Packet) × (parts : List (Part W))
-        × AllZip (Stands W.taken W.failures order unit packets) parts outlets.old.items × (length packets + 1 < 2 ^ 64) }
+        × AllZip (HasTaken W.taken W.failures order unit packets) parts outlets.old.items × (length packets + 1 < 2 ^ 64) }
     ensures { (order : Order) (unit : Unit) (packets : List Packet) (parts : List (Part W)) →
-        AllZip (Stands W.taken W.failures order unit packets) parts outlets.old.items →
-        AllZip (Stands W.taken W.failures order unit (packets ++ packet.now ∷ [])) parts outlets.new.items }
+        AllZip (HasTaken W.taken W.failures order unit packets) parts outlets.old.items →
+        AllZip (HasTaken W.taken W.failures order unit (packets ++ packet.now ∷ [])) parts outlets.new.items }
 {
     for outlet in outlets.iter_mut() {
         give(outlet, packet);

@@ -8,7 +8,7 @@ ghost use Rattle.savefile.specs.declared.header.Order.{Order};
 ghost use Rattle.savefile.specs.declared.header.Unit.{Unit};
 ghost use Rattle.savefile.specs.declared.packet.Packet.{Packet};
 ghost use Rattle.savefile.specs.Reader.{HasGiven};
-ghost use Rattle.splitting.specs.Reading.{GaveSo, HasOpened, Reads, ReadsAll, ReadsSoFar, end_of};
+ghost use Rattle.splitting.specs.Reading.{GaveSo, HasOpened, ReadsOne, ReadsAll, ReadsSoFar, end_of};
 ghost use Rattle.splitting.specs.Splitting.{Splits, passes_header};
 ghost use Rattle.splitting.specs.Standing.{GoesOn, HasParts, HasSplit};
 ghost use Rattle.splitting.specs.declared.part.Part.{Part};
@@ -89,7 +89,7 @@ impl<W: Sink> Splitter<W> {
         requires opened { (from : R) × HasOpened R.left R.failures from reader }
         requires so_far { HasParts W.taken W.failures self.old }
         ensures reads { (from : R) → HasOpened R.left R.failures from reader →
-            (packets : List Packet) × Reads R.left R.failures from result.0 self.new.read n packets result.1
+            (packets : List Packet) × ReadsOne R.left R.failures from result.0 self.new.read n packets result.1
             × GoesOn W.taken W.failures packets self.old self.new }
         ensures begun { passes_header result.1 ≡ true }
     {
@@ -106,7 +106,7 @@ impl<W: Sink> Splitter<W> {
         end: Result<(), Stop>,
     ) -> (R, Result<(), Stop>)
         requires so_far { HasParts W.taken W.failures self.old }
-        ensures reads { OnOk end ((packets : List Packet) × Reads R.left R.failures source result.0 self.new.read n packets result.1
+        ensures reads { OnOk end ((packets : List Packet) × ReadsOne R.left R.failures source result.0 self.new.read n packets result.1
             × GoesOn W.taken W.failures packets self.old self.new) }
         ensures unread { OnErr end ((result.0 ≡ source) × (result.1 ≡ end) × (self.new ≡ self.old)) }
     {

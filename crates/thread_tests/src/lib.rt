@@ -7,3 +7,5 @@ mod run;
 mod run_devices;
 #[cfg(test)]
 mod run_plan;
+#[cfg(test)]
+mod tally;

@@ -7,3 +7,4 @@ pub mod explain;
 pub mod run;
 pub mod split;
 pub mod steps;
+pub mod telling;

@@ -2,7 +2,6 @@ use Rattle.std.proofs.Common.{◌≡◌, ◌<◌, [], ◌∷◌, ◌++◌, ap, �
 use Rattle.std.specs.Iterator.Adapters.{zip_first, zip_second}
 use Rattle.std.specs.Slice.Iter.{iter_rest}
 use Rattle.std.specs.Vec.Iter.{into_iter_items}
-use Rattle.running.specs.Layout.{places_of, tasks_of}
 use Rattle.running.proofs.Laid.{begun, next_there, laid_on, all_laid}
 use Rattle.running.proofs.layout.interfaces_of.Goals as goal
 

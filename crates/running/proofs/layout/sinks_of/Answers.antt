@@ -1,4 +1,4 @@
-use Rattle.std.proofs.Common.{◌≡◌, ◌+◌, ◌<◌, ◌≤◌, All, get_or, length, vec_capacity, rules, refl, arith, ◌++◌, ◌∷◌, []}
+use Rattle.std.proofs.Common.{◌<◌, get_or, length, rules, refl, arith}
 use Rattle.running.proofs.Laid.{handed_on, all_back}
 use Rattle.running.proofs.layout.sinks_of.Goals as goal
 

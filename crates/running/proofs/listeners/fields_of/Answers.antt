@@ -1,4 +1,3 @@
-use Rattle.std.proofs.Common.{◌≡◌, ℕ, suc, List}
 use Rattle.lines.proofs.Cuts.{if_none}
 use Rattle.running.proofs.Fielded.{HasNoFields, no_fields, no_words, others}
 use Rattle.running.proofs.listeners.fields_of.Goals as goal

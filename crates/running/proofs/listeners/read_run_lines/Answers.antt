@@ -1,4 +1,4 @@
-use Rattle.std.proofs.Common.{◌≡◌, ◌≢◌, ◌+◌, ◌<◌, ◌≤◌, [], length, rules, arith}
+use Rattle.std.proofs.Common.{◌≢◌, ◌<◌, ◌≤◌, [], length, rules, arith}
 use Rattle.running.proofs.Outputs.{formless_read, named_read, kept_read, passed_read}
 use Rattle.running.proofs.listeners.read_run_lines.Goals as goal
 

@@ -1,5 +1,5 @@
 use Rattle.std.proofs.Common.{rules, [], ◌≡◌}
-use Rattle.splitting.specs.Standing.{Stands}
+use Rattle.splitting.specs.Standing.{HasTaken}
 use Rattle.splitting.proofs.Lists.{completed, completes-next}
 use Rattle.splitting.proofs.part.begin_all.Goals as goal
 
@@ -7,11 +7,11 @@ pub loop-part-preserved : goal.loop-part-preserved
 loop-part-preserved g c = (
   search rules,
   search rules,
-  completes-next (Stands g.W.Sink.taken g.W.Sink.failures c.args.order c.args.unit []) _ _ _ c.in-Some.part _ _ _ c.loop-part.invariant.2 c.in-Some.ensures.steps.0
+  completes-next (HasTaken g.W.Sink.taken g.W.Sink.failures c.args.order c.args.unit []) _ _ _ c.in-Some.part _ _ _ c.loop-part.invariant.2 c.in-Some.ensures.steps.0
       c.push_reserved.ensures.items c.begin.ensures,
   search rules,
   search rules,
 )
 
 pub returns : goal.returns
-returns g c = completed (Stands g.W.Sink.taken g.W.Sink.failures c.args.order c.args.unit []) _ _ _ c.loop-part.invariant.2 (search rules)
+returns g c = completed (HasTaken g.W.Sink.taken g.W.Sink.failures c.args.order c.args.unit []) _ _ _ c.loop-part.invariant.2 (search rules)

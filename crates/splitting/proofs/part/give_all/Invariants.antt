@@ -4,7 +4,7 @@ use Rattle.savefile.specs.declared.header.Order.{Order}
 use Rattle.savefile.specs.declared.header.Unit.{Unit as TimeUnit}
 use Rattle.savefile.specs.declared.packet.Packet.{Packet}
 use Rattle.splitting.specs.declared.part.Part.{Part}
-use Rattle.splitting.specs.Standing.{Stands}
+use Rattle.splitting.specs.Standing.{HasTaken}
 use Rattle.splitting.proofs.Lists.{Half}
 use Rattle.splitting.proofs.part.give_all.Given as goal
 
@@ -12,5 +12,5 @@ use Rattle.splitting.proofs.part.give_all.Given as goal
 abbrev pub invariant-loop-outlet : goal.invariant-loop-outlet
 invariant-loop-outlet g l =
     (order : Order) (unit : TimeUnit) (packets : List Packet) (parts : List (Part g.row.W.Denot))
-    → AllZip (Stands g.W.Sink.taken g.W.Sink.failures order unit packets) parts l.fn.outlets.items
-    → Half (Stands g.W.Sink.taken g.W.Sink.failures order unit packets) (Stands g.W.Sink.taken g.W.Sink.failures order unit (packets ++ l.packet ∷ [])) parts l.outlet-items l.outlet-index
+    → AllZip (HasTaken g.W.Sink.taken g.W.Sink.failures order unit packets) parts l.fn.outlets.items
+    → Half (HasTaken g.W.Sink.taken g.W.Sink.failures order unit packets) (HasTaken g.W.Sink.taken g.W.Sink.failures order unit (packets ++ l.packet ∷ [])) parts l.outlet-items l.outlet-index

@@ -2,7 +2,7 @@ use Rattle.std.proofs.Common.{◌≡◌, ◌<◌, ◌++◌, [], ◌∷◌, get_o
 use Rattle.std.proofs.lemmas.Bool.{eqb-true}
 use Rattle.std.specs.List.{remove}
 use Rattle.splitting.specs.Reading.{HasOpened, ReadsSoFar}
-use Rattle.splitting.specs.Standing.{IsEndOf, Stands}
+use Rattle.splitting.specs.Standing.{IsEndOf, HasTaken}
 use Rattle.splitting.specs.Writing.{IsWritten}
 use Rattle.splitting.proofs.Lists.{zip-through}
 use Rattle.splitting.proofs.Planned.{zip-length}
@@ -61,7 +61,7 @@ returns-in-Ok g c =
     let (more, reads, now) = behind.ensures.reads order unit packets parts (first ∷ rest) has so in
     read-first L B T F c.args.captures.items parts order unit behind.result.0 c.close_all.result first rest behind.result.1 (packets ++ more)
     (first-taken c.args.captures.items first some here) reads (behind.ensures.begun opened.ensures.begun)
-    (zip-through (Stands T F order unit (packets ++ more)) (IsEndOf T F) (IsWritten T F order unit (packets ++ more))
+    (zip-through (HasTaken T F order unit (packets ++ more)) (IsEndOf T F) (IsWritten T F order unit (packets ++ more))
     (λ part outlet end stands ends. ends order unit (packets ++ more) part stands) parts behind.new.self.outlets.items c.close_all.result.items now.2 c.close_all.ensures)
 
 pub close_all-requires : goal.close_all-requires
@@ -87,5 +87,5 @@ close_all-requires g c =
     (first-read L B first opened.result.0 opened.new.self.read rest packets opened.result.1 r has.0)) in
     let behind = c.give_captures-sources in
     let (more, reads, now) = behind.ensures.reads order unit packets parts (first ∷ rest) has so in
-    let same : length parts ≡ length behind.new.self.outlets.items = zip-length (Stands T F order unit (packets ++ more)) parts behind.new.self.outlets.items now.2 in
+    let same : length parts ≡ length behind.new.self.outlets.items = zip-length (HasTaken T F order unit (packets ++ more)) parts behind.new.self.outlets.items now.2 in
     record { room = (search rules, (let room = c.in_ok-ends.ensures.capacity in let many = c.len-3.ensures in let counted = c.args.parts.ok in omega (arith, same, room, many, counted))) }

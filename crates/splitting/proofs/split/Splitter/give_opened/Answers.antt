@@ -1,5 +1,5 @@
 use Rattle.std.proofs.Common.{sym, subst, ap, ◌∙◌}
-use Rattle.splitting.specs.Reading.{Reads}
+use Rattle.splitting.specs.Reading.{ReadsOne}
 use Rattle.splitting.specs.Splitting.{passes_header}
 use Rattle.splitting.proofs.Readings.{end-passes, reads-opened}
 use Rattle.splitting.proofs.split.Splitter.give_opened.Goals as goal
@@ -12,7 +12,7 @@ returns-clause-reads g c = λ from o.
     let call = c.give_packets-given in
     let (packets, gave, goes) = call.ensures.gives (g.R.Source.left from) o.header o.given in (
       packets,
-      subst (λ e. Reads g.R.Source.left g.R.Source.failures from c.close.result call.new.self.read c.args.n packets e) (sym c.end_of.ensures)
+      subst (λ e. ReadsOne g.R.Source.left g.R.Source.failures from c.close.result call.new.self.read c.args.n packets e) (sym c.end_of.ensures)
           (reads-opened g.R.Source.left g.R.Source.failures from c.close.result call.new.reader.source c.args.reader call.new.self.read c.args.n packets call.result o
           c.close.ensures call.ensures.taken gave call.ensures.broke),
       goes,

@@ -5,7 +5,7 @@ use Rattle.std.specs.List.{AllZip}
 use Rattle.savefile.specs.declared.fault.Fault.TheVariants.{Device}
 use Rattle.savefile.specs.declared.packet.Packet.{Packet}
 use Rattle.cutting.proofs.Writing.{same-unless-different}
-use Rattle.splitting.specs.Standing.{HasSplit, Stands}
+use Rattle.splitting.specs.Standing.{HasSplit, HasTaken}
 use Rattle.splitting.proofs.Readings.{takes-more}
 use Rattle.splitting.proofs.split.Splitter.give_packets.Goals as goal
 
@@ -41,7 +41,7 @@ loop-self-preserved g c =
                 let now = goes order unit before parts has in (
                   omega (arith, now.0, length-append before packets, length-append before (packets ++ p ∷ []), length-append packets (p ∷ [])),
                   omega (arith, now.1, c.if-self.false),
-                  subst (λ (ps : List Packet). AllZip (Stands g.W.Sink.taken g.W.Sink.failures order unit ps) parts c.give_all.new.outlets.items)
+                  subst (λ (ps : List Packet). AllZip (HasTaken g.W.Sink.taken g.W.Sink.failures order unit ps) parts c.give_all.new.outlets.items)
                       (ap (λ (q : Packet). (before ++ packets) ++ q ∷ []) c.packet.ensures ∙ append_assoc before packets (p ∷ []))
                       (c.give_all.ensures order unit (before ++ packets) parts now.2),
                 ),

@@ -1,6 +1,6 @@
 //! Where paths lead, in a folder of a real file system.
 
-use super::{FileId, Target, target_of};
+use files::paths::{FileId, Target, target_of};
 use std::os::unix::fs::MetadataExt;
 use std::test::Fail;
 use std::{fs, process};

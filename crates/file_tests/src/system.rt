@@ -1,50 +1,38 @@
-//! The files of a command over a made system, whose descriptors are numbers, whose files break, and whose calls a signal
-//! breaks.
+//! A made system, whose descriptors are numbers, whose files break, and whose calls a signal breaks.
 
-use crate::program::run;
-use crate::run_files::{LateFiles, NamesFiles};
-use files::late::LateFile;
-use hints::TakesHints;
-use lines::telling::REFUSED;
-use std::alloc::{Allocator, Global};
+use std::alloc::Allocator;
 use std::fs::{Files, Metadata, OpenFile, OpenOptions};
 use std::io;
 use std::io::{ErrorKind, Read, Seek, SeekFrom, Write};
-use std::process::Abort;
-use std::sync::Wait;
 use std::sync::atomic::Ordering::SeqCst;
 use std::sync::atomic::{AtomicBool, AtomicU32, AtomicUsize};
-use std::thread::Threads;
-use words::run::RunWords;
 
-/// Enough for the standard streams, and all files of a command at once.
+/// Enough for the standard streams, and a few files.
 const DESCRIPTORS: usize = 8;
 
-const LISTING: &[u8] = b"1\n6 0 0 262144\n";
-
-/// A header, and 7 bytes of a record's.
-const TORN: &[u8] =
+/// What `in.pcap` has: a header, and 7 bytes of a record's.
+pub const TORN: &[u8] =
     b"\xd4\xc3\xb2\xa1\x02\0\x04\0\0\0\0\0\0\0\0\0\0\0\x04\0\x01\0\0\0\x02\0\0\0\0\0\0";
 
 /// Which descriptors are taken, and which one OUT was given; whether it is told what stands at a path; how many of the next
 /// calls that make or write a file are refused, whether the one that is refused answers that it took nothing, and how many
 /// calls there were.
 #[derive(Drop)]
-struct Table {
+pub struct Table {
     taken: [AtomicBool; DESCRIPTORS],
-    output: AtomicUsize,
-    is_told: AtomicBool,
-    refused: AtomicU32,
-    takes_nothing: AtomicBool,
-    calls: AtomicU32,
+    pub output: AtomicUsize,
+    pub is_told: AtomicBool,
+    pub refused: AtomicU32,
+    pub takes_nothing: AtomicBool,
+    pub calls: AtomicU32,
 }
 
 /// No descriptor.
-const NONE: usize = usize::MAX;
+pub const NONE: usize = usize::MAX;
 
 impl Table {
     /// The table with these descriptors taken.
-    fn new(open: [bool; 3]) -> Table {
+    pub fn new(open: [bool; 3]) -> Table {
         let [input, output, error] = open;
         Table {
             taken: [
@@ -87,32 +75,14 @@ impl Table {
     }
 }
 
-/// The made system, with the threads of a real one.
+/// The made system.
 #[derive(Drop)]
-struct System<'a, T> {
-    table: &'a Table,
-    threads: &'a T,
-}
-
-impl<T: Threads> Threads for System<'_, T> {}
-
-impl<T: Wait> Wait for System<'_, T> {}
-
-/// Its captures are not replayed.
-impl<T> NamesFiles for (System<'_, T>, Global) {
-    fn named_files<'r, 'i, 'o, E: TakesHints>(
-        &'r self,
-        _alloc: Global,
-        _words: &RunWords<'i>,
-        _listeners: &'o [u8],
-        _err: &mut E,
-    ) -> Result<LateFiles<'r, 'i, 'o>, u8> {
-        Err(REFUSED)
-    }
+pub struct System<'a> {
+    pub table: &'a Table,
 }
 
 /// A file of it, whose descriptor is free again when it is let go. A signal breaks its calls in turn, the first one too.
-struct Numbered<'a> {
+pub struct Numbered<'a> {
     number: usize,
     table: &'a Table,
     left: &'static [u8],
@@ -189,7 +159,7 @@ impl OpenFile for Numbered<'_> {
     }
 }
 
-impl<'a, T> Files for System<'a, T> {
+impl<'a> Files for System<'a> {
     type File = Numbered<'a>;
 
     type Dir = &'static [u8];
@@ -199,11 +169,7 @@ impl<'a, T> Files for System<'a, T> {
         let Some(number) = table.free() else {
             return Err(io::Error::from(ErrorKind::Other));
         };
-        let left = match path {
-            "all.bpf" => LISTING,
-            "in.pcap" => TORN,
-            _ => b"",
-        };
+        let left = if path == "in.pcap" { TORN } else { b"" };
         if path == "out.pcap" {
             table.call()?;
             table.output.store(number, SeqCst);
@@ -255,84 +221,5 @@ impl<'a, T> Files for System<'a, T> {
 
     fn remove_dir_all<B: Allocator>(&self, _alloc: B, _path: &str) -> io::Result<()> {
         Err(io::Error::from(ErrorKind::Unsupported))
-    }
-}
-
-/// Cuts the torn capture on a system, and looks what is told and answered.
-fn cut_on(
-    rt: &(impl Abort + AllocGlobal + Threads + Wait + Sync),
-    table: &Table,
-    fault: &[u8],
-    status: u8,
-) {
-    let system = (System { table, threads: rt }, rt.alloc());
-    let mut out: Vec<u8> = Vec::new(rt.alloc());
-    let mut err: Vec<u8> = Vec::new(rt.alloc());
-    let words = [
-        "bpftap", "cut", "-s", "0", "-f", "all.bpf", "in.pcap", "out.pcap",
-    ];
-    assert_eq!(rt; run(&system, &words, &mut out, &mut err), status);
-    assert_eq!(rt; err.as_slice(), fault);
-}
-
-/// Cuts the torn capture with these of the standard streams open, and looks where OUT went.
-fn cut_with(rt: &(impl Abort + AllocGlobal + Threads + Wait + Sync), open: [bool; 3]) {
-    let table = Table::new(open);
-    cut_on(rt, &table, b"bpftap: TornRecord 0\n", 2);
-    let output = table.output.load(SeqCst);
-    assert!(rt;
-        output > 2 && output != NONE,
-        "{open:?}: OUT is descriptor {output}"
-    );
-}
-
-#[test]
-fn no_file_takes_the_place_of_a_closed_stream(rt: HostRuntime) {
-    for input in [false, true] {
-        for output in [false, true] {
-            for error in [false, true] {
-                cut_with(&rt, [input, output, error]);
-            }
-        }
-    }
-}
-
-#[test]
-fn nothing_is_made_where_a_path_is_not_told(rt: HostRuntime) {
-    let table = Table::new([true; 3]);
-    table.is_told.store(false, SeqCst);
-    cut_on(&rt, &table, b"bpftap: Device all.bpf\n", 3);
-    assert_eq!(rt;
-        (table.output.load(SeqCst), table.calls.load(SeqCst)),
-        (NONE, 0)
-    );
-}
-
-/// Writes a file of which the next call to be made is refused, and looks that no further one is.
-fn fail_once<R: Files>(rt: &impl Abort, system: &R, table: &Table, is_made: bool) {
-    let mut file = LateFile::new(system, "out.pcap");
-    if is_made {
-        assert_eq!(rt; file.write(b"a").ok(), Some(1));
-    }
-    let before = table.calls.load(SeqCst);
-    table.refused.store(1, SeqCst);
-    let takes_nothing = table.takes_nothing.load(SeqCst);
-    assert_eq!(rt; file.write(b"b").ok(), takes_nothing.then_some(0));
-    assert!(rt; file.write(b"c").is_err());
-    assert!(rt; file.flush().is_err());
-    assert_eq!(rt; table.calls.load(SeqCst), before.wrapping_add(1));
-}
-
-#[test]
-fn a_file_that_failed_is_not_touched_again(rt: HostRuntime) {
-    // The call that makes the file is refused; or the one that writes it, or that one takes nothing.
-    for (is_made, takes_nothing) in [(false, false), (true, false), (true, true)] {
-        let table = Table::new([false; 3]);
-        table.takes_nothing.store(takes_nothing, SeqCst);
-        let system = System {
-            table: &table,
-            threads: &rt,
-        };
-        fail_once(&rt, &system, &table, is_made);
     }
 }

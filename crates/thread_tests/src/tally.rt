@@ -1,9 +1,9 @@
 //! What is told of an OUT that failed, by the bytes that it took.
 
-use super::{Output, Tallied, flush_one};
 use bpfvm::read_listing;
 use handover::{Past, pair, settle};
 use replay::{ListenerReport, TaskEnd};
+use running::tally::{Output, Tallied, flush_one};
 use savefile::Counted;
 use std::alloc::Global;
 use std::io;

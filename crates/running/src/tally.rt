@@ -106,6 +106,7 @@ pub struct Tallied<W> {
 }
 
 impl<W> Tallied<W> {
+    /// A writer of which nothing was taken yet.
     pub fn new(inner: W) -> Tallied<W> {
         Tallied {
             inner,
@@ -114,6 +115,7 @@ impl<W> Tallied<W> {
         }
     }
 
+    /// The writer below.
     pub fn get_ref(&self) -> &W {
         &self.inner
     }
@@ -142,12 +144,12 @@ impl<W: Write> Write for Tallied<W> {
     }
 }
 
-/// The writer of an OUT.
+/// The writer of an OUT: a buffer before what counts.
 pub type Output<W> = Counted<BufWriter<Tallied<W>>>;
 
 /// Empties the buffer before an OUT. Where that fails, or a write has failed before, what is told as written is what OUT itself
 /// has. A listener that did not hand over its end stays Unfinished.
-fn flush_one<W: Write + Drop>(report: &mut ListenerReport<Output<W>>)
+pub fn flush_one<W: Write + Drop>(report: &mut ListenerReport<Output<W>>)
     ensures { report.old.end ≡ TaskEnd.Unfinished → report.new.end ≡ TaskEnd.Unfinished }
 {
     let flushed = report.sink.inner.flush();
@@ -169,6 +171,3 @@ pub fn flush_all<R, W: Write + Drop>(reports: &mut [InterfaceReport<R, Output<W>
         }
     }
 }
-
-#[cfg(test)]
-mod tests;
