@@ -88,9 +88,13 @@ pub struct AnswersLeft<'a> {
 }
 
 impl<'a> Model for AnswersLeft<'a> {
+    ghost use Rattle.std.specs.Coded.{codes};
+    ghost use Rattle.filterlang.specs.contracts.tree.Expr as e;
     ghost use Rattle.stepping.specs.Answers.{Left, left};
 
     ghost Value = { Left };
+
+    ghost coded = { Prim.hlevel (codes, e.the_row.coded) };
 
     ghost view = { λ x. left x.expr x.capacity x.held_since x.answers.now };
 }
