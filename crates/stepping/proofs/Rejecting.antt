@@ -1,8 +1,8 @@
 -- What an expression answers to a packet, and what decides.
 use Rattle.std.proofs.Common.{◌≡◌, ℕ, false, List, [], ◌∷◌, ◌++◌, codes, refl, sym, ap, ◌∙◌, append_assoc}
-use Rattle.filterlang.specs.Trees.{Tree}
-use Rattle.filtergen.specs.declared.verdict.Verdict.{Verdict}
-use Rattle.filtergen.specs.Meaning.{Packet, meaning}
+use Rattle.syntax.specs.Trees.{Tree}
+use Rattle.semantics.specs.declared.verdict.Verdict.{Verdict}
+use Rattle.semantics.specs.Meaning.{Packet, meaning}
 use Rattle.explaining.specs.Asking.{Question, questions, IsLast}
 use Rattle.stepping.specs.Rejections.{verdict_text, question_text, last_text, decision_text}
 

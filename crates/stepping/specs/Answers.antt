@@ -2,8 +2,8 @@
 use Rattle.std.specs.Prelude.{◌≡◌, ℕ, zero, suc, Bool, true, false, List, [], ◌∷◌, ◌++◌, Option, Some, None, map, drop, if◌then◌else◌, codes, string_bytes}
 use Rattle.std.specs.List.{slice_get}
 use Rattle.std.specs.Fmt.{decimal}
-use Rattle.filterlang.specs.declared.tree.Expr.{Expr}
-use Rattle.filterlang.specs.Trees.{tree_of}
+use Rattle.syntax.specs.declared.tree.Expr.{Expr}
+use Rattle.syntax.specs.Trees.{tree_of}
 use Rattle.filterlang.specs.Texts.{ReadsAs}
 use Rattle.listener.specs.declared.answer.Fed.TheVariants.{Rotated, Held}
 use Rattle.tap.specs.declared.answer.Answer.{Answer}

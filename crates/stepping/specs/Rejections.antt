@@ -1,12 +1,12 @@
 -- Why an expression rejects a packet.
 use Rattle.std.specs.Prelude.{ℕ, Bool, true, false, List, [], ◌∷◌, ◌++◌, Option, Some, None, if◌then◌else◌, codes}
 use Rattle.std.specs.Fmt.{decimal}
-use Rattle.filterlang.specs.declared.tree.Expr.{Expr}
-use Rattle.filterlang.specs.Trees.{Tree, tree_of}
-use Rattle.filterlang.specs.Trees as trees
-use Rattle.filtergen.specs.declared.verdict.Verdict.{Verdict}
-use Rattle.filtergen.specs.declared.verdict.Verdict.TheVariants.{Yes, No, Abort}
-use Rattle.filtergen.specs.Meaning.{Packet, packet_of, meaning}
+use Rattle.syntax.specs.declared.tree.Expr.{Expr}
+use Rattle.syntax.specs.Trees.{Tree, tree_of}
+use Rattle.syntax.specs.Trees as trees
+use Rattle.semantics.specs.declared.verdict.Verdict.{Verdict}
+use Rattle.semantics.specs.declared.verdict.Verdict.TheVariants.{Yes, No, Abort}
+use Rattle.semantics.specs.Meaning.{Packet, packet_of, meaning}
 use Rattle.canonical.specs.Canonical.{canonical}
 use Rattle.explaining.specs.declared.cause.Cause.{Cause}
 use Rattle.explaining.specs.declared.cause.Cause.TheVariants.{NotCaptured, ZeroDivisor}

@@ -89,7 +89,7 @@ pub struct AnswersLeft<'a> {
 
 impl<'a> Model for AnswersLeft<'a> {
     ghost use Rattle.std.specs.Coded.{codes};
-    ghost use Rattle.filterlang.specs.contracts.tree.Expr as e;
+    ghost use Rattle.syntax.specs.contracts.tree.Expr as e;
     ghost use Rattle.stepping.specs.Answers.{Left, left};
 
     ghost Value = { Left };

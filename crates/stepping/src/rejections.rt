@@ -1,8 +1,8 @@
 //! Why an expression rejected a packet.
 
 ghost use Rattle.std.specs.Prelude.{◌≡◌, ◌++◌, OnOk, codes, string_bytes};
-ghost use Rattle.filterlang.specs.Trees.{tree_of};
-ghost use Rattle.filtergen.specs.Meaning.{packet_of};
+ghost use Rattle.syntax.specs.Trees.{tree_of};
+ghost use Rattle.semantics.specs.Meaning.{packet_of};
 ghost use Rattle.explaining.specs.Asking.{question_of};
 ghost use Rattle.stepping.specs.Rejections.{verdict_text, part_text, cause_text, question_text, decision_text, rejects, rejection};
 

@@ -1,5 +1,5 @@
 use Rattle.std.proofs.Common.{List, ℕ, Some, sym, subst}
-use Rattle.filterlang.specs.Trees.{tree_of}
+use Rattle.syntax.specs.Trees.{tree_of}
 use Rattle.filterlang.specs.Texts.{ReadsAs}
 use Rattle.tap.specs.declared.filters.Filter.{Filter}
 use Rattle.stepping.specs.Answers.{IsReadAs}

@@ -1,7 +1,7 @@
 use Rattle.std.proofs.Common.{sym, ◌∙◌}
 use Rattle.std.proofs.lemmas.Result.{on_ok_weaker}
-use Rattle.filterlang.specs.Trees.{tree_of}
-use Rattle.filtergen.specs.Meaning.{packet_of}
+use Rattle.syntax.specs.Trees.{tree_of}
+use Rattle.semantics.specs.Meaning.{packet_of}
 use Rattle.explaining.specs.Asking.{question_of}
 use Rattle.stepping.proofs.Rejecting.{decided}
 use Rattle.stepping.proofs.rejections.put_decision.Goals as goal
