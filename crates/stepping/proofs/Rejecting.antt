@@ -6,8 +6,11 @@ use Rattle.semantics.specs.Meaning.{Packet, meaning}
 use Rattle.explaining.specs.Asking.{Question, questions, IsLast}
 use Rattle.std.specs.Fmt.{decimal}
 use Rattle.lines.specs.Telling.{end_of_line}
-use Rattle.stepping.specs.Reasons.{answer_line}
-use Rattle.stepping.specs.Rejections.{verdict_text, question_text, last_text, decision_text}
+use Rattle.tap.specs.declared.answer.Answered.{Answered}
+use Rattle.tap.specs.declared.playlist.Placed.{Placed}
+use Rattle.stepping.specs.Reasons.{standing_before, reason, answer_line}
+use Rattle.stepping.specs.Rejections.{verdict_text, question_text, last_text, decision_text, rejection}
+use Rattle.stepping.specs.Answers.{Left, first_arrived, arrived_line}
 
 last_of : (front : List Question) (q : Question) → last_text (front ++ q ∷ []) ≡ question_text q
 last_of [] q = refl
@@ -26,12 +29,18 @@ decided old mid new verdict tree p q before is last adds =
     ∙ ap (λ (w : Verdict). old ++ (codes ": " ++ verdict_text w ++ codes " " ++ question_text q)) is
     ∙ ap (λ (t : List ℕ). old ++ (codes ": " ++ verdict_text (meaning tree p) ++ codes " " ++ t)) (last_told q (questions false tree p) last)
 
-slid : (front back more end : List ℕ) → ((front ++ back) ++ more) ++ end ≡ front ++ ((back ++ more) ++ end)
-slid front back more end = ap (λ (t : List ℕ). t ++ end) (append_assoc front back more) ∙ append_assoc front (back ++ more) end
-
 -- the line of an answer to a packet: the reason, and what stands behind it
-pub arrived : (l : ℕ) (why behind old mid new : List ℕ) → old ≡ codes "  listener " ++ decimal l ++ codes " " ++ why → mid ≡ old ++ behind →
+arrived : (l : ℕ) (why behind old mid new : List ℕ) → old ≡ codes "  listener " ++ decimal l ++ codes " " ++ why → mid ≡ old ++ behind →
     new ≡ mid ++ end_of_line → new ≡ answer_line l (why ++ behind)
 arrived l why behind old mid new first more ends =
-    ends ∙ ap (λ (t : List ℕ). t ++ end_of_line) (more ∙ ap (λ (t : List ℕ). t ++ behind) first)
-    ∙ ap (λ (t : List ℕ). codes "  listener " ++ t) (slid (decimal l) (codes " " ++ why) behind end_of_line)
+    ends ∙ ap (λ (t : List ℕ). t ++ end_of_line)
+    (more ∙ ap (λ (t : List ℕ). t ++ behind) first ∙ append_assoc (codes "  listener " ++ decimal l ++ codes " ") why behind)
+
+-- the same of what a listener has left, which is seen as x
+pub next_arrived : (p : Placed) (l : ℕ) (inside x : Left) (a : Answered) (later : List Answered) (old mid new : List ℕ) → inside ≡ x → inside.answers ≡ a ∷ later →
+    old ≡ codes "  listener " ++ decimal l ++ codes " " ++ reason (standing_before a x.held_since x.capacity) a.size a.answer →
+    mid ≡ old ++ rejection p inside.expr a.answer → new ≡ mid ++ end_of_line → new ≡ arrived_line p l x
+next_arrived p l inside x a later old mid new seen cut first more ends =
+    arrived l (reason (standing_before a x.held_since x.capacity) a.size a.answer) (rejection p x.expr a.answer) old mid new first
+    (more ∙ ap (λ (y : Left). old ++ rejection p y.expr a.answer) seen) ends
+    ∙ sym (ap (first_arrived p l x.expr x.capacity x.held_since) (sym (ap (λ (y : Left). y.answers) seen) ∙ cut))

@@ -139,7 +139,6 @@ impl<'a> AnswersLeft<'a> {
     }
 
     /// Writes the next answer, as the l-th listener's to this packet.
-    #[tactic(auto, using(crate::proofs::Rejecting::arrived))]
     fn write_arrived<O: Write>(
         &self,
         l: usize,
