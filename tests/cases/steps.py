@@ -1,5 +1,5 @@
 """`bpftap steps`: in which order its files are looked at, and what is told of them."""
-from .common import TORN, WHOLE, case, told
+from .common import TORN, VETH, WHOLE, case, told
 
 FILES = {
     "l.txt": "32 64\n", "s.txt": "arrive\n", "bad.txt": "x\n", "refused.txt": "32 64 tcp and 80\n",
@@ -50,3 +50,23 @@ def reports_are_printed(scene):
     scene.expect("steps -v l.txt s.txt torn.pcap", 2, told("Capture 0 TornRecord 1"), EXPLAINED + REPORT)
     scene.expect("steps /dev/null /dev/null whole.pcap")
     scene.check("files", scene.files(), before)
+
+
+# Expressions that reject packets of the real capture: with No, with Abort at a byte and at a divisor, and by a part whose text is
+# longer than any other line.
+REJECTING = [
+    "tcp port 80 or 8080", "not udp and ether[200] = 1", "1 / (len - 98) = 0", " + ".join(["len"] * 100) + " = 0",
+]
+
+
+@case
+def what_decides_is_what_explain_prints(scene):
+    """Behind each packet that an expression rejects stands what `explain` prints of it."""
+    for expr in REJECTING:
+        scene.put({"l.txt": f"96 262176 {expr}\n", "s.txt": "arrive\n" * 253})
+        answers = scene.run(["steps", "-v", "l.txt", "s.txt", str(VETH)]).out.decode().splitlines()
+        lines = scene.run(["explain", "-e", expr, str(VETH)]).out.decode().splitlines()[:-1]
+        wanted = [line.split(" ", 8)[8] for line in lines if line.split(" ")[8] != "Yes"]
+        passed = "  listener 0 Passed, the filter rejects it"
+        scene.check(f"rejected by {expr}", bool(wanted), True)
+        scene.check(f"of {expr}", [line for line in answers if line.startswith(passed)], [f"{passed}: {end}" for end in wanted])

@@ -1,6 +1,6 @@
 -- A file has one first bad line.
 use Rattle.std.proofs.Common.{◌≡◌, ℕ, suc, List, [], ◌∷◌, ◌++◌, length, refl, sym, ap, subst, ◌∙◌, arith}
-use Rattle.lines.specs.Files.{Say, IsFirstBad}
+use Rattle.lines.specs.Files.{Say}
 use Rattle.stepping.specs.Laws.{FirstBadIsOne}
 
 -- the line has not its form

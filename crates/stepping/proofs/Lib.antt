@@ -5,3 +5,4 @@ pub mod Ending
 pub mod Answering
 pub mod FirstBad
 pub mod Lefts
+pub mod Rejecting

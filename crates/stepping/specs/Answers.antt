@@ -1,11 +1,16 @@
 -- What `steps -v` prints before the reports: a line for each step, and below it one for each listener that the step reaches.
-use Rattle.std.specs.Prelude.{◌≡◌, ℕ, zero, suc, Bool, true, false, List, [], ◌∷◌, ◌++◌, Option, Some, None, map, drop, if◌then◌else◌, codes}
+use Rattle.std.specs.Prelude.{◌≡◌, ℕ, zero, suc, Bool, true, false, List, [], ◌∷◌, ◌++◌, Option, Some, None, map, drop, if◌then◌else◌, codes, string_bytes}
 use Rattle.std.specs.List.{slice_get}
 use Rattle.std.specs.Fmt.{decimal}
+use Rattle.syntax.specs.declared.tree.Expr.{Expr}
+use Rattle.syntax.specs.Trees.{tree_of}
+use Rattle.filterlang.specs.Texts.{ReadsAs}
 use Rattle.listener.specs.declared.answer.Fed.TheVariants.{Rotated, Held}
 use Rattle.tap.specs.declared.answer.Answer.{Answer}
 use Rattle.tap.specs.declared.answer.Answer.TheVariants.{Arrived, Flushed}
 use Rattle.tap.specs.declared.answer.Answered.{Answered}
+use Rattle.tap.specs.declared.filters.Filter.{Filter}
+use Rattle.tap.specs.declared.filters.Filter.TheVariants.{Text, Program}
 use Rattle.tap.specs.declared.filters.Spec.{Spec}
 use Rattle.tap.specs.declared.playlist.Placed.{Placed}
 use Rattle.tap.specs.declared.step.Step.{Step}
@@ -14,16 +19,18 @@ use Rattle.lines.specs.Telling.{end_of_line}
 use Rattle.lines.specs.Texts.{numbered}
 use Rattle.lines.specs.Time.{nine_digits}
 use Rattle.stepping.specs.Reasons.{standing_before, reason, answer_line}
+use Rattle.stepping.specs.Rejections.{rejection}
 
--- What is left of a listener's answers behind some steps: the bytes that its store and its hold each have room for, the step that
--- made the store the hold last, from 1, and the answers to later steps.
+-- What is left of a listener's answers behind some steps: its expression, where its filter is one, the bytes that its store and its
+-- hold each have room for, the step that made the store the hold last, from 1, and the answers to later steps.
 pub record Left : Type 0 where
+  pub expr : Option Expr
   pub capacity : ℕ
   pub held_since : ℕ
   pub answers : List Answered
 
-abbrev pub left : ℕ → ℕ → List Answered → Left
-left capacity held_since answers = record { capacity = capacity; held_since = held_since; answers = answers }
+abbrev pub left : Option Expr → ℕ → ℕ → List Answered → Left
+left expr capacity held_since answers = record { expr = expr; capacity = capacity; held_since = held_since; answers = answers }
 
 -- the answer tells that the store became the hold
 abbrev pub fills_hold : Answer → Bool
@@ -40,13 +47,22 @@ first_line l capacity held_since (a ∷ later) = answer_line l (reason (standing
 abbrev pub next_line : ℕ → Left → List ℕ
 next_line l x = first_line l x.capacity x.held_since x.answers
 
+-- the same of the answer to this packet: behind it stands why an expression rejects the packet
+abbrev pub first_arrived : Placed → ℕ → Option Expr → ℕ → ℕ → List Answered → List ℕ
+first_arrived p l expr capacity held_since [] = []
+first_arrived p l expr capacity held_since (a ∷ later) =
+    answer_line l (reason (standing_before a held_since capacity) a.size a.answer ++ rejection p expr a.answer)
+
+abbrev pub arrived_line : Placed → ℕ → Left → List ℕ
+arrived_line p l x = first_arrived p l x.expr x.capacity x.held_since x.answers
+
 -- the step that made the store the hold last, behind the first of these answers, which is that to the n-th step
 abbrev pub held_behind : ℕ → ℕ → List Answered → ℕ
 held_behind n held_since [] = held_since
 held_behind n held_since (a ∷ later) = if fills_hold a.answer then n else held_since
 
 abbrev pub behind : ℕ → Left → Left
-behind n x = left x.capacity (held_behind n x.held_since x.answers) (drop 1 x.answers)
+behind n x = left x.expr x.capacity (held_behind n x.held_since x.answers) (drop 1 x.answers)
 
 -- of several listeners, one that a step reaches
 abbrev pub one_behind : ℕ → ℕ → List Left → List Left
@@ -85,7 +101,7 @@ own_line n word l = codes "step " ++ decimal n ++ codes " " ++ word ++ codes " "
 -- the n-th step, and what the listeners that it reaches answer: an arrival reaches all, where a packet is left, which it takes
 abbrev pub step_text : ℕ → Step → List Placed → List Left → List ℕ
 step_text n Arrive [] xs = no_packet_line n
-step_text n Arrive (p ∷ packets) xs = arrival_line n p ++ numbered next_line 0 xs
+step_text n Arrive (p ∷ packets) xs = arrival_line n p ++ numbered (arrived_line p) 0 xs
 step_text n (Flush l) packets xs = own_line n (codes "flush") l ++ line_at l xs
 step_text n (Read l) packets xs = own_line n (codes "read") l ++ line_at l xs
 step_text n (Close l) packets xs = own_line n (codes "close") l ++ line_at l xs
@@ -111,8 +127,15 @@ answers_from n [] packets xs = []
 answers_from n (step ∷ steps) packets xs =
     step_text n step packets xs ++ answers_from (suc n) steps (packets_behind step packets) (left_behind n step packets xs)
 
+-- this is the expression of a filter, where it is one
+abbrev pub IsReadAs : Filter → Option Expr → Type 0
+IsReadAs (Text text) (Some expr) = ReadsAs (string_bytes text) (tree_of expr)
+IsReadAs (Text text) None = ⊥
+IsReadAs (Program program) expr = expr ≡ None
+
 -- all answers of a listener are left
 pub record IsAllLeft (spec : Spec) (own : List Answered) (x : Left) : Type 0 where
+  pub expr : IsReadAs spec.filter x.expr
   pub capacity : x.capacity ≡ spec.capacity
   pub held_since : x.held_since ≡ 0
   pub answers : x.answers ≡ own

@@ -3,6 +3,7 @@ pub mod Script
 pub mod Printed
 pub mod Faults
 pub mod Reasons
+pub mod Rejections
 pub mod Answers
 pub mod Playing
 pub mod Stepping

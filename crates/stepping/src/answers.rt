@@ -1,14 +1,17 @@
 //! What listeners answered, and why: what `bpftap steps -v` prints before the reports.
 
-ghost use Rattle.std.specs.Prelude.{◌≡◌, ◌++◌, map, IfOk, OnOk, Some};
+ghost use Rattle.std.specs.Prelude.{◌≡◌, ◌++◌, map, IfOk, OnOk, Some, codes, string_bytes};
+ghost use Rattle.std.specs.Fmt.{decimal};
 ghost use Rattle.lines.specs.Sending.{Takes};
 ghost use Rattle.lines.specs.Texts.{numbered};
-ghost use Rattle.stepping.specs.Answers.{IsAllLeft, fills_hold, next_line, behind, one_behind, line_at, placed_text, arrival_line, step_line, no_packet_line, own_line, step_text, packets_behind, left_behind, answers_from, AreAllLeft};
-ghost use Rattle.stepping.specs.Reasons.{answer_line, reason};
+ghost use Rattle.stepping.specs.Answers.{IsReadAs, IsAllLeft, fills_hold, next_line, arrived_line, behind, one_behind, line_at, placed_text, arrival_line, step_line, no_packet_line, own_line, step_text, packets_behind, left_behind, answers_from, AreAllLeft};
+ghost use Rattle.stepping.specs.Reasons.{standing_before, reason};
 ghost use Rattle.tap.specs.declared.step.Step.TheVariants.{Arrive};
 
 use crate::reasons::{ArrivalEnd, Standing, flush_end, read_end};
-use lines::Line;
+use crate::rejections::put_rejection;
+use canonical::Canonical;
+use filterlang::{Expr, parse};
 use lines::sending::send;
 use lines::time::NineDigits;
 use listener::Fed;
@@ -17,29 +20,28 @@ use std::fmt::{Display, Formatter};
 use std::io::Write;
 use std::marker::Model;
 use std::{fmt, io};
-use tap::{Answer, Answered, Placed, Spec, Step};
+use tap::{Answer, Answered, Filter, Placed, Spec, Step};
+
+/// The bytes that a line has room for, beside what decides of a rejected packet.
+const LINE_ROOM: usize = 512;
 
 /// Puts the answer of the l-th listener, and why it was given, in place of what the line has. The record of an arrival has, or
 /// would have, so many bytes.
 fn put_answer(
-    line: &mut Line,
+    line: &mut String,
     l: usize,
     before: Standing,
     size: usize,
     answer: Answer,
-) -> io::Result<()>
-    ensures { OnOk result (line.new ≡ answer_line l (reason before size answer)) }
+) -> Result<(), AllocError>
+    ensures { OnOk result (string_bytes line.new ≡ codes "  listener " ++ decimal l ++ codes " " ++ reason before size answer) }
 {
     line.clear();
     match answer {
-        Answer::Arrived(fed) => writeln!(
-            line,
-            "  listener {l} {}",
-            ArrivalEnd { before, size, fed }
-        ),
-        Answer::Flushed(_) => writeln!(line, "  listener {l} {}", flush_end(&before)),
-        Answer::Read(_) => writeln!(line, "  listener {l} {}", read_end(&before)),
-        Answer::Closed => writeln!(line, "  listener {l} closed"),
+        Answer::Arrived(fed) => write!(line, "  listener {l} {}", ArrivalEnd { before, size, fed }),
+        Answer::Flushed(_) => write!(line, "  listener {l} {}", flush_end(&before)),
+        Answer::Read(_) => write!(line, "  listener {l} {}", read_end(&before)),
+        Answer::Closed => write!(line, "  listener {l} closed"),
     }
 }
 
@@ -62,9 +64,23 @@ fn fills_hold(answer: Answer) -> bool
     }
 }
 
+/// The expression of a filter, where it is one. A text that reads as none counts as want of memory; a replay has read it before.
+fn expression_of(alloc: Global, filter: &Filter) -> Result<Option<Expr>, AllocError>
+    ensures { IfOk result (IsReadAs filter.now) }
+{
+    match filter {
+        Filter::Text(text) => match parse(alloc, text.as_str()) {
+            Ok(expr) => Ok(Some(expr)),
+            Err(_) => Err(AllocError),
+        },
+        Filter::Program(_) => Ok(None),
+    }
+}
+
 /// What is left of a listener's answers behind some steps.
 #[derive(Drop)]
 pub struct AnswersLeft<'a> {
+    expr: Option<Expr>,
     capacity: usize,
     /// The step that made the store the hold last, from 1.
     held_since: usize,
@@ -72,34 +88,72 @@ pub struct AnswersLeft<'a> {
 }
 
 impl<'a> Model for AnswersLeft<'a> {
+    ghost use Rattle.std.specs.Coded.{codes};
+    ghost use Rattle.syntax.specs.contracts.tree.Expr as e;
     ghost use Rattle.stepping.specs.Answers.{Left, left};
 
     ghost Value = { Left };
 
-    ghost view = { λ x. left x.capacity x.held_since x.answers.now };
+    ghost coded = { Prim.hlevel (codes, e.the_row.coded) };
+
+    ghost view = { λ x. left x.expr x.capacity x.held_since x.answers.now };
 }
 
 impl<'a> AnswersLeft<'a> {
     /// All answers of a listener.
-    fn new(spec: &Spec, answers: &'a [Answered]) -> AnswersLeft<'a>
-        ensures { IsAllLeft spec.now answers.now result }
+    fn new(
+        alloc: Global,
+        spec: &Spec,
+        answers: &'a [Answered],
+    ) -> Result<AnswersLeft<'a>, AllocError>
+        ensures { IfOk result (IsAllLeft spec.now answers.now) }
     {
-        AnswersLeft {
+        let expr = expression_of(alloc, &spec.filter)?;
+        Ok(AnswersLeft {
+            expr,
             capacity: spec.capacity,
             held_since: 0,
             answers,
-        }
+        })
+    }
+
+    /// Puts an answer, as the l-th listener's, and why it was given, in place of what the line has.
+    fn put_reason(&self, l: usize, answered: &Answered, line: &mut String) -> Result<(), AllocError>
+        ensures { OnOk result (string_bytes line.new ≡ codes "  listener " ++ decimal l ++ codes " "
+            ++ reason (standing_before answered.now self.now.held_since self.now.capacity) answered.now.size answered.now.answer) }
+    {
+        let before = Standing::before(answered, self.held_since, self.capacity);
+        put_answer(line, l, before, answered.size, answered.answer)
     }
 
     /// Writes the next answer, as the l-th listener's.
-    fn write_next<O: Write>(&self, l: usize, line: &mut Line, out: &mut O) -> io::Result<()>
+    fn write_next<O: Write>(&self, l: usize, line: &mut String, out: &mut O) -> io::Result<()>
         ensures { Takes (O.contents out.old) (O.contents out.new) result (next_line l self.now) }
     {
         let Some((answered, _)) = self.answers.split_first() else {
             return Ok(());
         };
-        let before = Standing::before(answered, self.held_since, self.capacity);
-        put_answer(line, l, before, answered.size, answered.answer)?;
+        self.put_reason(l, answered, line)?;
+        write!(line, "\n")?;
+        send(line.as_bytes(), out)
+    }
+
+    /// Writes the next answer, as the l-th listener's to this packet.
+    fn write_arrived<O: Write>(
+        &self,
+        l: usize,
+        placed: &Placed,
+        line: &mut String,
+        out: &mut O,
+    ) -> io::Result<()>
+        ensures { Takes (O.contents out.old) (O.contents out.new) result (arrived_line placed.now l self.now) }
+    {
+        let Some((answered, _)) = self.answers.split_first() else {
+            return Ok(());
+        };
+        self.put_reason(l, answered, line)?;
+        put_rejection(line, placed, &self.expr, answered.answer)?;
+        write!(line, "\n")?;
         send(line.as_bytes(), out)
     }
 
@@ -127,17 +181,36 @@ pub fn all_left<'a>(
 {
     let mut all = Vec::with_capacity(alloc, specs.len())?;
     for (spec, own) in specs.iter().zip(answers) {
-        all.push(AnswersLeft::new(spec, own.as_slice()))?;
+        all.push(AnswersLeft::new(alloc, spec, own.as_slice())?)?;
     }
     Ok(all)
 }
 
-/// Writes the next answer of each listener.
-fn write_all<O: Write>(all: &[AnswersLeft<'_>], line: &mut Line, out: &mut O) -> io::Result<()>
-    ensures { Takes (O.contents out.old) (O.contents out.new) result (numbered next_line 0 all.now) }
+/// A line with room for each answer of these listeners. What decides of a packet is part of an expression, so that twice the
+/// expression's own text has room for it, with any parentheses.
+pub fn line_for(alloc: Global, all: &[AnswersLeft<'_>]) -> Result<String, AllocError> {
+    let mut line = String::with_capacity(alloc, LINE_ROOM)?;
+    for one in all {
+        if let Some(expr) = &one.expr {
+            line.clear();
+            write!(line, "{} {}", Canonical(expr), Canonical(expr))?;
+        }
+    }
+    line.reserve(LINE_ROOM)?;
+    Ok(line)
+}
+
+/// Writes the next answer of each listener, to this packet.
+fn write_all<O: Write>(
+    placed: &Placed,
+    all: &[AnswersLeft<'_>],
+    line: &mut String,
+    out: &mut O,
+) -> io::Result<()>
+    ensures { Takes (O.contents out.old) (O.contents out.new) result (numbered (arrived_line placed.now) 0 all.now) }
 {
     for (l, one) in all.iter().enumerate() {
-        one.write_next(l, line, out)?;
+        one.write_arrived(l, placed, line, out)?;
     }
     Ok(())
 }
@@ -155,7 +228,7 @@ fn go_on_all(all: &mut Vec<AnswersLeft<'_>>, n: usize)
 fn write_one<O: Write>(
     all: &[AnswersLeft<'_>],
     l: usize,
-    line: &mut Line,
+    line: &mut String,
     out: &mut O,
 ) -> io::Result<()>
     ensures { Takes (O.contents out.old) (O.contents out.new) result (line_at l all.now) }
@@ -201,8 +274,8 @@ impl Display for Arriving<'_> {
 }
 
 /// Puts the line of the n-th step, an arrival that takes this packet, in place of what the line has.
-fn put_arrival(line: &mut Line, n: usize, placed: &Placed) -> io::Result<()>
-    ensures { OnOk result (line.new ≡ arrival_line n placed.now) }
+fn put_arrival(line: &mut String, n: usize, placed: &Placed) -> Result<(), AllocError>
+    ensures { OnOk result (string_bytes line.new ≡ arrival_line n placed.now) }
 {
     line.clear();
     writeln!(line, "step {n} arrive {}", Arriving(placed))
@@ -213,26 +286,26 @@ fn write_arrival<O: Write>(
     n: usize,
     placed: &Placed,
     all: &[AnswersLeft<'_>],
-    line: &mut Line,
+    line: &mut String,
     out: &mut O,
 ) -> io::Result<()>
-    ensures { Takes (O.contents out.old) (O.contents out.new) result (arrival_line n placed.now ++ numbered next_line 0 all.now) }
+    ensures { Takes (O.contents out.old) (O.contents out.new) result (arrival_line n placed.now ++ numbered (arrived_line placed.now) 0 all.now) }
 {
     put_arrival(line, n, placed)?;
     send(line.as_bytes(), out)?;
-    write_all(all, line, out)
+    write_all(placed, all, line, out)
 }
 
 /// Puts the line of the n-th step, of which this is told, in place of what the line has.
-fn put_step(line: &mut Line, n: usize, text: &str) -> io::Result<()>
-    ensures { OnOk result (line.new ≡ step_line n text.now) }
+fn put_step(line: &mut String, n: usize, text: &str) -> Result<(), AllocError>
+    ensures { OnOk result (string_bytes line.new ≡ step_line n text.now) }
 {
     line.clear();
     writeln!(line, "step {n} {text}")
 }
 
 /// Writes the n-th step, an arrival for which no packet is left.
-fn write_no_packet<O: Write>(n: usize, line: &mut Line, out: &mut O) -> io::Result<()>
+fn write_no_packet<O: Write>(n: usize, line: &mut String, out: &mut O) -> io::Result<()>
     ensures { Takes (O.contents out.old) (O.contents out.new) result (no_packet_line n) }
 {
     put_step(line, n, "arrive, no packet is left")?;
@@ -240,8 +313,8 @@ fn write_no_packet<O: Write>(n: usize, line: &mut Line, out: &mut O) -> io::Resu
 }
 
 /// Puts the line of the n-th step, which names the l-th listener, in place of what the line has.
-fn put_own(line: &mut Line, n: usize, word: &str, l: usize) -> io::Result<()>
-    ensures { OnOk result (line.new ≡ own_line n word.now l) }
+fn put_own(line: &mut String, n: usize, word: &str, l: usize) -> Result<(), AllocError>
+    ensures { OnOk result (string_bytes line.new ≡ own_line n word.now l) }
 {
     line.clear();
     writeln!(line, "step {n} {word} {l}")
@@ -253,7 +326,7 @@ fn write_own<O: Write>(
     word: &str,
     l: usize,
     all: &mut Vec<AnswersLeft<'_>>,
-    line: &mut Line,
+    line: &mut String,
     out: &mut O,
 ) -> io::Result<()>
     ensures text { Takes (O.contents out.old) (O.contents out.new) result (own_line n word.now l ++ line_at l all.old.items) }
@@ -271,7 +344,7 @@ fn write_arrive<O: Write>(
     n: usize,
     packets: &[Placed],
     all: &mut Vec<AnswersLeft<'_>>,
-    line: &mut Line,
+    line: &mut String,
     out: &mut O,
 ) -> io::Result<()>
     ensures text { Takes (O.contents out.old) (O.contents out.new) result (step_text n Arrive packets.now all.old.items) }
@@ -291,7 +364,7 @@ fn write_step<O: Write>(
     step: Step,
     packets: &[Placed],
     all: &mut Vec<AnswersLeft<'_>>,
-    line: &mut Line,
+    line: &mut String,
     out: &mut O,
 ) -> io::Result<()>
     ensures text { Takes (O.contents out.old) (O.contents out.new) result (step_text n step packets.now all.old.items) }
@@ -321,21 +394,22 @@ fn packets_behind(step: Step, packets: &[Placed]) -> &[Placed]
 }
 
 /// Writes for each step a line, and below it a line for each listener that it reaches: what it answered, and why. Steps are counted
-/// from 1, as the lines of SCRIPT. `all` are the answers of [`all_left`], of a trace of these steps and this playlist.
+/// from 1, as the lines of SCRIPT. `all` are the answers of [`all_left`], of a trace of these steps and this playlist. `line` is that
+/// of [`line_for`], so that it takes no memory more.
 ///
-/// Where it fails, `out` took a beginning of the text and no more. It takes no memory.
+/// Where it fails, `out` took a beginning of the text and no more.
 pub fn write_answers<O: Write>(
     steps: &[Step],
     playlist: &[Placed],
     all: &mut Vec<AnswersLeft<'_>>,
+    line: &mut String,
     out: &mut O,
 ) -> io::Result<()>
     ensures { Takes (O.contents out.old) (O.contents out.new) result (answers_from 1 steps.now playlist.now all.old.items) }
 {
-    let mut line = Line::new();
     let mut packets = playlist;
     for (n, step) in steps.iter().enumerate() {
-        write_step(n + 1, *step, packets, all, &mut line, out)?;
+        write_step(n + 1, *step, packets, all, line, out)?;
         packets = packets_behind(*step, packets);
     }
     Ok(())

@@ -6,6 +6,7 @@ pub mod faults;
 pub mod laws;
 pub mod listeners;
 pub mod reasons;
+pub mod rejections;
 pub mod reports;
 pub mod script;
 pub mod steps;

@@ -12,7 +12,7 @@ ghost use Rattle.stepping.specs.Printed.{printed_reports};
 ghost use Rattle.stepping.specs.Playing.{record_fault_status, failed_output_line, record_fault_line, Plays};
 ghost use Rattle.stepping.specs.Stepping.{IsRefusedFiles, Steps, StepsTo};
 
-use crate::answers::{AnswersLeft, all_left, write_answers};
+use crate::answers::{AnswersLeft, all_left, line_for, write_answers};
 use crate::faults::FaultText;
 use crate::listeners::read_listeners;
 use crate::reports::write_reports;
@@ -129,12 +129,13 @@ fn print_trace<O: Write>(
     steps: &[Step],
     trace: &Trace,
     answers: &mut Vec<AnswersLeft<'_>>,
+    line: &mut String,
     out: &mut O,
 ) -> io::Result<()>
     ensures { Takes (O.contents out.old) (O.contents out.new) result
         (answers_from 1 steps.now trace.now.playlist.items answers.old.items ++ printed_reports trace.now.reports.items) }
 {
-    write_answers(steps, trace.playlist.as_slice(), answers, out)?;
+    write_answers(steps, trace.playlist.as_slice(), answers, line, out)?;
     print_reports(trace.reports.as_slice(), out)
 }
 
@@ -194,7 +195,16 @@ fn play_explained<O: Write, E: Write>(
     let Ok(mut answers) = all_left(alloc, asked.specs.as_slice(), traced.answers.as_slice()) else {
         return refuse(Fault::NoMemory, err);
     };
-    let printed = print_trace(asked.steps.as_slice(), &traced, &mut answers, out);
+    let Ok(mut line) = line_for(alloc, answers.as_slice()) else {
+        return refuse(Fault::NoMemory, err);
+    };
+    let printed = print_trace(
+        asked.steps.as_slice(),
+        &traced,
+        &mut answers,
+        &mut line,
+        out,
+    );
     end(printed, traced.record_fault, err)
 }
 

@@ -233,11 +233,11 @@ capture 0 place 1 time 2.000000000 len 60 kept 32
 
 /// Each answer that the one listener above does not give.
 const OTHERS_EXPLAINED: &str = "step 1 arrive capture 0 place 0 time 1.000000000 len 60
-  listener 0 Passed, the filter rejects it
+  listener 0 Passed, the filter rejects it: No arp
   listener 1 Held, 0 stored and 64 more are within 128, and the empty hold takes them at once
   listener 2 Stored, 0 stored and 64 more are within 64
 step 2 arrive capture 0 place 1 time 2.000000000 len 60
-  listener 0 Passed, the filter rejects it
+  listener 0 Passed, the filter rejects it: No arp
   listener 1 Stored, 0 stored and 64 more are within 128
   listener 2 Rotated, 64 stored and 64 more exceed 64, and the empty hold takes the 64
 step 3 flush 0
@@ -257,7 +257,7 @@ step 9 flush 2
 step 10 read 2
   listener 2 nothing read, closed
 step 11 arrive capture 0 place 2 time 3.000000000 len 60
-  listener 0 Passed, the filter rejects it
+  listener 0 Passed, the filter rejects it: No arp
   listener 1 Closed
   listener 2 Closed
 listener 0 received 3 matched 0 dropped 0
@@ -271,6 +271,16 @@ listener 2 received 2 matched 2 dropped 0
 held
 capture 0 place 0 time 1.000000000 len 60 kept 32
 capture 0 place 1 time 2.000000000 len 60 kept 32
+";
+
+/// An expression aborts at a byte that is not captured, and a packet is rejected for that; an expression behind `not` too.
+const ABORTS_EXPLAINED: &str = "step 1 arrive capture 0 place 0 time 1.000000000 len 60
+  listener 0 Passed, the filter rejects it: Abort ether[100] = 1, byte 100 is not captured
+  listener 1 Passed, the filter rejects it: No not (ether[0] = 0)
+listener 0 received 1 matched 0 dropped 0
+held
+listener 1 received 1 matched 0 dropped 0
+held
 ";
 
 /// Plays a script over captures, and compares what is explained.
@@ -308,6 +318,18 @@ fn each_answer_is_explained(rt: HostRuntime) -> Result<(), Fail> {
         b"32 64 arp\n32 128i\n32 64\n",
         b"arrive\narrive\nflush 0\nread 0\nread 1\nclose 1\nflush 1\nclose 2\nflush 2\nread 2\narrive\n",
         OTHERS_EXPLAINED,
+    )
+}
+
+#[test]
+fn each_rejection_is_explained(rt: HostRuntime) -> Result<(), Fail> {
+    let text = zeros(rt.alloc(), 1)?;
+    explains(
+        &rt,
+        &[text.as_slice()],
+        b"32 64 ether[100] = 1\n32 64 not ether[0] = 0\n",
+        b"arrive\n",
+        ABORTS_EXPLAINED,
     )
 }
 

@@ -21,7 +21,7 @@ loop-spec-preserved c =
       (tt, tt),
       tt,
       one_more c.args.specs.now _ _ c.args.answers.now _ _ c.in-Some.spec.now c.in-Some.own.now c.loop-spec.all.items _ _
-          steps.0 steps.1 (rw c.as_slice.ensures.value at c.new.ensures) c.in_ok-push.ensures.items c.loop-spec.invariant.2,
+          steps.0 steps.1 (rw c.as_slice.ensures.value at c.in_ok-new.ensures) c.in_ok-push.ensures.items c.loop-spec.invariant.2,
     )
 
 pub returns : goal.returns

@@ -15,6 +15,15 @@ returns-in_default g c = inr (record {
   refused = c.refuse-in_default.ensures.status;
 })
 
+pub returns-in_default-line_for : goal.returns-in_default-line_for
+returns-in_default-line_for g c = inr (record {
+  fault = NoMemory;
+  first = tt;
+  nothing = Keeps-refl _;
+  tells = c.refuse-in_default-line_for.ensures.tells;
+  refused = c.refuse-in_default-line_for.ensures.status;
+})
+
 pub returns : goal.returns
 returns g c =
     let traced = c.in-Ok.traced in
@@ -23,7 +32,7 @@ returns g c =
     let replays = rw c.as_slice.ensures.value at (rw c.as_slice-2.ensures.value at c.in-Ok.ensures.tells) in
     let traces = rw c.as_slice.ensures.value at (rw c.as_slice-2.ensures.value at c.in-Ok.ensures.answers) in
     let complete = rw c.as_slice-3.ensures.value at (rw c.as_slice-4.ensures.value at c.in-Ok-all_left.ensures) in
-    let taken = rw c.as_slice-5.ensures.value at c.print_trace-printed.ensures in
+    let taken = rw c.as_slice-6.ensures.value at c.print_trace-printed.ensures in
     inl (Reported-of true _ _ _ _ _ c.end.result traced.reports.items traced.record_fault traced.playlist.items c.print_trace-printed.result
     (answers_from 1 c.args.asked.now.steps.items traced.playlist.items all) stands replays
     (lists traced.answers.items, traces, record { all = all; complete = complete; is = refl })
