@@ -13,7 +13,7 @@ const OTHER_LINKS: [&[u8]; 12] = [
 ];
 
 /// Words of libpcap's language, and what means the same here.
-const WRITTEN: [(&[u8], &str); 9] = [
+const WRITTEN: [(&[u8], &str); 7] = [
     (b"length", "len"),
     (b"igmp", "proto 2"),
     (b"igrp", "proto 9"),
@@ -21,8 +21,6 @@ const WRITTEN: [(&[u8], &str); 9] = [
     (b"ah", "proto 51"),
     (b"pim", "proto 103"),
     (b"vrrp", "proto 112"),
-    (b"tcp-ece", "64"),
-    (b"tcp-cwr", "128"),
 ];
 
 /// What helps to mend an expression.
@@ -131,8 +129,20 @@ fn written_for(word: &[u8]) -> Option<&'static str> {
         .map(|pair| pair.1)
 }
 
+/// What helps at the second word of a flag that the language has not.
+fn of_flag(before: &[u8], word: &[u8]) -> Option<Advice<'static>> {
+    match (before, word) {
+        (b"tcp-", b"ece") => Some(Advice::Said("write `64` for `tcp-ece`")),
+        (b"tcp-", b"cwr") => Some(Advice::Said("write `128` for `tcp-cwr`")),
+        _ => None,
+    }
+}
+
 /// What helps at a word that the language has not, behind another word.
 fn of_word<'a>(before: &[u8], word: &'a [u8]) -> Advice<'a> {
+    if let Some(advice) = of_flag(before, word) {
+        return advice;
+    }
     if OTHER_LINKS.contains(&word) {
         return Advice::OtherLink(word);
     }

@@ -5,7 +5,7 @@ ghost use Rattle.std.specs.Prelude.{◌≡◌, false};
 use crate::nearest::is_word;
 use crate::shown::Shown;
 use crate::stream::{TakesHints, give_hint};
-use filterlang::lex;
+use filterlang::{Fault, lex};
 use std::alloc::Global;
 use std::convert::AsStr;
 use std::fmt::{Display, Formatter};
@@ -28,11 +28,12 @@ impl<S: AsStr> Display for Joined<'_, S> {
     }
 }
 
-/// Whether a word is of tokens of the filter language alone.
-fn is_lexed(alloc: Global, word: &str) -> bool {
+/// Whether a word is of tokens of the filter language alone, if there is memory to tell.
+fn is_lexed(alloc: Global, word: &str) -> Option<bool> {
     match lex(alloc, word) {
-        Ok(tokens) => !tokens.is_empty(),
-        Err(_) => false,
+        Ok(tokens) => Some(!tokens.is_empty()),
+        Err(Fault::NoMemory) => None,
+        Err(_) => Some(false),
     }
 }
 
@@ -45,20 +46,18 @@ fn begins_expression(word: &str) -> bool {
 }
 
 /// The words of a command line that look like an expression: from one on that begins with a word of the filter language, all that
-/// are of its tokens.
-fn expression_in<S: AsStr>(alloc: Global, words: &[S]) -> &[S] {
-    let Some(start) = words
+/// are of its tokens. Where memory is wanting there are none, since some of them may be another expression.
+fn expression_in<S: AsStr>(alloc: Global, words: &[S]) -> Option<&[S]> {
+    let start = words
         .iter()
-        .position(|word| begins_expression(word.as_str()))
-    else {
-        return &[];
-    };
+        .position(|word| begins_expression(word.as_str()))?;
     let rest = &words[start..];
-    let end = rest
-        .iter()
-        .position(|word| !is_lexed(alloc, word.as_str()))
-        .unwrap_or(rest.len());
-    &rest[..end]
+    for (place, word) in rest.iter().enumerate() {
+        if !is_lexed(alloc, word.as_str())? {
+            return Some(&rest[..place]);
+        }
+    }
+    Some(rest)
 }
 
 /// Whether a word is an option that gives a filter.
@@ -79,7 +78,9 @@ fn lacks_option<S: AsStr>(words: &[S]) -> bool {
 pub fn hint_unquoted<S: AsStr, E: TakesHints>(alloc: Global, words: &[S], err: &mut E)
     ensures quiet { E.takes_hints err.old ≡ false → err.new ≡ err.old }
 {
-    let expression = expression_in(alloc, words);
+    let Some(expression) = expression_in(alloc, words) else {
+        return;
+    };
     if !expression.is_empty() && lacks_option(words) {
         give_hint(
             format_args!(

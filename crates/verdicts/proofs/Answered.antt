@@ -10,13 +10,13 @@ use Rattle.semantics.specs.declared.verdict.Verdict.{Verdict}
 use Rattle.semantics.specs.declared.verdict.Verdict.TheVariants.{Yes, No, Abort}
 use Rattle.lines.specs.Sending.{TakesPart}
 use Rattle.lines.specs.Texts.{numbered}
-use Rattle.lines.proofs.Taking.{TakesPart-then, TakesPart-more}
+use Rattle.lines.proofs.Taking.{TakesPart-then}
 use Rattle.verdicts.specs.declared.each.Counts.{Counts}
 use Rattle.verdicts.specs.declared.each.Unprinted.{Unprinted}
 use Rattle.verdicts.specs.declared.each.Unprinted.TheVariants.{NoMemory, Output}
 use Rattle.verdicts.specs.declared.filter.Filter.{Filter}
 use Rattle.verdicts.specs.Answers.{Answer, answer, IsAnswer, answer_line}
-use Rattle.verdicts.specs.Explained.{is_yes, is_no, is_abort, count_of, counted, AreCounts, answer_lines, printed, packets_of, PrintsLine, IsLineBroken}
+use Rattle.verdicts.specs.Explained.{is_yes, is_no, is_abort, count_of, counted, AreCounts, answer_lines, packets_of, PrintsLine, IsLineBroken}
 
 -- one more of them
 all-more : {X : Type 0} (P : X → Type 0) (xs : List X) (x : X) → AllByRecursion P xs → P x → AllByRecursion P (xs ++ x ∷ [])
@@ -89,19 +89,18 @@ pub breaks-off : (f : Filter) (old mid new : Option (List ℕ)) (answers : List 
     AllByRecursion (IsAnswer f) answers → Appends old mid (answer_lines answers) → AreCounts c answers →
     IsLineBroken f c.packets p mid new unprinted →
     (told : List Answer) × AllByRecursion (IsAnswer f) told × ((packets_of told ≡ packets_of answers) ⊎ (packets_of told ≡ packets_of answers ++ p ∷ []))
-    × TakesPart old new (printed told)
+    × TakesPart old new (answer_lines told)
 breaks-off f old mid new answers c p NoMemory all lines are kept =
     let taken = Appends-kept old mid new (answer_lines answers) lines kept in (
       answers,
       all,
       inl refl,
-      record { part = answer_lines answers; begins = (_, refl); appends = taken },
+      record { part = answer_lines answers; begins = ([], sym (append-nil (answer_lines answers))); appends = taken },
     )
 breaks-off f old mid new answers c p (Output error) all lines are (v, reason, is, part) =
     let a = answer p v reason in (
       answers ++ a ∷ [],
       all-more (IsAnswer f) answers a all is,
       inr (packets-last answers a),
-      TakesPart-more old new (answer_lines (answers ++ a ∷ [])) _
-          (subst (TakesPart old new) (sym (lines-last answers a c.packets are.packets)) (TakesPart-then old mid new (answer_lines answers) (answer_line c.packets a) lines part)),
+      subst (TakesPart old new) (sym (lines-last answers a c.packets are.packets)) (TakesPart-then old mid new (answer_lines answers) (answer_line c.packets a) lines part),
     )

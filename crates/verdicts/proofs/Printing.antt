@@ -1,7 +1,7 @@
 -- How the printing of a capture ends.
 use Rattle.std.proofs.Common.{◌≡◌, ℕ, ◌<◌, ◌⊎◌, inl, inr, Bool, true, false, List, [], ◌∷◌, ◌++◌, length, Option, Some, None, Result, Ok, Err, IfErr, refl, ap, sym, subst, arith}
 use Rattle.std.specs.Prelude.{is_err}
-use Rattle.std.proofs.KnownBytes.{Appends-trans}
+use Rattle.std.proofs.KnownBytes.{Appends-trans, Appends-kept}
 use Rattle.std.specs.Io.KnownBytes.{Appends, Consumes}
 use Rattle.std.specs.List.{AllByRecursion}
 use Rattle.savefile.specs.declared.fault.Fault.{Fault}
@@ -14,10 +14,11 @@ use Rattle.lines.specs.Sending.{Takes, TakesPart}
 use Rattle.lines.proofs.Taking.{TakesPart-then}
 use Rattle.verdicts.specs.declared.each.Counts.{Counts}
 use Rattle.verdicts.specs.declared.each.Unprinted.{Unprinted}
+use Rattle.verdicts.specs.declared.each.Unprinted.TheVariants as unprinted
 use Rattle.verdicts.specs.declared.filter.Filter.{Filter}
 use Rattle.verdicts.specs.declared.one.Found.{Found}
 use Rattle.verdicts.specs.Answers.{Answer, IsAnswer}
-use Rattle.verdicts.specs.Explained.{is_yes, is_no, is_abort, count_of, AreCounts, counts_text, answer_lines, printed, packets_of, IsUnopened, ReadsTo, PrintsLine, PrintsLines, PrintsAll, PrintsFound, PrintsWhole, GoesTo, Finds}
+use Rattle.verdicts.specs.Explained.{is_yes, is_no, is_abort, count_of, AreCounts, counts_text, answer_lines, printed, packets_of, IsUnopened, PrintsLine, PrintsLines, PrintsAll, PrintsFound, PrintsMore, PrintsWhole, GoesTo, Finds}
 
 -- the header was not read
 pub unopened : (from left : Option (List ℕ)) (fault : Fault) → WasRefused from fault ⊎ (fault ≡ Device) ⊎ (fault ≡ NoMemory) →
@@ -28,10 +29,10 @@ unopened from left fault (inr (inr wanting)) given = inr (inr wanting)
 
 -- it broke off
 pub broken-off : {A : Type 0} (f : Filter) (from left : Option (List ℕ)) (header : Header) (old new : Option (List ℕ)) (c : Counts) (read : Result A Fault) (done : Result A Unprinted) (x : A) (u : Unprinted) (told : List Answer) →
-    read ≡ Ok x → done ≡ Err u → AllByRecursion (IsAnswer f) told → WasBegun from header (packets_of told) → TakesPart old new (printed told) →
+    read ≡ Ok x → done ≡ Err u → AllByRecursion (IsAnswer f) told → WasBegun from header (packets_of told) → TakesPart old new (answer_lines told) →
     PrintsLines f from left header old new c read done
 broken-off f from left header old new c read done x u told reads stops all begun part =
-    rw (reads, stops) (told, all, inr (begun, inr (inr (refl, refl))), part)
+    rw (reads, stops) (inl (told, all, begun, refl, refl, part))
 
 -- the capture was read to its end
 pub read-whole : {A : Type 0} (f : Filter) (from left : Option (List ℕ)) (header : Header) (old new : Option (List ℕ)) (c : Counts) (read : Result A Fault) (done : Result A Unprinted) (x y : A) (answers : List Answer) →
@@ -39,7 +40,7 @@ pub read-whole : {A : Type 0} (f : Filter) (from left : Option (List ℕ)) (head
     Appends old new (answer_lines answers) → AreCounts c answers →
     PrintsLines f from left header old new c read done
 read-whole f from left header old new c read done x y answers reads prints all was lines are =
-    rw (reads, prints) (answers, all, inl (None, was, refl), (lines, are))
+    rw (reads, prints) (inr (answers, all, inl (None, was, refl), refl, lines, are))
 
 -- or not so far
 pub read-part : {A : Type 0} (f : Filter) (from left : Option (List ℕ)) (header : Header) (old new : Option (List ℕ)) (c : Counts) (read : Result A Fault) (done : Result A Unprinted) (fault : Fault) (y : A) (answers : List Answer) →
@@ -47,40 +48,34 @@ pub read-part : {A : Type 0} (f : Filter) (from left : Option (List ℕ)) (heade
     Appends old new (answer_lines answers) → AreCounts c answers → WasBegun from header (packets_of answers) → IsCause from left header (packets_of answers) fault →
     PrintsLines f from left header old new c read done
 read-part f from left header old new c read done fault y answers reads prints all lines are begun (inl was) =
-    rw (reads, prints) (answers, all, inl (Some fault, was, refl), (lines, are))
+    rw (reads, prints) (inr (answers, all, inl (Some fault, was, refl), refl, lines, are))
 read-part f from left header old new c read done fault y answers reads prints all lines are begun (inr (inl (device, taken))) =
-    rw (reads, prints) (answers, all, inr (begun, inl (ap Err device, taken)), (lines, are))
+    rw (reads, prints) (inr (answers, all, inr (begun, inl (ap Err device, taken)), refl, lines, are))
 read-part f from left header old new c read done fault y answers reads prints all lines are begun (inr (inr (full, many))) =
-    rw (reads, prints) (answers, all, inr (begun, inr (inl (ap Err full, many))), (lines, are))
-
--- what was read is read, however the counts are printed
-reads-either : {A : Type 0} (from left : Option (List ℕ)) (header : Header) (ps : List Packet) (read : Result A Fault) (x : A) (done : Result A Unprinted) →
-    ReadsTo from left header ps read (Ok x) → ReadsTo from left header ps read done
-reads-either from left header ps read x done (inl was) = inl was
-reads-either from left header ps read x done (inr (begun, inl device)) = inr (begun, inl device)
-reads-either from left header ps read x done (inr (begun, inr (inl full))) = inr (begun, inr (inl full))
-reads-either from left header ps read x done (inr (begun, inr (inr (ok, err)))) = absurd (cc)
+    rw (reads, prints) (inr (answers, all, inr (begun, inr (ap Err full, many)), refl, lines, are))
 
 -- where the lines broke off, no counts are printed
 pub lines-alone : {A : Type 0} (f : Filter) (from left : Option (List ℕ)) (header : Header) (old new : Option (List ℕ)) (c : Counts) (read : Result A Fault) (done : Result A Unprinted) →
     is_err done ≡ true → PrintsLines f from left header old new c read done → PrintsAll f from left header old new c read done
 lines-alone f from left header old new c read (Ok x) failed lines = absurd (cc)
-lines-alone f from left header old new c read (Err u) failed lines = lines
+lines-alone f from left header old new c read (Err u) failed (inl broke) = inl broke
+lines-alone f from left header old new c read (Err u) failed (inr (answers, all, reads, ok, lines, are)) = absurd (cc)
 
 -- the lines, and then the counts
 pub lines-and-counts : {A : Type 0} (f : Filter) (from left : Option (List ℕ)) (header : Header) (old mid new : Option (List ℕ)) (c : Counts) (read : Result A Fault) (done told : Result A Unprinted) →
     is_err done ≡ false → PrintsLines f from left header old mid c read done → Takes mid new told (counts_text c.packets c.yes c.no c.abort) →
     PrintsAll f from left header old new c read told
 lines-and-counts f from left header old mid new c read (Err u) told went lines taken = absurd (cc)
-lines-and-counts f from left header old mid new c read (Ok x) (Ok y) went (answers, all, reads, (lines, are)) taken =
+lines-and-counts f from left header old mid new c read (Ok x) told went (inl (answers, all, begun, ok, err, part)) taken = absurd (cc)
+lines-and-counts f from left header old mid new c read (Ok x) (Ok y) went (inr (answers, all, reads, ok, lines, are)) taken =
     let same : counts_text c.packets c.yes c.no c.abort ≡ counts_text (length answers) (count_of is_yes answers) (count_of is_no answers) (count_of is_abort answers) =
     rw (are.packets, are.yes, are.no, are.abort) refl in
     let more = Appends-trans old mid new (answer_lines answers) _ lines (subst (Appends mid new) same taken) in
-    (answers, all, reads-either from left header (packets_of answers) read x (Ok y) reads, (more, are))
-lines-and-counts f from left header old mid new c read (Ok x) (Err u) went (answers, all, reads, (lines, are)) taken =
+    inr (answers, all, reads, (more, are))
+lines-and-counts f from left header old mid new c read (Ok x) (Err u) went (inr (answers, all, reads, ok, lines, are)) taken =
     let same : counts_text c.packets c.yes c.no c.abort ≡ counts_text (length answers) (count_of is_yes answers) (count_of is_no answers) (count_of is_abort answers) =
     rw (are.packets, are.yes, are.no, are.abort) refl in
-    (answers, all, reads-either from left header (packets_of answers) read x (Err u) reads, TakesPart-then old mid new (answer_lines answers) _ lines (subst (TakesPart mid new) same taken))
+    inr (answers, all, reads, TakesPart-then old mid new (answer_lines answers) _ lines (subst (TakesPart mid new) same taken))
 
 -- ---- One packet
 
@@ -112,7 +107,8 @@ finds-it left from f place old new header r e (Err fault) begins same is (packet
     inr (inr (header, packets, few, ok, kept, inr (fault, subst (λ s. IsCause (left from) (left s) header packets fault) (sym same) cause, is)))
 
 -- a packet's line, and then more
-pub prints-whole : {A : Type 0} (f : Filter) (place : ℕ) (p : Packet) (old mid new : Option (List ℕ)) (v : Verdict) (text : List ℕ) (result : Result A Unprinted) →
-    PrintsLine f place p old mid v → Takes mid new result text → PrintsWhole f place p old new result
-prints-whole f place p old mid new v text (Ok x) (reason, is, line) taken = (v, reason, is, text, Appends-trans old mid new _ text line taken)
-prints-whole f place p old mid new v text (Err u) (reason, is, line) taken = (_, Appends-trans old mid new _ taken.part line taken.appends)
+pub prints-whole : {A : Type 0} (f : Filter) (place : ℕ) (p : Packet) (old mid new : Option (List ℕ)) (v : Verdict) (result : Result A Unprinted) →
+    PrintsLine f place p old mid v → PrintsMore mid new result → PrintsWhole f place p old new result
+prints-whole f place p old mid new v (Ok x) (reason, is, line) (text, taken) = (v, reason, is, text, Appends-trans old mid new _ text line taken)
+prints-whole f place p old mid new v (Err unprinted.NoMemory) (reason, is, line) kept = inr (v, (reason, is, Appends-kept old mid new _ line kept))
+prints-whole f place p old mid new v (Err (unprinted.Output error)) (reason, is, line) (text, part) = (v, reason, is, text, TakesPart-then old mid new _ text line part)

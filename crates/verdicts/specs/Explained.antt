@@ -88,14 +88,13 @@ IsEnd None read = IsOk read
 IsEnd (Some fault) read = IsErrOf read fault
 
 -- Up to which packets a capture was read, and how that ended. It was read to its end, or to its first torn or bad record; or the
--- source broke, and what it had given stops behind these packets; or no more can be counted; or the printing broke off.
-abbrev pub ReadsTo : {A : Type 0} → Option (List ℕ) → Option (List ℕ) → Header → List Packet → Result A Fault → Result A Unprinted → Type 0
-ReadsTo from left header packets read done =
+-- source broke, and what it had given stops behind these packets; or no more can be counted.
+abbrev pub ReadsTo : {A : Type 0} → Option (List ℕ) → Option (List ℕ) → Header → List Packet → Result A Fault → Type 0
+ReadsTo from left header packets read =
     ((fault : Option Fault) × WasRead from header packets fault × IsEnd fault read)
     ⊎ (WasBegun from header packets
     × ((IsErrOf read Device × WasTaken from left header packets)
-    ⊎ (IsErrOf read CountFull × (length packets ≡ 2 ^ 64 - 1))
-    ⊎ (IsOk read × IsErr done)))
+    ⊎ (IsErrOf read CountFull × (length packets ≡ 2 ^ 64 - 1))))
 
 -- Why no header was read: it is refused, or memory was wanting, or the source broke before it had given the 24 bytes of one.
 abbrev pub IsUnopened : Option (List ℕ) → Option (List ℕ) → Fault → Type 0
@@ -106,17 +105,25 @@ IsUnopened from left fault =
 
 -- ---- A capture
 
+-- The printing broke off at a line: a beginning of the lines of packets that the capture begins with was printed, and no counts.
+abbrev pub BreaksOff : {A : Type 0} → Filter → Option (List ℕ) → Header → Option (List ℕ) → Option (List ℕ) → Result A Fault → Result A Unprinted → Type 0
+BreaksOff filter from header old new read done =
+    (answers : List Answer) × AllByRecursion (IsAnswer filter) answers × WasBegun from header (packets_of answers)
+    × IsOk read × IsErr done × TakesPart old new (answer_lines answers)
+
 -- the lines of the packets of a reader were printed and counted
 abbrev pub PrintsLines : {A : Type 0} → Filter → Option (List ℕ) → Option (List ℕ) → Header → Option (List ℕ) → Option (List ℕ) → Counts → Result A Fault → Result A Unprinted → Type 0
 PrintsLines filter from left header old new counts read done =
-    (answers : List Answer) × AllByRecursion (IsAnswer filter) answers × ReadsTo from left header (packets_of answers) read done
-    × MatchResult done (λ _. Appends old new (answer_lines answers) × AreCounts counts answers) (λ _. TakesPart old new (printed answers))
+    BreaksOff filter from header old new read done
+    ⊎ ((answers : List Answer) × AllByRecursion (IsAnswer filter) answers × ReadsTo from left header (packets_of answers) read
+    × IsOk done × Appends old new (answer_lines answers) × AreCounts counts answers)
 
 -- and then the counts
 abbrev pub PrintsAll : {A : Type 0} → Filter → Option (List ℕ) → Option (List ℕ) → Header → Option (List ℕ) → Option (List ℕ) → Counts → Result A Fault → Result A Unprinted → Type 0
 PrintsAll filter from left header old new counts read done =
-    (answers : List Answer) × AllByRecursion (IsAnswer filter) answers × ReadsTo from left header (packets_of answers) read done
-    × Prints old new answers counts done
+    BreaksOff filter from header old new read done
+    ⊎ ((answers : List Answer) × AllByRecursion (IsAnswer filter) answers × ReadsTo from left header (packets_of answers) read
+    × Prints old new answers counts done)
 
 -- The header was not read, and nothing was printed; or the packets up to some end were answered, and that was printed.
 abbrev pub Explains : {R : Type 0} → (R → Option (List ℕ)) → R → Filter → Option (List ℕ) → Option (List ℕ) → Explained R → Type 0
@@ -139,12 +146,23 @@ IsLineBroken filter place p old new (unprinted.Output error) =
 
 -- ---- One packet
 
--- the line of a packet was printed, and more behind it; or some text
+-- what stands behind the line of a packet was printed; or memory for it was wanting, or the writer failed
+abbrev pub PrintsMore : {A : Type 0} → Option (List ℕ) → Option (List ℕ) → Result A Unprinted → Type 0
+PrintsMore old new (Ok done) = (text : List ℕ) × Appends old new text
+PrintsMore old new (Err unprinted.NoMemory) = Keeps old new
+PrintsMore old new (Err (unprinted.Output error)) = (text : List ℕ) × TakesPart old new text
+
+-- The line of a packet was printed, and more behind it. Where memory was wanting that line alone was, or nothing; and where the
+-- writer failed a beginning of the line, or that line and what stands behind it.
 abbrev pub PrintsWhole : {A : Type 0} → Filter → ℕ → Packet → Option (List ℕ) → Option (List ℕ) → Result A Unprinted → Type 0
 PrintsWhole filter place p old new (Ok done) =
     (verdict : Verdict) × (reason : List ℕ) × IsAnswer filter (answer p verdict reason)
     × (more : List ℕ) × Appends old new (answer_line place (answer p verdict reason) ++ more)
-PrintsWhole filter place p old new (Err unprinted) = (text : List ℕ) × Appends old new text
+PrintsWhole filter place p old new (Err unprinted.NoMemory) =
+    Keeps old new ⊎ ((verdict : Verdict) × PrintsLine filter place p old new verdict)
+PrintsWhole filter place p old new (Err (unprinted.Output error)) =
+    (verdict : Verdict) × (reason : List ℕ) × IsAnswer filter (answer p verdict reason)
+    × (more : List ℕ) × TakesPart old new (answer_line place (answer p verdict reason) ++ more)
 
 -- what is printed where the packet is found, and nothing else
 abbrev pub PrintsFound : {A : Type 0} → Filter → ℕ → Packet → Option (List ℕ) → Option (List ℕ) → Result Bool Fault → Result A Unprinted → Type 0

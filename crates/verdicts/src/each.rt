@@ -102,7 +102,8 @@ impl Counts {
 ///
 /// Each line is sent before the next packet is read, in memory that does not grow with the capture. `read` has the header's fault,
 /// and then nothing is printed, or that of the first torn or bad record, behind the line of the counts. It is
-/// [`Fault::Device`] exactly where the source failed. Where `printed` has a fault, `out` took a beginning of the text.
+/// [`Fault::Device`] exactly where the source failed. Where `printed` has a fault, `out` took a beginning of the text; and where that
+/// broke off at a line, none of the counts.
 pub fn explain_each<R: Source, O: Write>(
     alloc: Global,
     from: R,
@@ -228,16 +229,16 @@ fn print_counts<O: Write>(counts: Counts, line: &mut String, out: &mut O) -> Res
     ensures { Takes (O.contents out.old) (O.contents out.new) result (counts_text counts.packets counts.yes counts.no counts.abort) }
 {
     put_counts(line, counts)?;
-    send_last(line.as_bytes(), out)
+    send_last(line.as_bytes(), out)?;
+    Ok(())
 }
 
 /// Sends a text, and all that the writer has gathered.
-pub(crate) fn send_last<O: Write>(text: &[u8], out: &mut O) -> Result<(), Unprinted>
+pub(crate) fn send_last<O: Write>(text: &[u8], out: &mut O) -> io::Result<()>
     ensures { Takes (O.contents out.old) (O.contents out.new) result text.now }
 {
     send(text, out)?;
-    out.flush()?;
-    Ok(())
+    out.flush()
 }
 
 /// Puts the line of the counts in place of what the line has.

@@ -4,7 +4,7 @@ ghost use Rattle.std.specs.Prelude.{◌≡◌, ◌≢◌, ◌↔◌, ℕ, List, 
 ghost use Rattle.std.specs.Io.KnownBytes.{Consumes};
 ghost use Rattle.savefile.specs.declared.header.Header.{Header};
 ghost use Rattle.savefile.specs.Reader.{HasGiven, Lends};
-ghost use Rattle.verdicts.specs.Explained.{Finds, GoesTo, PrintsFound, PrintsWhole};
+ghost use Rattle.verdicts.specs.Explained.{Finds, GoesTo, PrintsFound, PrintsMore, PrintsWhole};
 
 use crate::each::{Unprinted, print_line, send_last};
 use crate::filter::Filter;
@@ -29,7 +29,8 @@ pub struct Found<R> {
 /// not asked; and the run of the program, by the names of its instructions, with the registers behind each.
 ///
 /// `read` is `Ok(false)` where the capture has no packet at that place; or it has the fault that stands before it, as that of the
-/// header, or of a torn or bad record. Then nothing is printed.
+/// header, or of a torn or bad record. Then nothing is printed. Where `printed` is `NoMemory`, `out` took that line alone or nothing,
+/// and where it is `Output` a beginning of the line, or the line and what stands behind it.
 pub fn explain_one<R: Source, O: Write>(
     alloc: Global,
     from: R,
@@ -115,6 +116,20 @@ fn print_whole<O: Write>(
 {
     let mut line = String::new(alloc);
     print_line(alloc, filter, place, packet, &mut line, out)?;
+    print_rest(alloc, filter, place, packet, out)
+}
+
+/// Prints what is told of a packet behind its line.
+fn print_rest<O: Write>(
+    alloc: Global,
+    filter: &Filter,
+    place: u64,
+    packet: &PacketRef<'_>,
+    out: &mut O,
+) -> Result<(), Unprinted>
+    ensures { PrintsMore (O.contents out.old) (O.contents out.new) result }
+{
     let text = whole_text(alloc, filter, place, packet)?;
-    send_last(text.as_bytes(), out)
+    send_last(text.as_bytes(), out)?;
+    Ok(())
 }

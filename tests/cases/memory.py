@@ -1,0 +1,134 @@
+"""Memory that is refused: each block that a command asks for, where `strace` is there and may trace."""
+import concurrent.futures
+import os
+import re
+import shutil
+import subprocess
+
+from .common import ARP_RECORD, HEADER, IP, IP_RECORD, LIMIT, PROGRAM, TCP_RECORD, UDP_RECORD, Scene, Seen, case, words_of
+
+# Each block of memory is so a call of mmap of its own, and one that grows beyond a page is a new block.
+BLOCKS = {**os.environ, "GLIBC_TUNABLES": "glibc.malloc.mmap_threshold=0"}
+
+# What mmap refuses the C library asks of brk, and then of mmap once more.
+OTHER_WAYS = ["brk:retval=0", "mremap:error=ENOMEM"]
+
+# Which calls of mmap are refused, from one on: this block alone, or it and all behind it.
+ONCE, FOR_GOOD = (lambda call: f"{call}..{call + 1}"), (lambda call: f"{call}+")
+
+OUTPUTS = ["out.pcap", "all.pcap"]
+FILES = {"in.pcap": HEADER + ARP_RECORD + IP_RECORD + TCP_RECORD + UDP_RECORD, "ip.bpf": IP, "lines.txt": "64 out.pcap arp\n64 all.pcap\n",
+         "bad.txt": "64 out.pcap\n64 all.pcap prot 80\n", "word.txt": "0 0 64 96 2 out.pcap prot 80\n",
+         "small.txt": "64 128 tcp\n64 95\n", "listeners.txt": "64 128 tcp or arp\n", "script.txt": "arrive\narrive\nread 0\narrive\n"}
+
+EXPRESSION = "'not (udp port 53 and len > 40) or tcp[tcpflags] & tcp-syn != 0'"
+
+COMMANDS = [
+    f"check -d {EXPRESSION}",
+    f"check -x {EXPRESSION}",
+    "check -f ip.bpf",
+    f"explain -e {EXPRESSION} in.pcap",
+    "explain -f ip.bpf in.pcap",
+    f"explain -p 2 -e {EXPRESSION} in.pcap",
+    "explain -p 2 -f ip.bpf in.pcap",
+    f"cut -s 64 -c -e {EXPRESSION} in.pcap out.pcap",
+    "cut -s 64 -c -f ip.bpf in.pcap out.pcap",
+    "split lines.txt in.pcap",
+    "steps listeners.txt script.txt in.pcap",
+]
+
+FAULTS = ["--hints check 'src prot 17'", "--hints cut -s 0 in.pcap none/out.pcap", "--hints check tcp port 80", "--hints explain tcp in.pcap",
+          "--hints split bad.txt in.pcap", "--hints run word.txt in.pcap", "--hints steps small.txt script.txt in.pcap"]
+
+
+def can_trace():
+    """Whether the calls of a program can be traced and refused here."""
+    words = ["strace", "-qq", "-e", "trace=mmap", "-e", "inject=mmap:error=ENOMEM:when=1000..1001", "true"]
+    return shutil.which("strace") is not None and subprocess.run(words, capture_output=True).returncode == 0
+
+
+def traced(scene, words, which=None):
+    """What the program prints and tells where these calls of mmap are refused, the files then, and the calls."""
+    refused = [] if which is None else [f"mmap:error=ENOMEM:when={which}", *OTHER_WAYS]
+    injected = [word for one in refused for word in ("-e", f"inject={one}")]
+    scene.start(FILES)
+    calls = scene.folder / "calls"
+    command = ["strace", "-qq", "-o", calls, "-e", "trace=mmap,brk,mremap", *injected, PROGRAM, *words_of(words)]
+    done = subprocess.run(command, cwd=scene.folder, stdin=subprocess.DEVNULL, capture_output=True, timeout=LIMIT, env=BLOCKS)
+    found = [line for line in calls.read_text().splitlines() if line.startswith("mmap(")]
+    return Seen(done.stdout, done.stderr, done.returncode), [scene.read(name) or b"" for name in OUTPUTS], found
+
+
+def first_block(calls):
+    """Which call is the program's first: behind those that load the C library, and one more, by which it is made ready."""
+    loading = [number for number, call in enumerate(calls, 1) if "MAP_PRIVATE|MAP_ANONYMOUS, -1, 0" not in call]
+    return max(loading) + 2
+
+
+def refusals(folder, words, which):
+    """What the program does undisturbed, and then for each block with that one refused; the last run is one that asks for no more."""
+    folder.mkdir()
+    scene = Scene(folder)
+    seen, files, calls = traced(scene, words)
+    runs, call = [(0, False, seen, files)], first_block(calls)
+    while len(runs) == 1 or runs[-1][1]:
+        seen, files, calls = traced(scene, words, which(call))
+        runs.append((call, any("INJECTED" in one for one in calls), seen, files))
+        call += 1
+    return runs
+
+
+def sweep(scene, commands, which):
+    """For each of some commands its runs, several commands at a time."""
+    if not can_trace():
+        return
+    with concurrent.futures.ThreadPoolExecutor(4) as pool:
+        started = [pool.submit(refusals, scene.folder / str(number), words, which) for number, words in enumerate(commands)]
+        for words, one in zip(commands, started):
+            yield words, one.result()
+
+
+def is_wanting(seen):
+    """Whether want of memory is told, with status 1, and nothing else."""
+    return re.fullmatch(rb"bpftap: (Capture \d+ )?NoMemory\n", seen.err) is not None and seen.status == 1
+
+
+def check_beginning(scene, what, part, whole):
+    """What was printed and written is a beginning of what it is undisturbed."""
+    (seen, files), (wanted, texts) = part, whole
+    scene.check(f"printed {what}", wanted.out[: len(seen.out)], seen.out)
+    scene.check(f"written {what}", [text[: len(one)] for one, text in zip(files, texts)], files)
+
+
+@case
+def want_of_memory_is_told(scene):
+    """From a block on all memory is refused: that is told, with status 1, and what was printed and written is a beginning."""
+    for words, [(_, _, whole, texts), *runs] in sweep(scene, COMMANDS, FOR_GOOD):
+        scene.check(f"blocks of {words}", len(runs) > 30, True)
+        for call, is_refused, seen, files in runs:
+            what = f"by {words}, refused from call {call}"
+            scene.check(f"told {what}", is_wanting(seen) if is_refused else seen == whole, True)
+            check_beginning(scene, what, (seen, files), (whole, texts))
+
+
+@case
+def no_answer_stands_for_want_of_memory(scene):
+    """One block is refused, and those behind it are not: that is told, or all is as it is undisturbed."""
+    for words, [(_, _, whole, texts), *runs] in sweep(scene, COMMANDS, ONCE):
+        for call, _, seen, files in runs:
+            what = f"by {words}, call {call} refused"
+            scene.check(f"told {what}", is_wanting(seen) or (seen, files) == (whole, texts), True)
+            check_beginning(scene, what, (seen, files), (whole, texts))
+
+
+@case
+def hints_say_nothing_else(scene):
+    """One block is refused: that is told, or the fault, and no hint that does not stand there undisturbed."""
+    for words, [(_, _, whole, _), *runs] in sweep(scene, FAULTS, ONCE):
+        for call, _, seen, _ in runs:
+            first, *hints = seen.err.splitlines()
+            same = (first, seen.status) == (whole.err.splitlines()[0], whole.status)
+            scene.check(f"told by {words}, call {call} refused", is_wanting(Seen(b"", first + b"\n", seen.status)) or same, True)
+            others = [hint for hint in hints if hint not in whole.err.splitlines()]
+            scene.check(f"hints of {words}, call {call} refused", others, [])
+            scene.check(f"printed by {words}, call {call} refused", seen.out, b"")
