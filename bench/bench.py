@@ -9,6 +9,8 @@
   bench/bench.py --run             packets per second of `bpftap run` with 1 to 8 listeners and 1 to 4 interfaces, beside as many `cut`
                                    and tcpdump at once; what is dropped with few buffers; instructions of a packet that nobody accepts, and
                                    of the same by `cut`
+  bench/bench.py --replay          user instructions of such a packet, with one listener and for each more, by a program over `replay`
+                                   alone; proves and builds bench/replay in a copy first
   bench/bench.py --waiting         processor time of `bpftap run` with 1, 8 and 64 listeners over a fifo that is silent for five seconds;
                                    packets per second and what is dropped with 1 to 8 listeners and few or many spare buffers, with
                                    16 interfaces of 8 listeners, and with an OUT of which 1 MB a second is read; with `--beside PATH`
@@ -16,13 +18,16 @@
   bench/bench.py --handover        arrivals per second at a listener, at a pair in one thread and in two, and at a listener under
                                    a lock in two threads; proves and builds bench/handover in a copy first
   bench/bench.py --split           wall time of `split` with eight filters, beside a cut and a tcpdump for each, one by one and at once
+  bench/bench.py --rejecting       wall and processor time of `cut -e` with `udp port 53` on packets that it rejects, beside tcpdump; with
+                                   `--beside PATH` beside another filter too, which is called by EXPRESSION CAPTURE OUT
   bench/bench.py --expressions     wall time of `check` on expressions of some 8,192 bytes, interleaved runs, on a small stack
 
 Machines are noisy, so the ratios of one run are what to compare. Instructions are repeatable. The captures that
 bpftap and tcpdump write are compared.
 
-It needs Python alone; without tcpdump only bpftap is measured, --instructions needs valgrind, and peak memory is
-told where GNU time is (a program started by Python itself shows Python's size where it needs less).
+It needs Python alone, and builds bpftap first, but where BPFTAP=PATH names a built one; without tcpdump only bpftap is
+measured, --instructions needs valgrind, and peak memory is told where GNU time is (a program started by Python itself
+shows Python's size where it needs less).
 """
 import argparse
 import filecmp
@@ -40,7 +45,7 @@ import tempfile
 import time
 
 ROOT = pathlib.Path(__file__).resolve().parent.parent
-PROGRAM = ROOT / "crates" / "bpftap" / "out" / "bpftap"
+PROGRAM = pathlib.Path(os.environ.get("BPFTAP", ROOT / "crates" / "bpftap" / "out" / "bpftap"))
 # Bytes; the program's own limit is that of the machine, mostly 8 MiB.
 STACK = 1 << 20
 # As `tcpdump -ddd udp port 53` prints it.
@@ -222,6 +227,11 @@ def handover_program(folder):
     return built(folder, "handover", below, {"main.txt": "src/main.rt", **files}, ["listener", "1"])
 
 
+def replay_program(folder):
+    below = ["savefile", "bpfvm", "listener", "handover", "replay"]
+    return built(folder, "replay", below, {"main.txt": "src/main.rt"}, ["1", "/dev/null"])
+
+
 def arrivals(folder):
     """Instructions for each arrival that is stored, with a read behind each rotation."""
     program = listener_program(folder)
@@ -302,6 +312,19 @@ def rejected(folder):
         counts["cut", many] = instructions_of([str(PROGRAM), "cut", *filtered, str(capture), str(folder / "nobody.pcap")], folder)
     of = {name: (counts[name, 11000] - counts[name, 1000]) / 10000 for name in (1, 2, "cut")}
     print(f"user instructions for each packet that nobody accepts: run {of[1]:.0f}, each listener more {of[2] - of[1]:.0f}, cut {of['cut']:.0f}")
+
+
+def rejected_by_replay(folder):
+    """The same of a replay by the bench's own program."""
+    program = replay_program(folder)
+    counts = {}
+    for many in (1000, 11000):
+        capture = folder / f"{many}.pcap"
+        generate(capture, many)
+        for listeners in (1, 2):
+            counts[listeners, many] = instructions_of([program, str(listeners), str(capture)], folder)
+    one, two = ((counts[listeners, 11000] - counts[listeners, 1000]) / 10000 for listeners in (1, 2))
+    print(f"user instructions for each packet that nobody accepts: one listener {one:.0f}, each more {two - one:.0f}")
 
 
 def replays(folder, packets, rounds):
@@ -467,6 +490,43 @@ def splits(folder, packets, rounds):
         print(f"{told:22} {statistics.median(times):6.2f} s")
 
 
+def spent(words):
+    """Seconds, and processor seconds, of one run."""
+    start = time.perf_counter()
+    with subprocess.Popen(words, stdout=subprocess.DEVNULL, stderr=subprocess.DEVNULL) as process:
+        # What its children took is told once they were waited for.
+        _, status, used = os.wait4(process.pid, 0)
+        process.returncode = os.waitstatus_to_exitcode(status)
+    if process.returncode != 0:
+        sys.exit(f"{words[0]} ended with {process.returncode}")
+    return time.perf_counter() - start, used.ru_utime + used.ru_stime
+
+
+def rejecting(folder, packets, rounds, other):
+    """What it costs to reject packets of which half are UDP of another port, and half ARP."""
+    whole, capture, expression = folder / "whole.pcap", folder / "in.pcap", "udp port 53"
+    generate(whole, packets)
+    subprocess.run([str(PROGRAM), "cut", "-s", "0", "-e", f"not {expression}", str(whole), str(capture)], check=True)
+    commands = {"bpftap cut": [str(PROGRAM), "cut", "-s", "0", "-e", expression, str(capture), f"{folder}/cut-out.pcap"]}
+    if shutil.which("tcpdump"):
+        stay = ["-Z", "root"] if os.geteuid() == 0 else []
+        commands["tcpdump"] = ["tcpdump", *stay, "-r", str(capture), "-w", f"{folder}/tcpdump-out.pcap", expression]
+    if other:
+        commands["beside"] = [other, expression, str(capture), f"{folder}/beside-out.pcap"]
+    seen = {name: [] for name in commands}
+    for _ in range(rounds):
+        for name, words in commands.items():
+            seen[name].append(spent(words))
+    for out in folder.glob("*-out.pcap"):
+        if out.stat().st_size != 24:
+            sys.exit(f"{out.name}: more than the header was written")
+    print(f"{capture.stat().st_size / 1e6:.0f} MB, all rejected, median of {rounds} interleaved rounds, {os.cpu_count()} processors")
+    for name, runs in seen.items():
+        wall, used = (1000 * statistics.median(times) for times in zip(*runs))
+        counted = f", {instructions_of(commands[name], folder) / 1e6:.1f} million instructions" if shutil.which("valgrind") else ""
+        print(f"{name:10} {wall:7.1f} ms, {used:7.1f} ms of a processor{counted}")
+
+
 def handing_over(folder, rounds):
     """Arrivals per second at a listener, at a pair in one thread and in two, and at a listener under a lock in two."""
     program = handover_program(folder)
@@ -547,10 +607,12 @@ def main():
     parser.add_argument("--listener", action="store_true")
     parser.add_argument("--steps", action="store_true")
     parser.add_argument("--run", action="store_true")
+    parser.add_argument("--replay", action="store_true")
     parser.add_argument("--waiting", action="store_true")
-    parser.add_argument("--beside", metavar="PATH", help="another built program, for --waiting")
+    parser.add_argument("--beside", metavar="PATH", help="another built program, for --waiting, or another filter, for --rejecting")
     parser.add_argument("--handover", action="store_true")
     parser.add_argument("--split", action="store_true")
+    parser.add_argument("--rejecting", action="store_true")
     parser.add_argument("--packets", type=int, default=150000)
     parser.add_argument("--rounds", type=int, default=5)
     words = parser.parse_args()
@@ -560,7 +622,11 @@ def main():
     if words.handover:
         with tempfile.TemporaryDirectory() as name:
             return handing_over(pathlib.Path(name), words.rounds)
-    subprocess.run([str(ROOT / "bpftap"), "--help"], check=True, stdout=subprocess.DEVNULL)
+    if words.replay:
+        with tempfile.TemporaryDirectory() as name:
+            return rejected_by_replay(pathlib.Path(name))
+    if "BPFTAP" not in os.environ:
+        subprocess.run([str(ROOT / "bpftap"), "--help"], check=True, stdout=subprocess.DEVNULL)
     if not words.expressions and shutil.which("tcpdump") is None:
         print("tcpdump is not there: only bpftap is measured")
     with tempfile.TemporaryDirectory() as name:
@@ -576,6 +642,8 @@ def main():
             waiting(folder, words.packets, words.rounds, programs)
         elif words.split:
             splits(folder, words.packets, words.rounds)
+        elif words.rejecting:
+            rejecting(folder, words.packets, words.rounds, words.beside)
         elif words.expressions:
             expressions(20 * words.rounds)
         else:

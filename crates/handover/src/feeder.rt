@@ -24,10 +24,11 @@ use std::marker::Model;
 ///
 /// Contracts see which pair it is of, its filter, its calls with their answers, the steps that these took, which steps
 /// of both ends it has seen, and its store.
+// The program stands first, so that a packet which it rejects takes one address of the feeder.
 #[derive(Drop)]
 pub struct Feeder {
-    pub(crate) stand: Stand,
     pub(crate) program: Program,
+    pub(crate) stand: Stand,
     pub(crate) snap: u32,
     pub(crate) mode: Mode,
     pub(crate) counts: Counts,

@@ -13,10 +13,11 @@ pub(crate) struct Entry {
 }
 
 /// Where packets go into one listener, and after how many arrivals it is flushed.
+// The feeder stands first, so that a packet which it rejects takes one address of both.
 #[derive(Drop)]
 pub(crate) struct Inlet<'a> {
-    pub(crate) link: &'a TaskLink,
     pub(crate) feeder: Feeder,
+    pub(crate) link: &'a TaskLink,
     pub(crate) flush_every: u32,
     ghost pair: { feeder.pair ≡ link.now },
 }

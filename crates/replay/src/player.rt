@@ -110,6 +110,9 @@ impl Player<'_> {
     }
 
     /// Gives the packets of a capture to the feeders, one behind the other. Where that ends the interface, it answers how.
+    ///
+    /// It stands by itself in the program, so that what is read and asked for each packet stays in registers.
+    #[inline(never)]
     fn give_packets<S: Source, G: Gate>(
         &mut self,
         gate: &G,

@@ -74,7 +74,7 @@ fn read_header<R: Source>(ahead: &mut Ahead<R>) -> Result<Header, Fault>
 }
 
 /// Passes the record that comes next, at this place, whose bytes are then lent; `false` where nothing is left.
-#[inline]
+#[inline(always)]
 fn read_record<R: Source>(
     ahead: &mut Ahead<R>,
     head: &mut RecordHeader,
@@ -157,7 +157,7 @@ impl<R: Source> Reader<R> {
     /// call, and behind all packets that came whole in what was taken from the source. After each of these every call
     /// answers [`Fault::Failed`], which comes nowhere else, and reads nothing. [`Fault::CountFull`] comes exactly after
     /// 2^64 - 1 packets, reads nothing, and repeats. No memory is taken.
-    #[inline]
+    #[inline(always)]
     pub fn advance(&mut self) -> Result<bool, Fault>
         // One packet more, the end, or why there is none. What was given so far begins what the text holds, whatever
         // comes. Each packet may be written.
