@@ -395,7 +395,7 @@ fn packets_behind(step: Step, packets: &[Placed]) -> &[Placed]
 
 /// Writes for each step a line, and below it a line for each listener that it reaches: what it answered, and why. Steps are counted
 /// from 1, as the lines of SCRIPT. `all` are the answers of [`all_left`], of a trace of these steps and this playlist. `line` is that
-/// of [`line_for`], so that it takes no memory more.
+/// of [`line_for`], whose room is meant to be enough for all of them: that it takes no memory more is not proved.
 ///
 /// Where it fails, `out` took a beginning of the text and no more.
 pub fn write_answers<O: Write>(

@@ -143,7 +143,7 @@ fn print_trace<O: Write>(
 /// step goes before, and below it one for each listener that it reaches, with what it answered, and why.
 ///
 /// What is printed, told and answered is as [`steps`] says. With `explained` memory may also be wanting behind the replay; then
-/// that alone is told, and nothing is printed.
+/// that alone is told, and nothing is printed, unless it is for a line ([`crate::answers::line_for`]).
 pub fn play_asked<O: Write, E: Write>(
     alloc: Global,
     asked: &Asked,
