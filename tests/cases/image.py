@@ -1,7 +1,10 @@
 """`bpftap check -d`: a program by the names of its instructions, as `tcpdump -d` prints it.
 
 `tests/vectors/codes.image` is what libpcap 1.10.3 prints (`bpf_image`) of the program of `codes.listing`, which has every code
-but 0x81, for which it has no name; `expression.*` are what `tcpdump -ddd` and `tcpdump -d` print of one expression."""
+but 0x81, for which it has no name; `expression.*` are what `tcpdump -ddd` and `tcpdump -d` print of one expression, and
+`expressions.txt` has both of eighteen, with every addressing form: a line with the expression, the one and the other."""
+import re
+
 from .common import IP, ROOT, case
 
 VECTORS = ROOT / "tests" / "vectors"
@@ -20,6 +23,17 @@ def a_listing_is_printed_as_tcpdump_prints_it(scene):
         listing, image = VECTORS / f"{name}.listing", (VECTORS / f"{name}.image").read_text()
         scene.expect(["check", "-d", "-f", listing], out=image)
         scene.expect(["check", "-f", listing], out=listing.read_text())
+
+
+@case
+def listings_of_expressions_are_printed_as_tcpdump_prints_them(scene):
+    """The programs of expressions with every addressing form have the bytes of tcpdump's own print."""
+    for block in (VECTORS / "expressions.txt").read_text().split("tcpdump ")[1:]:
+        expression, _, prints = block.partition("\n")
+        listing, image = re.fullmatch(r"([^(]*)(\(000\).*)", prints, re.S).groups()
+        scene.put({"listing.txt": listing})
+        scene.check(f"names of {expression}", scene.run("check -d -f listing.txt").out.decode(), image)
+        scene.expect("check -f listing.txt", out=listing)
 
 
 @case
