@@ -35,6 +35,7 @@ COMMANDS = [
     "cut -s 64 -c -f ip.bpf in.pcap out.pcap",
     "split lines.txt in.pcap",
     "steps listeners.txt script.txt in.pcap",
+    "steps -v listeners.txt script.txt in.pcap",
 ]
 
 FAULTS = ["--hints check 'src prot 17'", "--hints cut -s 0 in.pcap none/out.pcap", "--hints check tcp port 80", "--hints explain tcp in.pcap",
