@@ -5,7 +5,7 @@ use filtergen::compile_text;
 use std::process::Abort;
 
 /// An expression, and what tcpdump 4.99.3 with libpcap 1.10.3 prints of it for Ethernet and a snapshot length of 262,144.
-const AS_TCPDUMP: [(&str, &str); 7] = [
+const AS_TCPDUMP: [(&str, &str); 9] = [
     (
         "arp or rarp",
         "5\n40 0 0 12\n21 1 0 2054\n21 0 1 32821\n6 0 0 262144\n6 0 0 0\n",
@@ -33,6 +33,14 @@ const AS_TCPDUMP: [(&str, &str); 7] = [
     (
         "ip[8] > 2 * 8 + 16",
         "6\n40 0 0 12\n21 0 3 2048\n48 0 0 22\n37 0 1 32\n6 0 0 262144\n6 0 0 0\n",
+    ),
+    (
+        "ip[6:2] & 0x1fff = 0",
+        "6\n40 0 0 12\n21 0 3 2048\n40 0 0 20\n69 1 0 8191\n6 0 0 262144\n6 0 0 0\n",
+    ),
+    (
+        "tcp[tcpflags] & (tcp-syn|tcp-fin) != 0",
+        "11\n40 0 0 12\n21 0 8 2048\n48 0 0 23\n21 0 6 6\n40 0 0 20\n69 4 0 8191\n177 0 0 14\n80 0 0 27\n69 0 1 3\n6 0 0 262144\n6 0 0 0\n",
     ),
 ];
 

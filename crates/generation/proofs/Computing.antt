@@ -6,8 +6,9 @@ use Rattle.std.proofs.lemmas.Nat.{and_le_r}
 use Rattle.std.proofs.lemmas.Bool.{cases_lt}
 use Rattle.std.proofs.lemmas.Bool.Decides.{nat_tests}
 use Rattle.bpfvm.specs.declared.insn.Insn.{Insn}
-use Rattle.bpfvm.specs.Codes.{Register, Accumulator, Index, Subtract, operation_of}
-use Rattle.bpfvm.specs.Machine.{Registers, with_value, with_cell, Goes, loaded, effect, number_at, calculated}
+use Rattle.bpfvm.specs.Codes.{Register, Accumulator, Index, Subtract, AnyBit, operation_of}
+use Rattle.bpfvm.specs.Machine.{Registers, with_value, with_cell, Goes, loaded, effect, number_at, calculated, holds}
+use Rattle.syntax.specs.declared.tree.Comparison.TheVariants as comparisons
 use Rattle.syntax.specs.Trees.{Amount, number, wire_length, minus, binary, accessor}
 use Rattle.syntax.specs.declared.tree.Operator.{Operator}
 use Rattle.syntax.specs.declared.tree.Operator.TheVariants as operators
@@ -26,7 +27,7 @@ use Rattle.semantics.specs.declared.verdict.Verdict.{Verdict}
 use Rattle.semantics.specs.declared.verdict.Verdict.TheVariants.{Yes, No, Abort}
 use Rattle.analysis.specs.Knowing.{behind_layers}
 use Rattle.generation.specs.Remaining.{rest_of_layers}
-use Rattle.semantics.specs.Meaning.{Packet, and_then, byte, decided, arithmetic_of, bytes_of, accessed, value, check_both}
+use Rattle.semantics.specs.Meaning.{Packet, and_then, opposite, byte, decided, compared, arithmetic_of, bytes_of, accessed, value, check_both}
 use Rattle.generation.specs.Parts.{constant_of, IsLeaf, leaf_value, base_of, read_from, value_cost}
 use Rattle.generation.specs.Insns.{plain_insn, calculation_insn, absolute_code, indirect_code}
 use Rattle.generation.specs.Emission.{AreExits, HasCells, run_from, Answers, outcome, Chooses, Decides, value_of, front, Loads, Keeps, Computed, Computes, Applies, Paired, Pairs}
@@ -304,6 +305,35 @@ pub constant-behind : (o : Operator) (v w : Amount) (n : ℕ) (p : Packet) → c
     → option_and_then (λ a. calculated (arithmetic_of o) a n) (value v p) ≡ value (binary o v w) p
 constant-behind o v w n p is = sym (ap (λ x. option_and_then (λ a. option_and_then (λ b. calculated (arithmetic_of o) a b) x) (value v p)) (constant-value w n p is))
 
+-- a comparison that is made by the opposite one
+pub not-equal : (a b : ℕ) → (if a == b then false else true) ≡ not (a == b)
+not-equal a b = by_test (a == b)
+  where
+    by_test : (c : Bool) → (if c then false else true) ≡ not c
+    by_test true = refl
+    by_test false = refl
+
+-- bits under a constant mask
+pub masked-value : (v w : Amount) (mask : ℕ) (p : Packet) → constant_of w ≡ Some mask → option_map (λ n. bit_and n mask) (value v p) ≡ value (binary operators.BitAnd v w) p
+masked-value v w mask p is = by_value (value v p) ∙ constant-behind operators.BitAnd v w mask p is
+  where
+    by_value : (x : Option ℕ) → option_map (λ n. bit_and n mask) x ≡ option_and_then (λ a. calculated (arithmetic_of operators.BitAnd) a mask) x
+    by_value None = refl
+    by_value (Some a) = refl
+
+-- any of them, and none
+pub bits-any : (mask : ℕ) (x : Option ℕ) → check_both (holds AnyBit) x (Some mask) ≡ check_both (compared comparisons.NotEqual) (option_map (λ n. bit_and n mask) x) (Some 0)
+bits-any mask None = refl
+bits-any mask (Some a) = ap decided (not-equal (bit_and a mask) 0)
+
+pub bits-none : (x : Option ℕ) → opposite (check_both (compared comparisons.NotEqual) x (Some 0)) ≡ check_both (compared comparisons.Equal) x (Some 0)
+bits-none None = refl
+bits-none (Some a) = by_test (a == 0)
+  where
+    by_test : (b : Bool) → opposite (decided (not b)) ≡ decided b
+    by_test true = refl
+    by_test false = refl
+
 -- an accessor with a constant as its index
 pub index-known : (l : Layer) (size : ℕ) (v : Amount) (n : ℕ) (p : Packet) → constant_of v ≡ Some n → accessed l size p n ≡ option_and_then (accessed l size p) (value v p)
 index-known l size v n p is = sym (ap (option_and_then (accessed l size p)) (constant-value v n p is))
@@ -482,14 +512,7 @@ decides-valued {k} {m} f c {v} {exits} {old} {mid} {new} entry are is choice com
         ∙ by_choice (f s.accumulator c) _ _ a b (yes'.always s keeps.cells) (no'.always s keeps.cells)
         ∙ ap (λ i. outcome (decided (f i c)) a b) is'
 
--- a comparison that is made by the opposite one
-pub not-equal : (a b : ℕ) → (if a == b then false else true) ≡ not (a == b)
-not-equal a b = by_test (a == b)
-  where
-    by_test : (c : Bool) → (if c then false else true) ≡ not c
-    by_test true = refl
-    by_test false = refl
-
+-- an order that is tested by the opposite one
 pub not-from : (a b : ℕ) → (if nat_le b a then false else true) ≡ nat_lt a b
 not-from a b = by_cases (cases_lt a b)
   where

@@ -1,11 +1,12 @@
 //! Relations. Code is written from its end: of two tests that follow each other, the second one comes first here.
 
-ghost use Rattle.std.specs.Prelude.{◌≡◌, ◌+◌, ◌≤◌, length, max};
+ghost use Rattle.std.specs.Prelude.{◌≡◌, ◌+◌, ◌≤◌, length, max, bit_and, option_map, Some, IfSome};
 ghost use Rattle.syntax.specs.Trees.{amount_of};
-ghost use Rattle.semantics.specs.Meaning.{value, compared, check_both};
+ghost use Rattle.syntax.specs.declared.tree.Comparison.TheVariants.{NotEqual};
+ghost use Rattle.semantics.specs.Meaning.{Packet, value, compared, check_both};
 ghost use Rattle.analysis.specs.Weights.{value_need};
 ghost use Rattle.generation.specs.Remaining.{rest_of_type, rest_of_protocol, rest_of_first_fragment, rest_of, rest_of_layers, rest_of_relation};
-ghost use Rattle.generation.specs.Parts.{layers_cost, compare_cost, relation_cost};
+ghost use Rattle.generation.specs.Parts.{value_cost, layers_cost, compare_cost, relation_cost};
 ghost use Rattle.generation.specs.Emission.{AreExits, value_of, Chooses, Decides, OrFull};
 
 use crate::arithmetic::constant;
@@ -13,7 +14,26 @@ use crate::code::{Code, Exits, Full};
 use crate::insns::{Jump, Operand};
 use analysis::Known;
 use semantics::IP;
-use syntax::{Comparison, Value};
+use syntax::{Comparison, Operator, Value};
+
+/// The value and the mask of one whose bits a constant masks.
+fn masked(amount: &Value) -> Option<(&Value, u32)>
+    ensures same { IfSome result
+        (λ found. (p : Packet) → option_map (λ n. bit_and n found.1) (value (amount_of found.0.now) p) ≡ value (amount_of amount.now) p) }
+    ensures fits { IfSome result (λ found. value_cost (amount_of found.0.now) ≤ value_cost (amount_of amount.now)) }
+    ensures needs { IfSome result (λ found. value_need (amount_of found.0.now) ≤ value_need (amount_of amount.now)) }
+{
+    match amount {
+        Value::Binary(operator, left, right) => match *operator {
+            Operator::BitAnd => {
+                let mask = constant(right)?;
+                Some((left, mask))
+            }
+            _ => None,
+        },
+        _ => None,
+    }
+}
 
 impl Code {
     /// What is left of a test of the Ethernet type.
@@ -127,6 +147,66 @@ impl Code {
         }
     }
 
+    /// Goes to an exit by whether a value has any bit of a mask.
+    fn any_bit(&mut self, amount: &Value, mask: u32, exits: Exits) -> Result<usize, Full>
+        requires need { value_need (amount_of amount.now) ≤ 16 }
+        requires exits { AreExits self.old exits }
+        ensures { OrFull (3 + value_cost (amount_of amount.now)) self.old result
+            (λ entry. Decides (3 + value_cost (amount_of amount.now))
+            (λ p. check_both (compared NotEqual) (option_map (λ n. bit_and n mask) (value (amount_of amount.now) p)) (Some 0)) exits entry
+            self.old self.new) }
+    {
+        self.room(3)?;
+        self.branch(Jump::AnyBit, Operand::Constant(mask), exits);
+        self.value(amount, 0)?;
+        Ok(self.len())
+    }
+
+    /// Computes a value, and compares it with a number.
+    fn compare_number(
+        &mut self,
+        comparison: Comparison,
+        amount: &Value,
+        n: u32,
+        exits: Exits,
+    ) -> Result<usize, Full>
+        requires need { value_need (amount_of amount.now) ≤ 16 }
+        requires exits { AreExits self.old exits }
+        ensures { OrFull (3 + value_cost (amount_of amount.now)) self.old result
+            (λ entry. Decides (3 + value_cost (amount_of amount.now))
+            (λ p. check_both (compared comparison) (value (amount_of amount.now) p) (Some n)) exits entry self.old self.new) }
+    {
+        self.room(3)?;
+        self.compare_with(comparison, Operand::Constant(n), exits);
+        self.value(amount, 0)?;
+        Ok(self.len())
+    }
+
+    /// The same, where whether bits under a mask are 0 is one jump.
+    fn compare_constant(
+        &mut self,
+        comparison: Comparison,
+        amount: &Value,
+        n: u32,
+        exits: Exits,
+    ) -> Result<usize, Full>
+        requires need { value_need (amount_of amount.now) ≤ 16 }
+        requires exits { AreExits self.old exits }
+        ensures { OrFull (3 + value_cost (amount_of amount.now)) self.old result
+            (λ entry. Decides (3 + value_cost (amount_of amount.now))
+            (λ p. check_both (compared comparison) (value (amount_of amount.now) p) (Some n)) exits entry self.old self.new) }
+    {
+        match (comparison, masked(amount)) {
+            (Comparison::Equal, Some((bits, mask))) if n == 0 => {
+                self.any_bit(bits, mask, exits.swapped())
+            }
+            (Comparison::NotEqual, Some((bits, mask))) if n == 0 => {
+                self.any_bit(bits, mask, exits)
+            }
+            _ => self.compare_number(comparison, amount, n, exits),
+        }
+    }
+
     /// Computes two values, the left one first, and compares them.
     fn compare(
         &mut self,
@@ -144,9 +224,7 @@ impl Code {
     {
         self.room(3)?;
         if let Some(n) = constant(right) {
-            self.compare_with(comparison, Operand::Constant(n), exits);
-            self.value(left, 0)?;
-            return Ok(self.len());
+            return self.compare_constant(comparison, left, n, exits);
         }
         self.compare_with(comparison, Operand::Index, exits);
         self.pair(left, right, 0)?;

@@ -1,7 +1,8 @@
 use Rattle.std.proofs.Common.{Some, ap, sym, arith}
+use Rattle.std.proofs.lemmas.Result.{MatchResult-weaker}
 use Rattle.syntax.specs.Trees.{amount_of}
 use Rattle.semantics.specs.Meaning.{compared, check_both, value}
-use Rattle.generation.proofs.Computing.{constant-value, decides-compared, decides-valued}
+use Rattle.generation.proofs.Computing.{constant-value, decides-compared}
 use Rattle.generation.proofs.Deciding.{decides-more, decides-same}
 use Rattle.generation.proofs.code.Code.compare.Goals as goal
 
@@ -11,10 +12,12 @@ returns-in-Some c =
     let left = amount_of c.args.left.now in
     let right = amount_of c.args.right.now in
     let n = c.in-Some.n in
+    MatchResult-weaker c.compare_constant.result c.compare_constant.ensures
+    (λ entry done.
     decides-same (λ p. check_both f (value left p) (Some n)) (λ p. check_both f (value left p) (value right p))
     (λ p bytes. ap (check_both f (value left p)) (sym (constant-value right n p (sym c.in-Some.ensures))))
-    (decides-more _ (omega arith)
-    (decides-valued f n c.len.result c.requires.exits c.len.ensures.value c.compare_with.ensures c.in_ok-value.ensures))
+    (decides-more _ (omega arith) done))
+    (λ e full. omega (arith, full))
 
 pub returns : goal.returns
-returns c = decides-compared (compared c.args.comparison) c.len-2.result c.requires.exits c.len-2.ensures.value c.compare_with-2.ensures c.in_ok-pair.ensures
+returns c = decides-compared (compared c.args.comparison) c.len.result c.requires.exits c.len.ensures.value c.compare_with.ensures c.in_ok-pair.ensures
