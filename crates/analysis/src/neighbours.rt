@@ -1,6 +1,6 @@
 //! The links of a chain that are members of lists, wherever those of a list stand.
 
-ghost use Rattle.std.specs.Prelude.{◌≡◌, ◌<◌, ◌++◌, All, length, option_to_list, IfSome, MatchOption, Some, None};
+ghost use Rattle.std.specs.Prelude.{◌≡◌, ◌<◌, ◌++◌, All, length, option_to_list, [], IfSome, IfNone, MatchOption, Some, None};
 ghost use Rattle.std.specs.Bool.{OnTrue, OnFalse};
 ghost use Rattle.syntax.specs.Trees.{tree_of};
 ghost use Rattle.analysis.specs.Lists.{IsMember, Asks, Settles, Takes, EndsIn, Divides, Groups};
@@ -195,6 +195,7 @@ impl Others {
     /// The first of them, which leaves the others.
     pub fn pop(&mut self) -> Option<Member>
         ensures items { self.old.members.items ≡ self.new.members.items ++ option_to_list result }
+        ensures none { IfNone result (self.old.members.items ≡ []) }
         ensures room { length self.new.members.items < 512 }
     {
         if self.members.len() == 0 {
