@@ -19,7 +19,7 @@ use Rattle.analysis.specs.declared.known.Known.{Known}
 use Rattle.generation.specs.declared.ways.Way.{Way}
 use Rattle.generation.specs.declared.ways.Ways.{Ways}
 use Rattle.generation.specs.Emission.{Extends}
-use Rattle.generation.specs.Ways.{RenewsBoth, DecidesBehind}
+use Rattle.generation.specs.Ways.{AreWays, RenewsBoth, DecidesBehind}
 use Rattle.generation.proofs.Leading.{renews-not, renews-either}
 use Rattle.generation.proofs.Narrowed.{behind-more, behind-same, behind-both, behind-either, behind-not}
 use Rattle.syntax.specs.declared.tree.Primitive.{Primitive}
@@ -77,6 +77,10 @@ behind-turned : (chain : Chain) {k : ℕ} {known : Known} (t : Test) {ways : Way
     → DecidesBehind known k (λ p. turned chain (t p)) ways entry a b
 behind-turned chains.AnyOf t first = first
 behind-turned chains.NoneOf t first = behind-not first
+
+pub are-turned : (chain : Chain) (code : List Insn) (ways : Ways) → AreWays code ways → AreWays code (turned_ways chain ways)
+are-turned chains.AnyOf code ways are = are
+are-turned chains.NoneOf code ways are = (are.1, are.0)
 
 pub renews-turned : (chain : Chain) {ways renewed : Ways} {a b : List Insn} → RenewsBoth (turned_ways chain ways) renewed a b → RenewsBoth ways (turned_ways chain renewed) a b
 renews-turned chains.AnyOf before = before
