@@ -1,55 +1,12 @@
 //! Files that are opened and made when they are needed first, over a made system.
 
-use crate::system::{NONE, System, TORN, Table};
-use files::late::{LateFile, LateInput, hold_stream};
+use crate::system::{NONE, System, Table};
+use files::late::LateFile;
 use files::paths::all_apart;
 use std::fs::Files;
-use std::io::{Read, Write};
+use std::io::Write;
 use std::process::Abort;
 use std::sync::atomic::Ordering::SeqCst;
-
-/// Holds the standard streams, of which these are open, makes OUT, and looks where it went.
-fn make_beside(rt: &impl Abort, open: [bool; 3]) {
-    let table = Table::new(open);
-    let system = System { table: &table };
-    let _input = hold_stream(&system);
-    let _output = hold_stream(&system);
-    let _error = hold_stream(&system);
-    let mut file = LateFile::new(&system, "out.pcap");
-    assert_eq!(rt; file.write(b"a").ok(), Some(1));
-    let output = table.output.load(SeqCst);
-    assert!(rt;
-        output > 2 && output != NONE,
-        "{open:?}: OUT is descriptor {output}"
-    );
-}
-
-#[test]
-fn no_file_takes_the_place_of_a_closed_stream(rt: HostRuntime) {
-    for input in [false, true] {
-        for output in [false, true] {
-            for error in [false, true] {
-                make_beside(&rt, [input, output, error]);
-            }
-        }
-    }
-}
-
-#[test]
-fn a_signal_breaks_no_read(rt: HostRuntime) {
-    let table = Table::new([true; 3]);
-    let system = System { table: &table };
-    let mut input = LateInput::new(&system, "in.pcap");
-    let mut taken = [0; 64];
-    let (mut read, mut is_whole) = (0, true);
-    for _ in 0..3 {
-        match input.read(&mut taken[read.min(64)..]) {
-            Ok(count) => read += count.min(64),
-            Err(_) => is_whole = false,
-        }
-    }
-    assert!(rt; is_whole && taken.get(..read) == Some(TORN));
-}
 
 #[test]
 fn nothing_is_made_where_a_path_is_not_told(rt: HostRuntime) {
