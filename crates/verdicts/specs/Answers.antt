@@ -10,10 +10,11 @@ use Rattle.filterlang.specs.Trees.{Tree, tree_of}
 use Rattle.semantics.specs.declared.verdict.Verdict.{Verdict}
 use Rattle.semantics.specs.declared.verdict.Verdict.TheVariants.{Yes, No, Abort}
 use Rattle.filtergen.specs.Meaning.{Packet as Frame, packet_of, meaning}
-use Rattle.explaining.specs.Asking.{Question, questions, IsLast}
+use Rattle.explaining.specs.Asking.{questions}
+use Rattle.deciding.specs.Deciding.{verdict_text, last_text}
 use Rattle.lines.specs.Telling.{end_of_line}
 use Rattle.verdicts.specs.declared.filter.Filter.{Filter}
-use Rattle.verdicts.specs.Printed.{packet_text, verdict_text, question_text, end_text}
+use Rattle.verdicts.specs.Printed.{packet_text, end_text}
 
 -- A packet, what a filter answers to it, and what is told of the reason.
 pub record Answer : Type 0 where
@@ -30,10 +31,8 @@ frame_of p = packet_of p.bytes p.len
 
 -- Of an expression: its meaning; told is the primitive or relation that decides, which is the last one of those that are asked.
 pub record Decides (tree : Tree) (a : Answer) : Type 0 where
-  pub last : Question
-  pub asked : IsLast last (questions false tree (frame_of a.packet))
   pub answers : a.verdict ≡ meaning tree (frame_of a.packet)
-  pub told : a.reason ≡ question_text last
+  pub told : a.reason ≡ last_text (questions false tree (frame_of a.packet))
 
 -- What the answer of a run counts as whose last instruction has this code: the returns have the codes 6 and 22, and a run that
 -- ends elsewhere is an Abort.

@@ -2,30 +2,17 @@
 
 ghost use Rattle.std.specs.Prelude.{◌≡◌, ◌++◌, ℕ, List, IfOk, OnOk, string_bytes, codes};
 ghost use Rattle.filterlang.specs.Trees.{tree_of};
-ghost use Rattle.explaining.specs.Asking.{question_of};
 ghost use Rattle.verdicts.specs.Answers.{answer, answer_line, ended_as, Decides, EndsRun, IsAnswer, PutsAnswer};
-ghost use Rattle.verdicts.specs.Printed.{packet_text, verdict_text, part_text, cause_text, question_text, end_text};
+ghost use Rattle.verdicts.specs.Printed.{packet_text, end_text};
 
 use crate::filter::Filter;
 use bpfvm::{Brief, Insn, NoMemory, Program, code, trace};
-use canonical::Canonical;
-use explaining::{Asked, Cause, decide};
+use deciding::{put_decision, put_verdict};
 use filtergen::Verdict;
 use filterlang::Expr;
 use lines::time::NineDigits;
 use savefile::PacketRef;
 use std::alloc::Global;
-
-/// A verdict's word.
-pub(crate) fn verdict_text(verdict: Verdict) -> &'static str
-    ensures { result.now ≡ verdict_text verdict }
-{
-    match verdict {
-        Verdict::Yes => "Yes",
-        Verdict::No => "No",
-        Verdict::Abort => "Abort",
-    }
-}
 
 /// Puts a packet's place, its time and its lengths in place of what the line has.
 #[tactic(auto, unfolding(crate::specs::Printed::packet_text))]
@@ -44,56 +31,11 @@ fn put_packet(line: &mut String, place: u64, packet: &PacketRef<'_>) -> Result<(
     Ok(())
 }
 
-/// Appends a primitive or a relation, behind `not` where that stands over it.
-pub(crate) fn put_part(line: &mut String, part: &Expr, negated: bool) -> Result<(), NoMemory>
-    ensures { OnOk result (string_bytes line.new ≡ string_bytes line.old ++ part_text negated (tree_of part.now)) }
-{
-    match (negated, part) {
-        (_, Expr::Everything) => write!(line, "the empty expression")?,
-        (false, _) => write!(line, "{}", Canonical(part))?,
-        (true, Expr::Relation(..)) => write!(line, "not ({})", Canonical(part))?,
-        (true, _) => write!(line, "not {}", Canonical(part))?,
-    }
-    Ok(())
-}
-
-/// Appends why a primitive or a relation aborted, where it did.
-pub(crate) fn put_cause(line: &mut String, cause: Option<Cause>) -> Result<(), NoMemory>
-    ensures { OnOk result (string_bytes line.new ≡ string_bytes line.old ++ cause_text cause) }
-{
-    match cause {
-        None => {}
-        Some(Cause::NotCaptured(place)) => write!(line, ", byte {place} is not captured")?,
-        Some(Cause::ZeroDivisor) => write!(line, ", the divisor is 0")?,
-    }
-    Ok(())
-}
-
-/// Appends the primitive or relation that decides.
-fn put_asked(line: &mut String, asked: &Asked<'_>) -> Result<(), NoMemory>
-    ensures { OnOk result (string_bytes line.new ≡ string_bytes line.old ++ question_text (question_of asked.now)) }
-{
-    put_part(line, asked.part, asked.negated)?;
-    put_cause(line, asked.cause)
-}
-
-/// Appends a verdict, and a space.
-fn put_verdict(line: &mut String, verdict: Verdict) -> Result<(), NoMemory>
-    ensures { OnOk result (string_bytes line.new ≡ string_bytes line.old ++ (verdict_text verdict ++ codes " ")) }
-{
-    write!(line, "{} ", verdict_text(verdict))?;
-    Ok(())
-}
-
 /// Appends what an expression answers to a packet, and what decides.
-fn put_decision(line: &mut String, expr: &Expr, packet: &PacketRef<'_>) -> Result<Verdict, NoMemory>
+fn put_meaning(line: &mut String, expr: &Expr, packet: &PacketRef<'_>) -> Result<Verdict, NoMemory>
     ensures { IfOk result (PutsAnswer (string_bytes line.old) (string_bytes line.new) (Decides (tree_of expr.now)) packet.now) }
 {
-    let asked = decide(expr, packet.bytes, packet.len);
-    let verdict = asked.turned();
-    put_verdict(line, verdict)?;
-    put_asked(line, &asked)?;
-    Ok(verdict)
+    Ok(put_decision(line, expr, packet.bytes, packet.len)?)
 }
 
 /// What an answer of a program counts as whose last instruction has this code: a run that no return ended is an Abort.
@@ -154,7 +96,7 @@ pub(crate) fn put_line(
 {
     put_packet(line, place, packet)?;
     let verdict = match &filter.expr {
-        Some(expr) => put_decision(line, expr, packet)?,
+        Some(expr) => put_meaning(line, expr, packet)?,
         None => put_end(alloc, line, &filter.program, packet)?,
     };
     write!(line, "\n")?;

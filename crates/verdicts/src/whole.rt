@@ -1,10 +1,10 @@
 //! All that is told of one packet.
 
 use crate::filter::Filter;
-use crate::line::{put_cause, put_part, verdict_text};
 use crate::looking::{Looked, looked_at};
 use bpfvm::{Executed, Insn, NoMemory, Placed, Program, code, trace};
 use canonical::Canonical;
+use deciding::{put_cause, put_part, verdict_text};
 use explaining::decide;
 use filtergen::Verdict;
 use filterlang::Expr;

@@ -2,4 +2,6 @@
 #![tactic(auto)]
 
 #[cfg(test)]
+mod decided;
+#[cfg(test)]
 mod page;
