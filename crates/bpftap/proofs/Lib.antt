@@ -1,2 +1,1 @@
 pub mod Playlists
-pub mod Statuses

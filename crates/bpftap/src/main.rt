@@ -1,15 +1,10 @@
 //! The program `bpftap`: the BSD packet tap, replayed from capture files.
 #![tactic(auto)]
 
-mod check_files;
-mod explain_files;
-mod hinting;
 mod laws;
-mod picture_files;
 mod program;
 mod run_files;
-mod split_files;
-mod steps_files;
+mod run_hints;
 
 use hints::ErrorStream;
 use lines::telling::tell_words;

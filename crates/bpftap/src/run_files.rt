@@ -2,7 +2,8 @@
 
 ghost use Rattle.std.specs.Prelude.{◌≡◌, ◌<◌, ◌≤◌, All, IfErr, IfOk, MatchResult, length, vec_len};
 
-use crate::hinting::{NotedInput, hint_plan, hint_printed, hint_run, hint_unopened};
+use crate::run_hints::{hint_plan, hint_run, hint_unopened};
+use commands::hinting::{NotedInput, hint_printed};
 use files::late::{LateFile, LateInput};
 use files::paths::{STANDARD_OUTPUT, all_apart};
 use files::reading::read_file;
