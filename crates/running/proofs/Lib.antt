@@ -5,3 +5,5 @@ pub mod Printing
 pub mod Laid
 pub mod Planned
 pub mod Ran
+pub mod FirstBad
+pub mod Flushed

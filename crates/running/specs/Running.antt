@@ -6,7 +6,9 @@ use Rattle.std.specs.Io.KnownBytes.{Keeps}
 use Rattle.std.specs.declared.alloc.Global.{Global}
 use Rattle.std.specs.declared.vec.Vec.{Vec}
 use Rattle.bpfvm.specs.declared.insn.Insn.{Insn}
-use Rattle.lines.specs.Sending.{Streams}
+use Rattle.lines.specs.declared.telling.Ended.{Ended}
+use Rattle.lines.specs.Sending.{Streams, Takes}
+use Rattle.lines.specs.Telling.{told_line}
 use Rattle.replay.specs.Refusals.{IsFirst, NoneStands}
 use Rattle.replay.specs.Replayed.{IsReplayed}
 use Rattle.replay.specs.declared.fault.RunFault.{RunFault}
@@ -15,10 +17,11 @@ use Rattle.replay.specs.declared.report.InterfaceReport.{InterfaceReport}
 use Rattle.replay.specs.declared.task.Interface.{Interface}
 use Rattle.running.specs.declared.listeners.RunLine.{RunLine}
 use Rattle.running.specs.declared.plan.PlanFault.{PlanFault}
+use Rattle.running.specs.Faults.{plan_fault_text, run_fault_text}
 use Rattle.running.specs.Layout.{places_of, tasks_of, AreLaidOut, AreSinksOf}
 use Rattle.running.specs.Listeners.{AreRunLines}
 use Rattle.running.specs.Planning.{IsCompiled, IsRefusedPlan}
-use Rattle.running.specs.Replaying.{TellsTo}
+use Rattle.running.specs.Replaying.{Tells}
 
 -- The captures were replayed to the listeners of the lines, each with its program and its sink.
 pub record IsReplayOf {S W : Type 0} (left : S → Option (List ℕ)) (broken : S → ℕ) (taken : W → Option (List ℕ)) (failures : W → ℕ)
@@ -43,7 +46,7 @@ Makes step make (line ∷ lines) [] last = ⊥
 -- LISTENERS asks for listeners, each expression has a program, and a sink was made of each OUT. The captures were replayed to these;
 -- the reports were printed and told, and the sinks came back in the order of the lines.
 pub record Ran {S W M : Type 0} (left : S → Option (List ℕ)) (broken : S → ℕ) (taken : W → Option (List ℕ)) (failures : W → ℕ)
-    (step : M → Bor (List ℕ) → W → M → Type 0) (make : M) (listeners : List ℕ) (captures : List (Vec S Global)) (old new : Streams) (status : ℕ) (back : List W) : Type 0 where
+    (step : M → Bor (List ℕ) → W → M → Type 0) (make : M) (listeners : List ℕ) (captures : List (Vec S Global)) (old new : Streams) (ended : Ended) (back : List W) : Type 0 where
   pub lines : List RunLine
   pub asked : AreRunLines (length captures) listeners lines
   pub programs : List (List Insn)
@@ -53,15 +56,43 @@ pub record Ran {S W M : Type 0} (left : S → Option (List ℕ)) (broken : S →
   pub made : Makes step make lines sinks last
   pub reports : List (InterfaceReport S W)
   pub replayed : IsReplayOf left broken taken failures lines programs captures sinks reports
-  pub tells : TellsTo reports old new status
+  pub tells : Tells reports old new ended
   pub all_back : length back ≡ length lines
   pub in_order : AreSinksOf (places_of lines) reports back
 
--- LISTENERS is refused, or there is no replay: nothing was printed, and no sink comes back.
-pub record Refused {S W : Type 0} (listeners : List ℕ) (captures : List (Vec S Global)) (old new : Streams) (status : ℕ) (back : List W) : Type 0 where
-  pub why : ((fault : PlanFault) × IsRefusedPlan (length captures) listeners fault)
-      ⊎ ((lines : List RunLine) × (programs : List (List Insn)) × (sinks : List W) × (fault : RunFault) × AreRunLines (length captures) listeners lines
-      × AllZip IsCompiled lines programs × IsNoReplayOf lines programs captures sinks fault)
+-- A fault that reads so was told, nothing was printed, and no sink comes back.
+pub record Refuses {W : Type 0} (text : List ℕ) (old new : Streams) (ended : Ended) (back : List W) : Type 0 where
   pub nothing : Keeps old.out new.out
-  pub refused : status ≡ 1
+  pub tells : Takes old.err new.err ended.told (told_line text)
+  pub refused : ended.status ≡ 1
   pub none : back ≡ []
+
+-- LISTENERS is refused.
+pub record Unplanned {S W : Type 0} (listeners : List ℕ) (captures : List (Vec S Global)) (old new : Streams) (ended : Ended) (back : List W) : Type 0 where
+  pub fault : PlanFault
+  pub stands : IsRefusedPlan (length captures) listeners fault
+  pub refuses : Refuses (plan_fault_text fault) old new ended back
+
+-- LISTENERS asks for listeners, each expression has a program, and there is no replay.
+pub record Unplayed {S W : Type 0} (listeners : List ℕ) (captures : List (Vec S Global)) (old new : Streams) (ended : Ended) (back : List W) : Type 0 where
+  pub lines : List RunLine
+  pub asked : AreRunLines (length captures) listeners lines
+  pub programs : List (List Insn)
+  pub compiled : AllZip IsCompiled lines programs
+  pub sinks : List W
+  pub fault : RunFault
+  pub stands : IsNoReplayOf lines programs captures sinks fault
+  pub refuses : Refuses (run_fault_text fault) old new ended back
+
+-- a run: LISTENERS is refused, or there is no replay, or there is one
+abbrev pub Runs : {S W M : Type 0} → (S → Option (List ℕ)) → (S → ℕ) → (W → Option (List ℕ)) → (W → ℕ) → (M → Bor (List ℕ) → W → M → Type 0) → M
+    → List ℕ → List (Vec S Global) → Streams → Streams → Ended → List W → Type 0
+Runs left broken taken failures step make listeners captures old new ended back =
+    Unplanned listeners captures old new ended back ⊎ (Unplayed listeners captures old new ended back
+    ⊎ Ran left broken taken failures step make listeners captures old new ended back)
+
+-- the same, of which the status alone is known
+abbrev pub RunsTo : {S W M : Type 0} → (S → Option (List ℕ)) → (S → ℕ) → (W → Option (List ℕ)) → (W → ℕ) → (M → Bor (List ℕ) → W → M → Type 0) → M
+    → List ℕ → List (Vec S Global) → Streams → Streams → ℕ → List W → Type 0
+RunsTo left broken taken failures step make listeners captures old new status back =
+    (ended : Ended) × Runs left broken taken failures step make listeners captures old new ended back × (status ≡ ended.status)

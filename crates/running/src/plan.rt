@@ -1,32 +1,50 @@
 //! What LISTENERS asks for: its lines, and the program of each line's expression.
 
-ghost use Rattle.std.specs.Prelude.{◌≡◌, ◌<◌, All, IfErr, IfOk, length};
+ghost use Rattle.std.specs.Prelude.{◌≡◌, ◌<◌, All, IfErr, IfOk, Some, length};
 ghost use Rattle.std.specs.List.{AllZip};
+ghost use Rattle.running.specs.Faults.{plan_fault_text};
 ghost use Rattle.running.specs.Listeners.{AreRunLines};
 ghost use Rattle.running.specs.Planning.{AreUncompiled, IsCompiled, IsRefusedPlan, misreading_of, plan_fault, refusal_of};
 ghost use Rattle.running.specs.declared.plan.PlanFault.TheVariants.{NoMemory};
 
 use crate::listeners::{RunLine, read_run_lines};
 use bpfvm::Program;
+use fault_texts::{CompileFaultText, ExpressionFaultText};
 use filtergen::{ExpressionFault, Refusal, compile_text};
 use lines::LineFault;
 use std::alloc::{AllocError, AllocFailed, Global};
-use thiserror::Error;
+use std::fmt;
+use std::fmt::{Display, Formatter};
 
 /// Why what LISTENERS asks for is not replayed.
-#[derive(Clone, Copy, Debug, PartialEq, Eq, Error)]
+#[derive(Clone, Copy, Debug, PartialEq, Eq)]
 pub enum PlanFault {
     /// A line has not its form.
-    #[error("{0}")]
     Line(LineFault),
     /// The expression of this listener, in the order of the lines from 0, is refused.
-    #[error("Expression {0} {1}")]
     Expression(usize, filterlang::Fault),
     /// The expression of this listener is not compiled.
-    #[error("Compile {0} {1}")]
     Compile(usize, Refusal),
-    #[error("NoMemory")]
     NoMemory,
+}
+
+impl Display for PlanFault {
+    ghost output = { λ fault. Some (plan_fault_text fault) };
+
+    fn fmt<W: fmt::Write>(&self, f: &mut Formatter<W>) -> fmt::Result {
+        match *self {
+            PlanFault::Line(fault) => write!(f, "{fault}"),
+            PlanFault::Expression(n, fault) => {
+                write!(f, "Expression {n} {}", ExpressionFaultText(fault))
+            }
+            PlanFault::Compile(n, refusal) => write!(
+                f,
+                "Compile {n} {}",
+                CompileFaultText(refusal)
+            ),
+            PlanFault::NoMemory => f.write_str("NoMemory"),
+        }
+    }
 }
 
 impl From<AllocError> for PlanFault {

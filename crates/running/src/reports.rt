@@ -174,12 +174,14 @@ fn tell_all<R, W, E: Write>(
 }
 
 /// [`tell_run`], with whether standard error took what was told.
+#[tactic(auto, using(crate::proofs::Statuses::run_bound))]
 pub fn tell_run_told<R, W, O: Write, E: Write>(
     reports: &[InterfaceReport<R, W>],
     out: &mut O,
     err: &mut E,
 ) -> Ended
-    ensures { Tells reports.now (streams (O.contents out.old) (E.contents err.old)) (streams (O.contents out.new) (E.contents err.new)) result }
+    ensures tells { Tells reports.now (streams (O.contents out.old) (E.contents err.old)) (streams (O.contents out.new) (E.contents err.new)) result }
+    ensures bound { result.status ≤ 3 }
 {
     let printed = print_reports(reports, out);
     let told = tell_all(&printed, reports, err);

@@ -1,21 +1,24 @@
 //! Captures that are replayed in threads to the listeners of interfaces: `run`, and the parts that it shares with the command
 //! over files.
 
-ghost use Rattle.std.specs.Prelude.{◌≡◌, ◌<◌, ◌≤◌, ◌⊎◌, List, All, IfErr, IfOk, length, vec_capacity, vec_len};
-ghost use Rattle.lines.specs.Sending.{streams};
+ghost use Rattle.std.specs.Prelude.{◌≡◌, ◌<◌, ◌≤◌, List, All, IfErr, IfOk, IfSome, length, vec_capacity, vec_len};
+ghost use Rattle.lines.specs.Sending.{Takes, streams};
+ghost use Rattle.lines.specs.Telling.{told_line};
 ghost use Rattle.running.specs.Bare.{HaveTheirListeners};
 ghost use Rattle.running.specs.Layout.{AreSinksOf, places_of};
-ghost use Rattle.running.specs.Replaying.{TellsTo};
-ghost use Rattle.running.specs.Running.{IsNoReplayOf, IsReplayOf, Makes, Ran, Refused};
+ghost use Rattle.running.specs.Replaying.{Tells};
+ghost use Rattle.running.specs.Running.{IsNoReplayOf, IsReplayOf, Makes, Runs, RunsTo};
 
+use crate::faults::RunFaultText;
 use crate::layout::{interfaces_of, sinks_of};
 use crate::listeners::RunLine;
 use crate::plan::{Plan, read_plan};
-use crate::reports::tell_run;
-use lines::telling::{REFUSED, tell_fault};
+use crate::reports::tell_run_told;
+use lines::telling::{Ended, REFUSED, tell_line};
 use replay::{InterfaceReport, Open, RunFault};
 use savefile::{Sink, Source};
 use std::alloc::{AllocError, Global};
+use std::fmt::Display;
 use std::io::Write;
 use std::sync::Wait;
 use std::thread::Threads;
@@ -102,12 +105,12 @@ fn end_run<R: Drop, W: Drop, O: Write, E: Write>(
     replayed: Replayed<R, W>,
     out: &mut O,
     err: &mut E,
-) -> (u8, Vec<W>)
+) -> (Ended, Vec<W>)
     requires there { All (λ place. place < length replayed.reports.items) replayed.places.items }
     requires counts { HaveTheirListeners replayed.places.items replayed.reports.items }
     requires room { (vec_len replayed.sinks ≡ 0) × (length replayed.places.items ≤ vec_capacity replayed.sinks) }
-    ensures tells { TellsTo replayed.reports.items (streams (O.contents out.old) (E.contents err.old)) (streams (O.contents out.new) (E.contents err.new)) result.0 }
-    ensures bound { result.0 ≤ 3 }
+    ensures tells { Tells replayed.reports.items (streams (O.contents out.old) (E.contents err.old)) (streams (O.contents out.new) (E.contents err.new)) result.0 }
+    ensures bound { result.0.status ≤ 3 }
     ensures all { length result.1.items ≡ length replayed.places.items }
     ensures back { AreSinksOf replayed.places.items replayed.reports.items result.1.items }
 {
@@ -116,8 +119,51 @@ fn end_run<R: Drop, W: Drop, O: Write, E: Write>(
         places,
         sinks,
     } = replayed;
-    let status = tell_run(reports.as_slice(), out, err);
-    (status, sinks_of(reports, places.as_slice(), sinks))
+    let ended = tell_run_told(reports.as_slice(), out, err);
+    (ended, sinks_of(reports, places.as_slice(), sinks))
+}
+
+/// Tells why there is no replay: a [`crate::plan::PlanFault`], or a [`RunFaultText`]. The status is 1.
+pub fn refuse<E: Write, D: Display + Drop>(fault: D, err: &mut E) -> Ended
+    ensures tells { IfSome (D.output fault) (λ text. Takes (E.contents err.old) (E.contents err.new) result.told (told_line text)) }
+    ensures status { result.status ≡ REFUSED }
+{
+    Ended {
+        status: REFUSED,
+        told: tell_line(fault, err),
+    }
+}
+
+/// [`run`], with whether standard error took what was told.
+pub fn run_told<
+    R: Source + Send + Drop,
+    W: Sink + Send + Drop,
+    M: FnMut(&str) -> W,
+    O: Write,
+    E: Write,
+    T: Threads + Wait + Sync,
+>(
+    rt: &T,
+    alloc: Global,
+    listeners: &[u8],
+    captures: Vec<Vec<R>>,
+    make: M,
+    out: &mut O,
+    err: &mut E,
+) -> (Ended, Vec<W>)
+    requires { M.IsAlwaysCallable make }
+    ensures runs { Runs R.left R.failures W.taken W.failures M.step make listeners.now captures.items
+        (streams (O.contents out.old) (E.contents err.old)) (streams (O.contents out.new) (E.contents err.new)) result.0 result.1.items }
+    ensures bound { result.0.status ≤ 3 }
+{
+    let plan = match read_plan(alloc, listeners, captures.len()) {
+        Ok(plan) => plan,
+        Err(fault) => return (refuse(fault, err), Vec::new(alloc)),
+    };
+    match replay_made(rt, alloc, plan, captures, make) {
+        Ok(replayed) => end_run(replayed, out, err),
+        Err(fault) => (refuse(RunFaultText(fault), err), Vec::new(alloc)),
+    }
 }
 
 /// Replays captures in threads to the listeners of interfaces, each of which writes what it keeps as a capture, and prints
@@ -157,18 +203,10 @@ pub fn run<
     err: &mut E,
 ) -> (u8, Vec<W>)
     requires { M.IsAlwaysCallable make }
-    ensures runs { Ran R.left R.failures W.taken W.failures M.step make listeners.now captures.items
-        (streams (O.contents out.old) (E.contents err.old)) (streams (O.contents out.new) (E.contents err.new)) result.0 result.1.items
-        ⊎ Refused listeners.now captures.items
+    ensures runs { RunsTo R.left R.failures W.taken W.failures M.step make listeners.now captures.items
         (streams (O.contents out.old) (E.contents err.old)) (streams (O.contents out.new) (E.contents err.new)) result.0 result.1.items }
     ensures bound { result.0 ≤ 3 }
 {
-    let plan = match read_plan(alloc, listeners, captures.len()) {
-        Ok(plan) => plan,
-        Err(fault) => return (tell_fault(fault, REFUSED, err), Vec::new(alloc)),
-    };
-    match replay_made(rt, alloc, plan, captures, make) {
-        Ok(replayed) => end_run(replayed, out, err),
-        Err(fault) => (tell_fault(fault, REFUSED, err), Vec::new(alloc)),
-    }
+    let (ended, sinks) = run_told(rt, alloc, listeners, captures, make, out, err);
+    (ended.status, sinks)
 }

@@ -1,7 +1,15 @@
 //! How many packets of a capture are whole in what a file took of it.
 
-ghost use Rattle.std.specs.Prelude.{◌≡◌, ◌≤◌};
+ghost use Rattle.std.specs.Prelude.{◌≡◌, ◌+◌, ◌%◌, ◌^◌, ◌≤◌, IfOk, OnErr};
+ghost use Rattle.std.specs.Io.{WritesAtMost};
+ghost use Rattle.std.specs.Io.KnownBytes.{WriteAppends};
+ghost use Rattle.std.specs.List.{AllZip};
+ghost use Rattle.lines.specs.Sending.{streams};
+ghost use Rattle.running.specs.Flushing.{AreFlushed, IsFlushed, bytes_of, packets_of};
+ghost use Rattle.running.specs.Replaying.{Tells};
 
+use crate::reports::tell_run_told;
+use lines::telling::Ended;
 use replay::{InterfaceReport, ListenerReport, TaskEnd};
 use savefile::Counted;
 use std::io;
@@ -44,7 +52,9 @@ struct Tally {
 }
 
 impl Tally {
-    fn new() -> Tally {
+    fn new() -> Tally
+        ensures { result.whole ≡ 0 }
+    {
         Tally {
             whole: 0,
             part: Part::FileHeader(FILE_HEADER),
@@ -107,7 +117,11 @@ pub struct Tallied<W> {
 
 impl<W> Tallied<W> {
     /// A writer of which nothing was taken yet.
-    pub fn new(inner: W) -> Tallied<W> {
+    pub fn new(inner: W) -> Tallied<W>
+        ensures inner { result.inner ≡ inner }
+        ensures bytes { bytes_of result ≡ 0 }
+        ensures packets { packets_of result ≡ 0 }
+    {
         Tallied {
             inner,
             bytes: 0,
@@ -116,23 +130,36 @@ impl<W> Tallied<W> {
     }
 
     /// The writer below.
-    pub fn get_ref(&self) -> &W {
+    pub fn get_ref(&self) -> &W
+        ensures { result.now ≡ self.now.inner }
+    {
         &self.inner
     }
 
     /// How many bytes were taken, modulo 2^64.
-    pub fn bytes(&self) -> u64 {
+    pub fn bytes(&self) -> u64
+        ensures { result ≡ bytes_of self.now }
+    {
         self.bytes
     }
 
     /// How many packets are whole in them.
-    pub fn packets(&self) -> u64 {
+    pub fn packets(&self) -> u64
+        ensures { result ≡ packets_of self.now }
+    {
         self.tally.whole
     }
 }
 
 impl<W: Write> Write for Tallied<W> {
-    fn write(&mut self, from: &[u8]) -> io::Result<usize> {
+    ghost contents = { λ out. W.contents out.inner };
+
+    fn write(&mut self, from: &[u8]) -> io::Result<usize>
+        ensures bound { WritesAtMost result from.now }
+        ensures bytes { WriteAppends (W.contents self.old.inner) (W.contents self.new.inner) result from.now }
+        ensures counted { IfOk result (λ taken. bytes_of self.new ≡ (bytes_of self.old + taken) % 2 ^ 64) }
+        ensures failed { OnErr result (bytes_of self.new ≡ bytes_of self.old) }
+    {
         let taken = self.inner.write(from)?;
         self.bytes = self.bytes.wrapping_add(taken as u64);
         self.tally.add(&from[..taken]);
@@ -150,7 +177,7 @@ pub type Output<W> = Counted<BufWriter<Tallied<W>>>;
 /// Empties the buffer before an OUT. Where that fails, or a write has failed before, what is told as written is what OUT itself
 /// has. A listener that did not hand over its end stays Unfinished.
 pub fn flush_one<W: Write + Drop>(report: &mut ListenerReport<Output<W>>)
-    ensures { report.old.end ≡ TaskEnd.Unfinished → report.new.end ≡ TaskEnd.Unfinished }
+    ensures { IsFlushed W.contents report.old report.new }
 {
     let flushed = report.sink.inner.flush();
     if flushed.is_ok() && !matches!(&report.end, TaskEnd::Write(_)) {
@@ -163,11 +190,35 @@ pub fn flush_one<W: Write + Drop>(report: &mut ListenerReport<Output<W>>)
     }
 }
 
-/// Empties the buffers before all captures that are written.
-pub fn flush_all<R, W: Write + Drop>(reports: &mut [InterfaceReport<R, Output<W>>]) {
-    for report in reports {
-        for listener in report.listeners.as_mut_slice() {
-            flush_one(listener);
-        }
+/// Empties the buffers before the OUTs of an interface.
+fn flush_interface<R, W: Write + Drop>(report: &mut InterfaceReport<R, Output<W>>)
+    ensures { AreFlushed W.contents report.old report.new }
+{
+    for listener in report.listeners.iter_mut() {
+        flush_one(listener);
     }
+}
+
+/// Empties the buffers before all captures that are written, and tells of one that failed what OUT itself has. What is counted and
+/// how the interfaces ended stays.
+pub fn flush_all<R, W: Write + Drop>(reports: &mut [InterfaceReport<R, Output<W>>])
+    ensures { AllZip (AreFlushed W.contents) reports.old reports.new }
+{
+    for report in reports.iter_mut() {
+        flush_interface(report);
+    }
+}
+
+/// Empties the buffers before all captures that are written, and then prints and tells the reports as [`tell_run_told`] does.
+pub fn tell_flushed<R, W: Write + Drop, O: Write, E: Write>(
+    reports: &mut [InterfaceReport<R, Output<W>>],
+    out: &mut O,
+    err: &mut E,
+) -> Ended
+    ensures flushed { AllZip (AreFlushed W.contents) reports.old reports.new }
+    ensures tells { Tells reports.new (streams (O.contents out.old) (E.contents err.old)) (streams (O.contents out.new) (E.contents err.new)) result }
+    ensures bound { result.status ≤ 3 }
+{
+    flush_all(reports);
+    tell_run_told(reports, out, err)
 }

@@ -1,5 +1,6 @@
-//! The texts of a replay's faults, which `stepping` says again by a contract, are the faults' own.
+//! The texts of a replay's faults, which `fault_texts` and `stepping` say again by a contract, are the faults' own.
 
+use fault_texts::ExpressionFaultText;
 use filtergen::Refusal;
 use lines::CaptureFaultText;
 use listener::OpenFault;
@@ -73,7 +74,7 @@ fn faults_are_told_by_their_own_texts(rt: HostRuntime) -> Result<(), Fail> {
         is_its_own(&rt, CaptureFaultText(fault), fault)?;
     }
     for fault in OF_EXPRESSIONS {
-        is_its_own(&rt, FaultText(fault), fault)?;
+        is_its_own(&rt, ExpressionFaultText(fault), fault)?;
     }
     for fault in OF_REPLAYS {
         is_its_own(&rt, FaultText(fault), fault)?;

@@ -4,7 +4,9 @@ use crate::run::replayed;
 use bpfvm::read_listing;
 use fixtures::captures::{HEADER, TCP, concat};
 use handover::{Past, pair, settle};
-use replay::{InterfaceEnd, InterfaceReport, ListenerReport, TaskEnd};
+use listener::OpenFault;
+use replay::{InterfaceEnd, InterfaceReport, ListenerReport, RunFault, TaskEnd};
+use running::faults::RunFaultText;
 use running::reports::tell_run;
 use running::run::run;
 use savefile::Counted;
@@ -152,5 +154,21 @@ fn three_captures_arrive_one_behind_the_other(rt: HostRuntime) -> Result<(), Fai
             0
         )
     );
+    Ok(())
+}
+
+#[test]
+fn refusals_are_told_by_their_own_texts(rt: HostRuntime) -> Result<(), Fail> {
+    for fault in [
+        RunFault::TooMany,
+        RunFault::Open(1, 23, OpenFault::BadSnap),
+        RunFault::Open(4, 0, OpenFault::BadCapacity),
+        RunFault::Open(0, 5, OpenFault::NoMemory),
+        RunFault::NoStart,
+    ] {
+        let told = format!(in rt.alloc(); "{}", RunFaultText(fault))?;
+        let own = format!(in rt.alloc(); "{fault}")?;
+        assert_eq!(rt; told.as_str(), own.as_str());
+    }
     Ok(())
 }

@@ -1,16 +1,20 @@
 use Rattle.std.proofs.Common.{◌≡◌, inl, inr, ap, length, ◌∙◌, rules}
 use Rattle.std.proofs.KnownBytes.{Keeps-refl}
 use Rattle.running.proofs.Ran.{places_there, their_listeners, length_made, length_places}
-use Rattle.running.proofs.run.run.Goals as goal
+use Rattle.running.proofs.run.run_told.Goals as goal
 
 pub returns-in-Err-clause-runs : goal.returns-in-Err-clause-runs
 returns-in-Err-clause-runs g c =
     let many : c.len.result ≡ length c.args.captures.items = search rules in
-    inr (record {
-      why = inl (c.in-Err.fault, rw many at c.in-Err.ensures.fault);
-      nothing = Keeps-refl _;
-      refused = c.tell_fault.ensures;
-      none = c.new.ensures.items;
+    inl (record {
+      fault = c.in-Err.fault;
+      stands = rw many at c.in-Err.ensures.fault;
+      refuses = record {
+        nothing = Keeps-refl _;
+        tells = c.refuse.ensures.tells;
+        refused = c.refuse.ensures.status;
+        none = c.new.ensures.items;
+      };
     })
 
 pub end_run-requires-clause-there : goal.end_run-requires-clause-there
@@ -30,7 +34,7 @@ pub returns-in-Ok-replay_made-clause-runs : goal.returns-in-Ok-replay_made-claus
 returns-in-Ok-replay_made-clause-runs g c =
     let many : c.len.result ≡ length c.args.captures.items = search rules in
     let replayed = c.in-Ok-replay_made.ensures.replayed in
-    inl (record {
+    inr (inr (record {
       lines = c.in-Ok.plan.lines.items;
       asked = rw many at c.in-Ok.ensures.lines;
       programs = c.in-Ok.plan.programs.items;
@@ -43,4 +47,23 @@ returns-in-Ok-replay_made-clause-runs g c =
       tells = c.end_run.ensures.tells;
       all_back = c.end_run.ensures.all ∙ ap length c.in-Ok-replay_made.ensures.places ∙ length_places c.in-Ok.plan.lines.items;
       in_order = rw c.in-Ok-replay_made.ensures.places at c.end_run.ensures.back;
-    })
+    }))
+
+pub returns-in-Err-replay_made-clause-runs : goal.returns-in-Err-replay_made-clause-runs
+returns-in-Err-replay_made-clause-runs g c =
+    let many : c.len.result ≡ length c.args.captures.items = search rules in
+    inr (inl (record {
+      lines = c.in-Ok.plan.lines.items;
+      asked = rw many at c.in-Ok.ensures.lines;
+      programs = c.in-Ok.plan.programs.items;
+      compiled = c.in-Ok.ensures.programs;
+      sinks = c.in-Err-replay_made.ensures.fault.0;
+      fault = c.in-Err-replay_made.fault;
+      stands = c.in-Err-replay_made.ensures.fault.1;
+      refuses = record {
+        nothing = Keeps-refl _;
+        tells = c.refuse-in-Err-replay_made.ensures.tells;
+        refused = c.refuse-in-Err-replay_made.ensures.status;
+        none = c.new-in-Err-replay_made.ensures.items;
+      };
+    }))
