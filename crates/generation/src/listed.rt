@@ -1,6 +1,6 @@
 //! Lists by their kinds. Code is written from its end: of two tests that follow each other, the second one comes first here.
 
-ghost use Rattle.std.specs.Prelude.{◌≡◌, ℕ, ◌+◌, ◌*◌, ◌≤◌, length};
+ghost use Rattle.std.specs.Prelude.{◌≡◌, ℕ, ◌+◌, ◌*◌, ◌<◌, ◌≤◌, length};
 ghost use Rattle.semantics.specs.Meaning.{check, byte, half, and_test, is_type, by_direction, within, has_any_ports};
 ghost use Rattle.analysis.specs.Lists.{any_of, direction_of, in_span, of_any_type, bytes_test, kind_test};
 ghost use Rattle.generation.specs.Listed.{among, asked_last, listed_cost, IsChoice};
@@ -221,14 +221,14 @@ impl Code {
     }
 
     /// Bytes of a layer.
-    fn listed_bytes(
+    pub fn listed_bytes(
         &mut self,
         known: Known,
         bytes: Bytes,
         spans: &[Span],
         ways: Ways,
     ) -> Result<Way, Full>
-        requires many { 2 ≤ length spans.now }
+        requires some { 0 < length spans.now }
         requires ways { AreWays self.old ways }
         ensures { OrFull (7 * length spans.now + 14) self.old result (λ way. DecidesBehind known (7 * length spans.now + 14)
             (any_of (bytes_test bytes) spans.now) ways way self.old self.new) }
