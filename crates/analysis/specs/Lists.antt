@@ -38,6 +38,19 @@ direction_of sides.Source = Src
 direction_of sides.Destination = Dst
 direction_of sides.Either = SrcOrDst
 
+-- the same sides, or one of both
+abbrev pub IsBroader : Sides → Sides → Type 0
+IsBroader sides.Either t = Unit {0}
+IsBroader sides.Source sides.Source = Unit {0}
+IsBroader sides.Destination sides.Destination = Unit {0}
+IsBroader s t = ⊥
+
+-- bytes of the ports of such tests
+abbrev pub ArePorts : Form → Bytes → Type 0
+ArePorts forms.TcpPorts b = (b.layer ≡ layers.Tcp) × (b.index + bytes_of b.size ≤ 4)
+ArePorts forms.UdpPorts b = (b.layer ≡ layers.Udp) × (b.index + bytes_of b.size ≤ 4)
+ArePorts other b = ⊥
+
 abbrev pub net_form : Option Network → Form
 net_form None = forms.Net
 net_form (Some networks.Ip) = forms.IpNet
@@ -156,10 +169,13 @@ abbrev pub Passes : Chain → Option Tree → Packet → Type 0
 Passes c None p = Unit {0}
 Passes c (Some u) p = meaning u p ≡ passing c
 
--- a chain that goes on behind a tree has asked a test of this kind
+-- where a test of a kind was No, none of the other kind aborts
+pub record Covers (kind other : Kind) : Type 0 where
+  pub answered : (p : Packet) (x y : Span) → kind_test kind x p ≡ No → IsAnswered (kind_test other y p)
+
+-- where a chain goes on behind a tree, no test of this kind aborts
 pub record Asks (chain : Chain) (t : Tree) (kind : Kind) : Type 0 where
-  pub span : Span
-  pub asked : (p : Packet) → meaning t p ≡ passing chain → kind_test kind span p ≡ No
+  pub answered : (p : Packet) → meaning t p ≡ passing chain → (x : Span) → IsAnswered (kind_test kind x p)
 
 -- no test of this kind aborts behind a member and what stands to the left of it
 pub record Settles (chain : Chain) (left : Option Tree) (first : Member) (kind : Kind) : Type 0 where

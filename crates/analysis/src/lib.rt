@@ -11,5 +11,5 @@ mod weighing;
 
 pub use known::Known;
 pub use lists::{Bytes, Chain, Form, Kind, Member, Sides, Span};
-pub use neighbours::{Group, Others, Neighbours};
+pub use neighbours::{Group, Neighbours, Others};
 pub use weighing::{MAX_NEED, MAX_WEIGHT, need, weight};

@@ -5,7 +5,7 @@ ghost use Rattle.syntax.specs.Trees.{amount_of, tree_of, number as literal};
 ghost use Rattle.syntax.specs.declared.tree.Comparison.TheVariants.{Equal};
 ghost use Rattle.semantics.specs.Meaning.{Packet, plain_test, in_any_net, has_any_ports, primitive_test, relation_test, meaning};
 ghost use Rattle.analysis.specs.Knowing.{behind, LOOK_BACK};
-ghost use Rattle.analysis.specs.Lists.{direction_of, net_form, ports_form, no_bytes, member_test, IsMember, turned, behind_left, weighed};
+ghost use Rattle.analysis.specs.Lists.{direction_of, net_form, ports_form, no_bytes, member_test, IsBroader, ArePorts, Covers, IsMember, turned, behind_left, weighed};
 ghost use Rattle.analysis.specs.declared.lists.Sides.TheVariants as sides;
 ghost use Rattle.std.specs.Bool.{OnTrue};
 ghost use Rattle.analysis.specs.Weights.{value_weight, weight};
@@ -93,12 +93,80 @@ impl Default for Member {
     }
 }
 
+impl Sides {
+    /// Whether what these ask for has what the others ask for.
+    fn is_broader(self, other: Sides) -> bool
+        ensures { OnTrue result (IsBroader self other) }
+    {
+        match (self, other) {
+            (Sides::Either, _) => true,
+            (Sides::Source, Sides::Source) => true,
+            (Sides::Destination, Sides::Destination) => true,
+            _ => false,
+        }
+    }
+}
+
+impl Bytes {
+    /// Whether they are bytes of the ports of such tests.
+    fn are_ports(self, form: Form) -> bool
+        ensures { OnTrue result (ArePorts form self) }
+    {
+        let last = match self.size {
+            Size::One => 3,
+            Size::Two => 2,
+            Size::Four => 0,
+        };
+        match (form, self.layer) {
+            (Form::TcpPorts, Layer::Tcp) => self.index <= last,
+            (Form::UdpPorts, Layer::Udp) => self.index <= last,
+            _ => false,
+        }
+    }
+}
+
 impl Kind {
     /// Whether two kinds are one.
     pub fn is(self, other: Kind) -> bool
         ensures { OnTrue result (self ≡ other) }
     {
         if self == other { true } else { false }
+    }
+
+    /// Whether a test of this kind loads what one of the other kind does, of either side where that is asked for, under any mask.
+    fn is_broader(self, other: Kind) -> bool
+        ensures { OnTrue result (Covers self other) }
+    {
+        let alike = Kind {
+            sides: self.sides,
+            mask: self.mask,
+            ..other
+        };
+        if self.is(alike) {
+            self.sides.is_broader(other.sides)
+        } else {
+            false
+        }
+    }
+
+    /// Whether it loads both ports, which have the bytes that one of the other kind asks for.
+    fn has_ports(self, other: Kind) -> bool
+        ensures { OnTrue result (Covers self other) }
+    {
+        match (self.sides, other.form) {
+            (Sides::Either, Form::Bytes) => other.bytes.are_ports(self.form),
+            _ => false,
+        }
+    }
+
+    /// Whether no test of the other kind aborts where one of this kind was No.
+    pub fn settles(self, other: Kind) -> bool
+        ensures { OnTrue result (Covers self other) }
+    {
+        if self.is_broader(other) {
+            return true;
+        }
+        self.has_ports(other)
     }
 }
 

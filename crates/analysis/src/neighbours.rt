@@ -10,7 +10,7 @@ use arrayvec::ArrayVec;
 use bpfvm::MAX_INSNS;
 use syntax::{Expr, Primitive};
 
-/// How many links farther left a test of the same kind is looked for. So the time of a chain grows with its length alone.
+/// How many links farther left a test is looked for behind which none of a kind aborts. So the time of a chain grows with its length alone.
 const LOOK_LEFT: u32 = 8;
 
 /// Links at the right end of a chain. Behind the first of them, and behind what stands to the left of it, no test of the
@@ -39,17 +39,17 @@ pub struct Group {
     pub primitive: Option<Primitive>,
 }
 
-/// Whether a link is a test of this kind.
+/// Whether a link is a test behind which none of this kind aborts.
 fn is_of(chain: Chain, expr: &Expr, kind: Kind) -> bool
     ensures { OnTrue result (Asks chain (tree_of expr.now) kind) }
 {
     match Member::of_link(chain, expr) {
-        Some(member) if member.kind.is(kind) => true,
+        Some(member) if member.kind.settles(kind) => true,
         _ => false,
     }
 }
 
-/// Whether one of the last links of a chain is a test of this kind.
+/// Whether one of the last links of a chain is a test behind which none of this kind aborts.
 fn asks(chain: Chain, expr: &Expr, kind: Kind, links: u32) -> bool
     ensures { OnTrue result (Asks chain (tree_of expr.now) kind) }
 {
@@ -68,7 +68,7 @@ fn asks(chain: Chain, expr: &Expr, kind: Kind, links: u32) -> bool
 fn is_settled(chain: Chain, left: Option<&Expr>, first: Member, kind: Kind) -> bool
     ensures { OnTrue result (MatchOption left.entry (Settles chain None first kind) (λ t. Settles chain (Some (tree_of t.now)) first kind)) }
 {
-    if kind.is(first.kind) {
+    if first.kind.settles(kind) {
         return true;
     }
     match left {
@@ -78,7 +78,7 @@ fn is_settled(chain: Chain, left: Option<&Expr>, first: Member, kind: Kind) -> b
 }
 
 /// How many links at the right end of what stands to the left of a link belong to it: each up to the first one of a kind
-/// that is not asked for farther left.
+/// that may abort behind those farther left.
 fn links(chain: Chain, expr: &Expr, kind: Kind, found: usize) -> usize {
     if found >= MAX_INSNS - 1 || !asks(chain, expr, kind, LOOK_LEFT) {
         return found;

@@ -48,7 +48,7 @@ listed_fits forms.Bytes n many = omega (arith, many)
 pub bytes-kind : (k : Kind) (xs : List Span) (p : Packet) → k.form ≡ forms.Bytes → any_of (bytes_test k.bytes) xs p ≡ any_of (kind_test k) xs p
 bytes-kind k xs p is = any-same (bytes_test k.bytes) (kind_test k) p (λ x. ap (λ f. form_test f (direction_of k.sides) k.mask k.bytes x p) (sym is)) xs
 
-pub relation-fits : (k : Kind) (xs : List Span) → k.form ≡ forms.Bytes → length xs ≡ 1 → 2 + (7 * length xs + 14) ≤ weighed k.form (length xs)
+pub relation-fits : (k : Kind) (xs : List Span) → k.form ≡ forms.Bytes → length xs ≡ 1 → 2 + (7 * length xs + 20) ≤ weighed k.form (length xs)
 relation-fits k xs is one =
     let weight : weighed k.form (length xs) ≡ 30 = ap (λ f. weighed f (length xs)) is ∙ ap (weighed forms.Bytes) one in
     omega (arith, weight, one)

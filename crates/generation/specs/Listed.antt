@@ -32,7 +32,7 @@ among (x ∷ xs) n = if within x.low x.high n then true else among xs n
 
 -- how many instructions a list of so many takes at most
 abbrev pub listed_cost : Form → ℕ → ℕ
-listed_cost forms.Bytes n = 7 * n + 14
+listed_cost forms.Bytes n = 7 * n + 20
 listed_cost other n = 28 * n + 22
 
 -- the number at a spot

@@ -4,7 +4,7 @@ use Rattle.generation.proofs.Deciding.{decides-both}
 use Rattle.generation.proofs.Leading.{decides_any}
 use Rattle.generation.proofs.Narrowed.{behind-more, behind-rest}
 use Rattle.generation.proofs.Shared.{bytes-shared}
-use Rattle.generation.proofs.code.Code.listed_bytes.Goals as goal
+use Rattle.generation.proofs.code.Code.listed_other_bytes.Goals as goal
 
 pub returns : goal.returns
 returns c =
