@@ -5,7 +5,7 @@ from the program's own code.
   bench/meaning.py                    a million runs
   bench/meaning.py --runs N --seed N  so many, of other expressions
 
-The expressions are random, with many neighbours of an `or` (or of an `and` of negations) that differ in their numbers alone.
+The expressions are random, with many operands of an `or` (or of an `and` of negations) that differ in their numbers alone.
 Each is tried on frames of its own numbers, cut at each byte. It needs the program, which `./bpftap --help` builds (or BPFTAP=PATH).
 """
 import argparse
@@ -218,9 +218,11 @@ def maker(rng):
 
 
 def a_list(rng):
-    """Neighbours of an `or`, or of an `and` of negations; another test may stand among them."""
-    make, count = maker(rng), rng.choice([2, 2, 3, 4, 6])
+    """Operands of an `or`, or negations of an `and`, of one list or of several in any order; another test may stand among them."""
+    makers = [maker(rng) for _ in range(rng.choice([1, 1, 2, 2, 3]))]
+    count = rng.choice([2, 2, 3, 4, 6, 8]) + len(makers) - 1
     joint = rng.choice(["or", "or", "and"])
+    make = lambda: rng.choice(makers)()
     one = make if joint == "or" else lambda: ("not", make())
     tree = one()
     for _ in range(count - 1):

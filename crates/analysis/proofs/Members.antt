@@ -1,8 +1,10 @@
 -- Primitives and relations that become members of lists.
-use Rattle.std.proofs.Common.{◌≡◌, ℕ, ◌+◌, ◌<◌, ◌≤◌, ◌⊎◌, inl, inr, ◌==◌, ◌&&◌, Bool, true, false, List, [], ◌∷◌, ◌++◌, length, Option, Some, None, refl, sym, ap, ◌∙◌, arith, bit_and}
+use Rattle.std.proofs.Common.{◌≡◌, ℕ, ◌+◌, ◌<◌, ◌≤◌, ◌⊎◌, inl, inr, ◌==◌, ◌&&◌, Bool, true, false, List, [], ◌∷◌, ◌++◌, All, length, Option, Some, None, refl, sym, ap, subst, ◌∙◌, arith, take, bit_and}
 use Rattle.std.proofs.lemmas.Bool.{cases_lt}
 use Rattle.std.proofs.lemmas.Bool.Decides.{nat_tests}
-use Rattle.std.proofs.lemmas.List.{length-append}
+use Rattle.std.specs.Option.{MatchOption}
+use Rattle.std.proofs.lemmas.List.{length-append, take_all}
+use Rattle.std.proofs.lemmas.List.Elements.{All-nil, All-same, All-push, All-pop, All-weaker}
 use Rattle.syntax.specs.Trees.{Tree}
 use Rattle.syntax.specs.Trees as trees
 use Rattle.syntax.specs.declared.tree.Comparison.TheVariants as comparisons
@@ -26,7 +28,8 @@ use Rattle.analysis.specs.declared.lists.Sides.{Sides}
 use Rattle.analysis.specs.declared.lists.Kind.{Kind}
 use Rattle.analysis.specs.declared.lists.Span.{Span}
 use Rattle.analysis.specs.Weights.{weight}
-use Rattle.analysis.specs.Lists.{any_of, in_span, net_form, ports_form, bytes_test, form_test, kind_test, chained, turned, weighed, Takes, EndsIn}
+use Rattle.analysis.specs.declared.lists.Member.{Member}
+use Rattle.analysis.specs.Lists.{any_of, in_span, net_form, ports_form, bytes_test, form_test, member_test, members_weight, IsMember, IsAnswered, AreAnswered, Passes, Settles, chained, turned, left_chained, weighed, Takes, EndsIn}
 
 pub equal-true : (m n : ℕ) → (m == n) ≡ true → m ≡ n
 equal-true m n is = grind (arith, nat_tests)
@@ -173,53 +176,118 @@ weighed_one forms.IpProto = omega arith
 weighed_one forms.EtherProto = omega arith
 weighed_one forms.Bytes = omega arith
 
+pub weighed-net : (network : Option Network) → weighed (net_form network) 1 ≡ 40
+weighed-net None = refl
+weighed-net (Some networks.Ip) = refl
+weighed-net (Some networks.Arp) = refl
+weighed-net (Some networks.Rarp) = refl
+
+pub weighed-ports : (transport : Option Transport) → weighed (ports_form transport) 1 ≡ 40
+weighed-ports None = refl
+weighed-ports (Some transports.Tcp) = refl
+weighed-ports (Some transports.Udp) = refl
+weighed-ports (Some transports.Sctp) = refl
+
+pub weight-append : (ms : List Member) (m : Member) → members_weight (ms ++ (m ∷ [])) ≡ members_weight ms + weighed m.kind.form 1
+weight-append [] m = omega arith
+weight-append (n ∷ ms) m = let more = weight-append ms m in omega (arith, more)
+
+left-same : (c : Chain) (left : Option Tree) (t u : Test) (p : Packet) → t p ≡ u p → left_chained c left t p ≡ left_chained c left u p
+left-same c None t u p same = same
+left-same c (Some w) t u p same = ap (chained c (meaning w p)) same
+
 -- one more member
-pub takes-one : (chain : Chain) (kind : Kind) (t : Tree) (x : Span) (old new : List Span) → ((p : Packet) → meaning t p ≡ turned chain (kind_test kind x p)) → weighed kind.form 1 ≤ weight t
-    → new ≡ old ++ (x ∷ []) → Takes chain kind t None old new
-takes-one chain kind t x old new same weighs is = record {
+pub takes-one : (chain : Chain) (t : Tree) (m : Member) (old new : List Member) → ((p : Packet) → meaning t p ≡ turned chain (member_test m p)) → weighed m.kind.form 1 ≤ weight t
+    → IsMember m → new ≡ old ++ (m ∷ []) → Takes chain t None old new
+takes-one chain t m old new same weighs member is = record {
   same = λ p.
-      ap (λ v. chained chain v (turned chain (any_of (kind_test kind) old p))) (same p)
-      ∙ sym (turned-either chain (kind_test kind x p) (any_of (kind_test kind) old p))
-      ∙ ap (turned chain) (sym (any-first (kind_test kind) p x old))
-      ∙ sym (ap (λ l. turned chain (any_of (kind_test kind) l p)) is);
+      ap (λ v. chained chain v (turned chain (any_of member_test old p))) (same p)
+      ∙ sym (turned-either chain (member_test m p) (any_of member_test old p))
+      ∙ ap (turned chain) (sym (any-first member_test p m old))
+      ∙ sym (ap (λ l. turned chain (any_of member_test l p)) is);
+  members = λ before. All-same IsMember new _ is (All-push IsMember old m before member);
   weighs =
-      let more : weighed kind.form (length new) ≡ weighed kind.form (length old) + weighed kind.form 1 =
-      ap (λ l. weighed kind.form (length l)) is ∙ ap (weighed kind.form) (length-append old (x ∷ [])) ∙ weighed-more kind.form (length old) in
+      let more : members_weight new ≡ members_weight old + weighed m.kind.form 1 = ap members_weight is ∙ weight-append old m in
       omega (arith, weighs, more);
   smaller = omega arith;
   needs = omega arith;
 }
 
 -- none
-pub takes-none : (chain : Chain) (kind : Kind) (t : Tree) (old : List Span) → Takes chain kind t (Some t) old old
-takes-none chain kind t old = record { same = λ p. refl; weighs = omega arith; smaller = omega arith; needs = omega arith }
+pub takes-none : (chain : Chain) (t : Tree) (old : List Member) → Takes chain t (Some t) old old
+takes-none chain t old = record { same = λ p. refl; members = λ before. before; weighs = omega arith; smaller = omega arith; needs = omega arith }
+
+pub map-option : {A P P' : Type 0} {Q Q' : A → Type 0} (o : Option A) → MatchOption o P Q → (P → P') → ((x : A) → Q x → Q' x) → MatchOption o P' Q'
+map-option None before none some = none before
+map-option (Some x) before none some = some x before
+
+pub all-taken : {X : Type 0} (P : X → Type 0) (xs : List X) (i : ℕ) → length xs ≤ i → All P (take i xs) → All P xs
+all-taken P xs i end all = subst (All P) (take_all i xs end) all
+
+pub map-always : {A P : Type 0} {Q : A → Type 0} (o : Option A) → P → ((x : A) → Q x) → MatchOption o P Q
+map-always None none some = none
+map-always (Some x) none some = some x
+
+pub map-both : {A P R P' : Type 0} {Q S Q' : A → Type 0} (o : Option A) → MatchOption o P Q → MatchOption o R S → (P → R → P') → ((x : A) → Q x → S x → Q' x) → MatchOption o P' Q'
+map-both None before other none some = none before other
+map-both (Some x) before other none some = some x before other
 
 -- the right operand, and what becomes of the left one
-pub takes-right : (kind : Kind) (t u : Tree) (left : Option Tree) (old mid new : List Span) → Takes chains.AnyOf kind u None old mid → Takes chains.AnyOf kind t left mid new
-    → Takes chains.AnyOf kind (trees.either t u) left old new
-takes-right kind t u left old mid new right others = record {
-  same = λ p. or-assoc (meaning t p) (meaning u p) (any_of (kind_test kind) old p) ∙ ap (or_else (meaning t p)) (right.same p) ∙ others.same p;
+pub takes-right : (t u : Tree) (left : Option Tree) (old mid new : List Member) → Takes chains.AnyOf u None old mid → Takes chains.AnyOf t left mid new
+    → Takes chains.AnyOf (trees.either t u) left old new
+takes-right t u left old mid new right others = record {
+  same = λ p. or-assoc (meaning t p) (meaning u p) (any_of member_test old p) ∙ ap (or_else (meaning t p)) (right.same p) ∙ others.same p;
+  members = λ before. others.members (right.members before);
   weighs = omega (arith, right.weighs, others.weighs);
   smaller = omega (arith, others.smaller);
   needs = omega (arith, others.needs);
 }
 
-pub takes-negated : (kind : Kind) (t u : Tree) (left : Option Tree) (old mid new : List Span) → Takes chains.NoneOf kind u None old mid → Takes chains.NoneOf kind t left mid new
-    → Takes chains.NoneOf kind (trees.both t u) left old new
-takes-negated kind t u left old mid new right others = record {
-  same = λ p. and-assoc (meaning t p) (meaning u p) (opposite (any_of (kind_test kind) old p)) ∙ ap (and_then (meaning t p)) (right.same p) ∙ others.same p;
+pub takes-negated : (t u : Tree) (left : Option Tree) (old mid new : List Member) → Takes chains.NoneOf u None old mid → Takes chains.NoneOf t left mid new
+    → Takes chains.NoneOf (trees.both t u) left old new
+takes-negated t u left old mid new right others = record {
+  same = λ p. and-assoc (meaning t p) (meaning u p) (opposite (any_of member_test old p)) ∙ ap (and_then (meaning t p)) (right.same p) ∙ others.same p;
+  members = λ before. others.members (right.members before);
   weighs = omega (arith, right.weighs, others.weighs);
   smaller = omega (arith, others.smaller);
   needs = omega (arith, others.needs);
 }
 
--- the last member, and those to its left
-pub ends-in : (chain : Chain) (kind : Kind) (t u : Tree) (left : Option Tree) (x : Span) (spans : List Span) → ((p : Packet) → meaning u p ≡ turned chain (kind_test kind x p)) → weighed kind.form 1 ≤ weight u
-    → 2 ≤ length spans → Takes chain kind t left (x ∷ []) spans → EndsIn chain kind t u left spans
-ends-in chain kind t u left x spans same weighs many takes = record {
-  many = many;
-  same = λ p. ap (chained chain (meaning t p)) (same p) ∙ takes.same p;
-  weighs = omega (arith, weighs, takes.weighs);
+-- the first member, behind which the others are answered
+all-settled : (chain : Chain) (left : Option Tree) (first : Member) (p : Packet) (others : List Member) → All (λ m. Settles chain left first m.kind) others
+    → Passes chain left p → member_test first p ≡ No → AreAnswered others p
+all-settled chain left first p others settled passes none =
+    All-weaker (λ m. Settles chain left first m.kind) (λ m. IsAnswered (member_test m p)) (λ m settles. settles.answered p passes none m.span) others settled
+
+-- the right operand, and what has become of the left one
+pub ends-in : (chain : Chain) (t u : Tree) (left : Option Tree) (first : Member) (one all others : List Member) → Takes chain u None [] one → Takes chain t left one all
+    → all ≡ others ++ (first ∷ []) → length others < 512 → All (λ m. Settles chain left first m.kind) others → EndsIn chain t u left first others
+ends-in chain t u left first one all others right takes is short settled = record {
+  is_first = (All-pop IsMember all others (Some first) is members).1;
+  are_others = (All-pop IsMember all others (Some first) is members).0;
+  same = λ p.
+      ap (chained chain (meaning t p)) (chained-none (meaning u p) ∙ right.same p)
+      ∙ takes.same p
+      ∙ left-same chain left _ _ p (ap (turned chain) (ap (λ l. any_of member_test l p) is ∙ any-first member_test p first others));
+  settled = λ p passes none. all-settled chain left first p others settled passes none;
+  weighs =
+      let whole : members_weight all ≡ members_weight others + weighed first.kind.form 1 = ap members_weight is ∙ weight-append others first in
+      omega (arith, right.weighs, takes.weighs, whole);
   smaller = takes.smaller;
   needs = takes.needs;
+  room = short;
 }
+  where
+    members : All IsMember all
+    members = takes.members (right.members (All-nil IsMember))
+
+    chained-none : (v : Verdict) → v ≡ chained chain v (turned chain No)
+    chained-none v = by_chain chain v
+      where
+        by_chain : (c : Chain) (w : Verdict) → w ≡ chained c w (turned c No)
+        by_chain chains.AnyOf Yes = refl
+        by_chain chains.AnyOf No = refl
+        by_chain chains.AnyOf Abort = refl
+        by_chain chains.NoneOf Yes = refl
+        by_chain chains.NoneOf No = refl
+        by_chain chains.NoneOf Abort = refl

@@ -1,5 +1,5 @@
 -- Lists: neighbours of an `or`, or negations that an `and` joins, that differ in their numbers alone.
-use Rattle.std.specs.Prelude.{◌≡◌, ℕ, ◌+◌, ◌*◌, ◌≤◌, List, [], ◌∷◌, length, Option, Some, None, bit_and}
+use Rattle.std.specs.Prelude.{◌≡◌, ℕ, ◌+◌, ◌*◌, ◌≤◌, ◌<◌, List, [], ◌∷◌, All, length, Option, Some, None, MatchOption, bit_and}
 use Rattle.syntax.specs.Trees.{Tree}
 use Rattle.syntax.specs.Trees as trees
 use Rattle.syntax.specs.declared.tree.Layer.TheVariants as layers
@@ -11,8 +11,8 @@ use Rattle.syntax.specs.declared.tree.Network.TheVariants as networks
 use Rattle.syntax.specs.declared.tree.Transport.{Transport}
 use Rattle.syntax.specs.declared.tree.Transport.TheVariants as transports
 use Rattle.semantics.specs.declared.verdict.Verdict.{Verdict}
-use Rattle.semantics.specs.declared.verdict.Verdict.TheVariants.{No}
-use Rattle.semantics.specs.Meaning.{Packet, Test, and_then, or_else, opposite, or_test, and_test, check, byte, half, word, is_type, by_direction, within, has_any_ports, bytes_of, accessed, in_layer, meaning}
+use Rattle.semantics.specs.declared.verdict.Verdict.TheVariants.{Yes, No, Abort}
+use Rattle.semantics.specs.Meaning.{Packet, Test, and_then, or_else, opposite, or_test, and_test, check, byte, half, word, is_type, by_direction, within, has_any_ports, bytes_of, accessed, in_layer, primitive_test, meaning}
 use Rattle.analysis.specs.declared.lists.Chain.{Chain}
 use Rattle.analysis.specs.declared.lists.Chain.TheVariants as chains
 use Rattle.analysis.specs.declared.lists.Form.{Form}
@@ -22,6 +22,8 @@ use Rattle.analysis.specs.declared.lists.Sides.TheVariants as sides
 use Rattle.analysis.specs.declared.lists.Bytes.{Bytes}
 use Rattle.analysis.specs.declared.lists.Kind.{Kind}
 use Rattle.analysis.specs.declared.lists.Span.{Span}
+use Rattle.analysis.specs.declared.lists.Member.{Member}
+use Rattle.syntax.specs.declared.tree.Primitive.{Primitive}
 use Rattle.analysis.specs.declared.known.Known.{Known}
 use Rattle.analysis.specs.Weights.{weight, need}
 use Rattle.analysis.specs.Knowing.{behind, LOOK_BACK}
@@ -35,6 +37,19 @@ abbrev pub direction_of : Sides → Direction
 direction_of sides.Source = Src
 direction_of sides.Destination = Dst
 direction_of sides.Either = SrcOrDst
+
+-- the same sides, or one of both
+abbrev pub IsBroader : Sides → Sides → Type 0
+IsBroader sides.Either t = Unit {0}
+IsBroader sides.Source sides.Source = Unit {0}
+IsBroader sides.Destination sides.Destination = Unit {0}
+IsBroader s t = ⊥
+
+-- bytes of the ports of such tests
+abbrev pub ArePorts : Form → Bytes → Type 0
+ArePorts forms.TcpPorts b = (b.layer ≡ layers.Tcp) × (b.index + bytes_of b.size ≤ 4)
+ArePorts forms.UdpPorts b = (b.layer ≡ layers.Udp) × (b.index + bytes_of b.size ≤ 4)
+ArePorts other b = ⊥
 
 abbrev pub net_form : Option Network → Form
 net_form None = forms.Net
@@ -128,19 +143,88 @@ abbrev pub left_size : Option Tree → ℕ
 left_size None = 0
 left_size (Some u) = size u
 
+-- a member's test
+abbrev pub member_test : Member → Test
+member_test m = kind_test m.kind m.span
+
+abbrev pub members_weight : List Member → ℕ
+members_weight [] = 0
+members_weight (m ∷ ms) = weighed m.kind.form 1 + members_weight ms
+
+-- a member is the primitive that it tells, or it is a relation
+abbrev pub IsMember : Member → Type 0
+IsMember m = MatchOption m.primitive (m.kind.form ≡ forms.Bytes) (λ q. ((p : Packet) → primitive_test q p ≡ member_test m p) × (weighed m.kind.form 1 ≡ 40))
+
+-- an answer other than Abort
+abbrev pub IsAnswered : Verdict → Type 0
+IsAnswered Abort = ⊥
+IsAnswered other = Unit {0}
+
+-- a chain goes on behind what stands to the left
+abbrev pub passing : Chain → Verdict
+passing chains.AnyOf = No
+passing chains.NoneOf = Yes
+
+abbrev pub Passes : Chain → Option Tree → Packet → Type 0
+Passes c None p = Unit {0}
+Passes c (Some u) p = meaning u p ≡ passing c
+
+-- where a test of a kind was No, none of the other kind aborts
+pub record Covers (kind other : Kind) : Type 0 where
+  pub answered : (p : Packet) (x y : Span) → kind_test kind x p ≡ No → IsAnswered (kind_test other y p)
+
+-- where a chain goes on behind a tree, no test of this kind aborts
+pub record Asks (chain : Chain) (t : Tree) (kind : Kind) : Type 0 where
+  pub answered : (p : Packet) → meaning t p ≡ passing chain → (x : Span) → IsAnswered (kind_test kind x p)
+
+-- no test of this kind aborts behind a member and what stands to the left of it
+pub record Settles (chain : Chain) (left : Option Tree) (first : Member) (kind : Kind) : Type 0 where
+  pub answered : (p : Packet) → Passes chain left p → member_test first p ≡ No → (x : Span) → IsAnswered (kind_test kind x p)
+
+abbrev pub AreAnswered : List Member → Packet → Type 0
+AreAnswered ms p = All (λ m. IsAnswered (member_test m p)) ms
+
 -- a tree has become members of a list, but for what is left
-pub record Takes (chain : Chain) (kind : Kind) (whole : Tree) (left : Option Tree) (old new : List Span) : Type 0 where
-  pub same : (p : Packet) → chained chain (meaning whole p) (turned chain (any_of (kind_test kind) old p))
-      ≡ left_chained chain left (λ q. turned chain (any_of (kind_test kind) new q)) p
-  pub weighs : left_weight left + weighed kind.form (length new) ≤ weight whole + weighed kind.form (length old)
+pub record Takes (chain : Chain) (whole : Tree) (left : Option Tree) (old new : List Member) : Type 0 where
+  pub same : (p : Packet) → chained chain (meaning whole p) (turned chain (any_of member_test old p))
+      ≡ left_chained chain left (λ q. turned chain (any_of member_test new q)) p
+  pub members : All IsMember old → All IsMember new
+  pub weighs : left_weight left + members_weight new ≤ weight whole + members_weight old
   pub smaller : left_size left ≤ size whole
   pub needs : left_need left ≤ need whole
 
--- a chain ends in a list of two members at least, behind what is left of its left operand
-pub record EndsIn (chain : Chain) (kind : Kind) (first second : Tree) (left : Option Tree) (spans : List Span) : Type 0 where
-  pub many : 2 ≤ length spans
-  pub same : (p : Packet) → chained chain (meaning first p) (meaning second p)
-      ≡ left_chained chain left (λ q. turned chain (any_of (kind_test kind) spans q)) p
-  pub weighs : left_weight left + weighed kind.form (length spans) ≤ weight first + weight second
-  pub smaller : left_size left ≤ size first
-  pub needs : left_need left ≤ need first
+-- a chain ends in members, behind what is left of its left operand; none but the first of them can abort where that is asked
+pub record EndsIn (chain : Chain) (t u : Tree) (left : Option Tree) (first : Member) (others : List Member) : Type 0 where
+  pub is_first : IsMember first
+  pub are_others : All IsMember others
+  pub same : (p : Packet) → chained chain (meaning t p) (meaning u p)
+      ≡ left_chained chain left (λ q. turned chain (or_else (member_test first q) (any_of member_test others q))) p
+  pub settled : (p : Packet) → Passes chain left p → member_test first p ≡ No → AreAnswered others p
+  pub weighs : left_weight left + (weighed first.kind.form 1 + members_weight others) ≤ weight t + weight u
+  pub smaller : left_size left ≤ size t
+  pub needs : left_need left ≤ need t
+  pub room : length others < 512
+
+-- a member alone is the primitive that is told of its kind
+abbrev pub IsAlone : Kind → Option Primitive → List Span → Type 0
+IsAlone kind primitive spans = (x : Span) → spans ≡ x ∷ [] → IsMember (record { kind = kind; span = x; primitive = primitive })
+
+-- those of a kind leave the others; where none aborts they may be asked first
+pub record Divides (kind : Kind) (all : List Member) (spans : List Span) (others : List Member) : Type 0 where
+  pub same : (p : Packet) → AreAnswered all p → any_of member_test all p ≡ or_else (any_of (kind_test kind) spans p) (any_of member_test others p)
+  pub answered : (p : Packet) → AreAnswered all p → IsAnswered (any_of (kind_test kind) spans p)
+  pub others_answered : (p : Packet) → AreAnswered all p → AreAnswered others p
+  pub members : All IsMember all → All IsMember others
+  pub weighs : weighed kind.form (length spans) + members_weight others ≡ members_weight all
+  pub together : length spans + length others ≡ length all
+
+-- the same with a member that is asked before all of them
+pub record Groups (first : Member) (all : List Member) (spans : List Span) (others : List Member) : Type 0 where
+  pub same : (p : Packet) → (member_test first p ≡ No → AreAnswered all p)
+      → or_else (member_test first p) (any_of member_test all p) ≡ or_else (any_of (kind_test first.kind) spans p) (any_of member_test others p)
+  pub answered : (p : Packet) → (member_test first p ≡ No → AreAnswered all p) → any_of (kind_test first.kind) spans p ≡ No → AreAnswered others p
+  pub alone : IsMember first → IsAlone first.kind first.primitive spans
+  pub members : All IsMember all → All IsMember others
+  pub weighs : weighed first.kind.form (length spans) + members_weight others ≡ weighed first.kind.form 1 + members_weight all
+  pub some : 0 < length spans
+  pub fewer : length others ≤ length all

@@ -1,18 +1,16 @@
 //! Lists: neighbours of an `or`, or negations that an `and` joins, that differ in their numbers alone.
 
-ghost use Rattle.std.specs.Prelude.{◌≡◌, ◌+◌, ◌*◌, ◌≤◌, ◌<◌, ◌∷◌, [], ◌++◌, length, IfSome, MatchOption, Some, None};
+ghost use Rattle.std.specs.Prelude.{◌≡◌, ◌+◌, ◌≤◌, IfSome, MatchOption, None};
 ghost use Rattle.syntax.specs.Trees.{amount_of, tree_of, number as literal};
 ghost use Rattle.syntax.specs.declared.tree.Comparison.TheVariants.{Equal};
 ghost use Rattle.semantics.specs.Meaning.{Packet, plain_test, in_any_net, has_any_ports, primitive_test, relation_test, meaning};
 ghost use Rattle.analysis.specs.Knowing.{behind, LOOK_BACK};
-ghost use Rattle.analysis.specs.Lists.{direction_of, net_form, ports_form, no_bytes, kind_test, turned, behind_left, weighed, Takes, EndsIn};
+ghost use Rattle.analysis.specs.Lists.{direction_of, net_form, ports_form, no_bytes, member_test, IsBroader, ArePorts, Covers, IsMember, turned, behind_left, weighed};
 ghost use Rattle.analysis.specs.declared.lists.Sides.TheVariants as sides;
-ghost use Rattle.std.specs.Bool.{OnTrue, OnFalse};
+ghost use Rattle.std.specs.Bool.{OnTrue};
 ghost use Rattle.analysis.specs.Weights.{value_weight, weight};
 
 use crate::known::Known;
-use arrayvec::ArrayVec;
-use bpfvm::MAX_INSNS;
 use semantics::{ARP, RARP};
 use syntax::{
     Comparison, Direction, Expr, Layer, Network, Plain, Primitive, Size, Transport, Value,
@@ -82,17 +80,94 @@ pub struct Span {
 
 /// A primitive or a relation as a member of a list.
 #[derive(Clone, Copy)]
-struct Member {
-    kind: Kind,
-    span: Span,
+pub struct Member {
+    pub kind: Kind,
+    pub span: Span,
+    /// The primitive that it is, or none for a relation.
+    pub primitive: Option<Primitive>,
 }
 
-/// A list.
-#[derive(Drop)]
-pub struct Neighbours {
-    pub kind: Kind,
-    /// The number of each member, that of the last one first.
-    pub spans: ArrayVec<Span, MAX_INSNS>,
+impl Default for Member {
+    fn default() -> Member {
+        Member::numbered(Form::Bytes, 0)
+    }
+}
+
+impl Sides {
+    /// Whether what these ask for has what the others ask for.
+    fn is_broader(self, other: Sides) -> bool
+        ensures { OnTrue result (IsBroader self other) }
+    {
+        match (self, other) {
+            (Sides::Either, _) => true,
+            (Sides::Source, Sides::Source) => true,
+            (Sides::Destination, Sides::Destination) => true,
+            _ => false,
+        }
+    }
+}
+
+impl Bytes {
+    /// Whether they are bytes of the ports of such tests.
+    fn are_ports(self, form: Form) -> bool
+        ensures { OnTrue result (ArePorts form self) }
+    {
+        let last = match self.size {
+            Size::One => 3,
+            Size::Two => 2,
+            Size::Four => 0,
+        };
+        match (form, self.layer) {
+            (Form::TcpPorts, Layer::Tcp) => self.index <= last,
+            (Form::UdpPorts, Layer::Udp) => self.index <= last,
+            _ => false,
+        }
+    }
+}
+
+impl Kind {
+    /// Whether two kinds are one.
+    pub fn is(self, other: Kind) -> bool
+        ensures { OnTrue result (self ≡ other) }
+    {
+        if self == other { true } else { false }
+    }
+
+    /// Whether a test of this kind loads what one of the other kind does, of either side where that is asked for, under any mask.
+    fn is_broader(self, other: Kind) -> bool
+        ensures { OnTrue result (Covers self other) }
+    {
+        let alike = Kind {
+            sides: self.sides,
+            mask: self.mask,
+            ..other
+        };
+        if self.is(alike) {
+            self.sides.is_broader(other.sides)
+        } else {
+            false
+        }
+    }
+
+    /// Whether it loads both ports, which have the bytes that one of the other kind asks for.
+    fn has_ports(self, other: Kind) -> bool
+        ensures { OnTrue result (Covers self other) }
+    {
+        match (self.sides, other.form) {
+            (Sides::Either, Form::Bytes) => other.bytes.are_ports(self.form),
+            _ => false,
+        }
+    }
+
+    /// Whether no test of the other kind aborts where one of this kind was No.
+    pub fn settles(self, other: Kind) -> bool
+        ensures { OnTrue result (Covers self other) }
+    {
+        if self.is_broader(other) {
+            return true;
+        }
+        self.has_ports(other)
+    }
 }
 
 impl Chain {
@@ -173,6 +248,7 @@ impl Member {
         ensures { result ≡ record {
           kind = record { form = form; sides = sides.Source; mask = 0; bytes = no_bytes };
           span = record { low = number; high = number };
+          primitive = None;
         } }
     {
         Member {
@@ -186,6 +262,7 @@ impl Member {
                 low: number,
                 high: number,
             },
+            primitive: None,
         }
     }
 
@@ -195,7 +272,8 @@ impl Member {
         address: u32,
         mask: u32,
     ) -> Option<Member>
-        ensures { IfSome result (λ m. (p : Packet) → in_any_net network direction address mask p ≡ kind_test m.kind m.span p) }
+        ensures same { IfSome result (λ m. (p : Packet) → in_any_net network direction address mask p ≡ member_test m p) }
+        ensures weighs { IfSome result (λ m. weighed m.kind.form 1 ≡ 40) }
     {
         match sides_of(direction) {
             Some(sides) => Some(Member {
@@ -209,6 +287,7 @@ impl Member {
                     low: address,
                     high: address,
                 },
+                primitive: None,
             }),
             None => None,
         }
@@ -220,7 +299,8 @@ impl Member {
         low: u32,
         high: u32,
     ) -> Option<Member>
-        ensures { IfSome result (λ m. (p : Packet) → has_any_ports transport direction low high p ≡ kind_test m.kind m.span p) }
+        ensures same { IfSome result (λ m. (p : Packet) → has_any_ports transport direction low high p ≡ member_test m p) }
+        ensures weighs { IfSome result (λ m. weighed m.kind.form 1 ≡ 40) }
     {
         match sides_of(direction) {
             Some(sides) => Some(Member {
@@ -231,6 +311,7 @@ impl Member {
                     bytes: NO_BYTES,
                 },
                 span: Span { low, high },
+                primitive: None,
             }),
             None => None,
         }
@@ -238,7 +319,8 @@ impl Member {
 
     /// A protocol word. `ip` is none: what goes on behind it is to know of it.
     fn of_word(word: Plain) -> Option<Member>
-        ensures { IfSome result (λ m. (p : Packet) → plain_test word p ≡ kind_test m.kind m.span p) }
+        ensures same { IfSome result (λ m. (p : Packet) → plain_test word p ≡ member_test m p) }
+        ensures weighs { IfSome result (λ m. weighed m.kind.form 1 ≡ 40) }
     {
         match word {
             Plain::Ip => None,
@@ -251,9 +333,10 @@ impl Member {
         }
     }
 
-    /// The member that a primitive is, where lists are made of such ones.
-    fn of(primitive: Primitive) -> Option<Member>
-        ensures { IfSome result (λ m. (p : Packet) → primitive_test primitive p ≡ kind_test m.kind m.span p) }
+    /// What a primitive asks for, where lists are made of such ones.
+    fn asked_by(primitive: Primitive) -> Option<Member>
+        ensures same { IfSome result (λ m. (p : Packet) → primitive_test primitive p ≡ member_test m p) }
+        ensures weighs { IfSome result (λ m. weighed m.kind.form 1 ≡ 40) }
     {
         match primitive {
             Primitive::Protocol(word) => Member::of_word(word),
@@ -277,10 +360,24 @@ impl Member {
         }
     }
 
+    /// The member that a primitive is.
+    fn of(primitive: Primitive) -> Option<Member>
+        ensures same { IfSome result (λ m. (p : Packet) → primitive_test primitive p ≡ member_test m p) }
+        ensures weighs { IfSome result (λ m. weighed m.kind.form 1 ≡ 40) }
+        ensures member { IfSome result IsMember }
+    {
+        let member = Member::asked_by(primitive)?;
+        Some(Member {
+            primitive: Some(primitive),
+            ..member
+        })
+    }
+
     /// A relation that asks whether bytes are a number, where their index is written as one too.
     fn of_bytes(value: &Value, number: u32) -> Option<Member>
-        ensures same { IfSome result (λ m. (p : Packet) → relation_test Equal (amount_of value.now) (literal number) p ≡ kind_test m.kind m.span p) }
+        ensures same { IfSome result (λ m. (p : Packet) → relation_test Equal (amount_of value.now) (literal number) p ≡ member_test m p) }
         ensures weighs { IfSome result (λ m. weighed m.kind.form 1 ≤ 10 + value_weight (amount_of value.now)) }
+        ensures member { IfSome result IsMember }
     {
         match value {
             Value::Accessor(layer, index, size) => {
@@ -304,9 +401,10 @@ impl Member {
     }
 
     fn of_relation(comparison: Comparison, left: &Value, right: &Value) -> Option<Member>
-        ensures same { IfSome result (λ m. (p : Packet) → relation_test comparison (amount_of left.now) (amount_of right.now) p ≡ kind_test m.kind m.span p) }
+        ensures same { IfSome result (λ m. (p : Packet) → relation_test comparison (amount_of left.now) (amount_of right.now) p ≡ member_test m p) }
         ensures weighs { IfSome result (λ m.
             weighed m.kind.form 1 ≤ 10 + (value_weight (amount_of left.now) + value_weight (amount_of right.now))) }
+        ensures member { IfSome result IsMember }
     {
         match comparison {
             Comparison::Equal => match right {
@@ -319,8 +417,9 @@ impl Member {
 
     /// The member that an expression is.
     fn of_expr(expr: &Expr) -> Option<Member>
-        ensures same { IfSome result (λ m. (p : Packet) → meaning (tree_of expr.now) p ≡ kind_test m.kind m.span p) }
+        ensures same { IfSome result (λ m. (p : Packet) → meaning (tree_of expr.now) p ≡ member_test m p) }
         ensures weighs { IfSome result (λ m. weighed m.kind.form 1 ≤ weight (tree_of expr.now)) }
+        ensures member { IfSome result IsMember }
     {
         match expr {
             Expr::Test(primitive) => Member::of(*primitive),
@@ -332,9 +431,10 @@ impl Member {
     }
 
     /// The member that an expression is in a chain.
-    fn of_link(chain: Chain, expr: &Expr) -> Option<Member>
-        ensures same { IfSome result (λ m. (p : Packet) → meaning (tree_of expr.now) p ≡ turned chain (kind_test m.kind m.span p)) }
+    pub fn of_link(chain: Chain, expr: &Expr) -> Option<Member>
+        ensures same { IfSome result (λ m. (p : Packet) → meaning (tree_of expr.now) p ≡ turned chain (member_test m p)) }
         ensures weighs { IfSome result (λ m. weighed m.kind.form 1 ≤ weight (tree_of expr.now)) }
+        ensures member { IfSome result IsMember }
     {
         match chain {
             Chain::AnyOf => Member::of_expr(expr),
@@ -343,85 +443,5 @@ impl Member {
                 _ => None,
             },
         }
-    }
-}
-
-impl Neighbours {
-    /// Whether an expression belongs to the list, which then has it.
-    fn takes(&mut self, chain: Chain, expr: &Expr) -> bool
-        ensures kind { self.new.kind ≡ self.old.kind }
-        ensures taken { OnTrue result (Takes chain self.old.kind (tree_of expr.now) None self.old.spans.items self.new.spans.items) }
-        ensures kept { OnFalse result (self.new ≡ self.old) }
-    {
-        match Member::of_link(chain, expr) {
-            Some(member) if member.kind == self.kind && !self.spans.is_full() => {
-                self.spans.push(member.span);
-                true
-            }
-            _ => false,
-        }
-    }
-
-    /// Takes the members at the right end of an expression, and answers what is left of it.
-    fn take<'a>(&mut self, chain: Chain, expr: &'a Expr) -> Option<&'a Expr>
-        ensures kind { self.new.kind ≡ self.old.kind }
-        ensures taken { MatchOption result
-            (Takes chain self.old.kind (tree_of expr.now) None self.old.spans.items self.new.spans.items)
-            (λ left. Takes chain self.old.kind (tree_of expr.now) (Some (tree_of left.now)) self.old.spans.items
-            self.new.spans.items) }
-    {
-        match (chain, expr) {
-            (Chain::AnyOf, Expr::Or(left, right)) => {
-                if self.takes(chain, right) {
-                    self.take(chain, left)
-                } else {
-                    Some(expr)
-                }
-            }
-            (Chain::NoneOf, Expr::And(left, right)) => {
-                if self.takes(chain, right) {
-                    self.take(chain, left)
-                } else {
-                    Some(expr)
-                }
-            }
-            _ => {
-                if self.takes(chain, expr) {
-                    None
-                } else {
-                    Some(expr)
-                }
-            }
-        }
-    }
-
-    /// The list at the right end of a chain of these two, where one is, and what stands to its left.
-    pub fn at_end<'a>(
-        chain: Chain,
-        left: &'a Expr,
-        right: &Expr,
-    ) -> Option<(Neighbours, Option<&'a Expr>)>
-        ensures many { IfSome result (λ found. 2 ≤ length found.0.spans.items) }
-        ensures weighs { IfSome result (λ found.
-            weighed found.0.kind.form (length found.0.spans.items) ≤ weight (tree_of left.now) + weight (tree_of right.now)) }
-        ensures ends { IfSome result (λ found. MatchOption found.1
-            (EndsIn chain found.0.kind (tree_of left.now) (tree_of right.now) None found.0.spans.items)
-            (λ rest. EndsIn chain found.0.kind (tree_of left.now) (tree_of right.now) (Some (tree_of rest.now))
-            found.0.spans.items)) }
-    {
-        let Some(last) = Member::of_link(chain, right) else {
-            return None;
-        };
-        let mut spans = ArrayVec::new();
-        spans.push(last.span);
-        let mut list = Neighbours {
-            kind: last.kind,
-            spans,
-        };
-        let rest = list.take(chain, left);
-        if list.spans.len() < 2 {
-            return None;
-        }
-        Some((list, rest))
     }
 }

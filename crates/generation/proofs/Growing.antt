@@ -40,6 +40,10 @@ jump-sound rest distance inside =
     let inside' : nat_lt (0 + 1 + distance) (length rest + 1) ≡ true = grind (arith, nat_tests) in
     unless-true _ (JumpOut 0) inside'
 
+pub return-sound : (n size : ℕ) → fault_of size 0 (plain_insn 6 n) ≡ None
+unfolding fault_of operation_of
+return-sound n size = refl
+
 pub branch-sound : (j : Leap) (o : Against) (rest : List Insn) (jt jf : ℕ) → jt < length rest → jf < length rest → fault_of (length rest + 1) 0 (branch_insn j o jt jf) ≡ None
 unfolding fault_of operation_of
 branch-sound jumps.Equal (operands.Constant k) rest jt jf first second = unless-true _ (JumpOut 0) (both-inside jt jf (length rest) first second)

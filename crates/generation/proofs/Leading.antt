@@ -12,7 +12,7 @@ use Rattle.semantics.specs.Meaning.{Packet, HasBytes, Test, and_then, or_else, a
 use Rattle.generation.specs.Emission.{IsPlace, Answers, Extends, outcome, Nears, Decides}
 use Rattle.generation.specs.Remaining.{is_unfragmented}
 use Rattle.generation.specs.Parts.{has_port_number, is_any_first}
-use Rattle.generation.specs.Ways.{is_first_fragment, Suits, Serves, IsWay, AreWays, Renews, RenewsBoth, DecidesBy, IsFor}
+use Rattle.generation.specs.Ways.{is_first_fragment, Suits, Serves, ServesKnown, IsWay, AreWays, way_by, Renews, RenewsBoth, DecidesBy, IsFor}
 use Rattle.generation.proofs.Runs.{extends-both, extends-more, answers-kept}
 use Rattle.generation.proofs.Deciding.{outcome-both, outcome-either, outcome-opposite, answers-same}
 
@@ -257,6 +257,85 @@ decides-guarded {k} {inner} {e} {u} ways {a} {b} {c} are second first =
               right = λ known.
                   let known' = first-ip None p known in
                   known-inside t (u p) m n _ _ known' (yes'.ip.right known') (no'.ip.right known');
+            };
+          };
+    }
+
+-- what serves as the way of an answer that is known serves as the outcome
+served : {X : Type 0} (b : Bool) (ways : Ways) (v : Verdict) {code : List Insn} (p : Packet) (m n : ℕ) → Serves code ways.yes p m → Serves code ways.no p n → (X → v ≡ decided b)
+    → ServesKnown code (way_by b ways) p (outcome v m n) X
+served true ways v p m n yes' no' is = record { found = m; serves = yes'; right = λ known. sym (ap (λ u. outcome u m n) (is known)) }
+served false ways v p m n yes' no' is = record { found = n; serves = no'; right = λ known. sym (ap (λ u. outcome u m n) (is known)) }
+
+way-by-here : (b : Bool) (ways : Ways) {code : List Insn} → AreWays code ways → IsWay code (way_by b ways)
+way-by-here true ways are = are.0
+way-by-here false ways are = are.1
+
+-- the outcome of a test behind that of IPv4, of which the answer is known there
+outcome-apart : (t v : Verdict) (m n x y z : ℕ) → (t ≡ Yes → x ≡ outcome v m n) → (t ≡ No → y ≡ m) → (t ≡ No → z ≡ n) → (t ≡ Abort → v ≡ Abort) → outcome t x (outcome v y z) ≡ outcome v m n
+outcome-apart Yes v m n x y z is first second aborts = is refl
+outcome-apart No v m n x y z is first second aborts = ap (λ k. outcome v k z) (first refl) ∙ ap (outcome v m) (second refl)
+outcome-apart Abort v m n x y z is first second aborts = sym (ap (λ u. outcome u m n) (aborts refl))
+
+-- a test whose answer is known of IPv4, and behind that type the same test of any other
+pub decides-apart : {k other e : ℕ} {u : Test} (by_ip : Bool) (ways : Ways) {a b c : List Insn} → AreWays a ways
+    → ((p : Packet) → is_type 0x0800 p ≡ Yes → u p ≡ decided by_ip) → ((p : Packet) → is_type 0x0800 p ≡ Abort → u p ≡ Abort)
+    → Decides k u (record { yes = ways.yes.other; no = ways.no.other }) other a b
+    → Decides 4 (is_type 0x0800) (record { yes = (way_by by_ip ways).ip; no = other }) e b c
+    → DecidesBy (k + 4) u ways (record { any = e; ip = (way_by by_ip ways).ip; other = other; first_fragment = (way_by by_ip ways).first_fragment; transport = (way_by by_ip ways).transport }) a c
+decides-apart {k} {other} {e} {u} by_ip ways {a} {b} {c} are holds aborts second first =
+    let whole = extends-both second.extends first.extends in
+    let w = way_by by_ip ways in
+    let here = way-by-here by_ip ways are in
+    record {
+      extends = whole;
+      here = record { any = first.here; ip = place-kept w.ip whole here.ip; other = place-kept other first.extends second.here; first_fragment = place-kept w.first_fragment whole here.first_fragment };
+      decides = λ p m n bytes yes' no'.
+          let t = is_type 0x0800 p in
+          let of_ip = served by_ip ways (u p) p m n yes' no' (holds p) in
+          let there = of_ip.serves.ip in
+          let fragment = of_ip.serves.first_fragment in
+          let outside = second.decides p yes'.other.found no'.other.found bytes yes'.other.answers no'.other.answers in
+          let inside = answers-kept w.ip there.found p second.extends here.ip.1 there.answers in
+          record {
+            any = answers-same c e _ _ p (outcome-apart t (u p) m n _ _ _ (λ known. there.right known ∙ of_ip.right known) yes'.other.right no'.other.right (aborts p)) (first.decides p _ _ bytes inside outside);
+            ip = record { found = there.found; answers = answers-kept w.ip _ p whole here.ip.1 there.answers; right = λ known. there.right known ∙ of_ip.right known };
+            other = record {
+              found = _;
+              answers = answers-kept other _ p first.extends second.here.1 outside;
+              right = λ known. ap (λ x. outcome (u p) x no'.other.found) (yes'.other.right known) ∙ ap (outcome (u p) m) (no'.other.right known);
+            };
+            first_fragment = record {
+              found = fragment.found;
+              answers = answers-kept w.first_fragment _ p whole here.first_fragment.1 fragment.answers;
+              right = λ known. fragment.right known ∙ of_ip.right (first-ip w.transport p known);
+            };
+          };
+    }
+
+-- the same where the type is not asked for first
+pub decides-known : {k e : ℕ} {u : Test} (by_ip : Bool) (ways : Ways) {a b : List Insn} → AreWays a ways → ((p : Packet) → is_type 0x0800 p ≡ Yes → u p ≡ decided by_ip)
+    → Decides k u (record { yes = ways.yes.any; no = ways.no.any }) e a b
+    → DecidesBy k u ways (record { any = e; ip = (way_by by_ip ways).ip; other = e; first_fragment = (way_by by_ip ways).first_fragment; transport = (way_by by_ip ways).transport }) a b
+decides-known {k} {e} {u} by_ip ways {a} {b} are holds first =
+    let w = way_by by_ip ways in
+    let here = way-by-here by_ip ways are in
+    record {
+      extends = first.extends;
+      here = record { any = first.here; ip = place-kept w.ip first.extends here.ip; other = first.here; first_fragment = place-kept w.first_fragment first.extends here.first_fragment };
+      decides = λ p m n bytes yes' no'.
+          let of_ip = served by_ip ways (u p) p m n yes' no' (holds p) in
+          let there = of_ip.serves.ip in
+          let fragment = of_ip.serves.first_fragment in
+          let any' = first.decides p m n bytes yes'.any no'.any in
+          record {
+            any = any';
+            ip = record { found = there.found; answers = answers-kept w.ip _ p first.extends here.ip.1 there.answers; right = λ known. there.right known ∙ of_ip.right known };
+            other = suits-any _ any';
+            first_fragment = record {
+              found = fragment.found;
+              answers = answers-kept w.first_fragment _ p first.extends here.first_fragment.1 fragment.answers;
+              right = λ known. fragment.right known ∙ of_ip.right (first-ip w.transport p known);
             };
           };
     }

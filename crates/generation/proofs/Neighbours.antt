@@ -1,5 +1,5 @@
 -- One test for all members of a list answers as their tests do one after the other.
-use Rattle.std.proofs.Common.{◌≡◌, ℕ, ◌<◌, Bool, true, false, List, [], ◌∷◌, ◌++◌, length, Option, Some, None, refl, sym, ap, ◌∙◌, arith, if◌then◌else◌}
+use Rattle.std.proofs.Common.{◌≡◌, ◌≢◌, ℕ, ◌<◌, ◌==◌, Bool, true, false, List, [], ◌∷◌, ◌++◌, length, Option, Some, None, refl, sym, ap, ◌∙◌, arith, if◌then◌else◌}
 use Rattle.analysis.specs.declared.lists.Span.{Span}
 use Rattle.semantics.specs.declared.verdict.Verdict.{Verdict}
 use Rattle.semantics.specs.declared.verdict.Verdict.TheVariants.{Yes, No, Abort}
@@ -7,6 +7,7 @@ use Rattle.semantics.specs.Meaning.{Packet, Test, and_then, or_else, and_test, c
 use Rattle.analysis.specs.Lists.{any_of}
 use Rattle.generation.specs.Listed.{among}
 use Rattle.analysis.proofs.Members.{any-first}
+use Rattle.generation.proofs.Runs.{equal-true}
 use Rattle.generation.proofs.Sharing.{chosen_by}
 
 -- the same tests in other words
@@ -52,6 +53,14 @@ decided-either true false = refl
 decided-either false true = refl
 decided-either false false = refl
 
+decided-yes : (b : Bool) → decided b ≡ Yes → b ≡ true
+decided-yes true is = refl
+decided-yes false is = absurd cc
+
+decided-there : (b : Bool) → decided b ≡ Abort → ⊥
+decided-there true is = absurd cc
+decided-there false is = absurd cc
+
 -- one number that is there
 among-decided : (xs : List Span) (p : Packet) (n : ℕ) → any_of (λ (x : Span) q. decided (within x.low x.high n)) xs p ≡ decided (among xs n)
 among-decided [] p n = refl
@@ -70,6 +79,22 @@ among-more (y ∷ xs) x n = ap (λ b. if within y.low y.high n then true else b)
     by_test true true c = refl
     by_test true false c = refl
     by_test false b c = refl
+
+-- what a number answers of IPv4, whose type it is asked of
+pub type-known : (f : ℕ → Bool) (v : Option ℕ) → check (λ n. n == 0x0800) v ≡ Yes → check f v ≡ decided (f 0x0800)
+type-known f None is = absurd cc
+type-known f (Some n) is = let same : n ≡ 0x0800 = equal-true n 0x0800 (decided-yes (n == 0x0800) is) in ap (λ k. decided (f k)) same
+
+pub type-missing : (f : ℕ → Bool) (v : Option ℕ) → check (λ n. n == 0x0800) v ≡ Abort → check f v ≡ Abort
+type-missing f None is = refl
+type-missing f (Some n) is = absurd (decided-there (n == 0x0800) is)
+
+pub other-number : (n : ℕ) → n ≢ 0x0800 → (0x0800 == n) ≡ false
+other-number n other = by_test (0x0800 == n) (λ is. other (sym (equal-true 0x0800 n is)))
+  where
+    by_test : (b : Bool) → (b ≡ true → ⊥) → b ≡ false
+    by_test true none = absurd (none refl)
+    by_test false none = refl
 
 -- two numbers that are there
 pairs-decided : (xs : List Span) (p : Packet) (m n : ℕ)

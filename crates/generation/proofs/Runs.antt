@@ -17,7 +17,7 @@ use Rattle.generation.specs.declared.insns.Field.{Field}
 use Rattle.generation.specs.declared.insns.Field.TheVariants as fields
 use Rattle.semantics.specs.Meaning.{Packet}
 use Rattle.generation.specs.Insns.{plain_insn, branch_insn, load_insn}
-use Rattle.generation.specs.Emission.{IsPlace, AreExits, run_from, Answers, Extends, condition, field_of, Passes, Nears, Chooses}
+use Rattle.generation.specs.Emission.{IsPlace, AreExits, run_from, Answers, Extends, condition, field_of, Passes, LeadsTo, Nears, Chooses}
 
 -- a run over code goes on behind its first instruction, or ends
 abbrev pub after : List Insn → Packet → Effect → ℕ
@@ -127,16 +127,46 @@ near-itself place reach code here reached = record {
   leads = λ p r. refl;
 }
 
-pub near-jump : (place reach : ℕ) (code : List Insn) → IsPlace code place → reach < length code - place → Nears place reach (suc (length code)) code (plain_insn 5 (length code - place) ∷ code)
-unfolding effect operation_of
-near-jump place reach code here far = record {
-  extends = extends-one _ code;
+pub near-leading : (i : Insn) (place reach : ℕ) (code : List Insn) → IsPlace code place → reach < length code - place → LeadsTo i place code → Nears place reach (suc (length code)) code (i ∷ code)
+near-leading i place reach code here far leading = record {
+  extends = extends-one i code;
   here = (omega arith, omega arith);
   reached = omega arith;
   kept = λ within. absurd (omega arith);
   moved = λ far'. refl;
-  leads = λ p r. front-place (plain_insn 5 (length code - place) ∷ code) p r ∙ answer-first _ code p r (Goes (length code - place) r) refl;
+  leads = λ p r. front-place (i ∷ code) p r ∙ leading.leads p r;
 }
+
+pub jump-leads : (place : ℕ) (code : List Insn) (p : Packet) (r : Registers) → answer (plain_insn 5 (length code - place) ∷ code) p.captured p.wire 0 r ≡ run_from code place p r
+unfolding effect operation_of
+jump-leads place code p r = answer-first _ code p r (Goes (length code - place) r) refl
+
+return-effect : (k : ℕ) (p : Packet) (r : Registers) → effect p.captured p.wire (plain_insn 6 k) r ≡ Ends k
+unfolding effect operation_of
+return-effect k p r = refl
+
+-- a run that comes to a return ends there
+ending : (code : List Insn) (k : ℕ) (i : Insn) (n : ℕ) (p : Packet) (r : Registers) → slice_get code k ≡ Some i → effect p.captured p.wire i r ≡ Ends n → answer code p.captured p.wire k r ≡ n
+unfolding answer
+ending [] k i n p r here is = absurd cc
+ending (j ∷ rest) zero i n p r here is =
+    let same : i ≡ j = cc in
+    answer-first j rest p r (Ends n) (subst (λ (x : Insn). effect p.captured p.wire x r ≡ Ends n) same is)
+ending (j ∷ rest) (suc k) i n p r here is = ending rest k i n p r here is
+
+-- the return at a place, in front of the code
+pub return-leads : (d : Insn) (n place : ℕ) (items : List Insn) (p : Packet) (r : Registers) → 0 < place → place ≤ length items → get_or items (place - 1) d ≡ plain_insn 6 n
+    → answer (plain_insn 6 n ∷ reverse items) p.captured p.wire 0 r ≡ run_from (reverse items) place p r
+return-leads d n place items p r some within is =
+    let code = reverse items in
+    let l : length code ≡ length items = length-reverse items in
+    let k = length items - place in
+    let at : get_or code k d ≡ get_or items (length items - 1 - k) d = get_or-reverse items k d (omega arith) in
+    let same : length items - 1 - k ≡ place - 1 = omega arith in
+    let here : slice_get code k ≡ Some (plain_insn 6 n) = slice_get-get_or code k d (omega arith) ∙ ap Some (at ∙ ap (λ m. get_or items m d) same ∙ is) in
+    let this : length code - place ≡ k = omega arith in
+    answer-first _ code p r (Ends n) (return-effect n p r)
+    ∙ sym (ap (λ m. answer code p.captured p.wire m r) this ∙ ending code k (plain_insn 6 n) n p r here (return-effect n p r))
 
 pub load-effect : (f : Field) (p : Packet) (r : Registers) → effect p.captured p.wire (load_insn f) r ≡ loaded Accumulator r (field_of f p)
 unfolding effect operation_of

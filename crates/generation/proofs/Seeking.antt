@@ -40,6 +40,21 @@ both-exits : (b : Bool) (k l m n : ℕ) → k ≡ m → l ≡ n → (if b then k
 both-exits true k l m n first second = first
 both-exits false k l m n first second = second
 
+-- nothing is asked where both exits are one
+if-one : (b : Bool) (m n : ℕ) → m ≡ n → n ≡ (if b then m else n)
+if-one true m n same = sym same
+if-one false m n same = refl
+
+pub chooses-one : {near : ℕ} (k : ℕ) (choice : Registers → Bool) {exits : Exits} {a b : List Insn} → 1 ≤ k → exits.yes ≡ exits.no → Nears exits.no 0 near a b → ChoosesFrom k choice exits near a b
+chooses-one k choice {exits} {a} more same nears = record {
+  extends = extends-more k more nears.extends;
+  here = nears.here;
+  chooses = λ p r. nears.leads p r ∙ if-one (choice r) _ _ (ap (λ e. run_from a e p r) same);
+}
+
+pub near-front : {place near : ℕ} {a b : List Insn} → Nears place 0 near a b → near ≡ length b
+near-front nears = omega (arith, nears.reached, nears.here.1)
+
 -- a choice stays one, whatever is put in front
 pub choice-kept : {k e : ℕ} (choice : Registers → Bool) {exits : Exits} {a b : List Insn} → AreExits a exits → Extends k a b → IsChoice choice exits e a → IsChoice choice exits e b
 choice-kept {k} {e} choice {exits} {a} {b} are extends there = record {
@@ -111,6 +126,16 @@ pub chooses-next : {reach near entry yes n : ℕ} (all : List Span) (i : ℕ) (d
 chooses-next all i default inside at before leads nears jump =
     let more : 7 * (i + 1) ≡ 7 * i + 7 = omega arith in
     rw (at, more, take_more all i default inside) (chooses-more (take i all) (get_or all i default) before leads nears jump)
+
+-- a number is looked for in one more span
+pub found-more : (all : List Span) (i : ℕ) (default : Span) (n : ℕ) (b found old : Bool) → i < length all → b ≡ within (get_or all i default).low (get_or all i default).high n → old ≡ among (take i all) n
+    → found ≡ (if b then true else old) → found ≡ among (take (i + 1) all) n
+found-more all i default n b found old inside is before now =
+    now
+    ∙ ap (λ c. if c then true else old) is
+    ∙ ap (λ c. if within (get_or all i default).low (get_or all i default).high n then true else c) before
+    ∙ sym (among-more (take i all) (get_or all i default) n)
+    ∙ sym (ap (λ xs. among xs n) (take_more all i default inside))
 
 -- the loads of a spot
 pub loads-at : (f : Field) (a : List Insn) → LoadsSpot (spots.At f) a (load_insn f ∷ a)

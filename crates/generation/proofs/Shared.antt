@@ -36,10 +36,16 @@ ports-shared asked d xs p some =
     ∙ any-same (λ x. and_test g (t x)) (λ (x : Span). has_any_ports asked d x.low x.high) p (λ x. number-shared asked (t x) p ∙ of-transport-is asked d x.low x.high p) xs
 
 -- the layer
+pub layer-shared : (b : Bytes) (xs : List Span) (p : Packet) → 0 < length xs
+    → and_then (in_layer b.layer p) (check (among xs) (accessed b.layer (bytes_of b.size) p b.index)) ≡ any_of (bytes_test b) xs p
+layer-shared b xs p some =
+    let number : Span → Test = (λ (x : Span) q. check (within x.low x.high) (accessed b.layer (bytes_of b.size) q b.index)) in
+    ap (and_then (in_layer b.layer p)) (sym (any-same number (λ (x : Span) q. check (within x.low x.high) (accessed b.layer (bytes_of b.size) p b.index)) p (λ x. refl) xs ∙ any-checked xs p (accessed b.layer (bytes_of b.size) p b.index) some))
+    ∙ sym (any-guarded (in_layer b.layer) number xs p some)
+
+-- and that of which something is known
 pub bytes-shared : (known : Known) (b : Bytes) (xs : List Span) (p : Packet) → 0 < length xs → shows known p ≡ Yes
     → and_then (rest_of known (of_layer b.layer) p) (check (among xs) (accessed b.layer (bytes_of b.size) p b.index)) ≡ any_of (bytes_test b) xs p
 bytes-shared known b xs p some holds =
-    let number : Span → Test = (λ (x : Span) q. check (within x.low x.high) (accessed b.layer (bytes_of b.size) q b.index)) in
     ap (λ v. and_then v (check (among xs) (accessed b.layer (bytes_of b.size) p b.index))) (rest-same known (of_layer b.layer) p holds ∙ layer-shown b.layer p)
-    ∙ ap (and_then (in_layer b.layer p)) (sym (any-same number (λ (x : Span) q. check (within x.low x.high) (accessed b.layer (bytes_of b.size) p b.index)) p (λ x. refl) xs ∙ any-checked xs p (accessed b.layer (bytes_of b.size) p b.index) some))
-    ∙ sym (any-guarded (in_layer b.layer) number xs p some)
+    ∙ layer-shared b xs p some

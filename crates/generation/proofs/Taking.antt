@@ -1,5 +1,6 @@
 -- The code of lists.
-use Rattle.std.proofs.Common.{ℕ, ◌+◌, ◌≤◌, List, length, Option, Some, None, sym, arith}
+use Rattle.std.proofs.Common.{ℕ, ◌+◌, ◌*◌, ◌<◌, ◌≤◌, ◌≡◌, List, [], ◌∷◌, ◌++◌, length, Option, Some, None, refl, sym, ap, ◌∙◌, arith}
+use Rattle.std.proofs.lemmas.List.Elements.{All-pop}
 use Rattle.syntax.specs.Trees.{Tree}
 use Rattle.analysis.specs.declared.lists.Chain.{Chain}
 use Rattle.analysis.specs.declared.lists.Chain.TheVariants as chains
@@ -7,7 +8,10 @@ use Rattle.analysis.specs.declared.lists.Form.{Form}
 use Rattle.analysis.specs.declared.lists.Form.TheVariants as forms
 use Rattle.analysis.specs.declared.lists.Kind.{Kind}
 use Rattle.analysis.specs.declared.lists.Span.{Span}
-use Rattle.semantics.specs.Meaning.{Test, and_test, or_test, meaning}
+use Rattle.analysis.specs.declared.lists.Member.{Member}
+use Rattle.semantics.specs.declared.verdict.Verdict.{Verdict}
+use Rattle.semantics.specs.declared.verdict.Verdict.TheVariants.{Yes, No, Abort}
+use Rattle.semantics.specs.Meaning.{Packet, Test, or_else, and_test, or_test, primitive_test, meaning}
 use Rattle.analysis.specs.Weights.{weight}
 use Rattle.std.specs.Option.{MatchOption}
 use Rattle.bpfvm.specs.declared.insn.Insn.{Insn}
@@ -15,11 +19,14 @@ use Rattle.analysis.specs.declared.known.Known.{Known}
 use Rattle.generation.specs.declared.ways.Way.{Way}
 use Rattle.generation.specs.declared.ways.Ways.{Ways}
 use Rattle.generation.specs.Emission.{Extends}
-use Rattle.generation.specs.Ways.{RenewsBoth, DecidesBehind}
-use Rattle.generation.proofs.Leading.{renews-all-later}
-use Rattle.generation.proofs.Narrowed.{behind-more, behind-same, behind-both, behind-either, behind-not, behind-renewed}
-use Rattle.analysis.specs.Lists.{any_of, kind_test, turned, weighed, EndsIn}
-use Rattle.generation.specs.Listed.{turned_ways, listed_cost, EmitsList}
+use Rattle.generation.specs.Ways.{AreWays, RenewsBoth, DecidesBehind}
+use Rattle.generation.proofs.Leading.{renews-not, renews-either}
+use Rattle.generation.proofs.Narrowed.{behind-more, behind-same, behind-both, behind-either, behind-not}
+use Rattle.syntax.specs.declared.tree.Primitive.{Primitive}
+use Rattle.generation.proofs.Neighbours.{any-same}
+use Rattle.analysis.specs.Lists.{any_of, direction_of, bytes_test, form_test, kind_test, IsAlone, member_test, members_weight, IsAnswered, AreAnswered, Passes, passing, chained, left_chained, turned, weighed, Groups, EndsIn}
+use Rattle.analysis.proofs.Members.{any-first, or-no, weight-append}
+use Rattle.generation.specs.Listed.{turned_ways, listed_cost, EmitsMembers, EmitsList}
 use Rattle.analysis.specs.Knowing.{behind, LOOK_BACK}
 use Rattle.generation.proofs.Knowing.{tree-known}
 
@@ -36,6 +43,22 @@ listed_fits forms.SctpPorts n many = omega (arith, many)
 listed_fits forms.IpProto n many = omega (arith, many)
 listed_fits forms.EtherProto n many = omega (arith, many)
 listed_fits forms.Bytes n many = omega (arith, many)
+
+-- a relation alone
+pub bytes-kind : (k : Kind) (xs : List Span) (p : Packet) → k.form ≡ forms.Bytes → any_of (bytes_test k.bytes) xs p ≡ any_of (kind_test k) xs p
+bytes-kind k xs p is = any-same (bytes_test k.bytes) (kind_test k) p (λ x. ap (λ f. form_test f (direction_of k.sides) k.mask k.bytes x p) (sym is)) xs
+
+pub relation-fits : (k : Kind) (xs : List Span) → k.form ≡ forms.Bytes → length xs ≡ 1 → 2 + (7 * length xs + 20) ≤ weighed k.form (length xs)
+relation-fits k xs is one =
+    let weight : weighed k.form (length xs) ≡ 30 = ap (λ f. weighed f (length xs)) is ∙ ap (weighed forms.Bytes) one in
+    omega (arith, weight, one)
+
+-- a member alone
+pub alone-told : (kind : Kind) (primitive : Option Primitive) (spans : List Span) → IsAlone kind primitive spans → 0 < length spans → length spans ≤ 1
+    → MatchOption primitive (kind.form ≡ forms.Bytes) (λ q. ((p : Packet) → primitive_test q p ≡ any_of (kind_test kind) spans p) × (weighed kind.form (length spans) ≡ 40))
+alone-told kind primitive [] alone some few = absurd (omega arith)
+alone-told kind primitive (x ∷ []) alone some few = alone x refl
+alone-told kind primitive (x ∷ y ∷ xs) alone some few = absurd (omega (arith, few))
 
 pub map-option : {A P P' : Type 0} {Q Q' : A → Type 0} (o : Option A) → MatchOption o P Q → (P → P') → ((x : A) → Q x → Q' x) → MatchOption o P' Q'
 map-option None before none some = none before
@@ -55,20 +78,82 @@ behind-turned : (chain : Chain) {k : ℕ} {known : Known} (t : Test) {ways : Way
 behind-turned chains.AnyOf t first = first
 behind-turned chains.NoneOf t first = behind-not first
 
--- the code of a list by renewed ways
-pub emits-list : {chain : Chain} {kind : Kind} {t u : Tree} {left : Option Tree} {spans : List Span} {known : Known} {ways renewed : Ways} {entry : Way} {a b c : List Insn} → EndsIn chain kind t u left spans
-    → Extends 2 a b → RenewsBoth ways renewed a b → DecidesBehind known (listed_cost kind.form (length spans)) (any_of (kind_test kind) spans) (turned_ways chain renewed) entry b c
-    → EmitsList known chain t u left ways renewed entry a c
-emits-list {chain} {kind} {t} {u} {left} {spans} ends extends renews decides = record {
-  test = λ p. turned chain (any_of (kind_test kind) spans p);
-  most = 2 + listed_cost kind.form (length spans);
-  same = ends.same;
-  fits = omega (arith, ends.weighs, listed_fits kind.form (length spans) ends.many);
+pub are-turned : (chain : Chain) (code : List Insn) (ways : Ways) → AreWays code ways → AreWays code (turned_ways chain ways)
+are-turned chains.AnyOf code ways are = are
+are-turned chains.NoneOf code ways are = (are.1, are.0)
+
+pub renews-turned : (chain : Chain) {ways renewed : Ways} {a b : List Insn} → RenewsBoth (turned_ways chain ways) renewed a b → RenewsBoth ways (turned_ways chain renewed) a b
+renews-turned chains.AnyOf before = before
+renews-turned chains.NoneOf before = renews-not before
+
+-- a list matters where the chain goes on to it
+left-settled : (c : Chain) (left : Option Tree) (t u : Test) (p : Packet) → (Passes c left p → t p ≡ u p) → left_chained c left t p ≡ left_chained c left u p
+left-settled c None t u p same = same tt
+left-settled c (Some w) t u p same = by_chain c (meaning w p) same
+  where
+    by_chain : (d : Chain) (v : Verdict) → (v ≡ passing d → t p ≡ u p) → chained d v (t p) ≡ chained d v (u p)
+    by_chain chains.AnyOf Yes same' = refl
+    by_chain chains.AnyOf No same' = same' refl
+    by_chain chains.AnyOf Abort same' = refl
+    by_chain chains.NoneOf Yes same' = same' refl
+    by_chain chains.NoneOf No same' = refl
+    by_chain chains.NoneOf Abort same' = refl
+
+-- how much room those of one kind and the others take
+pub rest_fits : (first next : Member) (all rest others : List Member) (spans : List Span) → Groups first all spans rest → rest ≡ others ++ (next ∷ [])
+    → weighed next.kind.form 1 + members_weight others + weighed first.kind.form (length spans) ≤ weighed first.kind.form 1 + members_weight all
+rest_fits first next all rest others spans groups parts =
+    let more : members_weight rest ≡ members_weight others + weighed next.kind.form 1 = ap members_weight parts ∙ weight-append others next in
+    omega (arith, groups.weighs, more)
+
+-- the code of a list
+pub emits-list : {chain : Chain} {t u : Tree} {left : Option Tree} {first : Member} {others : List Member} {known : Known} {ways renewed : Ways} {entry : Way} {a b : List Insn} → EndsIn chain t u left first others
+    → EmitsMembers known first others (turned_ways chain ways) renewed entry a b → EmitsList known chain t u left ways (turned_ways chain renewed) entry a b
+emits-list {chain} {t} {u} {left} {first} {others} ends made = record {
+  test = λ p. turned chain (made.test p);
+  most = weighed first.kind.form 1 + members_weight others;
+  same = λ p. ends.same p ∙ left-settled chain left _ _ p (λ passes. ap (turned chain) (sym (made.same p (λ none. ends.settled p passes none))));
+  fits = ends.weighs;
   smaller = ends.smaller;
   needs = ends.needs;
-  decides = behind-renewed extends renews (behind-turned chain (any_of (kind_test kind) spans) decides);
-  renews = renews-all-later renews decides.extends;
+  decides = behind-turned chain made.test made.decides;
+  renews = renews-turned chain made.renews;
 }
+
+-- the code of members, all of one kind
+pub emits-alone : {known : Known} {ways renewed : Ways} {entry : Way} {a b : List Insn} (first : Member) (all : List Member) (spans : List Span) → Groups first all spans []
+    → DecidesBehind known (weighed first.kind.form (length spans)) (any_of (kind_test first.kind) spans) ways entry a b × RenewsBoth ways renewed a b
+    → EmitsMembers known first all ways renewed entry a b
+emits-alone first all spans groups made = record {
+  test = any_of (kind_test first.kind) spans;
+  same = λ p settled. sym (or-no (any_of (kind_test first.kind) spans p)) ∙ sym (groups.same p settled);
+  decides = behind-more (weighed first.kind.form 1 + members_weight all) (omega (arith, groups.weighs)) made.0;
+  renews = made.1;
+}
+
+-- those of one kind, and behind them the others
+pub emits-more : {known : Known} {ways second renewed : Ways} {later entry : Way} {a b c : List Insn} (first next : Member) (all rest others : List Member) (spans : List Span) → Groups first all spans rest
+    → rest ≡ others ++ (next ∷ []) → EmitsMembers known next others ways second later a b
+    → DecidesBehind known (weighed first.kind.form (length spans)) (any_of (kind_test first.kind) spans) (record { yes = second.yes; no = later }) entry b c
+    × RenewsBoth (record { yes = second.yes; no = later }) renewed b c
+    → EmitsMembers known first all ways (record { yes = renewed.yes; no = second.no }) entry a c
+emits-more first next all rest others spans groups parts last made = record {
+  test = or_test (any_of (kind_test first.kind) spans) last.test;
+  same = λ p settled. by_group p (any_of (kind_test first.kind) spans p) (λ none. behind p (groups.answered p settled none)) ∙ sym (groups.same p settled);
+  decides = behind-more (weighed first.kind.form 1 + members_weight all) (rest_fits first next all rest others spans groups parts) (behind-either last.renews last.decides made.0);
+  renews = renews-either made.0.extends last.renews made.1;
+}
+  where
+    behind : (p : Packet) → AreAnswered rest p → last.test p ≡ any_of member_test rest p
+    behind p answered =
+        last.same p (λ none. (All-pop (λ m. IsAnswered (member_test m p)) rest others (Some next) parts answered).0)
+        ∙ sym (any-first member_test p next others)
+        ∙ sym (ap (λ l. any_of member_test l p) parts)
+
+    by_group : (p : Packet) (v : Verdict) → (v ≡ No → last.test p ≡ any_of member_test rest p) → or_else v (last.test p) ≡ or_else v (any_of member_test rest p)
+    by_group p Yes same = refl
+    by_group p No same = same refl
+    by_group p Abort same = refl
 
 -- where nothing is left
 pub emits-whole : {known : Known} {t u : Tree} {ways renewed : Ways} {entry : Way} {a b : List Insn} → EmitsList known chains.AnyOf t u None ways renewed entry a b

@@ -2,6 +2,7 @@
 use Rattle.std.specs.Prelude.{◌≡◌, ℕ, ◌+◌, ◌-◌, ◌<◌, ◌≤◌, List, ◌∷◌, length, Bool, Option, Some, None, if◌then◌else◌, slice_index, Result, MatchResult}
 use Rattle.bpfvm.specs.declared.insn.Insn.{Insn}
 use Rattle.bpfvm.specs.Codes.{Register, Comparison, Equal, Greater, GreaterOrEqual, AnyBit}
+use Rattle.bpfvm.specs.Validity.{fault_of}
 use Rattle.bpfvm.specs.Machine.{Registers, with_value, Goes, effect, answer, holds}
 use Rattle.generation.specs.declared.code.Exits.{Exits}
 use Rattle.generation.specs.declared.code.Full.{Full}
@@ -45,6 +46,11 @@ abbrev pub outcome : Verdict → ℕ → ℕ → ℕ
 outcome Yes m n = m
 outcome No m n = n
 outcome Abort m n = 0
+
+-- an instruction in front of the code goes on as from the place
+pub record LeadsTo (insn : Insn) (place : ℕ) (code : List Insn) : Type 0 where
+  pub sound : fault_of (length code + 1) 0 insn ≡ None
+  pub leads : (p : Packet) (r : Registers) → answer (insn ∷ code) p.captured p.wire 0 r ≡ run_from code place p r
 
 -- a nearer place from which the run goes on as from the place
 pub record Nears (place reach near : ℕ) (old new : List Insn) : Type 0 where

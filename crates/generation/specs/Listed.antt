@@ -4,7 +4,8 @@ use Rattle.bpfvm.specs.declared.insn.Insn.{Insn}
 use Rattle.bpfvm.specs.Codes.{Accumulator}
 use Rattle.bpfvm.specs.Machine.{Registers, with_value}
 use Rattle.syntax.specs.Trees.{Tree}
-use Rattle.semantics.specs.Meaning.{Packet, Test, check, half, word, within, meaning}
+use Rattle.semantics.specs.declared.verdict.Verdict.TheVariants.{No}
+use Rattle.semantics.specs.Meaning.{Packet, Test, or_else, check, half, word, within, meaning}
 use Rattle.analysis.specs.declared.known.Known.{Known}
 use Rattle.analysis.specs.declared.lists.Chain.{Chain}
 use Rattle.analysis.specs.declared.lists.Chain.TheVariants as chains
@@ -14,7 +15,8 @@ use Rattle.analysis.specs.declared.lists.Sides.{Sides}
 use Rattle.analysis.specs.declared.lists.Sides.TheVariants as sides
 use Rattle.analysis.specs.declared.lists.Span.{Span}
 use Rattle.analysis.specs.Weights.{weight, need}
-use Rattle.analysis.specs.Lists.{chained, left_chained, left_weight, left_size, left_need, size}
+use Rattle.analysis.specs.declared.lists.Member.{Member}
+use Rattle.analysis.specs.Lists.{any_of, weighed, member_test, members_weight, AreAnswered, chained, left_chained, left_weight, left_size, left_need, size}
 use Rattle.generation.specs.declared.code.Exits.{Exits}
 use Rattle.generation.specs.declared.among.Spot.{Spot}
 use Rattle.generation.specs.declared.among.Spot.TheVariants as spots
@@ -30,7 +32,7 @@ among (x ∷ xs) n = if within x.low x.high n then true else among xs n
 
 -- how many instructions a list of so many takes at most
 abbrev pub listed_cost : Form → ℕ → ℕ
-listed_cost forms.Bytes n = 7 * n + 14
+listed_cost forms.Bytes n = 7 * n + 20
 listed_cost other n = 28 * n + 22
 
 -- the number at a spot
@@ -78,6 +80,14 @@ asked_before_cost other n = 2
 abbrev pub turned_ways : Chain → Ways → Ways
 turned_ways chains.AnyOf ways = ways
 turned_ways chains.NoneOf ways = record { yes = ways.no; no = ways.yes }
+
+-- The code of members of which the first one is asked before the others. Where it is No, none of them aborts, and they are
+-- asked in another order.
+pub record EmitsMembers (known : Known) (first : Member) (others : List Member) (ways renewed : Ways) (entry : Way) (old new : List Insn) : Type 0 where
+  pub test : Test
+  pub same : (p : Packet) → (member_test first p ≡ No → AreAnswered others p) → test p ≡ or_else (member_test first p) (any_of member_test others p)
+  pub decides : DecidesBehind known (weighed first.kind.form 1 + members_weight others) test ways entry old new
+  pub renews : RenewsBoth ways renewed old new
 
 -- the code of the list that a chain ends in, behind what is left of its left operand
 pub record EmitsList (known : Known) (chain : Chain) (first second : Tree) (left : Option Tree) (ways renewed : Ways) (entry : Way) (old new : List Insn) : Type 0 where

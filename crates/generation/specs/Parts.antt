@@ -62,8 +62,8 @@ is_any_first = and_test (and_test (is_type 0x0800) has_port_number) is_unfragmen
 
 abbrev pub plain_cost : Plain → ℕ
 plain_cost words.Ip = 4
-plain_cost words.Arp = 4
-plain_cost words.Rarp = 4
+plain_cost words.Arp = 8
+plain_cost words.Rarp = 8
 plain_cost words.Icmp = 8
 plain_cost words.Tcp = 8
 plain_cost words.Udp = 8
@@ -77,7 +77,7 @@ cost (Net None direction address mask) = 30
 cost (EtherHost direction address) = 16
 cost (Ports transport direction low high) = 33
 cost (IpProto n) = 8
-cost (EtherProto n) = 4
+cost (EtherProto n) = 8
 cost EtherBroadcast = 8
 cost EtherMulticast = 4
 cost IpMulticast = 8

@@ -1,5 +1,5 @@
 -- What code does that goes on by what is known of the packet. Private clauses alone say this.
-use Rattle.std.specs.Prelude.{◌≡◌, ◌⊎◌, ℕ, ◌+◌, List, Option, Some, None}
+use Rattle.std.specs.Prelude.{◌≡◌, ◌⊎◌, ℕ, ◌+◌, Bool, true, false, List, Option, Some, None}
 use Rattle.bpfvm.specs.declared.insn.Insn.{Insn}
 use Rattle.syntax.specs.declared.tree.Transport.{Transport}
 use Rattle.generation.specs.declared.ways.Way.{Way}
@@ -40,6 +40,11 @@ pub record IsWay (code : List Insn) (way : Way) : Type 0 where
 
 abbrev pub AreWays : List Insn → Ways → Type 0
 AreWays code ways = IsWay code ways.yes × IsWay code ways.no
+
+-- the way of an answer
+abbrev pub way_by : Bool → Ways → Way
+way_by true ways = ways.yes
+way_by false ways = ways.no
 
 -- a way of new that serves as the way of old did
 pub record Renews (way renewed : Way) (old new : List Insn) : Type 0 where

@@ -42,13 +42,17 @@ impl Spot {
 
 impl Code {
     /// Goes to an exit by whether the accumulator is in one of these spans, of which the first one is tested last. An exit that
-    /// comes out of reach is brought near once for all that follow.
+    /// comes out of reach is brought near once for all that follow. Where both exits are one, nothing is compared.
     fn among(&mut self, spans: &[Span], exits: Exits) -> Result<usize, Full>
         requires exits { AreExits self.old exits }
         ensures { OrFull (7 * length spans.now) self.old result (λ entry.
             ChoosesFrom (7 * length spans.now) (λ r. among spans.now r.accumulator) exits entry self.old self.new
             × (0 < length spans.now → entry ≡ length self.new)) }
     {
+        if exits.yes == exits.no && spans.len() > 0 {
+            self.room(1)?;
+            return Ok(self.near(exits.no, 0));
+        }
         let Exits { mut yes, mut no } = exits;
         for span in spans {
             self.room(7)?;

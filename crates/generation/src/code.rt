@@ -7,7 +7,7 @@ ghost use Rattle.bpfvm.specs.Machine.{holds, verdict};
 ghost use Rattle.semantics.specs.Meaning.{check, within};
 ghost use Rattle.trimming.specs.Reaching.{IsAllReached};
 ghost use Rattle.generation.specs.Insns.{plain_insn};
-ghost use Rattle.generation.specs.Emission.{IsPlace, AreExits, comparison_of, condition, field_of, Passes, Nears, Chooses, Decides};
+ghost use Rattle.generation.specs.Emission.{IsPlace, AreExits, comparison_of, condition, field_of, Passes, LeadsTo, Nears, Chooses, Decides};
 
 use crate::insns::{Field, Jump, Operand, branch_insn, load_insn, plain_insn};
 use arrayvec::ArrayVec;
@@ -109,6 +109,20 @@ impl Code {
         self.push(plain_insn(code, k));
     }
 
+    /// What goes on at a place: the return that stands there, or a jump.
+    fn leading(&self, place: usize) -> Insn
+        requires { IsPlace self.now place }
+        ensures { LeadsTo result place self.now }
+    {
+        let found = self.insns.as_slice()[place - 1];
+        let end = plain_insn(code::RET_K, found.k);
+        if found == end {
+            end
+        } else {
+            plain_insn(code::JA, (self.len() - place) as u32)
+        }
+    }
+
     /// The place, or one that goes on there, where the place is farther than reach.
     pub fn near(&mut self, place: usize, reach: usize) -> usize
         requires room { length self.old < 512 }
@@ -119,7 +133,8 @@ impl Code {
         if distance <= reach {
             place
         } else {
-            self.push(plain_insn(code::JA, distance as u32));
+            let insn = self.leading(place);
+            self.push(insn);
             self.len()
         }
     }

@@ -1,22 +1,22 @@
 //! Expressions to programs.
 
-ghost use Rattle.std.specs.Prelude.{◌≡◌, ◌≢◌, ◌↔◌, ℕ, ◌+◌, ◌<◌, ◌≤◌, length, Some, None, Err, IfOk, MatchOption, MatchResult};
+ghost use Rattle.std.specs.Prelude.{◌≡◌, ◌≢◌, ◌↔◌, ℕ, ◌+◌, ◌<◌, ◌≤◌, All, length, Some, None, Err, IfOk, MatchOption, MatchResult};
 ghost use Rattle.syntax.specs.Trees.{tree_of};
 ghost use Rattle.semantics.specs.Meaning.{primitive_test, meaning};
-ghost use Rattle.generation.specs.Parts.{cost};
 ghost use Rattle.analysis.specs.Weights.{weight, need};
 ghost use Rattle.generation.specs.Compiling.{StandsFor, IsBadSnap};
 ghost use Rattle.trimming.specs.Reaching.{IsAllReached};
 ghost use Rattle.generation.specs.Emission.{OrFull};
 ghost use Rattle.generation.specs.Ways.{AreWays, DecidesBehind, RenewsBoth};
-ghost use Rattle.analysis.specs.Lists.{behind_left};
-ghost use Rattle.generation.specs.Listed.{turned_ways, EmitsList};
+ghost use Rattle.analysis.specs.declared.lists.Form.TheVariants.{Bytes};
+ghost use Rattle.analysis.specs.Lists.{any_of, kind_test, weighed, members_weight, IsMember, IsAlone, behind_left};
+ghost use Rattle.generation.specs.Listed.{turned_ways, EmitsMembers, EmitsList};
 
 use crate::code::{Code, Full};
 use crate::primitives::cost;
 use crate::refusal::Refusal;
 use crate::ways::{Way, Ways};
-use analysis::{Chain, Known, MAX_NEED, Neighbours, need};
+use analysis::{Chain, Group, Known, MAX_NEED, Member, Neighbours, Others, need};
 use bpfvm::Program;
 use syntax::{Expr, Primitive};
 
@@ -51,6 +51,101 @@ fn turned(chain: Chain, ways: Ways) -> Ways
 }
 
 impl Code {
+    /// What is left of a primitive. Its ways are renewed first, so that its jumps and those in front of it reach them.
+    fn reached_primitive(
+        &mut self,
+        known: Known,
+        primitive: Primitive,
+        ways: Ways,
+    ) -> Result<Emitted, Full>
+        requires ways { AreWays self.old ways }
+        ensures { OrFull 40 self.old result (λ emitted.
+            DecidesBehind known 40 (primitive_test primitive) ways emitted.entry self.old self.new
+            × RenewsBoth ways emitted.ways self.old self.new) }
+    {
+        self.room(2 + cost(primitive))?;
+        let ways = self.renew(ways);
+        let entry = self.primitive_behind(known, primitive, ways);
+        Ok(Emitted { entry, ways })
+    }
+
+    /// What is left of several members of a kind.
+    fn several(&mut self, known: Known, group: &Group, ways: Ways) -> Result<Emitted, Full>
+        requires many { 2 ≤ length group.now.spans.items }
+        requires ways { AreWays self.old ways }
+        ensures { OrFull (weighed group.now.kind.form (length group.now.spans.items)) self.old result (λ emitted.
+            DecidesBehind known (weighed group.now.kind.form (length group.now.spans.items))
+            (any_of (kind_test group.now.kind) group.now.spans.items) ways emitted.entry self.old self.new
+            × RenewsBoth ways emitted.ways self.old self.new) }
+    {
+        self.room(2)?;
+        let ways = self.renew(ways);
+        let entry = self.listed(known, group.kind, group.spans.as_slice(), ways)?;
+        Ok(Emitted { entry, ways })
+    }
+
+    /// What is left of a relation that is the one member of its kind.
+    fn relation_alone(&mut self, known: Known, group: &Group, ways: Ways) -> Result<Emitted, Full>
+        requires bytes { group.now.kind.form ≡ Bytes }
+        requires some { length group.now.spans.items ≡ 1 }
+        requires ways { AreWays self.old ways }
+        ensures { OrFull (weighed group.now.kind.form (length group.now.spans.items)) self.old result (λ emitted.
+            DecidesBehind known (weighed group.now.kind.form (length group.now.spans.items))
+            (any_of (kind_test group.now.kind) group.now.spans.items) ways emitted.entry self.old self.new
+            × RenewsBoth ways emitted.ways self.old self.new) }
+    {
+        self.room(2)?;
+        let ways = self.renew(ways);
+        let entry = self.listed_bytes(known, group.kind.bytes, group.spans.as_slice(), ways)?;
+        Ok(Emitted { entry, ways })
+    }
+
+    /// What is left of the members of a kind. One alone is what it is.
+    fn group(&mut self, known: Known, group: &Group, ways: Ways) -> Result<Emitted, Full>
+        requires some { 0 < length group.now.spans.items }
+        requires alone { IsAlone group.now.kind group.now.primitive group.now.spans.items }
+        requires ways { AreWays self.old ways }
+        ensures { OrFull (weighed group.now.kind.form (length group.now.spans.items)) self.old result (λ emitted.
+            DecidesBehind known (weighed group.now.kind.form (length group.now.spans.items))
+            (any_of (kind_test group.now.kind) group.now.spans.items) ways emitted.entry self.old self.new
+            × RenewsBoth ways emitted.ways self.old self.new) }
+    {
+        if group.spans.len() > 1 {
+            return self.several(known, group, ways);
+        }
+        match group.primitive {
+            Some(primitive) => self.reached_primitive(known, primitive, ways),
+            None => self.relation_alone(known, group, ways),
+        }
+    }
+
+    /// What is left of members of which the first one is asked before the others, those of each kind together.
+    fn members(
+        &mut self,
+        known: Known,
+        first: Member,
+        others: &mut Others,
+        ways: Ways,
+    ) -> Result<Emitted, Full>
+        requires first { IsMember first }
+        requires others { All IsMember others.old.members.items }
+        requires room { length others.old.members.items < 512 }
+        requires ways { AreWays self.old ways }
+        ensures { OrFull (weighed first.kind.form 1 + members_weight others.old.members.items) self.old result (λ emitted.
+            EmitsMembers known first others.old.members.items ways emitted.ways emitted.entry self.old self.new) }
+    {
+        let group = others.group_of(first);
+        let Some(next) = others.pop() else {
+            return self.group(known, &group, ways);
+        };
+        let second = self.members(known, next, others, ways)?;
+        let (yes, no) = (second.ways.yes, second.entry);
+        let head = self.group(known, &group, Ways { yes, no })?;
+        let (yes, no) = (head.ways.yes, second.ways.no);
+        let (entry, ways) = (head.entry, Ways { yes, no });
+        Ok(Emitted { entry, ways })
+    }
+
     /// What is left of the list at the right end of a chain of these two, where one is. The list takes some memory of the stack,
     /// which is not to be in each frame of the walk down a tree.
     #[inline(never)]
@@ -73,25 +168,12 @@ impl Code {
         let Some((list, left)) = Neighbours::at_end(chain, left, right) else {
             return Ok(None);
         };
-        self.room(2)?;
-        let ways = self.renew(ways);
         let known = chain.known_behind(known, left);
-        let turned = turned(chain, ways);
-        let entry = self.listed(known, list.kind, list.spans.as_slice(), turned)?;
+        let mut others = list.others;
+        let members = self.members(known, list.first, &mut others, turned(chain, ways))?;
+        let (entry, ways) = (members.entry, turned(chain, members.ways));
         let emitted = Emitted { entry, ways };
         Ok(Some(Listed { emitted, left }))
-    }
-
-    /// What is left of a primitive. Its ways are renewed first, so that its jumps and those in front of it reach them.
-    fn reached_primitive(&mut self, known: Known, primitive: Primitive, ways: Ways) -> Emitted
-        requires room { length self.old + (2 + cost primitive) ≤ 512 }
-        requires ways { AreWays self.old ways }
-        ensures { DecidesBehind known (2 + cost primitive) (primitive_test primitive) ways result.entry self.old self.new
-            × RenewsBoth ways result.ways self.old self.new }
-    {
-        let ways = self.renew(ways);
-        let entry = self.primitive_behind(known, primitive, ways);
-        Emitted { entry, ways }
     }
 
     /// What is left of an expression behind what is known. It goes on by its ways. The right operand is there before the left one.
@@ -107,10 +189,7 @@ impl Code {
                 let entry = ways.yes;
                 Ok(Emitted { entry, ways })
             }
-            Expr::Test(primitive) => {
-                self.room(2 + cost(*primitive))?;
-                Ok(self.reached_primitive(known, *primitive, ways))
-            }
+            Expr::Test(primitive) => self.reached_primitive(known, *primitive, ways),
             Expr::Relation(comparison, left, right) => {
                 self.room(2)?;
                 let ways = self.renew(ways);

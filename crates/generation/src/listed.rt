@@ -1,7 +1,7 @@
 //! Lists by their kinds. Code is written from its end: of two tests that follow each other, the second one comes first here.
 
-ghost use Rattle.std.specs.Prelude.{◌≡◌, ℕ, ◌+◌, ◌*◌, ◌≤◌, length};
-ghost use Rattle.semantics.specs.Meaning.{check, byte, half, and_test, is_type, by_direction, within, has_any_ports};
+ghost use Rattle.std.specs.Prelude.{◌≡◌, ℕ, ◌+◌, ◌*◌, ◌<◌, ◌≤◌, length};
+ghost use Rattle.semantics.specs.Meaning.{check, byte, half, and_test, is_type, is_first_fragment_of, protocol_number, in_layer, by_direction, within, has_any_ports};
 ghost use Rattle.analysis.specs.Lists.{any_of, direction_of, in_span, of_any_type, bytes_test, kind_test};
 ghost use Rattle.generation.specs.Listed.{among, asked_last, listed_cost, IsChoice};
 ghost use Rattle.generation.specs.Emission.{AreExits, Extends, OrFull};
@@ -13,19 +13,39 @@ use crate::insns::{Field, Jump, Operand, load_insn};
 use crate::primitives::{ARP_ADDRESSES, IP_ADDRESSES};
 use crate::ways::{Way, Ways};
 use analysis::{Bytes, Form, Kind, Known, Sides, Span};
-use semantics::{ARP, IP, RARP};
-use syntax::Transport;
+use semantics::{ARP, IP, RARP, protocol_number};
+use syntax::{Layer, Transport};
+
+fn is_within(span: Span, number: u32) -> bool
+    ensures { result ≡ within span.low span.high number }
+{
+    span.low <= number && number <= span.high
+}
+
+/// Whether a number is in one of these spans.
+fn has_number(spans: &[Span], number: u32) -> bool
+    ensures { result ≡ among spans.now number }
+{
+    let mut found = false;
+    for span in spans {
+        if is_within(*span, number) {
+            found = true;
+        }
+    }
+    found
+}
 
 impl Code {
-    /// Ethernet types.
+    /// Ethernet types. What they answer of IPv4 is known before, so that this type is asked for first.
     fn listed_types(&mut self, spans: &[Span], ways: Ways) -> Result<Way, Full>
         requires many { 2 ≤ length spans.now }
         requires ways { AreWays self.old ways }
-        ensures { OrFull (7 * length spans.now + 2) self.old result (λ way. DecidesBy (7 * length spans.now + 2)
+        ensures { OrFull (7 * length spans.now + 6) self.old result (λ way. DecidesBy (7 * length spans.now + 6)
             (any_of (λ x p. check (within x.low x.high) (half 12 p)) spans.now) ways way self.old self.new) }
     {
-        let entry = self.seek(Spot::At(Field::Half(12)), spans, ways.any_exits())?;
-        Ok(Way::to(entry))
+        let other = self.seek(Spot::At(Field::Half(12)), spans, ways.other_exits())?;
+        self.room(4)?;
+        Ok(self.apart_from_ip(ways.by(has_number(spans, IP)), other))
     }
 
     /// Protocol numbers of IPv4.
@@ -220,15 +240,61 @@ impl Code {
         }
     }
 
-    /// Bytes of a layer.
-    fn listed_bytes(
+    /// Bytes of TCP or UDP. Behind a test of a first fragment of the protocol they are looked at without another one.
+    fn listed_header_bytes(
+        &mut self,
+        known: Known,
+        transport: Transport,
+        bytes: Bytes,
+        spans: &[Span],
+        ways: Ways,
+    ) -> Result<Way, Full>
+        requires layer { in_layer bytes.layer ≡ is_first_fragment_of (protocol_number transport) }
+        requires some { 0 < length spans.now }
+        requires ways { AreWays self.old ways }
+        ensures { OrFull (7 * length spans.now + 20) self.old result (λ way. DecidesBehind known (7 * length spans.now + 20)
+            (any_of (bytes_test bytes) spans.now) ways way self.old self.new) }
+    {
+        let asked = Some(transport);
+        let exits = ways.first_fragment_exits(asked);
+        let inner = self.seek_bytes(bytes, spans, exits)?;
+        if known.has_protocol(protocol_number(transport)) {
+            self.room(4)?;
+            Ok(self.behind_known_transport(known, asked, transport, inner, ways))
+        } else {
+            self.room(18)?;
+            Ok(self.behind_transport(asked, inner, ways))
+        }
+    }
+
+    /// Bytes of the IPv4 header and what stands behind it.
+    fn listed_ip_bytes(
         &mut self,
         known: Known,
         bytes: Bytes,
         spans: &[Span],
         ways: Ways,
     ) -> Result<Way, Full>
-        requires many { 2 ≤ length spans.now }
+        requires layer { in_layer bytes.layer ≡ is_type 0x0800 }
+        requires some { 0 < length spans.now }
+        requires ways { AreWays self.old ways }
+        ensures { OrFull (7 * length spans.now + 20) self.old result (λ way. DecidesBehind known (7 * length spans.now + 20)
+            (any_of (bytes_test bytes) spans.now) ways way self.old self.new) }
+    {
+        let inner = self.seek_bytes(bytes, spans, ways.ip_exits())?;
+        self.room(4)?;
+        Ok(self.behind_ip_unless(known, inner, ways))
+    }
+
+    /// Bytes of a layer, which is tested with nothing gained for what comes next.
+    fn listed_other_bytes(
+        &mut self,
+        known: Known,
+        bytes: Bytes,
+        spans: &[Span],
+        ways: Ways,
+    ) -> Result<Way, Full>
+        requires some { 0 < length spans.now }
         requires ways { AreWays self.old ways }
         ensures { OrFull (7 * length spans.now + 14) self.old result (λ way. DecidesBehind known (7 * length spans.now + 14)
             (any_of (bytes_test bytes) spans.now) ways way self.old self.new) }
@@ -242,6 +308,29 @@ impl Code {
             ..exits
         };
         Ok(Way::to(self.rest_of(known, layer, exits)))
+    }
+
+    /// Bytes of a layer.
+    pub fn listed_bytes(
+        &mut self,
+        known: Known,
+        bytes: Bytes,
+        spans: &[Span],
+        ways: Ways,
+    ) -> Result<Way, Full>
+        requires some { 0 < length spans.now }
+        requires ways { AreWays self.old ways }
+        ensures { OrFull (7 * length spans.now + 20) self.old result (λ way. DecidesBehind known (7 * length spans.now + 20)
+            (any_of (bytes_test bytes) spans.now) ways way self.old self.new) }
+    {
+        match bytes.layer {
+            Layer::Ip => self.listed_ip_bytes(known, bytes, spans, ways),
+            Layer::Tcp => self.listed_header_bytes(known, Transport::Tcp, bytes, spans, ways),
+            Layer::Udp => self.listed_header_bytes(known, Transport::Udp, bytes, spans, ways),
+            Layer::Ether | Layer::Arp | Layer::Rarp | Layer::Icmp => {
+                self.listed_other_bytes(known, bytes, spans, ways)
+            }
+        }
     }
 
     /// What is left of a list.

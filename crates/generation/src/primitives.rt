@@ -1,6 +1,6 @@
 //! The primitives. Code is written from its end: of two tests that follow each other, the second one comes first here.
 
-ghost use Rattle.std.specs.Prelude.{◌≡◌, ℕ, ◌+◌, ◌≤◌, ◌==◌, None, length};
+ghost use Rattle.std.specs.Prelude.{◌≡◌, ◌≢◌, ℕ, ◌+◌, ◌≤◌, ◌==◌, None, length};
 ghost use Rattle.syntax.specs.declared.tree.Primitive.TheVariants.{IpMulticast, Less};
 ghost use Rattle.semantics.specs.Meaning.{check, byte, and_test, is_type, is_protocol, plain_test, by_direction, has_address, in_net, in_any_net, is_address, within, has_port, has_any_ports, protocol_number, primitive_test};
 ghost use Rattle.generation.specs.Insns.{plain_insn};
@@ -42,8 +42,8 @@ fn plain_cost(word: Plain) -> usize
     ensures { result ≡ plain_cost word }
 {
     match word {
-        Plain::Ip | Plain::Arp | Plain::Rarp => 4,
-        Plain::Icmp | Plain::Tcp | Plain::Udp | Plain::Sctp => 8,
+        Plain::Ip => 4,
+        Plain::Arp | Plain::Rarp | Plain::Icmp | Plain::Tcp | Plain::Udp | Plain::Sctp => 8,
     }
 }
 
@@ -62,8 +62,8 @@ pub(crate) fn cost(primitive: Primitive) -> usize
         Primitive::Net { network: None, .. } => 30,
         Primitive::EtherHost { .. } => 16,
         Primitive::Ports { .. } => 33,
-        Primitive::IpProto(_) | Primitive::EtherBroadcast | Primitive::IpMulticast => 8,
-        Primitive::EtherProto(_) => 4,
+        Primitive::IpProto(_) | Primitive::EtherProto(_) => 8,
+        Primitive::EtherBroadcast | Primitive::IpMulticast => 8,
         Primitive::EtherMulticast | Primitive::Less(_) | Primitive::Greater(_) => 4,
     }
 }
@@ -104,6 +104,61 @@ impl Code {
             any: self.ether_type(IP, exits),
             other,
             ..Way::to(inner)
+        }
+    }
+
+    /// Whether the packet is of another type than IPv4, which goes on at the other place. One of IPv4 goes on by its way.
+    pub fn apart_from_ip(&mut self, of_ip: Way, other: usize) -> Way
+        requires room { length self.old + 4 ≤ 512 }
+        requires of_ip { IsPlace self.old of_ip.ip }
+        requires other { IsPlace self.old other }
+        ensures test { Decides 4 (is_type 0x0800) (record { yes = of_ip.ip; no = other }) result.any self.old self.new }
+        ensures places { result ≡ record {
+          any = result.any;
+          ip = of_ip.ip;
+          other = other;
+          first_fragment = of_ip.first_fragment;
+          transport = of_ip.transport;
+        } }
+    {
+        let (yes, no) = (of_ip.ip, other);
+        let any = self.ether_type(IP, Exits { yes, no });
+        Way {
+            any,
+            other,
+            ..of_ip
+        }
+    }
+
+    /// An Ethernet type that is not that of IPv4. Where IPv4 goes on elsewhere than other types do, it is asked for first.
+    fn other_type(&mut self, number: u32, ways: Ways) -> Way
+        requires number { number ≢ 0x0800 }
+        requires room { length self.old + 8 ≤ 512 }
+        requires ways { AreWays self.old ways }
+        ensures { DecidesBy 8 (is_type number) ways result self.old self.new }
+    {
+        if ways.is_one_for_all_types() {
+            let other = self.ether_type(number, ways.any_exits());
+            return Way {
+                any: other,
+                other,
+                ..ways.no
+            };
+        }
+        let other = self.ether_type(number, ways.other_exits());
+        self.apart_from_ip(ways.no, other)
+    }
+
+    /// An Ethernet type.
+    fn type_of_any(&mut self, number: u32, ways: Ways) -> Way
+        requires room { length self.old + 8 ≤ 512 }
+        requires ways { AreWays self.old ways }
+        ensures { DecidesBy 8 (is_type number) ways result self.old self.new }
+    {
+        if number == IP {
+            self.plain(Plain::Ip, ways)
+        } else {
+            self.other_type(number, ways)
         }
     }
 
@@ -498,8 +553,8 @@ impl Code {
     {
         match word {
             Plain::Ip => self.behind_ip(ways.yes.ip, ways.no.other),
-            Plain::Arp => Way::to(self.ether_type(ARP, ways.any_exits())),
-            Plain::Rarp => Way::to(self.ether_type(RARP, ways.any_exits())),
+            Plain::Arp => self.other_type(ARP, ways),
+            Plain::Rarp => self.other_type(RARP, ways),
             Plain::Icmp => self.ip_protocol(1, ways),
             Plain::Tcp => self.ip_protocol(6, ways),
             Plain::Udp => self.ip_protocol(17, ways),
@@ -570,7 +625,7 @@ impl Code {
                 self.ports(transport, direction, low, high, ways)
             }
             Primitive::IpProto(number) => self.ip_protocol(u32::from(number), ways),
-            Primitive::EtherProto(number) => Way::to(self.ether_type(u32::from(number), exits)),
+            Primitive::EtherProto(number) => self.type_of_any(u32::from(number), ways),
             Primitive::EtherBroadcast => Way::to(self.ethernet(0, BROADCAST, exits)),
             Primitive::EtherMulticast => {
                 Way::to(self.test(Field::Byte(0), Jump::AnyBit, 1, exits))

@@ -3,7 +3,7 @@
 ghost use Rattle.std.specs.Prelude.{◌≡◌, ◌+◌, ◌≤◌, ◌⊎◌, length, None};
 ghost use Rattle.std.specs.Bool.{OnTrue};
 ghost use Rattle.generation.specs.Emission.{IsPlace, Extends};
-ghost use Rattle.generation.specs.Ways.{IsWay, AreWays, Renews, RenewsBoth};
+ghost use Rattle.generation.specs.Ways.{IsWay, AreWays, way_by, Renews, RenewsBoth};
 
 use crate::code::{Code, Exits, REACH};
 use syntax::Transport;
@@ -67,6 +67,13 @@ impl Ways {
             yes: self.no,
             no: self.yes,
         }
+    }
+
+    /// The way of an answer.
+    pub fn by(self, holds: bool) -> Way
+        ensures { result ≡ way_by holds self }
+    {
+        if holds { self.yes } else { self.no }
     }
 
     /// The exits for any packet.

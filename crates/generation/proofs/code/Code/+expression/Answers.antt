@@ -69,10 +69,8 @@ returns-in_ok-first-in-Or-2 t c =
     let left = rw c.deref-in-Or-4.ensures at c.in_ok-first-in-Or-2.ensures in
     rw c.in-Or.is (behind-more _ (omega arith) (behind-either right.1 right.0 left.0), renews-either left.0.extends right.1 left.1)
 
-pub returns-in_ok-room-in-Test : goal.returns-in_ok-room-in-Test
-returns-in_ok-room-in-Test t c =
-    let done = c.reached_primitive.ensures in
-    rw c.in-Test.is (behind-more _ (omega (arith, c.cost.ensures)) done.0, done.1)
+pub returns-in-Test : goal.returns-in-Test
+returns-in-Test t c = rw c.in-Test.is c.reached_primitive.ensures
 
 pub returns-in_ok-entry-in-Relation : goal.returns-in_ok-entry-in-Relation
 returns-in_ok-entry-in-Relation t c =

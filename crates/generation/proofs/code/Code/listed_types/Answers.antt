@@ -1,13 +1,26 @@
-use Rattle.std.proofs.Common.{refl}
+use Rattle.std.proofs.Common.{◌≡◌, ◌<◌, length, refl, ◌∙◌, arith}
 use Rattle.analysis.specs.declared.lists.Span.{Span}
-use Rattle.semantics.specs.Meaning.{check, half, within}
+use Rattle.semantics.specs.Meaning.{Packet, Test, check, half, within}
 use Rattle.analysis.specs.Lists.{any_of}
+use Rattle.generation.specs.Listed.{among}
 use Rattle.generation.proofs.Following.{decides-followed}
-use Rattle.generation.proofs.Leading.{decides_any}
+use Rattle.generation.proofs.Leading.{decides-apart, decides-by-more}
+use Rattle.generation.proofs.Neighbours.{any-same, any-checked, type-known, type-missing}
 use Rattle.generation.proofs.code.Code.listed_types.Goals as goal
+
+abbrev number : Span → Test
+number x p = check (within x.low x.high) (half 12 p)
 
 pub returns : goal.returns
 returns c =
-    let done = rw c.any_exits.ensures at c.in_ok-entry.ensures.0 in
-    rw c.to.ensures
-    (decides_any c.args.ways (decides-followed _ (any_of (λ (x : Span) p. check (within x.low x.high) (half 12 p)) c.args.spans.now) (λ r p bytes. refl) done))
+    let spans = c.args.spans.now in
+    let some : 0 < length spans = omega (arith, c.requires.many) in
+    let done = rw c.other_exits.ensures at c.in_ok-other.ensures.0 in
+    let tested = decides-followed _ (any_of number spans) (λ r p bytes. refl) done in
+    let same : (p : Packet) → any_of number spans p ≡ check (among spans) (half 12 p) =
+    λ p. any-same number (λ (x : Span) q. check (within x.low x.high) (half 12 p)) p (λ x. refl) spans ∙ any-checked spans p (half 12 p) some in
+    let first = rw (c.by.ensures, c.has_number.ensures) at c.apart_from_ip.ensures.test in
+    rw (c.apart_from_ip.ensures.places, c.by.ensures, c.has_number.ensures)
+    (decides-by-more _ (omega arith)
+    (decides-apart (among spans 0x0800) c.args.ways c.requires.ways (λ p is. same p ∙ type-known (among spans) (half 12 p) is)
+    (λ p is. same p ∙ type-missing (among spans) (half 12 p) is) tested first))

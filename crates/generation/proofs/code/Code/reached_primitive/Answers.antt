@@ -1,9 +1,10 @@
+use Rattle.std.proofs.Common.{arith}
 use Rattle.generation.proofs.Leading.{renews-all-later}
-use Rattle.generation.proofs.Narrowed.{behind-renewed}
+use Rattle.generation.proofs.Narrowed.{behind-more, behind-renewed}
 use Rattle.generation.proofs.code.Code.reached_primitive.Goals as goal
 
 pub returns : goal.returns
 returns c =
     let renewed = c.renew-ways.ensures in
     let done = c.primitive_behind-entry.ensures in
-    (behind-renewed renewed.extends renewed.renews done, renews-all-later renewed.renews done.extends)
+    (behind-more _ (omega (arith, c.cost.ensures)) (behind-renewed renewed.extends renewed.renews done), renews-all-later renewed.renews done.extends)
