@@ -1,8 +1,9 @@
 """`bpftap steps -p`: the bars of the picture are what the steps found."""
+import random
 import re
 import xml.etree.ElementTree as tree
 
-from .common import ROOT, VETH, WHOLE, case
+from .common import ARP_RECORD, HEADER, IP_RECORD, ROOT, TCP_RECORD, UDP_RECORD, VETH, WHOLE, case, records
 
 STEPS = ROOT / "examples" / "steps"
 SVG = "{http://www.w3.org/2000/svg}"
@@ -45,12 +46,134 @@ def bars_are_as_high_as_the_loads(scene):
     scene.check("some loads were told", count > 5, True)
 
 
+# What the expressions of these cases accept, of the bytes of a frame.
+ACCEPTS = {
+    "": lambda frame: True,
+    "icmp": lambda frame: frame[12:14] == b"\x08\x00" and frame[23:24] == b"\x01",
+    "arp": lambda frame: frame[12:14] == b"\x08\x06",
+    "ip": lambda frame: frame[12:14] == b"\x08\x00",
+    "tcp": lambda frame: frame[12:14] == b"\x08\x00" and frame[23:24] == b"\x06",
+}
+
+
+class Buffers:
+    """The two buffers of a listener of LISTENERS, counted as bpftap(1) has them: the bytes of each."""
+
+    def __init__(self, line):
+        snap, capacity, expression = (line.split(" ", 2) + [""])[:3]
+        self.snap = int(snap) or 262144
+        self.immediate = capacity.endswith("i")
+        self.capacity = int(capacity.removesuffix("i"))
+        self.accepts = ACCEPTS[expression]
+        self.store = self.hold = 0
+        self.closed = False
+
+    def arrive(self, frame):
+        """The mark of a packet, and the bytes of its record where it is drawn."""
+        if self.closed:
+            return "closed", None
+        if not self.accepts(frame):
+            return "passed", None
+        size = 32 + -(-min(self.snap, len(frame)) // 8) * 8
+        if self.store + size <= self.capacity:
+            self.store += size
+            if self.immediate and not self.hold:
+                self.turn()
+                return "turned", ("record", size)
+            return "stored", ("record", size)
+        if self.hold:
+            return "dropped", ("over", size)
+        self.turn()
+        self.store = size
+        return "turned", ("record", size)
+
+    def turn(self):
+        self.hold, self.store = self.store, 0
+
+    def own(self, word):
+        """The mark of a step that names this listener."""
+        if word == "close":
+            self.closed = True
+            return "closed"
+        if word == "flush" and self.store and not self.hold and not self.closed:
+            self.turn()
+            return "turned"
+        if word == "read" and self.hold and not self.closed:
+            self.hold = 0
+            return "read"
+        return "idle"
+
+
+def counted(line, script, captures):
+    """Of each step what the listener of a line has before it, its mark, if it has one, and the record that is drawn."""
+    buffers = Buffers(line[0])
+    packets = iter([record[16:] for capture in captures for record in records(capture)])
+    for step in script.splitlines():
+        before = {"hold": buffers.hold, "store": buffers.store}
+        word, _, named = step.partition(" ")
+        mark = record = None
+        if word == "arrive":
+            frame = next(packets, None)
+            if frame is not None:
+                mark, record = buffers.arrive(frame)
+        elif int(named) == line[1]:
+            mark = buffers.own(word)
+        yield before | ({record[0]: record[1]} if record else {}), mark
+
+
+def draws_what_is_counted(scene, name, listeners, script, captures):
+    """Compares hold, store, record and mark of each column with buffers that are counted here."""
+    scene.put({"l.txt": listeners, "s.txt": script})
+    for n, capture in enumerate(captures):
+        scene.put({f"{n}.pcap": capture})
+    seen = scene.run(["steps", "-p", "steps.svg", "l.txt", "s.txt", *(f"{n}.pcap" for n in range(len(captures)))])
+    scene.check(f"told of {name}, and the status", (seen.err, seen.status), (b"", 0))
+    marks = set()
+    lines = listeners.splitlines()
+    for number, (line, found) in enumerate(zip(lines, lanes(scene.read("steps.svg")), strict=True)):
+        wanted = list(counted((line, number), script, captures))
+        scene.check(f"columns of {name}, listener {number}", len(found), len(wanted))
+        for step, ((title, bars), (heights, mark)) in enumerate(zip(found, wanted), 1):
+            drawn = {name: bars.pop(name) for name in ("hold", "store", "record", "over") if name in bars}
+            scene.check(f"{name}: step {step}, listener {number}: {title}", (drawn, list(bars)), (heights, [mark] if mark else []))
+            marks.add(mark)
+    return marks
+
+
+@case
+def each_column_is_what_the_buffers_have(scene):
+    """Of the example and of the lesson on drops, of 300 steps and of two captures by chance."""
+    example = (STEPS / "listeners.txt").read_text(), (STEPS / "script.txt").read_text()
+    draws_what_is_counted(scene, "the example", *example, [VETH.read_bytes()])
+    draws_what_is_counted(scene, "the lesson", "64 192 icmp\n", "arrive\n" * 7, [VETH.read_bytes()])
+    chance = random.Random(33)
+    listeners = "64 192 icmp\n0 262176i arp\n40 288i ip\n96 1024\n"
+    words = ["arrive"] * 6 + ["flush", "read", "read"]
+    steps = [chance.choice(words) for _ in range(300)]
+    script = "".join(step + (f" {chance.randrange(4)}" if step != "arrive" else "") + "\n" for step in steps)
+    marks = draws_what_is_counted(scene, "300 steps", listeners, script + "close 0\narrive\nread 0\n", [VETH.read_bytes()])
+    frames = [ARP_RECORD, IP_RECORD, TCP_RECORD, UDP_RECORD]
+    captures = [HEADER + b"".join(chance.choices(frames, k=20)) for _ in range(2)]
+    script = "arrive\n" * 15 + "read 1\n" + "arrive\n" * 30 + "flush 0\nclose 1\n"
+    marks |= draws_what_is_counted(scene, "two captures", "0 262176 tcp\n16 200 ip\n14 144i\n", script, captures)
+    wanted = {None, "passed", "stored", "turned", "dropped", "closed", "read", "idle"}
+    scene.check("all marks were seen", marks, wanted)
+
+
 @case
 def the_example_is_drawn_as_its_page_shows_it(scene):
     """The file beside the example, which was drawn by another program from the table of its page."""
     files = [STEPS / "listeners.txt", STEPS / "script.txt", VETH]
     scene.run(["steps", "-p", "steps.svg", *files])
     scene.check("the picture", scene.read("steps.svg"), (STEPS / "steps.svg").read_bytes())
+
+
+@case
+def the_lesson_is_drawn_as_its_page_shows_it(scene):
+    """The file beside the lesson on drops, which was drawn by another program, with buffers that were counted there."""
+    scene.put({"l.txt": "64 192 icmp\n", "s.txt": "arrive\n" * 7})
+    scene.run(["steps", "-p", "drops.svg", "l.txt", "s.txt", VETH])
+    scene.check("the picture", scene.read("drops.svg"), (ROOT / "examples" / "lessons" / "drops.svg").read_bytes())
 
 
 @case
