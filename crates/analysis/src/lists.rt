@@ -93,6 +93,12 @@ impl Default for Member {
     }
 }
 
+impl Default for Kind {
+    fn default() -> Kind {
+        Member::default().kind
+    }
+}
+
 impl Sides {
     /// Whether what these ask for has what the others ask for.
     fn is_broader(self, other: Sides) -> bool

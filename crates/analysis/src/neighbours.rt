@@ -13,6 +13,9 @@ use syntax::{Expr, Primitive};
 /// How many links farther left a test is looked for behind which none of a kind aborts. So the time of a chain grows with its length alone.
 const LOOK_LEFT: u32 = 8;
 
+/// How many kinds the links of a list have at most, but for the first one. Members of each take room on the stack.
+const MOST_KINDS: usize = 8;
+
 /// Links at the right end of a chain. Behind the first of them, and behind what stands to the left of it, no test of the
 /// others aborts, so that they may be asked in any order.
 #[derive(Drop)]
@@ -77,19 +80,39 @@ fn is_settled(chain: Chain, left: Option<&Expr>, first: Member, kind: Kind) -> b
     }
 }
 
+/// Whether a kind is one of these, which it becomes where there is room.
+fn is_counted(kinds: &mut ArrayVec<Kind, MOST_KINDS>, kind: Kind) -> bool {
+    for own in kinds.as_slice() {
+        if kind.is(*own) {
+            return true;
+        }
+    }
+    if kinds.is_full() {
+        return false;
+    }
+    kinds.push(kind);
+    true
+}
+
 /// How many links at the right end of what stands to the left of a link belong to it: each up to the first one of a kind
-/// that may abort behind those farther left.
-fn links(chain: Chain, expr: &Expr, kind: Kind, found: usize) -> usize {
-    if found >= MAX_INSNS - 1 || !asks(chain, expr, kind, LOOK_LEFT) {
+/// that may abort behind those farther left, or of one kind too many.
+fn links(
+    chain: Chain,
+    expr: &Expr,
+    kind: Kind,
+    kinds: &mut ArrayVec<Kind, MOST_KINDS>,
+    found: usize,
+) -> usize {
+    if found >= MAX_INSNS - 1 || !asks(chain, expr, kind, LOOK_LEFT) || !is_counted(kinds, kind) {
         return found;
     }
     match (chain, expr) {
         (Chain::AnyOf, Expr::Or(left, right)) => match Member::of_link(chain, right) {
-            Some(member) => links(chain, left, member.kind, found + 1),
+            Some(member) => links(chain, left, member.kind, kinds, found + 1),
             None => found,
         },
         (Chain::NoneOf, Expr::And(left, right)) => match Member::of_link(chain, right) {
-            Some(member) => links(chain, left, member.kind, found + 1),
+            Some(member) => links(chain, left, member.kind, kinds, found + 1),
             None => found,
         },
         _ => found + 1,
@@ -218,7 +241,8 @@ impl Neighbours {
             found.0.others.members.items)) }
     {
         let last = Member::of_link(chain, right)?;
-        match links(chain, left, last.kind, 0) {
+        let mut kinds = ArrayVec::new();
+        match links(chain, left, last.kind, &mut kinds, 0) {
             0 => None,
             more => Neighbours::behind(chain, left, right, more),
         }
