@@ -26,7 +26,7 @@ use Rattle.handover.specs.Ends.{FeedingEnded, feeding_ended, Draining, draining,
 use Rattle.handover.specs.History.{Happening, fed, got, shut, events, feeds_in, merge, finds, ended_in, EndedIsLast, LegalHistory, batches_of}
 use Rattle.handover.specs.Own.{matched_in, dropped_in, store_of}
 use Rattle.handover.specs.Rule.{Home, IsHeld, last, terms_of, BufferFollowsTurn, Facts, Seats, whole, apart, joined as seats_joined, KeepsRule, joint}
-use Rattle.handover.specs.Settling.{kept_of_both, IsWhole}
+use Rattle.handover.specs.Settling.{kept_of_history, IsWhole}
 use Rattle.handover.proofs.Keeps.{store_is}
 use Rattle.handover.proofs.Orders.{same_latest}
 use Rattle.handover.proofs.Steps.{spent_at}
@@ -116,12 +116,12 @@ accepted_is (got Nothing ∷ hs) = accepted_is hs
 accepted_is (got Ended ∷ hs) = accepted_is hs
 accepted_is (shut ∷ hs) = accepted_is hs
 
-kept_counts : (p : Profile) (fs : List Feed) (ts : List Take) (y : Filled) → Ending p fs ts y → matched_in fs ≡ length (kept_of_both p fs ts) + dropped_in fs
+kept_counts : (p : Profile) (fs : List Feed) (ts : List Take) (y : Filled) → Ending p fs ts y → matched_in fs ≡ length (kept_of_history p fs ts) + dropped_in fs
 kept_counts p fs ts y e =
     let t : Terms = terms_of p in
     let s = histories_are_settled t fs ts e.fits e.legal in
     let k = histories_are_kept t fs ts e.fits e.legal in
-    sym s.all_matched ∙ (k.all_matched ∙ (matched_are_kept_or_dropped t (requests (events (merge fs ts))) ∙ ap (λ (n : ℕ). length (kept_of_both p fs ts) + n) (sym k.all_dropped ∙ s.all_dropped)))
+    sym s.all_matched ∙ (k.all_matched ∙ (matched_are_kept_or_dropped t (requests (events (merge fs ts))) ∙ ap (λ (n : ℕ). length (kept_of_history p fs ts) + n) (sym k.all_dropped ∙ s.all_dropped)))
 
 pub ends_whole : (p : Profile) (fs : List Feed) (ts : List Take) (hold rest : Filled) (counts : Counts) → Ending p fs ts hold
     → rest ≡ filled p.capacity (stored (last fs ts)) → AreCountsOfCalls counts fs → IsWhole p fs ts hold.messages rest.messages counts

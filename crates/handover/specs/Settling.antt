@@ -15,8 +15,8 @@ use Rattle.handover.specs.History.{events, merge, finds, ended_in, batches_of}
 use Rattle.handover.specs.Rule.{terms_of}
 
 -- what looking back keeps of the history of both lists
-abbrev pub kept_of_both : Profile → List Feed → List Take → List Message
-kept_of_both p fs ts = kept (terms_of p) (requests (events (merge fs ts)))
+abbrev pub kept_of_history : Profile → List Feed → List Take → List Message
+kept_of_history p fs ts = kept (terms_of p) (requests (events (merge fs ts)))
 
 -- the messages of the arrivals that were answered Stored, Held or Rotated
 abbrev pub stored_in : List Feed → List Message
@@ -37,8 +37,8 @@ undropped_in (f ∷ fs) = undropped_in fs
 -- What was read, the hold and then the rest are what is kept, and by the answers alone what was stored; each message is an accepted
 -- arrival; what matched is what is kept and what was dropped; and where a read found the end, no call found the pair closed.
 pub record IsWhole (p : Profile) (fs : List Feed) (ts : List Take) (hold rest : List Message) (counts : Counts) : Type 0 where
-  pub whole : (joined (batches_of ts) ++ hold) ++ rest ≡ kept_of_both p fs ts
+  pub whole : (joined (batches_of ts) ++ hold) ++ rest ≡ kept_of_history p fs ts
   pub stored : (joined (batches_of ts) ++ hold) ++ rest ≡ stored_in fs
-  pub accepted : (m : Message) → Contains (kept_of_both p fs ts) m → Contains (all_accepted (asks fs)) m
-  pub balance : counts.matched ≡ length (kept_of_both p fs ts) + counts.dropped
+  pub accepted : (m : Message) → Contains (kept_of_history p fs ts) m → Contains (all_accepted (asks fs)) m
+  pub balance : counts.matched ≡ length (kept_of_history p fs ts) + counts.dropped
   pub unclosed : ended_in ts ≡ true → finds fs ≡ false

@@ -112,7 +112,7 @@ impl Feeder {
         ensures order { SightGoesOn of_feeder self.old.seen self.new.seen self.new.steps }
         ensures own { HasOwnRun self.new }
     {
-        let Some(kept) = kept_of(&self.program, self.snap, packet) else {
+        let Some(kept) = kept_of(&self.program, &self.snap, packet) else {
             return count(&mut self.counts, self.stand.pass(link));
         };
         let accepted = Accepted {

@@ -158,7 +158,7 @@ impl Listener {
             return Fed::Closed;
         }
         self.counts.received += 1;
-        let Some(kept) = kept_of(&self.program, self.snap, packet) else {
+        let Some(kept) = kept_of(&self.program, &self.snap, packet) else {
             return Fed::Passed;
         };
         self.counts.matched += 1;
@@ -187,7 +187,7 @@ impl Listener {
     pub fn record_size(&self, packet: &PacketRef<'_>) -> Option<usize>
         ensures { (capture place : ℕ) → result ≡ option_map size_of (seen_by self.now (arrival capture place packet.now)) }
     {
-        let Some(kept) = kept_of(&self.program, self.snap, packet) else {
+        let Some(kept) = kept_of(&self.program, &self.snap, packet) else {
             return None;
         };
         Some(size(kept))

@@ -391,7 +391,7 @@ fn capacities_and_snapshot_lengths_have_their_ranges(rt: HostRuntime) -> Result<
 
 /// A filter that keeps `most` keeps so many of these bytes, at snapshot length 32.
 fn keeps(rt: &impl Abort, most: u32, bytes: &[u8], want: Option<u32>) -> Result<(), Fail> {
-    assert_eq!(rt; kept_of(&keeping(most)?, 32, &packet(bytes)), want);
+    assert_eq!(rt; kept_of(&keeping(most)?, &32, &packet(bytes)), want);
     Ok(())
 }
 

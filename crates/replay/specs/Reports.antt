@@ -10,7 +10,7 @@ use Rattle.savefile.specs.Writer.{IsBeginning}
 use Rattle.handover.specs.History.{LegalHistory, finds, merge}
 use Rattle.handover.specs.Own.{received_in, matched_in, dropped_in}
 use Rattle.handover.specs.Rule.{last, profile_of, terms_of}
-use Rattle.handover.specs.Settling.{kept_of_both}
+use Rattle.handover.specs.Settling.{kept_of_history}
 use Rattle.handover.specs.declared.calls.Feed.{Feed}
 use Rattle.handover.specs.declared.calls.Take.{Take}
 use Rattle.replay.specs.declared.report.ListenerReport.{ListenerReport}
@@ -19,7 +19,7 @@ use Rattle.replay.specs.declared.task.Task.{Task}
 
 -- the messages that the listener kept
 abbrev pub kept_for : {W : Type 0} → Task W → List Feed → List Take → List Message
-kept_for task feeds takes = kept_of_both (profile_of task.capacity task.mode) feeds takes
+kept_for task feeds takes = kept_of_history (profile_of task.capacity task.mode) feeds takes
 
 -- a message as a packet of a savefile
 abbrev pub packet_of : Message → Packet
