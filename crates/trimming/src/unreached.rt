@@ -77,18 +77,18 @@ fn mark_reached(insns: &[Insn], marks: &mut [bool])
 }
 
 /// How many of the first so many places are marked.
-fn kept(behind: &[bool], passed: usize) -> usize
+fn marked(behind: &[bool], passed: usize) -> usize
     requires { passed ≤ length behind.now }
     ensures value { result ≡ marked passed behind.now }
     ensures within { result ≤ passed }
 {
-    let mut kept = 0;
+    let mut count = 0;
     for mark in &behind[..passed] {
         if *mark {
-            kept += 1;
+            count += 1;
         }
     }
-    kept
+    count
 }
 
 /// The instruction, which passes only what is kept of those behind it.
@@ -101,12 +101,12 @@ fn moved(insn: Insn, behind: &[bool]) -> Insn
         Onward::Nowhere => insn,
         Onward::Next => insn,
         Onward::Jump(passed) => Insn {
-            k: kept(behind, passed as usize) as u32,
+            k: marked(behind, passed as usize) as u32,
             ..insn
         },
         Onward::Either(jt, jf) => Insn {
-            jt: kept(behind, usize::from(jt)) as u8,
-            jf: kept(behind, usize::from(jf)) as u8,
+            jt: marked(behind, usize::from(jt)) as u8,
+            jf: marked(behind, usize::from(jf)) as u8,
             ..insn
         },
     }

@@ -2,17 +2,17 @@ use Rattle.std.proofs.Common.{◌≡◌, ◌∙◌, ap, arith}
 use Rattle.std.proofs.lemmas.List.{length-take-le}
 use Rattle.trimming.specs.Trimming.{marked}
 use Rattle.trimming.proofs.Reached.{marked-within, counted, uncounted}
-use Rattle.trimming.proofs.unreached.kept.Goals as goal
-use Rattle.trimming.proofs.unreached.kept.Goals.{then-mark, else-mark}
+use Rattle.trimming.proofs.unreached.marked.Goals as goal
+use Rattle.trimming.proofs.unreached.marked.Goals.{then-mark, else-mark}
 
-pub overflow_add-kept : goal.overflow_add-kept
-overflow_add-kept c = let within = marked-within c.args.behind.now c.loop-mark.mark-index in omega arith
+pub overflow_add-count : goal.overflow_add-count
+overflow_add-count c = let within = marked-within c.args.behind.now c.loop-mark.mark-index in omega arith
 
 pub loop-mark-preserved : goal.loop-mark-preserved
 loop-mark-preserved c =
     elim c.if-mark.branch [
-      | then-mark w ↦ w.kept-is ∙ counted c.args.behind.now c.args.passed c.loop-mark.mark-index c.loop-mark.kept c.loop-mark-test.true c.loop-mark.invariant w.if-mark.true
-      | else-mark w ↦ w.kept-is ∙ uncounted c.args.behind.now c.args.passed c.loop-mark.mark-index c.loop-mark.kept c.loop-mark-test.true c.loop-mark.invariant w.if-mark.false
+      | then-mark w ↦ w.count-is ∙ counted c.args.behind.now c.args.passed c.loop-mark.mark-index c.loop-mark.count c.loop-mark-test.true c.loop-mark.invariant w.if-mark.true
+      | else-mark w ↦ w.count-is ∙ uncounted c.args.behind.now c.args.passed c.loop-mark.mark-index c.loop-mark.count c.loop-mark-test.true c.loop-mark.invariant w.if-mark.false
     ]
 
 pub returns-clause-within : goal.returns-clause-within
