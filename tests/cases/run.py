@@ -286,6 +286,28 @@ def an_out_is_followed(scene):
     scene.check("OUT", (scene.read("flushed.pcap"), scene.read("held.pcap")), (HEADER + T * 5, HEADER + T * 5))
 
 
+@case
+def an_out_that_blocks_holds_back_no_other(scene):
+    """What is still in the stores at the end comes to each OUT, while a fifo that is the first OUT is not read."""
+    scene.start({
+        "tu.pcap": HEADER + T + U, "t.pcap": HEADER + T,
+        "listeners.txt": "0 0 0 1048576 2 unread\n0 0 0 1048576 2 all.pcap\n0 0 0 1048576i 2 tcp.pcap tcp\n1 0 0 1048576 2 other.pcap\n"})
+    os.mkfifo(scene.folder / "unread")
+    whole = {"all.pcap": HEADER + T + U, "tcp.pcap": HEADER + T, "other.pcap": HEADER + T}
+    words = [PROGRAM, "run", "listeners.txt", "tu.pcap", "+", "t.pcap"]
+    with subprocess.Popen(words, cwd=scene.folder, stdout=subprocess.PIPE) as running:
+        try:
+            scene.check("reached", sizes_reached(scene, {name: len(text) for name, text in whole.items()}), True)
+            scene.check("read", {name: scene.read(name) for name in whole}, whole)
+            scene.check("ended", running.poll(), None)
+            with open(scene.folder / "unread", "rb") as unread:
+                scene.check("the fifo", unread.read(), HEADER + T + U)
+            printed = running.communicate(timeout=LIMIT)[0].decode()
+        finally:
+            running.kill()
+    scene.check("printed", printed, report((0, 0), 2, 2) + report((0, 1), 2, 2) + report((0, 2), 2, 1) + report((1, 0), 1, 1))
+
+
 def processor_seconds(process):
     """User and system time of a process so far."""
     fields = pathlib.Path(f"/proc/{process}/stat").read_text().rpartition(")")[2].split()

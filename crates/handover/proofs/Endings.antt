@@ -123,20 +123,20 @@ kept_counts p fs ts y e =
     let k = histories_are_kept t fs ts e.fits e.legal in
     sym s.all_matched ∙ (k.all_matched ∙ (matched_are_kept_or_dropped t (requests (events (merge fs ts))) ∙ ap (λ (n : ℕ). length (kept_of_history p fs ts) + n) (sym k.all_dropped ∙ s.all_dropped)))
 
-pub ends_whole : (p : Profile) (fs : List Feed) (ts : List Take) (hold rest : Filled) (counts : Counts) → Ending p fs ts hold
-    → rest ≡ filled p.capacity (stored (last fs ts)) → AreCountsOfCalls counts fs → IsWhole p fs ts hold.messages rest.messages counts
+pub ends_whole : (p : Profile) (fs : List Feed) (ts : List Take) (hold : Filled) (rest : List Message) (counts : Counts) → Ending p fs ts hold
+    → rest ≡ stored (last fs ts) → AreCountsOfCalls counts fs → IsWhole p fs ts hold.messages rest counts
 ends_whole p fs ts hold rest counts e r c =
     let t : Terms = terms_of p in
     let s = histories_are_settled t fs ts e.fits e.legal in
     let l : PlainList = last fs ts in
     let read : List Message = joined (batches_of ts) in
-    let left : hold.messages ++ rest.messages ≡ l.pending =
-    ap (λ (x : Filled). x.messages ++ rest.messages) e.hold ∙ (ap (λ (x : Filled). hold_of l ++ x.messages) r ∙ take-append-drop l.in_hold l.pending) in
+    let left : hold.messages ++ rest ≡ l.pending =
+    ap (λ (x : Filled). x.messages ++ rest) e.hold ∙ (ap (λ (x : List Message). hold_of l ++ x) r ∙ take-append-drop l.in_hold l.pending) in
     let steps = requests (events (merge fs ts)) in
     let same : all_accepted steps ≡ all_accepted (asks fs) = accepted_is (merge fs ts) ∙ ap (λ (x : List Feed). all_accepted (asks x)) (feeds_in-merge false fs ts) in
     let k = kept_counts p fs ts hold e in
-    let all : (read ++ hold.messages) ++ rest.messages ≡ read ++ l.pending =
-    append_assoc read hold.messages rest.messages ∙ ap (λ (x : List Message). read ++ x) left in
+    let all : (read ++ hold.messages) ++ rest ≡ read ++ l.pending =
+    append_assoc read hold.messages rest ∙ ap (λ (x : List Message). read ++ x) left in
     record {
       whole = all ∙ s.whole;
       stored = all ∙ stored_are_read_or_pend t fs ts (merge fs ts) (ends_legally p fs ts hold e);
@@ -155,6 +155,5 @@ ends_as v w y f d one other store is also e =
     subst (λ (x : FeedingEnded). Ending x.profile x.feeds d.takes y × HasOneOrder x.seen d.seen x.steps d.steps) is
     (subst (λ (x : Draining). Ending v.view.profile v.view.feeds x.takes y × HasOneOrder v.feeder_saw x.seen v.view.feed_steps x.steps) also e)
 
-pub ends_rest : (p : Profile) (fs : List Feed) (ts : List Take) (y rest : Filled) → Ending p fs ts y → rest ≡ filled p.capacity (store_of fs)
-    → rest ≡ filled p.capacity (stored (last fs ts))
-ends_rest p fs ts y rest e is = is ∙ ap (filled p.capacity) (sym (store_is (terms_of p) fs ts e.legal))
+pub ends_rest : (p : Profile) (fs : List Feed) (ts : List Take) (y : Filled) (rest : List Message) → Ending p fs ts y → rest ≡ store_of fs → rest ≡ stored (last fs ts)
+ends_rest p fs ts y rest e is = is ∙ sym (store_is (terms_of p) fs ts e.legal)

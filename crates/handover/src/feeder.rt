@@ -1,6 +1,7 @@
 //! The end that packets are given to.
 
 ghost use Rattle.std.specs.Prelude.{◌≡◌, ◌-◌, ◌^◌, ◌<◌, ◌≤◌, List, ◌++◌, [], ◌∷◌, Option};
+ghost use Rattle.listener.specs.Buffers.{filled};
 ghost use Rattle.listener.specs.declared.message.Message.{Message};
 ghost use Rattle.handover.specs.declared.calls.Feed.{Feed};
 ghost use Rattle.listener.specs.Messages.{arrival, kept_by};
@@ -13,10 +14,10 @@ ghost use Rattle.handover.specs.Own.{received_in, matched_in, dropped_in};
 ghost use Rattle.handover.specs.Steps.{arrive_steps};
 
 use crate::link::Link;
-use crate::rule::{ENDED, SetEnded};
+use crate::rule::{ENDED, PairSeat, SetEnded};
 use crate::stand::{Accepted, Stand};
 use bpfvm::Program;
-use listener::{Counts, Fed, Mode, kept_of};
+use listener::{Buffer, Counts, Fed, Mode, kept_of};
 use savefile::PacketRef;
 use std::marker::Model;
 
@@ -53,26 +54,29 @@ impl Model for Feeder {
 
 /// A feeder that has ended.
 ///
-/// Contracts see what they saw of the feeder, but for its filter.
+/// Contracts see what they saw of the feeder, but for its filter; and what it still had in its store.
 #[derive(Drop)]
 pub struct FeedEnd {
-    pub(crate) stand: Stand,
+    pub(crate) seat: PairSeat,
     pub(crate) counts: Counts,
 }
 
 impl Model for FeedEnd {
     ghost use Rattle.std.specs.Prelude.{true};
+    ghost use Rattle.listener.specs.Buffers.{filled};
     ghost use Rattle.handover.specs.Ends.{FeedingEnded, feeding_ended};
     ghost use Rattle.handover.specs.Ends.{AreCountsOfCalls};
+    ghost use Rattle.handover.specs.Own.{store_of};
     ghost use Rattle.handover.specs.Rule.{known};
     ghost use Rattle.handover.specs.Seated.{IsFeeder};
 
     ghost Value = { FeedingEnded };
 
-    ghost view = { λ f. feeding_ended f.stand.seat.table_id f.stand.seat.me.0.view.profile f.stand.seat.me.0.view.feeds
-        f.stand.seat.me.0.view.feed_steps f.stand.seat.me.0.feeder_saw f.stand.store.messages };
+    ghost view = { λ f. feeding_ended f.seat.table_id f.seat.me.0.view.profile f.seat.me.0.view.feeds f.seat.me.0.view.feed_steps
+        f.seat.me.0.feeder_saw (store_of f.seat.me.0.view.feeds) };
 
-    ghost invariant = { λ f. IsFeeder (known f.stand.seat.me) f.stand.store true × AreCountsOfCalls f.counts f.stand.seat.me.0.view.feeds };
+    ghost invariant = { λ f. IsFeeder (known f.seat.me) (filled f.seat.me.0.view.profile.capacity (store_of f.seat.me.0.view.feeds)) true
+        × AreCountsOfCalls f.counts f.seat.me.0.view.feeds };
 }
 
 /// Counts an arrival with this answer, and tells the answer.
@@ -154,23 +158,23 @@ impl Feeder {
         self.counts
     }
 
-    /// Ends the feeder: a read that finds this and an empty hold is answered with [`Read::Ended`](crate::Read::Ended).
-    pub fn end(self, link: &Link) -> FeedEnd
+    /// Ends the feeder: a read that finds this and an empty hold is answered with [`Read::Ended`](crate::Read::Ended). The
+    /// buffer is the rest: what it still had in its store, which comes behind what is read and the hold.
+    pub fn end(self, link: &Link) -> (FeedEnd, Buffer)
         requires { self.pair ≡ link.now }
-        ensures ended { result ≡ feeding_ended self.pair self.profile self.feeds (self.steps ++ Store word.Ended 1 ∷ []) result.seen self.store }
-        ensures order { SightGoesOn of_feeder self.seen result.seen result.steps }
+        ensures ended { result.0 ≡ feeding_ended self.pair self.profile self.feeds (self.steps ++ Store word.Ended 1 ∷ []) result.0.seen self.store }
+        ensures rest { result.1 ≡ filled self.profile.capacity self.store }
+        ensures order { SightGoesOn of_feeder self.seen result.0.seen result.0.steps }
         ensures own { HasOwnRun self }
     {
         let Feeder {
-            mut stand,
+            stand: Stand { mut seat, store },
             program: _,
             snap: _,
             mode: _,
             counts,
         } = self;
-        link.table
-            .shared
-            .store::<SetEnded>(&mut stand.seat, ENDED, 1);
-        FeedEnd { stand, counts }
+        link.table.shared.store::<SetEnded>(&mut seat, ENDED, 1);
+        (FeedEnd { seat, counts }, store)
     }
 }

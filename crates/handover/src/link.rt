@@ -77,8 +77,6 @@ impl Debug for Past {
 pub struct Settled {
     /// What was held and not read.
     pub hold: Buffer,
-    /// What the feeder still had in its store.
-    pub rest: Buffer,
     /// The counts, of the packets that arrived before the pair was found closed.
     pub counts: Counts,
     /// The calls of both ends.
@@ -168,9 +166,9 @@ fn parted(
 
 /// Takes a pair apart, once both ends have ended.
 ///
-/// The feeder's calls and the drain's reads make one legal history of the plain list, and the buffers have what then
-/// pends: what was read, then the hold, then the rest is exactly what was kept, and this is the messages of the arrivals
-/// that were answered Stored, Held or Rotated, in order. The steps of both have one order, in which each load answered what the last
+/// The feeder's calls and the drain's reads make one legal history of the plain list, and the hold with the rest, which
+/// [`Feeder::end`] gave, has what then pends: what was read, then the hold, then the rest is exactly what was kept, and this is
+/// the messages of the arrivals that were answered Stored, Held or Rotated, in order. The steps of both have one order, in which each load answered what the last
 /// store to its word left, or 0 where there is none: one of the ends has seen it all, and the other a beginning of it.
 pub fn settle(link: Link, feeder: FeedEnd, drain: DrainEnd) -> Settled
     requires { (feeder.pair ≡ link) × (drain.pair ≡ link) }
@@ -178,15 +176,12 @@ pub fn settle(link: Link, feeder: FeedEnd, drain: DrainEnd) -> Settled
     ensures order { HasOneOrder feeder.seen drain.seen feeder.steps drain.steps }
     ensures past { result.past ≡ pair_lists link feeder.profile feeder.feeds feeder.steps drain.takes drain.steps }
     ensures hold { result.hold ≡ filled feeder.profile.capacity (hold_of (last feeder.feeds drain.takes)) }
-    ensures rest { result.rest ≡ filled feeder.profile.capacity (stored (last feeder.feeds drain.takes)) }
+    ensures rest { feeder.store ≡ stored (last feeder.feeds drain.takes) }
     ensures counts { AreCountsOf result.counts (last feeder.feeds drain.takes) × AreCountsOfCalls result.counts feeder.feeds }
-    ensures whole { IsWhole feeder.profile feeder.feeds drain.takes result.hold.messages result.rest.messages result.counts }
+    ensures whole { IsWhole feeder.profile feeder.feeds drain.takes result.hold.messages feeder.store result.counts }
 {
     let Link { table } = link;
-    let FeedEnd {
-        stand: Stand { mut seat, store },
-        counts,
-    } = feeder;
+    let FeedEnd { mut seat, counts } = feeder;
     let DrainEnd { seat: other } = drain;
     table.shared.join_seat::<Ends>(&mut seat, other);
     let witness = table.shared.split_seat::<Witness>(&mut seat);
@@ -195,7 +190,6 @@ pub fn settle(link: Link, feeder: FeedEnd, drain: DrainEnd) -> Settled
     closed.free();
     Settled {
         hold,
-        rest: store,
         counts,
         past: Past { seat: witness },
     }

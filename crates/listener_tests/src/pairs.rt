@@ -159,12 +159,12 @@ fn reads_on(
 }
 
 /// What is left of a pair, behind what was told so far.
-fn left(alloc: Global, settled: &Settled, out: &mut String) -> Result<(), Fail> {
+fn left(alloc: Global, settled: &Settled, rest: &Buffer, out: &mut String) -> Result<(), Fail> {
     let counts = settled.counts;
     let line = format!(in alloc;
         "held{}, stored{}; {} {} {}",
         places(alloc, &settled.hold)?,
-        places(alloc, &settled.rest)?,
+        places(alloc, rest)?,
         counts.received,
         counts.matched,
         counts.dropped
@@ -182,16 +182,16 @@ fn until_ended(
     script: &str,
     reads: usize,
     out: &mut String,
-) -> Result<FeedEnd, Fail>
+) -> Result<(FeedEnd, Buffer), Fail>
     requires { (feeder.pair ≡ link.now) × (drain.old.pair ≡ link.now) }
-    ensures end { IfOk result (λ end. end.pair ≡ feeder.pair) }
+    ensures end { IfOk result (λ ended. ended.0.pair ≡ feeder.pair) }
     ensures drain { drain.new.pair ≡ drain.old.pair }
 {
     together(alloc, link, &mut feeder, drain, script, out)?;
-    let feeder = feeder.end(link);
+    let ended = feeder.end(link);
     out.push_str("end, ")?;
     reads_on(alloc, link, drain, reads, out)?;
-    Ok(feeder)
+    Ok(ended)
 }
 
 /// What is left of a pair of snapshot length 32 and capacity 64 whose feeder ended.
@@ -201,11 +201,11 @@ fn left_of_ended(
     script: &str,
     reads: usize,
     out: &mut String,
-) -> Result<Settled, Fail> {
+) -> Result<(Settled, Buffer), Fail> {
     let (link, feeder, mut drain) = pair_as(alloc, keeping(32)?, 32, 64, mode)?;
-    let feeder = until_ended(alloc, &link, feeder, &mut drain, script, reads, out)?;
+    let (feeder, rest) = until_ended(alloc, &link, feeder, &mut drain, script, reads, out)?;
     let drain = drain.close(&link);
-    Ok(settle(link, feeder, drain))
+    Ok((settle(link, feeder, drain), rest))
 }
 
 /// What a pair of snapshot length 32 and capacity 64 answers to a script, then, once its feeder has ended, to so many reads,
@@ -218,8 +218,8 @@ fn ended(
     want: &str,
 ) -> Result<(), Fail> {
     let mut out = String::new(rt.alloc());
-    let settled = left_of_ended(rt.alloc(), mode, script, reads, &mut out)?;
-    left(rt.alloc(), &settled, &mut out)?;
+    let (settled, rest) = left_of_ended(rt.alloc(), mode, script, reads, &mut out)?;
+    left(rt.alloc(), &settled, &rest, &mut out)?;
     assert_eq!(rt; out.as_str(), want);
     Ok(())
 }
@@ -252,11 +252,11 @@ fn left_of_closed(
     script: &str,
     behind: &str,
     out: &mut String,
-) -> Result<Settled, Fail> {
+) -> Result<(Settled, Buffer), Fail> {
     let (link, mut feeder, drain) = pair(alloc, keeping(most)?, 32, 64)?;
     let drain = until_closed(alloc, &link, &mut feeder, drain, script, behind, out)?;
-    let feeder = feeder.end(&link);
-    Ok(settle(link, feeder, drain))
+    let (feeder, rest) = feeder.end(&link);
+    Ok((settle(link, feeder, drain), rest))
 }
 
 /// The same, where the drain closes first, and the feeder goes on with a second script.
@@ -268,8 +268,8 @@ fn closed(
     want: &str,
 ) -> Result<(), Fail> {
     let mut out = String::new(rt.alloc());
-    let settled = left_of_closed(rt.alloc(), most, script, behind, &mut out)?;
-    left(rt.alloc(), &settled, &mut out)?;
+    let (settled, rest) = left_of_closed(rt.alloc(), most, script, behind, &mut out)?;
+    left(rt.alloc(), &settled, &rest, &mut out)?;
     assert_eq!(rt; out.as_str(), want);
     Ok(())
 }
@@ -426,7 +426,7 @@ fn only_the_pair_takes_memory(rt: HostRuntime) -> Result<(), Fail> {
     drain.read(&link, empty);
     assert!(rt; feeder.flush(&link));
     let drain = drain.close(&link);
-    let feeder = feeder.end(&link);
+    let (feeder, _rest) = feeder.end(&link);
     let settled = settle(link, feeder, drain);
     assert_eq!(rt; settled.counts.dropped, 1);
     Ok(())

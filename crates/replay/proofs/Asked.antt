@@ -15,6 +15,7 @@ use Rattle.handover.specs.declared.calls.Feed.{Feed}
 use Rattle.handover.specs.declared.calls.Feed.TheVariants as call
 use Rattle.handover.specs.declared.view.Profile.{Profile}
 use Rattle.replay.specs.Lines.{Line, fed_all, fed_with}
+use Rattle.replay.specs.Rings.{Ring}
 use Rattle.replay.specs.Playing.{Asking, asked, asked_at, asked_from, is_due}
 
 pub asks-append : (fs gs : List Feed) → asks (fs ++ gs) ≡ asks fs ++ asks gs
@@ -69,7 +70,7 @@ pub all-fed : (playlist : List Arrival) (a : Arrival) (starts : List Line) → m
 all-fed playlist a [] = refl
 all-fed playlist a (l ∷ ls) =
     let one : fed_with (length playlist) a (fed_all playlist l) ≡ fed_all (playlist ++ a ∷ []) l =
-    ap (λ rs. record { pair = l.pair; profile = l.profile; asking = l.asking; asks = rs })
+    ap (λ rs. record { pair = l.pair; profile = l.profile; asking = l.asking; ring = l.ring; asks = rs })
     (sym (asked-more l.asking 0 playlist a ∙ ap (λ k. asked l.asking playlist ++ asked_at l.asking k a) (omega arith))) in
     ap (λ x. x ∷ map (fed_with (length playlist) a) (map (fed_all playlist) ls)) one ∙ ap (λ xs. fed_all (playlist ++ a ∷ []) l ∷ xs) (all-fed playlist a ls)
 
@@ -106,17 +107,18 @@ flushed-more t n a fs gs hs answer full f grew flushed answers due =
     ∙ append_assoc (asks fs) (Arrive (kept_by t.program t.snap a) ∷ []) (Flush ∷ [])
     ∙ ap (λ (b : Bool). asks fs ++ Arrive (kept_by t.program t.snap a) ∷ (if b then Flush ∷ [] else [])) (sym due)
 
-abbrev line : TableId → Profile → List Insn → ℕ → ℕ → List Request → Line
-line pair profile program snap every rs = record { pair = pair; profile = profile; asking = record { program = program; snap = snap; flush_every = every }; asks = rs }
+abbrev line : TableId → Profile → List Insn → ℕ → ℕ → Ring → List Request → Line
+line pair profile program snap every ring rs =
+    record { pair = pair; profile = profile; asking = record { program = program; snap = snap; flush_every = every }; ring = ring; asks = rs }
 
 -- a feeder of which a call left all but what it was asked
-pub same-line : (every : ℕ) (pair pair' : TableId) (profile profile' : Profile) (program program' : List Insn) (snap snap' : ℕ) (rs rs' : List Request)
+pub same-line : (every : ℕ) (ring : Ring) (pair pair' : TableId) (profile profile' : Profile) (program program' : List Insn) (snap snap' : ℕ) (rs rs' : List Request)
     → pair' ≡ pair → profile' ≡ profile → program' ≡ program → snap' ≡ snap → rs' ≡ rs
-    → line pair' profile' program' snap' every rs' ≡ line pair profile program snap every rs
-same-line every pair pair' profile profile' program program' snap snap' rs rs' a b c d e =
-    ap (λ x. line x profile' program' snap' every rs') a ∙ ap (λ x. line pair x program' snap' every rs') b
-    ∙ ap (λ x. line pair profile x snap' every rs') c ∙ ap (λ x. line pair profile program x every rs') d
-    ∙ ap (λ x. line pair profile program snap every x) e
+    → line pair' profile' program' snap' every ring rs' ≡ line pair profile program snap every ring rs
+same-line every ring pair pair' profile profile' program program' snap snap' rs rs' a b c d e =
+    ap (λ x. line x profile' program' snap' every ring rs') a ∙ ap (λ x. line pair x program' snap' every ring rs') b
+    ∙ ap (λ x. line pair profile x snap' every ring rs') c ∙ ap (λ x. line pair profile program x every ring rs') d
+    ∙ ap (λ x. line pair profile program snap every ring x) e
 
 -- those at the index and behind it are as they were
 pub rest-here : (f : Line → Line) (ls : List Line) (i : ℕ) (d : Line) → i < length ls → get_or ls i d ≡ get_or (map f (take i ls) ++ drop i ls) i d

@@ -7,6 +7,7 @@ mod Fresh
 mod Lists
 mod Played
 mod Refused
+mod Rings
 mod Served
 mod Settles
 mod Timely

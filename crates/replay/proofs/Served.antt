@@ -5,7 +5,6 @@ use Rattle.listener.specs.LookingBack.{all_accepted, count, is_arrival}
 use Rattle.listener.specs.Messages.{Arrival}
 use Rattle.listener.specs.declared.answer.Fed.TheVariants.{Passed, Stored, Held, Rotated, Dropped, Closed}
 use Rattle.handover.specs.Asks.{asks}
-use Rattle.handover.specs.Ends.{FeedingEnded}
 use Rattle.handover.specs.History.{by_kind, finds, kind}
 use Rattle.handover.specs.Own.{received_in}
 use Rattle.handover.specs.Rule.{profile_of}
@@ -18,6 +17,7 @@ use Rattle.replay.specs.Playing.{asked, asking_of}
 use Rattle.replay.specs.Replayed.{IsServed}
 use Rattle.replay.specs.Reports.{IsReported}
 use Rattle.replay.specs.declared.crew.Crew.{Crew}
+use Rattle.replay.specs.declared.ending.Ending.{Ending}
 use Rattle.replay.specs.declared.report.ListenerReport.{ListenerReport}
 use Rattle.replay.specs.declared.task.Task.{Task}
 use Rattle.replay.specs.Writing.{IsTimely}
@@ -58,18 +58,18 @@ served taken failures playlist task feeds takes r fed past profile reported = re
 }
 
 -- the ended feeders, of which the first is taken, and the tasks that they are of
-pub next-ended : {W : Type 0} (playlist : List Arrival) (ends : List FeedingEnded) (feed : FeedingEnded) (ends' : List FeedingEnded) (crews : List (Crew W)) (crew : Crew W)
-    (crews' : List (Crew W)) → map ended_of ends ≡ ended_all (map (fed_all playlist) (map crew_line crews)) → ends ≡ feed ∷ ends' → crews ≡ crew ∷ crews'
-    → (ended_of feed ≡ ended_line (fed_all playlist (crew_line crew))) × (map ended_of ends' ≡ ended_all (map (fed_all playlist) (map crew_line crews')))
-next-ended {W} playlist ends feed ends' crews crew crews' same e f =
-    let there : map ended_of (feed ∷ ends') ≡ ended_all (map (fed_all playlist) (map crew_line (crew ∷ crews'))) =
-    sym (ap (λ (es : List FeedingEnded). map ended_of es) e) ∙ same ∙ ap (λ (cs : List (Crew W)). ended_all (map (fed_all playlist) (map crew_line cs))) f in
+pub next-ended : {W : Type 0} (playlist : List Arrival) (ends : List Ending) (ending : Ending) (ends' : List Ending) (crews : List (Crew W)) (crew : Crew W)
+    (crews' : List (Crew W)) → map ended_of ends ≡ ended_all (map (fed_all playlist) (map crew_line crews)) → ends ≡ ending ∷ ends' → crews ≡ crew ∷ crews'
+    → (ended_of ending ≡ ended_line (fed_all playlist (crew_line crew))) × (map ended_of ends' ≡ ended_all (map (fed_all playlist) (map crew_line crews')))
+next-ended {W} playlist ends ending ends' crews crew crews' same e f =
+    let there : map ended_of (ending ∷ ends') ≡ ended_all (map (fed_all playlist) (map crew_line (crew ∷ crews'))) =
+    sym (ap (λ (es : List Ending). map ended_of es) e) ∙ same ∙ ap (λ (cs : List (Crew W)). ended_all (map (fed_all playlist) (map crew_line cs))) f in
     (cc, cc)
 
 -- what a feeder's messages are, by what it was asked for
-pub ended-timely : {W : Type 0} (playlist : List Arrival) (feed : FeedingEnded) (crew : Crew W) → All (λ (a : Arrival). IsTimely a.packet.nanos) playlist
-    → ended_of feed ≡ ended_line (fed_all playlist (crew_line crew)) → All (λ m. IsTimely m.nanos) (all_accepted (asks feed.feeds))
-ended-timely playlist feed crew timely e =
+pub ended-timely : {W : Type 0} (playlist : List Arrival) (ending : Ending) (crew : Crew W) → All (λ (a : Arrival). IsTimely a.packet.nanos) playlist
+    → ended_of ending ≡ ended_line (fed_all playlist (crew_line crew)) → All (λ m. IsTimely m.nanos) (all_accepted (asks ending.feed.feeds))
+ended-timely playlist ending crew timely e =
     subst (λ rs. All (λ m. IsTimely m.nanos) (all_accepted rs)) (sym (ap (λ (l : EndedLine). l.asks) e)) (asked-timely (asking_of crew.task.value) playlist timely)
 
 -- the links of pairs, of which the first is taken, and the tasks that they are of

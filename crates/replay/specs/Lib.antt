@@ -1,6 +1,7 @@
 pub mod Arrived
 pub mod Captures
 pub mod Crews
+pub mod Leaving
 pub mod Lines
 pub mod PlayedOut
 pub mod Playing
@@ -8,6 +9,7 @@ pub mod Reading
 pub mod Refusals
 pub mod Replayed
 pub mod Reports
+pub mod Rings
 pub mod Rooms
 pub mod Runs
 pub mod RunsEnded

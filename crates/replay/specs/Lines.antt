@@ -4,18 +4,20 @@ use Rattle.atomic_table.specs.Seated.{TableId}
 use Rattle.listener.specs.Messages.{Arrival}
 use Rattle.listener.specs.PlainList.{Request}
 use Rattle.handover.specs.Asks.{asks}
-use Rattle.handover.specs.Ends.{FeedingEnded}
 use Rattle.handover.specs.declared.view.Profile.{Profile}
 use Rattle.replay.specs.Playing.{Asking, asked, asked_at}
+use Rattle.replay.specs.Rings.{Ring, ring_of}
+use Rattle.replay.specs.declared.ending.Ending.{Ending}
 use Rattle.replay.specs.declared.inlet.Entry.{Entry}
 use Rattle.replay.specs.declared.inlet.Inlet.{Inlet}
 use Rattle.replay.specs.declared.player.Player.{Player}
 
--- A feeder: its pair, its buffers and mode, what it is asked by, and what it was asked.
+-- A feeder: its pair, its buffers and mode, what it is asked by, the ring that its rest goes into, and what it was asked.
 pub record Line : Type 0 where
   pub pair : TableId
   pub profile : Profile
   pub asking : Asking
+  pub ring : Ring
   pub asks : List Request
 
 abbrev pub line_of : Inlet → Line
@@ -23,6 +25,7 @@ line_of i = record {
   pair = i.feeder.pair;
   profile = i.feeder.profile;
   asking = record { program = i.feeder.program; snap = i.feeder.snap; flush_every = i.flush_every };
+  ring = ring_of i.rest_in.end;
   asks = asks i.feeder.feeds;
 }
 
@@ -32,6 +35,7 @@ entry_line e = record {
   pair = e.feeder.pair;
   profile = e.feeder.profile;
   asking = record { program = e.feeder.program; snap = e.feeder.snap; flush_every = e.flush_every };
+  ring = ring_of e.rest_in.end;
   asks = asks e.feeder.feeds;
 }
 
@@ -40,7 +44,7 @@ abbrev pub IsFresh : Line → Type 0
 IsFresh l = l.asks ≡ []
 
 abbrev pub with_asks : Line → List Request → Line
-with_asks l rs = record { pair = l.pair; profile = l.profile; asking = l.asking; asks = rs }
+with_asks l rs = record { pair = l.pair; profile = l.profile; asking = l.asking; ring = l.ring; asks = rs }
 
 -- the feeder behind arrival n
 abbrev pub fed_with : ℕ → Arrival → Line → Line
@@ -50,17 +54,18 @@ fed_with n a l = with_asks l (l.asks ++ asked_at l.asking n a)
 abbrev pub fed_all : List Arrival → Line → Line
 fed_all playlist l = with_asks l (asked l.asking playlist)
 
--- A feeder that has ended: its pair, its buffers and mode, and what it was asked.
+-- A feeder that has ended: its pair, its buffers and mode, the ring that its rest went into, and what it was asked.
 pub record EndedLine : Type 0 where
   pub pair : TableId
   pub profile : Profile
+  pub ring : Ring
   pub asks : List Request
 
-abbrev pub ended_of : FeedingEnded → EndedLine
-ended_of f = record { pair = f.pair; profile = f.profile; asks = asks f.feeds }
+abbrev pub ended_of : Ending → EndedLine
+ended_of e = record { pair = e.feed.pair; profile = e.feed.profile; ring = ring_of e.rest_in.end; asks = asks e.feed.feeds }
 
 abbrev pub ended_line : Line → EndedLine
-ended_line l = record { pair = l.pair; profile = l.profile; asks = l.asks }
+ended_line l = record { pair = l.pair; profile = l.profile; ring = l.ring; asks = l.asks }
 
 abbrev pub ended_all : List Line → List EndedLine
 ended_all ls = map ended_line ls

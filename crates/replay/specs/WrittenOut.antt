@@ -1,5 +1,5 @@
--- What a thread has written of the buffers that came through a ring.
-use Rattle.std.specs.Prelude.{ℕ, List, Option}
+-- What a thread has written of the buffers that came through its rings.
+use Rattle.std.specs.Prelude.{◌++◌, ℕ, List, Option}
 use Rattle.std.specs.declared.alloc.Global.{Global}
 use Rattle.rtrb.specs.Ring.{received, SameConsumer}
 use Rattle.rtrb.specs.declared.AnyItems.{AnyItems}
@@ -11,8 +11,9 @@ use Rattle.replay.specs.Writing.{Writes}
 use Rattle.replay.specs.declared.writing.Output.{Output}
 use Rattle.replay.specs.declared.writer.WriteEnd.{WriteEnd}
 
--- what the buffers popped contain was written
+-- what the buffers popped of the one ring contain was written, and then those of the other, which the rest comes through
 pub record HasWrittenOut {W : Type 0} (taken : W → Option (List ℕ)) (failures : W → ℕ) (o : Output W)
-    (full : Consumer Filled Global AnyItems) (r : WriteEnd W) : Type 0 where
+    (full rest : Consumer Filled Global AnyItems) (r : WriteEnd W) : Type 0 where
   pub ring : SameConsumer full r.full
-  pub writes : Writes taken failures o (joined (messages_of (received r.full))) r.written
+  pub rest_ring : SameConsumer rest r.rest
+  pub writes : Writes taken failures o (joined (messages_of (received r.full)) ++ joined (messages_of (received r.rest))) r.written

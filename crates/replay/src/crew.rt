@@ -24,11 +24,13 @@ pub(crate) struct Stage<W> {
     pub(crate) full_out: Consumer<Buffer>,
     pub(crate) empty_in: Producer<Buffer>,
     pub(crate) empty_out: Consumer<Buffer>,
+    pub(crate) rest_out: Consumer<Buffer>,
     pub(crate) output: Output<W>,
     ghost profile: { drain.profile ≡ profile_of task.value.capacity task.value.mode },
     ghost out: { (output.sink ≡ task.value.sink) × (output.order ≡ task.value.order) × (output.unit ≡ task.value.unit) × (output.snap ≡ task.value.snap) },
     ghost new: { drain.takes ≡ [] },
     ghost ring: { IsPair full_in full_out × (sent full_in ≡ []) × (received full_out ≡ []) },
+    ghost rest: { received rest_out ≡ [] },
 }
 
 /// The two threads of a task.

@@ -1,23 +1,30 @@
 //! The feeders of an interface.
 
-ghost use Rattle.std.specs.Prelude.{◌≡◌};
+ghost use Rattle.std.specs.Prelude.{◌≡◌, ◌<◌, []};
+ghost use Rattle.rtrb.specs.Ring.{known_free, sent};
 
 use crate::link::TaskLink;
 use handover::Feeder;
+use listener::Buffer;
+use rtrb::Producer;
 
-/// A feeder, and after how many arrivals it is flushed.
+/// A feeder, after how many arrivals it is flushed, and where its rest goes once it has ended: what it still has in its store.
 #[derive(Drop)]
 pub(crate) struct Entry {
     pub(crate) feeder: Feeder,
     pub(crate) flush_every: u32,
+    pub(crate) rest_in: Producer<Buffer>,
+    ghost room: { (sent rest_in ≡ []) × (0 < known_free rest_in) },
 }
 
-/// Where packets go into one listener, and after how many arrivals it is flushed.
+/// Where packets go into one listener, after how many arrivals it is flushed, and where its rest goes.
 // The feeder stands first, so that a packet which it rejects takes one address of both.
 #[derive(Drop)]
 pub(crate) struct Inlet<'a> {
     pub(crate) feeder: Feeder,
     pub(crate) link: &'a TaskLink,
     pub(crate) flush_every: u32,
+    pub(crate) rest_in: Producer<Buffer>,
     ghost pair: { feeder.pair ≡ link.now },
+    ghost room: { (sent rest_in ≡ []) × (0 < known_free rest_in) },
 }

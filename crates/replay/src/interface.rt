@@ -41,11 +41,13 @@ fn join_links<'a>(
         let Entry {
             feeder,
             flush_every,
+            rest_in,
         } = entry;
         inlets.push_reserved(Inlet {
             link: &links[k],
             feeder,
             flush_every,
+            rest_in,
         });
     }
     Ok(inlets)

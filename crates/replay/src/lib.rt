@@ -3,6 +3,7 @@
 
 mod check;
 mod crew;
+mod ending;
 mod fault;
 mod gate;
 mod inlet;

@@ -2,17 +2,17 @@
 
 ghost use Rattle.std.specs.Prelude.{◌≡◌, ◌≤◌, ◌-◌, ◌^◌, All, IfSome, List, [], map, length, vec_capacity};
 ghost use Rattle.listener.specs.Messages.{Arrival};
-ghost use Rattle.replay.specs.Lines.{HasArrived, IsFresh, Line, entry_line, ended_all, ended_of, line_of};
+ghost use Rattle.replay.specs.Lines.{HasArrived, IsFresh, Line, entry_line, ended_all, ended_line, ended_of, line_of};
 ghost use Rattle.replay.specs.Captures.{GivesPlaylist};
 ghost use Rattle.replay.specs.PlayedOut.{HasPlayedOut};
 ghost use Rattle.replay.specs.Writing.{IsTimely};
 
+use crate::ending::Ending;
 use crate::gate::Gate;
 use crate::inlet::{Entry, Inlet};
 use crate::launch::Launch;
 use crate::player::Player;
 use crate::report::InterfaceEnd;
-use handover::FeedEnd;
 use savefile::Source;
 use std::alloc::Global;
 use std::snapshot::Snapshot;
@@ -22,7 +22,7 @@ use std::thread::Promise;
 /// What the replaying thread of an interface hands back.
 #[derive(Drop)]
 pub(crate) struct PlayEnd<R> {
-    pub(crate) ends: Vec<FeedEnd>,
+    pub(crate) ends: Vec<Ending>,
     pub(crate) sources: Vec<R>,
     pub(crate) end: InterfaceEnd,
 }
@@ -38,14 +38,31 @@ impl<R: Source> Promise<Option<PlayEnd<R>>> for PlaysOut<R> {
     ghost kept_by = { λ p r. IfSome r (HasPlayedOut R.left R.failures (map entry_line p.entries.value.items) p.captures.value.items) };
 }
 
+#[tactic(auto, using(crate::proofs::Rings::ring_of_same))]
+/// Ends a feeder, and hands its rest to the writer of its task.
+fn end_one(inlet: Inlet<'_>) -> Ending
+    ensures { ended_of result ≡ ended_line (line_of inlet.entry) }
+{
+    let Inlet {
+        feeder,
+        link,
+        flush_every: _,
+        mut rest_in,
+    } = inlet;
+    let (feed, rest) = feeder.end(link.pair());
+    rest_in.push_reserved(rest);
+    link.wake_reader();
+    link.wake_writer();
+    Ending { feed, rest_in }
+}
+
 /// Ends all feeders.
-fn end_all(inlets: Vec<Inlet<'_>>, mut ends: Vec<FeedEnd>) -> Vec<FeedEnd>
+fn end_all(inlets: Vec<Inlet<'_>>, mut ends: Vec<Ending>) -> Vec<Ending>
     requires room { (length ends.items ≡ 0) × (length inlets.items ≤ vec_capacity ends) }
     ensures { map ended_of result.items ≡ ended_all (map line_of inlets.entry.items) }
 {
     for inlet in inlets {
-        ends.push_reserved(inlet.feeder.end(inlet.link.pair()));
-        inlet.link.wake_reader();
+        ends.push_reserved(end_one(inlet));
     }
     ends
 }
@@ -59,7 +76,7 @@ pub(crate) fn play_out<S: Source + Drop, G: Gate, R: Wait>(
     interface: u32,
     inlets: Vec<Inlet<'_>>,
     captures: Vec<S>,
-    ends: Vec<FeedEnd>,
+    ends: Vec<Ending>,
     sources: Vec<S>,
 ) -> Option<PlayEnd<S>>
     requires fresh { All IsFresh (map line_of inlets.items) }

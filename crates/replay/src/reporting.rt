@@ -11,6 +11,7 @@ ghost use Rattle.replay.specs.Writing.{IsTimely};
 ghost use Rattle.replay.specs.declared.fault.RunFault.TheVariants.{NoStart};
 
 use crate::crew::Crew;
+use crate::ending::Ending;
 use crate::fault::RunFault;
 use crate::link::TaskLink;
 use crate::playing::PlayEnd;
@@ -18,7 +19,6 @@ use crate::ready::Running;
 use crate::report::{InterfaceReport, ListenerReport};
 use crate::settling::settled;
 use crate::threads::finish;
-use handover::FeedEnd;
 use savefile::{Sink, Source};
 use std::thread::Threads;
 
@@ -26,7 +26,7 @@ use std::thread::Threads;
 fn report_tasks<W: Sink + Drop, R: Threads>(
     rt: &R,
     links: Vec<TaskLink>,
-    ends: Vec<FeedEnd>,
+    ends: Vec<Ending>,
     crews: Vec<Crew<W>>,
     mut reports: Vec<ListenerReport<W>>,
 ) -> Result<Vec<ListenerReport<W>>, RunFault>
@@ -45,13 +45,13 @@ fn report_tasks<W: Sink + Drop, R: Threads>(
         let Some(link) = links.next() else {
             unreachable!()
         };
-        let Some(feed) = ends.next() else {
+        let Some(ending) = ends.next() else {
             unreachable!()
         };
         let Some(done) = finish(rt, crew) else {
             return Err(RunFault::NoStart);
         };
-        reports.push_reserved(settled(link, feed, done));
+        reports.push_reserved(settled(link, ending, done));
     }
     Ok(reports)
 }

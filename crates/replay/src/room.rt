@@ -5,9 +5,9 @@ ghost use Rattle.replay.specs.Rooms.{HasRoom};
 ghost use Rattle.replay.specs.declared.fault.RunFault.TheVariants.{NoStart};
 
 use crate::crew::Crew;
+use crate::ending::Ending;
 use crate::fault::RunFault;
 use crate::report::ListenerReport;
-use handover::FeedEnd;
 use savefile::Sink;
 use std::alloc::Global;
 
@@ -15,7 +15,7 @@ use std::alloc::Global;
 #[derive(Drop)]
 pub(crate) struct Room<R, W: Sink + Drop> {
     pub(crate) sources: Vec<R>,
-    pub(crate) ends: Vec<FeedEnd>,
+    pub(crate) ends: Vec<Ending>,
     pub(crate) crews: Vec<Crew<W>>,
     pub(crate) reports: Vec<ListenerReport<W>>,
 }

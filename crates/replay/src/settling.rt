@@ -1,37 +1,83 @@
 //! What is left once the threads of a task have ended.
 
-ghost use Rattle.std.specs.Prelude.{◌≡◌, ◌↔◌, ◌⊎◌, List, ◌++◌, length, true, false, All};
+ghost use Rattle.std.specs.Prelude.{◌≡◌, ◌↔◌, ◌⊎◌, List, [], ◌++◌, length, true, false, All, IfSome};
 ghost use Rattle.handover.specs.Asks.{asks};
 ghost use Rattle.handover.specs.Rule.{profile_of};
 ghost use Rattle.listener.specs.LookingBack.{all_accepted};
-ghost use Rattle.rtrb.specs.Ring.{known_items};
+ghost use Rattle.rtrb.specs.Ring.{known_items, received, sent, IsFinishedOf, IsPair};
 ghost use Rattle.listener.specs.Laws.{joined};
 ghost use Rattle.listener.specs.declared.message.Message.{Message};
 ghost use Rattle.replay.specs.Crews.{IsDone};
+ghost use Rattle.replay.specs.Leaving.{HasLeft};
 ghost use Rattle.replay.specs.Reading.{messages_of};
 ghost use Rattle.replay.specs.Reports.{IsReported};
+ghost use Rattle.replay.specs.Rings.{ring_of};
 ghost use Rattle.replay.specs.Writing.{IsTimely, Writes};
 ghost use Rattle.replay.specs.declared.writing.Output.{Output};
 
 use crate::crew::Done;
+use crate::ending::Ending;
 use crate::link::TaskLink;
 use crate::reading::{ReadEnd, Stop};
 use crate::report::{ListenerReport, TaskEnd};
 use crate::writer::WriteEnd;
 use crate::writing::Written;
-use handover::{FeedEnd, Past, Settled, settle};
+use handover::{Past, Settled, settle};
 use listener::{Buffer, Counts};
-use rtrb::Consumer;
+use rtrb::{Consumer, Finished, Producer};
 use savefile::Sink;
 
+/// How many buffers a writer thread left in its rings: of what was read, and of the rest.
+#[derive(Clone, Copy)]
+struct Left {
+    read: usize,
+    rest: usize,
+}
+
+/// Whether so much that is left can be written: the rest comes last, so what was read and the hold can't come behind it.
+fn is_in_order(left: &Left, hold: &Buffer) -> bool
+    ensures { result ≡ true → left.now.rest ≡ 0 → (left.now.read ≡ 0) × (hold.now.messages ≡ []) }
+{
+    left.rest != 0 || (left.read == 0 && hold.is_empty())
+}
+
+/// What is left in the rings of what was read and of the rest, where the end of the first was handed over and it can be written.
+fn left_in(
+    full: &mut Consumer<Buffer>,
+    finished: Option<Finished<Buffer>>,
+    rest: &mut Consumer<Buffer>,
+    mut rest_in: Producer<Buffer>,
+    hold: &Buffer,
+) -> Option<Left>
+    requires full { IfSome finished (λ f. IsFinishedOf f full.old) }
+    requires rest { IsPair rest_in rest.old }
+    ensures popped { (received full.new ≡ received full.old) × (received rest.new ≡ received rest.old) }
+    ensures full { IfSome result (λ left. HasLeft finished full.new left.read) }
+    ensures rest { IfSome result (λ left. (received rest.new ++ known_items rest.new ≡ sent rest_in) × (left.rest ≡ length (known_items rest.new))) }
+    ensures order { IfSome result (λ left. left.rest ≡ 0 → (left.read ≡ 0) × (hold.now.messages ≡ [])) }
+{
+    let Some(mut finished) = finished else {
+        return None;
+    };
+    let left = Left {
+        read: full.slots_after(&mut finished),
+        rest: rest.slots_beside(&mut rest_in),
+    };
+    if is_in_order(&left, hold) {
+        Some(left)
+    } else {
+        None
+    }
+}
+
 /// Writes the buffers that are left in the ring.
-fn write_left<W: Sink>(written: &mut Written<W>, full: &mut Consumer<Buffer>, left: usize)
-    requires { left ≡ length (known_items full.old) }
+fn write_left<W: Sink>(written: &mut Written<W>, ring: &mut Consumer<Buffer>, left: usize)
+    requires { left ≡ length (known_items ring.old) }
     ensures { (output : Output W) (messages : List Message) → Writes W.taken W.failures output messages written.old →
-        Writes W.taken W.failures output (messages ++ joined (messages_of (known_items full.old))) written.new }
+        Writes W.taken W.failures output (messages ++ joined (messages_of (known_items ring.old))) written.new }
 {
     for _ in 0..left {
-        written.put_all(&full.pop_known());
+        written.put_all(&ring.pop_known());
     }
 }
 
@@ -79,20 +125,23 @@ fn report<W: Sink>(
     }
 }
 
-/// Settles the two ends, and writes what the writer thread left: the buffers in the ring, the hold and the rest.
+/// Settles the two ends. What the writer thread left is written: buffers in the ring of what was read, the hold, and the rest. Where
+/// no thread broke off, it has left nothing.
 pub(crate) fn settled<W: Sink + Drop>(
     link: TaskLink,
-    feed: FeedEnd,
+    ending: Ending,
     done: Done<W>,
 ) -> ListenerReport<W>
-    requires pair { (feed.pair ≡ link) × (done.read.drain.pair ≡ link) }
-    requires profile { feed.profile ≡ profile_of done.task.value.capacity done.task.value.mode }
-    requires timely { All (λ m. IsTimely m.nanos) (all_accepted (asks feed.feeds)) }
+    requires pair { (ending.feed.pair ≡ link) × (done.read.drain.pair ≡ link) }
+    requires profile { ending.feed.profile ≡ profile_of done.task.value.capacity done.task.value.mode }
+    requires ring { ring_of ending.rest_in.end ≡ ring_of done.write.rest.end }
+    requires timely { All (λ m. IsTimely m.nanos) (all_accepted (asks ending.feed.feeds)) }
     requires done { IsDone W.taken W.failures done }
-    ensures report { IsReported W.taken W.failures done.task.value feed.feeds done.read.drain.takes result }
-    ensures past { (result.past.pair ≡ done.read.drain.pair) × (result.past.feeds ≡ feed.feeds) × (result.past.takes ≡ done.read.drain.takes)
-        × (result.past.profile ≡ feed.profile) }
+    ensures report { IsReported W.taken W.failures done.task.value ending.feed.feeds done.read.drain.takes result }
+    ensures past { (result.past.pair ≡ done.read.drain.pair) × (result.past.feeds ≡ ending.feed.feeds) × (result.past.takes ≡ done.read.drain.takes)
+        × (result.past.profile ≡ ending.feed.profile) }
 {
+    let Ending { feed, rest_in } = ending;
     let Done {
         task: _,
         read,
@@ -106,21 +155,16 @@ pub(crate) fn settled<W: Sink + Drop>(
     let WriteEnd {
         mut written,
         mut full,
+        mut rest,
     } = write;
-    let Settled {
-        hold,
-        rest,
-        counts,
-        past,
-    } = settle(link.into_pair(), feed, drain);
-    let Some(mut finished) = finished else {
+    let Settled { hold, counts, past } = settle(link.into_pair(), feed, drain);
+    let Some(left) = left_in(&mut full, finished, &mut rest, rest_in, &hold) else {
         return report(written, counts, TaskEnd::Unfinished, past);
     };
-    let left = full.slots_after(&mut finished);
     // Behind a fault nothing more is written.
-    write_left(&mut written, &mut full, left);
+    write_left(&mut written, &mut full, left.read);
     written.put_all(&hold);
-    written.put_all(&rest);
+    write_left(&mut written, &mut rest, left.rest);
     written.flush();
     let end = end_of(stop, written.works, written.writer.sent());
     report(written, counts, end, past)

@@ -2,10 +2,10 @@
 
 ghost use Rattle.std.specs.Prelude.{◌≡◌, All, IfErr, IfOk};
 ghost use Rattle.std.specs.List.{AllZip};
+ghost use Rattle.replay.specs.Crews.{stage_line};
 ghost use Rattle.replay.specs.Lines.{entry_line};
 ghost use Rattle.replay.specs.Refusals.{IsInBounds};
 ghost use Rattle.replay.specs.Setups.{HasLinks, IsLaidFor};
-ghost use Rattle.replay.specs.Tasks.{line_for};
 ghost use Rattle.replay.specs.declared.fault.RunFault.TheVariants.{NoStart};
 
 use crate::crew::Stage;
@@ -53,7 +53,7 @@ fn spare_buffers(
 fn make<W: Sink + Drop>(alloc: Global, task: Task<W>) -> Result<Made<W>, RunFault>
     ensures task { IfOk result (λ m. m.stage.task.value ≡ task) }
     ensures pair { IfOk result (λ m. m.stage.drain.pair ≡ m.link) }
-    ensures line { IfOk result (λ m. entry_line m.entry ≡ line_for m.link task) }
+    ensures line { IfOk result (λ m. entry_line m.entry ≡ stage_line m.stage) }
     ensures refused { IfErr result (λ fault. fault ≡ NoStart) }
 {
     let about = Snapshot::of(&task);
@@ -73,6 +73,7 @@ fn make<W: Sink + Drop>(alloc: Global, task: Task<W>) -> Result<Made<W>, RunFaul
     };
     let (full_in, full_out) = RingBuffer::new(alloc, spares)?;
     let (empty_in, empty_out) = spare_buffers(alloc, spares, capacity)?;
+    let (rest_in, rest_out) = RingBuffer::new(alloc, 1)?;
     let stage = Stage {
         task: about,
         drain,
@@ -80,6 +81,7 @@ fn make<W: Sink + Drop>(alloc: Global, task: Task<W>) -> Result<Made<W>, RunFaul
         full_out,
         empty_in,
         empty_out,
+        rest_out,
         output: Output {
             sink,
             order,
@@ -92,6 +94,7 @@ fn make<W: Sink + Drop>(alloc: Global, task: Task<W>) -> Result<Made<W>, RunFaul
         entry: Entry {
             feeder,
             flush_every,
+            rest_in,
         },
         stage,
     })

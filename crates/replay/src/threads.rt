@@ -1,7 +1,8 @@
 //! Starting the two threads of a task, and waiting for them.
 
 ghost use Rattle.std.specs.Prelude.{◌≡◌, IfOk, IfErr, IfSome};
-ghost use Rattle.replay.specs.Crews.{IsDone, crew_pair};
+ghost use Rattle.rtrb.specs.Ring.{SameConsumer};
+ghost use Rattle.replay.specs.Crews.{IsDone, crew_line, crew_pair, stage_line};
 ghost use Rattle.replay.specs.declared.fault.RunFault.TheVariants.{NoStart};
 
 use crate::crew::{Crew, Done, Stage};
@@ -35,6 +36,7 @@ pub(crate) fn start<
 ) -> Result<Crew<W>, RunFault>
     requires { stage.drain.pair ≡ link.now }
     ensures crew { IfOk result (λ c. (c.task.value ≡ stage.task.value) × (crew_pair c ≡ link.now)) }
+    ensures line { IfOk result (λ c. crew_line c ≡ stage_line stage) }
     ensures refused { IfErr result (λ fault. fault ≡ NoStart) }
 {
     let Stage {
@@ -44,6 +46,7 @@ pub(crate) fn start<
         full_out,
         empty_in,
         empty_out,
+        rest_out,
         output,
     } = stage;
     let reads = ReadsOut {
@@ -53,6 +56,7 @@ pub(crate) fn start<
     let writes = WritesOut {
         output: Snapshot::of(&output),
         full: Snapshot::of(&full_out),
+        rest: Snapshot::of(&rest_out),
     };
     let Ok(reader) = scope.spawn_with(
         reads,
@@ -71,7 +75,7 @@ pub(crate) fn start<
     };
     let Ok(writer) = scope.spawn_with(
         writes,
-        move || write_out(rt, launch, link, output, full_out, empty_in),
+        move || write_out(rt, launch, link, output, full_out, empty_in, rest_out),
     ) else {
         return Err(RunFault::NoStart);
     };
@@ -86,6 +90,7 @@ pub(crate) fn start<
 pub(crate) fn finish<W: Sink + Drop, R: Threads>(rt: &R, crew: Crew<W>) -> Option<Done<W>>
     ensures task { IfSome result (λ done. done.task.value ≡ crew.task.value) }
     ensures pair { IfSome result (λ done. done.read.drain.pair ≡ crew_pair crew) }
+    ensures rest { IfSome result (λ done. SameConsumer crew.writer.promise.rest.value done.write.rest) }
     ensures done { IfSome result (IsDone W.taken W.failures) }
 {
     let Crew {

@@ -1,8 +1,10 @@
 //! The thread that writes what was read.
 
-ghost use Rattle.std.specs.Prelude.{◌≡◌, IfSome, List, []};
-ghost use Rattle.rtrb.specs.Ring.{received};
+ghost use Rattle.std.specs.Prelude.{◌≡◌, ◌++◌, IfSome, List, []};
+ghost use Rattle.rtrb.specs.Ring.{received, SameConsumer};
+ghost use Rattle.listener.specs.Laws.{joined};
 ghost use Rattle.listener.specs.declared.message.Message.{Message};
+ghost use Rattle.replay.specs.Reading.{messages_of};
 ghost use Rattle.replay.specs.Writing.{Writes};
 ghost use Rattle.replay.specs.declared.writing.Output.{Output};
 ghost use Rattle.replay.specs.WrittenOut.{HasWrittenOut};
@@ -24,17 +26,20 @@ pub(crate) struct WriteEnd<W> {
     pub(crate) written: Written<W>,
     /// May have buffers that were not written.
     pub(crate) full: Consumer<Buffer>,
+    /// The same of the rest.
+    pub(crate) rest: Consumer<Buffer>,
 }
 
-/// A writer thread hands back what it wrote into this savefile, out of this ring; nothing where a thread was refused.
+/// A writer thread hands back what it wrote into this savefile, out of these rings; nothing where a thread was refused.
 #[derive(Drop)]
 pub(crate) struct WritesOut<W> {
     pub(crate) output: Snapshot<Output<W>>,
     pub(crate) full: Snapshot<Consumer<Buffer>>,
+    pub(crate) rest: Snapshot<Consumer<Buffer>>,
 }
 
 impl<W: Sink> Promise<Option<WriteEnd<W>>> for WritesOut<W> {
-    ghost kept_by = { λ p r. IfSome r (HasWrittenOut W.taken W.failures p.output.value p.full.value) };
+    ghost kept_by = { λ p r. IfSome r (HasWrittenOut W.taken W.failures p.output.value p.full.value p.rest.value) };
 }
 
 /// Gives an empty buffer back. Where nobody takes it, it is let go.
@@ -58,23 +63,20 @@ fn wait<W: Sink, R: Wait>(
     patience.wait(rt, &link.writer);
 }
 
-/// Writes what comes through the ring, until its other end is dropped and nothing is in it, or a fault came. The sink hands on what
-/// it has gathered before the thread parks, and in the end. Where a thread was refused, it does nothing.
-pub(crate) fn write_out<W: Sink + Drop, R: Wait>(
+/// Writes what comes through the ring of what is read, until its other end is dropped and nothing is in it, or a fault came. The
+/// buffers go back, empty.
+fn write_read<W: Sink, R: Wait>(
     rt: &R,
-    launch: &Launch,
     link: &TaskLink,
-    output: Output<W>,
-    mut full: Consumer<Buffer>,
+    written: &mut Written<W>,
+    full: &mut Consumer<Buffer>,
     mut empty: Producer<Buffer>,
-) -> Option<WriteEnd<W>>
-    requires { received full ≡ [] }
-    ensures { IfSome result (HasWrittenOut W.taken W.failures output full) }
+)
+    ensures ring { SameConsumer full.old full.new }
+    ensures writes { (output : Output W) (messages : List Message) →
+        Writes W.taken W.failures output (messages ++ joined (messages_of (received full.old))) written.old →
+        Writes W.taken W.failures output (messages ++ joined (messages_of (received full.new))) written.new }
 {
-    if !launch.is_whole(rt) {
-        return None;
-    }
-    let mut written = Written::open(output);
     let mut last = false;
     let mut patience = Patience::new();
     for _ in rt.forever() {
@@ -95,13 +97,63 @@ pub(crate) fn write_out<W: Sink + Drop, R: Wait>(
                 // Something may have come before the other end was dropped: look once more.
                 last = full.is_abandoned();
                 if !last {
-                    wait(rt, link, &mut written, &mut patience);
+                    wait(rt, link, written, &mut patience);
                 }
             }
         }
     }
-    drop(empty);
+}
+
+/// Writes the rest, which comes once the feeder has ended, where no fault came.
+fn write_rest<W: Sink, R: Wait>(
+    rt: &R,
+    link: &TaskLink,
+    written: &mut Written<W>,
+    rest: &mut Consumer<Buffer>,
+)
+    ensures ring { SameConsumer rest.old rest.new }
+    ensures writes { (output : Output W) (messages : List Message) →
+        Writes W.taken W.failures output (messages ++ joined (messages_of (received rest.old))) written.old →
+        Writes W.taken W.failures output (messages ++ joined (messages_of (received rest.new))) written.new }
+{
+    let mut patience = Patience::new();
+    for _ in rt.forever() {
+        if !written.works {
+            return;
+        }
+        if let Ok(buffer) = rest.pop() {
+            written.put_all(&buffer);
+            return;
+        }
+        wait(rt, link, written, &mut patience);
+    }
+}
+
+/// Writes what is read, and last the rest. The sink hands on what it has gathered before the thread parks, and in the end. Where a
+/// thread was refused, it does nothing.
+pub(crate) fn write_out<W: Sink + Drop, R: Wait>(
+    rt: &R,
+    launch: &Launch,
+    link: &TaskLink,
+    output: Output<W>,
+    mut full: Consumer<Buffer>,
+    empty: Producer<Buffer>,
+    mut rest: Consumer<Buffer>,
+) -> Option<WriteEnd<W>>
+    requires { (received full ≡ []) × (received rest ≡ []) }
+    ensures { IfSome result (HasWrittenOut W.taken W.failures output full rest) }
+{
+    if !launch.is_whole(rt) {
+        return None;
+    }
+    let mut written = Written::open(output);
+    write_read(rt, link, &mut written, &mut full, empty);
     link.wake_reader();
+    write_rest(rt, link, &mut written, &mut rest);
     written.flush();
-    Some(WriteEnd { written, full })
+    Some(WriteEnd {
+        written,
+        full,
+        rest,
+    })
 }

@@ -101,7 +101,7 @@ fn a_flush_and_the_letter_let_a_packet_be_read_at_once(rt: HostRuntime) -> Resul
 fn nothing_done(alloc: Global) -> Result<Past, Fail> {
     let rejecting = read_listing(b"1\n6 0 0 0\n")?;
     let (link, feeder, drain) = pair(alloc, rejecting, 96, 4096)?;
-    let feed_end = feeder.end(&link);
+    let (feed_end, _rest) = feeder.end(&link);
     let drain_end = drain.close(&link);
     Ok(settle(link, feed_end, drain_end).past)
 }

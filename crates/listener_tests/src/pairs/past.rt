@@ -9,7 +9,7 @@ use std::test::Fail;
 fn a_past_prints_its_name_alone(rt: HostRuntime) -> Result<(), Fail> {
     let alloc = rt.alloc();
     let (link, feeder, drain) = pair(alloc, keeping(32)?, 96, 4096)?;
-    let feed_end = feeder.end(&link);
+    let (feed_end, _rest) = feeder.end(&link);
     let drain_end = drain.close(&link);
     let left = settle(link, feed_end, drain_end);
     let printed = format!(in alloc; "{:?}", left.past)?;

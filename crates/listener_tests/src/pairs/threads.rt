@@ -99,7 +99,7 @@ fn feed(
     plan: Plan,
     signs: &Signs,
     mut fates: Fates,
-) -> (FeedEnd, Fates)
+) -> (FeedEnd, Buffer, Fates)
     requires { feeder.pair ≡ link.now }
     ensures { result.0.pair ≡ feeder.pair }
 {
@@ -118,7 +118,8 @@ fn feed(
             yield_now();
         }
     }
-    (feeder.end(link), fates)
+    let (feed_end, rest) = feeder.end(link);
+    (feed_end, rest, fates)
 }
 
 /// Puts the places of a buffer's messages behind others.
@@ -172,6 +173,7 @@ fn read_all(
 #[derive(Drop)]
 struct Outcome {
     settled: Settled,
+    rest: Buffer,
     fates: Fates,
     /// The places that were read.
     read: Vec<u64>,
@@ -196,9 +198,9 @@ fn play(
         is_closed: AtomicBool::new(false),
     };
     let signs = &both;
-    let ((feed_end, fates), (drain_end, read, ended)) = join(
+    let ((feed_end, rest, fates), (drain_end, read, ended)) = join(
         rt,
-        move || -> (FeedEnd, Fates)
+        move || -> (FeedEnd, Buffer, Fates)
             requires { feeder.pair ≡ shared.now }
             ensures { result.0.pair ≡ feeder.pair }
         { feed(shared, feeder, plan, signs, fates) },
@@ -214,6 +216,7 @@ fn play(
     );
     Ok(Outcome {
         settled: settle(link, feed_end, drain_end),
+        rest,
         fates,
         read,
         ended,
@@ -237,13 +240,14 @@ fn run(
 ) -> Result<(Vec<u64>, bool), OpenFault> {
     let Outcome {
         settled,
+        rest,
         fates,
         read,
         ended,
     } = play(rt, plan)?;
     let mut kept = read;
     note(&settled.hold, &mut kept);
-    note(&settled.rest, &mut kept);
+    note(&rest, &mut kept);
     assert!(rt; kept.as_slice() == fates.stored.as_slice());
     are_counted(rt, &fates, settled.counts, plan);
     Ok((kept, ended))

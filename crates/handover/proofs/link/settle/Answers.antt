@@ -1,5 +1,4 @@
-use Rattle.std.proofs.Common.{◌≡◌, [], arith, sym, ap, ◌∙◌, subst}
-use Rattle.listener.specs.Buffers.{filled}
+use Rattle.std.proofs.Common.{◌≡◌, [], arith, refl, sym, ap, ◌∙◌, subst}
 use Rattle.handover.specs.Ends.{FeedingEnded, AreCountsOfCalls, pair_lists}
 use Rattle.handover.specs.Own.{store_of}
 use Rattle.handover.specs.Rule.{witness}
@@ -25,7 +24,7 @@ split_seat-witness-requires c = (
 
 pub returns-clause-past : goal.returns-clause-past
 returns-clause-past c =
-    let v = c.feeder.inside.stand.seat.me.0 in
+    let v = c.feeder.inside.seat.me.0 in
     let w = c.drain.inside.seat.me.0 in
     let m = c.split_seat-witness.ensures.4 ∙ ap (λ m. (witness m.0, [])) c.join_seat.ensures.2 in
     let id = c.split_seat-witness.ensures.3 ∙ c.join_seat.ensures.0 ∙ ap (λ f. f.pair) c.feeder.view_is ∙ c.requires.0 in
@@ -34,7 +33,7 @@ returns-clause-past c =
 
 pub returns-clause-history : goal.returns-clause-history
 returns-clause-history c =
-    let v = c.feeder.inside.stand.seat.me.0 in
+    let v = c.feeder.inside.seat.me.0 in
     let w = c.drain.inside.seat.me.0 in
     let e = ends_as v w _ _ _ _ _ _ c.feeder.view_is c.drain.view_is
     (ends_well _ _ v w _ _ _ c.take-hold.result (ap (λ m. m.0) (c.split_seat-witness.ensures.2 ∙ c.join_seat.ensures.2)) c.feeder.invariant.0.calm c.drain.invariant.calm c.close_with-closed.ensures.values.2 c.take-hold.ensures.value) in
@@ -42,7 +41,7 @@ returns-clause-history c =
 
 pub returns-clause-order : goal.returns-clause-order
 returns-clause-order c =
-    let v = c.feeder.inside.stand.seat.me.0 in
+    let v = c.feeder.inside.seat.me.0 in
     let w = c.drain.inside.seat.me.0 in
     let e = ends_as v w _ _ _ _ _ _ c.feeder.view_is c.drain.view_is
     (ends_well _ _ v w _ _ _ c.take-hold.result (ap (λ m. m.0) (c.split_seat-witness.ensures.2 ∙ c.join_seat.ensures.2)) c.feeder.invariant.0.calm c.drain.invariant.calm c.close_with-closed.ensures.values.2 c.take-hold.ensures.value) in
@@ -50,7 +49,7 @@ returns-clause-order c =
 
 pub returns-clause-hold : goal.returns-clause-hold
 returns-clause-hold c =
-    let v = c.feeder.inside.stand.seat.me.0 in
+    let v = c.feeder.inside.seat.me.0 in
     let w = c.drain.inside.seat.me.0 in
     let e = ends_as v w _ _ _ _ _ _ c.feeder.view_is c.drain.view_is
     (ends_well _ _ v w _ _ _ c.take-hold.result (ap (λ m. m.0) (c.split_seat-witness.ensures.2 ∙ c.join_seat.ensures.2)) c.feeder.invariant.0.calm c.drain.invariant.calm c.close_with-closed.ensures.values.2 c.take-hold.ensures.value) in
@@ -58,16 +57,16 @@ returns-clause-hold c =
 
 pub returns-clause-rest : goal.returns-clause-rest
 returns-clause-rest c =
-    let v = c.feeder.inside.stand.seat.me.0 in
+    let v = c.feeder.inside.seat.me.0 in
     let w = c.drain.inside.seat.me.0 in
     let e = ends_as v w _ _ _ _ _ _ c.feeder.view_is c.drain.view_is
     (ends_well _ _ v w _ _ _ c.take-hold.result (ap (λ m. m.0) (c.split_seat-witness.ensures.2 ∙ c.join_seat.ensures.2)) c.feeder.invariant.0.calm c.drain.invariant.calm c.close_with-closed.ensures.values.2 c.take-hold.ensures.value) in
-    let rest = ends_rest _ _ _ _ _ e.0 (subst (λ (f : FeedingEnded). c.feeder.inside.stand.store ≡ filled f.profile.capacity (store_of f.feeds)) c.feeder.view_is c.feeder.invariant.0.store) in
+    let rest = ends_rest _ _ _ _ c.args.feeder.store e.0 (subst (λ (f : FeedingEnded). f.store ≡ store_of f.feeds) c.feeder.view_is refl) in
     rest
 
 pub returns-clause-counts : goal.returns-clause-counts
 returns-clause-counts c =
-    let v = c.feeder.inside.stand.seat.me.0 in
+    let v = c.feeder.inside.seat.me.0 in
     let w = c.drain.inside.seat.me.0 in
     let e = ends_as v w _ _ _ _ _ _ c.feeder.view_is c.drain.view_is
     (ends_well _ _ v w _ _ _ c.take-hold.result (ap (λ m. m.0) (c.split_seat-witness.ensures.2 ∙ c.join_seat.ensures.2)) c.feeder.invariant.0.calm c.drain.invariant.calm c.close_with-closed.ensures.values.2 c.take-hold.ensures.value) in
@@ -76,10 +75,10 @@ returns-clause-counts c =
 
 pub returns-clause-whole : goal.returns-clause-whole
 returns-clause-whole c =
-    let v = c.feeder.inside.stand.seat.me.0 in
+    let v = c.feeder.inside.seat.me.0 in
     let w = c.drain.inside.seat.me.0 in
     let e = ends_as v w _ _ _ _ _ _ c.feeder.view_is c.drain.view_is
     (ends_well _ _ v w _ _ _ c.take-hold.result (ap (λ m. m.0) (c.split_seat-witness.ensures.2 ∙ c.join_seat.ensures.2)) c.feeder.invariant.0.calm c.drain.invariant.calm c.close_with-closed.ensures.values.2 c.take-hold.ensures.value) in
-    let rest = ends_rest _ _ _ _ _ e.0 (subst (λ (f : FeedingEnded). c.feeder.inside.stand.store ≡ filled f.profile.capacity (store_of f.feeds)) c.feeder.view_is c.feeder.invariant.0.store) in
+    let rest = ends_rest _ _ _ _ c.args.feeder.store e.0 (subst (λ (f : FeedingEnded). f.store ≡ store_of f.feeds) c.feeder.view_is refl) in
     let counted = subst (λ (f : FeedingEnded). AreCountsOfCalls c.feeder.inside.counts f.feeds) c.feeder.view_is c.feeder.invariant.1 in
-    ends_whole _ _ _ c.take-hold.result c.feeder.inside.stand.store c.feeder.inside.counts e.0 rest counted
+    ends_whole _ _ _ c.take-hold.result c.args.feeder.store c.feeder.inside.counts e.0 rest counted

@@ -1,6 +1,7 @@
 use Rattle.std.proofs.Common.{sym, ◌∙◌, arith}
 use Rattle.listener.specs.Messages.{arrival}
 use Rattle.replay.specs.Lines.{line_of}
+use Rattle.replay.specs.Rings.{ring_of}
 use Rattle.replay.proofs.Asked.{arrivals-asked, flushed-more, not-flushed, same-line}
 use Rattle.replay.proofs.player.give.Goals as goal
 
@@ -13,7 +14,7 @@ returns-then-is_due c =
     let p = c.args.placed.now in
     let a = c.arrive-fed.ensures in
     let f = c.flush-flushed.ensures in
-    same-line c.args.inlet.now.flush_every _ _ _ _ _ _ _ _ _ _ (f.same.pair ∙ a.same.pair) (f.same.profile ∙ a.same.profile)
+    same-line c.args.inlet.now.flush_every (ring_of c.args.inlet.now.rest_in.end) _ _ _ _ _ _ _ _ _ _ (f.same.pair ∙ a.same.pair) (f.same.profile ∙ a.same.profile)
     (f.same.program ∙ a.same.program) (f.same.snap ∙ a.same.snap)
     (flushed-more (line_of c.args.inlet.now).asking p.n (arrival p.capture p.place p.packet.now) old.feeds c.arrive-fed.new.self.feeds c.flush-flushed.new.self.feeds c.arrive-fed.result c.flush-flushed.result
     f.call.call a.call f.call.feeds f.call.answer (sym c.is_due.ensures ∙ c.if-is_due.true))
@@ -23,6 +24,6 @@ returns-else-is_due c =
     let old = c.args.inlet.now.feeder in
     let p = c.args.placed.now in
     let a = c.arrive-fed.ensures in
-    same-line c.args.inlet.now.flush_every _ _ _ _ _ _ _ _ _ _ a.same.pair a.same.profile a.same.program a.same.snap
+    same-line c.args.inlet.now.flush_every (ring_of c.args.inlet.now.rest_in.end) _ _ _ _ _ _ _ _ _ _ a.same.pair a.same.profile a.same.program a.same.snap
     (not-flushed (line_of c.args.inlet.now).asking p.n (arrival p.capture p.place p.packet.now) old.feeds c.arrive-fed.new.self.feeds c.arrive-fed.result
     a.call (sym c.is_due.ensures ∙ c.if-is_due.false))

@@ -30,7 +30,7 @@ empty (b ∷ bs) e = absurd (omega (arith, e))
 pub returns : goal.returns
 returns g c = λ output messages t.
     let (gone, was, count, writes) = c.loop.invariant in
-    let none = empty (known_items c.loop.full) (omega (arith, count, c.loop-test.false)) in
+    let none = empty (known_items c.loop.ring) (omega (arith, count, c.loop-test.false)) in
     subst (λ (bs : List Filled). Writes g.W.Sink.taken g.W.Sink.failures output (messages ++ joined (messages_of bs)) c.loop.written)
     (sym (append-nil gone) ∙ ap (λ bs. gone ++ bs) (sym none) ∙ sym was)
     (writes output messages t)

@@ -12,7 +12,7 @@ use Rattle.replay.proofs.settling.write_left.Given as goal
 abbrev pub invariant-loop : goal.invariant-loop
 invariant-loop g l =
     (gone : List Filled)
-    × (known_items l.fn.full ≡ gone ++ known_items l.full)
-    × (l.left ≡ l.counter + length (known_items l.full))
+    × (known_items l.fn.ring ≡ gone ++ known_items l.ring)
+    × (l.left ≡ l.counter + length (known_items l.ring))
     × ((output : Output _) (messages : List Message) → Writes g.W.Sink.taken g.W.Sink.failures output messages l.fn.written
     → Writes g.W.Sink.taken g.W.Sink.failures output (messages ++ joined (messages_of gone)) l.written)

@@ -1,0 +1,19 @@
+use Rattle.std.proofs.Common.{rules, ap, sym, ◌∙◌, subst, List, ◌++◌, append_assoc}
+use Rattle.rtrb.specs.Ring.{received}
+use Rattle.listener.specs.Laws.{joined}
+use Rattle.listener.specs.declared.message.Message.{Message}
+use Rattle.replay.specs.Reading.{messages_of}
+use Rattle.replay.specs.Writing.{Writes}
+use Rattle.replay.proofs.Batches.{joins_buffer}
+use Rattle.replay.proofs.writer.write_read.Goals as goal
+
+pub loop-preserved-in-Ok : goal.loop-preserved-in-Ok
+loop-preserved-in-Ok g c = (
+  search rules,
+  (λ output messages t.
+      let so_far = joined (messages_of (received c.loop.full)) in
+      subst (λ (ms : List Message). Writes g.W.Sink.taken g.W.Sink.failures output ms c.put_all.new.self)
+      (append_assoc messages so_far c.in-Ok.buffer.messages
+      ∙ ap (λ ms. messages ++ ms) (sym (ap (λ bs. joined (messages_of bs)) c.in-Ok.ensures.ok.0 ∙ joins_buffer (received c.loop.full) c.in-Ok.buffer)))
+      (c.put_all.ensures output (messages ++ so_far) (c.loop.invariant.1 output messages t))),
+)
