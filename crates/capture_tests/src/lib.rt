@@ -1,7 +1,9 @@
-//! Tests of `cutting` and `lines`: captures that are cut, and faults that are told.
+//! Tests of `cutting`, `lines` and `verdicts` that the program does not show: devices that break, and a page's caller.
 #![tactic(auto)]
 
 #[cfg(test)]
 mod cut;
+#[cfg(test)]
+mod explained;
 #[cfg(test)]
 mod telling;

@@ -1,5 +1,0 @@
-//! Tests of `verdicts`: packets of captures that are explained.
-#![tactic(auto)]
-
-#[cfg(test)]
-mod page;
