@@ -7,9 +7,12 @@
 
   BPFTAP=bpftap tests/program.py    tests another program in place of the repository's own: a path, or a word of the PATH
 
-The last line is `N passed, M failed`; the status is 1 where something failed. Each case runs in a folder of its own.
+The last line is `N passed, M failed`; the status is 1 where something failed. Each case runs in a folder of its own, and as many
+side by side as there are processors, 4 at most.
 """
 import argparse
+import concurrent.futures
+import os
 import pathlib
 import subprocess
 import sys
@@ -40,28 +43,34 @@ def list_cases(groups):
             print(f"  {one.__name__}: {one.__doc__.splitlines()[0]}")
 
 
-def run_case(one, folder):
-    """Runs a case in a folder of its own. How much passed, and a line of each failure; a case that breaks off is one."""
-    folder.mkdir()
+# How many cases run side by side.
+LANES = min(4, os.cpu_count() or 1)
+
+
+def run_case(name, number, folder):
+    """Runs a case of a group in a folder of its own. How much passed, and a line of each failure; a case that breaks off is one."""
+    folder.mkdir(parents=True)
     scene = Scene(folder)
     try:
-        one(scene)
+        CASES[name][number](scene)
     except Exception:
         scene.failures.append(traceback.format_exc().rstrip())
     return scene.passed, scene.failures
 
 
 def run_groups(groups):
-    """Runs groups, each in a temporary folder, and prints what failed. How much passed, and how much did not."""
+    """Runs groups, each case in a temporary folder, and prints what failed. How much passed, and how much did not."""
     passed = failed = 0
-    for name in groups:
-        with tempfile.TemporaryDirectory() as folder:
-            for one in CASES[name]:
-                good, failures = run_case(one, pathlib.Path(folder) / one.__name__)
-                for line in failures:
-                    print(f"{name}, {one.__name__}: {line}")
-                passed += good
-                failed += len(failures)
+    with tempfile.TemporaryDirectory() as top, concurrent.futures.ProcessPoolExecutor(LANES) as pool:
+        started = [
+            (name, one.__name__, pool.submit(run_case, name, number, pathlib.Path(top) / name / one.__name__))
+            for name in groups for number, one in enumerate(CASES[name])]
+        for name, case, done in started:
+            good, failures = done.result()
+            for line in failures:
+                print(f"{name}, {case}: {line}")
+            passed += good
+            failed += len(failures)
     return passed, failed
 
 

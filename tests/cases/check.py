@@ -39,6 +39,13 @@ def a_refused_expression_is_told(scene):
 
 
 @case
+def a_line_of_any_length_goes_out_whole(scene):
+    """A path of so many bytes is told as it is."""
+    for length in (496, 497, 1000):
+        scene.refuse(["check", "-f", "x" * length], 3, "Device " + "x" * length)
+
+
+@case
 def other_numbers_of_words_have_the_usage(scene):
     """What is not one word is told with the usage of `check`, nothing is printed, and the status is 1."""
     for words in WRONG:

@@ -26,6 +26,7 @@ EXPRESSION = "'not (udp port 53 and len > 40) or tcp[tcpflags] & tcp-syn != 0'"
 COMMANDS = [
     f"check -d {EXPRESSION}",
     f"check -x {EXPRESSION}",
+    "check -x 'not port 80 and tcp or port (1 or 2) or -len = ip[1]'",
     "check -f ip.bpf",
     f"explain -e {EXPRESSION} in.pcap",
     "explain -f ip.bpf in.pcap",

@@ -1,5 +1,6 @@
 """`bpftap split`: what is refused before a file is opened, what each OUT has, and what is printed and told."""
 from .common import ARP_RECORD, HEADER, IP_RECORD, ROOT, TCP_RECORD, TORN, UDP_RECORD, VETH, case, header, records, told
+from .stepping import DEEP
 
 T, U = TCP_RECORD, UDP_RECORD
 CAPTURES = {
@@ -26,6 +27,14 @@ REFUSED = [
     # The header of the first capture.
     ("0 kept.pcap\n0 new.pcap\n", "empty.pcap t.pcap", "Capture 0 ShortHeader"),
     ("0 kept.pcap\n0 new.pcap\n", "bad.pcap", "Capture 0 NotSavefile"),
+    # The first bad line, and then the first bad expression
+    *((lines, "none.pcap", fault) for lines, fault in [
+        ("0 ", "Lines 1"), ("0  ip", "Lines 1"), ("\n0 a.pcap", "Lines 1"), ("x a.pcap", "Lines 1"), (" 0 a.pcap", "Lines 1"),
+        ("262145 a.pcap ip\n", "Lines 1"), ("0 a.pcap\n\n0 b.pcap\n", "Lines 2"), (b"0 \xff", "Lines 1"),
+        ("0 a.pcap\n0 b.pcap\n0 a.pcap ip\n", "Lines 3"), ("0 a.pcap tcp and 80\n0 a.pcap\n", "Lines 2"),
+        ("0 a.pcap tcp and 80", "Expression 0 NoQualifier 8"),
+        ("0 a.pcap\n0 b.pcap ip or\n0 c.pcap tcp and 80", "Expression 1 Syntax 5"),
+        (f"0 a.pcap {DEEP}", "Compile 0 TooDeep"), ("0 a.pcap \u00a0", "Expression 0 BadByte 0")]),
 ]
 
 
@@ -136,3 +145,26 @@ def a_header_alone_is_written_where_no_packet_matches(scene):
     scene.put({"in.pcap": HEADER, "arp.pcap": HEADER + ARP_RECORD, "lines.txt": "64 ip.pcap ip\n"})
     scene.expect("split lines.txt in.pcap arp.pcap", out="ip.pcap 0 of 1\n")
     scene.check("header", scene.read("ip.pcap"), header(64))
+
+
+# Big-endian, in nanoseconds: a UDP frame of 1,514 bytes at 2.000001999, of which 38 were captured; and how its record is written.
+BIG_NANO = bytes.fromhex("a1b23c4d 00020004 00000000 00000000 00040000 00000001")
+BIG_UDP = bytes.fromhex("00000002 000007cf 00000026 000005ea") + U[16:]
+LITTLE_UDP = bytes.fromhex("02000000 01000000 26000000 ea050000") + U[16:]
+SHORT_UDP = bytes.fromhex("02000000 01000000 14000000 ea050000") + U[16:36]
+
+
+@case
+def each_part_has_its_packets_of_all_captures(scene):
+    """Of captures in each form, each line by its snapshot length and its expression, which may stand behind a blank alone."""
+    captures = {"0.pcap": HEADER + T + ARP_RECORD, "1.pcap": BIG_NANO + BIG_UDP, "2.pcap": HEADER + T}
+    scene.start({**captures, "lines.txt": "0 tcp.pcap tcp\n020 udp.pcap udp\n0 all.pcap \n"})
+    scene.expect("split lines.txt 0.pcap 1.pcap 2.pcap", out="tcp.pcap 2 of 4\nudp.pcap 1 of 4\nall.pcap 4 of 4\n")
+    for name, wanted in [("tcp.pcap", HEADER + T + T), ("udp.pcap", header(20) + SHORT_UDP),
+                         ("all.pcap", HEADER + T + ARP_RECORD + LITTLE_UDP + T)]:
+        scene.check(name, scene.read(name), wanted)
+    # A line without an expression, and one whose expression has several words
+    scene.start({"in.pcap": HEADER + T + U, "lines.txt": "0 a.pcap\n064 b.pcap \n96 c.pcap udp port 53\n"})
+    scene.expect("split lines.txt in.pcap", out="a.pcap 2 of 2\nb.pcap 2 of 2\nc.pcap 1 of 2\n")
+    for name, wanted in [("a.pcap", HEADER + T + U), ("b.pcap", header(64) + T + U), ("c.pcap", header(96) + U)]:
+        scene.check(name, scene.read(name), wanted)

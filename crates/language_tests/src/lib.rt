@@ -1,20 +1,12 @@
-//! Tests of `filterlang`, of what no contract says: worked examples, the faults of the grammar and their places, that memory
-//! suffices.
+//! Tests of `filterlang` and `canonical`, of what no contract says and the program does not show: which tokens a text has, that
+//! memory suffices, and the callers of their pages.
 #![tactic(auto)]
 
 #[cfg(test)]
-mod faults;
+mod canonical_page;
 #[cfg(test)]
 mod lengths;
 #[cfg(test)]
 mod page;
 #[cfg(test)]
-mod reading;
-#[cfg(test)]
-mod relation_faults;
-#[cfg(test)]
-mod relations;
-#[cfg(test)]
 mod tokens;
-#[cfg(test)]
-mod trees;

@@ -1,4 +1,4 @@
-//! The caller of this crate's page, README.md.
+//! The caller that the page of `filterlang` shows, crates/filterlang/README.md.
 
 use filterlang::{Expr, Fault, parse};
 use std::alloc::Global;

@@ -1,6 +1,5 @@
-//! Which tokens a text has, and how faults are printed.
+//! Which tokens a text has.
 
-use crate::reading::chain;
 use filterlang::{
     Comparison, EthernetAddress, Fault, Joint, Kind, Operator, Parts, Protocol, Side, Token,
     TypeWord, lex,
@@ -356,58 +355,9 @@ fn each_number_and_address_is_one_token(rt: HostRuntime) -> Result<(), Fail> {
     each_is_one_token(&rt, NUMBERS.as_slice())
 }
 
-const FAILING: [(&str, Fault); 34] = [
-    ("tcp é", Fault::BadByte(4)),
-    ("tcpé", Fault::BadByte(3)),
-    ("tcé", Fault::BadWord(0)),
-    ("tcép", Fault::BadWord(0)),
-    ("tcp # udp", Fault::BadByte(4)),
-    ("tcp \u{c} udp", Fault::BadByte(4)),
-    ("len $ 2", Fault::BadByte(4)),
-    ("1:2:3:4:5:6.", Fault::BadByte(11)),
-    (".5", Fault::BadByte(0)),
-    ("TCP", Fault::BadWord(0)),
-    ("tcp length", Fault::BadWord(4)),
-    ("tcp2", Fault::BadWord(0)),
-    ("tcp-synx", Fault::BadWord(4)),
-    ("\\", Fault::BadWord(0)),
-    ("tcp \\sctp", Fault::BadWord(4)),
-    ("\\tcpx", Fault::BadWord(0)),
-    ("\\ tcp", Fault::BadWord(0)),
-    ("0:1:2:3:4:5g", Fault::BadNumber(10)),
-    ("a:b:c:d:e", Fault::BadWord(0)),
-    ("08 = 8", Fault::BadNumber(0)),
-    ("4294967296", Fault::BadNumber(0)),
-    ("040000000000", Fault::BadNumber(0)),
-    ("0x", Fault::BadNumber(0)),
-    ("0x1g", Fault::BadNumber(0)),
-    ("0x100000000", Fault::BadNumber(0)),
-    ("12a", Fault::BadNumber(0)),
-    ("tcp 1.2.3.256", Fault::BadNumber(4)),
-    ("1.2.3.4.5", Fault::BadNumber(0)),
-    ("1.2.", Fault::BadNumber(0)),
-    ("1..2", Fault::BadNumber(0)),
-    ("1.0002", Fault::BadNumber(0)),
-    ("1.0xa", Fault::BadNumber(0)),
-    ("# 08 xyz", Fault::BadByte(0)),
-    ("08 #", Fault::BadNumber(0)),
-];
-
-/// A text has no tokens, with this fault.
-fn refuses(rt: &(impl Abort + AllocGlobal), text: &str, fault: Fault) {
-    assert_eq!(rt; lex(rt.alloc(), text).err(), Some(fault), "{text:?}");
-}
-
-#[test]
-fn the_first_failing_place_is_named(rt: HostRuntime) {
-    for (text, fault) in FAILING.as_slice() {
-        refuses(&rt, text, *fault);
-    }
-}
-
 /// A text of 8,192 bytes has as many tokens as signs.
 fn has_as_many_as_signs(rt: &(impl Abort + AllocGlobal), sign: &str, signs: usize) {
-    let text = chain(rt, "", sign, signs);
+    let text = sign.repeat(rt.alloc(), signs).expect(rt, "memory");
     assert_eq!(rt; text.len(), 8192);
     let tokens = lex(rt.alloc(), text.as_str()).expect(rt, "tokens");
     assert_eq!(rt; tokens.len(), signs, "{sign:?}");
@@ -417,31 +367,4 @@ fn has_as_many_as_signs(rt: &(impl Abort + AllocGlobal), sign: &str, signs: usiz
 fn a_text_has_8192_bytes_at_most(rt: HostRuntime) {
     has_as_many_as_signs(&rt, "(", 8192);
     has_as_many_as_signs(&rt, "1 ", 4096);
-    for sign in ["(", " ", "#"] {
-        refuses(&rt, chain(&rt, "", sign, 8193).as_str(), Fault::TextTooLong);
-    }
-}
-
-#[test]
-fn faults_print_their_name_and_place(rt: HostRuntime) -> Result<(), Fail> {
-    let cases = [
-        (Fault::TextTooLong, "TextTooLong"),
-        (Fault::BadByte(4), "BadByte 4"),
-        (Fault::BadWord(0), "BadWord 0"),
-        (Fault::BadNumber(10), "BadNumber 10"),
-        (Fault::Syntax(6), "Syntax 6"),
-        (Fault::NoQualifier(8), "NoQualifier 8"),
-        (Fault::BadQualifier(1), "BadQualifier 1"),
-        (Fault::BadIdentifier(5), "BadIdentifier 5"),
-        (Fault::NetBits(4), "NetBits 4"),
-        (Fault::OutOfRange(12), "OutOfRange 12"),
-        (Fault::DivideByZero(3), "DivideByZero 3"),
-        (Fault::TooNested(64), "TooNested 64"),
-        (Fault::NoMemory, "NoMemory"),
-    ];
-    for (fault, text) in cases {
-        let printed = format!(in rt.alloc(); "{fault}")?;
-        assert_eq!(rt; printed.as_str(), text);
-    }
-    Ok(())
 }

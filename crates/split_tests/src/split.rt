@@ -1,7 +1,7 @@
 //! Captures that are split, and devices that break.
 
 use cutting::filter::filter;
-use fixtures::captures::{ARP_RECORD, HEADER, TCP, UDP, bytes_of, concat};
+use fixtures::captures::{HEADER, TCP, UDP, bytes_of, concat};
 use fixtures::devices::{BreakingWriter, PiecesReader};
 use savefile::{Counted, Fault, Order, Unit};
 use splitting::part::{Part, PartEnd};
@@ -123,52 +123,8 @@ fn three_parts(
     Ok(parts)
 }
 
-/// Big-endian, in nanoseconds: a UDP frame of 1,514 bytes at 2.000001999, of which 38 were captured.
-const BIG_NANO: &str = "a1b23c4d 00020004 00000000 00000000 00040000 00000001";
-
-const BIG_UDP: &str =
-    "00000002 000007cf 00000026 000005ea ffffffffffff 000102030405 0800 45000018 00000000 40110000 0a000001 0a000002 00350035";
-
-/// The same in a little-endian capture in microseconds, whole and the first 20 bytes of it.
-const LITTLE_UDP: &str =
-    "02000000 01000000 26000000 ea050000 ffffffffffff 000102030405 0800 45000018 00000000 40110000 0a000001 0a000002 00350035";
-
-const SHORT_UDP: &str =
-    "02000000 01000000 14000000 ea050000 ffffffffffff 000102030405 0800 450000180000";
-
 /// The header of a capture of which 20 bytes are kept.
 const HEADER_20: &str = "d4c3b2a1 02000400 00000000 00000000 14000000 01000000";
-
-#[test]
-fn each_part_has_its_packets_of_all_captures(rt: HostRuntime) -> Result<(), Fail> {
-    let alloc = rt.alloc();
-    let first = concat(alloc, &[HEADER, TCP, ARP_RECORD])?;
-    let second = concat(alloc, &[BIG_NANO, BIG_UDP])?;
-    let third = concat(alloc, &[HEADER, TCP])?;
-    let texts = [first.as_slice(), second.as_slice(), third.as_slice()];
-    let end = split_to(&rt, &texts, false, three_parts(&rt, ROOM)?);
-    assert_eq!(rt; end.end, Ok(()));
-    check(
-        &rt,
-        "tcp",
-        part_at(&rt, &end, 0),
-        &[HEADER, TCP, TCP],
-        Ok(()),
-    );
-    check_tally(&rt, "tcp", part_at(&rt, &end, 0), (2, 4));
-    check(
-        &rt,
-        "udp",
-        part_at(&rt, &end, 1),
-        &[HEADER_20, SHORT_UDP],
-        Ok(()),
-    );
-    check_tally(&rt, "udp", part_at(&rt, &end, 1), (1, 4));
-    let all = [HEADER, TCP, ARP_RECORD, LITTLE_UDP, TCP];
-    check(&rt, "all", part_at(&rt, &end, 2), &all, Ok(()));
-    check_tally(&rt, "all", part_at(&rt, &end, 2), (4, 4));
-    Ok(())
-}
 
 /// The first 20 bytes of the UDP frame.
 const KEPT_UDP: &str =

@@ -1,4 +1,5 @@
-//! Tests of `tap`, `stepping` and `picture`: steps over captures, and what is told and drawn of them.
+//! Tests of `tap`, `stepping` and `picture` that the program does not show: what replays answer, the texts of faults, an output that
+//! sends nothing on, and the callers of the pages.
 #![tactic(auto)]
 
 #[cfg(test)]
@@ -9,5 +10,3 @@ mod devices;
 mod faults;
 #[cfg(test)]
 mod replays;
-#[cfg(test)]
-mod steps;

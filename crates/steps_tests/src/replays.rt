@@ -1,8 +1,6 @@
-//! `tap`: worked examples, and replays beside a slow program of the definitions.
+//! `tap`: what its calls answer that `bpftap steps` does not show.
 
 mod caller;
-mod random;
-mod refused;
 
 use bpfvm::read_listing;
 use filtergen::Refusal;
@@ -22,9 +20,6 @@ const UDP: [u8; 38] = [
     0xff, 0xff, 0xff, 0xff, 0xff, 0xff, 0, 1, 2, 3, 4, 5, 8, 0, 0x45, 0, 0, 0x18, 0, 0, 0, 0, 0x40,
     0x11, 0, 0, 10, 0, 0, 1, 10, 0, 0, 2, 0, 0x35, 0, 0x35,
 ];
-
-/// Seventeen sums, each the right side of another: one more than the scratch memory has words.
-const DEEP: &str = "1+(1+(1+(1+(1+(1+(1+(1+(1+(1+(1+(1+(1+(1+(1+(1+(1+1)))))))))))))))) = 17";
 
 /// Appends a record at a second, of a packet of these bytes, as many as `len`.
 fn put_record(text: &mut Vec<u8>, sec: u8, len: u8, data: &[u8]) -> Result<(), AllocError> {
@@ -246,78 +241,6 @@ fn a_closed_listener_takes_nothing_and_gives_nothing(rt: HostRuntime) {
     );
 }
 
-/// Eleven steps, which the two modes answer in different ways.
-const ELEVEN: [Step; 11] = [
-    Step::Arrive,
-    Step::Arrive,
-    Step::Arrive,
-    Step::Arrive,
-    Step::Read(0),
-    Step::Arrive,
-    Step::Read(0),
-    Step::Arrive,
-    Step::Close(0),
-    Step::Arrive,
-    Step::Read(0),
-];
-
-/// A listener with room for two packets answers the eleven steps so: its counts, the places of its two batches, and what
-/// became of the packets. Two are held.
-fn answers_eleven(
-    rt: &(impl Abort + AllocGlobal),
-    mode: Mode,
-    want: (u64, u64, u64),
-    batches: [&[u64]; 2],
-    became: &[Fed],
-) {
-    let trace = replayed_at_32(rt, 7, 128, mode, &ELEVEN);
-    let report = at(rt, trace.reports.as_slice(), 0);
-    assert_eq!(rt; counts(report), want);
-    assert_eq!(rt; report.batches.len(), 2);
-    has_batch(rt, report, 0, batches[0]);
-    has_batch(rt, report, 1, batches[1]);
-    holds(rt, report, &[4, 5]);
-    assert_eq!(rt; fates(rt, &trace, 0).as_slice(), became);
-}
-
-#[test]
-fn an_immediate_listener_hands_over_at_once(rt: HostRuntime) {
-    answers_eleven(
-        &rt,
-        Mode::Immediate,
-        (6, 6, 1),
-        [&[0], &[1, 2]],
-        &[
-            Fed::Held,
-            Fed::Stored,
-            Fed::Stored,
-            Fed::Dropped,
-            Fed::Rotated,
-            Fed::Held,
-            Fed::Closed,
-        ],
-    );
-}
-
-#[test]
-fn a_buffered_listener_waits(rt: HostRuntime) {
-    answers_eleven(
-        &rt,
-        Mode::Buffered,
-        (6, 6, 0),
-        [&[0, 1], &[2, 3]],
-        &[
-            Fed::Stored,
-            Fed::Stored,
-            Fed::Rotated,
-            Fed::Stored,
-            Fed::Rotated,
-            Fed::Stored,
-            Fed::Closed,
-        ],
-    );
-}
-
 /// A replay of one TCP frame to a listener of an expression that keeps ten bytes, and a read of it.
 fn read_of_tcp(rt: &(impl Abort + AllocGlobal), expression: &str) -> Trace {
     let text = one_tcp(rt.alloc()).expect(rt, "memory");
@@ -364,92 +287,26 @@ fn past_the_last_packet_nothing_arrives(rt: HostRuntime) {
     assert!(rt; trace.playlist.is_empty());
 }
 
-/// The fault of a replay of one TCP frame to one listener.
-fn fault_of(rt: &(impl Abort + AllocGlobal), spec: Spec, steps: &[Step]) -> Fault {
-    let text = one_tcp(rt.alloc()).expect(rt, "memory");
-    match replayed(rt, text.as_slice(), spec, steps) {
-        Ok(_) => Fault::TooMany,
-        Err(fault) => fault,
-    }
-}
-
 /// A replay of one TCP frame to one listener is refused so.
-fn refuses(rt: &(impl Abort + AllocGlobal), spec: Spec, steps: &[Step], want: Fault) {
-    assert_eq!(rt; fault_of(rt, spec, steps), want);
+fn refuses(rt: &(impl Abort + AllocGlobal), spec: Spec, want: Fault) {
+    let text = one_tcp(rt.alloc()).expect(rt, "memory");
+    let fault = replayed(rt, text.as_slice(), spec, &[]).err();
+    assert_eq!(rt; fault, Some(want));
 }
 
 #[test]
-fn each_fault_comes_where_it_stands(rt: HostRuntime) {
-    let buffered = Mode::Buffered;
-    let bad = Fault::Open(0, OpenFault::BadCapacity);
-    refuses(
-        &rt,
-        wanted(&rt, "tcp", 10, 47, buffered),
-        &[Step::Arrive],
-        bad,
-    );
-    let bad = Fault::Open(0, OpenFault::BadCapacity);
-    refuses(&rt, wanted(&rt, "tcp", 10, 1_048_577, buffered), &[], bad);
-    let unread = Fault::Expression(0, filterlang::Fault::NoQualifier(8));
-    refuses(&rt, wanted(&rt, "tcp and 80", 0, 0, buffered), &[], unread);
-    let bad = Fault::Compile(0, Refusal::BadSnap);
-    refuses(&rt, wanted(&rt, "tcp", 0, 0, buffered), &[], bad);
-    let deep = Fault::Compile(0, Refusal::TooDeep);
-    refuses(&rt, wanted(&rt, DEEP, 10, 0, buffered), &[], deep);
-    let steps = [Step::Arrive, Step::Read(1)];
-    let unread = wanted(&rt, "tcp and 80", 0, 0, buffered);
-    refuses(&rt, unread, &steps, Fault::NoListener(1));
+fn a_bad_snapshot_length_is_told_of_an_expression_and_of_a_program(rt: HostRuntime) {
+    for snap in [0, 262_145] {
+        let spec = wanted(&rt, "tcp", snap, 0, Mode::Buffered);
+        refuses(&rt, spec, Fault::Compile(0, Refusal::BadSnap));
+    }
     let spec = Spec {
         filter: keeping_32(&rt),
         snap: 262_145,
         capacity: 0,
-        mode: buffered,
+        mode: Mode::Buffered,
     };
-    refuses(&rt, spec, &[], Fault::Open(0, OpenFault::BadSnap));
-}
-
-/// A capture of one TCP frame that breaks off in the header of the next record.
-fn torn_tcp(alloc: Global) -> Result<Vec<u8>, AllocError> {
-    let mut torn = one_tcp(alloc)?;
-    torn.extend_from_slice(&[0; 7])?;
-    Ok(torn)
-}
-
-/// Two packets were kept, each the first of its capture, of the first capture and of the second.
-fn holds_one_of_each(rt: &(impl Abort + AllocGlobal), report: &Report) {
-    assert_eq!(rt; counts(report), (2, 2, 0));
-    for capture in 0..2 {
-        let message = at(rt, report.held.as_slice(), capture as usize);
-        assert_eq!(rt; (message.capture, message.place), (capture, 0));
-    }
-}
-
-#[test]
-fn a_torn_capture_ends_the_playlist(rt: HostRuntime) {
-    let whole = one_tcp(rt.alloc()).expect(&rt, "memory");
-    let torn = torn_tcp(rt.alloc()).expect(&rt, "memory");
-    let (whole, torn) = (whole.as_slice(), torn.as_slice());
-    let specs = [wanted(&rt, "", 64, 1_000, Mode::Buffered)];
-    let (reports, fault) = replay(
-        rt.alloc(),
-        &[whole, torn, whole, torn],
-        &specs,
-        &[Step::Arrive; 4],
-    )
-    .expect(&rt, "a report");
-    assert_eq!(rt; fault, Some((1, savefile::Fault::TornRecord(1))));
-    holds_one_of_each(&rt, at(&rt, reports.as_slice(), 0));
-}
-
-/// A header behind a tear counts, and a listener that is refused comes after it.
-#[test]
-fn a_header_behind_a_tear_counts(rt: HostRuntime) {
-    let whole = one_tcp(rt.alloc()).expect(&rt, "memory");
-    let torn = torn_tcp(rt.alloc()).expect(&rt, "memory");
-    let captures = [whole.as_slice(), torn.as_slice(), &HEADER[..23]];
-    let refused = [wanted(&rt, "tcp and 80", 64, 1_000, Mode::Buffered)];
-    let answer = replay(rt.alloc(), &captures, &refused, &[Step::Arrive; 4]);
-    is_refused(&rt, answer, Fault::Capture(2, savefile::Fault::ShortHeader));
+    refuses(&rt, spec, Fault::Open(0, OpenFault::BadSnap));
 }
 
 /// A replay was refused so.
@@ -510,72 +367,4 @@ fn as_many_as_may_be(rt: HostRuntime) {
         &rt, "a report",
     );
     assert_eq!(rt; fault, Some((0, savefile::Fault::TornRecord(0))));
-}
-
-#[test]
-fn faults_are_told_with_their_places(rt: HostRuntime) {
-    for (fault, line) in [
-        (Fault::TooMany, "TooMany"),
-        (Fault::NoListener(1), "NoListener 1"),
-        (
-            Fault::Capture(0, savefile::Fault::BadFraction(3)),
-            "Capture 0 BadFraction 3",
-        ),
-        (
-            Fault::Expression(0, filterlang::Fault::NoQualifier(8)),
-            "Expression 0 NoQualifier 8",
-        ),
-        (Fault::Compile(2, Refusal::TooLong), "Compile 2 TooLong"),
-        (Fault::Open(0, OpenFault::BadCapacity), "Open 0 BadCapacity"),
-        (Fault::NoMemory, "NoMemory"),
-    ] {
-        let told = format!(in rt.alloc(); "{fault}").expect(&rt, "memory");
-        assert_eq!(rt; told.as_str(), line);
-    }
-}
-
-/// A capture of one TCP frame and a listener of an expression, or nothing where memory was refused.
-fn prepared(alloc: Global) -> Result<(Vec<u8>, Spec), AllocError> {
-    let mut text = String::new(alloc);
-    text.push_str("tcp")?;
-    let spec = Spec {
-        filter: Filter::Text(text),
-        snap: 10,
-        capacity: 48,
-        mode: Mode::Buffered,
-    };
-    Ok((one_tcp(alloc)?, spec))
-}
-
-/// The steps of a listener that is read once.
-const READ_ONCE: [Step; 3] = [Step::Arrive, Step::Flush(0), Step::Read(0)];
-
-/// A replay reports the one packet, or says that memory was refused.
-fn replays_or_tells(rt: &(impl Abort + AllocGlobal), captures: &[&[u8]], specs: &[Spec]) {
-    match replay(rt.alloc(), captures, specs, &READ_ONCE) {
-        Ok((reports, torn)) => {
-            assert_eq!(rt; counts(at(rt, reports.as_slice(), 0)), (1, 1, 0));
-            assert!(rt; torn.is_none());
-        }
-        Err(fault) => assert_eq!(rt; fault, Fault::NoMemory),
-    }
-}
-
-/// So does a replay with answers.
-fn traces_or_tells(rt: &(impl Abort + AllocGlobal), captures: &[&[u8]], specs: &[Spec]) {
-    match trace(rt.alloc(), captures, specs, &READ_ONCE) {
-        Ok(trace) => assert_eq!(rt; at(rt, trace.answers.as_slice(), 0).as_slice().len(), 3),
-        Err(fault) => assert_eq!(rt; fault, Fault::NoMemory),
-    }
-}
-
-/// This one passes too where any one request for memory is refused.
-#[test]
-fn want_of_memory_gives_no_report(rt: HostRuntime) {
-    let Ok((text, spec)) = prepared(rt.alloc()) else {
-        return;
-    };
-    let (captures, specs) = ([text.as_slice()], [spec]);
-    replays_or_tells(&rt, &captures, &specs);
-    traces_or_tells(&rt, &captures, &specs);
 }

@@ -1,4 +1,4 @@
-//! The caller of this crate's page, README.md.
+//! The caller that the page of `canonical` shows, crates/canonical/README.md.
 
 use canonical::Canonical;
 use filterlang::{Fault, parse};
