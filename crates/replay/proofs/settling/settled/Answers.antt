@@ -1,4 +1,4 @@
-use Rattle.std.proofs.Common.{◌≡◌, List, sym, ap, ◌∙◌, subst, IfSome}
+use Rattle.std.proofs.Common.{◌≡◌, List, sym, ◌∙◌, subst, IfSome}
 use Rattle.rtrb.specs.Ring.{all_sent, known_items, received, sent, IsFinishedOf}
 use Rattle.listener.specs.declared.message.Message.{Message}
 use Rattle.handover.specs.History.{LegalHistory, batches_of, merge}

@@ -1,8 +1,6 @@
-use Rattle.std.proofs.Common.{◌≡◌, List, ◌++◌}
+use Rattle.std.proofs.Common.{◌≡◌, List}
 use Rattle.rtrb.specs.Ring.{received, SameConsumer}
-use Rattle.listener.specs.Laws.{joined}
 use Rattle.listener.specs.declared.message.Message.{Message}
-use Rattle.replay.specs.Reading.{messages_of}
 use Rattle.replay.specs.Writing.{Writes}
 use Rattle.replay.specs.declared.writing.Output.{Output}
 use Rattle.replay.proofs.writer.write_rest.Given as goal
