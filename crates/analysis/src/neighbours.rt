@@ -183,6 +183,7 @@ impl Others {
     }
 
     /// The numbers of those of a kind, which leave the others.
+    #[inline(never)]
     fn divide(&mut self, kind: Kind) -> ArrayVec<Span, MAX_INSNS>
         ensures { Divides kind self.old.members.items result.items self.new.members.items }
     {
@@ -200,6 +201,7 @@ impl Others {
     }
 
     /// Those of the kind of a member that is asked before them, with that one. They leave the others.
+    #[inline(never)]
     pub fn group_of(&mut self, first: Member) -> Group
         requires room { length self.old.members.items < 512 }
         ensures kind { result.kind ≡ first.kind }

@@ -51,7 +51,9 @@ fn turned(chain: Chain, ways: Ways) -> Ways
 }
 
 impl Code {
-    /// What is left of a primitive. Its ways are renewed first, so that its jumps and those in front of it reach them.
+    /// What is left of a primitive. Its ways are renewed first, so that its jumps and those in front of it reach them. What it takes
+    /// of the stack is not to be in each frame of the walk down a tree.
+    #[inline(never)]
     fn reached_primitive(
         &mut self,
         known: Known,
@@ -101,6 +103,7 @@ impl Code {
     }
 
     /// What is left of the members of a kind. One alone is what it is.
+    #[inline(never)]
     fn group(&mut self, known: Known, group: &Group, ways: Ways) -> Result<Emitted, Full>
         requires some { 0 < length group.now.spans.items }
         requires alone { IsAlone group.now.kind group.now.primitive group.now.spans.items }
