@@ -10,10 +10,10 @@ use files::reading::read_file;
 use hints::{Noted, TakesHints};
 use lines::telling::{REFUSED, tell_fault};
 use replay::RunFault;
+use running::faults::RunFaultText;
 use running::plan::{Plan, read_plan};
-use running::reports::tell_run;
-use running::run::replay_plan;
-use running::tally::{Output, Tallied, flush_all};
+use running::run::{refuse, replay_plan};
+use running::tally::{Output, Tallied, tell_flushed};
 use savefile::{Counted, Fault};
 use std::alloc::{AllocError, Global};
 use std::fs::Files;
@@ -130,9 +130,9 @@ fn accepted<'p, E: TakesHints>(
     let plan = match read_plan(alloc, listeners, words.inputs.len()) {
         Ok(plan) => plan,
         Err(fault) => {
-            let status = tell_fault(fault, REFUSED, err);
+            let ended = refuse(fault, err);
             hint_plan(alloc, listeners, words.inputs.len(), fault, err);
-            return Err(status);
+            return Err(ended.status);
         }
     };
     looked_at(files, alloc, words, &plan, err)?;
@@ -197,7 +197,7 @@ impl NamesFiles for HostRuntime {
         let plan = accepted(self, alloc, words, listeners, err)?;
         match late_files(self, alloc, words, plan) {
             Ok(late) => Ok(late),
-            Err(fault) => Err(tell_fault(fault, REFUSED, err)),
+            Err(fault) => Err(refuse(RunFaultText(fault), err).status),
         }
     }
 }
@@ -223,16 +223,15 @@ pub fn run_files<
     };
     match replay_plan(rt, alloc, plan, captures, sinks) {
         Ok(mut reports) => {
-            flush_all(reports.as_mut_slice());
-            let status = tell_run(reports.as_slice(), &mut out, err);
+            let ended = tell_flushed(reports.as_mut_slice(), &mut out, err);
             hint_run(words.inputs.as_slice(), reports.as_slice(), err);
             hint_printed(out.get_ref(), err);
-            Ok(status)
+            Ok(ended.status)
         }
         Err(fault) => {
-            let status = tell_fault(fault, REFUSED, err);
+            let ended = refuse(RunFaultText(fault), err);
             hint_unopened(alloc, listeners.as_slice(), words.inputs.len(), fault, err);
-            Err(status)
+            Err(ended.status)
         }
     }
 }

@@ -1,6 +1,7 @@
 //! `bpftap steps`, over files.
 
-ghost use Rattle.std.specs.Prelude.{◌≤◌, IfErr, MatchResult};
+ghost use Rattle.std.specs.Prelude.{◌≡◌, ◌≤◌, false, map, IfErr, MatchResult};
+ghost use Rattle.bpftap.specs.Telling.{IsStillTold, TellsPlayed};
 
 use crate::hinting::{hint_asked, hint_output, hint_steps};
 use crate::picture_files::draw;
@@ -8,11 +9,13 @@ use files::paths::{STANDARD_OUTPUT, all_apart};
 use files::piped::Piped;
 use files::reading::read_file;
 use hints::{Noted, TakesHints};
-use lines::telling::{REFUSED, tell_fault};
+use lines::sending::send;
+use lines::telling::{Ended, REFUSED, tell_fault, tell_line};
 use savefile::Fault;
 use std::alloc::{AllocError, Global};
 use std::fs::Files;
 use std::io::{BufWriter, Write};
+use stepping::faults::FaultText;
 use stepping::steps::{Asked, play_asked, read_asked};
 use tap::MOST_CAPTURES;
 use words::steps::StepsWords;
@@ -58,7 +61,8 @@ fn looked_at<R: Files + AllocGlobal, E: TakesHints>(
     ensures { IfErr result (λ status. status ≤ 3) }
 {
     if words.inputs.len() > MOST_CAPTURES {
-        return Err(tell_fault(tap::Fault::TooMany, REFUSED, err));
+        let _ = tell_line(FaultText(tap::Fault::TooMany), err);
+        return Err(REFUSED);
     }
     let Ok(read) = read_paths(rt.alloc(), words) else {
         return Err(tell_fault(Fault::NoMemory, REFUSED, err));
@@ -74,33 +78,56 @@ fn read_paths<'a>(alloc: Global, words: &StepsWords<'a>) -> Result<Vec<&'a str>,
     Ok(paths)
 }
 
+/// What is still told where standard output may be a pipe that nobody reads any more: not that this failed.
+fn still_told(told: &[u8], is_unread: bool) -> &[u8]
+    ensures still { IsStillTold told.now result.now }
+    ensures read { is_unread ≡ false → result.now ≡ told.now }
+{
+    match told.strip_prefix(OUTPUT_FAILED) {
+        Some(rest) if is_unread => rest,
+        _ => told,
+    }
+}
+
 /// Plays the script, and prints by pieces. That nobody reads what is printed any more is not told.
-fn play<O: Write, E: TakesHints>(
+///
+/// Where no hints are wanted, standard error took exactly what [`play_asked`] tells, but for that.
+pub fn play<O: Write, E: TakesHints>(
     alloc: Global,
     asked: &Asked,
     captures: &[&[u8]],
     explained: bool,
     out: &mut O,
     err: &mut E,
-) -> u8
-    ensures { result ≤ 3 }
+) -> Ended
+    ensures tells { E.takes_hints err.old ≡ false → TellsPlayed explained (map (λ c. c.now) captures.now) asked.now.specs.items asked.now.steps.items
+        (E.contents err.old) (E.contents err.new) result }
+    ensures bound { result.status ≤ 3 }
 {
+    let hinted = err.takes_hints();
     let mut noted = Noted::new(Piped::new(out));
     let (Ok(mut told), Ok(mut printed)) = (
         Vec::with_capacity(alloc, TOLD),
         BufWriter::with_capacity(alloc, OUTPUT_BUFFER, &mut noted),
     ) else {
-        return tell_fault(Fault::NoMemory, REFUSED, err);
+        return Ended {
+            status: REFUSED,
+            told: tell_line(FaultText(tap::Fault::NoMemory), err),
+        };
     };
     let ended = play_asked(alloc, asked, captures, explained, &mut printed, &mut told);
     drop(printed);
-    let mut told = told.as_slice();
-    if noted.get_ref().is_unread() && told.starts_with(OUTPUT_FAILED) {
-        told = &told[OUTPUT_FAILED.len()..];
+    let told = send(
+        still_told(told.as_slice(), noted.get_ref().is_unread()),
+        err,
+    );
+    if hinted {
+        hint_output(&noted, err);
     }
-    let _ = err.write_all(told);
-    hint_output(&noted, err);
-    ended.status
+    Ended {
+        status: ended.status,
+        told,
+    }
 }
 
 /// Reads LISTENERS and SCRIPT, looks at their lines, reads the captures, and plays the script.
@@ -118,9 +145,9 @@ pub fn steps_files<R: Files + AllocGlobal, O: Write, E: TakesHints>(
     let asked = match read_asked(alloc, listeners.as_slice(), script.as_slice()) {
         Ok(asked) => asked,
         Err(fault) => {
-            let status = tell_fault(fault, REFUSED, err);
+            let _ = tell_line(fault, err);
             hint_asked(listeners.as_slice(), script.as_slice(), fault, err);
-            return Err(status);
+            return Err(REFUSED);
         }
     };
     looked_at(rt, words, err)?;
@@ -128,7 +155,7 @@ pub fn steps_files<R: Files + AllocGlobal, O: Write, E: TakesHints>(
     let Ok(captures) = lent(alloc, texts.as_slice()) else {
         return Err(tell_fault(Fault::NoMemory, REFUSED, err));
     };
-    let status = play(
+    let ended = play(
         alloc,
         &asked,
         captures.as_slice(),
@@ -136,6 +163,7 @@ pub fn steps_files<R: Files + AllocGlobal, O: Write, E: TakesHints>(
         out,
         err,
     );
+    let status = ended.status;
     if status != 0 {
         hint_steps(alloc, script.as_slice(), &asked, captures.as_slice(), err);
     }

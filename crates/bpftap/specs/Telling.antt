@@ -1,0 +1,24 @@
+-- What `bpftap steps` tells of what was played.
+use Rattle.std.specs.Prelude.{◌≡◌, ◌⊎◌, Bool, List, ℕ, [], ◌++◌, Option, Some, codes}
+use Rattle.lines.specs.declared.telling.Ended.{Ended}
+use Rattle.lines.specs.Sending.{Takes, streams}
+use Rattle.lines.specs.Telling.{told_line}
+use Rattle.stepping.specs.Playing.{Plays}
+use Rattle.tap.specs.declared.filters.Spec.{Spec}
+use Rattle.tap.specs.declared.step.Step.{Step}
+
+-- what is still told: all, or all but the line of standard output that failed
+abbrev pub IsStillTold : List ℕ → List ℕ → Type 0
+IsStillTold told still = (still ≡ told) ⊎ (told ≡ told_line (codes "Device standard output") ++ still)
+
+-- Steps were played, and printed to what took this so far; what was told of it, and still is, standard error took.
+pub record TellsPlayed (explained : Bool) (captures : List (List ℕ)) (specs : List Spec) (steps : List Step) (old new : Option (List ℕ)) (ended : Ended) : Type 0 where
+  pub before : Option (List ℕ)
+  pub behind : Option (List ℕ)
+  pub told : List ℕ
+  pub played : Ended
+  pub plays : Plays explained captures specs steps (streams before (Some [])) (streams behind (Some told)) played
+  pub status : ended.status ≡ played.status
+  pub still : List ℕ
+  pub is_still : IsStillTold told still
+  pub tells : Takes old new ended.told still
