@@ -1,7 +1,7 @@
 //! `bpftap steps`, over files.
 
 ghost use Rattle.std.specs.Prelude.{◌≡◌, ◌≤◌, false, map, IfErr, MatchResult};
-ghost use Rattle.bpftap.specs.Telling.{IsStillTold, TellsPlayed};
+ghost use Rattle.commands.specs.Telling.{IsStillTold, TellsPlayed};
 
 use crate::hinting::{hint_asked, hint_output, hint_steps};
 use crate::picture_files::draw;

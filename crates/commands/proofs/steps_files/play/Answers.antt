@@ -2,7 +2,7 @@ use Rattle.std.proofs.Common.{inl, inr, refl, None, Ok, codes}
 use Rattle.std.proofs.KnownBytes.{Keeps-refl}
 use Rattle.lines.specs.Telling.{told_line}
 use Rattle.tap.specs.declared.fault.Fault.TheVariants.{NoMemory}
-use Rattle.bpftap.proofs.steps_files.play.Goals as goal
+use Rattle.commands.proofs.steps_files.play.Goals as goal
 
 -- want of memory before anything was played is the fault that stands
 pub returns-in_default-clause-tells : goal.returns-in_default-clause-tells
