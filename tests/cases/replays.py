@@ -133,11 +133,15 @@ def some_listener(dice):
     return Listener(kind, snap, size(snap) + dice.roll(150), dice.roll(2) == 1)
 
 
-def some_step(dice):
-    which, kind = dice.roll(2), dice.roll(12)
-    if kind < 4:
-        return f"{'flush' if kind < 2 else 'read'} {which}"
-    return f"close {which}" if kind == 4 and dice.roll(4) == 0 else "arrive"
+def some_steps(dice, listeners):
+    """What some of the listeners do, in turn, and an arrival."""
+    for number in range(listeners):
+        kind = dice.roll(12)
+        if kind < 4:
+            yield f"{'flush' if kind < 2 else 'read'} {number}"
+        elif kind == 4 and dice.roll(8) == 0:
+            yield f"close {number}"
+    yield "arrive"
 
 
 def reported(printed):
@@ -162,17 +166,21 @@ def replay(folder, replayed):
     return reported(seen.out.decode()), seen.err.decode(), seen.status
 
 
+# A run reads its captures for many listeners at once.
+LISTENERS = 24
+
+
 @case
 def replays_keep_what_looking_back_keeps(scene):
-    """3,000 replays of two captures to two listeners each."""
+    """250 replays of two captures to 24 listeners each."""
     dice, started = Dice(), []
     with concurrent.futures.ThreadPoolExecutor(4) as pool:
-        for number in range(3000):
+        for number in range(250):
             captures, is_torn, playlist = some_captures(dice)
-            listeners = [some_listener(dice), some_listener(dice)]
-            script = [some_step(dice) for _ in range(dice.roll(40))]
+            listeners = [some_listener(dice) for _ in range(LISTENERS)]
+            script = [step for _ in range(dice.roll(20)) for step in some_steps(dice, LISTENERS)]
             wanted = [looked_back(own_steps(l, one, script, playlist), one) for l, one in enumerate(listeners)]
-            fault = [f"Capture 0 TornRecord {len(playlist)}"] if is_torn else []
+            fault = [f"Capture 0 TornRecord {sum(capture == 0 for capture, _, _ in playlist)}"] if is_torn else []
             done = pool.submit(replay, scene.folder / str(number), (captures, listeners, script))
             started.append((done, (wanted, told(*fault), 2 if is_torn else 0)))
         for number, (done, wanted) in enumerate(started):

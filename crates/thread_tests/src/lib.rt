@@ -1,8 +1,6 @@
-//! Tests of `running`.
+//! Tests of `running` that the program does not show: devices that break and are counted, and ends that no capture brings about.
 #![tactic(auto)]
 
-#[cfg(test)]
-mod run;
 #[cfg(test)]
 mod run_devices;
 #[cfg(test)]

@@ -1,6 +1,5 @@
 //! `bpftap run`: when a packet can be read, and what is printed of ends that no capture brings about.
 
-use crate::run::replayed;
 use bpfvm::read_listing;
 use fixtures::captures::{HEADER, TCP, concat};
 use handover::{Past, pair, settle};
@@ -137,22 +136,6 @@ fn an_end_that_is_not_reached_is_told(rt: HostRuntime) -> Result<(), Fail> {
     assert_eq!(rt;
         err.as_slice(),
         b"bpftap: Interface 0 CountFull\n".as_slice()
-    );
-    Ok(())
-}
-
-#[test]
-fn three_captures_arrive_one_behind_the_other(rt: HostRuntime) -> Result<(), Fail> {
-    let text = concat(rt.alloc(), &[HEADER, TCP])?;
-    let one = text.as_slice();
-    let seen = replayed(&rt, b"0 0 64 4096 2 a", &[&[one, one, one]])?;
-    assert_eq!(rt;
-        (seen.out.as_str(), seen.err.as_str(), seen.status),
-        (
-            "interface 0 listener 0 received 3 matched 3 dropped 0 written 3 Clean\n",
-            "",
-            0
-        )
     );
     Ok(())
 }
