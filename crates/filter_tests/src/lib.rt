@@ -1,5 +1,5 @@
-//! Tests of `filtergen`, of `explaining` and of `cutting`'s filter: expressions from their text to their program, and programs
-//! compared with the evaluator.
+//! Tests of `filtergen` and `explaining` that no command shows: trees that no text reads as and trees by chance, whose programs are
+//! compared with the evaluator, what trees weigh and need, and the callers of the pages.
 #![tactic(auto)]
 
 #[cfg(test)]
@@ -9,18 +9,10 @@ mod caller;
 #[cfg(test)]
 mod comparisons;
 #[cfg(test)]
-mod compiled_relations;
-#[cfg(test)]
-mod examples;
-#[cfg(test)]
 mod explained;
-#[cfg(test)]
-mod expressions;
-#[cfg(test)]
-mod lists;
-#[cfg(test)]
-mod programs;
 #[cfg(test)]
 mod random_relations;
 #[cfg(test)]
 mod relations;
+#[cfg(test)]
+mod weights;
