@@ -1,4 +1,4 @@
-//! Savefiles: worked examples, and devices that fail in mid-stream.
+//! Savefiles: what `bpftap cut` does not show of their headers, and devices that fail in mid-stream.
 
 mod caller;
 mod reader;
@@ -83,30 +83,9 @@ fn reads(rt: &(impl Abort + AllocGlobal), parts: &[&[u8]], want: &str) {
 }
 
 #[test]
-fn header_checks_come_in_order(rt: HostRuntime) {
+fn reserved_fields_and_snapshot_lengths_have_any_content(rt: HostRuntime) {
     let h = &HEADER_LITTLE_MICRO;
-    reads(&rt, &[], "ShortHeader");
-    reads(&rt, &[&h[..23]], "ShortHeader");
-    reads(&rt, &[b"no savefile"], "ShortHeader");
     reads(&rt, &[h], "Little Micro 262144");
-    // another magic number, which libpcap knows, with a version that is wrong too
-    reads(
-        &rt,
-        &[&[0x34, 0xcd, 0xb2, 0xa1, 9, 0], &h[6..]],
-        "NotSavefile",
-    );
-    // each half of the version, and the halves exchanged
-    reads(&rt, &[&h[..4], &[3, 0, 4, 0], &h[8..]], "Version");
-    reads(&rt, &[&h[..4], &[2, 0, 3, 0], &h[8..]], "Version");
-    reads(
-        &rt,
-        &[&h[..4], &[4, 0, 2, 0], &h[8..20], &[9, 0, 0, 0]],
-        "Version",
-    );
-    // another link type, and Ethernet with a check sequence of four bytes
-    reads(&rt, &[&h[..20], &[113, 0, 0, 0]], "LinkType");
-    reads(&rt, &[&h[..20], &[1, 0, 0, 0x24]], "LinkType");
-    // reserved fields of any content, and the least and the greatest snapshot length
     reads(
         &rt,
         &[&h[..8], &[1, 2, 3, 4, 5, 6, 7, 8], &[0; 4], &h[20..]],
@@ -119,125 +98,8 @@ fn header_checks_come_in_order(rt: HostRuntime) {
     );
 }
 
-#[test]
-fn a_torn_record_header_is_named(rt: HostRuntime) {
-    let h = &HEADER_LITTLE_MICRO;
-    let whole = &[1, 0, 0, 0, 5, 0, 0, 0, 2, 0, 0, 0, 60, 0, 0, 0, 7, 8];
-    let one = "Little Micro 262144; 1.000005000 60 [7, 8]";
-    reads(&rt, &[h, whole], one);
-    reads(
-        &rt,
-        &[h, whole, &whole[..7]],
-        "Little Micro 262144; 1.000005000 60 [7, 8]; TornRecord 1",
-    );
-    reads(
-        &rt,
-        &[h, whole, &whole[..17]],
-        "Little Micro 262144; 1.000005000 60 [7, 8]; TornRecord 1",
-    );
-    reads(&rt, &[h, &whole[..17]], "Little Micro 262144; TornRecord 0");
-    // in the other order
-    let big = &[
-        0xa1, 0xb2, 0xc3, 0xd4, 0, 2, 0, 4, 0, 0, 0, 0, 0, 0, 0, 0, 0, 0, 0, 9, 0, 0, 0, 1,
-    ];
-    let record = &[0, 0, 0, 1, 0, 0, 0, 5, 0, 0, 0, 2, 0, 0, 0, 60, 7, 8];
-    reads(
-        &rt,
-        &[big, record, record],
-        "Big Micro 9; 1.000005000 60 [7, 8]; 1.000005000 60 [7, 8]",
-    );
-    reads(
-        &rt,
-        &[big, record, &record[..17]],
-        "Big Micro 9; 1.000005000 60 [7, 8]; TornRecord 1",
-    );
-    // more captured than there was on the wire, and than the header's snapshot length
-    let odd = &[0, 0, 0, 0, 0, 0, 0, 0, 2, 0, 0, 0, 1, 0, 0, 0, 7, 8];
-    reads(
-        &rt,
-        &[&h[..16], &[1, 0, 0, 0], &h[20..], odd],
-        "Little Micro 1; 0.000000000 1 [7, 8]",
-    );
-}
-
-#[test]
-fn fraction_of_a_million_is_refused(rt: HostRuntime) {
-    let h = &HEADER_LITTLE_MICRO;
-    let rest = &[0, 0, 0, 0, 0, 0, 0, 0];
-    // 999,999 and 1,000,000 microseconds
-    reads(
-        &rt,
-        &[h, &[9, 0, 0, 0, 0x3f, 0x42, 0x0f, 0], rest],
-        "Little Micro 262144; 9.999999000 0 []",
-    );
-    reads(
-        &rt,
-        &[h, &[9, 0, 0, 0, 0x40, 0x42, 0x0f, 0], rest],
-        "Little Micro 262144; BadFraction 0",
-    );
-    // with a captured length of 262,145 too
-    let both = &[9, 0, 0, 0, 0x40, 0x42, 0x0f, 0, 1, 0, 4, 0, 0, 0, 0, 0];
-    reads(&rt, &[h, both], "Little Micro 262144; BadFraction 0");
-    // 999,999,999 and 1,000,000,000 nanoseconds
-    let nano = &[0x4d, 0x3c, 0xb2, 0xa1];
-    reads(
-        &rt,
-        &[nano, &h[4..], &[9, 0, 0, 0, 0xff, 0xc9, 0x9a, 0x3b], rest],
-        "Little Nano 262144; 9.999999999 0 []",
-    );
-    reads(
-        &rt,
-        &[nano, &h[4..], &[9, 0, 0, 0, 0, 0xca, 0x9a, 0x3b], rest],
-        "Little Nano 262144; BadFraction 0",
-    );
-}
-
 fn sevens(alloc: Global, len: usize) -> Result<Vec<u8>, AllocError> {
     vec![in alloc; 7; len]
-}
-
-/// The data of a packet are these bytes.
-fn is_of(rt: &impl Abort, packet: Packet, bytes: &[u8]) {
-    let data = packet.bytes.into_vec();
-    assert!(rt; data.as_slice() == bytes);
-}
-
-/// A text has one packet, of these bytes, and no fault.
-fn has_one_packet(rt: &(impl Abort + AllocGlobal), text: &[u8], bytes: &[u8]) -> Result<(), Fault> {
-    let (_, packets, fault) = read_all(rt.alloc(), text)?;
-    assert_eq!(rt; (packets.len(), fault), (1, None));
-    for packet in packets {
-        is_of(rt, packet, bytes);
-    }
-    Ok(())
-}
-
-/// A text of one record that says in its header how many bytes it has, and has these.
-fn of_record(alloc: Global, captured: &[u8; 4], bytes: &[u8]) -> Result<Vec<u8>, AllocError> {
-    joined(
-        alloc,
-        &[&HEADER_LITTLE_MICRO, &[0; 8], captured, &[0; 4], bytes],
-    )
-}
-
-/// A record of these bytes, 262,144 of them, is read.
-fn is_short_enough(rt: &(impl Abort + AllocGlobal), bytes: &[u8]) -> Result<(), Fail> {
-    let text = of_record(rt.alloc(), &[0, 0, 4, 0], bytes)?;
-    has_one_packet(rt, text.as_slice(), bytes)?;
-    Ok(())
-}
-
-/// A record of these bytes, 262,145 of them, is refused.
-fn is_too_long(rt: &(impl Abort + AllocGlobal), bytes: &[u8]) -> Result<(), Fail> {
-    let text = of_record(rt.alloc(), &[1, 0, 4, 0], bytes)?;
-    reads(rt, &[text.as_slice()], "Little Micro 262144; TooLong 0");
-    Ok(())
-}
-
-#[test]
-fn captured_length_is_refused_above_262144(rt: HostRuntime) -> Result<(), Fail> {
-    is_short_enough(&rt, sevens(rt.alloc(), 262_144)?.as_slice())?;
-    is_too_long(&rt, sevens(rt.alloc(), 262_145)?.as_slice())
 }
 
 /// Puts a packet, whose numbers are in their ranges.
@@ -338,29 +200,7 @@ fn each_form_is_read_and_written_at_its_limits(rt: HostRuntime) -> Result<(), Fa
 }
 
 #[test]
-fn each_form_is_written_as_it_stands(rt: HostRuntime) -> Result<(), Fail> {
-    // a big-endian file with nanoseconds, snapshot length 96 and one packet without data
-    let big = [
-        0xa1, 0xb2, 0x3c, 0x4d, 0, 2, 0, 4, 0, 0, 0, 0, 0, 0, 0, 0, 0, 0, 0, 0x60, 0, 0, 0, 1, 0,
-        0, 0, 1, 0x3b, 0x9a, 0xc9, 0xff, 0, 0, 0, 0, 0, 0, 0, 0x3c,
-    ];
-    reads(&rt, &[&big], "Big Nano 96; 1.999999999 60 []");
-    let packet = (1, 999_999_999, 60, [].as_slice());
-    writes(&rt, Order::Big, Unit::Nano, 96, packet, &big)?;
-    // the same, little-endian with microseconds
-    let little = [
-        0xd4, 0xc3, 0xb2, 0xa1, 2, 0, 4, 0, 0, 0, 0, 0, 0, 0, 0, 0, 0x60, 0, 0, 0, 1, 0, 0, 0, 1,
-        0, 0, 0, 0x3f, 0x42, 0x0f, 0, 0, 0, 0, 0, 0x3c, 0, 0, 0,
-    ];
-    writes(&rt, Order::Little, Unit::Micro, 96, packet, &little)?;
-    // five microseconds, as nanoseconds
-    let nano = [
-        0xa1, 0xb2, 0x3c, 0x4d, 0, 2, 0, 4, 0, 0, 0, 0, 0, 0, 0, 0, 0, 4, 0, 0, 0, 0, 0, 1, 0, 0,
-        0, 1, 0, 0, 0x13, 0x88, 0, 0, 0, 0, 0, 0, 0, 0,
-    ];
-    let packet = (1, 5_000, 0, [].as_slice());
-    writes(&rt, Order::Big, Unit::Nano, 262_144, packet, &nano)?;
-    // each field at zero
+fn each_field_is_read_and_written_at_zero(rt: HostRuntime) -> Result<(), Fail> {
     let zeros = [
         0x4d, 0x3c, 0xb2, 0xa1, 2, 0, 4, 0, 0, 0, 0, 0, 0, 0, 0, 0, 0, 0, 0, 0, 1, 0, 0, 0, 0, 0,
         0, 0, 0, 0, 0, 0, 0, 0, 0, 0, 0, 0, 0, 0,
