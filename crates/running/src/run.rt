@@ -178,8 +178,8 @@ pub fn run_told<
 ///
 /// A bad line is told as `Listeners N`, N from 1: it has not this form, names an interface that is not there, or an OUT that
 /// an earlier line has. Then the expressions are compiled: `Expression N` or `Compile N`, N from 0. Behind these and a
-/// [`RunFault`] no sink is handed back, nothing is printed and the exit status is 1, and no source is read either; behind
-/// [`RunFault::NoStart`] that is tested, not proved.
+/// [`RunFault`] no sink is handed back, nothing is printed and the exit status is 1. No source is read either: that is tested, not
+/// proved.
 ///
 /// Else the sinks are handed back in the order of the lines, and the exit status is the greatest of these: 0; 1 where an
 /// interface's capture has no header of a savefile, memory was wanting for it or for `out`, an interface's arrivals cannot be
