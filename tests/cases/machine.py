@@ -110,6 +110,14 @@ def answers(scene, listing, want):
     scene.check(f"answer of {listing[:80]!r}", (answer, seen.err, seen.status), ([b"answer %d" % want], b"", 0))
 
 
+def keeps(scene, want):
+    """The program keeps as many bytes of the first packet as it answers, or all, and nothing where it answers 0."""
+    kept = min(want, len(UDP_RECORD) - 16)
+    record = FRAME[24:32] + kept.to_bytes(4, "little") + FRAME[36:40 + kept] if want else b""
+    scene.expect("cut -s 0 -f program.bpf in.pcap out.pcap")
+    scene.check(f"kept by an answer of {want}", scene.read("out.pcap"), HEADER + record)
+
+
 def has_fault(scene, listing, fault):
     """A listing is refused with this fault, or is printed as one is written: without leading zeros."""
     scene.put({"program.bpf": listing})
@@ -126,6 +134,7 @@ def each_code_does_what_the_manual_says(scene):
     scene.start({"in.pcap": FRAME})
     for listing, want in EACH_CODE + BOUNDS:
         answers(scene, listing, want)
+        keeps(scene, want)
 
 
 @case

@@ -134,14 +134,15 @@ def some_listener(dice):
 
 
 def some_steps(dice, listeners):
-    """What some of the listeners do, in turn, and an arrival."""
+    """What some of the listeners do, in turn, and mostly an arrival."""
     for number in range(listeners):
         kind = dice.roll(12)
         if kind < 4:
             yield f"{'flush' if kind < 2 else 'read'} {number}"
         elif kind == 4 and dice.roll(8) == 0:
             yield f"close {number}"
-    yield "arrive"
+    if dice.roll(3):
+        yield "arrive"
 
 
 def reported(printed):
