@@ -1,1 +1,2 @@
 pub mod Statuses
+mod Told

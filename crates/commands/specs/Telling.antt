@@ -1,5 +1,5 @@
 -- What `bpftap steps` tells of what was played.
-use Rattle.std.specs.Prelude.{◌≡◌, ◌⊎◌, Bool, List, ℕ, [], ◌++◌, Option, Some, codes}
+use Rattle.std.specs.Prelude.{◌≡◌, ◌⊎◌, Bool, List, ℕ, [], ◌++◌, Option, Some, IsOk, OnOk, codes}
 use Rattle.lines.specs.declared.telling.Ended.{Ended}
 use Rattle.lines.specs.Sending.{Takes, streams}
 use Rattle.lines.specs.Telling.{told_line}
@@ -11,7 +11,7 @@ use Rattle.tap.specs.declared.step.Step.{Step}
 abbrev pub IsStillTold : List ℕ → List ℕ → Type 0
 IsStillTold told still = (still ≡ told) ⊎ (told ≡ told_line (codes "Device standard output") ++ still)
 
--- Steps were played, and printed to what took this so far; what was told of it, and still is, standard error took.
+-- Steps were played, and printed to what took this so far. What was told of it in memory, and still is, standard error took.
 pub record TellsPlayed (explained : Bool) (captures : List (List ℕ)) (specs : List Spec) (steps : List Step) (old new : Option (List ℕ)) (ended : Ended) : Type 0 where
   pub before : Option (List ℕ)
   pub behind : Option (List ℕ)
@@ -21,4 +21,5 @@ pub record TellsPlayed (explained : Bool) (captures : List (List ℕ)) (specs : 
   pub status : ended.status ≡ played.status
   pub still : List ℕ
   pub is_still : IsStillTold told still
+  pub whole : OnOk ended.told (IsOk played.told)
   pub tells : Takes old new ended.told still

@@ -117,7 +117,7 @@ pub fn play<O: Write, E: TakesHints>(
     };
     let ended = play_asked(alloc, asked, captures, explained, &mut printed, &mut told);
     drop(printed);
-    let told = send(
+    let sent = send(
         still_told(told.as_slice(), noted.get_ref().is_unread()),
         err,
     );
@@ -126,7 +126,7 @@ pub fn play<O: Write, E: TakesHints>(
     }
     Ended {
         status: ended.status,
-        told,
+        told: ended.told.and(sent),
     }
 }
 
