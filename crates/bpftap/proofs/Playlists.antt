@@ -37,11 +37,11 @@ abbrev OfRecord : Fault → Type 0
 OfRecord why = ((t : List ℕ) → RefusesHeader t why → ⊥) × (why ≡ fault.Device → ⊥) × (why ≡ fault.NoMemory → ⊥)
 
 -- a capture stopped at a torn or bad record behind these packets
-stopped-reads : (left : Option (List ℕ)) (broke : Type 0) (text : List ℕ) (ps : List Packet) (why : Fault) → OfRecord why → left ≡ Some text → IsStopped left broke ps why → IsCapture text ps (Some why)
-stopped-reads left broke text ps why (header, device, memory) told (inl (refused, none)) = absurd (header refused.text refused.refused)
-stopped-reads left broke text ps why (header, device, memory) told (inr (inl (head, read))) = reads-text left text head ps (Some why) told read
-stopped-reads left broke text ps why (header, device, memory) told (inr (inr (inl (is, broken, more)))) = absurd (device is)
-stopped-reads left broke text ps why (header, device, memory) told (inr (inr (inr (is, none)))) = absurd (memory is)
+stopped-reads : (left now : Option (List ℕ)) (broke : Type 0) (text : List ℕ) (ps : List Packet) (why : Fault) → OfRecord why → left ≡ Some text → IsStopped left now broke ps why → IsCapture text ps (Some why)
+stopped-reads left now broke text ps why (header, device, memory) told (inl (refused, none)) = absurd (header refused.text refused.refused)
+stopped-reads left now broke text ps why (header, device, memory) told (inr (inl (head, read))) = reads-text left text head ps (Some why) told read
+stopped-reads left now broke text ps why (header, device, memory) told (inr (inr (inl (is, broken, more)))) = absurd (device is)
+stopped-reads left now broke text ps why (header, device, memory) told (inr (inr (inr (is, none)))) = absurd (memory is)
 
 -- such an end is told with the capture's number
 ends-at : (k : ℕ) (why : Fault) (record_fault : Option (ℕ × Fault)) → EndsAs (Capture k why) record_fault → OfRecord why × (record_fault ≡ Some (k, why))
@@ -79,7 +79,7 @@ gives_one_playlist left failures (text ∷ texts) total n (s ∷ ss) (t ∷ ts) 
     let first : left s ≡ Some text = cc in
     let (of_record, same) = ends-at k why record_fault ends in (
       placed n 0 ps,
-      inr (ps, why, stopped-reads (left s) _ text ps why of_record first stopped, refl, same ∙ ap (λ (i : ℕ). Some (i, why)) at),
+      inr (ps, why, stopped-reads (left s) (left t) _ text ps why of_record first stopped, refl, same ∙ ap (λ (i : ℕ). Some (i, why)) at),
       is ∙ ap (λ (as' : List Arrival). arrivals_from n 0 ps ++ as') none ∙ arrive-placed n 0 ps [] ∙ ap (map arrival_of) (append-nil (placed n 0 ps)),
     )
 gives_one_playlist left failures (text ∷ texts) total n (s ∷ ss) (t ∷ ts) arrivals CountFull record_fault told plays ends = absurd ends

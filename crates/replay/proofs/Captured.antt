@@ -40,19 +40,20 @@ pub none-writable : All IsWritable []
 none-writable = λ k d below. absurd (omega (arith, below))
 
 -- why a capture could not be opened, of which no packet arrived
-pub not-opened : (start : Option (List ℕ)) (broke : Type 0) (why : Fault) → WasRefused start why ⊎ (why ≡ fault.Device) ⊎ (why ≡ fault.NoMemory)
-    → (why ≡ fault.Device → broke) → (why ≢ fault.Failed) × (why ≢ fault.CountFull) × IsStopped start broke [] why
-not-opened start broke why (inl refused) broken = (
+pub not-opened : (start left : Option (List ℕ)) (broke : Type 0) (why : Fault) → WasRefused start why ⊎ (why ≡ fault.Device) ⊎ (why ≡ fault.NoMemory)
+    → (why ≡ fault.Device → broke) → (bytes : List ℕ) × Consumes start left bytes × (why ≡ fault.Device → length bytes < 24)
+    → (why ≢ fault.Failed) × (why ≢ fault.CountFull) × IsStopped start left broke [] why
+not-opened start left broke why (inl refused) broken taken = (
   (λ e. subst (λ (f : Fault). RefusesHeader refused.text f) e refused.refused),
   (λ e. subst (λ (f : Fault). RefusesHeader refused.text f) e refused.refused),
   inl (refused, refl),
 )
-not-opened start broke why (inr (inl device)) broken = (
+not-opened start left broke why (inr (inl device)) broken (bytes, consumed, few) = (
   (λ e. let bad = sym device ∙ e in cc),
   (λ e. let bad = sym device ∙ e in cc),
-  inr (inr (inl (device, broken device, inl refl))),
+  inr (inr (inl (device, broken device, inl ((bytes, consumed, few device), refl)))),
 )
-not-opened start broke why (inr (inr none)) broken = (
+not-opened start left broke why (inr (inr none)) broken taken = (
   (λ e. let bad = sym none ∙ e in cc),
   (λ e. let bad = sym none ∙ e in cc),
   inr (inr (inr (none, refl))),

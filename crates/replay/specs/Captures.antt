@@ -1,8 +1,8 @@
 -- What captures give to the listeners of an interface, and how they end.
-use Rattle.std.specs.Prelude.{◌≡◌, ◌≢◌, ℕ, ◌+◌, ◌-◌, ◌^◌, ◌⊎◌, List, [], ◌∷◌, ◌++◌, Option, Some, None}
+use Rattle.std.specs.Prelude.{◌≡◌, ◌≢◌, ℕ, ◌+◌, ◌-◌, ◌^◌, ◌<◌, ◌⊎◌, List, [], ◌∷◌, ◌++◌, length, Option, Some, None}
 use Rattle.std.specs.Io.KnownBytes.{Consumes}
 use Rattle.listener.specs.Messages.{Arrival, arrival}
-use Rattle.savefile.specs.Reader.{WasBegun, WasRead, WasRefused}
+use Rattle.savefile.specs.Reader.{WasBegun, WasRead, WasRefused, WasTaken}
 use Rattle.savefile.specs.declared.fault.Fault.{Fault}
 use Rattle.savefile.specs.declared.fault.Fault.TheVariants as fault
 use Rattle.savefile.specs.declared.header.Header.{Header}
@@ -15,22 +15,27 @@ abbrev pub arrivals_from : ℕ → ℕ → List Packet → List Arrival
 arrivals_from capture place [] = []
 arrivals_from capture place (p ∷ ps) = arrival capture place p ∷ arrivals_from capture (place + 1) ps
 
+-- Of a source that had `start` left before, and has `left` now, less than a header was taken.
+abbrev pub GaveNoHeader : Option (List ℕ) → Option (List ℕ) → Type 0
+GaveNoHeader start left = (bytes : List ℕ) × Consumes start left bytes × (length bytes < 24)
+
 -- Why a capture ended before its end, behind these packets: its header is refused; a record's fault stands behind them; its
--- source failed, and they begin what it holds; or memory was refused, and it gave nothing.
-abbrev pub IsStopped : Option (List ℕ) → Type 0 → List Packet → Fault → Type 0
-IsStopped start broke packets why =
+-- source failed, and they begin what it holds, and are all that was taken whole; or memory was refused, and it gave nothing.
+abbrev pub IsStopped : Option (List ℕ) → Option (List ℕ) → Type 0 → List Packet → Fault → Type 0
+IsStopped start left broke packets why =
     (WasRefused start why × (packets ≡ []))
     ⊎ ((header : Header) × WasRead start header packets (Some why))
-    ⊎ ((why ≡ fault.Device) × broke × ((packets ≡ []) ⊎ ((header : Header) × WasBegun start header packets)))
+    ⊎ ((why ≡ fault.Device) × broke × ((GaveNoHeader start left × (packets ≡ []))
+    ⊎ ((header : Header) × WasBegun start header packets × WasTaken start left header packets)))
     ⊎ ((why ≡ fault.NoMemory) × (packets ≡ []))
 
 -- How a capture ended, of which these packets arrived: it was read whole; it has a fault; or no more arrivals can be counted.
-abbrev pub EndsSo : Option (List ℕ) → Type 0 → ℕ → ℕ → List Packet → Option InterfaceEnd → Type 0
-EndsSo start broke capture arrived packets None = (header : Header) × WasRead start header packets None
-EndsSo start broke capture arrived packets (Some Clean) = ⊥
-EndsSo start broke capture arrived packets (Some (Capture n why)) =
-    (n ≡ capture) × (why ≢ fault.Failed) × (why ≢ fault.CountFull) × IsStopped start broke packets why
-EndsSo start broke capture arrived packets (Some CountFull) = (arrived ≡ 2 ^ 64 - 2) × (header : Header) × WasBegun start header packets
+abbrev pub EndsSo : Option (List ℕ) → Option (List ℕ) → Type 0 → ℕ → ℕ → List Packet → Option InterfaceEnd → Type 0
+EndsSo start left broke capture arrived packets None = (header : Header) × WasRead start header packets None
+EndsSo start left broke capture arrived packets (Some Clean) = ⊥
+EndsSo start left broke capture arrived packets (Some (Capture n why)) =
+    (n ≡ capture) × (why ≢ fault.Failed) × (why ≢ fault.CountFull) × IsStopped start left broke packets why
+EndsSo start left broke capture arrived packets (Some CountFull) = (arrived ≡ 2 ^ 64 - 2) × (header : Header) × WasBegun start header packets
 
 -- A source that was read comes back: bytes were taken of what it had left, and no others; and it did not fail in between, unless
 -- the capture ended so.
@@ -41,7 +46,7 @@ ComesBack left failures s t capture end =
 -- A capture was read, of which these packets arrived, and so it ended, of so many arrivals at the interface.
 abbrev pub GivesPackets : {R : Type 0} → (R → Option (List ℕ)) → (R → ℕ) → R → R → ℕ → ℕ → List Packet → Option InterfaceEnd → Type 0
 GivesPackets left failures s t capture arrived packets end =
-    EndsSo (left s) (failures t ≢ failures s) capture arrived packets end × ComesBack left failures s t capture end
+    EndsSo (left s) (left t) (failures t ≢ failures s) capture arrived packets end × ComesBack left failures s t capture end
 
 -- A list of captures was read, of which the first has this number: so the playlist arrived, of `total` packets in all, and so it
 -- ended. Each capture was read whole, or it ended the playlist, and no capture behind it was read: their sources are as they were.

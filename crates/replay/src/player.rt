@@ -122,7 +122,7 @@ impl Player<'_> {
         requires room { self.old.arrived ≤ 2 ^ 64 - 2 }
         requires so_far { (starts : List Line) × (playlist : List Arrival) × HasArrived starts playlist self.old }
         ensures played { (start : Option (List ℕ)) (header : Header) → HasGiven S.left start header [] reader.old →
-            HasGivenPackets start (S.failures reader.new.source ≢ S.failures reader.old.source) capture self.old self.new result }
+            HasGivenPackets start (S.left reader.new.source) (S.failures reader.new.source ≢ S.failures reader.old.source) capture self.old self.new result }
         ensures back { ComesBack S.left S.failures reader.old.source reader.new.source capture result }
         ensures room { self.new.arrived ≤ 2 ^ 64 - 2 }
         ensures so_far { (starts : List Line) × (playlist : List Arrival) × HasArrived starts playlist self.new }
@@ -152,7 +152,7 @@ impl Player<'_> {
     ) -> (S, Option<InterfaceEnd>)
         requires room { self.old.arrived ≤ 2 ^ 64 - 2 }
         requires so_far { (starts : List Line) × (playlist : List Arrival) × HasArrived starts playlist self.old }
-        ensures played { HasGivenPackets (S.left source) (S.failures result.0 ≢ S.failures source) capture self.old self.new result.1 }
+        ensures played { HasGivenPackets (S.left source) (S.left result.0) (S.failures result.0 ≢ S.failures source) capture self.old self.new result.1 }
         ensures back { ComesBack S.left S.failures source result.0 capture result.1 }
         ensures room { self.new.arrived ≤ 2 ^ 64 - 2 }
         ensures so_far { (starts : List Line) × (playlist : List Arrival) × HasArrived starts playlist self.new }

@@ -39,7 +39,7 @@ pub enum InterfaceEnd {
     /// All captures were read to their end.
     Clean,
     /// This capture has this fault, behind all packets of the captures before it and those of its own before the fault; with
-    /// [`Fault::Device`] a beginning of its own, and with [`Fault::NoMemory`] none.
+    /// [`Fault::Device`] those of its own that came whole, and with [`Fault::NoMemory`] none.
     Capture(u32, Fault),
     /// 2^64 - 2 packets arrived, the most that are counted.
     CountFull,

@@ -10,15 +10,16 @@ use Rattle.replay.proofs.player.Player.give_capture.Goals as goal
 pub returns-in-Ok-clause-played : goal.returns-in-Ok-clause-played
 returns-in-Ok-clause-played g c =
     let start = g.S.Source.left c.args.source in
+    let L = g.S.Source.left in
     let F = g.S.Source.failures in
-    subst (λ (n : ℕ). HasGivenPackets start (F c.close.result ≢ n) c.args.capture c.args.self.now c.give_packets-end.new.self c.give_packets-end.result) c.in-Ok.ensures.device
-    (subst (λ x. HasGivenPackets start (F x ≢ F c.in-Ok.reader.source) c.args.capture c.args.self.now c.give_packets-end.new.self c.give_packets-end.result) (sym c.close.ensures)
+    subst (λ (n : ℕ). HasGivenPackets start (L c.close.result) (F c.close.result ≢ n) c.args.capture c.args.self.now c.give_packets-end.new.self c.give_packets-end.result) c.in-Ok.ensures.device
+    (subst (λ x. HasGivenPackets start (L x) (F x ≢ F c.in-Ok.reader.source) c.args.capture c.args.self.now c.give_packets-end.new.self c.give_packets-end.result) (sym c.close.ensures)
     (c.give_packets-end.ensures.played start c.in-Ok.reader.header c.in-Ok.ensures.ok))
 
 pub returns-in-Err-clause-played : goal.returns-in-Err-clause-played
 returns-in-Err-clause-played g c =
-    let why = not-opened (g.S.Source.left c.args.source) (g.S.Source.failures c.in-Err.source ≢ g.S.Source.failures c.args.source) c.in-Err.fault
-    c.in-Err.ensures.refused c.in-Err.ensures.device.0 in record {
+    let why = not-opened (g.S.Source.left c.args.source) (g.S.Source.left c.in-Err.source) (g.S.Source.failures c.in-Err.source ≢ g.S.Source.failures c.args.source) c.in-Err.fault
+    c.in-Err.ensures.refused c.in-Err.ensures.device.0 c.in-Err.ensures.taken in record {
       packets = [];
       writable = none-writable;
       arrive = λ starts playlist h. subst (λ (as' : List Arrival). HasArrived starts as' c.args.self.now) (sym (append-nil playlist)) h;

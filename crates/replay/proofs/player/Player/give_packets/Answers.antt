@@ -34,7 +34,7 @@ returns-in-Err-clause-played g c = λ start header h.
           | inr (inl device) ↦ inr (inr (inl (
             device.0,
             (λ same. a.device.0 (c.in-Err.is ∙ ap Err device.0) (same ∙ sym c.loop-place.invariant.3)),
-            inr (header, a.so_far start header packets given),
+            inr (header, a.so_far start header packets given, device.1),
           )))
           | inr (inr full) ↦ absurd (omega (arith, full.1, so_many, most, sum))
         ],
