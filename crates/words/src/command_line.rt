@@ -153,25 +153,38 @@ fn cut_command<'a>(alloc: Global) -> Result<Command<'a>, AllocError> {
         ))
 }
 
-fn program<'a>(alloc: Global) -> Result<Command<'a>, AllocError> {
-    Command::new(alloc, "bpftap")
-        .version(VERSION)
-        .about(ABOUT)
-        .after_help(EXAMPLES)
-        .arg(
-            Arg::new(alloc, "hints")
-                .long(HINTS)
-                .action(ArgAction::SetTrue)
-                .help("Say below a fault what helps to mend it, as where it is told on a terminal"),
-        )?
-        .subcommand_required(true)
-        .arg_required_else_help(true)
+fn hints_arg<'a>(alloc: Global) -> Arg<'a> {
+    Arg::new(alloc, "hints")
+        .long(HINTS)
+        .action(ArgAction::SetTrue)
+        .help("Say below a fault what helps to mend it, as where it is told on a terminal")
+}
+
+/// The subcommands that ask about packets one by one.
+fn with_packets<'a>(alloc: Global, program: Command<'a>) -> Result<Command<'a>, AllocError> {
+    program
         .subcommand(check_command(alloc)?)?
         .subcommand(explain_command(alloc)?)?
-        .subcommand(cut_command(alloc)?)?
+        .subcommand(cut_command(alloc)?)
+}
+
+/// Those that have files of lines.
+fn with_lines<'a>(alloc: Global, program: Command<'a>) -> Result<Command<'a>, AllocError> {
+    program
         .subcommand(split_command(alloc)?)?
         .subcommand(steps_command(alloc)?)?
         .subcommand(run_command(alloc)?)
+}
+
+fn program<'a>(alloc: Global) -> Result<Command<'a>, AllocError> {
+    let program = Command::new(alloc, "bpftap")
+        .version(VERSION)
+        .about(ABOUT)
+        .after_help(EXAMPLES)
+        .arg(hints_arg(alloc))?
+        .subcommand_required(true)
+        .arg_required_else_help(true);
+    with_lines(alloc, with_packets(alloc, program)?)
 }
 
 pub(crate) fn order_of(matches: &ArgMatches<'_>) -> Order {
@@ -220,17 +233,36 @@ fn bad_words(
     }
 }
 
+/// What words of a subcommand that `clap` took ask for, or what is wrong with them.
+fn asked_of<'a>(
+    alloc: Global,
+    name: &str,
+    words: &ArgMatches<'a>,
+    program: &mut Command<'_>,
+) -> Result<Request<'a>, Error> {
+    match request_of(alloc, name, words)? {
+        Some(request) => Ok(request),
+        None => Err(bad_words(alloc, name, words, program)?),
+    }
+}
+
+/// What words that `clap` took ask for.
+fn asked_by<'a>(
+    alloc: Global,
+    matches: &ArgMatches<'a>,
+    program: &mut Command<'_>,
+) -> Result<Request<'a>, Error> {
+    match matches.subcommand() {
+        Some((name, words)) => asked_of(alloc, name, words, program),
+        None => Err(program.error(ErrorKind::MissingSubcommand, "a subcommand is wanted")?),
+    }
+}
+
 /// What the words ask for, the program's name first; or `clap`'s error, which for a call for help has the help.
 pub fn read_words<'a, S: AsStr>(alloc: Global, words: &'a [S]) -> Result<Request<'a>, Error> {
     let mut program = program(alloc)?;
     let matches = program.try_get_matches_from_mut(words)?;
-    let Some((name, given)) = matches.subcommand() else {
-        return Err(program.error(ErrorKind::MissingSubcommand, "a subcommand is wanted")?);
-    };
-    match request_of(alloc, name, given)? {
-        Some(request) => Ok(request),
-        None => Err(bad_words(alloc, name, given, &mut program)?),
-    }
+    asked_by(alloc, &matches, &mut program)
 }
 
 /// The error of a snapshot length that is not digits alone, with the usage of its subcommand.
