@@ -11,12 +11,9 @@ use Rattle.syntax.specs.Trees.{Tree}
 use Rattle.syntax.specs.Trees as trees
 use Rattle.semantics.specs.declared.verdict.Verdict.{Verdict}
 use Rattle.semantics.specs.declared.verdict.Verdict.TheVariants.{Yes, No, Abort}
-use Rattle.semantics.specs.Meaning.{Packet, Test, and_then, or_else, opposite, check, decided, byte, half, word, is_type, is_first_fragment_of, by_direction, within, half_behind_header, has_port, bytes_of, behind_header, accessed, in_layer, meaning}
-use Rattle.syntax.specs.declared.tree.Direction.{Direction}
-use Rattle.syntax.specs.declared.tree.Transport.{Transport}
-use Rattle.syntax.specs.declared.tree.Transport.TheVariants as transports
+use Rattle.semantics.specs.Meaning.{Packet, Test, and_then, or_else, check, decided, byte, half, word, is_type, is_first_fragment_of, by_direction, within, half_behind_header, has_port, bytes_of, behind_header, accessed, in_layer, meaning}
 use Rattle.std.proofs.Common.{bit_and, ap, sym, ◌∙◌}
-use Rattle.semantics.specs.Meaning.{has_ports, has_any_ports, protocol_number}
+use Rattle.semantics.specs.Meaning.{has_ports}
 use Rattle.analysis.specs.declared.lists.Chain.{Chain}
 use Rattle.analysis.specs.declared.lists.Chain.TheVariants as chains
 use Rattle.analysis.specs.declared.lists.Form.{Form}
