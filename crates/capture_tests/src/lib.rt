@@ -1,4 +1,5 @@
-//! Tests of `cutting`, `lines` and `verdicts` that the program does not show: devices that break, and the callers of two pages.
+//! Tests of the commands over captures that the program does not show: devices that break, files over a made system, what is told
+//! of each, and the callers of the pages.
 #![tactic(auto)]
 
 #[cfg(test)]
@@ -7,5 +8,15 @@ mod cut;
 mod decided;
 #[cfg(test)]
 mod explained;
+#[cfg(test)]
+mod files_told;
+#[cfg(test)]
+mod late;
+#[cfg(test)]
+mod paths;
+#[cfg(test)]
+mod split;
+#[cfg(test)]
+mod system;
 #[cfg(test)]
 mod telling;

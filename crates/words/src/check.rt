@@ -37,47 +37,55 @@ expression that it stands at, from 0; docs/LANGUAGE.md has the language.
 Exit status: 0 the program is printed; 1 the expression or listing is refused or the program is
 too long, wrong words, or want of memory; 3 a file or standard output failed.";
 
+fn read_arg<'a>(alloc: Global) -> Result<Arg<'a>, AllocError> {
+    Ok(
+        Arg::new(alloc, "read")
+            .short('x')
+            .action(ArgAction::SetTrue)
+            .conflicts_with("named")?
+            .conflicts_with("listing")?
+            .help("Print the expression as it was read, with all that it inherits written out"),
+    )
+}
+
+/// The snapshot length of a program that is printed or explained.
+pub(crate) fn default_snap_arg<'a>(alloc: Global) -> Arg<'a> {
+    Arg::new(alloc, "snap")
+        .short('s')
+        .value_name("N")
+        .allow_negative_numbers(true)
+        .default_value("262144")
+        .help("Snapshot length that the program of EXPR answers, 0 to 262144 (0 means 262144)")
+}
+
+fn expr_word<'a>(alloc: Global) -> Result<Arg<'a>, AllocError> {
+    Ok(
+        Arg::new(alloc, "EXPR")
+            .required_unless_present("listing")?
+            .conflicts_with("listing")?
+            .help("Filter expression of pcap-filter(7), as one word; it may be empty"),
+    )
+}
+
 /// The subcommand.
 pub fn check_command<'a>(alloc: Global) -> Result<Command<'a>, AllocError> {
+    let args = vec![in alloc;
+        Arg::new(alloc, "named")
+            .short('d')
+            .action(ArgAction::SetTrue)
+            .help("Print instructions by their names, as tcpdump -d does"),
+        read_arg(alloc)?,
+        default_snap_arg(alloc),
+        Arg::new(alloc, "listing")
+            .short('f')
+            .value_name("LISTING")
+            .help("Print the program of this file, which is in the form of tcpdump -ddd"),
+        expr_word(alloc)?,
+    ]?;
     Command::new(alloc, "check")
         .about("Print the program of a filter expression, or tell what is wrong with it")
         .after_help(CHECK_EXAMPLES)
-        .arg(
-            Arg::new(alloc, "named")
-                .short('d')
-                .action(ArgAction::SetTrue)
-                .help("Print instructions by their names, as tcpdump -d does"),
-        )?
-        .arg(
-            Arg::new(alloc, "read")
-                .short('x')
-                .action(ArgAction::SetTrue)
-                .conflicts_with("named")?
-                .conflicts_with("listing")?
-                .help("Print the expression as it was read, with all that it inherits written out"),
-        )?
-        .arg(
-            Arg::new(alloc, "snap")
-                .short('s')
-                .value_name("N")
-                .allow_negative_numbers(true)
-                .default_value("262144")
-                .help(
-                    "Snapshot length that the program of EXPR answers, 0 to 262144 (0 means 262144)",
-                ),
-        )?
-        .arg(
-            Arg::new(alloc, "listing")
-                .short('f')
-                .value_name("LISTING")
-                .help("Print the program of this file, which is in the form of tcpdump -ddd"),
-        )?
-        .arg(
-            Arg::new(alloc, "EXPR")
-                .required_unless_present("listing")?
-                .conflicts_with("listing")?
-                .help("Filter expression of pcap-filter(7), as one word; it may be empty"),
-        )
+        .args(args)
 }
 
 /// The words that were found, nothing where one is missing or the snapshot length is none.

@@ -89,7 +89,7 @@ fn snap_arg<'a>(alloc: Global) -> Arg<'a> {
         .help("Snapshot length: keep at most N bytes of a packet, 0 to 262144 (0 means 262144)")
 }
 
-fn listing_arg<'a>(alloc: Global) -> Arg<'a> {
+pub(crate) fn listing_arg<'a>(alloc: Global) -> Arg<'a> {
     Arg::new(alloc, "listing")
         .short('f')
         .value_name("LISTING")
@@ -127,51 +127,67 @@ fn count_arg<'a>(alloc: Global) -> Arg<'a> {
         .help("Tell on standard error how many of how many packets were written")
 }
 
-fn path_arg<'a>(alloc: Global, name: &'a str, help: &'a str) -> Arg<'a> {
+pub(crate) fn path_arg<'a>(alloc: Global, name: &'a str, help: &'a str) -> Arg<'a> {
     Arg::new(alloc, name).required(true).help(help)
 }
 
 fn cut_command<'a>(alloc: Global) -> Result<Command<'a>, AllocError> {
+    let args = vec![in alloc;
+        snap_arg(alloc),
+        listing_arg(alloc),
+        expr_arg(alloc),
+        order_arg(alloc),
+        unit_arg(alloc),
+        count_arg(alloc),
+        path_arg(
+            alloc,
+            "IN",
+            "Capture to read: a classic savefile of Ethernet frames"
+        ),
+        path_arg(
+            alloc,
+            "OUT",
+            "Capture to write; made once the filter and the header of IN are accepted"
+        ),
+    ]?;
     Command::new(alloc, "cut")
         .about("Write each packet of IN that the filter accepts, cut, to OUT")
         .after_help(CUT_EXAMPLES)
-        .arg(snap_arg(alloc))?
-        .arg(listing_arg(alloc))?
-        .arg(expr_arg(alloc))?
-        .arg(order_arg(alloc))?
-        .arg(unit_arg(alloc))?
-        .arg(count_arg(alloc))?
-        .arg(path_arg(
-            alloc,
-            "IN",
-            "Capture to read: a classic savefile of Ethernet frames",
-        ))?
-        .arg(path_arg(
-            alloc,
-            "OUT",
-            "Capture to write; made once the filter and the header of IN are accepted",
-        ))
+        .args(args)
 }
 
-fn program<'a>(alloc: Global) -> Result<Command<'a>, AllocError> {
-    Command::new(alloc, "bpftap")
-        .version(VERSION)
-        .about(ABOUT)
-        .after_help(EXAMPLES)
-        .arg(
-            Arg::new(alloc, "hints")
-                .long(HINTS)
-                .action(ArgAction::SetTrue)
-                .help("Say below a fault what helps to mend it, as where it is told on a terminal"),
-        )?
-        .subcommand_required(true)
-        .arg_required_else_help(true)
+fn hints_arg<'a>(alloc: Global) -> Arg<'a> {
+    Arg::new(alloc, "hints")
+        .long(HINTS)
+        .action(ArgAction::SetTrue)
+        .help("Say below a fault what helps to mend it, as where it is told on a terminal")
+}
+
+/// With the subcommands that ask about packets one by one.
+fn with_packets<'a>(alloc: Global, program: Command<'a>) -> Result<Command<'a>, AllocError> {
+    program
         .subcommand(check_command(alloc)?)?
         .subcommand(explain_command(alloc)?)?
-        .subcommand(cut_command(alloc)?)?
+        .subcommand(cut_command(alloc)?)
+}
+
+/// With those that have files of lines.
+fn with_lines<'a>(alloc: Global, program: Command<'a>) -> Result<Command<'a>, AllocError> {
+    program
         .subcommand(split_command(alloc)?)?
         .subcommand(steps_command(alloc)?)?
         .subcommand(run_command(alloc)?)
+}
+
+fn program<'a>(alloc: Global) -> Result<Command<'a>, AllocError> {
+    let program = Command::new(alloc, "bpftap")
+        .version(VERSION)
+        .about(ABOUT)
+        .after_help(EXAMPLES)
+        .arg(hints_arg(alloc))?
+        .subcommand_required(true)
+        .arg_required_else_help(true);
+    with_lines(alloc, with_packets(alloc, program)?)
 }
 
 pub(crate) fn order_of(matches: &ArgMatches<'_>) -> Order {
@@ -220,17 +236,36 @@ fn bad_words(
     }
 }
 
+/// What words of a subcommand that `clap` took ask for, or what is wrong with them.
+fn asked_of<'a>(
+    alloc: Global,
+    name: &str,
+    words: &ArgMatches<'a>,
+    program: &mut Command<'_>,
+) -> Result<Request<'a>, Error> {
+    match request_of(alloc, name, words)? {
+        Some(request) => Ok(request),
+        None => Err(bad_words(alloc, name, words, program)?),
+    }
+}
+
+/// What words that `clap` took ask for.
+fn asked_by<'a>(
+    alloc: Global,
+    matches: &ArgMatches<'a>,
+    program: &mut Command<'_>,
+) -> Result<Request<'a>, Error> {
+    match matches.subcommand() {
+        Some((name, words)) => asked_of(alloc, name, words, program),
+        None => Err(program.error(ErrorKind::MissingSubcommand, "a subcommand is wanted")?),
+    }
+}
+
 /// What the words ask for, the program's name first; or `clap`'s error, which for a call for help has the help.
 pub fn read_words<'a, S: AsStr>(alloc: Global, words: &'a [S]) -> Result<Request<'a>, Error> {
     let mut program = program(alloc)?;
     let matches = program.try_get_matches_from_mut(words)?;
-    let Some((name, given)) = matches.subcommand() else {
-        return Err(program.error(ErrorKind::MissingSubcommand, "a subcommand is wanted")?);
-    };
-    match request_of(alloc, name, given)? {
-        Some(request) => Ok(request),
-        None => Err(bad_words(alloc, name, given, &mut program)?),
-    }
+    asked_by(alloc, &matches, &mut program)
 }
 
 /// The error of a snapshot length that is not digits alone, with the usage of its subcommand.

@@ -1,5 +1,7 @@
 //! The words of `bpftap explain`, by `clap`.
 
+use crate::check::default_snap_arg;
+use crate::command_line::{listing_arg, path_arg};
 use clap::error::ErrorKind;
 use clap::{Arg, ArgGroup, ArgMatches, Command, Error};
 use lines::fields::{number, snapshot_length};
@@ -36,51 +38,41 @@ here; tcpdump and Wireshark count packets from 1.
 Exit status: 0 clean; 1 wrong words, a refused expression, file or listing, no packet at PLACE, or
 want of memory; 2 a torn or bad record, after the packets before it; 3 a file or device failed.";
 
+/// A filter is wanted: an expression, a listing, or both.
+fn filter_group<'a>(alloc: Global) -> Result<ArgGroup<'a>, AllocError> {
+    Ok(
+        ArgGroup::new(alloc, "filter")
+            .arg("expr")?
+            .arg("listing")?
+            .required(true)
+            .multiple(true),
+    )
+}
+
 /// The subcommand.
 pub fn explain_command<'a>(alloc: Global) -> Result<Command<'a>, AllocError> {
+    let args = vec![in alloc;
+        default_snap_arg(alloc),
+        Arg::new(alloc, "expr").short('e').value_name("EXPR").help(
+            "Filter expression of pcap-filter(7), as one word; it may be empty"
+        ),
+        listing_arg(alloc),
+        Arg::new(alloc, "place")
+            .short('p')
+            .value_name("PLACE")
+            .allow_negative_numbers(true)
+            .help("Tell this packet alone, counted from 0, in full"),
+        path_arg(
+            alloc,
+            "IN",
+            "Capture to read: a classic savefile of Ethernet frames"
+        ),
+    ]?;
     Command::new(alloc, "explain")
         .about("Tell of each packet of IN whether the filter accepts it, and what decided")
         .after_help(EXPLAIN_EXAMPLES)
-        .arg(
-            Arg::new(alloc, "snap")
-                .short('s')
-                .value_name("N")
-                .allow_negative_numbers(true)
-                .default_value("262144")
-                .help(
-                    "Snapshot length that the program of EXPR answers, 0 to 262144 (0 means 262144)",
-                ),
-        )?
-        .arg(
-            Arg::new(alloc, "expr").short('e').value_name("EXPR").help(
-                "Filter expression of pcap-filter(7), as one word; it may be empty",
-            ),
-        )?
-        .arg(
-            Arg::new(alloc, "listing")
-                .short('f')
-                .value_name("LISTING")
-                .help("Filter program, as lines of numbers in the form of tcpdump -ddd"),
-        )?
-        .arg(
-            Arg::new(alloc, "place")
-                .short('p')
-                .value_name("PLACE")
-                .allow_negative_numbers(true)
-                .help("Tell this packet alone, counted from 0, in full"),
-        )?
-        .arg(
-            Arg::new(alloc, "IN")
-                .required(true)
-                .help("Capture to read: a classic savefile of Ethernet frames"),
-        )?
-        .group(
-            ArgGroup::new(alloc, "filter")
-                .arg("expr")?
-                .arg("listing")?
-                .required(true)
-                .multiple(true),
-        )
+        .args(args)?
+        .group(filter_group(alloc)?)
 }
 
 /// The place of a packet, where one is given; nothing inside where it is no number.

@@ -1,6 +1,7 @@
 //! The words of `bpftap run`, by `clap`.
 
-use clap::{Arg, ArgMatches, Command};
+use crate::command_line::path_arg;
+use clap::{ArgMatches, Command};
 use std::alloc::{AllocError, Global};
 
 /// What one call of `bpftap run` asks for.
@@ -34,19 +35,23 @@ Exit status: 0 clean; 1 wrong words, a refused line, expression or file, an Unfi
 
 /// The subcommand.
 pub fn run_command<'a>(alloc: Global) -> Result<Command<'a>, AllocError> {
+    let args = vec![in alloc;
+        path_arg(
+            alloc,
+            "LISTENERS",
+            "File with a line INTERFACE FLUSH SNAP CAPACITY SPARES OUT EXPRESSION for each listener"
+        ),
+        path_arg(
+            alloc,
+            "IN",
+            "Captures to replay, in order, with + between those of two interfaces"
+        )
+        .num_args(1..),
+    ]?;
     Command::new(alloc, "run")
         .about("Replay captures in threads to listeners, each of which writes a capture")
         .after_help(RUN_EXAMPLES)
-        .arg(
-            Arg::new(alloc, "LISTENERS").required(true).help(
-                "File with a line INTERFACE FLUSH SNAP CAPACITY SPARES OUT EXPRESSION for each listener",
-            ),
-        )?
-        .arg(
-            Arg::new(alloc, "IN").required(true).num_args(1..).help(
-                "Captures to replay, in order, with + between those of two interfaces",
-            ),
-        )
+        .args(args)
 }
 
 /// The paths of each interface.

@@ -1,7 +1,7 @@
 //! The words of `bpftap split`, by `clap`.
 
-use crate::command_line::{order_arg, order_of, unit_arg, unit_of};
-use clap::{Arg, ArgMatches, Command};
+use crate::command_line::{order_arg, order_of, path_arg, unit_arg, unit_of};
+use clap::{ArgMatches, Command};
 use savefile::{Order, Unit};
 use std::alloc::{AllocError, Global};
 
@@ -35,23 +35,27 @@ Exit status: 0 clean; 1 wrong words, a refused line, expression or file, or want
 
 /// The subcommand.
 pub fn split_command<'a>(alloc: Global) -> Result<Command<'a>, AllocError> {
+    let args = vec![in alloc;
+        order_arg(alloc),
+        unit_arg(alloc),
+        path_arg(
+            alloc,
+            "LINES",
+            "File with a line SNAP OUT EXPRESSION for each capture that is written"
+        ),
+        path_arg(
+            alloc,
+            "IN",
+            "Captures to read, in order: classic savefiles of Ethernet frames"
+        )
+        .num_args(1..),
+    ]?;
     Command::new(alloc, "split")
         .about(
             "Write the packets of captures to several OUT, each by a filter of its own, in one pass",
         )
         .after_help(SPLIT_EXAMPLES)
-        .arg(order_arg(alloc))?
-        .arg(unit_arg(alloc))?
-        .arg(
-            Arg::new(alloc, "LINES").required(true).help(
-                "File with a line SNAP OUT EXPRESSION for each capture that is written",
-            ),
-        )?
-        .arg(
-            Arg::new(alloc, "IN").required(true).num_args(1..).help(
-                "Captures to read, in order: classic savefiles of Ethernet frames",
-            ),
-        )
+        .args(args)
 }
 
 /// The words that were found, nothing where one is missing.

@@ -1,5 +1,6 @@
 //! The words of `bpftap steps`, by `clap`.
 
+use crate::command_line::path_arg;
 use clap::{Arg, ArgAction, ArgMatches, Command};
 use std::alloc::{AllocError, Global};
 
@@ -37,36 +38,36 @@ Exit status: 0 clean; 1 wrong words, a refused line, expression or file, or want
 
 /// The subcommand.
 pub fn steps_command<'a>(alloc: Global) -> Result<Command<'a>, AllocError> {
+    let args = vec![in alloc;
+        Arg::new(alloc, "explained")
+            .short('v')
+            .action(ArgAction::SetTrue)
+            .help("Print each step's answers first, and why they were given"),
+        Arg::new(alloc, "picture")
+            .short('p')
+            .value_name("FILE")
+            .help("Draw what each step found in the buffers to FILE, as SVG"),
+        path_arg(
+            alloc,
+            "LISTENERS",
+            "File with a line SNAP CAPACITY EXPRESSION for each listener"
+        ),
+        path_arg(
+            alloc,
+            "SCRIPT",
+            "File with a line for each step: arrive, flush L, read L or close L"
+        ),
+        path_arg(
+            alloc,
+            "IN",
+            "Captures to replay, in order: classic savefiles of Ethernet frames"
+        )
+        .num_args(1..),
+    ]?;
     Command::new(alloc, "steps")
         .about("Play a script to listeners over captures, and report what each has read and holds")
         .after_help(STEPS_EXAMPLES)
-        .arg(
-            Arg::new(alloc, "explained")
-                .short('v')
-                .action(ArgAction::SetTrue)
-                .help("Print each step's answers first, and why they were given"),
-        )?
-        .arg(
-            Arg::new(alloc, "picture")
-                .short('p')
-                .value_name("FILE")
-                .help("Draw what each step found in the buffers to FILE, as SVG"),
-        )?
-        .arg(
-            Arg::new(alloc, "LISTENERS").required(true).help(
-                "File with a line SNAP CAPACITY EXPRESSION for each listener",
-            ),
-        )?
-        .arg(
-            Arg::new(alloc, "SCRIPT").required(true).help(
-                "File with a line for each step: arrive, flush L, read L or close L",
-            ),
-        )?
-        .arg(
-            Arg::new(alloc, "IN").required(true).num_args(1..).help(
-                "Captures to replay, in order: classic savefiles of Ethernet frames",
-            ),
-        )
+        .args(args)
 }
 
 /// The words that were found, nothing where one is missing.

@@ -1,5 +1,8 @@
 //! Captures that are split, and devices that break.
 
+mod caller;
+mod telling;
+
 use cutting::filter::filter;
 use fixtures::captures::{HEADER, TCP, UDP, bytes_of, concat};
 use fixtures::devices::{BreakingWriter, PiecesReader};
