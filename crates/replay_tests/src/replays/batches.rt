@@ -56,7 +56,7 @@ impl<R: Clock> Gate for Batches<'_, R> {
 }
 
 /// A task whose store becomes the hold behind the third packet, and not before.
-fn weighed(bytes: &AtomicU64) -> Result<Task<Counted<Weighed<'_>>>, bpfvm::Invalid> {
+fn weighing_task(bytes: &AtomicU64) -> Result<Task<Counted<Weighed<'_>>>, bpfvm::Invalid> {
     let sink = Counted::new(Weighed { bytes });
     let mut one = task(keeping_all()?, 64, 1_000, sink);
     one.flush_every = 3;
@@ -69,7 +69,7 @@ fn three(
     bytes: &AtomicU64,
 ) -> Result<Vec<Interface<Source, Counted<Weighed<'_>>>>, Fail> {
     let text = capture(alloc, 1, &[TCP_FRAME, UDP_FRAME, TCP_FRAME])?;
-    Ok(alone(alloc, text, weighed(bytes)?)?)
+    Ok(alone(alloc, text, weighing_task(bytes)?)?)
 }
 
 /// One batch of three packets was told, and in time.

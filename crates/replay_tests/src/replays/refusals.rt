@@ -50,7 +50,7 @@ fn sources(
 }
 
 /// A task of a snapshot length, a capacity and a number of spare buffers.
-fn tallied(
+fn tallying_task(
     calls: &AtomicU64,
     numbers: (u32, usize, usize),
 ) -> Result<Task<Tally<'_>>, bpfvm::Invalid> {
@@ -68,7 +68,7 @@ fn tasks_of<'a>(
 ) -> Result<Vec<Task<Tally<'a>>>, Fail> {
     let mut made = Vec::new(alloc);
     for numbers in tasks {
-        made.push(tallied(calls, *numbers)?)?;
+        made.push(tallying_task(calls, *numbers)?)?;
     }
     Ok(made)
 }
