@@ -213,10 +213,10 @@ impl Code {
         Ok(Emitted { entry, ways })
     }
 
-    /// What is left of the list at the right end of a chain of these two, where one is. The list takes some memory of the stack,
-    /// which is not to be in each frame of the walk down a tree.
+    /// What is left of the list at the right end of a chain of these two, where one is. What a list takes of the stack is not to be in
+    /// the frames of the walk down a tree, and is cleared at each call.
     #[inline(never)]
-    fn list<'a>(
+    fn neighbours<'a>(
         &mut self,
         known: Known,
         chain: Chain,
@@ -241,6 +241,29 @@ impl Code {
         let (entry, ways) = (members.entry, turned(chain, members.ways));
         let emitted = Emitted { entry, ways };
         Ok(Some(End { emitted, left }))
+    }
+
+    /// The same, where the last link may be one of a list. Else there is none, and nothing is cleared.
+    fn list<'a>(
+        &mut self,
+        known: Known,
+        chain: Chain,
+        left: &'a Expr,
+        right: &Expr,
+        ways: Ways,
+    ) -> Result<Option<End<'a>>, Full>
+        requires ways { AreWays self.old ways }
+        ensures { OrFull (weight (tree_of left.now) + weight (tree_of right.now)) self.old result (λ found.
+            MatchOption found (self.new ≡ self.old) (λ listed. MatchOption listed.left
+            (EmitsList known chain (tree_of left.now) (tree_of right.now) None ways listed.emitted.ways listed.emitted.entry
+            self.old self.new)
+            (λ rest. EmitsList (behind_left chain known (tree_of rest.now)) chain (tree_of left.now) (tree_of right.now)
+            (Some (tree_of rest.now)) ways listed.emitted.ways listed.emitted.entry self.old self.new))) }
+    {
+        if Member::of_link(chain, right).is_none() {
+            return Ok(None);
+        }
+        self.neighbours(known, chain, left, right, ways)
     }
 
     /// What is left of the last link of a chain of these two, or of the list there.
