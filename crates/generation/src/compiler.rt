@@ -104,6 +104,21 @@ fn chain_of(expr: &Expr) -> Chain
     }
 }
 
+/// The last link of an expression in a chain.
+fn last_of(chain: Chain, expr: &Expr) -> &Expr {
+    match (chain, expr) {
+        (Chain::AnyOf, Expr::Or(_, right)) => right,
+        (Chain::NoneOf, Expr::And(_, right)) => right,
+        _ => expr,
+    }
+}
+
+/// Whether the last two links of a chain of these two are members of lists, without which there is none.
+fn may_be_listed(chain: Chain, left: &Expr, right: &Expr) -> bool {
+    Member::of_link(chain, right).is_some()
+        && Member::of_link(chain, last_of(chain, left)).is_some()
+}
+
 /// The ways of the test whether any member of a list holds.
 fn turned(chain: Chain, ways: Ways) -> Ways
     ensures { result ≡ turned_ways chain ways }
@@ -243,7 +258,7 @@ impl Code {
         Ok(Some(End { emitted, left }))
     }
 
-    /// The same, where the last link may be one of a list. Else there is none, and nothing is cleared.
+    /// The same, where the last links may be those of a list. Else there is none, and nothing is cleared.
     fn list<'a>(
         &mut self,
         known: Known,
@@ -260,7 +275,7 @@ impl Code {
             (λ rest. EmitsList (behind_left chain known (tree_of rest.now)) chain (tree_of left.now) (tree_of right.now)
             (Some (tree_of rest.now)) ways listed.emitted.ways listed.emitted.entry self.old self.new))) }
     {
-        if Member::of_link(chain, right).is_none() {
+        if !may_be_listed(chain, left, right) {
             return Ok(None);
         }
         self.neighbours(known, chain, left, right, ways)
