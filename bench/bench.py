@@ -47,7 +47,7 @@ import time
 ROOT = pathlib.Path(__file__).resolve().parent.parent
 PROGRAM = pathlib.Path(os.environ.get("BPFTAP", ROOT / "crates" / "bpftap" / "out" / "bpftap"))
 # Bytes; the program's own limit is that of the machine, mostly 8 MiB.
-STACK = 1 << 20
+STACK = 640 << 10
 # As `tcpdump -ddd udp port 53` prints it.
 UDP_PORT_53 = """20
 40 0 0 12
@@ -559,6 +559,11 @@ def hostile():
     yield "negations", "||".join(["!" * 62 + "ip"] * 124), 0
     yield "negations before a chain", "!" * 64 + "net 1" + "||1" * 2707, 1
     yield "a chain of which all is wanted", "ip" + "&&ip" * 2047, 1
+    yield "a chain of a word that is known", "tcp" + "&&tcp" * 1637, 0
+    yield "a chain by turns", "ip" + "&&ip||ip" * 1023, 1
+    yield "a list before a chain", "port 1" + "".join(f"||{n}" for n in range(1000, 1480)) + "&&tcp" * 1050, 1
+    yield "64 levels round a list, each an operand", "ip||(" * 62 + "port 1" + "".join(f"||{n}" for n in range(1000, 1480)) + ")" * 62, 1
+    yield "64 levels round a sum, each an operand", "1=1||(" * 62 + "1" + "+1" * 3800 + "=1" + ")" * 62, 0
     yield "a long value before such a chain", "1=1" + "+1" * 3000 + "&&ip" * 540, 1
     yield "short parentheses", "||".join(["(ip)"] * 1365), 1
     yield "64 levels round a chain", deep + "ip" + "||ip" * 2015 + ")" * 64, 1

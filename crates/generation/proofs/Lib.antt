@@ -16,3 +16,4 @@ pub mod Neighbours
 pub mod Taking
 pub mod Shared
 pub mod Seeking
+pub mod Ends

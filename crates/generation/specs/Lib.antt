@@ -8,3 +8,4 @@ pub mod Remaining
 pub mod Ways
 pub mod Parts
 pub mod Listed
+pub mod Ends

@@ -89,7 +89,7 @@ pub record EmitsMembers (known : Known) (first : Member) (others : List Member) 
   pub decides : DecidesBehind known (weighed first.kind.form 1 + members_weight others) test ways entry old new
   pub renews : RenewsBoth ways renewed old new
 
--- the code of the list that a chain ends in, behind what is left of its left operand
+-- the code of the list or the link that a chain ends in, behind what is left of its left operand
 pub record EmitsList (known : Known) (chain : Chain) (first second : Tree) (left : Option Tree) (ways renewed : Ways) (entry : Way) (old new : List Insn) : Type 0 where
   pub test : Test
   pub most : ℕ

@@ -11,6 +11,7 @@ ghost use Rattle.generation.specs.Ways.{AreWays, DecidesBehind, RenewsBoth};
 ghost use Rattle.analysis.specs.declared.lists.Form.TheVariants.{Bytes};
 ghost use Rattle.analysis.specs.Lists.{any_of, kind_test, weighed, members_weight, IsMember, IsAlone, behind_left};
 ghost use Rattle.generation.specs.Listed.{turned_ways, EmitsMembers, EmitsList};
+ghost use Rattle.generation.specs.Ends.{chain_of, left_ways, kept_ways, kept_behind, Leaves};
 
 use crate::code::{Code, Full};
 use crate::primitives::cost;
@@ -32,12 +33,90 @@ struct Emitted {
     ways: Ways,
 }
 
-/// A list of which the code is there.
+/// The right end of an expression, of which the code is there.
 #[derive(Clone, Copy)]
-struct Listed<'a> {
+struct End<'a> {
     emitted: Emitted,
-    /// What stands to its left.
+    /// What stands to its left. Where nothing does, it is the whole expression.
     left: Option<&'a Expr>,
+}
+
+/// Ways that lead on as an expression's, which what is left of it does not renew.
+#[derive(Clone, Copy)]
+pub(crate) struct Kept {
+    pub yes: Option<Way>,
+    pub no: Option<Way>,
+}
+
+impl Kept {
+    /// The ways of the expression, where what is left of it has these.
+    fn ways(self, last: Ways) -> Ways
+        ensures { result ≡ kept_ways self last }
+    {
+        Ways {
+            yes: self.yes.unwrap_or(last.yes),
+            no: self.no.unwrap_or(last.no),
+        }
+    }
+
+    /// Those behind which a right end has these ways.
+    fn behind(self, chain: Chain, ways: Ways) -> Kept
+        ensures { result ≡ kept_behind chain self ways }
+    {
+        match chain {
+            Chain::AnyOf => Kept {
+                yes: self.yes,
+                no: Some(self.no.unwrap_or(ways.no)),
+            },
+            Chain::NoneOf => Kept {
+                yes: Some(self.yes.unwrap_or(ways.yes)),
+                no: self.no,
+            },
+        }
+    }
+}
+
+impl Emitted {
+    /// Where what stands to its left goes on.
+    fn left_ways(self, chain: Chain) -> Ways
+        ensures { result ≡ left_ways chain self.entry self.ways }
+    {
+        match chain {
+            Chain::AnyOf => Ways {
+                yes: self.ways.yes,
+                no: self.entry,
+            },
+            Chain::NoneOf => Ways {
+                yes: self.entry,
+                no: self.ways.no,
+            },
+        }
+    }
+}
+
+/// How the right end of an expression is joined to what stands to its left.
+fn chain_of(expr: &Expr) -> Chain
+    ensures { result ≡ chain_of (tree_of expr.now) }
+{
+    match expr {
+        Expr::And(_, _) => Chain::NoneOf,
+        _ => Chain::AnyOf,
+    }
+}
+
+/// The last link of an expression in a chain.
+fn last_of(chain: Chain, expr: &Expr) -> &Expr {
+    match (chain, expr) {
+        (Chain::AnyOf, Expr::Or(_, right)) => right,
+        (Chain::NoneOf, Expr::And(_, right)) => right,
+        _ => expr,
+    }
+}
+
+/// Whether the last two links of a chain of these two are members of lists, without which there is none.
+fn may_be_listed(chain: Chain, left: &Expr, right: &Expr) -> bool {
+    Member::of_link(chain, right).is_some()
+        && Member::of_link(chain, last_of(chain, left)).is_some()
 }
 
 /// The ways of the test whether any member of a list holds.
@@ -149,17 +228,17 @@ impl Code {
         Ok(Emitted { entry, ways })
     }
 
-    /// What is left of the list at the right end of a chain of these two, where one is. The list takes some memory of the stack,
-    /// which is not to be in each frame of the walk down a tree.
+    /// What is left of the list at the right end of a chain of these two, where one is. What a list takes of the stack is not to be in
+    /// the frames of the walk down a tree, and is cleared at each call.
     #[inline(never)]
-    fn list<'a>(
+    fn neighbours<'a>(
         &mut self,
         known: Known,
         chain: Chain,
         left: &'a Expr,
         right: &Expr,
         ways: Ways,
-    ) -> Result<Option<Listed<'a>>, Full>
+    ) -> Result<Option<End<'a>>, Full>
         requires ways { AreWays self.old ways }
         ensures { OrFull (weight (tree_of left.now) + weight (tree_of right.now)) self.old result (λ found.
             MatchOption found (self.new ≡ self.old) (λ listed. MatchOption listed.left
@@ -176,10 +255,102 @@ impl Code {
         let members = self.members(known, list.first, &mut others, turned(chain, ways))?;
         let (entry, ways) = (members.entry, turned(chain, members.ways));
         let emitted = Emitted { entry, ways };
-        Ok(Some(Listed { emitted, left }))
+        Ok(Some(End { emitted, left }))
     }
 
-    /// What is left of an expression behind what is known. It goes on by its ways. The right operand is there before the left one.
+    /// The same, where the last links may be those of a list. Else there is none, and nothing is cleared.
+    fn list<'a>(
+        &mut self,
+        known: Known,
+        chain: Chain,
+        left: &'a Expr,
+        right: &Expr,
+        ways: Ways,
+    ) -> Result<Option<End<'a>>, Full>
+        requires ways { AreWays self.old ways }
+        ensures { OrFull (weight (tree_of left.now) + weight (tree_of right.now)) self.old result (λ found.
+            MatchOption found (self.new ≡ self.old) (λ listed. MatchOption listed.left
+            (EmitsList known chain (tree_of left.now) (tree_of right.now) None ways listed.emitted.ways listed.emitted.entry
+            self.old self.new)
+            (λ rest. EmitsList (behind_left chain known (tree_of rest.now)) chain (tree_of left.now) (tree_of right.now)
+            (Some (tree_of rest.now)) ways listed.emitted.ways listed.emitted.entry self.old self.new))) }
+    {
+        if !may_be_listed(chain, left, right) {
+            return Ok(None);
+        }
+        self.neighbours(known, chain, left, right, ways)
+    }
+
+    /// What is left of the last link of a chain of these two, or of the list there.
+    #[cycle(expression)]
+    fn last_link<'a>(
+        &mut self,
+        known: Known,
+        chain: Chain,
+        left: &'a Expr,
+        right: &Expr,
+        ways: Ways,
+    ) -> Result<End<'a>, Full>
+        requires need { need (tree_of right.now) ≤ 16 }
+        requires ways { AreWays self.old ways }
+        ensures { OrFull (weight (tree_of left.now) + weight (tree_of right.now)) self.old result (λ end. MatchOption end.left
+            (EmitsList known chain (tree_of left.now) (tree_of right.now) None ways end.emitted.ways end.emitted.entry
+            self.old self.new)
+            (λ rest. EmitsList (behind_left chain known (tree_of rest.now)) chain (tree_of left.now) (tree_of right.now)
+            (Some (tree_of rest.now)) ways end.emitted.ways end.emitted.entry self.old self.new)) }
+    {
+        if let Some(listed) = self.list(known, chain, left, right, ways)? {
+            return Ok(listed);
+        }
+        let known = chain.known_behind(known, Some(left));
+        let emitted = self.expression(known, right, ways)?;
+        let left = Some(left);
+        Ok(End { emitted, left })
+    }
+
+    /// What is left of the right end of an expression: of a chain it is the last link or a list, of any other one the whole.
+    #[inline(never)]
+    #[cycle(expression)]
+    fn right_end<'a>(&mut self, known: Known, expr: &'a Expr, ways: Ways) -> Result<End<'a>, Full>
+        requires need { need (tree_of expr.now) ≤ 16 }
+        requires ways { AreWays self.old ways }
+        ensures { OrFull (weight (tree_of expr.now)) self.old result (λ end. MatchOption end.left
+            (DecidesBehind known (weight (tree_of expr.now)) (meaning (tree_of expr.now)) ways end.emitted.entry self.old self.new
+            × RenewsBoth ways end.emitted.ways self.old self.new)
+            (λ rest. Leaves known (tree_of expr.now) (tree_of rest.now) ways end.emitted.ways end.emitted.entry
+            self.old self.new)) }
+    {
+        let emitted = match expr {
+            Expr::Everything => {
+                let entry = ways.yes;
+                Emitted { entry, ways }
+            }
+            Expr::Test(primitive) => self.reached_primitive(known, *primitive, ways)?,
+            Expr::Relation(comparison, left, right) => {
+                self.room(2)?;
+                let ways = self.renew(ways);
+                let entry = self.relation_behind(known, *comparison, left, right, ways)?;
+                Emitted { entry, ways }
+            }
+            Expr::Not(operand) => {
+                let inner = self.expression(known, operand, ways.swapped())?;
+                let (entry, ways) = (inner.entry, inner.ways.swapped());
+                Emitted { entry, ways }
+            }
+            Expr::And(left, right) => {
+                return self.last_link(known, Chain::NoneOf, left, right, ways);
+            }
+            Expr::Or(left, right) => {
+                return self.last_link(known, Chain::AnyOf, left, right, ways);
+            }
+        };
+        let left = None;
+        Ok(End { emitted, left })
+    }
+
+    /// What is left of an expression behind what is known. It goes on by its ways. The right end is there before what stands to its left, and
+    /// a loop goes on with that: so a long chain takes no more of the stack than a short one.
+    #[cycle(expression)]
     fn expression(&mut self, known: Known, expr: &Expr, ways: Ways) -> Result<Emitted, Full>
         requires need { need (tree_of expr.now) ≤ 16 }
         requires ways { AreWays self.old ways }
@@ -187,61 +358,21 @@ impl Code {
             DecidesBehind known (weight (tree_of expr.now)) (meaning (tree_of expr.now)) ways emitted.entry self.old self.new
             × RenewsBoth ways emitted.ways self.old self.new) }
     {
-        match expr {
-            Expr::Everything => {
-                let entry = ways.yes;
-                Ok(Emitted { entry, ways })
-            }
-            Expr::Test(primitive) => self.reached_primitive(known, *primitive, ways),
-            Expr::Relation(comparison, left, right) => {
-                self.room(2)?;
-                let ways = self.renew(ways);
-                let entry = self.relation_behind(known, *comparison, left, right, ways)?;
-                Ok(Emitted { entry, ways })
-            }
-            Expr::Not(operand) => {
-                let inner = self.expression(known, operand, ways.swapped())?;
-                let (entry, ways) = (inner.entry, inner.ways.swapped());
-                Ok(Emitted { entry, ways })
-            }
-            Expr::And(left, right) => {
-                if let Some(listed) = self.list(known, Chain::NoneOf, left, right, ways)? {
-                    let Some(left) = listed.left else {
-                        return Ok(listed.emitted);
-                    };
-                    let second = listed.emitted;
-                    let (yes, no) = (second.entry, second.ways.no);
-                    let first = self.expression(known, left, Ways { yes, no })?;
-                    let (yes, no) = (second.ways.yes, first.ways.no);
-                    let (entry, ways) = (first.entry, Ways { yes, no });
-                    return Ok(Emitted { entry, ways });
-                }
-                let second = self.expression(known.behind(left), right, ways)?;
-                let (yes, no) = (second.entry, second.ways.no);
-                let first = self.expression(known, left, Ways { yes, no })?;
-                let (yes, no) = (second.ways.yes, first.ways.no);
-                let (entry, ways) = (first.entry, Ways { yes, no });
-                Ok(Emitted { entry, ways })
-            }
-            Expr::Or(left, right) => {
-                if let Some(listed) = self.list(known, Chain::AnyOf, left, right, ways)? {
-                    let Some(left) = listed.left else {
-                        return Ok(listed.emitted);
-                    };
-                    let second = listed.emitted;
-                    let (yes, no) = (second.ways.yes, second.entry);
-                    let first = self.expression(known, left, Ways { yes, no })?;
-                    let (yes, no) = (first.ways.yes, second.ways.no);
-                    let (entry, ways) = (first.entry, Ways { yes, no });
-                    return Ok(Emitted { entry, ways });
-                }
-                let second = self.expression(known, right, ways)?;
-                let (yes, no) = (second.ways.yes, second.entry);
-                let first = self.expression(known, left, Ways { yes, no })?;
-                let (yes, no) = (first.ways.yes, second.ways.no);
-                let (entry, ways) = (first.entry, Ways { yes, no });
-                Ok(Emitted { entry, ways })
-            }
+        let mut rest = expr;
+        let mut on = ways;
+        let (yes, no) = (None, None);
+        let mut kept = Kept { yes, no };
+        'ends: loop {
+            let end = self.right_end(known, rest, on)?;
+            let emitted = end.emitted;
+            let Some(left) = end.left else {
+                let (entry, ways) = (emitted.entry, kept.ways(emitted.ways));
+                return Ok(Emitted { entry, ways });
+            };
+            let chain = chain_of(rest);
+            kept = kept.behind(chain, emitted.ways);
+            on = emitted.left_ways(chain);
+            rest = left;
         }
     }
 }

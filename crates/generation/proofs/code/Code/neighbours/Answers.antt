@@ -1,5 +1,5 @@
 use Rattle.generation.proofs.Taking.{map-both, emits-list, are-turned}
-use Rattle.generation.proofs.code.Code.list.Goals as goal
+use Rattle.generation.proofs.code.Code.neighbours.Goals as goal
 
 pub members-requires-clause-ways : goal.members-requires-clause-ways
 members-requires-clause-ways c = rw c.turned.ensures (are-turned c.args.chain c.args.self.now c.args.ways c.requires.ways)
