@@ -7,6 +7,7 @@ pub mod Sides
 pub mod Sharing
 pub mod Nets
 pub mod Six
+pub mod Tails
 pub mod Verdicts
 pub mod Computing
 pub mod Bounds
@@ -16,3 +17,4 @@ pub mod Neighbours
 pub mod Taking
 pub mod Shared
 pub mod Seeking
+pub mod Addresses

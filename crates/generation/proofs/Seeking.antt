@@ -1,11 +1,9 @@
 -- Code that asks whether a number is one of many.
-use Rattle.std.proofs.Common.{◌≡◌, ℕ, suc, ◌+◌, ◌-◌, ◌*◌, ◌<◌, ◌≤◌, ◌⊎◌, inl, inr, Bool, true, false, List, [], ◌∷◌, ◌++◌, length, Option, Some, None, refl, sym, ap, ◌∙◌, arith, if◌then◌else◌, bit_and, option_map, take, get_or}
-use Rattle.std.proofs.lemmas.List.{take_more, length-append, length-take}
+use Rattle.std.proofs.Common.{◌≡◌, ℕ, suc, ◌+◌, ◌*◌, ◌<◌, ◌≤◌, Bool, true, false, List, [], ◌∷◌, ◌++◌, length, Option, Some, None, refl, sym, ap, ◌∙◌, arith, if◌then◌else◌, bit_and, option_map, take, get_or}
+use Rattle.std.proofs.lemmas.List.{take_more, length-append}
 use Rattle.bpfvm.specs.declared.insn.Insn.{Insn}
 use Rattle.bpfvm.specs.Codes.{Accumulator, Index}
 use Rattle.bpfvm.specs.Machine.{Registers, Goes, with_value, loaded, effect}
-use Rattle.analysis.specs.declared.lists.Sides.{Sides}
-use Rattle.analysis.specs.declared.lists.Sides.TheVariants.{Source, Destination, Either}
 use Rattle.syntax.specs.declared.tree.Direction.{Direction}
 use Rattle.syntax.specs.declared.tree.Direction.TheVariants.{Src, Dst, SrcOrDst, SrcAndDst}
 use Rattle.generation.specs.declared.code.Exits.{Exits}
@@ -24,7 +22,7 @@ use Rattle.generation.specs.Parts.{port_behind, base_of, read_from}
 use Rattle.semantics.specs.Sides.{directed}
 use Rattle.generation.specs.Emission.{AreExits, HasCells, IsPlace, run_from, front, field_of, Answers, Passes, outcome, Extends, Chooses, Nears, Computes, same_index, Follows, Decides}
 use Rattle.analysis.specs.Lists.{any_of, in_span}
-use Rattle.generation.specs.Listed.{among, asked_last, asked_before_cost, spot_value, found_at, onward, LoadsSpot, ChoosesFrom, IsChoice}
+use Rattle.generation.specs.Listed.{among, spot_value, found_at, onward, LoadsSpot, ChoosesFrom, IsChoice}
 use Rattle.generation.proofs.Runs.{after, answer-first, front-place, extends-none, extends-one, extends-both, extends-more, load-effect, mask-effect, half-effect, header-effect}
 use Rattle.generation.proofs.Computing.{computes-same, read-accessed, decides-valued}
 use Rattle.generation.proofs.Deciding.{outcome-either, decides-same}
@@ -249,31 +247,6 @@ follows-sides {k} source destination spans others first is one some are third se
     (follows-else (λ r. any_of (found_at source r) first) (λ r. or_test (any_of (found_at destination r) spans) (any_of (found_at source r) others))
     (λ p r s same. ap (λ v. or_else v (any_of (found_at source s) others p)) (sought-same destination spans p r s same) ∙ ap (or_else (any_of (found_at destination r) spans p)) (sought-same source others p r s same))
     are later begin))
-
--- what is asked last and what stands in front of it
-pub asked-one : (s : Sides) (xs : List Span) → (s ≡ Source) ⊎ (s ≡ Destination) → asked_last s xs ≡ xs
-asked-one s xs (inl is) = ap (λ x. asked_last x xs) is
-asked-one s xs (inr is) = ap (λ x. asked_last x xs) is
-
-pub asked_some : (s : Sides) (xs : List Span) → 2 ≤ length xs → 0 < length (asked_last s xs)
-asked_some Source xs many = omega (arith, many)
-asked_some Destination xs many = omega (arith, many)
-asked_some Either xs many = omega (arith, many, length-take (length xs - 1) xs)
-
-pub asked_least : (s : Sides) (n : ℕ) → 2 ≤ asked_before_cost s n
-asked_least Source n = omega arith
-asked_least Destination n = omega arith
-asked_least Either n = omega arith
-
-pub asked_fits : (s : Sides) (xs : List Span) → 2 ≤ length xs → 7 * length (asked_last s xs) + asked_before_cost s (length xs) ≤ 14 * length xs + 6
-asked_fits Source xs many = omega (arith, many)
-asked_fits Destination xs many = omega (arith, many)
-asked_fits Either xs many = omega (arith, many, length-take (length xs - 1) xs)
-
--- the same of both fields in other words
-pub directed-same : (d : Direction) (s t s' t' : Test) (p : Packet) → s p ≡ s' p → t p ≡ t' p → by_direction d s t p ≡ by_direction d s' t' p
-directed-same d s t s' t' p first second =
-    sym (directed-is d s t p) ∙ ap (λ v. directed d v (t p)) first ∙ ap (directed d (s' p)) second ∙ directed-is d s' t' p
 
 -- the spot of an address
 pub spot-masked : (o mask : ℕ) (p : Packet) (r : Registers) (x : Span) → found_at (spots.Masked o mask) r x p ≡ in_span x mask o p
