@@ -7,14 +7,17 @@ use Rattle.bpfvm.specs.Codes.{Accumulator, Index}
 use Rattle.bpfvm.specs.Machine.{Registers, with_value, loaded, big_endian}
 use Rattle.semantics.proofs.Numbers.{number-some, number-none}
 use Rattle.semantics.specs.declared.verdict.Verdict.TheVariants.{Yes, No}
-use Rattle.semantics.specs.Meaning.{Packet, HasBytes, or_else, or_test, check, decided, byte, word, within}
+use Rattle.syntax.specs.declared.tree.Direction.{Direction}
+use Rattle.semantics.specs.Sides.{directed}
+use Rattle.generation.proofs.Sides.{directed-is}
+use Rattle.semantics.specs.Meaning.{Packet, HasBytes, Test, by_direction, or_else, or_test, check, decided, byte, word, within}
 use Rattle.analysis.specs.declared.lists.Span.{Span}
 use Rattle.analysis.specs.Lists.{any_of, in_span}
 use Rattle.generation.specs.declared.code.Exits.{Exits}
 use Rattle.generation.specs.declared.among.Spot.{Spot}
 use Rattle.generation.specs.declared.among.Spot.TheVariants as spots
 use Rattle.generation.specs.Insns.{plain_insn}
-use Rattle.generation.specs.Emission.{AreExits, HasCells, run_from, front, Answers, Extends, outcome, Decides}
+use Rattle.generation.specs.Emission.{AreExits, HasCells, run_from, front, Answers, Extends, outcome, same_index, Follows, Decides}
 use Rattle.generation.specs.Listed.{among, spot_value, found_at, onward, LoadsSpot, ChoosesFrom, IsChoice}
 use Rattle.generation.proofs.Runs.{after, answer-first, front-place, extends-one, extends-both, extends-more, length-effect}
 use Rattle.generation.proofs.Following.{decides-followed}
@@ -29,13 +32,33 @@ bits_at mask o p = option_map (λ w. bit_and w mask) (word o p)
 abbrev pub IsAddress : Spot → ℕ → ℕ → Type 0
 IsAddress spot mask o = (p : Packet) (r : Registers) → HasBytes p → spot_value spot r p ≡ bits_at mask o p
 
+found-is : (spot : Spot) (mask o : ℕ) (p : Packet) (r : Registers) (x : Span) → HasBytes p → IsAddress spot mask o → found_at spot r x p ≡ in_span x mask o p
+found-is spot mask o p r x bytes is = ap (check (within x.low x.high)) (is p r bytes) ∙ spot-masked o mask p r x
+
+directed-same : (d : Direction) (s t s' t' : Test) (p : Packet) → s p ≡ s' p → t p ≡ t' p → by_direction d s t p ≡ by_direction d s' t' p
+directed-same d s t s' t' p first second =
+    sym (directed-is d s t p) ∙ ap (λ v. directed d v (t p)) first ∙ ap (directed d (s' p)) second ∙ directed-is d s' t' p
+
+-- by spots of their own
+pub decides-spots : {most e : ℕ} (direction : Direction) (source destination : Spot) (mask s d : ℕ) (xs : List Span) {exits : Exits} {a b : List Insn}
+    → IsAddress source mask s → IsAddress destination mask d
+    → Follows same_index most (λ r. any_of (λ x. by_direction direction (found_at source r x) (found_at destination r x)) xs) exits e a b
+    → Decides most (any_of (λ x. by_direction direction (in_span x mask s) (in_span x mask d)) xs) exits e a b
+decides-spots direction source destination mask s d xs is-source is-destination done =
+    decides-followed _ (any_of (λ x. by_direction direction (in_span x mask s) (in_span x mask d)) xs)
+    (λ r p bytes.
+    any-same (λ x. by_direction direction (found_at source r x) (found_at destination r x)) (λ x. by_direction direction (in_span x mask s) (in_span x mask d)) p
+    (λ x. directed-same direction (found_at source r x) (found_at destination r x) (in_span x mask s) (in_span x mask d) p
+    (found-is source mask s p r x bytes is-source) (found-is destination mask d p r x bytes is-destination)) xs)
+    done
+
 -- one load for all members
-pub decides-address : (spot : Spot) (mask o : ℕ) (xs : List Span) {exits : Exits} {a b : List Insn} → IsAddress spot mask o → 0 < length xs
+pub decides-address : (spot : Spot) (mask o : ℕ) (xs : List Span) {exits : Exits} {a b : List Insn} → IsAddress spot mask o → AreExits a exits → 0 < length xs
     → IsChoice (λ r. among xs r.accumulator) exits (length a) a → LoadsSpot spot a b → Decides 2 (any_of (λ x. in_span x mask o) xs) exits (length b) a b
-decides-address spot mask o xs is some last load =
+decides-address spot mask o xs is are some last load =
     decides-followed (λ r. any_of (found_at spot r) xs) (any_of (λ x. in_span x mask o) xs)
-    (λ r p bytes. any-same (found_at spot r) (λ x. in_span x mask o) p (λ x. ap (check (within x.low x.high)) (is p r bytes) ∙ spot-masked o mask p r x) xs)
-    (follows-sought spot xs some refl (choice-from (λ r. among xs r.accumulator) last) load)
+    (λ r p bytes. any-same (found_at spot r) (λ x. in_span x mask o) p (λ x. found-is spot mask o p r x bytes is) xs)
+    (follows-sought spot xs are some refl (choice-from (λ r. among xs r.accumulator) last) load)
 
 -- The first member's source. Where the destination is there, the sources of all others, and then the destinations of all.
 pub decides-either-address : {j k e f : ℕ} (source destination : Spot) (mask s d : ℕ) (spans others first : List Span) {exits : Exits} {a b c g h : List Insn}

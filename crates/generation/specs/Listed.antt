@@ -20,7 +20,7 @@ use Rattle.generation.specs.declared.among.Spot.{Spot}
 use Rattle.generation.specs.declared.among.Spot.TheVariants as spots
 use Rattle.generation.specs.declared.ways.Way.{Way}
 use Rattle.generation.specs.declared.ways.Ways.{Ways}
-use Rattle.generation.specs.Emission.{IsPlace, run_from, Extends, front, field_of}
+use Rattle.generation.specs.Emission.{IsPlace, AreExits, run_from, Extends, front, field_of}
 use Rattle.generation.specs.Ways.{RenewsBoth, DecidesBehind}
 
 -- in one of these spans
@@ -51,6 +51,14 @@ onward (Some n) run r = run (with_value Accumulator n r)
 pub record LoadsSpot (spot : Spot) (old new : List Insn) : Type 0 where
   pub extends : Extends 2 old new
   pub loads : (p : Packet) (r : Registers) → front new p r ≡ onward (spot_value spot r p) (front old p) r
+
+-- places from which a run that has the number of a spot in the accumulator goes on as from the exits
+pub record PassesSpot (spot : Spot) (exits passed : Exits) (code : List Insn) : Type 0 where
+  pub here : AreExits code passed
+  pub yes : (p : Packet) (r : Registers) (n : ℕ) → spot_value spot r p ≡ Some n
+      → run_from code passed.yes p (with_value Accumulator n r) ≡ run_from code exits.yes p (with_value Accumulator n r)
+  pub no : (p : Packet) (r : Registers) (n : ℕ) → spot_value spot r p ≡ Some n
+      → run_from code passed.no p (with_value Accumulator n r) ≡ run_from code exits.no p (with_value Accumulator n r)
 
 -- from entry a run of new goes to an exit by a condition on the registers, which it leaves as they are
 pub record ChoosesFrom (most : ℕ) (choice : Registers → Bool) (exits : Exits) (entry : ℕ) (old new : List Insn) : Type 0 where

@@ -4,7 +4,7 @@ ghost use Rattle.std.specs.Prelude.{◌≡◌, ℕ, ◌+◌, ◌-◌, ◌*◌, �
 ghost use Rattle.bpfvm.specs.Machine.{Registers};
 ghost use Rattle.semantics.specs.Meaning.{Packet, HasBytes, check, word, or_test, by_direction, has_port, bytes_of, accessed};
 ghost use Rattle.analysis.specs.Lists.{any_of, direction_of, in_span, has_tail};
-ghost use Rattle.generation.specs.Listed.{among, spot_value, found_at, LoadsSpot, ChoosesFrom, IsChoice};
+ghost use Rattle.generation.specs.Listed.{among, spot_value, found_at, LoadsSpot, PassesSpot, ChoosesFrom, IsChoice};
 ghost use Rattle.generation.specs.Emission.{AreExits, Extends, same_index, Follows, Decides, OrFull};
 
 use crate::code::{Code, Exits, Full, REACH};
@@ -37,6 +37,11 @@ impl Spot {
             Spot::Masked { offset, mask }
         }
     }
+}
+
+/// Whether a list is of two members that ask for either side.
+pub(crate) fn are_two_of_either(sides: Sides, spans: &[Span]) -> bool {
+    sides == Sides::Either && spans.len() == 2
 }
 
 impl Code {
@@ -77,7 +82,18 @@ impl Code {
         }
     }
 
-    /// Goes to an exit by whether the number at a spot is in one of these spans.
+    /// The exits, or the places behind the load of a spot where that stands there: its number is still in the accumulator.
+    fn spot_passed(&self, spot: Spot, exits: Exits) -> Exits
+        requires { AreExits self.now exits }
+        ensures { PassesSpot spot exits result self.now }
+    {
+        match spot {
+            Spot::At(field) => self.both_passed(load_insn(field), exits),
+            _ => exits,
+        }
+    }
+
+    /// Goes to an exit by whether the number at a spot is in one of these spans. An exit that begins with the same load is passed.
     pub fn seek(&mut self, spot: Spot, spans: &[Span], exits: Exits) -> Result<usize, Full>
         requires some { 0 < length spans.now }
         requires exits { AreExits self.old exits }
@@ -85,6 +101,7 @@ impl Code {
             Follows same_index (7 * length spans.now + 2) (λ r. any_of (found_at spot r) spans.now) exits entry self.old self.new
             × (entry ≡ length self.new)) }
     {
+        let exits = self.spot_passed(spot, exits);
         self.among(spans, exits)?;
         self.room(2)?;
         self.load_spot(spot);
@@ -260,7 +277,7 @@ impl Code {
         }
     }
 
-    /// The same with what is asked last.
+    /// The same with what is asked last. Of two members of either side it is as of ports: they are asked sooner so.
     pub fn seek_addresses(
         &mut self,
         offsets: (u32, u32),
@@ -272,10 +289,15 @@ impl Code {
         requires destination { offsets.1 ≤ 40 }
         requires many { 2 ≤ length spans.now }
         requires exits { AreExits self.old exits }
-        ensures { OrFull (14 * length spans.now + 5) self.old result (λ entry. Decides (14 * length spans.now + 5)
+        ensures { OrFull (14 * length spans.now + 6) self.old result (λ entry. Decides (14 * length spans.now + 6)
             (any_of (λ x. by_direction (direction_of sides) (in_span x mask offsets.0) (in_span x mask offsets.1)) spans.now) exits
             entry self.old self.new) }
     {
+        if are_two_of_either(sides, spans) {
+            let source = Spot::of_address(offsets.0, mask);
+            let destination = Spot::of_address(offsets.1, mask);
+            return self.seek_sides(sides, source, destination, spans, exits);
+        }
         self.among_last(spans, exits)?;
         self.seek_addresses_before(offsets, sides, mask, spans, exits)
     }

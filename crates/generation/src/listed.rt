@@ -4,10 +4,10 @@ ghost use Rattle.std.specs.Prelude.{◌≡◌, ℕ, ◌+◌, ◌*◌, ◌<◌, �
 ghost use Rattle.semantics.specs.Meaning.{check, byte, half, and_test, is_type, is_first_fragment_of, protocol_number, in_layer, by_direction, within, has_any_ports};
 ghost use Rattle.analysis.specs.Lists.{any_of, direction_of, in_span, has_tail, of_any_type, bytes_test, kind_test};
 ghost use Rattle.generation.specs.Listed.{among, listed_cost, IsChoice};
-ghost use Rattle.generation.specs.Emission.{AreExits, Extends, OrFull};
+ghost use Rattle.generation.specs.Emission.{AreExits, Extends, Decides, OrFull};
 ghost use Rattle.generation.specs.Ways.{AreWays, DecidesBy, DecidesBehind};
 
-use crate::among::Spot;
+use crate::among::{Spot, are_two_of_either};
 use crate::code::{Code, Exits, Full};
 use crate::insns::{Field, Jump, Operand, load_insn};
 use crate::primitives::{ARP_ADDRESSES, IP_ADDRESSES};
@@ -130,8 +130,40 @@ impl Code {
         }
     }
 
-    /// Hosts or nets of any protocol: three comparisons of one type. ARP and RARP have their addresses at the same places. What
-    /// is asked last stands once for all types, where all go on in the same way; for IPv4 no jump leads there.
+    /// Hosts or nets behind their types: where a packet of IPv4 goes on, and where one of ARP or RARP does, which have their
+    /// addresses at the same places. What is asked last stands once for all types, where all go on in the same way; for IPv4 no
+    /// jump leads there. Two members of either side ask for so little last that each type has it.
+    fn seek_nets(
+        &mut self,
+        sides: Sides,
+        mask: u32,
+        spans: &[Span],
+        ways: Ways,
+    ) -> Result<(usize, usize), Full>
+        requires many { 2 ≤ length spans.now }
+        requires ways { AreWays self.old ways }
+        ensures { OrFull (28 * length spans.now + 12) self.old result (λ places.
+            Decides (28 * length spans.now + 12)
+            (any_of (λ x. by_direction (direction_of sides) (in_span x mask 26) (in_span x mask 30)) spans.now)
+            (record { yes = ways.yes.ip; no = ways.no.ip }) places.0 self.old self.new
+            × Decides (28 * length spans.now + 12)
+            (any_of (λ x. by_direction (direction_of sides) (in_span x mask 28) (in_span x mask 38)) spans.now)
+            (record { yes = ways.yes.other; no = ways.no.other }) places.1 self.old self.new) }
+    {
+        let (of_ip, of_others) = (ways.ip_exits(), ways.other_exits());
+        if are_two_of_either(sides, spans) {
+            let ip = self.seek_addresses(IP_ADDRESSES, sides, mask, spans, of_ip)?;
+            let inner = self.seek_addresses(ARP_ADDRESSES, sides, mask, spans, of_others)?;
+            return Ok((ip, inner));
+        }
+        let last = self.among_last(spans, of_ip)?;
+        let ip = self.seek_addresses_before(IP_ADDRESSES, sides, mask, spans, of_ip)?;
+        self.among_last_of_others(last, spans, ways)?;
+        let inner = self.seek_addresses_before(ARP_ADDRESSES, sides, mask, spans, of_others)?;
+        Ok((ip, inner))
+    }
+
+    /// Hosts or nets of any protocol: three comparisons of one type.
     fn listed_any_nets(
         &mut self,
         sides: Sides,
@@ -146,13 +178,9 @@ impl Code {
             (by_direction (direction_of sides) (in_span x mask 26) (in_span x mask 30))
             (by_direction (direction_of sides) (in_span x mask 28) (in_span x mask 38))) spans.now) ways way self.old self.new) }
     {
-        let of_ip = ways.ip_exits();
-        let last = self.among_last(spans, of_ip)?;
-        let ip = self.seek_addresses_before(IP_ADDRESSES, sides, mask, spans, of_ip)?;
-        self.among_last_of_others(last, spans, ways)?;
-        let exits = ways.other_exits();
-        let inner = self.seek_addresses_before(ARP_ADDRESSES, sides, mask, spans, exits)?;
+        let (ip, inner) = self.seek_nets(sides, mask, spans, ways)?;
         self.room(10)?;
+        let exits = ways.other_exits();
         let arp = Exits {
             yes: inner,
             ..exits

@@ -15,4 +15,4 @@ returns c =
     let t = λ (x : Span). by_direction (direction_of c.args.sides) (in_span x m 26) (in_span x m 30) in
     behind-more _ (omega arith)
     (behind-same c.args.known _ (any_of (λ x. and_test (is_type 0x0800) (t x)) spans) (λ p holds. sym (any-guarded (is_type 0x0800) t spans p some))
-    (c.behind_ip_unless.ensures.guards (14 * length spans + 5) (any_of t spans) c.args.self.now c.requires.ways inner))
+    (c.behind_ip_unless.ensures.guards (14 * length spans + 6) (any_of t spans) c.args.self.now c.requires.ways inner))

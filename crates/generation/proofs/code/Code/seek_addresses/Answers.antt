@@ -1,7 +1,17 @@
 use Rattle.std.proofs.Common.{arith}
 use Rattle.std.proofs.lemmas.Result.{MatchResult-weaker}
+use Rattle.analysis.specs.Lists.{direction_of}
 use Rattle.generation.proofs.Deciding.{decides-later, decides-more}
+use Rattle.generation.proofs.Addresses.{decides-spots}
 use Rattle.generation.proofs.code.Code.seek_addresses.Goals as goal
+
+pub returns-then-are_two_of_either : goal.returns-then-are_two_of_either
+returns-then-are_two_of_either c =
+    MatchResult-weaker c.seek_sides.result c.seek_sides.ensures
+    (λ entry done.
+    decides-spots (direction_of c.args.sides) c.of_address-source.result c.of_address-destination.result c.args.mask c.args.offsets.0 c.args.offsets.1 c.args.spans.now
+    c.of_address-source.ensures c.of_address-destination.ensures done.0)
+    (λ e full. full)
 
 pub returns : goal.returns
 returns c =
