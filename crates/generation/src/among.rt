@@ -39,9 +39,9 @@ impl Spot {
     }
 }
 
-/// Whether a list is of two members that ask for either side.
-pub(crate) fn are_two_of_either(sides: Sides, spans: &[Span]) -> bool {
-    sides == Sides::Either && spans.len() == 2
+/// Whether a list is of two hosts, of either side.
+pub(crate) fn are_two_hosts(sides: Sides, mask: u32, spans: &[Span]) -> bool {
+    sides == Sides::Either && mask == u32::MAX && spans.len() == 2
 }
 
 impl Code {
@@ -277,7 +277,8 @@ impl Code {
         }
     }
 
-    /// The same with what is asked last. Of two members of either side it is as of ports: they are asked sooner so.
+    /// The same with what is asked last. Two hosts are asked as ports are, which takes less where one of them is the destination.
+    /// Of two nets one often has the source too.
     pub fn seek_addresses(
         &mut self,
         offsets: (u32, u32),
@@ -293,7 +294,7 @@ impl Code {
             (any_of (λ x. by_direction (direction_of sides) (in_span x mask offsets.0) (in_span x mask offsets.1)) spans.now) exits
             entry self.old self.new) }
     {
-        if are_two_of_either(sides, spans) {
+        if are_two_hosts(sides, mask, spans) {
             let source = Spot::of_address(offsets.0, mask);
             let destination = Spot::of_address(offsets.1, mask);
             return self.seek_sides(sides, source, destination, spans, exits);

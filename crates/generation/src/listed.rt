@@ -7,7 +7,7 @@ ghost use Rattle.generation.specs.Listed.{among, listed_cost, IsChoice};
 ghost use Rattle.generation.specs.Emission.{AreExits, Extends, Decides, OrFull};
 ghost use Rattle.generation.specs.Ways.{AreWays, DecidesBy, DecidesBehind};
 
-use crate::among::{Spot, are_two_of_either};
+use crate::among::{Spot, are_two_hosts};
 use crate::code::{Code, Exits, Full};
 use crate::insns::{Field, Jump, Operand, load_insn};
 use crate::primitives::{ARP_ADDRESSES, IP_ADDRESSES};
@@ -132,7 +132,7 @@ impl Code {
 
     /// Hosts or nets behind their types: where a packet of IPv4 goes on, and where one of ARP or RARP does, which have their
     /// addresses at the same places. What is asked last stands once for all types, where all go on in the same way; for IPv4 no
-    /// jump leads there. Two members of either side ask for so little last that each type has it.
+    /// jump leads there. Two hosts are asked in another order, and ask for so little last that each type has it.
     fn seek_nets(
         &mut self,
         sides: Sides,
@@ -151,7 +151,7 @@ impl Code {
             (record { yes = ways.yes.other; no = ways.no.other }) places.1 self.old self.new) }
     {
         let (of_ip, of_others) = (ways.ip_exits(), ways.other_exits());
-        if are_two_of_either(sides, spans) {
+        if are_two_hosts(sides, mask, spans) {
             let ip = self.seek_addresses(IP_ADDRESSES, sides, mask, spans, of_ip)?;
             let inner = self.seek_addresses(ARP_ADDRESSES, sides, mask, spans, of_others)?;
             return Ok((ip, inner));

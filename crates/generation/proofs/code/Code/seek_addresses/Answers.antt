@@ -5,8 +5,8 @@ use Rattle.generation.proofs.Deciding.{decides-later, decides-more}
 use Rattle.generation.proofs.Addresses.{decides-spots}
 use Rattle.generation.proofs.code.Code.seek_addresses.Goals as goal
 
-pub returns-then-are_two_of_either : goal.returns-then-are_two_of_either
-returns-then-are_two_of_either c =
+pub returns-then-are_two_hosts : goal.returns-then-are_two_hosts
+returns-then-are_two_hosts c =
     MatchResult-weaker c.seek_sides.result c.seek_sides.ensures
     (λ entry done.
     decides-spots (direction_of c.args.sides) c.of_address-source.result c.of_address-destination.result c.args.mask c.args.offsets.0 c.args.offsets.1 c.args.spans.now

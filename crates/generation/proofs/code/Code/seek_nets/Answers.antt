@@ -15,8 +15,8 @@ among_last_of_others-requires-clause-there c =
     (choice-kept (λ r. among c.args.spans.now r.accumulator)
     (exits-kept (record { yes = ways.yes.ip; no = ways.no.ip }) _ _ (c.requires.ways.0.ip, c.requires.ways.1.ip) last.0) kept.extends last.1)
 
-pub returns-then-are_two_of_either : goal.returns-then-are_two_of_either
-returns-then-are_two_of_either c =
+pub returns-then-are_two_hosts : goal.returns-then-are_two_hosts
+returns-then-are_two_hosts c =
     let ways = c.requires.ways in
     let ip = rw c.ip_exits-of_ip.ensures at c.in_ok-ip.ensures in
     let inner = rw c.other_exits-of_others.ensures at c.in_ok-inner.ensures in
