@@ -18,3 +18,4 @@ pub mod Taking
 pub mod Shared
 pub mod Seeking
 pub mod Addresses
+pub mod Past

@@ -255,7 +255,8 @@ impl Code {
                 let exits = ways.first_fragment_exits(asked);
                 let inner = self.seek_ports(sides, spans, exits)?;
                 self.room(18)?;
-                Ok(self.behind_transport(asked, inner, ways))
+                let way = self.behind_transport(asked, inner, ways);
+                Ok(way.past(asked, ways.no))
             }
         }
     }
