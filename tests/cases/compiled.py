@@ -149,6 +149,13 @@ LISTS = [
     "host 9.9.9.9 or net 11.0.0.0/8 or host 10.0.0.2 or net 224.0.0.0/8",
     "not host 9.9.9.9 and not net 11.0.0.0/8 and not host 10.0.0.2 and not net 224.0.0.0/8",
     "tcp port 9 or tcp[2:2] = 443 or tcp port 80 or tcp[2:2] = 53",
+    # Ethernet hosts, of which no frame has the last four bytes of one behind the first two of another
+    "ether src 0:1:2:3:4:6 or 0:1:2:3:4:5 or 0:1:9:3:4:5", "ether src 9:9:2:3:4:5 or 9:9:2:3:4:6",
+    "ether src 9:9:2:3:4:5 or 9:9:2:3:4:6 or 0:1:2:3:4:6 or 0:1:2:3:4:7",
+    "ether dst ff:ff:0:0:0:1 or ff:ff:ff:ff:ff:ff", "ether dst 9:9:ff:ff:ff:ff or 9:9:ff:ff:ff:fe",
+    "ether host 9:9:ff:ff:ff:ff or 9:9:2:3:4:5", "ether host 0:1:2:3:4:6 or 0:1:2:3:4:7 or 0:1:2:3:4:5",
+    "ether host 33:33:0:0:0:2 or 33:33:0:0:0:1", "ether src 0:1:2:3:4:6 or host 9.9.9.9 or ether src 0:1:2:3:4:5 or host 10.0.0.2",
+    "not ether host 0:1:2:3:4:6 and not ether host 9:9:2:3:4:5 and not ether host 0:1:2:3:4:7",
     "ip proto 1 or ether proto 0x806 or ip proto 17 or ether proto 0x8035",
     "not ip proto 1 and not ether proto 0x806 and not ip proto 17 and not ether proto 0x8035",
 ]
@@ -157,7 +164,8 @@ LISTS = [
 SIZES = [
     ("host ", "10.0.0.", 100, 320), ("src host ", "10.0.0.", 100, 115), ("dst net ", "10.0.", 100, 115),
     ("net ", "10.0.", 30, 115), ("port ", "", 200, 420), ("tcp port ", "", 200, 420), ("ip proto ", "", 100, 115),
-    ("", "ip[8] = ", 100, 115),
+    ("", "ip[8] = ", 100, 115), ("ether src ", "0:1:2:3:4:", 100, 115), ("ether dst ", "0:1:2:3:4:", 100, 115),
+    ("ether host ", "0:1:2:3:4:", 100, 220),
 ]
 
 # Each word of the language without relations, and each kind of identifier.

@@ -1,8 +1,7 @@
 -- Members of a kind that leave the others.
-use Rattle.std.proofs.Common.{◌≡◌, ℕ, ◌+◌, ◌<◌, ◌≤◌, List, [], ◌∷◌, ◌++◌, All, length, Option, Some, None, refl, sym, ap, subst, ◌∙◌, arith, take, get_or}
+use Rattle.std.proofs.Common.{◌≡◌, ℕ, ◌+◌, ◌<◌, List, [], ◌∷◌, ◌++◌, All, length, Some, refl, sym, ap, subst, ◌∙◌, arith, take, get_or}
 use Rattle.std.proofs.lemmas.List.{take_more, length-append}
-use Rattle.std.proofs.lemmas.List.Elements.{All-nil, All-same, All-push, All-pop}
-use Rattle.syntax.specs.declared.tree.Primitive.{Primitive}
+use Rattle.std.proofs.lemmas.List.Elements.{All-push, All-pop}
 use Rattle.semantics.specs.declared.verdict.Verdict.{Verdict}
 use Rattle.semantics.specs.declared.verdict.Verdict.TheVariants.{Yes, No, Abort}
 use Rattle.semantics.specs.Meaning.{Packet, or_else}
@@ -11,7 +10,7 @@ use Rattle.analysis.specs.declared.lists.Form.TheVariants as forms
 use Rattle.analysis.specs.declared.lists.Kind.{Kind}
 use Rattle.analysis.specs.declared.lists.Span.{Span}
 use Rattle.analysis.specs.declared.lists.Member.{Member}
-use Rattle.analysis.specs.Lists.{any_of, kind_test, member_test, members_weight, IsMember, IsAnswered, AreAnswered, IsAlone, Divides, Groups, weighed}
+use Rattle.analysis.specs.Lists.{any_of, kind_test, member_test, IsMember, IsAnswered, AreAnswered, IsAlone, Divides, Groups, weighed}
 use Rattle.analysis.proofs.Members.{any-first, or-assoc, weight-append, weighed-more}
 use Rattle.analysis.proofs.Settling.{both-no, answered-either}
 
@@ -56,6 +55,7 @@ weighed-none forms.UdpPorts = refl
 weighed-none forms.SctpPorts = refl
 weighed-none forms.IpProto = refl
 weighed-none forms.EtherProto = refl
+weighed-none forms.EtherHost = refl
 weighed-none forms.Bytes = refl
 
 pub divides-none : (kind : Kind) → Divides kind [] [] []

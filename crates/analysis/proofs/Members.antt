@@ -1,9 +1,9 @@
 -- Primitives and relations that become members of lists.
-use Rattle.std.proofs.Common.{◌≡◌, ℕ, ◌+◌, ◌<◌, ◌≤◌, ◌⊎◌, inl, inr, ◌==◌, ◌&&◌, Bool, true, false, List, [], ◌∷◌, ◌++◌, All, length, Option, Some, None, refl, sym, ap, subst, ◌∙◌, arith, take, bit_and}
-use Rattle.std.proofs.lemmas.Bool.{cases_lt}
+use Rattle.std.proofs.Common.{◌≡◌, ◌≢◌, ℕ, ◌+◌, ◌*◌, ◌/◌, ◌%◌, ◌^◌, ◌<◌, ◌≤◌, ◌⊎◌, inl, inr, ◌==◌, ◌&&◌, Bool, true, false, List, [], ◌∷◌, ◌++◌, All, length, Option, Some, None, refl, sym, ap, subst, ◌∙◌, arith, take, bit_and}
+use Rattle.std.proofs.lemmas.Bool.{cases_lt, cases_eq}
 use Rattle.std.proofs.lemmas.Bool.Decides.{nat_tests}
 use Rattle.std.specs.Option.{MatchOption}
-use Rattle.std.proofs.lemmas.List.{length-append, take_all}
+use Rattle.std.proofs.lemmas.List.{take_all}
 use Rattle.std.proofs.lemmas.List.Elements.{All-nil, All-same, All-push, All-pop, All-weaker}
 use Rattle.syntax.specs.Trees.{Tree}
 use Rattle.syntax.specs.Trees as trees
@@ -18,7 +18,7 @@ use Rattle.syntax.specs.declared.tree.Transport.{Transport}
 use Rattle.syntax.specs.declared.tree.Transport.TheVariants as transports
 use Rattle.semantics.specs.declared.verdict.Verdict.{Verdict}
 use Rattle.semantics.specs.declared.verdict.Verdict.TheVariants.{Yes, No, Abort}
-use Rattle.semantics.specs.Meaning.{Packet, Test, and_then, or_else, opposite, and_test, check, decided, byte, word, is_type, is_protocol, by_direction, has_address, in_any_net, within, has_any_ports, bytes_of, accessed, in_layer, check_both, compared, relation_test, meaning}
+use Rattle.semantics.specs.Meaning.{Packet, Test, and_then, or_else, opposite, and_test, check, decided, byte, word, six, is_type, is_protocol, by_direction, has_address, address_number, is_address, in_any_net, within, has_any_ports, bytes_of, accessed, in_layer, check_both, compared, relation_test, meaning}
 use Rattle.analysis.specs.declared.lists.Chain.{Chain}
 use Rattle.analysis.specs.declared.lists.Chain.TheVariants as chains
 use Rattle.analysis.specs.declared.lists.Form.{Form}
@@ -29,7 +29,7 @@ use Rattle.analysis.specs.declared.lists.Kind.{Kind}
 use Rattle.analysis.specs.declared.lists.Span.{Span}
 use Rattle.analysis.specs.Weights.{weight}
 use Rattle.analysis.specs.declared.lists.Member.{Member}
-use Rattle.analysis.specs.Lists.{any_of, in_span, net_form, ports_form, bytes_test, form_test, member_test, members_weight, IsMember, IsAnswered, AreAnswered, Passes, Settles, chained, turned, left_chained, weighed, Takes, EndsIn}
+use Rattle.analysis.specs.Lists.{any_of, in_span, has_tail, net_form, ports_form, bytes_test, form_test, member_test, members_weight, IsMember, IsAnswered, AreAnswered, Passes, Settles, chained, turned, left_chained, weighed, Takes, EndsIn}
 
 pub equal-true : (m n : ℕ) → (m == n) ≡ true → m ≡ n
 equal-true m n is = grind (arith, nat_tests)
@@ -88,23 +88,60 @@ addresses-member Dst a m o o' p = address-member a m o' p
 addresses-member SrcOrDst a m o o' p = ap (λ v. or_else v (has_address a m o' p)) (address-member a m o p) ∙ ap (or_else (in_span (span_of a) m o p)) (address-member a m o' p)
 addresses-member SrcAndDst a m o o' p = ap (λ v. and_then v (has_address a m o' p)) (address-member a m o p) ∙ ap (and_then (in_span (span_of a) m o p)) (address-member a m o' p)
 
-pub net-member : (network : Option Network) (d : Direction) (a m : ℕ) (b : Bytes) (p : Packet) → in_any_net network d a m p ≡ form_test (net_form network) d m b (span_of a) p
-net-member (Some networks.Ip) d a m b p = ap (and_then (is_type 0x0800 p)) (addresses-member d a m 26 30 p)
-net-member (Some networks.Arp) d a m b p = ap (and_then (is_type 0x0806 p)) (addresses-member d a m 28 38 p)
-net-member (Some networks.Rarp) d a m b p = ap (and_then (is_type 0x8035 p)) (addresses-member d a m 28 38 p)
-net-member None d a m b p =
+pub net-member : (network : Option Network) (d : Direction) (a m h : ℕ) (b : Bytes) (p : Packet) → in_any_net network d a m p ≡ form_test (net_form network) d m h b (span_of a) p
+net-member (Some networks.Ip) d a m h b p = ap (and_then (is_type 0x0800 p)) (addresses-member d a m 26 30 p)
+net-member (Some networks.Arp) d a m h b p = ap (and_then (is_type 0x0806 p)) (addresses-member d a m 28 38 p)
+net-member (Some networks.Rarp) d a m h b p = ap (and_then (is_type 0x8035 p)) (addresses-member d a m 28 38 p)
+net-member None d a m h b p =
     ap (λ v. of_types v (by_direction d (has_address a m 28) (has_address a m 38) p)) (addresses-member d a m 26 30 p)
     ∙ ap (of_types (by_direction d (in_span (span_of a) m 26) (in_span (span_of a) m 30) p)) (addresses-member d a m 28 38 p)
   where
     of_types : Verdict → Verdict → Verdict
     of_types v w = or_else (or_else (and_then (is_type 0x0800 p) v) (and_then (is_type 0x0806 p) w)) (and_then (is_type 0x8035 p) w)
 
-pub ports-member : (transport : Option Transport) (d : Direction) (m low high : ℕ) (b : Bytes) (p : Packet)
-    → has_any_ports transport d low high p ≡ form_test (ports_form transport) d m b (record { low = low; high = high }) p
-ports-member None d m low high b p = refl
-ports-member (Some transports.Tcp) d m low high b p = refl
-ports-member (Some transports.Udp) d m low high b p = refl
-ports-member (Some transports.Sctp) d m low high b p = refl
+pub ports-member : (transport : Option Transport) (d : Direction) (m h low high : ℕ) (b : Bytes) (p : Packet)
+    → has_any_ports transport d low high p ≡ form_test (ports_form transport) d m h b (record { low = low; high = high }) p
+ports-member None d m h low high b p = refl
+ports-member (Some transports.Tcp) d m h low high b p = refl
+ports-member (Some transports.Udp) d m h low high b p = refl
+ports-member (Some transports.Sctp) d m h low high b p = refl
+
+equal : (m n : ℕ) → m ≡ n → (m == n) ≡ true
+equal m n is = grind (arith, nat_tests)
+
+different : (m n : ℕ) → m ≢ n → (m == n) ≡ false
+different m n is = grind (arith, nat_tests)
+
+-- six bytes are a number of two and one of four
+six-member : (number head tail n : ℕ) → number ≡ head * 2 ^ 32 + tail → tail < 2 ^ 32 → (n == number) ≡ ((n / 2 ^ 32 == head) && within tail tail (n % 2 ^ 32))
+six-member number head tail n is below =
+    by_cases (cases_eq (n / 2 ^ 32) head) (cases_eq (n % 2 ^ 32) tail) ∙ ap (λ b. (n / 2 ^ 32 == head) && b) (within-one tail tail (n % 2 ^ 32) refl)
+  where
+    whole : n / 2 ^ 32 * 2 ^ 32 + n % 2 ^ 32 ≡ n
+    whole = omega arith
+
+    by_cases : (n / 2 ^ 32 ≡ head) ⊎ (n / 2 ^ 32 ≢ head) → (n % 2 ^ 32 ≡ tail) ⊎ (n % 2 ^ 32 ≢ tail) → (n == number) ≡ ((n / 2 ^ 32 == head) && (n % 2 ^ 32 == tail))
+    by_cases (inl same) (inl same') =
+        equal n number (omega arith) ∙ sym (ap (λ b. b && (n % 2 ^ 32 == tail)) (equal (n / 2 ^ 32) head same) ∙ equal (n % 2 ^ 32) tail same')
+    by_cases (inl same) (inr other) =
+        different n number (λ h. other (omega arith)) ∙ sym (ap (λ b. b && (n % 2 ^ 32 == tail)) (equal (n / 2 ^ 32) head same) ∙ different (n % 2 ^ 32) tail other)
+    by_cases (inr other) last = different n number (λ h. other (omega arith)) ∙ sym (ap (λ b. b && (n % 2 ^ 32 == tail)) (different (n / 2 ^ 32) head other))
+
+tail-member : (octets : List ℕ) (head tail o : ℕ) (p : Packet) → address_number octets ≡ head * 2 ^ 32 + tail → tail < 2 ^ 32 → is_address octets o p ≡ has_tail head (span_of tail) o p
+tail-member octets head tail o p is below = by_value (six o p)
+  where
+    by_value : (v : Option ℕ) → check (λ n. n == address_number octets) v ≡ check (λ n. (n / 2 ^ 32 == head) && within tail tail (n % 2 ^ 32)) v
+    by_value None = refl
+    by_value (Some n) = ap decided (six-member (address_number octets) head tail n is below)
+
+pub ethernet-member : (d : Direction) (octets : List ℕ) (m head tail : ℕ) (b : Bytes) (p : Packet) → address_number octets ≡ head * 2 ^ 32 + tail → tail < 2 ^ 32
+    → by_direction d (is_address octets 6) (is_address octets 0) p ≡ form_test forms.EtherHost d m head b (span_of tail) p
+ethernet-member Src octets m head tail b p is below = tail-member octets head tail 6 p is below
+ethernet-member Dst octets m head tail b p is below = tail-member octets head tail 0 p is below
+ethernet-member SrcOrDst octets m head tail b p is below =
+    ap (λ v. or_else v (is_address octets 0 p)) (tail-member octets head tail 6 p is below) ∙ ap (or_else (has_tail head (span_of tail) 6 p)) (tail-member octets head tail 0 p is below)
+ethernet-member SrcAndDst octets m head tail b p is below =
+    ap (λ v. and_then v (is_address octets 0 p)) (tail-member octets head tail 6 p is below) ∙ ap (and_then (has_tail head (span_of tail) 6 p)) (tail-member octets head tail 0 p is below)
 
 -- what a chain makes of two members
 turned-either : (c : Chain) (v w : Verdict) → turned c (or_else v w) ≡ chained c (turned c v) (turned c w)
@@ -133,13 +170,13 @@ pub both-true : (a b : Bool) → true ≡ (a && b) → (a ≡ true) × (true ≡
 both-true true b is = (refl, is)
 both-true false b is = absurd cc
 
-abbrev pub kind_of : Form → Sides → ℕ → Bytes → Kind
-kind_of form sides mask bytes = record { form = form; sides = sides; mask = mask; bytes = bytes }
+abbrev pub kind_of : Form → Sides → ℕ → ℕ → Bytes → Kind
+kind_of form sides mask head bytes = record { form = form; sides = sides; mask = mask; head = head; bytes = bytes }
 
-pub kind-same : (j k : Kind) → j.form ≡ k.form → j.sides ≡ k.sides → j.mask ≡ k.mask → j.bytes ≡ k.bytes → j ≡ k
-kind-same j k form sides mask bytes =
-    ap (λ f. kind_of f j.sides j.mask j.bytes) form ∙ ap (λ s. kind_of k.form s j.mask j.bytes) sides ∙ ap (λ m. kind_of k.form k.sides m j.bytes) mask
-    ∙ ap (kind_of k.form k.sides k.mask) bytes
+pub kind-same : (j k : Kind) → j.form ≡ k.form → j.sides ≡ k.sides → j.mask ≡ k.mask → j.head ≡ k.head → j.bytes ≡ k.bytes → j ≡ k
+kind-same j k form sides mask head bytes =
+    ap (λ f. kind_of f j.sides j.mask j.head j.bytes) form ∙ ap (λ s. kind_of k.form s j.mask j.head j.bytes) sides
+    ∙ ap (λ m. kind_of k.form k.sides m j.head j.bytes) mask ∙ ap (λ h. kind_of k.form k.sides k.mask h j.bytes) head ∙ ap (kind_of k.form k.sides k.mask k.head) bytes
 
 abbrev pub bytes-at : Layer → ℕ → Size → Bytes
 bytes-at layer index size = record { layer = layer; index = index; size = size }
@@ -160,6 +197,7 @@ weighed-more forms.UdpPorts n = omega arith
 weighed-more forms.SctpPorts n = omega arith
 weighed-more forms.IpProto n = omega arith
 weighed-more forms.EtherProto n = omega arith
+weighed-more forms.EtherHost n = omega arith
 weighed-more forms.Bytes n = omega arith
 
 -- a primitive weighs no less
@@ -174,6 +212,7 @@ weighed_one forms.UdpPorts = omega arith
 weighed_one forms.SctpPorts = omega arith
 weighed_one forms.IpProto = omega arith
 weighed_one forms.EtherProto = omega arith
+weighed_one forms.EtherHost = omega arith
 weighed_one forms.Bytes = omega arith
 
 pub weighed-net : (network : Option Network) → weighed (net_form network) 1 ≡ 40

@@ -1,5 +1,5 @@
 -- Where a test of a list was No, no test of its kind aborts.
-use Rattle.std.proofs.Common.{◌≡◌, ℕ, ◌+◌, ◌*◌, ◌<◌, ◌≤◌, ◌%◌, ◌^◌, ◌⊎◌, inl, inr, Bool, true, false, List, length, Option, Some, None, refl, subst, arith, option_and_then}
+use Rattle.std.proofs.Common.{◌≡◌, ℕ, ◌+◌, ◌*◌, ◌/◌, ◌<◌, ◌≤◌, ◌%◌, ◌^◌, ◌==◌, ◌&&◌, ◌⊎◌, inl, inr, Bool, true, false, List, length, Option, Some, None, refl, subst, arith, option_and_then}
 use Rattle.std.proofs.lemmas.Bool.{cases_lt}
 use Rattle.std.proofs.lemmas.Nat.{and_le_r}
 use Rattle.std.proofs.Math.Nat.{mod-eq_of_lt}
@@ -11,12 +11,9 @@ use Rattle.syntax.specs.Trees.{Tree}
 use Rattle.syntax.specs.Trees as trees
 use Rattle.semantics.specs.declared.verdict.Verdict.{Verdict}
 use Rattle.semantics.specs.declared.verdict.Verdict.TheVariants.{Yes, No, Abort}
-use Rattle.semantics.specs.Meaning.{Packet, Test, and_then, or_else, opposite, check, decided, byte, half, word, is_type, is_first_fragment_of, by_direction, within, half_behind_header, has_port, bytes_of, behind_header, accessed, in_layer, meaning}
-use Rattle.syntax.specs.declared.tree.Direction.{Direction}
-use Rattle.syntax.specs.declared.tree.Transport.{Transport}
-use Rattle.syntax.specs.declared.tree.Transport.TheVariants as transports
+use Rattle.semantics.specs.Meaning.{Packet, Test, and_then, or_else, check, decided, byte, half, word, six, is_type, is_first_fragment_of, by_direction, within, half_behind_header, has_port, bytes_of, behind_header, accessed, in_layer, meaning}
 use Rattle.std.proofs.Common.{bit_and, ap, sym, ◌∙◌}
-use Rattle.semantics.specs.Meaning.{has_ports, has_any_ports, protocol_number}
+use Rattle.semantics.specs.Meaning.{has_ports}
 use Rattle.analysis.specs.declared.lists.Chain.{Chain}
 use Rattle.analysis.specs.declared.lists.Chain.TheVariants as chains
 use Rattle.analysis.specs.declared.lists.Form.{Form}
@@ -27,7 +24,7 @@ use Rattle.analysis.specs.declared.lists.Bytes.{Bytes}
 use Rattle.analysis.specs.declared.lists.Kind.{Kind}
 use Rattle.analysis.specs.declared.lists.Span.{Span}
 use Rattle.analysis.specs.declared.lists.Member.{Member}
-use Rattle.analysis.specs.Lists.{direction_of, in_span, IsBroader, ArePorts, bytes_test, form_test, kind_test, member_test, turned, passing, IsAnswered, Covers, Asks, Settles}
+use Rattle.analysis.specs.Lists.{direction_of, in_span, has_tail, IsBroader, ArePorts, bytes_test, form_test, kind_test, member_test, turned, passing, IsAnswered, Covers, Asks, Settles}
 
 -- Where one of the first tests was No, each of the others is answered.
 abbrev pub AreSettled : (Span → Verdict) → (Span → Verdict) → Type 0
@@ -97,8 +94,8 @@ settled-ports n s s' p broader =
 settled-numbers : (v : Option ℕ) → AreSettled (λ x. check (within x.low x.high) v) (λ x. check (within x.low x.high) v)
 settled-numbers v = settled-check (λ x. within x.low x.high) (λ x. within x.low x.high) v
 
-form-settled : (f : Form) (s s' : Sides) (m m' : ℕ) (b : Bytes) (p : Packet) → IsBroader s s' → AreSettled (λ x. form_test f (direction_of s) m b x p) (λ x. form_test f (direction_of s') m' b x p)
-form-settled forms.Net s s' m m' b p broader =
+form-settled : (f : Form) (s s' : Sides) (m m' h h' : ℕ) (b : Bytes) (p : Packet) → IsBroader s s' → AreSettled (λ x. form_test f (direction_of s) m h b x p) (λ x. form_test f (direction_of s') m' h' b x p)
+form-settled forms.Net s s' m m' h h' b p broader =
     let typed : Sides → ℕ → ℕ → ℕ → ℕ → Span → Verdict = λ d k n o o' x. and_then (is_type n p) (by_direction (direction_of d) (in_span x k o) (in_span x k o') p) in
     settled-either
     (λ x. or_else (typed s m 0x0800 26 30 x) (typed s m 0x0806 28 38 x)) (λ x. or_else (typed s' m' 0x0800 26 30 x) (typed s' m' 0x0806 28 38 x))
@@ -106,27 +103,31 @@ form-settled forms.Net s s' m m' b p broader =
     (settled-either (typed s m 0x0800 26 30) (typed s' m' 0x0800 26 30) (typed s m 0x0806 28 38) (typed s' m' 0x0806 28 38)
     (settled-typed 0x0800 s s' m m' 26 30 p broader) (settled-typed 0x0806 s s' m m' 28 38 p broader))
     (settled-typed 0x8035 s s' m m' 28 38 p broader)
-form-settled forms.IpNet s s' m m' b p broader = settled-typed 0x0800 s s' m m' 26 30 p broader
-form-settled forms.ArpNet s s' m m' b p broader = settled-typed 0x0806 s s' m m' 28 38 p broader
-form-settled forms.RarpNet s s' m m' b p broader = settled-typed 0x8035 s s' m m' 28 38 p broader
-form-settled forms.Ports s s' m m' b p broader =
+form-settled forms.IpNet s s' m m' h h' b p broader = settled-typed 0x0800 s s' m m' 26 30 p broader
+form-settled forms.ArpNet s s' m m' h h' b p broader = settled-typed 0x0806 s s' m m' 28 38 p broader
+form-settled forms.RarpNet s s' m m' h h' b p broader = settled-typed 0x8035 s s' m m' 28 38 p broader
+form-settled forms.Ports s s' m m' h h' b p broader =
     let ports : Sides → ℕ → Span → Verdict = λ d n x. has_ports n (direction_of d) x.low x.high p in
     settled-either (λ x. or_else (ports s 6 x) (ports s 17 x)) (λ x. or_else (ports s' 6 x) (ports s' 17 x)) (ports s 132) (ports s' 132)
     (settled-either (ports s 6) (ports s' 6) (ports s 17) (ports s' 17) (settled-ports 6 s s' p broader) (settled-ports 17 s s' p broader))
     (settled-ports 132 s s' p broader)
-form-settled forms.TcpPorts s s' m m' b p broader = settled-ports 6 s s' p broader
-form-settled forms.UdpPorts s s' m m' b p broader = settled-ports 17 s s' p broader
-form-settled forms.SctpPorts s s' m m' b p broader = settled-ports 132 s s' p broader
-form-settled forms.IpProto s s' m m' b p broader =
+form-settled forms.TcpPorts s s' m m' h h' b p broader = settled-ports 6 s s' p broader
+form-settled forms.UdpPorts s s' m m' h h' b p broader = settled-ports 17 s s' p broader
+form-settled forms.SctpPorts s s' m m' h h' b p broader = settled-ports 132 s s' p broader
+form-settled forms.IpProto s s' m m' h h' b p broader =
     settled-guarded (is_type 0x0800 p) (λ x. check (within x.low x.high) (byte 23 p)) (λ x. check (within x.low x.high) (byte 23 p)) (settled-numbers (byte 23 p))
-form-settled forms.EtherProto s s' m m' b p broader = settled-numbers (half 12 p)
-form-settled forms.Bytes s s' m m' b p broader =
+form-settled forms.EtherProto s s' m m' h h' b p broader = settled-numbers (half 12 p)
+form-settled forms.EtherHost s s' m m' h h' b p broader =
+    let tails : ℕ → Span → ℕ → Bool = λ k x n. (n / 2 ^ 32 == k) && within x.low x.high (n % 2 ^ 32) in
+    settled-sides s s' (λ x. has_tail h x 6) (λ x. has_tail h' x 6) (λ x. has_tail h x 0) (λ x. has_tail h' x 0) p broader
+    (settled-check (tails h) (tails h') (six 6 p)) (settled-check (tails h) (tails h') (six 0 p))
+form-settled forms.Bytes s s' m m' h h' b p broader =
     let v = accessed b.layer (bytes_of b.size) p b.index in
     settled-guarded (in_layer b.layer p) (λ x. check (within x.low x.high) v) (λ x. check (within x.low x.high) v) (settled-numbers v)
 
-pub covers-broader : (k other : Kind) → k ≡ record { form = other.form; sides = k.sides; mask = k.mask; bytes = other.bytes } → IsBroader k.sides other.sides → Covers k other
+pub covers-broader : (k other : Kind) → k ≡ record { form = other.form; sides = k.sides; mask = k.mask; head = k.head; bytes = other.bytes } → IsBroader k.sides other.sides → Covers k other
 covers-broader k other same broader = record {
-  answered = λ p x y is. form-settled other.form k.sides other.sides k.mask other.mask other.bytes p broader x y (ap (λ (j : Kind). kind_test j x p) (sym same) ∙ is);
+  answered = λ p x y is. form-settled other.form k.sides other.sides k.mask other.mask k.head other.head other.bytes p broader x y (ap (λ (j : Kind). kind_test j x p) (sym same) ∙ is);
 }
 
 pub on-true : {P Q : Type 0} (b : Bool) → (P → Q) → OnTrue b P → OnTrue b Q
@@ -161,28 +162,29 @@ covers-bytes n i size f g Yes v p inside is = ports-there f g p.captured i size 
 covers-bytes n i size f g No v p inside is = tt
 covers-bytes n i size f g Abort v p inside is = absurd cc
 
-bytes-covered : (f : Form) (m : ℕ) (b c : Bytes) (p : Packet) (x y : Span) → ArePorts f c → form_test f SrcOrDst m b x p ≡ No → IsAnswered (bytes_test c y p)
-bytes-covered forms.TcpPorts m b c p x y are is =
+bytes-covered : (f : Form) (m h : ℕ) (b c : Bytes) (p : Packet) (x y : Span) → ArePorts f c → form_test f SrcOrDst m h b x p ≡ No → IsAnswered (bytes_test c y p)
+bytes-covered forms.TcpPorts m h b c p x y are is =
     subst (λ l. IsAnswered (and_then (in_layer l p) (check (within y.low y.high) (accessed l (bytes_of c.size) p c.index)))) (sym are.0)
     (covers-bytes 6 c.index (bytes_of c.size) (within x.low x.high) (within y.low y.high) (is_first_fragment_of 6 p) _ p are.1 is)
-bytes-covered forms.UdpPorts m b c p x y are is =
+bytes-covered forms.UdpPorts m h b c p x y are is =
     subst (λ l. IsAnswered (and_then (in_layer l p) (check (within y.low y.high) (accessed l (bytes_of c.size) p c.index)))) (sym are.0)
     (covers-bytes 17 c.index (bytes_of c.size) (within x.low x.high) (within y.low y.high) (is_first_fragment_of 17 p) _ p are.1 is)
-bytes-covered forms.Net m b c p x y are is = absurd are
-bytes-covered forms.IpNet m b c p x y are is = absurd are
-bytes-covered forms.ArpNet m b c p x y are is = absurd are
-bytes-covered forms.RarpNet m b c p x y are is = absurd are
-bytes-covered forms.Ports m b c p x y are is = absurd are
-bytes-covered forms.SctpPorts m b c p x y are is = absurd are
-bytes-covered forms.IpProto m b c p x y are is = absurd are
-bytes-covered forms.EtherProto m b c p x y are is = absurd are
-bytes-covered forms.Bytes m b c p x y are is = absurd are
+bytes-covered forms.Net m h b c p x y are is = absurd are
+bytes-covered forms.IpNet m h b c p x y are is = absurd are
+bytes-covered forms.ArpNet m h b c p x y are is = absurd are
+bytes-covered forms.RarpNet m h b c p x y are is = absurd are
+bytes-covered forms.Ports m h b c p x y are is = absurd are
+bytes-covered forms.SctpPorts m h b c p x y are is = absurd are
+bytes-covered forms.IpProto m h b c p x y are is = absurd are
+bytes-covered forms.EtherProto m h b c p x y are is = absurd are
+bytes-covered forms.EtherHost m h b c p x y are is = absurd are
+bytes-covered forms.Bytes m h b c p x y are is = absurd are
 
 pub covers-ports : (k other : Kind) → k.sides ≡ sides.Either → other.form ≡ forms.Bytes → ArePorts k.form other.bytes → Covers k other
 covers-ports k other both of_bytes are = record {
   answered = λ p x y is.
-      subst (λ f. IsAnswered (form_test f (direction_of other.sides) other.mask other.bytes y p)) (sym of_bytes)
-      (bytes-covered k.form k.mask k.bytes other.bytes p x y are (ap (λ s. form_test k.form (direction_of s) k.mask k.bytes x p) (sym both) ∙ is));
+      subst (λ f. IsAnswered (form_test f (direction_of other.sides) other.mask other.head other.bytes y p)) (sym of_bytes)
+      (bytes-covered k.form k.mask k.head k.bytes other.bytes p x y are (ap (λ s. form_test k.form (direction_of s) k.mask k.head k.bytes x p) (sym both) ∙ is));
 }
 
 -- what a negation that was passed tells

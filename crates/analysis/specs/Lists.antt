@@ -1,5 +1,5 @@
 -- Lists: neighbours of an `or`, or negations that an `and` joins, that differ in their numbers alone.
-use Rattle.std.specs.Prelude.{◌≡◌, ℕ, ◌+◌, ◌*◌, ◌≤◌, ◌<◌, List, [], ◌∷◌, All, length, Option, Some, None, MatchOption, bit_and}
+use Rattle.std.specs.Prelude.{◌≡◌, ℕ, ◌+◌, ◌*◌, ◌/◌, ◌%◌, ◌^◌, ◌≤◌, ◌<◌, ◌==◌, ◌&&◌, List, [], ◌∷◌, All, length, Option, Some, None, MatchOption, bit_and}
 use Rattle.syntax.specs.Trees.{Tree}
 use Rattle.syntax.specs.Trees as trees
 use Rattle.syntax.specs.declared.tree.Layer.TheVariants as layers
@@ -12,7 +12,7 @@ use Rattle.syntax.specs.declared.tree.Transport.{Transport}
 use Rattle.syntax.specs.declared.tree.Transport.TheVariants as transports
 use Rattle.semantics.specs.declared.verdict.Verdict.{Verdict}
 use Rattle.semantics.specs.declared.verdict.Verdict.TheVariants.{Yes, No, Abort}
-use Rattle.semantics.specs.Meaning.{Packet, Test, and_then, or_else, opposite, or_test, and_test, check, byte, half, word, is_type, by_direction, within, has_any_ports, bytes_of, accessed, in_layer, primitive_test, meaning}
+use Rattle.semantics.specs.Meaning.{Packet, Test, and_then, or_else, opposite, or_test, and_test, check, byte, half, word, six, is_type, by_direction, within, has_any_ports, bytes_of, accessed, in_layer, primitive_test, meaning}
 use Rattle.analysis.specs.declared.lists.Chain.{Chain}
 use Rattle.analysis.specs.declared.lists.Chain.TheVariants as chains
 use Rattle.analysis.specs.declared.lists.Form.{Form}
@@ -67,6 +67,10 @@ ports_form (Some transports.Sctp) = forms.SctpPorts
 abbrev pub in_span : Span → ℕ → ℕ → Test
 in_span x mask o p = check (λ w. within x.low x.high (bit_and w mask)) (word o p)
 
+-- six bytes: the first two are this number, and the other four are in a span
+abbrev pub has_tail : ℕ → Span → ℕ → Test
+has_tail head x o p = check (λ n. (n / 2 ^ 32 == head) && within x.low x.high (n % 2 ^ 32)) (six o p)
+
 -- IPv4 behind which one test holds, or ARP or RARP behind which another one does
 abbrev pub of_any_type : Test → Test → Test
 of_any_type ip arp = or_test (or_test (and_test (is_type 0x0800) ip) (and_test (is_type 0x0806) arp)) (and_test (is_type 0x8035) arp)
@@ -80,22 +84,23 @@ abbrev pub no_bytes : Bytes
 no_bytes = record { layer = layers.Ether; index = 0; size = sizes.One }
 
 -- the test of a member: a primitive or a relation whose number is in a span
-abbrev pub form_test : Form → Direction → ℕ → Bytes → Span → Test
-form_test forms.Net d m b x =
+abbrev pub form_test : Form → Direction → ℕ → ℕ → Bytes → Span → Test
+form_test forms.Net d m h b x =
     of_any_type (by_direction d (in_span x m 26) (in_span x m 30)) (by_direction d (in_span x m 28) (in_span x m 38))
-form_test forms.IpNet d m b x = and_test (is_type 0x0800) (by_direction d (in_span x m 26) (in_span x m 30))
-form_test forms.ArpNet d m b x = and_test (is_type 0x0806) (by_direction d (in_span x m 28) (in_span x m 38))
-form_test forms.RarpNet d m b x = and_test (is_type 0x8035) (by_direction d (in_span x m 28) (in_span x m 38))
-form_test forms.Ports d m b x = has_any_ports None d x.low x.high
-form_test forms.TcpPorts d m b x = has_any_ports (Some transports.Tcp) d x.low x.high
-form_test forms.UdpPorts d m b x = has_any_ports (Some transports.Udp) d x.low x.high
-form_test forms.SctpPorts d m b x = has_any_ports (Some transports.Sctp) d x.low x.high
-form_test forms.IpProto d m b x = and_test (is_type 0x0800) (λ p. check (within x.low x.high) (byte 23 p))
-form_test forms.EtherProto d m b x = (λ p. check (within x.low x.high) (half 12 p))
-form_test forms.Bytes d m b x = bytes_test b x
+form_test forms.IpNet d m h b x = and_test (is_type 0x0800) (by_direction d (in_span x m 26) (in_span x m 30))
+form_test forms.ArpNet d m h b x = and_test (is_type 0x0806) (by_direction d (in_span x m 28) (in_span x m 38))
+form_test forms.RarpNet d m h b x = and_test (is_type 0x8035) (by_direction d (in_span x m 28) (in_span x m 38))
+form_test forms.Ports d m h b x = has_any_ports None d x.low x.high
+form_test forms.TcpPorts d m h b x = has_any_ports (Some transports.Tcp) d x.low x.high
+form_test forms.UdpPorts d m h b x = has_any_ports (Some transports.Udp) d x.low x.high
+form_test forms.SctpPorts d m h b x = has_any_ports (Some transports.Sctp) d x.low x.high
+form_test forms.IpProto d m h b x = and_test (is_type 0x0800) (λ p. check (within x.low x.high) (byte 23 p))
+form_test forms.EtherProto d m h b x = (λ p. check (within x.low x.high) (half 12 p))
+form_test forms.EtherHost d m h b x = by_direction d (has_tail h x 6) (has_tail h x 0)
+form_test forms.Bytes d m h b x = bytes_test b x
 
 abbrev pub kind_test : Kind → Span → Test
-kind_test k x = form_test k.form (direction_of k.sides) k.mask k.bytes x
+kind_test k x = form_test k.form (direction_of k.sides) k.mask k.head k.bytes x
 
 -- what so many members weigh at least
 abbrev pub weighed : Form → ℕ → ℕ

@@ -3,7 +3,7 @@
 ghost use Rattle.std.specs.Prelude.{◌≡◌, ◌+◌, ◌≤◌, IfSome, MatchOption, None};
 ghost use Rattle.syntax.specs.Trees.{amount_of, tree_of, number as literal};
 ghost use Rattle.syntax.specs.declared.tree.Comparison.TheVariants.{Equal};
-ghost use Rattle.semantics.specs.Meaning.{Packet, plain_test, in_any_net, has_any_ports, primitive_test, relation_test, meaning};
+ghost use Rattle.semantics.specs.Meaning.{Packet, by_direction, plain_test, in_any_net, has_any_ports, is_address, primitive_test, relation_test, meaning};
 ghost use Rattle.analysis.specs.Knowing.{behind, LOOK_BACK};
 ghost use Rattle.analysis.specs.Lists.{direction_of, net_form, ports_form, no_bytes, member_test, IsBroader, ArePorts, Covers, IsMember, turned, behind_left, weighed};
 ghost use Rattle.analysis.specs.declared.lists.Sides.TheVariants as sides;
@@ -13,7 +13,8 @@ ghost use Rattle.analysis.specs.Weights.{value_weight, weight};
 use crate::known::Known;
 use semantics::{ARP, RARP};
 use syntax::{
-    Comparison, Direction, Expr, Layer, Network, Plain, Primitive, Size, Transport, Value,
+    Comparison, Direction, EthernetAddress, Expr, Layer, Network, Plain, Primitive, Size,
+    Transport, Value,
 };
 
 /// How the neighbours of a list are joined.
@@ -40,6 +41,8 @@ pub enum Form {
     SctpPorts,
     IpProto,
     EtherProto,
+    /// Ethernet hosts that have their first two bytes in common.
+    EtherHost,
     /// Relations that ask for the same bytes.
     Bytes,
 }
@@ -67,6 +70,8 @@ pub struct Kind {
     pub sides: Sides,
     /// That of hosts and nets.
     pub mask: u32,
+    /// The first two bytes of Ethernet hosts. The other four are a member's number.
+    pub head: u16,
     /// Those of relations.
     pub bytes: Bytes,
 }
@@ -139,13 +144,15 @@ impl Kind {
         if self == other { true } else { false }
     }
 
-    /// Whether a test of this kind loads what one of the other kind does, of either side where that is asked for, under any mask.
+    /// Whether a test of this kind loads what one of the other kind does, of either side where that is asked for, under any mask,
+    /// and whatever the first two bytes are.
     fn is_broader(self, other: Kind) -> bool
         ensures { OnTrue result (Covers self other) }
     {
         let alike = Kind {
             sides: self.sides,
             mask: self.mask,
+            head: self.head,
             ..other
         };
         if self.is(alike) {
@@ -252,7 +259,7 @@ impl Member {
     /// A member that asks for one number, of neither side.
     fn numbered(form: Form, number: u32) -> Member
         ensures { result ≡ record {
-          kind = record { form = form; sides = sides.Source; mask = 0; bytes = no_bytes };
+          kind = record { form = form; sides = sides.Source; mask = 0; head = 0; bytes = no_bytes };
           span = record { low = number; high = number };
           primitive = None;
         } }
@@ -262,6 +269,7 @@ impl Member {
                 form,
                 sides: Sides::Source,
                 mask: 0,
+                head: 0,
                 bytes: NO_BYTES,
             },
             span: Span {
@@ -287,6 +295,7 @@ impl Member {
                     form: net_form(network),
                     sides,
                     mask,
+                    head: 0,
                     bytes: NO_BYTES,
                 },
                 span: Span {
@@ -314,6 +323,7 @@ impl Member {
                     form: ports_form(transport),
                     sides,
                     mask: 0,
+                    head: 0,
                     bytes: NO_BYTES,
                 },
                 span: Span { low, high },
@@ -321,6 +331,26 @@ impl Member {
             }),
             None => None,
         }
+    }
+
+    fn of_ethernet(direction: Direction, address: EthernetAddress) -> Option<Member>
+        ensures same { IfSome result (λ m. (p : Packet)
+            → by_direction direction (is_address address.octets 6) (is_address address.octets 0) p ≡ member_test m p) }
+        ensures weighs { IfSome result (λ m. weighed m.kind.form 1 ≡ 40) }
+    {
+        let sides = sides_of(direction)?;
+        let [a, b, c, d, e, f] = address.octets;
+        let head = u16::from_be_bytes([a, b]);
+        let tail = u32::from_be_bytes([c, d, e, f]);
+        let member = Member::numbered(Form::EtherHost, tail);
+        Some(Member {
+            kind: Kind {
+                sides,
+                head,
+                ..member.kind
+            },
+            ..member
+        })
     }
 
     /// A protocol word. `ip` is none: what goes on behind it is to know of it.
@@ -352,6 +382,7 @@ impl Member {
                 address,
                 mask,
             } => Member::of_net(network, direction, address, mask),
+            Primitive::EtherHost { direction, address } => Member::of_ethernet(direction, address),
             Primitive::Ports {
                 transport,
                 direction,

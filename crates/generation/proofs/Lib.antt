@@ -7,6 +7,7 @@ pub mod Sides
 pub mod Sharing
 pub mod Nets
 pub mod Six
+pub mod Tails
 pub mod Verdicts
 pub mod Computing
 pub mod Bounds
@@ -17,3 +18,5 @@ pub mod Taking
 pub mod Shared
 pub mod Seeking
 pub mod Ends
+pub mod Addresses
+pub mod Past

@@ -47,7 +47,7 @@ any-chosen (Some n) f g h t u xs p some = by_test (f n) (g n) (h n)
     by_test false false true = any-same (λ x q. u x p) u p (λ x. refl) xs
     by_test false false false = any-no xs p
 
-decided-either : (b c : Bool) → or_else (decided b) (decided c) ≡ decided (if c then true else b)
+pub decided-either : (b c : Bool) → or_else (decided b) (decided c) ≡ decided (if c then true else b)
 decided-either true true = refl
 decided-either true false = refl
 decided-either false true = refl
@@ -62,7 +62,7 @@ decided-there true is = absurd cc
 decided-there false is = absurd cc
 
 -- one number that is there
-among-decided : (xs : List Span) (p : Packet) (n : ℕ) → any_of (λ (x : Span) q. decided (within x.low x.high n)) xs p ≡ decided (among xs n)
+pub among-decided : (xs : List Span) (p : Packet) (n : ℕ) → any_of (λ (x : Span) q. decided (within x.low x.high n)) xs p ≡ decided (among xs n)
 among-decided [] p n = refl
 among-decided (x ∷ xs) p n = ap (λ v. or_else v (decided (within x.low x.high n))) (among-decided xs p n) ∙ decided-either (among xs n) (within x.low x.high n)
 

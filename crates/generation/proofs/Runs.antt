@@ -226,6 +226,10 @@ pub header-effect : (p : Packet) (r : Registers) → effect p.captured p.wire (p
 unfolding effect operation_of
 header-effect p r = refl
 
+pub length-effect : (k : ℕ) (p : Packet) (r : Registers) → effect p.captured p.wire (plain_insn 0xb1 k) r ≡ loaded Index r (option_map (λ b. 4 * bit_and b 15) (number_at p.captured k 1))
+unfolding effect operation_of
+length-effect k p r = refl
+
 pub half-effect : (k : ℕ) (p : Packet) (r : Registers) → effect p.captured p.wire (plain_insn 0x48 k) r ≡ loaded Accumulator r (number_at p.captured (r.index + k) 2)
 unfolding effect operation_of
 half-effect k p r = refl

@@ -1,11 +1,9 @@
 -- Code that asks whether a number is one of many.
-use Rattle.std.proofs.Common.{◌≡◌, ℕ, suc, ◌+◌, ◌-◌, ◌*◌, ◌<◌, ◌≤◌, ◌⊎◌, inl, inr, Bool, true, false, List, [], ◌∷◌, ◌++◌, length, Option, Some, None, refl, sym, ap, ◌∙◌, arith, if◌then◌else◌, bit_and, option_map, take, get_or}
-use Rattle.std.proofs.lemmas.List.{take_more, length-append, length-take}
+use Rattle.std.proofs.Common.{◌≡◌, ℕ, suc, ◌+◌, ◌*◌, ◌<◌, ◌≤◌, Bool, true, false, List, [], ◌∷◌, ◌++◌, length, Option, Some, None, refl, sym, ap, ◌∙◌, arith, if◌then◌else◌, bit_and, option_map, take, get_or}
+use Rattle.std.proofs.lemmas.List.{take_more, length-append}
 use Rattle.bpfvm.specs.declared.insn.Insn.{Insn}
 use Rattle.bpfvm.specs.Codes.{Accumulator, Index}
 use Rattle.bpfvm.specs.Machine.{Registers, Goes, with_value, loaded, effect}
-use Rattle.analysis.specs.declared.lists.Sides.{Sides}
-use Rattle.analysis.specs.declared.lists.Sides.TheVariants.{Source, Destination, Either}
 use Rattle.syntax.specs.declared.tree.Direction.{Direction}
 use Rattle.syntax.specs.declared.tree.Direction.TheVariants.{Src, Dst, SrcOrDst, SrcAndDst}
 use Rattle.generation.specs.declared.code.Exits.{Exits}
@@ -24,7 +22,7 @@ use Rattle.generation.specs.Parts.{port_behind, base_of, read_from}
 use Rattle.semantics.specs.Sides.{directed}
 use Rattle.generation.specs.Emission.{AreExits, HasCells, IsPlace, run_from, front, field_of, Answers, Passes, outcome, Extends, Chooses, Nears, Computes, same_index, Follows, Decides}
 use Rattle.analysis.specs.Lists.{any_of, in_span}
-use Rattle.generation.specs.Listed.{among, asked_last, asked_before_cost, spot_value, found_at, onward, LoadsSpot, ChoosesFrom, IsChoice}
+use Rattle.generation.specs.Listed.{among, spot_value, found_at, onward, LoadsSpot, PassesSpot, ChoosesFrom, IsChoice}
 use Rattle.generation.proofs.Runs.{after, answer-first, front-place, extends-none, extends-one, extends-both, extends-more, load-effect, mask-effect, half-effect, header-effect}
 use Rattle.generation.proofs.Computing.{computes-same, read-accessed, decides-valued}
 use Rattle.generation.proofs.Deciding.{outcome-either, decides-same}
@@ -173,15 +171,31 @@ pub found-checked : (spot : Spot) (r : Registers) (p : Packet) (xs : List Span) 
 found-checked spot r p xs some =
     any-same (found_at spot r) (λ (x : Span) q. check (within x.low x.high) (spot_value spot r p)) p (λ x. refl) xs ∙ any-checked xs p (spot_value spot r p) some
 
-pub follows-sought : {most e : ℕ} (spot : Spot) (xs : List Span) {exits : Exits} {a b c : List Insn} → 0 < length xs → e ≡ length b
-    → ChoosesFrom most (λ r. among xs r.accumulator) exits e a b → LoadsSpot spot b c
+-- exits that are not passed, and those behind the same load
+pub passes-none : (spot : Spot) {exits : Exits} (a : List Insn) → AreExits a exits → PassesSpot spot exits exits a
+passes-none spot a are = record { here = are; yes = λ p r n is. refl; no = λ p r n is. refl }
+
+pub passes-load : (f : Field) {exits : Exits} {y n : ℕ} {a : List Insn} → Passes (load_insn f) exits.yes y a → Passes (load_insn f) exits.no n a
+    → PassesSpot (spots.At f) exits (record { yes = y; no = n }) a
+passes-load f yes-passed no-passed = record {
+  here = (yes-passed.here, no-passed.here);
+  yes = λ p r n is. yes-passed.leads p (with_value Accumulator n r) (unchanged p r n is);
+  no = λ p r n is. no-passed.leads p (with_value Accumulator n r) (unchanged p r n is);
+}
+  where
+    unchanged : (p : Packet) (r : Registers) (n : ℕ) → field_of f p ≡ Some n → effect p.captured p.wire (load_insn f) (with_value Accumulator n r) ≡ Goes 0 (with_value Accumulator n r)
+    unchanged p r n is = load-effect f p (with_value Accumulator n r) ∙ ap (loaded Accumulator (with_value Accumulator n r)) is
+
+pub follows-passed : {most e : ℕ} (spot : Spot) (xs : List Span) {exits passed : Exits} {a b c : List Insn} → 0 < length xs → e ≡ length b → PassesSpot spot exits passed a
+    → ChoosesFrom most (λ r. among xs r.accumulator) passed e a b → LoadsSpot spot b c
     → Follows same_index (most + 2) (λ r. any_of (found_at spot r) xs) exits (length c) a c
-follows-sought {most} {e} spot xs {exits} {a} {b} {c} some is choice load = record {
+follows-passed {most} {e} spot xs {exits} {passed} {a} {b} {c} some is passes choice load = record {
   extends = extends-both choice.extends load.extends;
   here = (omega (arith, choice.here.0, choice.here.1, load.extends.longer), omega arith);
   follows = λ p m n r bytes cells yes' no'.
       front-place c p r ∙ load.loads p r
-      ∙ by_value p m n r (spot_value spot r p) (λ x. yes' (with_value Accumulator x r) cells refl) (λ x. no' (with_value Accumulator x r) cells refl)
+      ∙ by_value p m n r (spot_value spot r p)
+      (λ x at. passes.yes p r x at ∙ yes' (with_value Accumulator x r) cells refl) (λ x at. passes.no p r x at ∙ no' (with_value Accumulator x r) cells refl) refl
       ∙ ap (λ v. outcome v m n) (sym (found-checked spot r p xs some));
 }
   where
@@ -190,12 +204,18 @@ follows-sought {most} {e} spot xs {exits} {a} {b} {c} some is choice load = reco
     by_choice false k l m n first second = second
 
     by_value : (p : Packet) (m n : ℕ) (r : Registers) (v : Option ℕ)
-        → ((x : ℕ) → run_from a exits.yes p (with_value Accumulator x r) ≡ m) → ((x : ℕ) → run_from a exits.no p (with_value Accumulator x r) ≡ n)
-        → onward v (front b p) r ≡ outcome (check (among xs) v) m n
-    by_value p m n r None yes' no' = refl
-    by_value p m n r (Some x) yes' no' =
+        → ((x : ℕ) → spot_value spot r p ≡ Some x → run_from a passed.yes p (with_value Accumulator x r) ≡ m)
+        → ((x : ℕ) → spot_value spot r p ≡ Some x → run_from a passed.no p (with_value Accumulator x r) ≡ n)
+        → spot_value spot r p ≡ v → onward v (front b p) r ≡ outcome (check (among xs) v) m n
+    by_value p m n r None yes' no' at = refl
+    by_value p m n r (Some x) yes' no' at =
         let s = with_value Accumulator x r in
-        sym (ap (λ place. run_from b place p s) is ∙ front-place b p s) ∙ choice.chooses p s ∙ by_choice (among xs x) _ _ m n (yes' x) (no' x)
+        sym (ap (λ place. run_from b place p s) is ∙ front-place b p s) ∙ choice.chooses p s ∙ by_choice (among xs x) _ _ m n (yes' x at) (no' x at)
+
+pub follows-sought : {most e : ℕ} (spot : Spot) (xs : List Span) {exits : Exits} {a b c : List Insn} → AreExits a exits → 0 < length xs → e ≡ length b
+    → ChoosesFrom most (λ r. among xs r.accumulator) exits e a b → LoadsSpot spot b c
+    → Follows same_index (most + 2) (λ r. any_of (found_at spot r) xs) exits (length c) a c
+follows-sought spot xs {exits} {a} are some is choice load = follows-passed spot xs some is (passes-none spot a are) choice load
 
 -- a test where another one does not hold, which looks at the index register alone
 pub follows-else : {k l e f : ℕ} (t u : Registers → Test) {exits : Exits} {a b c : List Insn} → ((p : Packet) (r s : Registers) → s.index ≡ r.index → u s p ≡ u r p) → AreExits a exits
@@ -249,31 +269,6 @@ follows-sides {k} source destination spans others first is one some are third se
     (follows-else (λ r. any_of (found_at source r) first) (λ r. or_test (any_of (found_at destination r) spans) (any_of (found_at source r) others))
     (λ p r s same. ap (λ v. or_else v (any_of (found_at source s) others p)) (sought-same destination spans p r s same) ∙ ap (or_else (any_of (found_at destination r) spans p)) (sought-same source others p r s same))
     are later begin))
-
--- what is asked last and what stands in front of it
-pub asked-one : (s : Sides) (xs : List Span) → (s ≡ Source) ⊎ (s ≡ Destination) → asked_last s xs ≡ xs
-asked-one s xs (inl is) = ap (λ x. asked_last x xs) is
-asked-one s xs (inr is) = ap (λ x. asked_last x xs) is
-
-pub asked_some : (s : Sides) (xs : List Span) → 2 ≤ length xs → 0 < length (asked_last s xs)
-asked_some Source xs many = omega (arith, many)
-asked_some Destination xs many = omega (arith, many)
-asked_some Either xs many = omega (arith, many, length-take (length xs - 1) xs)
-
-pub asked_least : (s : Sides) (n : ℕ) → 2 ≤ asked_before_cost s n
-asked_least Source n = omega arith
-asked_least Destination n = omega arith
-asked_least Either n = omega arith
-
-pub asked_fits : (s : Sides) (xs : List Span) → 2 ≤ length xs → 7 * length (asked_last s xs) + asked_before_cost s (length xs) ≤ 14 * length xs + 6
-asked_fits Source xs many = omega (arith, many)
-asked_fits Destination xs many = omega (arith, many)
-asked_fits Either xs many = omega (arith, many, length-take (length xs - 1) xs)
-
--- the same of both fields in other words
-pub directed-same : (d : Direction) (s t s' t' : Test) (p : Packet) → s p ≡ s' p → t p ≡ t' p → by_direction d s t p ≡ by_direction d s' t' p
-directed-same d s t s' t' p first second =
-    sym (directed-is d s t p) ∙ ap (λ v. directed d v (t p)) first ∙ ap (directed d (s' p)) second ∙ directed-is d s' t' p
 
 -- the spot of an address
 pub spot-masked : (o mask : ℕ) (p : Packet) (r : Registers) (x : Span) → found_at (spots.Masked o mask) r x p ≡ in_span x mask o p

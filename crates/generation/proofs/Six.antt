@@ -1,5 +1,5 @@
 -- Six bytes as four and two, and four bytes under a mask of ones.
-use Rattle.std.proofs.Common.{◌≡◌, ◌≢◌, ℕ, zero, suc, ◌+◌, ◌-◌, ◌*◌, ◌<◌, ◌≤◌, ◌==◌, Bool, true, false, List, [], ◌∷◌, ◌++◌, length, take, drop, refl, sym, ap, ◌∙◌, arith, ◌⊎◌, inl, inr, bit_and, ◌^◌, ◌%◌}
+use Rattle.std.proofs.Common.{◌≡◌, ◌≢◌, ℕ, zero, suc, ◌+◌, ◌-◌, ◌*◌, ◌<◌, ◌≤◌, ◌==◌, Bool, true, false, List, [], ◌∷◌, ◌++◌, length, take, drop, refl, sym, ap, ◌∙◌, arith, ◌⊎◌, inl, inr, bit_and, ◌^◌, ◌%◌, Some, option_map}
 use Rattle.std.proofs.lemmas.Nat.{and_mask}
 use Rattle.std.specs.List.{AllByRecursion, fold}
 use Rattle.std.proofs.lemmas.Bool.{cases_lt, cases_eq}
@@ -10,11 +10,11 @@ use Rattle.bpfvm.specs.Machine.{big_endian}
 use Rattle.semantics.proofs.Numbers.{number-some, number-none}
 use Rattle.semantics.specs.Meaning.{Packet, HasBytes, and_then, check, decided, half, word, six}
 
-fold-joined : (xs ys : List ℕ) (a : ℕ) → fold (λ n byte. 256 * n + byte) a (xs ++ ys) ≡ fold (λ n byte. 256 * n + byte) (fold (λ n byte. 256 * n + byte) a xs) ys
+pub fold-joined : (xs ys : List ℕ) (a : ℕ) → fold (λ n byte. 256 * n + byte) a (xs ++ ys) ≡ fold (λ n byte. 256 * n + byte) (fold (λ n byte. 256 * n + byte) a xs) ys
 fold-joined [] ys a = refl
 fold-joined (x ∷ xs) ys a = fold-joined xs ys (256 * a + x)
 
-all-dropped : (n : ℕ) (xs : List ℕ) → AllByRecursion (λ byte. byte < 256) xs → AllByRecursion (λ byte. byte < 256) (drop n xs)
+pub all-dropped : (n : ℕ) (xs : List ℕ) → AllByRecursion (λ byte. byte < 256) xs → AllByRecursion (λ byte. byte < 256) (drop n xs)
 all-dropped zero xs all = all
 all-dropped (suc n) [] all = all
 all-dropped (suc n) (x ∷ xs) all = all-dropped n xs all.1
@@ -70,7 +70,7 @@ six_split o high low number p bytes below is = by_length (cases_lt (length p.cap
         ∙ sym (ap (check (λ k. k == number)) (number-some b o 6 within))
 
 -- four bytes are below 2 ^ 32
-four_below : (xs : List ℕ) → AllByRecursion (λ byte. byte < 256) xs → big_endian (take 4 xs) < 2 ^ 32
+pub four_below : (xs : List ℕ) → AllByRecursion (λ byte. byte < 256) xs → big_endian (take 4 xs) < 2 ^ 32
 four_below [] all = omega arith
 four_below (a ∷ []) all = omega (arith, all.0)
 four_below (a ∷ b ∷ []) all = omega (arith, all.0, all.1.0)
@@ -90,3 +90,13 @@ whole_mask o f p bytes = by_length (cases_lt (length p.captured) (o + 4))
         let h = number-some p.captured o 4 inside in
         let n = big_endian (take 4 (drop o p.captured)) in
         ap (check f) h ∙ sym (ap (λ w. decided (f w)) (ones n (four_below (drop o p.captured) (all-dropped o p.captured bytes)))) ∙ sym (ap (check (λ w. f (bit_and w 4294967295))) h)
+
+pub whole_bits : (o : ℕ) (p : Packet) → HasBytes p → word o p ≡ option_map (λ w. bit_and w 4294967295) (word o p)
+whole_bits o p bytes = by_length (cases_lt (length p.captured) (o + 4))
+  where
+    by_length : (length p.captured < o + 4) ⊎ (o + 4 ≤ length p.captured) → word o p ≡ option_map (λ w. bit_and w 4294967295) (word o p)
+    by_length (inl past) = let h = number-none p.captured o 4 past in h ∙ sym (ap (option_map (λ w. bit_and w 4294967295)) h)
+    by_length (inr inside) =
+        let h = number-some p.captured o 4 inside in
+        let n = big_endian (take 4 (drop o p.captured)) in
+        h ∙ sym (ap Some (ones n (four_below (drop o p.captured) (all-dropped o p.captured bytes)))) ∙ sym (ap (option_map (λ w. bit_and w 4294967295)) h)

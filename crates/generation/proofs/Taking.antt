@@ -18,7 +18,6 @@ use Rattle.bpfvm.specs.declared.insn.Insn.{Insn}
 use Rattle.analysis.specs.declared.known.Known.{Known}
 use Rattle.generation.specs.declared.ways.Way.{Way}
 use Rattle.generation.specs.declared.ways.Ways.{Ways}
-use Rattle.generation.specs.Emission.{Extends}
 use Rattle.generation.specs.Ways.{AreWays, RenewsBoth, DecidesBehind}
 use Rattle.generation.proofs.Leading.{renews-not, renews-either}
 use Rattle.generation.proofs.Narrowed.{behind-more, behind-same, behind-both, behind-either, behind-not}
@@ -42,11 +41,12 @@ listed_fits forms.UdpPorts n many = omega (arith, many)
 listed_fits forms.SctpPorts n many = omega (arith, many)
 listed_fits forms.IpProto n many = omega (arith, many)
 listed_fits forms.EtherProto n many = omega (arith, many)
+listed_fits forms.EtherHost n many = omega (arith, many)
 listed_fits forms.Bytes n many = omega (arith, many)
 
 -- a relation alone
 pub bytes-kind : (k : Kind) (xs : List Span) (p : Packet) → k.form ≡ forms.Bytes → any_of (bytes_test k.bytes) xs p ≡ any_of (kind_test k) xs p
-bytes-kind k xs p is = any-same (bytes_test k.bytes) (kind_test k) p (λ x. ap (λ f. form_test f (direction_of k.sides) k.mask k.bytes x p) (sym is)) xs
+bytes-kind k xs p is = any-same (bytes_test k.bytes) (kind_test k) p (λ x. ap (λ f. form_test f (direction_of k.sides) k.mask k.head k.bytes x p) (sym is)) xs
 
 pub relation-fits : (k : Kind) (xs : List Span) → k.form ≡ forms.Bytes → length xs ≡ 1 → 2 + (7 * length xs + 20) ≤ weighed k.form (length xs)
 relation-fits k xs is one =

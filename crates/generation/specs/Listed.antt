@@ -1,5 +1,5 @@
 -- What code does that asks once for all members of a list. Private clauses alone say this.
-use Rattle.std.specs.Prelude.{◌≡◌, ℕ, ◌+◌, ◌-◌, ◌*◌, ◌≤◌, Bool, true, false, List, [], ◌∷◌, length, take, Option, Some, None, if◌then◌else◌, bit_and, option_map}
+use Rattle.std.specs.Prelude.{◌≡◌, ℕ, ◌+◌, ◌*◌, ◌≤◌, Bool, true, false, List, [], ◌∷◌, Option, Some, None, if◌then◌else◌, bit_and, option_map}
 use Rattle.bpfvm.specs.declared.insn.Insn.{Insn}
 use Rattle.bpfvm.specs.Codes.{Accumulator}
 use Rattle.bpfvm.specs.Machine.{Registers, with_value}
@@ -11,8 +11,6 @@ use Rattle.analysis.specs.declared.lists.Chain.{Chain}
 use Rattle.analysis.specs.declared.lists.Chain.TheVariants as chains
 use Rattle.analysis.specs.declared.lists.Form.{Form}
 use Rattle.analysis.specs.declared.lists.Form.TheVariants as forms
-use Rattle.analysis.specs.declared.lists.Sides.{Sides}
-use Rattle.analysis.specs.declared.lists.Sides.TheVariants as sides
 use Rattle.analysis.specs.declared.lists.Span.{Span}
 use Rattle.analysis.specs.Weights.{weight, need}
 use Rattle.analysis.specs.declared.lists.Member.{Member}
@@ -22,7 +20,7 @@ use Rattle.generation.specs.declared.among.Spot.{Spot}
 use Rattle.generation.specs.declared.among.Spot.TheVariants as spots
 use Rattle.generation.specs.declared.ways.Way.{Way}
 use Rattle.generation.specs.declared.ways.Ways.{Ways}
-use Rattle.generation.specs.Emission.{IsPlace, run_from, Extends, front, field_of}
+use Rattle.generation.specs.Emission.{IsPlace, AreExits, run_from, Extends, front, field_of}
 use Rattle.generation.specs.Ways.{RenewsBoth, DecidesBehind}
 
 -- in one of these spans
@@ -54,6 +52,14 @@ pub record LoadsSpot (spot : Spot) (old new : List Insn) : Type 0 where
   pub extends : Extends 2 old new
   pub loads : (p : Packet) (r : Registers) → front new p r ≡ onward (spot_value spot r p) (front old p) r
 
+-- places from which a run that has the number of a spot in the accumulator goes on as from the exits
+pub record PassesSpot (spot : Spot) (exits passed : Exits) (code : List Insn) : Type 0 where
+  pub here : AreExits code passed
+  pub yes : (p : Packet) (r : Registers) (n : ℕ) → spot_value spot r p ≡ Some n
+      → run_from code passed.yes p (with_value Accumulator n r) ≡ run_from code exits.yes p (with_value Accumulator n r)
+  pub no : (p : Packet) (r : Registers) (n : ℕ) → spot_value spot r p ≡ Some n
+      → run_from code passed.no p (with_value Accumulator n r) ≡ run_from code exits.no p (with_value Accumulator n r)
+
 -- from entry a run of new goes to an exit by a condition on the registers, which it leaves as they are
 pub record ChoosesFrom (most : ℕ) (choice : Registers → Bool) (exits : Exits) (entry : ℕ) (old new : List Insn) : Type 0 where
   pub extends : Extends most old new
@@ -66,16 +72,6 @@ pub record IsChoice (choice : Registers → Bool) (exits : Exits) (place : ℕ) 
   pub here : IsPlace code place
   pub chooses : (p : Packet) (r : Registers)
       → run_from code place p r ≡ (if choice r then run_from code exits.yes p r else run_from code exits.no p r)
-
--- what a list asks last: of one side all members, of both sides the sources of all but the first, which stands last in the list
-abbrev pub asked_last : Sides → List Span → List Span
-asked_last sides.Either xs = take (length xs - 1) xs
-asked_last other xs = xs
-
--- how many instructions a list of so many takes in front of that, at most
-abbrev pub asked_before_cost : Sides → ℕ → ℕ
-asked_before_cost sides.Either n = 7 * n + 13
-asked_before_cost other n = 2
 
 abbrev pub turned_ways : Chain → Ways → Ways
 turned_ways chains.AnyOf ways = ways

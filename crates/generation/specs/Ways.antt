@@ -1,5 +1,5 @@
 -- What code does that goes on by what is known of the packet. Private clauses alone say this.
-use Rattle.std.specs.Prelude.{◌≡◌, ◌⊎◌, ℕ, ◌+◌, Bool, true, false, List, Option, Some, None}
+use Rattle.std.specs.Prelude.{◌≡◌, ◌≢◌, ◌⊎◌, ℕ, ◌+◌, Bool, true, false, List, Option, Some, None}
 use Rattle.bpfvm.specs.declared.insn.Insn.{Insn}
 use Rattle.syntax.specs.declared.tree.Transport.{Transport}
 use Rattle.generation.specs.declared.ways.Way.{Way}
@@ -45,6 +45,16 @@ AreWays code ways = IsWay code ways.yes × IsWay code ways.no
 abbrev pub way_by : Bool → Ways → Way
 way_by true ways = ways.yes
 way_by false ways = ways.no
+
+-- two protocols
+abbrev pub AreOther : Option Transport → Option Transport → Type 0
+AreOther None t = ⊥
+AreOther (Some own) None = ⊥
+AreOther (Some own) (Some other) = protocol_number own ≢ protocol_number other
+
+-- a way on which first fragments go on as on another one
+abbrev pub past_way : Way → Way → Way
+past_way way next = record { any = way.any; ip = way.ip; other = way.other; first_fragment = next.first_fragment; transport = next.transport }
 
 -- a way of new that serves as the way of old did
 pub record Renews (way renewed : Way) (old new : List Insn) : Type 0 where

@@ -1,15 +1,14 @@
 //! Tests of whether a number is one of many. Code is written from its end: what is tested last comes first here.
 
-ghost use Rattle.std.specs.Prelude.{◌≡◌, ℕ, ◌+◌, ◌*◌, ◌<◌, ◌≤◌, length, IfOk};
+ghost use Rattle.std.specs.Prelude.{◌≡◌, ℕ, ◌+◌, ◌-◌, ◌*◌, ◌<◌, ◌≤◌, length, take, drop, bit_and, option_map};
 ghost use Rattle.bpfvm.specs.Machine.{Registers};
-ghost use Rattle.analysis.specs.declared.lists.Span.{Span as Reach};
-ghost use Rattle.semantics.specs.Meaning.{Packet, HasBytes, check, by_direction, has_port, bytes_of, accessed};
-ghost use Rattle.analysis.specs.Lists.{any_of, direction_of, in_span};
-ghost use Rattle.generation.specs.Listed.{among, asked_last, asked_before_cost, found_at, LoadsSpot, ChoosesFrom, IsChoice};
+ghost use Rattle.semantics.specs.Meaning.{Packet, HasBytes, check, word, or_test, by_direction, has_port, bytes_of, accessed};
+ghost use Rattle.analysis.specs.Lists.{any_of, direction_of, in_span, has_tail};
+ghost use Rattle.generation.specs.Listed.{among, spot_value, found_at, LoadsSpot, PassesSpot, ChoosesFrom, IsChoice};
 ghost use Rattle.generation.specs.Emission.{AreExits, Extends, same_index, Follows, Decides, OrFull};
 
 use crate::code::{Code, Exits, Full, REACH};
-use crate::insns::{Field, load_insn, plain_insn};
+use crate::insns::{Field, Jump, load_insn, plain_insn};
 use crate::values::base_of;
 use analysis::{Bytes, Sides, Span};
 use bpfvm::code;
@@ -30,7 +29,7 @@ pub(crate) enum Spot {
 impl Spot {
     /// An IPv4 address under a mask. A mask of ones takes no instruction.
     fn of_address(offset: u32, mask: u32) -> Spot
-        ensures { (p : Packet) (r : Registers) (x : Reach) → HasBytes p → found_at result r x p ≡ in_span x mask offset p }
+        ensures { (p : Packet) (r : Registers) → HasBytes p → spot_value result r p ≡ option_map (λ w. bit_and w mask) (word offset p) }
     {
         if mask == u32::MAX {
             Spot::At(Field::Word(offset))
@@ -38,6 +37,11 @@ impl Spot {
             Spot::Masked { offset, mask }
         }
     }
+}
+
+/// Whether a list is of two hosts, of either side.
+pub(crate) fn are_two_hosts(sides: Sides, mask: u32, spans: &[Span]) -> bool {
+    sides == Sides::Either && mask == u32::MAX && spans.len() == 2
 }
 
 impl Code {
@@ -78,7 +82,18 @@ impl Code {
         }
     }
 
-    /// Goes to an exit by whether the number at a spot is in one of these spans.
+    /// The exits, or the places behind the load of a spot where that stands there: its number is still in the accumulator.
+    fn spot_passed(&self, spot: Spot, exits: Exits) -> Exits
+        requires { AreExits self.now exits }
+        ensures { PassesSpot spot exits result self.now }
+    {
+        match spot {
+            Spot::At(field) => self.both_passed(load_insn(field), exits),
+            _ => exits,
+        }
+    }
+
+    /// Goes to an exit by whether the number at a spot is in one of these spans. An exit that begins with the same load is passed.
     pub fn seek(&mut self, spot: Spot, spans: &[Span], exits: Exits) -> Result<usize, Full>
         requires some { 0 < length spans.now }
         requires exits { AreExits self.old exits }
@@ -86,81 +101,16 @@ impl Code {
             Follows same_index (7 * length spans.now + 2) (λ r. any_of (found_at spot r) spans.now) exits entry self.old self.new
             × (entry ≡ length self.new)) }
     {
+        let exits = self.spot_passed(spot, exits);
         self.among(spans, exits)?;
         self.room(2)?;
         self.load_spot(spot);
         Ok(self.len())
     }
 
-    /// What a list asks last: of one side all members, of both sides the sources of all but the first member. What is asked is
-    /// in the accumulator.
-    pub fn among_last(&mut self, sides: Sides, spans: &[Span], exits: Exits) -> Result<usize, Full>
-        requires many { 2 ≤ length spans.now }
-        requires exits { AreExits self.old exits }
-        ensures { OrFull (7 * length (asked_last sides spans.now)) self.old result (λ entry.
-            Extends (7 * length (asked_last sides spans.now)) self.old self.new
-            × IsChoice (λ r. among (asked_last sides spans.now) r.accumulator) exits (length self.new) self.new
-            × (entry ≡ length self.new)) }
-    {
-        match sides {
-            Sides::Source | Sides::Destination => self.among(spans, exits),
-            Sides::Either => {
-                let others = spans.len() - 1;
-                self.among(&spans[..others], exits)
-            }
-        }
-    }
-
-    /// Goes to an exit by whether the number at the spot of the source or of the destination is in one of these spans, where the
-    /// code begins with what is asked last. The first member's source is asked for alone. Then the destination is loaded, and no
-    /// load can fail any more: all members ask for it together, and then all others for the source.
-    #[tactic(auto, using(crate::proofs::Seeking::asked_least))]
-    fn seek_before(
-        &mut self,
-        sides: Sides,
-        source: Spot,
-        destination: Spot,
-        spans: &[Span],
-        exits: Exits,
-    ) -> Result<usize, Full>
-        requires many { 2 ≤ length spans.now }
-        requires exits { AreExits self.old exits }
-        requires last { IsChoice (λ r. among (asked_last sides spans.now) r.accumulator) exits (length self.old) self.old }
-        ensures { OrFull (asked_before_cost sides (length spans.now)) self.old result (λ entry.
-            Follows same_index (asked_before_cost sides (length spans.now))
-            (λ r. any_of (λ x. by_direction (direction_of sides) (found_at source r x) (found_at destination r x)) spans.now) exits
-            entry self.old self.new
-            × (entry ≡ length self.new)) }
-    {
-        self.room(2)?;
-        match sides {
-            Sides::Source => {
-                self.load_spot(source);
-                Ok(self.len())
-            }
-            Sides::Destination => {
-                self.load_spot(destination);
-                Ok(self.len())
-            }
-            Sides::Either => {
-                self.load_spot(source);
-                let third = self.len();
-                let second = self.seek(destination, spans, Exits { no: third, ..exits })?;
-                let others = spans.len() - 1;
-                self.seek(
-                    source,
-                    &spans[others..],
-                    Exits {
-                        no: second,
-                        ..exits
-                    },
-                )
-            }
-        }
-    }
-
-    /// The same with what is asked last.
-    #[tactic(auto, using(crate::proofs::Seeking::asked_fits))]
+    /// Goes to an exit by whether the number at the spot of the source or of the destination is in one of these spans. The first
+    /// member's source is asked for alone. Then the destination is loaded, and no load can fail any more: all members ask for
+    /// it together, and then all others for the source.
     fn seek_sides(
         &mut self,
         sides: Sides,
@@ -177,8 +127,23 @@ impl Code {
             entry self.old self.new
             × (entry ≡ length self.new)) }
     {
-        self.among_last(sides, spans, exits)?;
-        self.seek_before(sides, source, destination, spans, exits)
+        match sides {
+            Sides::Source => self.seek(source, spans, exits),
+            Sides::Destination => self.seek(destination, spans, exits),
+            Sides::Either => {
+                let others = spans.len() - 1;
+                let third = self.seek(source, &spans[..others], exits)?;
+                let second = self.seek(destination, spans, Exits { no: third, ..exits })?;
+                self.seek(
+                    source,
+                    &spans[others..],
+                    Exits {
+                        no: second,
+                        ..exits
+                    },
+                )
+            }
+        }
     }
 
     /// Bytes of a layer, where the packet has it.
@@ -196,27 +161,99 @@ impl Code {
         Ok(self.len())
     }
 
-    /// Addresses of IPv4 at these offsets of the frame.
-    pub fn seek_addresses(
+    /// What a list of addresses asks last, of the accumulator: all members, of one side or of the destination.
+    pub fn among_last(&mut self, spans: &[Span], exits: Exits) -> Result<usize, Full>
+        requires some { 0 < length spans.now }
+        requires exits { AreExits self.old exits }
+        ensures { OrFull (7 * length spans.now) self.old result (λ entry.
+            Extends (7 * length spans.now) self.old self.new
+            × IsChoice (λ r. among spans.now r.accumulator) exits (length self.new) self.new
+            × (entry ≡ length self.new)) }
+    {
+        self.among(spans, exits)
+    }
+
+    /// An address of one side, where the code begins with what is asked last.
+    fn seek_address(
         &mut self,
-        offsets: (u32, u32),
-        sides: Sides,
+        offset: u32,
         mask: u32,
         spans: &[Span],
         exits: Exits,
     ) -> Result<usize, Full>
-        requires many { 2 ≤ length spans.now }
+        requires some { 0 < length spans.now }
         requires exits { AreExits self.old exits }
-        ensures { OrFull (14 * length spans.now + 6) self.old result (λ entry. Decides (14 * length spans.now + 6)
-            (any_of (λ x. by_direction (direction_of sides) (in_span x mask offsets.0) (in_span x mask offsets.1)) spans.now) exits
-            entry self.old self.new) }
+        requires last { IsChoice (λ r. among spans.now r.accumulator) exits (length self.old) self.old }
+        ensures { OrFull 2 self.old result (λ entry. Decides 2 (any_of (λ x. in_span x mask offset) spans.now) exits entry
+            self.old self.new) }
     {
-        let source = Spot::of_address(offsets.0, mask);
-        let destination = Spot::of_address(offsets.1, mask);
-        self.seek_sides(sides, source, destination, spans, exits)
+        self.room(2)?;
+        self.load_spot(Spot::of_address(offset, mask));
+        Ok(self.len())
     }
 
-    /// The same where the code begins with what is asked last.
+    /// Goes to an exit by whether the accumulator is in a span of a list, but for its first member, which stands last.
+    fn among_others(&mut self, spans: &[Span], exits: Exits) -> Result<usize, Full>
+        requires many { 2 ≤ length spans.now }
+        requires exits { AreExits self.old exits }
+        ensures { OrFull (7 * (length spans.now - 1)) self.old result (λ entry.
+            ChoosesFrom (7 * (length spans.now - 1)) (λ r. among (take (length spans.now - 1) spans.now) r.accumulator) exits
+            entry self.old self.new
+            × (entry ≡ length self.new)) }
+    {
+        let others = spans.len() - 1;
+        self.among(&spans[..others], exits)
+    }
+
+    /// The same of that member alone.
+    fn among_first(&mut self, spans: &[Span], exits: Exits) -> Result<usize, Full>
+        requires many { 2 ≤ length spans.now }
+        requires exits { AreExits self.old exits }
+        ensures { OrFull 7 self.old result (λ entry.
+            ChoosesFrom 7 (λ r. among (drop (length spans.now - 1) spans.now) r.accumulator) exits entry self.old self.new
+            × (entry ≡ length self.new)) }
+    {
+        let others = spans.len() - 1;
+        self.among(&spans[others..], exits)
+    }
+
+    /// An address of either side, where the code begins with what is asked last, of the destination. The first member's source is
+    /// asked for alone. Then a load of the index register at the destination's last byte shows that the destination is there,
+    /// and leaves the source in the accumulator: no load can fail any more, and all others ask for the source.
+    fn seek_either_address(
+        &mut self,
+        offsets: (u32, u32),
+        mask: u32,
+        spans: &[Span],
+        exits: Exits,
+    ) -> Result<usize, Full>
+        requires destination { offsets.1 ≤ 40 }
+        requires many { 2 ≤ length spans.now }
+        requires exits { AreExits self.old exits }
+        requires last { IsChoice (λ r. among spans.now r.accumulator) exits (length self.old) self.old }
+        ensures { OrFull (7 * length spans.now + 5) self.old result (λ entry. Decides (7 * length spans.now + 5)
+            (any_of (λ x. or_test (in_span x mask offsets.0) (in_span x mask offsets.1)) spans.now) exits entry self.old self.new) }
+    {
+        self.room(2)?;
+        self.load_spot(Spot::of_address(offsets.1, mask));
+        let last = self.len();
+        self.among_others(spans, Exits { no: last, ..exits })?;
+        self.room(1)?;
+        self.push(plain_insn(code::LDX_MSH, offsets.1 + 3));
+        let behind = self.len();
+        self.among_first(
+            spans,
+            Exits {
+                no: behind,
+                ..exits
+            },
+        )?;
+        self.room(2)?;
+        self.load_spot(Spot::of_address(offsets.0, mask));
+        Ok(self.len())
+    }
+
+    /// Addresses of IPv4 at these offsets of the frame, where the code begins with what is asked last.
     pub fn seek_addresses_before(
         &mut self,
         offsets: (u32, u32),
@@ -225,17 +262,106 @@ impl Code {
         spans: &[Span],
         exits: Exits,
     ) -> Result<usize, Full>
+        requires destination { offsets.1 ≤ 40 }
         requires many { 2 ≤ length spans.now }
         requires exits { AreExits self.old exits }
-        requires last { IsChoice (λ r. among (asked_last sides spans.now) r.accumulator) exits (length self.old) self.old }
-        ensures { OrFull (asked_before_cost sides (length spans.now)) self.old result (λ entry.
-            Decides (asked_before_cost sides (length spans.now))
+        requires last { IsChoice (λ r. among spans.now r.accumulator) exits (length self.old) self.old }
+        ensures { OrFull (7 * length spans.now + 5) self.old result (λ entry. Decides (7 * length spans.now + 5)
             (any_of (λ x. by_direction (direction_of sides) (in_span x mask offsets.0) (in_span x mask offsets.1)) spans.now) exits
             entry self.old self.new) }
     {
-        let source = Spot::of_address(offsets.0, mask);
-        let destination = Spot::of_address(offsets.1, mask);
-        self.seek_before(sides, source, destination, spans, exits)
+        match sides {
+            Sides::Source => self.seek_address(offsets.0, mask, spans, exits),
+            Sides::Destination => self.seek_address(offsets.1, mask, spans, exits),
+            Sides::Either => self.seek_either_address(offsets, mask, spans, exits),
+        }
+    }
+
+    /// The same with what is asked last. Two hosts are asked as ports are, which takes less where one of them is the destination.
+    /// Of two nets one often has the source too.
+    pub fn seek_addresses(
+        &mut self,
+        offsets: (u32, u32),
+        sides: Sides,
+        mask: u32,
+        spans: &[Span],
+        exits: Exits,
+    ) -> Result<usize, Full>
+        requires destination { offsets.1 ≤ 40 }
+        requires many { 2 ≤ length spans.now }
+        requires exits { AreExits self.old exits }
+        ensures { OrFull (14 * length spans.now + 6) self.old result (λ entry. Decides (14 * length spans.now + 6)
+            (any_of (λ x. by_direction (direction_of sides) (in_span x mask offsets.0) (in_span x mask offsets.1)) spans.now) exits
+            entry self.old self.new) }
+    {
+        if are_two_hosts(sides, mask, spans) {
+            let source = Spot::of_address(offsets.0, mask);
+            let destination = Spot::of_address(offsets.1, mask);
+            return self.seek_sides(sides, source, destination, spans, exits);
+        }
+        self.among_last(spans, exits)?;
+        self.seek_addresses_before(offsets, sides, mask, spans, exits)
+    }
+
+    /// Ethernet hosts at an offset of the frame that have their first two bytes in common. The other four are asked for first:
+    /// where these are there, all are.
+    fn seek_tails(
+        &mut self,
+        offset: u32,
+        head: u16,
+        spans: &[Span],
+        exits: Exits,
+    ) -> Result<usize, Full>
+        requires offset { offset ≤ 40 }
+        requires some { 0 < length spans.now }
+        requires exits { AreExits self.old exits }
+        ensures { OrFull (7 * length spans.now + 6) self.old result (λ entry. Decides (7 * length spans.now + 6)
+            (any_of (λ x. has_tail head x offset) spans.now) exits entry self.old self.new) }
+    {
+        self.room(4)?;
+        let first = self.test(Field::Half(offset), Jump::Equal, u32::from(head), exits);
+        let tail = Spot::At(Field::Word(offset + 2));
+        self.seek(
+            tail,
+            spans,
+            Exits {
+                yes: first,
+                ..exits
+            },
+        )
+    }
+
+    /// Ethernet hosts that have their first two bytes in common. The destination stands before the source, so that it is there
+    /// where the source is: all members ask for the source together.
+    pub fn seek_ethernet(
+        &mut self,
+        sides: Sides,
+        head: u16,
+        spans: &[Span],
+        exits: Exits,
+    ) -> Result<usize, Full>
+        requires some { 0 < length spans.now }
+        requires exits { AreExits self.old exits }
+        ensures { OrFull (14 * length spans.now + 12) self.old result (λ entry. Decides (14 * length spans.now + 12)
+            (any_of (λ x. by_direction (direction_of sides) (has_tail head x 6) (has_tail head x 0)) spans.now) exits entry
+            self.old self.new) }
+    {
+        match sides {
+            Sides::Source => self.seek_tails(6, head, spans, exits),
+            Sides::Destination => self.seek_tails(0, head, spans, exits),
+            Sides::Either => {
+                let second = self.seek_tails(0, head, spans, exits)?;
+                self.seek_tails(
+                    6,
+                    head,
+                    spans,
+                    Exits {
+                        no: second,
+                        ..exits
+                    },
+                )
+            }
+        }
     }
 
     /// Ports behind the IPv4 header. An exit that begins with the same header's length is passed.

@@ -2,12 +2,12 @@
 
 ghost use Rattle.std.specs.Prelude.{◌≡◌, ℕ, ◌+◌, ◌*◌, ◌<◌, ◌≤◌, length};
 ghost use Rattle.semantics.specs.Meaning.{check, byte, half, and_test, is_type, is_first_fragment_of, protocol_number, in_layer, by_direction, within, has_any_ports};
-ghost use Rattle.analysis.specs.Lists.{any_of, direction_of, in_span, of_any_type, bytes_test, kind_test};
-ghost use Rattle.generation.specs.Listed.{among, asked_last, listed_cost, IsChoice};
-ghost use Rattle.generation.specs.Emission.{AreExits, Extends, OrFull};
+ghost use Rattle.analysis.specs.Lists.{any_of, direction_of, in_span, has_tail, of_any_type, bytes_test, kind_test};
+ghost use Rattle.generation.specs.Listed.{among, listed_cost, IsChoice};
+ghost use Rattle.generation.specs.Emission.{AreExits, Extends, Decides, OrFull};
 ghost use Rattle.generation.specs.Ways.{AreWays, DecidesBy, DecidesBehind};
 
-use crate::among::Spot;
+use crate::among::{Spot, are_two_hosts};
 use crate::code::{Code, Exits, Full};
 use crate::insns::{Field, Jump, Operand, load_insn};
 use crate::primitives::{ARP_ADDRESSES, IP_ADDRESSES};
@@ -109,37 +109,61 @@ impl Code {
     }
 
     /// What a list asks last of another type than IPv4: what it asks of IPv4, which is there, if that leads on in the same way.
-    #[tactic(auto, using(crate::proofs::Seeking::asked_some))]
-    fn among_last_of_others(
-        &mut self,
-        of_ip: usize,
-        sides: Sides,
-        spans: &[Span],
-        ways: Ways,
-    ) -> Result<(), Full>
-        requires many { 2 ≤ length spans.now }
+    fn among_last_of_others(&mut self, of_ip: usize, spans: &[Span], ways: Ways) -> Result<(), Full>
+        requires some { 0 < length spans.now }
         requires ip { AreExits self.old (record { yes = ways.yes.ip; no = ways.no.ip }) }
         requires other { AreExits self.old (record { yes = ways.yes.other; no = ways.no.other }) }
-        requires there { IsChoice (λ r. among (asked_last sides spans.now) r.accumulator)
-            (record { yes = ways.yes.ip; no = ways.no.ip }) of_ip self.old }
-        ensures { OrFull (7 * length (asked_last sides spans.now)) self.old result (λ done.
-            Extends (7 * length (asked_last sides spans.now)) self.old self.new
-            × IsChoice (λ r. among (asked_last sides spans.now) r.accumulator)
-            (record { yes = ways.yes.other; no = ways.no.other }) (length self.new) self.new) }
+        requires there { IsChoice (λ r. among spans.now r.accumulator) (record { yes = ways.yes.ip; no = ways.no.ip }) of_ip
+            self.old }
+        ensures { OrFull (7 * length spans.now) self.old result (λ done.
+            Extends (7 * length spans.now) self.old self.new
+            × IsChoice (λ r. among spans.now r.accumulator) (record { yes = ways.yes.other; no = ways.no.other })
+            (length self.new) self.new) }
     {
         if ways.is_one_for_all_types() {
             self.room(1)?;
             self.near(of_ip, 0);
             Ok(())
         } else {
-            self.among_last(sides, spans, ways.other_exits())?;
+            self.among_last(spans, ways.other_exits())?;
             Ok(())
         }
     }
 
-    /// Hosts or nets of any protocol: three comparisons of one type. ARP and RARP have their addresses at the same places. What
-    /// is asked last stands once for all types, where all go on in the same way; for IPv4 no jump leads there.
-    #[tactic(auto, using(crate::proofs::Seeking::asked_fits))]
+    /// Hosts or nets behind their types: where a packet of IPv4 goes on, and where one of ARP or RARP does, which have their
+    /// addresses at the same places. What is asked last stands once for all types, where all go on in the same way; for IPv4 no
+    /// jump leads there. Two hosts are asked in another order, and ask for so little last that each type has it.
+    fn seek_nets(
+        &mut self,
+        sides: Sides,
+        mask: u32,
+        spans: &[Span],
+        ways: Ways,
+    ) -> Result<(usize, usize), Full>
+        requires many { 2 ≤ length spans.now }
+        requires ways { AreWays self.old ways }
+        ensures { OrFull (28 * length spans.now + 12) self.old result (λ places.
+            Decides (28 * length spans.now + 12)
+            (any_of (λ x. by_direction (direction_of sides) (in_span x mask 26) (in_span x mask 30)) spans.now)
+            (record { yes = ways.yes.ip; no = ways.no.ip }) places.0 self.old self.new
+            × Decides (28 * length spans.now + 12)
+            (any_of (λ x. by_direction (direction_of sides) (in_span x mask 28) (in_span x mask 38)) spans.now)
+            (record { yes = ways.yes.other; no = ways.no.other }) places.1 self.old self.new) }
+    {
+        let (of_ip, of_others) = (ways.ip_exits(), ways.other_exits());
+        if are_two_hosts(sides, mask, spans) {
+            let ip = self.seek_addresses(IP_ADDRESSES, sides, mask, spans, of_ip)?;
+            let inner = self.seek_addresses(ARP_ADDRESSES, sides, mask, spans, of_others)?;
+            return Ok((ip, inner));
+        }
+        let last = self.among_last(spans, of_ip)?;
+        let ip = self.seek_addresses_before(IP_ADDRESSES, sides, mask, spans, of_ip)?;
+        self.among_last_of_others(last, spans, ways)?;
+        let inner = self.seek_addresses_before(ARP_ADDRESSES, sides, mask, spans, of_others)?;
+        Ok((ip, inner))
+    }
+
+    /// Hosts or nets of any protocol: three comparisons of one type.
     fn listed_any_nets(
         &mut self,
         sides: Sides,
@@ -154,13 +178,9 @@ impl Code {
             (by_direction (direction_of sides) (in_span x mask 26) (in_span x mask 30))
             (by_direction (direction_of sides) (in_span x mask 28) (in_span x mask 38))) spans.now) ways way self.old self.new) }
     {
-        let of_ip = ways.ip_exits();
-        let last = self.among_last(sides, spans, of_ip)?;
-        let ip = self.seek_addresses_before(IP_ADDRESSES, sides, mask, spans, of_ip)?;
-        self.among_last_of_others(last, sides, spans, ways)?;
-        let exits = ways.other_exits();
-        let inner = self.seek_addresses_before(ARP_ADDRESSES, sides, mask, spans, exits)?;
+        let (ip, inner) = self.seek_nets(sides, mask, spans, ways)?;
         self.room(10)?;
+        let exits = ways.other_exits();
         let arp = Exits {
             yes: inner,
             ..exits
@@ -235,9 +255,29 @@ impl Code {
                 let exits = ways.first_fragment_exits(asked);
                 let inner = self.seek_ports(sides, spans, exits)?;
                 self.room(18)?;
-                Ok(self.behind_transport(asked, inner, ways))
+                let way = self.behind_transport(asked, inner, ways);
+                Ok(way.past(asked, ways.no))
             }
         }
+    }
+
+    /// Ethernet hosts that have their first two bytes in common.
+    #[tactic(auto, using(crate::proofs::Leading::decides_any))]
+    fn listed_ethernet(
+        &mut self,
+        sides: Sides,
+        head: u16,
+        spans: &[Span],
+        ways: Ways,
+    ) -> Result<Way, Full>
+        requires some { 0 < length spans.now }
+        requires ways { AreWays self.old ways }
+        ensures { OrFull (14 * length spans.now + 12) self.old result (λ way. DecidesBy (14 * length spans.now + 12)
+            (any_of (λ x. by_direction (direction_of sides) (has_tail head x 6) (has_tail head x 0)) spans.now) ways way
+            self.old self.new) }
+    {
+        let entry = self.seek_ethernet(sides, head, spans, ways.any_exits())?;
+        Ok(Way::to(entry))
     }
 
     /// Bytes of TCP or UDP. Behind a test of a first fragment of the protocol they are looked at without another one.
@@ -351,6 +391,7 @@ impl Code {
             form,
             sides,
             mask,
+            head,
             bytes,
         } = kind;
         match form {
@@ -364,6 +405,7 @@ impl Code {
             Form::SctpPorts => self.listed_ports(known, Some(Transport::Sctp), sides, spans, ways),
             Form::IpProto => self.listed_protocols(known, spans, ways),
             Form::EtherProto => self.listed_types(spans, ways),
+            Form::EtherHost => self.listed_ethernet(sides, head, spans, ways),
             Form::Bytes => self.listed_bytes(known, bytes, spans, ways),
         }
     }

@@ -3,9 +3,10 @@
 ghost use Rattle.std.specs.Prelude.{◌≡◌, ◌+◌, ◌≤◌, ◌⊎◌, length, None};
 ghost use Rattle.std.specs.Bool.{OnTrue};
 ghost use Rattle.generation.specs.Emission.{IsPlace, Extends};
-ghost use Rattle.generation.specs.Ways.{IsWay, AreWays, way_by, Renews, RenewsBoth};
+ghost use Rattle.generation.specs.Ways.{IsWay, AreWays, way_by, AreOther, past_way, Renews, RenewsBoth};
 
 use crate::code::{Code, Exits, REACH};
+use semantics::protocol_number;
 use syntax::Transport;
 
 /// Where a run goes on. What tests before have shown of a packet need not be tested again: beside the place for any packet
@@ -35,6 +36,26 @@ impl Way {
             other: place,
             first_fragment: place,
             transport: None,
+        }
+    }
+
+    /// The same in front of a list of ports of a protocol, where a first fragment of another one goes on as where the list is No.
+    pub fn past(self, asked: Option<Transport>, next: Way) -> Way
+        ensures { (result ≡ self) ⊎ (AreOther asked next.transport × (result ≡ past_way self next)) }
+    {
+        match (asked, next.transport) {
+            (Some(own), Some(other)) => {
+                if protocol_number(own) == protocol_number(other) {
+                    self
+                } else {
+                    Way {
+                        first_fragment: next.first_fragment,
+                        transport: next.transport,
+                        ..self
+                    }
+                }
+            }
+            _ => self,
         }
     }
 

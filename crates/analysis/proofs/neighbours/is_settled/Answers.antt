@@ -1,4 +1,4 @@
-use Rattle.std.proofs.Common.{◌≡◌, None, Some, Option, sym}
+use Rattle.std.proofs.Common.{None, Some}
 use Rattle.syntax.specs.Trees.{tree_of}
 use Rattle.analysis.proofs.Members.{map-always}
 use Rattle.analysis.proofs.Settling.{settles-first, settles-left}

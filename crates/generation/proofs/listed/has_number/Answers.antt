@@ -1,4 +1,4 @@
-use Rattle.std.proofs.Common.{◌≡◌, sym, ap, ◌∙◌, true, if◌then◌else◌}
+use Rattle.std.proofs.Common.{sym, ap, ◌∙◌, true, if◌then◌else◌}
 use Rattle.generation.proofs.Seeking.{found-more}
 use Rattle.generation.proofs.listed.has_number.Goals.{then-is_within, else-is_within}
 use Rattle.generation.proofs.listed.has_number.Goals as goal

@@ -43,5 +43,9 @@ pub returns-in-EtherProto : goal.returns-in-EtherProto
 returns-in-EtherProto c =
     rw c.in-EtherProto.is (MatchResult-weaker c.listed_types.result c.listed_types.ensures (λ way done. behind-more _ (omega (arith, c.requires.many)) (behind-any c.args.known done)) (λ e full. omega (arith, full, c.requires.many)))
 
+pub returns-in-EtherHost : goal.returns-in-EtherHost
+returns-in-EtherHost c =
+    rw c.in-EtherHost.is (MatchResult-weaker c.listed_ethernet.result c.listed_ethernet.ensures (λ way done. behind-more _ (omega (arith, c.requires.many)) (behind-any c.args.known done)) (λ e full. omega (arith, full, c.requires.many)))
+
 pub returns-in-Bytes : goal.returns-in-Bytes
 returns-in-Bytes c = rw c.in-Bytes.is c.listed_bytes.ensures

@@ -1,5 +1,5 @@
 use Rattle.std.proofs.Common.{◌+◌, ◌*◌, length, sym, ap, ◌∙◌, arith}
-use Rattle.semantics.specs.Meaning.{Packet, Test, and_then, and_test, check, is_first_fragment_of, protocol_number, bytes_of, accessed}
+use Rattle.semantics.specs.Meaning.{Test, and_then, and_test, check, is_first_fragment_of, protocol_number, bytes_of, accessed}
 use Rattle.analysis.specs.Lists.{any_of, bytes_test}
 use Rattle.generation.specs.Listed.{among}
 use Rattle.generation.proofs.Leading.{decides-by-same}

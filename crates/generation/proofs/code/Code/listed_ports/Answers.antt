@@ -4,6 +4,7 @@ use Rattle.semantics.specs.Meaning.{by_direction, has_port, has_any_ports}
 use Rattle.analysis.specs.Lists.{any_of, direction_of}
 use Rattle.generation.proofs.Shared.{ports-shared}
 use Rattle.generation.proofs.Leading.{decides-by-same}
+use Rattle.generation.proofs.Past.{decides-past}
 use Rattle.generation.proofs.Narrowed.{behind-any, behind-more, behind-same}
 use Rattle.generation.proofs.code.Code.listed_ports.Goals as goal
 
@@ -28,4 +29,5 @@ returns-in_ok-room-in-None c =
     behind-more _ (omega arith)
     (behind-any c.args.known
     (decides-by-same _ (any_of (λ (x : Span). has_any_ports c.args.asked d x.low x.high) spans) (λ p bytes. ports-shared c.args.asked d spans p some)
-    (c.behind_transport.ensures.guards (14 * length spans + 7) (any_of t spans) c.first_fragment_exits-exits-in-None.result c.args.self.now c.requires.ways exits.yes exits.no c.in_ok-inner-in-None.ensures)))
+    (decides-past (any_of t spans) c.args.asked c.args.ways c.past.ensures c.requires.ways
+    (c.behind_transport-way.ensures.guards (14 * length spans + 7) (any_of t spans) c.first_fragment_exits-exits-in-None.result c.args.self.now c.requires.ways exits.yes exits.no c.in_ok-inner-in-None.ensures))))

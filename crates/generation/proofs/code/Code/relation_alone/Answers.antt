@@ -1,4 +1,3 @@
-use Rattle.std.proofs.Common.{arith}
 use Rattle.generation.proofs.Leading.{renews-all-later}
 use Rattle.generation.proofs.Narrowed.{behind-more, behind-same, behind-renewed}
 use Rattle.generation.proofs.Taking.{bytes-kind, relation-fits}

@@ -1,24 +1,20 @@
+use Rattle.std.proofs.Common.{arith}
 use Rattle.std.proofs.lemmas.Result.{MatchResult-weaker}
-use Rattle.semantics.specs.Meaning.{by_direction}
-use Rattle.analysis.specs.Lists.{any_of, in_span, direction_of}
-use Rattle.generation.specs.Listed.{found_at}
-use Rattle.generation.proofs.Following.{decides-followed}
-use Rattle.generation.proofs.Neighbours.{any-same}
-use Rattle.generation.proofs.Seeking.{directed-same}
+use Rattle.analysis.specs.Lists.{direction_of}
+use Rattle.generation.proofs.Deciding.{decides-later, decides-more}
+use Rattle.generation.proofs.Addresses.{decides-spots}
 use Rattle.generation.proofs.code.Code.seek_addresses.Goals as goal
+
+pub returns-then-are_two_hosts : goal.returns-then-are_two_hosts
+returns-then-are_two_hosts c =
+    MatchResult-weaker c.seek_sides.result c.seek_sides.ensures
+    (λ entry done.
+    decides-spots (direction_of c.args.sides) c.of_address-source.result c.of_address-destination.result c.args.mask c.args.offsets.0 c.args.offsets.1 c.args.spans.now
+    c.of_address-source.ensures c.of_address-destination.ensures done.0)
+    (λ e full. full)
 
 pub returns : goal.returns
 returns c =
-    let spans = c.args.spans.now in
-    let d = direction_of c.args.sides in
-    let m = c.args.mask in
-    let source = c.of_address-source.result in
-    let destination = c.of_address-destination.result in
-    MatchResult-weaker c.seek_sides.result c.seek_sides.ensures
-    (λ entry done.
-    decides-followed _ (any_of (λ x. by_direction d (in_span x m c.args.offsets.0) (in_span x m c.args.offsets.1)) spans)
-    (λ r p bytes.
-    any-same (λ x. by_direction d (found_at source r x) (found_at destination r x)) (λ x. by_direction d (in_span x m c.args.offsets.0) (in_span x m c.args.offsets.1)) p
-    (λ x. directed-same d (found_at source r x) (found_at destination r x) (in_span x m c.args.offsets.0) (in_span x m c.args.offsets.1) p (c.of_address-source.ensures p r x bytes) (c.of_address-destination.ensures p r x bytes)) spans)
-    done.0)
-    (λ e full. full)
+    let last = c.in_ok-among_last.ensures in
+    MatchResult-weaker c.seek_addresses_before.result c.seek_addresses_before.ensures
+    (λ entry done. decides-more _ (omega arith) (decides-later c.requires.exits last.0 done)) (λ e full. omega (arith, full, last.0.within))

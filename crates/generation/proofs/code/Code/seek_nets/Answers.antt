@@ -1,0 +1,33 @@
+use Rattle.std.proofs.Common.{length, arith}
+use Rattle.analysis.specs.declared.lists.Span.{Span}
+use Rattle.generation.specs.Listed.{among}
+use Rattle.generation.proofs.Deciding.{decides-kept, decides-later, decides-more}
+use Rattle.generation.proofs.Runs.{extends-both, exits-kept}
+use Rattle.generation.proofs.Seeking.{choice-kept}
+use Rattle.generation.proofs.code.Code.seek_nets.Goals as goal
+
+pub among_last_of_others-requires-clause-there : goal.among_last_of_others-requires-clause-there
+among_last_of_others-requires-clause-there c =
+    let ways = c.args.ways in
+    let last = rw c.ip_exits-of_ip.ensures at c.in_ok-last.ensures in
+    let kept = rw c.ip_exits-of_ip.ensures at c.in_ok-ip-2.ensures in
+    rw last.2
+    (choice-kept (λ r. among c.args.spans.now r.accumulator)
+    (exits-kept (record { yes = ways.yes.ip; no = ways.no.ip }) _ _ (c.requires.ways.0.ip, c.requires.ways.1.ip) last.0) kept.extends last.1)
+
+pub returns-then-are_two_hosts : goal.returns-then-are_two_hosts
+returns-then-are_two_hosts c =
+    let ways = c.requires.ways in
+    let ip = rw c.ip_exits-of_ip.ensures at c.in_ok-ip.ensures in
+    let inner = rw c.other_exits-of_others.ensures at c.in_ok-inner.ensures in
+    (decides-more _ (omega arith) (decides-kept ip inner.extends), decides-more _ (omega arith) (decides-later (ways.0.other, ways.1.other) ip.extends inner))
+
+pub returns : goal.returns
+returns c =
+    let ways = c.requires.ways in
+    let last = c.in_ok-last.ensures in
+    let ip = decides-later (ways.0.ip, ways.1.ip) last.0 (rw c.ip_exits-of_ip.ensures at c.in_ok-ip-2.ensures) in
+    let again = c.in_ok-among_last_of_others.ensures in
+    let inner = rw c.other_exits-of_others.ensures at c.in_ok-inner-2.ensures in
+    let before = extends-both ip.extends again.0 in
+    (decides-more _ (omega arith) (decides-kept ip (extends-both again.0 inner.extends)), decides-more _ (omega arith) (decides-later (ways.0.other, ways.1.other) before inner))
