@@ -580,7 +580,7 @@ def hostile():
     yield "a chain of values of 64 levels", "1=" + "+".join([deep + "len" + ")" * 64] * 48), 0
     yield "indices that are not closed", "ip[" * 2730, 1
     yield "signs before a value", "1=" + "-" * 8190, 1
-    yield "the longest chain of additions", "1=1" + "+1" * 4094, 1
+    yield "the longest chain of additions", "1=1" + "+1" * 4094, 0
     yield "signs between additions", "1=1" + "+-1" * 2729, 0
     yield "a list of relations", "ip[8]=1" + "||ip[8]=1" * 909, 1
     yield "relations by turns", "ip[8]=1" + "||ip[9]=1||ip[8]=1" * 454, 1

@@ -1,4 +1,4 @@
--- Lists: neighbours of an `or`, or negations that an `and` joins, that differ in their numbers alone.
+-- Lists: links of a chain of `or`, or negations in a chain of `and`, that differ in their numbers alone, wherever in it they stand.
 use Rattle.std.specs.Prelude.{◌≡◌, ℕ, ◌+◌, ◌*◌, ◌/◌, ◌%◌, ◌^◌, ◌≤◌, ◌<◌, ◌==◌, ◌&&◌, List, [], ◌∷◌, All, length, Option, Some, None, MatchOption, bit_and}
 use Rattle.syntax.specs.Trees.{Tree}
 use Rattle.syntax.specs.Trees as trees
@@ -107,7 +107,7 @@ abbrev pub weighed : Form → ℕ → ℕ
 weighed forms.Bytes n = 30 * n
 weighed other n = 40 * n
 
--- Neighbours by `or`, of which any holds, and negations by `and`, of which none does: what a chain makes of two answers, and of
+-- Links by `or`, of which any holds, and negations by `and`, of which none does: what a chain makes of two answers, and of
 -- that whether any member holds.
 abbrev pub chained : Chain → Verdict → Verdict → Verdict
 chained chains.AnyOf v w = or_else v w

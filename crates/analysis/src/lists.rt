@@ -1,4 +1,4 @@
-//! Lists: neighbours of an `or`, or negations that an `and` joins, that differ in their numbers alone.
+//! Lists: links of a chain of `or`, or negations in a chain of `and`, that differ in their numbers alone, wherever in it they stand.
 
 ghost use Rattle.std.specs.Prelude.{◌≡◌, ◌+◌, ◌≤◌, IfSome, MatchOption, None};
 ghost use Rattle.syntax.specs.Trees.{amount_of, tree_of, number as literal};
@@ -17,7 +17,7 @@ use syntax::{
     Transport, Value,
 };
 
-/// How the neighbours of a list are joined.
+/// How the links of a chain are joined.
 #[derive(Clone, Copy)]
 pub enum Chain {
     /// Tests by `or`.

@@ -17,7 +17,7 @@ use Rattle.generation.specs.declared.insns.Field.{Field}
 use Rattle.generation.specs.declared.insns.Field.TheVariants as fields
 use Rattle.semantics.specs.Meaning.{Packet}
 use Rattle.generation.specs.Insns.{plain_insn, branch_insn, load_insn}
-use Rattle.generation.specs.Emission.{IsPlace, AreExits, run_from, Answers, Extends, condition, field_of, Passes, LeadsTo, Nears, Chooses}
+use Rattle.generation.specs.Emission.{IsPlace, AreExits, run_from, Answers, Extends, condition, field_of, Passes, GoesOnAt, Nears, Chooses}
 
 -- a run over code goes on behind its first instruction, or ends
 abbrev pub after : List Insn → Packet → Effect → ℕ
@@ -127,7 +127,7 @@ near-itself place reach code here reached = record {
   leads = λ p r. refl;
 }
 
-pub near-leading : (i : Insn) (place reach : ℕ) (code : List Insn) → IsPlace code place → reach < length code - place → LeadsTo i place code → Nears place reach (suc (length code)) code (i ∷ code)
+pub near-leading : (i : Insn) (place reach : ℕ) (code : List Insn) → IsPlace code place → reach < length code - place → GoesOnAt i place code → Nears place reach (suc (length code)) code (i ∷ code)
 near-leading i place reach code here far leading = record {
   extends = extends-one i code;
   here = (omega arith, omega arith);

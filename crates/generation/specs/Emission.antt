@@ -48,7 +48,7 @@ outcome No m n = n
 outcome Abort m n = 0
 
 -- an instruction in front of the code goes on as from the place
-pub record LeadsTo (insn : Insn) (place : ℕ) (code : List Insn) : Type 0 where
+pub record GoesOnAt (insn : Insn) (place : ℕ) (code : List Insn) : Type 0 where
   pub sound : fault_of (length code + 1) 0 insn ≡ None
   pub leads : (p : Packet) (r : Registers) → answer (insn ∷ code) p.captured p.wire 0 r ≡ run_from code place p r
 

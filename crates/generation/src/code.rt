@@ -7,7 +7,7 @@ ghost use Rattle.bpfvm.specs.Machine.{holds, verdict};
 ghost use Rattle.semantics.specs.Meaning.{check, within};
 ghost use Rattle.trimming.specs.Reaching.{IsAllReached};
 ghost use Rattle.generation.specs.Insns.{plain_insn};
-ghost use Rattle.generation.specs.Emission.{IsPlace, AreExits, comparison_of, condition, field_of, Passes, LeadsTo, Nears, Chooses, Decides};
+ghost use Rattle.generation.specs.Emission.{IsPlace, AreExits, comparison_of, condition, field_of, Passes, GoesOnAt, Nears, Chooses, Decides};
 
 use crate::insns::{Field, Jump, Operand, branch_insn, load_insn, plain_insn};
 use arrayvec::ArrayVec;
@@ -112,7 +112,7 @@ impl Code {
     /// What goes on at a place: the return that stands there, or a jump.
     fn leading(&self, place: usize) -> Insn
         requires { IsPlace self.now place }
-        ensures { LeadsTo result place self.now }
+        ensures { GoesOnAt result place self.now }
     {
         let found = self.insns.as_slice()[place - 1];
         let end = plain_insn(code::RET_K, found.k);
