@@ -1,5 +1,4 @@
-use Rattle.std.proofs.Common.{length, arith}
-use Rattle.analysis.specs.declared.lists.Span.{Span}
+use Rattle.std.proofs.Common.{arith}
 use Rattle.generation.specs.Listed.{among}
 use Rattle.generation.proofs.Deciding.{decides-kept, decides-later, decides-more}
 use Rattle.generation.proofs.Runs.{extends-both, exits-kept}
