@@ -14,7 +14,8 @@
   bench/bench.py --waiting         processor time of `bpftap run` with 1, 8 and 64 listeners over a fifo that is silent for five seconds;
                                    packets per second and what is dropped with 1 to 8 listeners and few or many spare buffers, with
                                    16 interfaces of 8 listeners, and with an OUT of which 1 MB a second is read; with `--beside PATH`
-                                   the same of another built program, interleaved
+                                   the same of another built program, interleaved. TMPDIR=/dev/shm puts the files into memory: on a
+                                   disk it is mostly the opening of an OUT which is measured
   bench/bench.py --handover        arrivals per second at a listener, at a pair in one thread and in two, and at a listener under
                                    a lock in two threads; proves and builds bench/handover in a copy first
   bench/bench.py --split           wall time of `split` with eight filters, beside a cut and a tcpdump for each, one by one and at once

@@ -47,9 +47,9 @@ WroteSoFar order unit snap packets n text =
     ((n ≡ length packets) × (text ≡ encoded order unit snap packets)) ⊎ BreaksBehind order unit snap packets n text
 
 -- The two lists make a legal history, and the counts are its counts. The sink took exactly `sent` bytes, in which `written`
--- packets are whole: where the end is Clean, the text of all that was kept, and the sink never failed; after Write a beginning of
--- it, and the sink failed or the next packet's record would make the text too long; after Unfinished the text of some packets, or
--- a beginning of it.
+-- packets are whole: where the end is Clean, the text of all that was kept, and no write of the sink failed, since a flush that
+-- fails is not counted; after Write a beginning of it, and a write failed or the next packet's record would make the text too long;
+-- after Unfinished the text of some packets, or a beginning of it.
 pub record IsReported {W : Type 0} (taken : W → Option (List ℕ)) (failures : W → ℕ) (task : Task W) (feeds : List Feed) (takes : List Take)
     (r : ListenerReport W) : Type 0 where
   pub history : LegalHistory (terms_of (profile_of task.capacity task.mode)) feeds takes (merge feeds takes)

@@ -6,7 +6,7 @@ use savefile::Fault;
 /// How the writing of a task ended.
 #[derive(Clone, Copy, Debug, PartialEq, Eq)]
 pub enum TaskEnd {
-    /// All that the listener kept was written, and the sink never failed.
+    /// All that the listener kept was written, and no write of the sink failed. Of its flushes nothing is said.
     Clean,
     /// The sink failed, or the savefile would have 2^64 bytes or more, behind so many bytes.
     Write(u64),
