@@ -1,5 +1,5 @@
 -- The code of the right end of an expression.
-use Rattle.std.proofs.Common.{◌≡◌, ℕ, ◌+◌, ◌≤◌, List, length, Some, None, refl, arith}
+use Rattle.std.proofs.Common.{ℕ, ◌+◌, ◌≤◌, List, length, Some, None, refl, arith}
 use Rattle.bpfvm.specs.declared.insn.Insn.{Insn}
 use Rattle.syntax.specs.Trees.{Tree, both, either}
 use Rattle.semantics.specs.Meaning.{meaning}
