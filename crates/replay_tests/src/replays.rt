@@ -179,17 +179,6 @@ fn task<W: Drop>(program: Program, snap: u32, capacity: usize, sink: W) -> Task<
     }
 }
 
-/// One interface, of a capture of these bytes and this task.
-fn alone<W: Drop>(
-    alloc: Global,
-    text: Vec<u8>,
-    task: Task<W>,
-) -> Result<Vec<Interface<Source, W>>, AllocError> {
-    let captures = vec![in alloc; source_of(text)]?;
-    let tasks = vec![in alloc; task]?;
-    Ok(vec![in alloc; Interface { captures, tasks }]?)
-}
-
 /// The item at a place, where there is one.
 fn at<'a, T>(rt: &(impl Abort + AllocGlobal), items: &'a [T], place: usize) -> &'a T {
     items.get(place).expect(rt, "an item")

@@ -55,32 +55,9 @@ impl<R: Clock> Gate for Batches<'_, R> {
     }
 }
 
-/// A task whose store becomes the hold behind the third packet, and not before.
-fn weighing_task(bytes: &AtomicU64) -> Result<Task<Counted<Weighed<'_>>>, bpfvm::Invalid> {
-    let sink = Counted::new(Weighed { bytes });
-    let mut one = task(keeping_all()?, 64, 1_000, sink);
-    one.flush_every = 3;
-    Ok(one)
-}
-
-/// An interface of three packets and this task.
-fn three(
-    alloc: Global,
-    bytes: &AtomicU64,
-) -> Result<Vec<Interface<Source, Counted<Weighed<'_>>>>, Fail> {
-    let text = capture(alloc, 1, &[TCP_FRAME, UDP_FRAME, TCP_FRAME])?;
-    Ok(alone(alloc, text, weighing_task(bytes)?)?)
-}
-
-/// One batch of three packets was told, and in time.
-fn were_told<R>(rt: &impl Abort, gate: &Batches<'_, R>) {
-    assert_eq!(rt; (gate.told.load(SeqCst), gate.packets.load(SeqCst)), (1, 3));
-    assert_eq!(rt; gate.late.load(SeqCst), 0);
-    assert_eq!(rt; gate.bytes.load(SeqCst), 24 + 3 * (16 + 38));
-}
-
 #[test]
 fn a_batch_is_told_with_its_packets_before_it_is_handed_on(rt: HostRuntime) -> Result<(), Fail> {
+    let alloc = rt.alloc();
     let bytes = AtomicU64::new(0);
     let gate = Batches {
         rt: &rt,
@@ -89,8 +66,27 @@ fn a_batch_is_told_with_its_packets_before_it_is_handed_on(rt: HostRuntime) -> R
         packets: AtomicU64::new(0),
         late: AtomicU64::new(0),
     };
-    let reports = run(&rt, rt.alloc(), three(rt.alloc(), &bytes)?, &gate)?;
+    // The store becomes the hold behind the third packet, and not before.
+    let mut one = task(
+        keeping_all()?,
+        64,
+        1_000,
+        Counted::new(Weighed { bytes: &bytes }),
+    );
+    one.flush_every = 3;
+    let captures = vec![in alloc;
+        source_of(capture(alloc, 1, &[TCP_FRAME, UDP_FRAME, TCP_FRAME])?),
+    ]?;
+    let tasks = vec![in alloc; one]?;
+    let reports = run(
+        &rt,
+        alloc,
+        vec![in alloc; Interface { captures, tasks }]?,
+        &gate,
+    )?;
     assert_eq!(rt; reports.len(), 1);
-    were_told(&rt, &gate);
+    assert_eq!(rt; (gate.told.load(SeqCst), gate.packets.load(SeqCst)), (1, 3));
+    assert_eq!(rt; gate.late.load(SeqCst), 0);
+    assert_eq!(rt; bytes.load(SeqCst), 24 + 3 * (16 + 38));
     Ok(())
 }

@@ -75,31 +75,19 @@ fn frames(alloc: Global, packets: u8) -> Result<Vec<[u8; 38]>, AllocError> {
     Ok(frames)
 }
 
-/// A task with buffers of one to four records: another one for each round and each number.
-fn varied_task(alloc: Global, round: u64, k: u64) -> Result<Task<Sink>, bpfvm::Invalid> {
-    let capacity = 72 * (1 + k.wrapping_add(round % 4) as usize % 4);
-    let mut one = task(keeping_tcp()?, 40, capacity, sink_with(alloc, usize::MAX));
-    one.spares = 1 + (round % 3) as usize;
-    one.flush_every = (round % 5) as u32;
-    Ok(one)
-}
-
-/// 1 to 4 such tasks.
-fn varied_tasks(alloc: Global, round: u64) -> Result<Vec<Task<Sink>>, Fail> {
-    let mut tasks = Vec::new(alloc);
-    for k in 0..1 + round % 4 {
-        tasks.push(varied_task(alloc, round, k)?)?;
-    }
-    Ok(tasks)
-}
-
-/// An interface of one capture and these tasks.
+/// An interface of one capture and 1 to 4 tasks, each with buffers of one to four records: another one for each round.
 fn varied(alloc: Global, packets: u8, round: u64) -> Result<Interface<Source, Sink>, Fail> {
     let text = capture(alloc, 1, frames(alloc, packets)?.as_slice())?;
-    Ok(Interface {
-        captures: vec![in alloc; source_of(text)]?,
-        tasks: varied_tasks(alloc, round)?,
-    })
+    let mut tasks = Vec::new(alloc);
+    for k in 0..1 + round % 4 {
+        let capacity = 72 * (1 + (k + round % 4) as usize % 4);
+        let mut one = task(keeping_tcp()?, 40, capacity, sink_with(alloc, usize::MAX));
+        one.spares = 1 + (round % 3) as usize;
+        one.flush_every = (round % 5) as u32;
+        tasks.push(one)?;
+    }
+    let captures = vec![in alloc; source_of(text)]?;
+    Ok(Interface { captures, tasks })
 }
 
 /// Tests that a task is clean, and that its savefile has as many packets as are told.
@@ -114,25 +102,16 @@ fn is_clean(rt: &impl Abort, listener: &ListenerReport<Sink>, packets: u8) {
     assert_eq!(rt; listener.sent, 24 + 54 * listener.written.min(12));
 }
 
-/// Replays a round, and tests that all ends clean.
-fn round_is_clean(
-    rt: &(impl Abort + AllocGlobal + Threads + Wait + Sync),
-    round: u64,
-) -> Result<(), Fail> {
-    let packets = (round % 23) as u8;
-    let report = replay_one(rt, varied(rt.alloc(), packets, round)?)?;
-    assert_eq!(rt; report.end, InterfaceEnd::Clean);
-    assert_eq!(rt; report.listeners.len() as u64, 1 + round % 4);
-    for listener in &report.listeners {
-        is_clean(rt, listener, packets);
-    }
-    Ok(())
-}
-
 #[test]
 fn ends_clean_when_nothing_failed(rt: HostRuntime) -> Result<(), Fail> {
-    for round in 0..100 {
-        round_is_clean(&rt, round)?;
+    for round in 0..100u64 {
+        let packets = (round % 23) as u8;
+        let report = replay_one(&rt, varied(rt.alloc(), packets, round)?)?;
+        assert_eq!(rt; report.end, InterfaceEnd::Clean);
+        assert_eq!(rt; report.listeners.len() as u64, 1 + round % 4);
+        for listener in &report.listeners {
+            is_clean(&rt, listener, packets);
+        }
     }
     Ok(())
 }

@@ -92,31 +92,28 @@ impl<R: Clock> Gate for Lockstep<'_, R> {
     }
 }
 
-/// The captures of the example: T and U arrive, and then T.
-fn both_captures(alloc: Global) -> Result<Vec<Source>, AllocError> {
-    let first = source_of(capture(alloc, 1, &[TCP_FRAME, UDP_FRAME])?);
-    let second = source_of(capture(alloc, 3, &[TCP_FRAME])?);
-    Ok(vec![in alloc; first, second]?)
-}
-
-/// A listener for TCP, whose sink has so much room, and one for all.
-fn both_tasks(alloc: Global, room: usize) -> Result<Vec<Task<Sink>>, Fail> {
-    let tcp = task(keeping_tcp()?, 64, 96, sink_with(alloc, room));
-    let sink = sink_with(alloc, usize::MAX);
-    let all = task(keeping_all()?, 262_144, 262_176, sink);
-    Ok(vec![in alloc; tcp, all]?)
-}
-
-/// The interface of the example. Where its listeners are Immediate, nothing is flushed.
+/// The interface of the example: T and U arrive, and then T, at a listener for TCP, whose sink has so much room, and one for
+/// all. Where they are Immediate, nothing is flushed.
 fn example(alloc: Global, mode: Mode, room: usize) -> Result<Vec<Interface<Source, Sink>>, Fail> {
-    let mut tasks = both_tasks(alloc, room)?;
+    let captures = vec![in alloc;
+        source_of(capture(alloc, 1, &[TCP_FRAME, UDP_FRAME])?),
+        source_of(capture(alloc, 3, &[TCP_FRAME])?),
+    ]?;
+    let mut tasks = vec![in alloc;
+        task(keeping_tcp()?, 64, 96, sink_with(alloc, room)),
+        task(
+            keeping_all()?,
+            262_144,
+            262_176,
+            sink_with(alloc, usize::MAX)
+        ),
+    ]?;
     if mode == Mode::Immediate {
         for task in tasks.iter_mut() {
             task.mode = mode;
             task.flush_every = 0;
         }
     }
-    let captures = both_captures(alloc)?;
     Ok(vec![in alloc; Interface { captures, tasks }]?)
 }
 
@@ -215,14 +212,6 @@ impl<R: Clock> Gate for Meeting<'_, R> {
     fn after_read(&self, _interface: u32, _listener: u32, _packets: u32) {}
 }
 
-/// An interface of one packet, without a task.
-fn unheard(alloc: Global, sec: u8) -> Result<Interface<Source, Sink>, AllocError> {
-    Ok(Interface {
-        captures: vec![in alloc; source_of(capture(alloc, sec, &[TCP_FRAME])?)]?,
-        tasks: Vec::new(alloc),
-    })
-}
-
 #[test]
 fn interfaces_are_replayed_side_by_side(rt: HostRuntime) -> Result<(), Fail> {
     let alloc = rt.alloc();
@@ -231,7 +220,13 @@ fn interfaces_are_replayed_side_by_side(rt: HostRuntime) -> Result<(), Fail> {
         entered: AtomicU64::new(0),
         met: AtomicU64::new(0),
     };
-    let interfaces = vec![in alloc; unheard(alloc, 0)?, unheard(alloc, 1)?]?;
+    let mut interfaces: Vec<Interface<Source, Sink>> = Vec::new(alloc);
+    for sec in 0..2 {
+        interfaces.push(Interface {
+            captures: vec![in alloc; source_of(capture(alloc, sec, &[TCP_FRAME])?)]?,
+            tasks: Vec::new(alloc),
+        })?;
+    }
     let reports = run(&rt, alloc, interfaces, &gate)?;
     assert_eq!(rt; (reports.len(), gate.met.load(SeqCst)), (2, 2));
     Ok(())

@@ -36,43 +36,6 @@ fn tally(calls: &AtomicU64) -> Tally<'_> {
     Counted::new(Tallied { calls })
 }
 
-/// So many sources.
-fn sources(
-    alloc: Global,
-    calls: &AtomicU64,
-    captures: usize,
-) -> Result<Vec<Tally<'_>>, AllocError> {
-    let mut sources = Vec::new(alloc);
-    for _ in 0..captures {
-        sources.push(tally(calls))?;
-    }
-    Ok(sources)
-}
-
-/// A task of a snapshot length, a capacity and a number of spare buffers.
-fn tallying_task(
-    calls: &AtomicU64,
-    numbers: (u32, usize, usize),
-) -> Result<Task<Tally<'_>>, bpfvm::Invalid> {
-    let (snap, capacity, spares) = numbers;
-    let mut one = task(keeping_all()?, snap, capacity, tally(calls));
-    one.spares = spares;
-    Ok(one)
-}
-
-/// A task for each of these.
-fn tasks_of<'a>(
-    alloc: Global,
-    calls: &'a AtomicU64,
-    tasks: &[(u32, usize, usize)],
-) -> Result<Vec<Task<Tally<'a>>>, Fail> {
-    let mut made = Vec::new(alloc);
-    for numbers in tasks {
-        made.push(tallying_task(calls, *numbers)?)?;
-    }
-    Ok(made)
-}
-
 /// An interface with so many captures, and a task for each snapshot length, capacity and number of spare buffers.
 fn interface<'a>(
     alloc: Global,
@@ -80,10 +43,19 @@ fn interface<'a>(
     captures: usize,
     tasks: &[(u32, usize, usize)],
 ) -> Result<Interface<Tally<'a>, Tally<'a>>, Fail> {
-    let tasks = tasks_of(alloc, calls, tasks)?;
+    let mut sources = Vec::new(alloc);
+    for _ in 0..captures {
+        sources.push(tally(calls))?;
+    }
+    let mut made = Vec::new(alloc);
+    for (snap, capacity, spares) in tasks {
+        let mut one = task(keeping_all()?, *snap, *capacity, tally(calls));
+        one.spares = *spares;
+        made.push(one)?;
+    }
     Ok(Interface {
-        captures: sources(alloc, calls, captures)?,
-        tasks,
+        captures: sources,
+        tasks: made,
     })
 }
 
@@ -204,15 +176,6 @@ fn replays_the_most_captures_and_tasks(
     Ok(())
 }
 
-/// 16 interfaces ended clean, each with one listener.
-fn are_sixteen(rt: &impl Abort, reports: &[InterfaceReport<Tally<'_>, Tally<'_>>]) {
-    assert_eq!(rt; reports.len(), 16);
-    for report in reports {
-        let told = (report.end, report.listeners.len());
-        assert_eq!(rt; told, (InterfaceEnd::Clean, 1));
-    }
-}
-
 /// 16 interfaces are replayed.
 fn replays_the_most_interfaces(
     rt: &(impl Abort + AllocGlobal + Threads + Wait + Sync),
@@ -220,7 +183,11 @@ fn replays_the_most_interfaces(
     let calls = AtomicU64::new(0);
     let interfaces = interfaces_of_one_task(rt.alloc(), &calls, 16, 0)?;
     let reports = run(rt, rt.alloc(), interfaces, &Open)?;
-    are_sixteen(rt, reports.as_slice());
+    assert_eq!(rt; reports.len(), 16);
+    for report in &reports {
+        let told = (report.end, report.listeners.len());
+        assert_eq!(rt; told, (InterfaceEnd::Clean, 1));
+    }
     assert_eq!(rt; calls.load(SeqCst), 16);
     Ok(())
 }

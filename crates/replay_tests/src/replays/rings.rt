@@ -84,61 +84,54 @@ fn crowded<W: Drop>(
     task: Task<W>,
 ) -> Result<Vec<Interface<Source, W>>, AllocError> {
     let text = capture(alloc, 1, frames(alloc, packets)?.as_slice())?;
-    alone(alloc, text, task)
-}
-
-/// A task with room for one packet in each buffer, of which so many go round.
-fn ringed<'a, R>(
-    rt: &'a R,
-    read: &'a AtomicU64,
-) -> Result<Task<Counted<Patient<'a, R>>>, bpfvm::Invalid> {
-    let sink = Counted::new(Patient {
-        rt,
-        read,
-        writes: 0,
-        first: 0,
-    });
-    let mut one = task(keeping_all()?, 64, 96, sink);
-    one.spares = SPARES;
-    Ok(one)
+    let captures = vec![in alloc; source_of(text)]?;
+    let mut tasks = Vec::new(alloc);
+    tasks.push(task)?;
+    let mut interfaces = Vec::new(alloc);
+    interfaces.push(Interface { captures, tasks })?;
+    Ok(interfaces)
 }
 
 #[test]
 fn as_many_batches_are_read_ahead_as_buffers_go_round(rt: HostRuntime) -> Result<(), Fail> {
+    let alloc = rt.alloc();
     let read = AtomicU64::new(0);
     let gate = Paced {
         rt: &rt,
         read: &read,
     };
-    let interfaces = crowded(rt.alloc(), 200, ringed(&rt, &read)?)?;
-    let reports = run(&rt, rt.alloc(), interfaces, &gate)?;
+    let sink = Counted::new(Patient {
+        rt: &rt,
+        read: &read,
+        writes: 0,
+        first: 0,
+    });
+    // Room for one packet in each buffer.
+    let mut one = task(keeping_all()?, 64, 96, sink);
+    one.spares = SPARES;
+    let reports = run(&rt, alloc, crowded(alloc, 200, one)?, &gate)?;
     let report = at(&rt, reports.as_slice(), 0);
     let one = at(&rt, report.listeners.as_slice(), 0);
-    assert_eq!(rt;
-        (one.end, one.sink.inner.first),
-        (TaskEnd::Clean, SPARES as u64)
-    );
+    assert_eq!(rt; one.end, TaskEnd::Clean);
+    assert_eq!(rt; one.sink.inner.first, SPARES as u64);
     Ok(())
-}
-
-/// An interface whose sink took the header alone: an arrival that finds the pair closed is not received.
-fn closed_early(rt: &(impl Abort + AllocGlobal), report: &InterfaceReport<Source, Sink>) {
-    assert_eq!(rt; report.end, InterfaceEnd::Clean);
-    let one = at(rt, report.listeners.as_slice(), 0);
-    assert_eq!(rt; (one.end, one.written), (TaskEnd::Write(24), 0));
-    assert!(rt; one.received < 250);
 }
 
 #[test]
 fn a_failed_write_closes_the_drain(rt: HostRuntime) -> Result<(), Fail> {
+    let alloc = rt.alloc();
     let read = AtomicU64::new(0);
     let gate = Paced {
         rt: &rt,
         read: &read,
     };
-    let one = task(keeping_all()?, 64, 96, sink_with(rt.alloc(), 24));
-    let interfaces = crowded(rt.alloc(), 250, one)?;
-    let reports = run(&rt, rt.alloc(), interfaces, &gate)?;
-    closed_early(&rt, at(&rt, reports.as_slice(), 0));
+    let one = task(keeping_all()?, 64, 96, sink_with(alloc, 24));
+    let reports = run(&rt, alloc, crowded(alloc, 250, one)?, &gate)?;
+    let report = at(&rt, reports.as_slice(), 0);
+    assert_eq!(rt; report.end, InterfaceEnd::Clean);
+    let one = at(&rt, report.listeners.as_slice(), 0);
+    assert_eq!(rt; (one.end, one.written), (TaskEnd::Write(24), 0));
+    // An arrival that finds the pair closed is not received.
+    assert!(rt; one.received < 250);
     Ok(())
 }

@@ -42,66 +42,44 @@ impl<R: Clock> Gate for Slow<'_, R> {
     fn after_read(&self, _interface: u32, _listener: u32, _packets: u32) {}
 }
 
-/// A capture of so many TCP frames.
-fn tcp_frames(alloc: Global, packets: u8) -> Result<Vec<u8>, AllocError> {
-    let mut text = Vec::from_slice(alloc, &HEADER)?;
-    for sec in 0..packets {
-        put_record(&mut text, sec, &TCP_FRAME, 38)?;
-    }
-    Ok(text)
-}
-
-/// A task in a mode that keeps 20 bytes of each TCP frame, one in a buffer.
-fn narrow_task(alloc: Global, mode: Mode, flush_every: u32) -> Result<Task<Sink>, bpfvm::Invalid> {
-    let mut one = task(keeping_tcp()?, 20, 56, sink_with(alloc, usize::MAX));
-    one.mode = mode;
-    one.flush_every = flush_every;
-    Ok(one)
-}
-
-/// Such a task in each mode.
-fn narrow_tasks(alloc: Global, flush_every: u32) -> Result<Vec<Task<Sink>>, Fail> {
-    let buffered = narrow_task(alloc, Mode::Buffered, flush_every)?;
-    let immediate = narrow_task(alloc, Mode::Immediate, flush_every)?;
-    Ok(vec![in alloc; buffered, immediate]?)
-}
-
-/// An interface with a capture of so many TCP frames, and these tasks.
+/// An interface with a capture of so many TCP frames, and a listener in each mode that keeps 20 bytes of each, one in a buffer.
 fn narrow(
     alloc: Global,
     packets: u8,
     flush_every: u32,
 ) -> Result<Vec<Interface<Source, Sink>>, Fail> {
-    let captures = vec![in alloc; source_of(tcp_frames(alloc, packets)?)]?;
-    let tasks = narrow_tasks(alloc, flush_every)?;
-    Ok(vec![in alloc; Interface { captures, tasks }]?)
-}
-
-/// Of ten packets each of two listeners holds one and stores one, and eight are lost.
-fn lose_eight(
-    rt: &(impl Abort + AllocGlobal),
-    report: &InterfaceReport<Source, Sink>,
-) -> Result<(), AllocError> {
-    assert_eq!(rt;
-        (report.end, report.listeners.len()),
-        (InterfaceEnd::Clean, 2)
-    );
-    let text = written(rt.alloc(), 20, &[(0, TCP_FRAME), (1, TCP_FRAME)], 20)?;
-    for listener in &report.listeners {
-        serves(rt, listener, "96 10 10 8 2 Clean", text.as_slice());
+    let mut text = Vec::from_slice(alloc, &HEADER)?;
+    for sec in 0..packets {
+        put_record(&mut text, sec, &TCP_FRAME, 38)?;
     }
-    Ok(())
+    let mut tasks = Vec::new(alloc);
+    for mode in [Mode::Buffered, Mode::Immediate] {
+        let mut one = task(keeping_tcp()?, 20, 56, sink_with(alloc, usize::MAX));
+        one.mode = mode;
+        one.flush_every = flush_every;
+        tasks.push(one)?;
+    }
+    let captures = vec![in alloc; source_of(text)]?;
+    Ok(vec![in alloc; Interface { captures, tasks }]?)
 }
 
 #[test]
 fn a_slow_reader_loses_packets(rt: HostRuntime) -> Result<(), Fail> {
+    let alloc = rt.alloc();
     let gate = Slow {
         rt: &rt,
         is_given: AtomicBool::new(false),
     };
-    let reports = run(&rt, rt.alloc(), narrow(rt.alloc(), PACKETS, 0)?, &gate)?;
+    let reports = run(&rt, alloc, narrow(alloc, PACKETS, 0)?, &gate)?;
     assert!(rt; gate.is_given.load(SeqCst));
-    lose_eight(&rt, at(&rt, reports.as_slice(), 0))?;
+    let report = at(&rt, reports.as_slice(), 0);
+    assert_eq!(rt; report.end, InterfaceEnd::Clean);
+    assert_eq!(rt; report.listeners.len(), 2);
+    // one is held, one stored
+    let text = written(alloc, 20, &[(0, TCP_FRAME), (1, TCP_FRAME)], 20)?;
+    for listener in &report.listeners {
+        serves(&rt, listener, "96 10 10 8 2 Clean", text.as_slice());
+    }
     Ok(())
 }
 
