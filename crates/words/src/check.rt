@@ -1,6 +1,7 @@
 //! The words of `bpftap check`, by `clap`.
 
-use clap::{Arg, ArgAction, ArgMatches, Command};
+use crate::arguments::{default_snap, flag, option};
+use clap::{Arg, ArgMatches, Command};
 use lines::fields::snapshot_length;
 use std::alloc::{AllocError, Global};
 
@@ -39,23 +40,15 @@ too long, wrong words, or want of memory; 3 a file or standard output failed.";
 
 fn read_arg<'a>(alloc: Global) -> Result<Arg<'a>, AllocError> {
     Ok(
-        Arg::new(alloc, "read")
-            .short('x')
-            .action(ArgAction::SetTrue)
-            .conflicts_with("named")?
-            .conflicts_with("listing")?
-            .help("Print the expression as it was read, with all that it inherits written out"),
+        flag(
+            alloc,
+            "read",
+            'x',
+            "Print the expression as it was read, with all that it inherits written out",
+        )
+        .conflicts_with("named")?
+        .conflicts_with("listing")?,
     )
-}
-
-/// The snapshot length of a program that is printed or explained.
-pub(crate) fn default_snap_arg<'a>(alloc: Global) -> Arg<'a> {
-    Arg::new(alloc, "snap")
-        .short('s')
-        .value_name("N")
-        .allow_negative_numbers(true)
-        .default_value("262144")
-        .help("Snapshot length that the program of EXPR answers, 0 to 262144 (0 means 262144)")
 }
 
 fn expr_word<'a>(alloc: Global) -> Result<Arg<'a>, AllocError> {
@@ -70,16 +63,21 @@ fn expr_word<'a>(alloc: Global) -> Result<Arg<'a>, AllocError> {
 /// The subcommand.
 pub fn check_command<'a>(alloc: Global) -> Result<Command<'a>, AllocError> {
     let args = vec![in alloc;
-        Arg::new(alloc, "named")
-            .short('d')
-            .action(ArgAction::SetTrue)
-            .help("Print instructions by their names, as tcpdump -d does"),
+        flag(
+            alloc,
+            "named",
+            'd',
+            "Print instructions by their names, as tcpdump -d does"
+        ),
         read_arg(alloc)?,
-        default_snap_arg(alloc),
-        Arg::new(alloc, "listing")
-            .short('f')
-            .value_name("LISTING")
-            .help("Print the program of this file, which is in the form of tcpdump -ddd"),
+        default_snap(alloc),
+        option(
+            alloc,
+            "listing",
+            'f',
+            "LISTING",
+            "Print the program of this file, which is in the form of tcpdump -ddd"
+        ),
         expr_word(alloc)?,
     ]?;
     Command::new(alloc, "check")

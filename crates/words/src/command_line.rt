@@ -1,4 +1,5 @@
 //! The words of the command line, by `clap`.
+use crate::arguments::{flag, listing, number, option, order, path, unit};
 use crate::check::{CheckWords, check_command, check_words};
 use crate::explain::{ExplainWords, bad_explain_words, explain_command, explain_words};
 use crate::run::{RunWords, run_command, run_words};
@@ -80,71 +81,43 @@ pub fn asks_hints<S: AsStr>(words: &[S]) -> bool {
     }
 }
 
-fn snap_arg<'a>(alloc: Global) -> Arg<'a> {
-    Arg::new(alloc, "snap")
-        .short('s')
-        .value_name("N")
-        .required(true)
-        .allow_negative_numbers(true)
-        .help("Snapshot length: keep at most N bytes of a packet, 0 to 262144 (0 means 262144)")
-}
-
-pub(crate) fn listing_arg<'a>(alloc: Global) -> Arg<'a> {
-    Arg::new(alloc, "listing")
-        .short('f')
-        .value_name("LISTING")
-        .help("Filter program, as lines of numbers in the form of tcpdump -ddd")
-}
-
-fn expr_arg<'a>(alloc: Global) -> Arg<'a> {
-    Arg::new(alloc, "expr").short('e').value_name("EXPR").help(
-        "Filter expression of pcap-filter(7), as one word; without -e and -f every packet is taken",
+/// The snapshot length that packets are cut to, which has to be given.
+fn snap<'a>(alloc: Global) -> Arg<'a> {
+    number(
+        alloc,
+        "snap",
+        's',
+        "N",
+        "Snapshot length: keep at most N bytes of a packet, 0 to 262144 (0 means 262144)",
     )
-}
-
-pub(crate) fn order_arg<'a>(alloc: Global) -> Arg<'a> {
-    Arg::new(alloc, "order")
-        .short('o')
-        .value_name("ORDER")
-        .value_parser(["little", "big"].as_slice())
-        .default_value("little")
-        .help("Byte order of OUT")
-}
-
-pub(crate) fn unit_arg<'a>(alloc: Global) -> Arg<'a> {
-    Arg::new(alloc, "unit")
-        .short('u')
-        .value_name("UNIT")
-        .value_parser(["micro", "nano"].as_slice())
-        .default_value("micro")
-        .help("Unit of the time stamps of OUT")
-}
-
-fn count_arg<'a>(alloc: Global) -> Arg<'a> {
-    Arg::new(alloc, "counted")
-        .short('c')
-        .action(ArgAction::SetTrue)
-        .help("Tell on standard error how many of how many packets were written")
-}
-
-pub(crate) fn path_arg<'a>(alloc: Global, name: &'a str, help: &'a str) -> Arg<'a> {
-    Arg::new(alloc, name).required(true).help(help)
+    .required(true)
 }
 
 fn cut_command<'a>(alloc: Global) -> Result<Command<'a>, AllocError> {
     let args = vec![in alloc;
-        snap_arg(alloc),
-        listing_arg(alloc),
-        expr_arg(alloc),
-        order_arg(alloc),
-        unit_arg(alloc),
-        count_arg(alloc),
-        path_arg(
+        snap(alloc),
+        listing(alloc),
+        option(
+            alloc,
+            "expr",
+            'e',
+            "EXPR",
+            "Filter expression of pcap-filter(7), as one word; without -e and -f every packet is taken"
+        ),
+        order(alloc),
+        unit(alloc),
+        flag(
+            alloc,
+            "counted",
+            'c',
+            "Tell on standard error how many of how many packets were written"
+        ),
+        path(
             alloc,
             "IN",
             "Capture to read: a classic savefile of Ethernet frames"
         ),
-        path_arg(
+        path(
             alloc,
             "OUT",
             "Capture to write; made once the filter and the header of IN are accepted"

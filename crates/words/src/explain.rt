@@ -1,10 +1,9 @@
 //! The words of `bpftap explain`, by `clap`.
 
-use crate::check::default_snap_arg;
-use crate::command_line::{listing_arg, path_arg};
+use crate::arguments::{default_snap, listing, number, option, path};
 use clap::error::ErrorKind;
-use clap::{Arg, ArgGroup, ArgMatches, Command, Error};
-use lines::fields::{number, snapshot_length};
+use clap::{ArgGroup, ArgMatches, Command, Error};
+use lines::fields::snapshot_length;
 use std::alloc::{AllocError, Global};
 
 /// What one call of `bpftap explain` asks for.
@@ -52,17 +51,23 @@ fn filter_group<'a>(alloc: Global) -> Result<ArgGroup<'a>, AllocError> {
 /// The subcommand.
 pub fn explain_command<'a>(alloc: Global) -> Result<Command<'a>, AllocError> {
     let args = vec![in alloc;
-        default_snap_arg(alloc),
-        Arg::new(alloc, "expr").short('e').value_name("EXPR").help(
+        default_snap(alloc),
+        option(
+            alloc,
+            "expr",
+            'e',
+            "EXPR",
             "Filter expression of pcap-filter(7), as one word; it may be empty"
         ),
-        listing_arg(alloc),
-        Arg::new(alloc, "place")
-            .short('p')
-            .value_name("PLACE")
-            .allow_negative_numbers(true)
-            .help("Tell this packet alone, counted from 0, in full"),
-        path_arg(
+        listing(alloc),
+        number(
+            alloc,
+            "place",
+            'p',
+            "PLACE",
+            "Tell this packet alone, counted from 0, in full"
+        ),
+        path(
             alloc,
             "IN",
             "Capture to read: a classic savefile of Ethernet frames"
@@ -78,7 +83,7 @@ pub fn explain_command<'a>(alloc: Global) -> Result<Command<'a>, AllocError> {
 /// The place of a packet, where one is given; nothing inside where it is no number.
 fn place_of(matches: &ArgMatches<'_>) -> Option<Option<u64>> {
     match matches.get_str("place") {
-        Some(text) => Some(Some(number(text.as_bytes(), u64::MAX)?)),
+        Some(text) => Some(Some(lines::fields::number(text.as_bytes(), u64::MAX)?)),
         None => Some(None),
     }
 }

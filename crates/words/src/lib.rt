@@ -1,6 +1,7 @@
 //! The words of the command line, by `clap`.
 #![tactic(auto)]
 
+mod arguments;
 pub mod check;
 pub mod command_line;
 pub mod explain;

@@ -1,6 +1,6 @@
 //! The words of `bpftap run`, by `clap`.
 
-use crate::command_line::path_arg;
+use crate::arguments::{path, paths};
 use clap::{ArgMatches, Command};
 use std::alloc::{AllocError, Global};
 
@@ -36,17 +36,16 @@ Exit status: 0 clean; 1 wrong words, a refused line, expression or file, an Unfi
 /// The subcommand.
 pub fn run_command<'a>(alloc: Global) -> Result<Command<'a>, AllocError> {
     let args = vec![in alloc;
-        path_arg(
+        path(
             alloc,
             "LISTENERS",
             "File with a line INTERFACE FLUSH SNAP CAPACITY SPARES OUT EXPRESSION for each listener"
         ),
-        path_arg(
+        paths(
             alloc,
             "IN",
             "Captures to replay, in order, with + between those of two interfaces"
-        )
-        .num_args(1..),
+        ),
     ]?;
     Command::new(alloc, "run")
         .about("Replay captures in threads to listeners, each of which writes a capture")

@@ -1,6 +1,7 @@
 //! The words of `bpftap split`, by `clap`.
 
-use crate::command_line::{order_arg, order_of, path_arg, unit_arg, unit_of};
+use crate::arguments::{order, path, paths, unit};
+use crate::command_line::{order_of, unit_of};
 use clap::{ArgMatches, Command};
 use savefile::{Order, Unit};
 use std::alloc::{AllocError, Global};
@@ -36,19 +37,18 @@ Exit status: 0 clean; 1 wrong words, a refused line, expression or file, or want
 /// The subcommand.
 pub fn split_command<'a>(alloc: Global) -> Result<Command<'a>, AllocError> {
     let args = vec![in alloc;
-        order_arg(alloc),
-        unit_arg(alloc),
-        path_arg(
+        order(alloc),
+        unit(alloc),
+        path(
             alloc,
             "LINES",
             "File with a line SNAP OUT EXPRESSION for each capture that is written"
         ),
-        path_arg(
+        paths(
             alloc,
             "IN",
             "Captures to read, in order: classic savefiles of Ethernet frames"
-        )
-        .num_args(1..),
+        ),
     ]?;
     Command::new(alloc, "split")
         .about(

@@ -1,7 +1,7 @@
 //! The words of `bpftap steps`, by `clap`.
 
-use crate::command_line::path_arg;
-use clap::{Arg, ArgAction, ArgMatches, Command};
+use crate::arguments::{flag, option, path, paths};
+use clap::{ArgMatches, Command};
 use std::alloc::{AllocError, Global};
 
 /// What one call of `bpftap steps` asks for.
@@ -39,30 +39,34 @@ Exit status: 0 clean; 1 wrong words, a refused line, expression or file, or want
 /// The subcommand.
 pub fn steps_command<'a>(alloc: Global) -> Result<Command<'a>, AllocError> {
     let args = vec![in alloc;
-        Arg::new(alloc, "explained")
-            .short('v')
-            .action(ArgAction::SetTrue)
-            .help("Print each step's answers first, and why they were given"),
-        Arg::new(alloc, "picture")
-            .short('p')
-            .value_name("FILE")
-            .help("Draw what each step found in the buffers to FILE, as SVG"),
-        path_arg(
+        flag(
+            alloc,
+            "explained",
+            'v',
+            "Print each step's answers first, and why they were given"
+        ),
+        option(
+            alloc,
+            "picture",
+            'p',
+            "FILE",
+            "Draw what each step found in the buffers to FILE, as SVG"
+        ),
+        path(
             alloc,
             "LISTENERS",
             "File with a line SNAP CAPACITY EXPRESSION for each listener"
         ),
-        path_arg(
+        path(
             alloc,
             "SCRIPT",
             "File with a line for each step: arrive, flush L, read L or close L"
         ),
-        path_arg(
+        paths(
             alloc,
             "IN",
             "Captures to replay, in order: classic savefiles of Ethernet frames"
-        )
-        .num_args(1..),
+        ),
     ]?;
     Command::new(alloc, "steps")
         .about("Play a script to listeners over captures, and report what each has read and holds")
