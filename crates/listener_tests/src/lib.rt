@@ -5,3 +5,5 @@
 mod listeners;
 #[cfg(test)]
 mod pairs;
+#[cfg(test)]
+mod shown;

@@ -3,22 +3,12 @@
 mod caller;
 mod plain;
 
-use bpfvm::{Insn, Program};
+use crate::shown::{BYTES, keeping, put_places, put_state, told};
 use listener::{Buffer, Fed, Listener, Mode, OpenFault, Read, Record, kept_of};
 use savefile::PacketRef;
 use std::alloc::{AllocError, Global};
 use std::process::Abort;
 use std::test::Fail;
-
-/// A program that accepts each packet, with at most so many bytes.
-fn keeping(most: u32) -> Result<Program, bpfvm::Invalid> {
-    Program::new(&[Insn {
-        code: bpfvm::code::RET_K,
-        jt: 0,
-        jf: 0,
-        k: most,
-    }])
-}
 
 /// A packet of one second and these bytes.
 fn packet(bytes: &[u8]) -> PacketRef<'_> {
@@ -30,62 +20,40 @@ fn packet(bytes: &[u8]) -> PacketRef<'_> {
     }
 }
 
-/// The places of a buffer's messages.
-fn places(alloc: Global, buffer: &Buffer) -> Result<String, AllocError> {
-    let mut out = String::new(alloc);
-    for record in buffer.records() {
-        let place = format!(in alloc; " {}", record.place)?;
-        out.push_str(place.as_str())?;
+/// Adds what a read of a listener answers.
+fn put_read(alloc: Global, listener: &mut Listener, out: &mut String) -> Result<(), Fail> {
+    let empty = Buffer::new(alloc, listener.capacity())?;
+    match listener.read(empty) {
+        Read::Full(buffer) => {
+            out.push_str("Full")?;
+            put_places(&buffer, out)?;
+        }
+        Read::Nothing(_) => out.push_str("Nothing")?,
     }
-    Ok(out)
-}
-
-/// One step of a script at a listener: `a` is an arrival of 60 bytes, `f` a flush, `r` a read and `c` a close.
-fn step(alloc: Global, listener: &mut Listener, step: char, place: u64) -> Result<String, Fail> {
-    match step {
-        'a' if listener.counts().received < u64::MAX => {
-            let fed = listener.arrive(0, place, &packet(&[7; 60]));
-            Ok(format!(in alloc; "{fed:?}")?)
-        }
-        'f' => Ok(format!(in alloc; "{}", listener.flush())?),
-        'r' => {
-            let empty = Buffer::new(alloc, listener.capacity())?;
-            match listener.read(empty) {
-                Read::Full(buffer) => Ok(format!(in alloc; "Full{}", places(alloc, &buffer)?)?),
-                Read::Nothing(_) => Ok(format!(in alloc; "Nothing")?),
-            }
-        }
-        _ => {
-            listener.close();
-            Ok(format!(in alloc; "closed")?)
-        }
-    }
-}
-
-/// Adds what a listener answers to one step of a script.
-fn push_answer(
-    alloc: Global,
-    listener: &mut Listener,
-    one: char,
-    place: u64,
-    out: &mut String,
-) -> Result<(), Fail> {
-    let answer = step(alloc, listener, one, place)?;
-    let line = format!(in alloc; "{answer}, ")?;
-    out.push_str(line.as_str())?;
     Ok(())
 }
 
-/// Adds what pends at a listener, and its counts.
-fn push_state(alloc: Global, listener: &Listener, out: &mut String) -> Result<(), AllocError> {
-    let (hold, store) = listener.buffers();
-    let (held, stored) = (places(alloc, hold)?, places(alloc, store)?);
-    let counts = listener.counts();
-    let line = format!(in alloc;
-        "held{held}, stored{stored}; {} {} {}",
-        counts.received, counts.matched, counts.dropped
-    )?;
-    out.push_str(line.as_str())
+/// Adds what a listener answers to one step of a script: `a` is an arrival of 60 bytes, `f` a flush, `r` a read and `c` a close.
+fn put_answer(
+    alloc: Global,
+    listener: &mut Listener,
+    step: char,
+    place: u64,
+    out: &mut String,
+) -> Result<(), Fail> {
+    match step {
+        'a' if listener.counts().received < u64::MAX => {
+            write!(out, "{:?}", listener.arrive(0, place, &packet(&BYTES)))?;
+        }
+        'f' => write!(out, "{}", listener.flush())?,
+        'r' => put_read(alloc, listener, out)?,
+        _ => {
+            listener.close();
+            out.push_str("closed")?;
+        }
+    }
+    out.push_str(", ")?;
+    Ok(())
 }
 
 /// What a listener answers to a script, what it has then, and its counts.
@@ -93,12 +61,13 @@ fn play(alloc: Global, listener: &mut Listener, script: &str) -> Result<String, 
     let mut out = String::new(alloc);
     let mut place = 0;
     for one in script.chars() {
-        push_answer(alloc, listener, one, place, &mut out)?;
+        put_answer(alloc, listener, one, place, &mut out)?;
         if one == 'a' {
             place = place.wrapping_add(1);
         }
     }
-    push_state(alloc, listener, &mut out)?;
+    let (hold, store) = listener.buffers();
+    put_state(hold, store, listener.counts(), &mut out)?;
     Ok(out)
 }
 
@@ -232,12 +201,9 @@ fn a_record_has_its_bytes(rt: HostRuntime) -> Result<(), Fail> {
 
 /// A record shows the greatest fields, and these bytes.
 fn shows(rt: &impl Abort, record: Record<'_>, bytes: &[u8]) {
-    assert_eq!(rt; record.capture, u32::MAX - 2);
-    assert_eq!(rt; record.place, u64::MAX - 3);
-    assert_eq!(rt; record.sec, u32::MAX);
-    assert_eq!(rt; record.nanos, 999_999_999);
-    assert_eq!(rt; record.len, u32::MAX - 1);
-    assert!(rt; record.bytes == bytes);
+    assert!(rt; (record.capture, record.place) == (u32::MAX - 2, u64::MAX - 3));
+    assert!(rt; (record.sec, record.nanos) == (u32::MAX, 999_999_999));
+    assert!(rt; record.len == u32::MAX - 1 && record.bytes == bytes);
 }
 
 /// A buffer with a record of the greatest fields, of the first 25 of these bytes.
@@ -319,14 +285,6 @@ fn a_record_takes_its_size(rt: HostRuntime) -> Result<(), Fail> {
     take_their_sizes(&rt, &packet(&data))
 }
 
-/// The fault of an answer, or `Ok`.
-fn told<T: Drop>(alloc: Global, answer: Result<T, OpenFault>) -> Result<String, AllocError> {
-    match answer {
-        Ok(_) => format!(in alloc; "Ok"),
-        Err(fault) => format!(in alloc; "{fault}"),
-    }
-}
-
 /// Capacities, and how a buffer of each is made.
 const BUFFERS: [(usize, &str); 6] = [
     (39, "BadCapacity"),
@@ -360,7 +318,7 @@ fn opened(alloc: Global, snap: u32, capacity: usize, mode: Option<Mode>) -> Resu
         Some(mode) => Listener::open_as(alloc, program, snap, capacity, mode),
         None => Listener::open(alloc, program, snap, capacity),
     };
-    Ok(told(alloc, answer)?)
+    Ok(told(alloc, answer.err())?)
 }
 
 /// A listener is opened so in both modes.
@@ -380,7 +338,7 @@ fn opens(
 #[test]
 fn capacities_and_snapshot_lengths_have_their_ranges(rt: HostRuntime) -> Result<(), Fail> {
     for (capacity, want) in BUFFERS {
-        let got = told(rt.alloc(), Buffer::new(rt.alloc(), capacity))?;
+        let got = told(rt.alloc(), Buffer::new(rt.alloc(), capacity).err())?;
         assert_eq!(rt; got.as_str(), want, "at {capacity}");
     }
     for (snap, capacity, want) in LISTENERS {

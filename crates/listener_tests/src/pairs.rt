@@ -2,9 +2,9 @@
 
 ghost use Rattle.std.specs.Prelude.{◌≡◌, IfOk};
 
-use bpfvm::{Insn, Program};
+use crate::shown::{BYTES, keeping, put_places, put_state, told};
 use handover::{Drain, DrainEnd, FeedEnd, Feeder, Link, Read, Settled, pair, pair_as, settle};
-use listener::{Buffer, Fed, Mode, OpenFault};
+use listener::{Buffer, Fed, Mode};
 use savefile::PacketRef;
 use std::alloc::{AllocError, Global};
 use std::process::Abort;
@@ -13,23 +13,6 @@ use std::test::Fail;
 mod caller;
 mod past;
 mod threads;
-
-/// A program that accepts each packet, with at most so many bytes.
-fn keeping(most: u32) -> Result<Program, bpfvm::Invalid> {
-    Program::new(&[Insn {
-        code: bpfvm::code::RET_K,
-        jt: 0,
-        jf: 0,
-        k: most,
-    }])
-}
-
-/// The bytes of a packet, no two of them alike.
-const BYTES: [u8; 60] = [
-    0, 1, 2, 3, 4, 5, 6, 7, 8, 9, 10, 11, 12, 13, 14, 15, 16, 17, 18, 19, 20, 21, 22, 23, 24, 25,
-    26, 27, 28, 29, 30, 31, 32, 33, 34, 35, 36, 37, 38, 39, 40, 41, 42, 43, 44, 45, 46, 47, 48, 49,
-    50, 51, 52, 53, 54, 55, 56, 57, 58, 59,
-];
 
 /// A packet of one second, with 60 bytes.
 fn packet() -> PacketRef<'static> {
@@ -41,57 +24,48 @@ fn packet() -> PacketRef<'static> {
     }
 }
 
-/// The places of a buffer's messages, each with a `?` where its bytes aren't the first 32 of the packet.
-fn places(alloc: Global, buffer: &Buffer) -> Result<String, AllocError> {
-    let mut out = String::new(alloc);
-    for record in buffer.records() {
-        let place = format!(in alloc; " {}", record.place)?;
-        out.push_str(place.as_str())?;
-        if record.bytes.len() != 32 || !BYTES.starts_with(record.bytes) {
-            out.push('?')?;
-        }
-    }
-    Ok(out)
-}
-
-/// What the feeder answers to one step of a script: `a` is an arrival, and `f` a flush.
-fn fed(
-    alloc: Global,
+/// Adds what the feeder answers to one step of a script: `a` is an arrival, and `f` a flush.
+fn put_fed(
     link: &Link,
     feeder: &mut Feeder,
     step: char,
     place: u64,
-) -> Result<String, Fail>
+    out: &mut String,
+) -> Result<(), AllocError>
     requires { feeder.old.pair ≡ link.now }
     ensures { feeder.new.pair ≡ feeder.old.pair }
 {
     if step == 'f' {
-        return Ok(format!(in alloc; "{}, ", feeder.flush(link))?);
+        return write!(out, "{}, ", feeder.flush(link));
     }
     if feeder.counts().received == u64::MAX {
-        return Ok(format!(in alloc; "full")?);
+        return out.push_str("full");
     }
-    let fed = feeder.arrive(link, 0, place, &packet());
-    Ok(format!(in alloc; "{fed:?}, ")?)
+    write!(out, "{:?}, ", feeder.arrive(link, 0, place, &packet()))
 }
 
-/// What the drain answers to a read.
-fn read(alloc: Global, link: &Link, drain: &mut Drain) -> Result<String, Fail>
+/// Adds what a read answered.
+fn put_answer(answer: &Read, out: &mut String) -> Result<(), AllocError> {
+    match answer {
+        Read::Full(buffer) => {
+            out.push_str("Full")?;
+            put_places(buffer, out)?;
+        }
+        Read::Nothing(buffer) => write!(out, "Nothing {}", buffer.len())?,
+        Read::Ended(buffer) => write!(out, "Ended {}", buffer.len())?,
+    }
+    out.push_str(", ")
+}
+
+/// Adds what the drain answers to a read.
+fn put_read(alloc: Global, link: &Link, drain: &mut Drain, out: &mut String) -> Result<(), Fail>
     requires { drain.old.pair ≡ link.now }
     ensures { drain.new.pair ≡ drain.old.pair }
 {
     let empty = Buffer::new(alloc, drain.capacity())?;
-    match drain.read(link, empty) {
-        Read::Full(buffer) => Ok(format!(in alloc; "Full{}, ", places(alloc, &buffer)?)?),
-        Read::Nothing(buffer) => {
-            let left = buffer.len();
-            Ok(format!(in alloc; "Nothing {left}, ")?)
-        }
-        Read::Ended(buffer) => {
-            let left = buffer.len();
-            Ok(format!(in alloc; "Ended {left}, ")?)
-        }
-    }
+    let answer = drain.read(link, empty);
+    put_answer(&answer, out)?;
+    Ok(())
 }
 
 /// The steps of a script while both ends are open: `a` is an arrival, `f` a flush and `r` a read. Tells the next place.
@@ -108,12 +82,11 @@ fn together(
 {
     let mut place = 0u64;
     for step in script.chars() {
-        let line = if step == 'r' {
-            read(alloc, link, drain)?
+        if step == 'r' {
+            put_read(alloc, link, drain, out)?;
         } else {
-            fed(alloc, link, feeder, step, place)?
-        };
-        out.push_str(line.as_str())?;
+            put_fed(link, feeder, step, place, out)?;
+        }
         if step == 'a' {
             place = place.wrapping_add(1);
         }
@@ -123,19 +96,17 @@ fn together(
 
 /// The steps of a script at a feeder whose drain has closed.
 fn feeds_on(
-    alloc: Global,
     link: &Link,
     feeder: &mut Feeder,
     script: &str,
     place: u64,
     out: &mut String,
-) -> Result<(), Fail>
+) -> Result<(), AllocError>
     requires { feeder.old.pair ≡ link.now }
     ensures { feeder.new.pair ≡ feeder.old.pair }
 {
     for step in script.chars() {
-        let line = fed(alloc, link, feeder, step, place)?;
-        out.push_str(line.as_str())?;
+        put_fed(link, feeder, step, place, out)?;
     }
     Ok(())
 }
@@ -152,24 +123,8 @@ fn reads_on(
     ensures { drain.new.pair ≡ drain.old.pair }
 {
     for _ in 0..reads {
-        let line = read(alloc, link, drain)?;
-        out.push_str(line.as_str())?;
+        put_read(alloc, link, drain, out)?;
     }
-    Ok(())
-}
-
-/// What is left of a pair, behind what was told so far.
-fn left(alloc: Global, settled: &Settled, rest: &Buffer, out: &mut String) -> Result<(), Fail> {
-    let counts = settled.counts;
-    let line = format!(in alloc;
-        "held{}, stored{}; {} {} {}",
-        places(alloc, &settled.hold)?,
-        places(alloc, rest)?,
-        counts.received,
-        counts.matched,
-        counts.dropped
-    )?;
-    out.push_str(line.as_str())?;
     Ok(())
 }
 
@@ -219,7 +174,7 @@ fn ended(
 ) -> Result<(), Fail> {
     let mut out = String::new(rt.alloc());
     let (settled, rest) = left_of_ended(rt.alloc(), mode, script, reads, &mut out)?;
-    left(rt.alloc(), &settled, &rest, &mut out)?;
+    put_state(&settled.hold, &rest, settled.counts, &mut out)?;
     assert_eq!(rt; out.as_str(), want);
     Ok(())
 }
@@ -241,7 +196,7 @@ fn until_closed(
     let place = together(alloc, link, feeder, &mut drain, script, out)?;
     let drain = drain.close(link);
     out.push_str("close, ")?;
-    feeds_on(alloc, link, feeder, behind, place, out)?;
+    feeds_on(link, feeder, behind, place, out)?;
     Ok(drain)
 }
 
@@ -269,7 +224,7 @@ fn closed(
 ) -> Result<(), Fail> {
     let mut out = String::new(rt.alloc());
     let (settled, rest) = left_of_closed(rt.alloc(), most, script, behind, &mut out)?;
-    left(rt.alloc(), &settled, &rest, &mut out)?;
+    put_state(&settled.hold, &rest, settled.counts, &mut out)?;
     assert_eq!(rt; out.as_str(), want);
     Ok(())
 }
@@ -343,14 +298,6 @@ fn a_rejected_packet_is_received_and_no_more(rt: HostRuntime) -> Result<(), Fail
     )
 }
 
-/// The fault of an answer, or `Ok`.
-fn told<T: Drop>(alloc: Global, answer: Result<T, OpenFault>) -> Result<String, AllocError> {
-    match answer {
-        Ok(_) => format!(in alloc; "Ok"),
-        Err(fault) => format!(in alloc; "{fault}"),
-    }
-}
-
 /// Snapshot lengths and capacities, and how a pair with each is made.
 const PAIRS: [(u32, usize, &str); 8] = [
     (0, 64, "BadSnap"),
@@ -372,7 +319,7 @@ fn is_made(
     want: &str,
 ) -> Result<(), Fail> {
     let made = pair_as(rt.alloc(), keeping(1)?, snap, capacity, mode);
-    let got = told(rt.alloc(), made)?;
+    let got = told(rt.alloc(), made.err())?;
     assert_eq!(rt; got.as_str(), want, "at {snap} {capacity}");
     Ok(())
 }
@@ -384,7 +331,10 @@ fn is_made_buffered(
     capacity: usize,
     want: &str,
 ) -> Result<(), Fail> {
-    let got = told(rt.alloc(), pair(rt.alloc(), keeping(1)?, snap, capacity))?;
+    let got = told(
+        rt.alloc(),
+        pair(rt.alloc(), keeping(1)?, snap, capacity).err(),
+    )?;
     assert_eq!(rt; got.as_str(), want, "at {snap} {capacity}");
     Ok(())
 }

@@ -1,6 +1,6 @@
 //! What is left of a pair that was settled.
 
-use super::keeping;
+use crate::shown::keeping;
 use handover::{pair, settle};
 use std::process::Abort;
 use std::test::Fail;

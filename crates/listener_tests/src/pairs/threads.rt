@@ -3,7 +3,8 @@
 ghost use Rattle.std.specs.Prelude.{◌≡◌, []};
 ghost use Rattle.listener.specs.Buffers.{filled};
 
-use super::{keeping, packet};
+use super::packet;
+use crate::shown::keeping;
 use handover::{Drain, DrainEnd, FeedEnd, Feeder, Link, Read, Settled, pair_as, settle};
 use listener::{Buffer, Counts, Fed, Mode, OpenFault};
 use std::alloc::Global;
