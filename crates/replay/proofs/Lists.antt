@@ -1,7 +1,15 @@
 -- Lists that a loop takes from, and lists that it makes of them.
-use Rattle.std.proofs.Common.{◌≡◌, ◌<◌, ◌≤◌, ℕ, zero, suc, List, [], ◌∷◌, ◌++◌, drop, get_or, length, take, map, refl, ap, sym, ◌∙◌, arith, subst, All}
+use Rattle.std.proofs.Common.{◌≡◌, ◌<◌, ◌≤◌, ℕ, zero, suc, List, [], ◌∷◌, ◌++◌, drop, get_or, length, length-append, take, map, refl, ap, sym, ◌∙◌, arith, subst, All}
 use Rattle.std.proofs.lemmas.List.{append-nil, append_assoc}
 use Rattle.std.specs.List.{AllZip}
+
+pub empty : {X : Type 0} (xs : List X) → length xs ≡ 0 → xs ≡ []
+empty [] e = refl
+empty (x ∷ xs) e = absurd (omega (arith, e))
+
+-- a list one item longer
+pub grown : {X : Type 0} (xs xs' : List X) (x : X) → xs' ≡ xs ++ x ∷ [] → length xs' ≡ suc (length xs)
+grown xs xs' x e = let same = ap length e in let more = length-append xs (x ∷ []) in omega (arith, same, more)
 
 -- what is at the front once some items are gone is the next of them
 pub next-there : {X : Type 0} (xs : List X) (k : ℕ) (y : X) (ys : List X) → drop k xs ≡ y ∷ ys → (k < length xs) × ((d : X) → get_or xs k d ≡ y) × (drop (suc k) xs ≡ ys)
@@ -15,6 +23,12 @@ pub moved : {X Y Z : Type 0} (f : X → Z) (g : Y → Z) (xs : List X) (x : X) (
     → map f (xs ++ x ∷ []) ++ map g ys ≡ all
 moved f g [] x y ys all e h = ap (λ z. z ∷ map g ys) h ∙ e
 moved f g (w ∷ ws) x y ys all e h = ap (λ zs. f w ∷ zs) (moved f g ws x y ys (map f ws ++ map g (y ∷ ys)) refl h) ∙ e
+
+-- the same, with the lists as a loop has them
+pub moved-next : {X Y Z : Type 0} (f : X → Z) (g : Y → Z) (xs xs' : List X) (x : X) (y : Y) (ys ys' : List Y) (all : List Z) → map f xs ++ map g ys ≡ all
+    → ys ≡ y ∷ ys' → xs' ≡ xs ++ x ∷ [] → f x ≡ g y → map f xs' ++ map g ys' ≡ all
+moved-next f g xs xs' x y ys ys' all e taken given h =
+    subst (λ as'. map f as' ++ map g ys' ≡ all) (sym given) (moved f g xs x y ys' all (subst (λ bs. map f xs ++ map g bs ≡ all) taken e) h)
 
 pub all-moved : {X Y Z : Type 0} (f : X → Z) (g : Y → Z) (xs : List X) (ys : List Y) (all : List Z) → map f xs ++ map g ys ≡ all → length ys ≡ 0 → map f xs ≡ all
 all-moved f g xs [] all e none = sym (append-nil (map f xs)) ∙ e
@@ -48,6 +62,20 @@ image-longer f (x' ∷ xs) x [] z e h = absurd cc
 image-longer f (x' ∷ xs) x (z' ∷ zs) z e h =
     let first : f x' ≡ z' = cc in let rest : map f xs ≡ zs = cc in
     ap (λ w. w ∷ map f (xs ++ x ∷ [])) first ∙ ap (λ ws. z' ∷ ws) (image-longer f xs x zs z rest h)
+
+-- the three, with the lists as a loop has them
+pub moved-itself-next : {X Z : Type 0} (f : X → Z) (xs xs' : List X) (x : X) (z : Z) (zs zs' all : List Z) → map f xs ++ zs ≡ all → zs ≡ z ∷ zs' → xs' ≡ xs ++ x ∷ [] → f x ≡ z
+    → map f xs' ++ zs' ≡ all
+moved-itself-next f xs xs' x z zs zs' all e taken given h =
+    subst (λ as'. map f as' ++ zs' ≡ all) (sym given) (moved-itself f xs x z zs' all (subst (λ bs. map f xs ++ bs ≡ all) taken e) h)
+
+pub both-next : {X Y Z : Type 0} (f : X → Z) (g : Y → Z) (xs xs' : List X) (x : X) (ys ys' : List Y) (y : Y) → map f xs ≡ map g ys → xs' ≡ xs ++ x ∷ [] → ys' ≡ ys ++ y ∷ []
+    → f x ≡ g y → map f xs' ≡ map g ys'
+both-next f g xs xs' x ys ys' y e given given' h = ap (λ as'. map f as') given ∙ both-longer f g xs x ys y e h ∙ sym (ap (λ bs. map g bs) given')
+
+pub image-next : {X Z : Type 0} (f : X → Z) (xs xs' : List X) (x : X) (zs zs' : List Z) (z : Z) → map f xs ≡ zs → xs' ≡ xs ++ x ∷ [] → zs' ≡ zs ++ z ∷ [] → f x ≡ z
+    → map f xs' ≡ zs'
+image-next f xs xs' x zs zs' z e given given' h = ap (λ as'. map f as') given ∙ image-longer f xs x zs z e h ∙ sym given'
 
 -- What was made so far completes with what is made of the rest to what is made of all.
 abbrev pub Completes : {X Y : Type 0} → (X → Y → Type 0) → List X → List Y → List X → Type 0

@@ -74,6 +74,6 @@ ended-timely playlist ending crew timely e =
 
 -- the links of pairs, of which the first is taken, and the tasks that they are of
 pub next-paired : {W : Type 0} (crews crews' : List (Crew W)) (crew : Crew W) (links links' : List TableId) (link : TableId)
-    → map crew_pair crews ≡ links → crews ≡ crew ∷ crews' → links ≡ link ∷ links' → map crew_pair crews' ≡ links'
+    → map crew_pair crews ≡ links → crews ≡ crew ∷ crews' → links ≡ link ∷ links' → (crew_pair crew ≡ link) × (map crew_pair crews' ≡ links')
 next-paired {W} crews crews' crew links links' link same e f =
-    let there : map crew_pair (crew ∷ crews') ≡ link ∷ links' = sym (ap (λ (cs : List (Crew W)). map crew_pair cs) e) ∙ same ∙ f in cc
+    let there : map crew_pair (crew ∷ crews') ≡ link ∷ links' = sym (ap (λ (cs : List (Crew W)). map crew_pair cs) e) ∙ same ∙ f in (cc, cc)

@@ -1,6 +1,6 @@
 //! Starting the threads of interfaces.
 
-ghost use Rattle.std.specs.Prelude.{◌≡◌, ◌≤◌, length, map, IfErr, IfOk, vec_capacity};
+ghost use Rattle.std.specs.Prelude.{◌≡◌, ◌≤◌, [], length, map, IfErr, IfOk, vec_capacity};
 ghost use Rattle.std.specs.List.{AllZip};
 ghost use Rattle.replay.specs.Crews.{crew_line, crew_pair, crew_task, stage_line, stage_pair, stage_task};
 ghost use Rattle.replay.specs.Lines.{entry_line, line_of};
@@ -37,14 +37,16 @@ fn join_links<'a>(
     ensures refused { IfErr result (λ fault. fault ≡ NoStart) }
 {
     let mut inlets = Vec::with_capacity(alloc, entries.len())?;
-    for (k, entry) in entries.into_iter().enumerate() {
+    for entry in entries {
         let Entry {
             feeder,
             flush_every,
             rest_in,
         } = entry;
+        let k = inlets.len();
+        let link = &links[k];
         inlets.push_reserved(Inlet {
-            link: &links[k],
+            link,
             feeder,
             flush_every,
             rest_in,
@@ -92,7 +94,8 @@ pub(crate) fn link_all<'a, R: Drop, W: Sink + Drop>(
     ensures refused { IfErr result (λ fault. fault ≡ NoStart) }
 {
     let mut all = Vec::with_capacity(alloc, laid.len())?;
-    for (i, one) in laid.into_iter().enumerate() {
+    for one in laid {
+        let i = all.len();
         all.push_reserved(link_one(alloc, links[i].as_slice(), one)?);
     }
     Ok(all)
@@ -118,18 +121,20 @@ fn start_all<
 ) -> Result<Vec<Crew<W>>, RunFault>
     requires pairs { map stage_pair stages.items ≡ links.now }
     requires few { length stages.items ≤ 64 }
-    requires room { (length crews.items ≡ 0) × (length stages.items ≤ vec_capacity crews) }
+    requires room { (crews.items ≡ []) × (length stages.items ≤ vec_capacity crews) }
     ensures lines { IfOk result (λ crews. map crew_line crews.items ≡ map stage_line stages.items) }
     ensures pairs { IfOk result (λ crews. map crew_pair crews.items ≡ map stage_pair stages.items) }
     ensures tasks { IfOk result (λ crews. map crew_task crews.items ≡ map stage_task stages.items) }
     ensures refused { IfErr result (λ fault. fault ≡ NoStart) }
 {
-    for (k, stage) in stages.into_iter().enumerate() {
+    for stage in stages {
+        let k = crews.len();
         let listener_id = ListenerId {
             interface,
             listener: k as u32,
         };
-        crews.push_reserved(start(rt, scope, launch, gate, &links[k], stage, listener_id)?);
+        let crew = start(rt, scope, launch, gate, &links[k], stage, listener_id)?;
+        crews.push_reserved(crew);
     }
     Ok(crews)
 }
@@ -208,13 +213,14 @@ pub(crate) fn launch_all<
     mut running: Vec<Running<S, W>>,
 ) -> Result<Vec<Running<S, W>>, RunFault>
     requires few { length ready.items ≤ 16 }
-    requires room { (length running.items ≡ 0) × (length ready.items ≤ vec_capacity running) }
+    requires room { (running.items ≡ []) × (length ready.items ≤ vec_capacity running) }
     ensures running { IfOk result (λ all. AllZip IsRunningOf ready.entry.items all.items) }
     ensures refused { IfErr result (λ fault. fault ≡ NoStart) }
 {
     let mut all_started = launch.begin(rt);
-    for (i, one) in ready.into_iter().enumerate() {
-        running.push_reserved(launch_one(rt, scope, alloc, launch, gate, i as u32, one)?);
+    for one in ready {
+        let interface = running.len() as u32;
+        running.push_reserved(launch_one(rt, scope, alloc, launch, gate, interface, one)?);
     }
     *all_started = true;
     Ok(running)

@@ -58,7 +58,7 @@ fn end_one(inlet: Inlet<'_>) -> Ending
 
 /// Ends all feeders.
 fn end_all(inlets: Vec<Inlet<'_>>, mut ends: Vec<Ending>) -> Vec<Ending>
-    requires room { (length ends.items ≡ 0) × (length inlets.items ≤ vec_capacity ends) }
+    requires room { (ends.items ≡ []) × (length inlets.items ≤ vec_capacity ends) }
     ensures { map ended_of result.items ≡ ended_all (map line_of inlets.entry.items) }
 {
     for inlet in inlets {

@@ -1,11 +1,16 @@
 //! Waiting for the threads of interfaces, and telling what became of them.
 
-ghost use Rattle.std.specs.Prelude.{◌≡◌, ◌≤◌, length, map, vec_capacity, List, All, IfErr, IfOk};
+ghost use Rattle.std.specs.Prelude.{◌≡◌, ◌≤◌, [], length, map, vec_capacity, List, All, IfErr, IfOk};
 ghost use Rattle.std.specs.List.{AllZip};
+ghost use Rattle.handover.specs.Asks.{asks};
+ghost use Rattle.handover.specs.Rule.{profile_of};
+ghost use Rattle.listener.specs.LookingBack.{all_accepted};
 ghost use Rattle.listener.specs.Messages.{Arrival};
 ghost use Rattle.replay.specs.Crews.{crew_line, crew_pair, crew_task};
 ghost use Rattle.replay.specs.Lines.{ended_all, ended_of, fed_all};
 ghost use Rattle.replay.specs.Replayed.{IsServed};
+ghost use Rattle.replay.specs.Reports.{IsReported};
+ghost use Rattle.replay.specs.Rings.{ring_of};
 ghost use Rattle.replay.specs.RunsEnded.{HasItsPairs, IsReportOf, past_pair};
 ghost use Rattle.replay.specs.Writing.{IsTimely};
 ghost use Rattle.replay.specs.declared.fault.RunFault.TheVariants.{NoStart};
@@ -22,6 +27,28 @@ use crate::threads::finish;
 use savefile::{Sink, Source};
 use std::thread::Threads;
 
+/// Waits for the threads of a task, and settles it.
+fn report_task<W: Sink + Drop, R: Threads>(
+    rt: &R,
+    link: TaskLink,
+    ending: Ending,
+    crew: Crew<W>,
+) -> Result<ListenerReport<W>, RunFault>
+    requires pair { (ending.feed.pair ≡ link) × (crew_pair crew ≡ link) }
+    requires profile { ending.feed.profile ≡ profile_of crew.task.value.capacity crew.task.value.mode }
+    requires ring { ring_of ending.rest_in.end ≡ ring_of crew.writer.promise.rest.value.end }
+    requires timely { All (λ m. IsTimely m.nanos) (all_accepted (asks ending.feed.feeds)) }
+    ensures report { IfOk result (λ report. IsReported W.taken W.failures crew.task.value ending.feed.feeds report.past.takes report) }
+    ensures past { IfOk result (λ report. (report.past.pair ≡ crew_pair crew) × (report.past.feeds ≡ ending.feed.feeds)
+        × (report.past.profile ≡ ending.feed.profile)) }
+    ensures refused { IfErr result (λ fault. fault ≡ NoStart) }
+{
+    let Some(done) = finish(rt, crew) else {
+        return Err(RunFault::NoStart);
+    };
+    Ok(settled(link, ending, done))
+}
+
 /// Waits for the threads of an interface's tasks, and settles them.
 fn report_tasks<W: Sink + Drop, R: Threads>(
     rt: &R,
@@ -32,7 +59,7 @@ fn report_tasks<W: Sink + Drop, R: Threads>(
 ) -> Result<Vec<ListenerReport<W>>, RunFault>
     requires pairs { map crew_pair crews.items ≡ links.items }
     requires fed { (playlist : List Arrival) × All (λ a. IsTimely a.packet.nanos) playlist × (map ended_of ends.items ≡ ended_all (map (fed_all playlist) (map crew_line crews.items))) }
-    requires room { (length reports.items ≡ 0) × (length crews.items ≤ vec_capacity reports) }
+    requires room { (reports.items ≡ []) × (length crews.items ≤ vec_capacity reports) }
     ensures pairs { IfOk result (λ reports. map past_pair reports.items ≡ map crew_pair crews.items) }
     ensures served { IfOk result (λ reports. (playlist : List Arrival) → All (λ a. IsTimely a.packet.nanos) playlist →
         map ended_of ends.items ≡ ended_all (map (fed_all playlist) (map crew_line crews.items)) →
@@ -48,10 +75,8 @@ fn report_tasks<W: Sink + Drop, R: Threads>(
         let Some(ending) = ends.next() else {
             unreachable!()
         };
-        let Some(done) = finish(rt, crew) else {
-            return Err(RunFault::NoStart);
-        };
-        reports.push_reserved(settled(link, ending, done));
+        let report = report_task(rt, link, ending, crew)?;
+        reports.push_reserved(report);
     }
     Ok(reports)
 }
@@ -89,7 +114,7 @@ pub(crate) fn report_all<S: Source + Drop, W: Sink + Drop, R: Threads>(
     mut reports: Vec<InterfaceReport<S, W>>,
 ) -> Result<Vec<InterfaceReport<S, W>>, RunFault>
     requires pairs { AllZip HasItsPairs links.items running.items }
-    requires room { (length reports.items ≡ 0) × (length running.items ≤ vec_capacity reports) }
+    requires room { (reports.items ≡ []) × (length running.items ≤ vec_capacity reports) }
     ensures reports { IfOk result (λ reports. AllZip (IsReportOf S.left S.failures W.taken W.failures) running.items reports.items) }
     ensures refused { IfErr result (λ fault. fault ≡ NoStart) }
 {

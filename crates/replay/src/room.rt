@@ -1,6 +1,6 @@
 //! Room for what threads hand back, made before they are started.
 
-ghost use Rattle.std.specs.Prelude.{◌≡◌, IfErr, IfOk};
+ghost use Rattle.std.specs.Prelude.{◌≡◌, ◌≤◌, [], vec_capacity, IfErr, IfOk};
 ghost use Rattle.replay.specs.Rooms.{HasRoom};
 ghost use Rattle.replay.specs.declared.fault.RunFault.TheVariants.{NoStart};
 
@@ -20,6 +20,21 @@ pub(crate) struct Room<R, W: Sink + Drop> {
     pub(crate) reports: Vec<ListenerReport<W>>,
 }
 
+/// Room for so many of one kind and so many of another: two lists that are empty yet.
+pub(crate) fn two_lists<X: Drop, Y: Drop>(
+    alloc: Global,
+    first: usize,
+    second: usize,
+) -> Result<(Vec<X>, Vec<Y>), RunFault>
+    ensures empty { IfOk result (λ p. (p.0.items ≡ []) × (p.1.items ≡ [])) }
+    ensures enough { IfOk result (λ p. (first ≤ vec_capacity p.0) × (second ≤ vec_capacity p.1)) }
+    ensures refused { IfErr result (λ fault. fault ≡ NoStart) }
+{
+    let ones = Vec::with_capacity(alloc, first)?;
+    let others = Vec::with_capacity(alloc, second)?;
+    Ok((ones, others))
+}
+
 /// Room for so many captures and tasks.
 pub(crate) fn room_for<R: Drop, W: Sink + Drop>(
     alloc: Global,
@@ -29,10 +44,13 @@ pub(crate) fn room_for<R: Drop, W: Sink + Drop>(
     ensures enough { IfOk result (λ room. HasRoom captures tasks room) }
     ensures refused { IfErr result (λ fault. fault ≡ NoStart) }
 {
+    let played = two_lists(alloc, captures, tasks)?;
+    let (crews, reports) = two_lists(alloc, tasks, tasks)?;
+    let (sources, ends) = played;
     Ok(Room {
-        sources: Vec::with_capacity(alloc, captures)?,
-        ends: Vec::with_capacity(alloc, tasks)?,
-        crews: Vec::with_capacity(alloc, tasks)?,
-        reports: Vec::with_capacity(alloc, tasks)?,
+        sources,
+        ends,
+        crews,
+        reports,
     })
 }

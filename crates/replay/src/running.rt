@@ -1,11 +1,13 @@
 //! Replaying captures in threads.
 
-ghost use Rattle.std.specs.Prelude.{◌≡◌, ◌≤◌, length, IfErr, IfOk, OnOk, vec_capacity};
+ghost use Rattle.std.specs.Prelude.{◌≡◌, ◌≤◌, List, [], length, IfErr, IfOk, OnOk, vec_capacity};
 ghost use Rattle.std.specs.List.{AllZip};
 ghost use Rattle.replay.specs.Refusals.{IsFirst, NoneStands};
 ghost use Rattle.replay.specs.Replayed.{IsReplayed};
 ghost use Rattle.replay.specs.Runs.{IsRunningOf};
+ghost use Rattle.replay.specs.Setups.{HasLinks, IsLaidFor};
 ghost use Rattle.replay.specs.declared.fault.RunFault.TheVariants.{NoStart};
+ghost use Rattle.replay.specs.declared.task.Interface.{Interface};
 
 use crate::check::check_all;
 use crate::fault::RunFault;
@@ -16,6 +18,7 @@ use crate::launch::Launch;
 use crate::ready::{Ready, Running};
 use crate::report::InterfaceReport;
 use crate::reporting::report_all;
+use crate::room::two_lists;
 use crate::setup::lay_all;
 use crate::task::Interface;
 use savefile::{Sink, Source};
@@ -39,7 +42,7 @@ fn in_threads<
     running: Vec<Running<S, W>>,
 ) -> Result<Vec<Running<S, W>>, RunFault>
     requires few { length ready.items ≤ 16 }
-    requires room { (length running.items ≡ 0) × (length ready.items ≤ vec_capacity running) }
+    requires room { (running.items ≡ []) × (length ready.items ≤ vec_capacity running) }
     ensures running { IfOk result (λ all. AllZip IsRunningOf ready.entry.items all.items) }
     ensures refused { IfErr result (λ fault. fault ≡ NoStart) }
 {
@@ -49,10 +52,35 @@ fn in_threads<
         thread::scope_env(),
         rt,
         move |scope| -> Result<Vec<Running<S, W>>, RunFault>
-            requires { (length ready.items ≤ 16) × (length running.items ≡ 0) × (length ready.items ≤ vec_capacity running) }
+            requires { (length ready.items ≤ 16) × (running.items ≡ []) × (length ready.items ≤ vec_capacity running) }
             ensures { IfOk result (λ all. AllZip IsRunningOf ready.entry.items all.items) × IfErr result (λ fault. fault ≡ NoStart) }
         { launch_all(rt, scope, alloc, launched, gate, ready, running) },
     )
+}
+
+/// Replays interfaces for which all is made but what borrows the links of their tasks.
+fn replay_laid<
+    S: Source + Send + Drop,
+    W: Sink + Send + Drop,
+    G: Gate + Sync,
+    R: Threads + Wait + Sync,
+>(
+    rt: &R,
+    alloc: Global,
+    gate: &G,
+    all: AllLaid<S, W>,
+) -> Result<Vec<InterfaceReport<S, W>>, RunFault>
+    requires few { length all.laid.items ≤ 16 }
+    requires links { AllZip HasLinks all.links.items all.laid.items }
+    ensures replayed { IfOk result (λ reports. (interfaces : List (Interface S W)) → AllZip IsLaidFor interfaces all.laid.items →
+        AllZip (IsReplayed S.left S.failures W.taken W.failures) interfaces reports.items) }
+    ensures refused { IfErr result (λ fault. fault ≡ NoStart) }
+{
+    let (reports, running) = two_lists(alloc, all.laid.len(), all.laid.len())?;
+    let AllLaid { links, laid } = all;
+    let ready = link_all(alloc, links.as_slice(), laid)?;
+    let running = in_threads(rt, alloc, gate, ready, running)?;
+    report_all(rt, links, running, reports)
 }
 
 /// Replays the captures of each interface to its listeners, in threads, and writes what each listener keeps as a savefile.
@@ -93,10 +121,6 @@ pub fn run<
     ensures replayed { IfOk result (λ reports. AllZip (IsReplayed S.left S.failures W.taken W.failures) interfaces.items reports.items) }
 {
     check_all(interfaces.as_slice())?;
-    let reports = Vec::with_capacity(alloc, interfaces.len())?;
-    let running = Vec::with_capacity(alloc, interfaces.len())?;
-    let AllLaid { links, laid } = lay_all(alloc, interfaces)?;
-    let ready = link_all(alloc, links.as_slice(), laid)?;
-    let running = in_threads(rt, alloc, gate, ready, running)?;
-    report_all(rt, links, running, reports)
+    let all = lay_all(alloc, interfaces)?;
+    replay_laid(rt, alloc, gate, all)
 }

@@ -1,10 +1,12 @@
 //! Makes all that the threads of a replay are given, before any of them is started.
 
-ghost use Rattle.std.specs.Prelude.{◌≡◌, All, IfErr, IfOk};
+ghost use Rattle.std.specs.Prelude.{◌≡◌, ◌<◌, ◌≤◌, [], All, IfErr, IfOk, map, vec_capacity};
 ghost use Rattle.std.specs.List.{AllZip};
-ghost use Rattle.replay.specs.Crews.{stage_line};
+ghost use Rattle.rtrb.specs.Ring.{known_free, received, sent, IsPair};
+ghost use Rattle.replay.specs.Crews.{stage_line, stage_pair, stage_task};
 ghost use Rattle.replay.specs.Lines.{entry_line};
 ghost use Rattle.replay.specs.Refusals.{IsInBounds};
+ghost use Rattle.replay.specs.Rings.{ring_of};
 ghost use Rattle.replay.specs.Setups.{HasLinks, IsLaidFor};
 ghost use Rattle.replay.specs.declared.fault.RunFault.TheVariants.{NoStart};
 
@@ -13,7 +15,7 @@ use crate::fault::RunFault;
 use crate::inlet::Entry;
 use crate::laid::{AllLaid, Laid};
 use crate::link::TaskLink;
-use crate::room::room_for;
+use crate::room::{room_for, two_lists};
 use crate::task::{Interface, Task};
 use crate::writing::Output;
 use handover::pair_as;
@@ -29,6 +31,22 @@ struct Made<W> {
     link: TaskLink,
     entry: Entry,
     stage: Stage<W>,
+}
+
+/// The rings of a task: of what is read, of empty buffers, and of the rest.
+#[derive(Drop)]
+struct Rings {
+    full: (Producer<Buffer>, Consumer<Buffer>),
+    empty: (Producer<Buffer>, Consumer<Buffer>),
+    rest: (Producer<Buffer>, Consumer<Buffer>),
+}
+
+/// What is made for the tasks of an interface, in order.
+#[derive(Drop)]
+struct AllMade<W> {
+    links: Vec<TaskLink>,
+    entries: Vec<Entry>,
+    stages: Vec<Stage<W>>,
 }
 
 /// A ring with so many empty buffers in it.
@@ -49,6 +67,18 @@ fn spare_buffers(
     Ok((empty_in, empty_out))
 }
 
+/// Makes the rings of a task.
+fn rings_for(alloc: Global, spares: usize, capacity: usize) -> Result<Rings, RunFault>
+    ensures full { IfOk result (λ r. IsPair r.full.0 r.full.1 × (sent r.full.0 ≡ []) × (received r.full.1 ≡ [])) }
+    ensures rest { IfOk result (λ r. (ring_of r.rest.0.end ≡ ring_of r.rest.1.end) × (sent r.rest.0 ≡ []) × (0 < known_free r.rest.0) × (received r.rest.1 ≡ [])) }
+    ensures refused { IfErr result (λ fault. fault ≡ NoStart) }
+{
+    let full = RingBuffer::new(alloc, spares)?;
+    let empty = spare_buffers(alloc, spares, capacity)?;
+    let rest = RingBuffer::new(alloc, 1)?;
+    Ok(Rings { full, empty, rest })
+}
+
 /// Makes the two ends of a task, its rings and its buffers.
 fn make<W: Sink + Drop>(alloc: Global, task: Task<W>) -> Result<Made<W>, RunFault>
     ensures task { IfOk result (λ m. m.stage.task.value ≡ task) }
@@ -57,13 +87,14 @@ fn make<W: Sink + Drop>(alloc: Global, task: Task<W>) -> Result<Made<W>, RunFaul
     ensures refused { IfErr result (λ fault. fault ≡ NoStart) }
 {
     let about = Snapshot::of(&task);
+    let Rings { full, empty, rest } = rings_for(alloc, task.spares, task.capacity)?;
     let Task {
         program,
         snap,
         capacity,
         mode,
         flush_every,
-        spares,
+        spares: _,
         order,
         unit,
         sink,
@@ -71,17 +102,14 @@ fn make<W: Sink + Drop>(alloc: Global, task: Task<W>) -> Result<Made<W>, RunFaul
     let Ok((link, feeder, drain)) = pair_as(alloc, program, snap, capacity, mode) else {
         return Err(RunFault::NoStart);
     };
-    let (full_in, full_out) = RingBuffer::new(alloc, spares)?;
-    let (empty_in, empty_out) = spare_buffers(alloc, spares, capacity)?;
-    let (rest_in, rest_out) = RingBuffer::new(alloc, 1)?;
     let stage = Stage {
         task: about,
         drain,
-        full_in,
-        full_out,
-        empty_in,
-        empty_out,
-        rest_out,
+        full_in: full.0,
+        full_out: full.1,
+        empty_in: empty.0,
+        empty_out: empty.1,
+        rest_out: rest.1,
         output: Output {
             sink,
             order,
@@ -94,10 +122,42 @@ fn make<W: Sink + Drop>(alloc: Global, task: Task<W>) -> Result<Made<W>, RunFaul
         entry: Entry {
             feeder,
             flush_every,
-            rest_in,
+            rest_in: rest.0,
         },
         stage,
     })
+}
+
+/// Room for what is made for so many tasks.
+fn room_for_made<W: Sink + Drop>(alloc: Global, tasks: usize) -> Result<AllMade<W>, RunFault>
+    ensures empty { IfOk result (λ m. (m.links.items ≡ []) × (m.entries.items ≡ []) × (m.stages.items ≡ [])) }
+    ensures enough { IfOk result (λ m. (tasks ≤ vec_capacity m.links) × (tasks ≤ vec_capacity m.entries) × (tasks ≤ vec_capacity m.stages)) }
+    ensures refused { IfErr result (λ fault. fault ≡ NoStart) }
+{
+    let stages = Vec::with_capacity(alloc, tasks)?;
+    let (links, entries) = two_lists(alloc, tasks, tasks)?;
+    Ok(AllMade {
+        links,
+        entries,
+        stages,
+    })
+}
+
+/// Makes all that the tasks of an interface need.
+fn make_all<W: Sink + Drop>(alloc: Global, tasks: Vec<Task<W>>) -> Result<AllMade<W>, RunFault>
+    ensures tasks { IfOk result (λ m. map stage_task m.stages.items ≡ tasks.items) }
+    ensures pairs { IfOk result (λ m. map stage_pair m.stages.items ≡ m.links.items) }
+    ensures lines { IfOk result (λ m. map entry_line m.entries.items ≡ map stage_line m.stages.items) }
+    ensures refused { IfErr result (λ fault. fault ≡ NoStart) }
+{
+    let mut all = room_for_made(alloc, tasks.len())?;
+    for task in tasks {
+        let Made { link, entry, stage } = make(alloc, task)?;
+        all.links.push_reserved(link);
+        all.entries.push_reserved(entry);
+        all.stages.push_reserved(stage);
+    }
+    Ok(all)
 }
 
 /// Makes all of an interface.
@@ -110,17 +170,13 @@ fn lay<R: Drop, W: Sink + Drop>(
     ensures laid { IfOk result (λ p. IsLaidFor interface p.1) }
     ensures refused { IfErr result (λ fault. fault ≡ NoStart) }
 {
+    let room = room_for(alloc, interface.captures.len(), interface.tasks.len())?;
     let Interface { captures, tasks } = interface;
-    let room = room_for(alloc, captures.len(), tasks.len())?;
-    let mut links = Vec::with_capacity(alloc, tasks.len())?;
-    let mut entries = Vec::with_capacity(alloc, tasks.len())?;
-    let mut stages = Vec::with_capacity(alloc, tasks.len())?;
-    for task in tasks {
-        let Made { link, entry, stage } = make(alloc, task)?;
-        links.push_reserved(link);
-        entries.push_reserved(entry);
-        stages.push_reserved(stage);
-    }
+    let AllMade {
+        links,
+        entries,
+        stages,
+    } = make_all(alloc, tasks)?;
     let laid = Laid {
         captures,
         entries,
@@ -140,8 +196,7 @@ pub(crate) fn lay_all<R: Drop, W: Sink + Drop>(
     ensures laid { IfOk result (λ all. AllZip IsLaidFor interfaces.items all.laid.items) }
     ensures refused { IfErr result (λ fault. fault ≡ NoStart) }
 {
-    let mut links = Vec::with_capacity(alloc, interfaces.len())?;
-    let mut laid = Vec::with_capacity(alloc, interfaces.len())?;
+    let (mut links, mut laid) = two_lists(alloc, interfaces.len(), interfaces.len())?;
     for interface in interfaces {
         let (its_links, its_own) = lay(alloc, interface)?;
         links.push_reserved(its_links);

@@ -34,7 +34,7 @@ pub(crate) fn start<
     stage: Stage<W>,
     listener_id: ListenerId,
 ) -> Result<Crew<W>, RunFault>
-    requires { stage.drain.pair ≡ link.now }
+    requires pair { stage.drain.pair ≡ link.now }
     ensures crew { IfOk result (λ c. (c.task.value ≡ stage.task.value) × (crew_pair c ≡ link.now)) }
     ensures line { IfOk result (λ c. crew_line c ≡ stage_line stage) }
     ensures refused { IfErr result (λ fault. fault ≡ NoStart) }

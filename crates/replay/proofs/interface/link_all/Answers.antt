@@ -1,29 +1,29 @@
-use Rattle.std.proofs.Common.{◌≡◌, ℕ, suc, drop, get_or, sym, ap, ◌∙◌, rules, subst}
+use Rattle.std.proofs.Common.{◌≡◌, ℕ, drop, get_or, length, sym, ap, ◌∙◌, rules, subst}
 use Rattle.std.specs.List.{AllZip}
 use Rattle.replay.specs.Runs.{IsReadyFor}
 use Rattle.replay.specs.Setups.{HasLinks}
-use Rattle.replay.proofs.Lists.{completed, completes-next, zip-dropped}
+use Rattle.replay.proofs.Lists.{completed, completes-next, grown, zip-dropped}
 use Rattle.replay.proofs.interface.link_all.Goals as goal
 
 pub link_one-requires : goal.link_one-requires
 link_one-requires g c =
-    let z = zip-dropped HasLinks c.args.links.now _ _ c.in-Some.one _ c.loop-i.invariant.2 c.in-Some.ensures.steps.0.0 in
-    let here : c.loop-i.i-iterator.count ≡ c.in-Some.i = search rules in
+    let here : length c.loop-one.all.items ≡ c.len-i.result = search rules in
+    let z = zip-dropped HasLinks c.args.links.now _ _ c.in-Some.one _ c.loop-one.invariant.2 c.in-Some.ensures.steps.0 in
     z.1 c.index-links-i.result
     ∙ ap (λ (k : ℕ). (get_or c.args.links.now k c.index-links-i.result).items) here
     ∙ sym (c.as_slice.ensures.value ∙ ap (λ ls. ls.items) c.index-links-i.is)
 
-pub loop-i-preserved : goal.loop-i-preserved
-loop-i-preserved g c =
-    let z = zip-dropped HasLinks c.args.links.now _ _ c.in-Some.one _ c.loop-i.invariant.2 c.in-Some.ensures.steps.0.0 in
-    let next : suc c.loop-i.i-iterator.count ≡ c.next.new.self.count = search rules in (
+pub loop-one-preserved : goal.loop-one-preserved
+loop-one-preserved g c =
+    let z = zip-dropped HasLinks c.args.links.now _ _ c.in-Some.one _ c.loop-one.invariant.2 c.in-Some.ensures.steps.0 in
+    let next = grown _ _ _ c.push_reserved.ensures.items in (
       search rules,
       search rules,
-      subst (λ (k : ℕ). AllZip HasLinks (drop k c.args.links.now) c.next.new.self.iter.rest.items) next z.2,
-      completes-next IsReadyFor _ _ _ c.in-Some.one _ _ _ c.loop-i.invariant.3 c.in-Some.ensures.steps.0.0 c.push_reserved.ensures.items c.in_ok-link_one.ensures.ready,
+      subst (λ (k : ℕ). AllZip HasLinks (drop k c.args.links.now) c.next.new.self.rest.items) (sym next) z.2,
+      completes-next IsReadyFor _ _ _ c.in-Some.one _ _ _ c.loop-one.invariant.3 c.in-Some.ensures.steps.0 c.push_reserved.ensures.items c.in_ok-link_one.ensures.ready,
       search rules,
       search rules,
     )
 
 pub returns-clause-ready : goal.returns-clause-ready
-returns-clause-ready g c = completed IsReadyFor _ _ _ c.loop-i.invariant.3 (search rules)
+returns-clause-ready g c = completed IsReadyFor _ _ _ c.loop-one.invariant.3 (search rules)

@@ -2,6 +2,7 @@ use Rattle.std.proofs.Common.{[], map, length, refl, ap, ◌∙◌, arith}
 use Rattle.std.proofs.lemmas.List.{length-map}
 use Rattle.replay.specs.Lines.{ended_all, fed_all, line_of}
 use Rattle.replay.proofs.Fresh.{fresh-fed}
+use Rattle.replay.proofs.Lists.{empty}
 use Rattle.replay.proofs.playing.play_out.Goals as goal
 
 pub give_captures-sources-requires-clause-so_far : goal.give_captures-sources-requires-clause-so_far
@@ -15,7 +16,7 @@ end_all-ends-requires g c =
     let a = length-map c.give_captures-sources.new.self.inlets.items line_of in
     let b = length-map starts (fed_all playlist) in
     let d = length-map c.args.inlets.items line_of in
-    let room = c.requires.room.1 in record { room = (c.requires.room.0, omega (arith, same, a, b, d, room)) }
+    let room = c.requires.room.1 in record { room = (empty _ c.requires.room.0, omega (arith, same, a, b, d, room)) }
 
 pub returns : goal.returns
 returns g c =

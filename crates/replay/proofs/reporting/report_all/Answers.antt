@@ -1,16 +1,22 @@
-use Rattle.std.proofs.Common.{rules}
+use Rattle.std.proofs.Common.{length, ap, arith, rules}
 use Rattle.replay.specs.RunsEnded.{HasItsPairs, IsReportOf}
-use Rattle.replay.proofs.Lists.{completed, completes-next, zip-taken}
+use Rattle.replay.proofs.Lists.{completed, completes-next, grown, zip-taken}
 use Rattle.replay.proofs.reporting.report_all.Goals as goal
+
+pub report_one-requires : goal.report_one-requires
+report_one-requires g c =
+    (zip-taken HasItsPairs _ c.in-Some-next.its_links _ _ c.in-Some.one _ c.loop-one.invariant.2 c.in-Some-next.ensures.items c.in-Some.ensures.steps.0).0
 
 pub loop-one-preserved : goal.loop-one-preserved
 loop-one-preserved g c = (
-  search rules,
-  search rules,
+  tt,
+  tt,
   (zip-taken HasItsPairs _ c.in-Some-next.its_links _ _ c.in-Some.one _ c.loop-one.invariant.2 c.in-Some-next.ensures.items c.in-Some.ensures.steps.0).1,
   completes-next (IsReportOf g.S.Source.left g.S.Source.failures g.W.Sink.taken g.W.Sink.failures) _ _ _ c.in-Some.one _ _ _ c.loop-one.invariant.3
       c.in-Some.ensures.steps.0 c.push_reserved.ensures.items c.in_ok-report_one.ensures.report,
-  search rules,
+  (let more = grown _ _ _ c.push_reserved.ensures.items in
+      let less = ap length c.in-Some.ensures.steps.0 in
+      let sum = c.loop-one.invariant.4 in omega (arith, more, less, sum)),
   search rules,
 )
 

@@ -1,5 +1,5 @@
-use Rattle.std.proofs.Common.{rules}
-use Rattle.std.proofs.lemmas.List.Elements.{All-rest}
+use Rattle.std.proofs.Common.{All, rules, subst}
+use Rattle.std.proofs.lemmas.List.Elements.{All-head, All-rest}
 use Rattle.replay.specs.Refusals.{IsInBounds}
 use Rattle.replay.specs.Setups.{HasLinks, IsLaidFor}
 use Rattle.replay.proofs.Lists.{completed, completes-next, zip-pushed}
@@ -19,6 +19,13 @@ loop-interface-preserved g c = (
   search rules,
   search rules,
 )
+
+pub lay-requires : goal.lay-requires
+lay-requires g c =
+    All-head IsInBounds c.in-Some.interface _ (subst (λ is'. All IsInBounds is') c.in-Some.ensures.steps.0 c.loop-interface.invariant.2)
+
+pub returns-clause-links : goal.returns-clause-links
+returns-clause-links g c = c.loop-interface.invariant.3
 
 pub returns-clause-laid : goal.returns-clause-laid
 returns-clause-laid g c = completed IsLaidFor _ _ _ c.loop-interface.invariant.4 (search rules)

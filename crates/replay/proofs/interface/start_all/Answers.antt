@@ -1,0 +1,42 @@
+use Rattle.std.proofs.Common.{◌≡◌, ℕ, drop, get_or, length, map, sym, ap, ◌∙◌, rules}
+use Rattle.replay.specs.Crews.{crew_line, crew_pair, crew_task, stage_line, stage_pair, stage_task}
+use Rattle.replay.specs.Lines.{Line}
+use Rattle.replay.proofs.Lists.{all-moved, grown, moved-next, next-there}
+use Rattle.replay.proofs.interface.start_all.Goals as goal
+
+pub start-requires-clause-pair : goal.start-requires-clause-pair
+start-requires-clause-pair g c κs within =
+    let here : length c.loop-stage.crews.items ≡ c.len-k.result = search rules in
+    let rest = c.next.new.self.rest.items in
+    let n = next-there c.args.links.now _ (stage_pair c.in-Some.stage) (map stage_pair rest)
+    (sym c.loop-stage.invariant.2 ∙ ap (λ ss. map stage_pair ss) c.in-Some.ensures.steps.0) in
+    sym (n.1 c.index-links-k.result) ∙ ap (λ (k : ℕ). get_or c.args.links.now k c.index-links-k.result) here ∙ sym c.index-links-k.is
+
+pub loop-stage-preserved : goal.loop-stage-preserved
+loop-stage-preserved g c =
+    let stage = c.in-Some.stage in
+    let crew = c.in_ok-crew.crew in
+    let rest = c.next.new.self.rest.items in
+    let taken = c.in-Some.ensures.steps.0 in
+    let pushed = c.push_reserved.ensures.items in
+    let n = next-there c.args.links.now _ (stage_pair stage) (map stage_pair rest) (sym c.loop-stage.invariant.2 ∙ ap (λ ss. map stage_pair ss) taken) in
+    let task = c.in_ok-crew.ensures.crew.0 in
+    let line = c.in_ok-crew.ensures.line in (
+      search rules,
+      search rules,
+      sym n.2 ∙ ap (λ (k : ℕ). drop k c.args.links.now) (sym (grown _ _ _ pushed)),
+      moved-next crew_line stage_line _ _ crew stage _ _ _ c.loop-stage.invariant.3 taken pushed line,
+      moved-next crew_pair stage_pair _ _ crew stage _ _ _ c.loop-stage.invariant.4 taken pushed (ap (λ (l : Line). l.pair) line),
+      moved-next crew_task stage_task _ _ crew stage _ _ _ c.loop-stage.invariant.5 taken pushed task,
+      search rules,
+      search rules,
+    )
+
+pub returns-clause-lines : goal.returns-clause-lines
+returns-clause-lines g c = all-moved crew_line stage_line _ _ _ c.loop-stage.invariant.3 (search rules)
+
+pub returns-clause-pairs : goal.returns-clause-pairs
+returns-clause-pairs g c = all-moved crew_pair stage_pair _ _ _ c.loop-stage.invariant.4 (search rules)
+
+pub returns-clause-tasks : goal.returns-clause-tasks
+returns-clause-tasks g c = all-moved crew_task stage_task _ _ _ c.loop-stage.invariant.5 (search rules)

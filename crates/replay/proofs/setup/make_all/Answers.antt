@@ -1,0 +1,36 @@
+use Rattle.std.proofs.Common.{length, ap, arith, rules}
+use Rattle.replay.specs.Crews.{stage_line, stage_pair, stage_task}
+use Rattle.replay.specs.Lines.{entry_line}
+use Rattle.replay.proofs.Lists.{all-moved-itself, both-next, grown, image-next, moved-itself-next}
+use Rattle.replay.proofs.setup.make_all.Goals as goal
+
+pub loop-task-preserved : goal.loop-task-preserved
+loop-task-preserved g c =
+    let link = c.in_ok-link.field-0.link in
+    let entry = c.in_ok-link.field-0.entry in
+    let stage = c.in_ok-link.field-0.stage in
+    let made = c.in_ok-link.ensures in
+    let taken = c.in-Some.ensures.steps.0 in
+    let links = c.push_reserved.ensures.items in
+    let entries = c.push_reserved-in-loop-task.ensures.items in
+    let stages = c.push_reserved-in-loop-task-2.ensures.items in
+    let same-links = c.loop-task.invariant.6 in
+    let same-entries = c.loop-task.invariant.7 in
+    let more-links = grown _ _ link links in
+    let more-entries = grown _ _ entry entries in
+    let more-stages = grown _ _ stage stages in (
+      search rules,
+      search rules,
+      moved-itself-next stage_task _ _ stage c.in-Some.task _ _ _ c.loop-task.invariant.2 taken stages made.task,
+      image-next stage_pair _ _ stage _ _ link c.loop-task.invariant.3 stages links made.pair,
+      both-next entry_line stage_line _ _ entry _ _ stage c.loop-task.invariant.4 entries stages made.line,
+      (let less = ap length taken in let sum = c.loop-task.invariant.5 in omega (arith, more-stages, less, sum)),
+      omega (arith, more-links, more-stages, same-links),
+      omega (arith, more-entries, more-stages, same-entries),
+      search rules,
+      search rules,
+      search rules,
+    )
+
+pub returns-clause-tasks : goal.returns-clause-tasks
+returns-clause-tasks g c = all-moved-itself stage_task _ _ _ c.loop-task.invariant.2 (search rules)
