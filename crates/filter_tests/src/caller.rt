@@ -1,5 +1,6 @@
 //! The caller that the page of `filtergen` shows, crates/filtergen/README.md.
 
+use crate::same::same;
 use bpfvm::{Program, run};
 use filtergen::{Refusal, compile};
 use filterlang::parse;
@@ -38,12 +39,12 @@ const FRAME: [u8; 16] = [0, 0, 0, 0, 0, 0, 0, 0, 0, 0, 0, 0, 8, 0, 69, 0];
 /// So many bytes of it are kept by the filter of a text.
 fn keeps(rt: &(impl Abort + AllocGlobal), text: &str, snap: u32, wire: u32, want: usize) {
     let filter = filter(rt.alloc(), text, snap).expect(rt, "a filter");
-    assert_eq!(rt; kept(&filter, &FRAME, wire), want);
+    same(rt, kept(&filter, &FRAME, wire), want);
 }
 
 /// A text is no filter, for this.
 fn is_none(rt: &(impl Abort + AllocGlobal), text: &str, snap: u32, why: NoFilter) {
-    assert_eq!(rt; filter(rt.alloc(), text, snap).err(), Some(why));
+    same(rt, filter(rt.alloc(), text, snap).err(), Some(why));
 }
 
 #[test]

@@ -3,6 +3,7 @@
 ghost use Rattle.std.specs.Prelude.{◌<◌};
 
 use crate::random_relations::random_relation;
+use crate::same::same;
 use bpfvm::{Program, run};
 use filtergen::{MAX_WEIGHT, Refusal, Verdict, compile, evaluate, weight};
 use filterlang::{Direction, EthernetAddress, Expr, Network, Plain, Primitive, Transport};
@@ -116,7 +117,7 @@ pub(crate) fn program_of(rt: &impl Abort, expr: &Expr) -> Option<Program> {
     match compile(expr, 96) {
         Ok(program) => Some(program),
         Err(refusal) => {
-            assert_eq!(rt; refusal, Refusal::TooLong);
+            same(rt, refusal, Refusal::TooLong);
             assert!(rt; weight(expr) > MAX_WEIGHT);
             None
         }

@@ -1,5 +1,6 @@
 //! The caller that the page of `explaining` shows, crates/explaining/README.md.
 
+use crate::same::same;
 use bpfvm::NoMemory;
 use explaining::{Cause, explain};
 use filterlang::{Expr, parse};
@@ -32,5 +33,5 @@ fn wanted_by(rt: &(impl Abort + AllocGlobal), expr: Expr) -> Option<usize> {
 #[test]
 fn the_byte_that_was_wanted_is_told(rt: HostRuntime) {
     let expr = parse(rt.alloc(), "arp or not tcp").expect(&rt, "an expression");
-    assert_eq!(rt; wanted_by(&rt, expr), Some(23));
+    same(&rt, wanted_by(&rt, expr), Some(23));
 }

@@ -1,6 +1,7 @@
 //! Relations over numbers at their bounds, by the program and by the evaluator. The trees are put together by hand.
 
-use bpfvm::run;
+use crate::comparisons::compare;
+use crate::same::same;
 use filtergen::{Refusal, Verdict, compile, evaluate, need, weight};
 use filterlang::{Comparison, Expr, Layer, Operator, Size, Value};
 use std::process::Abort;
@@ -22,11 +23,9 @@ fn equal(left: Value, right: u32) -> Expr {
 
 // What an expression answers, by its program too.
 fn answer(rt: &impl Abort, expr: &Expr, packet: &[u8], wire: u32) -> Verdict {
-    let verdict = evaluate(expr, packet, wire);
-    let expected = if verdict == Verdict::Yes { 96 } else { 0 };
     let program = compile(expr, 96).expect(rt, "the expression compiles");
-    assert_eq!(rt; run(&program, packet, wire), expected, "{expr:?}");
-    verdict
+    compare(rt, expr, &program, packet, wire);
+    evaluate(expr, packet, wire)
 }
 
 // A tree that no text reads as: len / 0 = 1, len % 0 = 1
@@ -40,7 +39,7 @@ fn negated(rt: &(impl Abort + AllocGlobal), expr: Expr) -> Expr {
 
 // That an expression aborts on no byte.
 fn aborts(rt: &impl Abort, expr: Expr) {
-    assert_eq!(rt; answer(rt, &expr, &[], 38), Verdict::Abort);
+    same(rt, answer(rt, &expr, &[], 38), Verdict::Abort);
 }
 
 #[test]
@@ -208,8 +207,8 @@ fn accessors(rt: &(impl Abort + AllocGlobal), times: u32) -> Value {
 
 /// An expression needs and weighs so much, and is too long.
 fn is_too_long(rt: &impl Abort, expr: Expr, want: (u64, u64)) {
-    assert_eq!(rt; (need(&expr), weight(&expr)), want);
-    assert_eq!(rt; compile(&expr, 96).err(), Some(Refusal::TooLong));
+    same(rt, (need(&expr), weight(&expr)), want);
+    same(rt, compile(&expr, 96).err(), Some(Refusal::TooLong));
 }
 
 #[test]

@@ -1,5 +1,6 @@
 //! What expressions weigh and need, and what `compile` looks at first: what no command shows.
 
+use crate::same::same;
 use bpfvm::run;
 use filtergen::{
     ExpressionFault, MAX_NEED, MAX_SNAP, MAX_WEIGHT, Refusal, Verdict, compile, compile_text,
@@ -61,7 +62,7 @@ static NESTED_WEIGHTS: [(Nested, u64); 2] = [(("", 16, " = 17"), 170), (HEAVY, 6
 
 /// A tree weighs so much.
 fn weighs(rt: &impl Abort, tree: Expr, want: u64) {
-    assert_eq!(rt; weight(&tree), want);
+    same(rt, weight(&tree), want);
 }
 
 #[test]
@@ -96,7 +97,7 @@ const DIFFERENCES: &str =
 
 /// A tree needs so many words.
 fn needs(rt: &impl Abort, tree: Expr, want: u64) {
-    assert_eq!(rt; need(&tree), want);
+    same(rt, need(&tree), want);
 }
 
 #[test]
@@ -110,7 +111,11 @@ fn values_need_as_worked_out(rt: HostRuntime) {
 
 /// A tree is refused at a snapshot length, for this.
 fn is_refused_at(rt: &impl Abort, tree: &Expr, snap: u32) {
-    assert_eq!(rt; compile(tree, snap).err(), Some(Refusal::BadSnap), "{snap}");
+    same(
+        rt,
+        (snap, compile(tree, snap).err()),
+        (snap, Some(Refusal::BadSnap)),
+    );
 }
 
 /// A tree is refused for its snapshot length, whatever else is wrong.
@@ -126,13 +131,13 @@ fn the_snapshot_length_is_looked_at_first(rt: HostRuntime) {
     is_refused(&rt, nested(&rt, DEEP));
     is_refused(&rt, nested(&rt, HEAVY));
     let fault = compile_text(rt.alloc(), "ip", 0).err();
-    assert_eq!(rt; fault, Some(ExpressionFault::Tree(Refusal::BadSnap)));
+    same(&rt, fault, Some(ExpressionFault::Tree(Refusal::BadSnap)));
 }
 
 #[test]
 fn a_bad_snapshot_length_is_told_by_its_name(rt: HostRuntime) {
     let told = format!(in rt.alloc(); "{}", Refusal::BadSnap).expect(&rt, "there is memory");
-    assert_eq!(rt; told.as_str(), "BadSnap");
+    same(&rt, told.as_str(), "BadSnap");
 }
 
 /// The first 14 bytes of a frame of IPv4, and of one of ARP.
@@ -143,7 +148,7 @@ const ARP: [u8; 14] = [0, 0, 0, 0, 0, 0, 0, 0, 0, 0, 0, 0, 8, 6];
 /// A program of this snapshot length keeps so much.
 fn keeps(rt: &(impl Abort + AllocGlobal), snap: u32) {
     let program = compile_text(rt.alloc(), "ip", snap).expect(rt, "it compiles");
-    assert_eq!(rt; run(&program, &IP, 38), snap);
+    same(rt, run(&program, &IP, 38), snap);
 }
 
 #[test]
@@ -154,7 +159,7 @@ fn the_least_and_the_greatest_snapshot_length_are_answered(rt: HostRuntime) {
 
 /// A tree answers this to a packet.
 fn answers(rt: &impl Abort, tree: Expr, packet: &[u8], wire: u32, want: Verdict) {
-    assert_eq!(rt; evaluate(&tree, packet, wire), want);
+    same(rt, evaluate(&tree, packet, wire), want);
 }
 
 #[test]
