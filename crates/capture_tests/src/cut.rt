@@ -1,16 +1,17 @@
 //! Captures that are cut over devices that give or take little at a time, and break.
 
+use crate::same::{same, same_in};
+use crate::split::text_of;
 use bpfvm::Program;
 use cutting::cut::{CutEnd, End, Tally, cut};
 use cutting::filter::filter;
 use cutting::tell::tell;
-use fixtures::captures::{ARP_RECORD, HEADER, IP_RECORD, concat};
+use fixtures::captures::{ARP_RECORD, HEADER, IP_RECORD};
 use fixtures::devices::{BreakingWriter, PiecesReader};
 use fixtures::frames::capture;
 use savefile::{Counted, Fault, Order, Unit};
 use std::alloc::Global;
 use std::process::Abort;
-use std::test::Fail;
 
 const ALL: &[u8] = b"1\n6 0 0 262144\n";
 
@@ -29,60 +30,43 @@ struct Seen {
     status: u8,
 }
 
-fn seen_of<R>(alloc: Global, end: CutEnd<R, Counted<Vec<u8>>>) -> (R, Seen) {
+fn seen_of<R: Drop>(alloc: Global, end: CutEnd<R, Counted<Vec<u8>>>) -> Seen {
     let mut err = Vec::new(alloc);
     let status = tell(&end, "in.pcap", "out.pcap", &mut err);
-    let CutEnd {
-        source,
-        sink,
-        sent,
-        tally: _,
-        end: _,
-    } = end;
-    let written = sink.into_inner();
-    (
-        source,
-        Seen {
-            written,
-            sent,
-            err,
-            status,
-        },
-    )
+    Seen {
+        written: end.sink.into_inner(),
+        sent: end.sent,
+        err,
+        status,
+    }
 }
 
 /// What was written, that its length was told, and the fault's line and status.
 fn check(rt: &impl Abort, what: &str, seen: &Seen, written: &[u8], err: &str, status: u8) {
-    assert_eq!(rt; seen.written.as_slice(), written, "written: {what}");
-    assert_eq!(rt; seen.sent, written.len() as u64, "sent: {what}");
-    assert_eq!(rt;
-        seen.err.as_slice(),
-        err.as_bytes(),
-        "standard error: {what}"
-    );
-    assert_eq!(rt; seen.status, status, "status: {what}");
+    same_in(rt, what, seen.written.as_slice(), written);
+    same_in(rt, what, seen.err.as_slice(), err.as_bytes());
+    let wanted = (written.len() as u64, status);
+    same_in(rt, what, (seen.sent, seen.status), wanted);
+}
+
+/// An end that no capture shows is told so.
+fn is_told_of(rt: &(impl Abort + AllocGlobal), end: End, line: &str, status: u8) {
+    let end = CutEnd {
+        source: (),
+        sink: (),
+        sent: 0,
+        tally: Tally::NONE,
+        end,
+    };
+    is_told(rt, &end, line, status);
 }
 
 #[test]
-fn faults_that_no_capture_shows_are_told(rt: HostRuntime) -> Result<(), Fail> {
-    let cases = [
-        (End::Input(Fault::NoMemory), "bpftap: NoMemory\n", 1),
-        (End::Output(Fault::CountFull), "bpftap: CountFull\n", 1),
-        (End::Output(Fault::Device), "bpftap: Device out.pcap\n", 3),
-    ];
-    for (end, line, status) in cases {
-        let end = CutEnd {
-            source: (),
-            sink: (),
-            sent: 0,
-            tally: Tally::NONE,
-            end,
-        };
-        let mut err: Vec<u8> = Vec::new(rt.alloc());
-        assert_eq!(rt; tell(&end, "in.pcap", "out.pcap", &mut err), status);
-        assert_eq!(rt; err.as_slice(), line.as_bytes());
-    }
-    Ok(())
+fn faults_that_no_capture_shows_are_told(rt: HostRuntime) {
+    let device = End::Output(Fault::Device);
+    is_told_of(&rt, End::Input(Fault::NoMemory), "bpftap: NoMemory\n", 1);
+    is_told_of(&rt, End::Output(Fault::CountFull), "bpftap: CountFull\n", 1);
+    is_told_of(&rt, device, "bpftap: Device out.pcap\n", 3);
 }
 
 /// A cut of a source that gives so many bytes a call, and breaks where it has none left.
@@ -104,7 +88,7 @@ fn cut_pieces<'a>(
 }
 
 /// How many bytes a source gives a call, and in all before it breaks, and how many are written.
-const BREAKS: [(usize, usize, usize); 10] = [
+static BREAKS: [(usize, usize, usize); 10] = [
     (1, 0, 0),
     (7, 10, 0),
     (1000, 23, 0),
@@ -117,48 +101,66 @@ const BREAKS: [(usize, usize, usize); 10] = [
     (1000, 84, 84),
 ];
 
+/// The first bytes, so many.
+fn front<'a>(rt: &impl Abort, text: &'a [u8], n: usize) -> &'a [u8] {
+    text.get(..n).expect(rt, "there are so many bytes")
+}
+
 /// The packets before the break are written, and nothing where the header was not read.
 fn breaks_behind(rt: &(impl Abort + AllocGlobal), text: &[u8], row: (usize, usize, usize)) {
     let (piece, given, written) = row;
-    let end = cut_pieces(rt, text.get(..given).unwrap_or(b""), piece, true);
-    assert_eq!(rt; end.end, End::Input(Fault::Device));
-    let (source, seen) = seen_of(rt.alloc(), end);
-    assert_eq!(rt; source.failures, 1);
-    check(
-        rt,
-        "a broken source",
-        &seen,
-        text.get(..written).unwrap_or(b""),
-        "bpftap: Device in.pcap\n",
-        3,
-    );
+    let end = cut_pieces(rt, front(rt, text, given), piece, true);
+    let ended = (end.end, end.source.failures);
+    same(rt, ended, (End::Input(Fault::Device), 1));
+    let seen = seen_of(rt.alloc(), end);
+    let written = front(rt, text, written);
+    let line = "bpftap: Device in.pcap\n";
+    check(rt, "a broken source", &seen, written, line, 3);
 }
 
 #[test]
-fn a_broken_source_is_told_behind_its_packets(rt: HostRuntime) -> Result<(), Fail> {
-    let text = concat(rt.alloc(), &[HEADER, ARP_RECORD, IP_RECORD])?;
-    assert_eq!(rt; text.len(), 84);
-    for row in BREAKS {
-        breaks_behind(&rt, text.as_slice(), row);
+fn a_broken_source_is_told_behind_its_packets(rt: HostRuntime) {
+    let text = text_of(&rt, &[HEADER, ARP_RECORD, IP_RECORD]);
+    same(&rt, text.len(), 84);
+    for row in BREAKS.iter() {
+        breaks_behind(&rt, text.as_slice(), *row);
     }
-    Ok(())
 }
 
 /// A text that comes in pieces of so many bytes is written whole.
 fn is_copied(rt: &(impl Abort + AllocGlobal), text: &[u8], piece: usize) {
     let end = cut_pieces(rt, text, piece, false);
-    assert_eq!(rt; end.end, End::Clean);
-    let (_source, seen) = seen_of(rt.alloc(), end);
+    same(rt, end.end, End::Clean);
+    let seen = seen_of(rt.alloc(), end);
     check(rt, "real frames", &seen, text, "", 0);
 }
 
 #[test]
-fn real_frames_are_copied_in_pieces_of_any_size(rt: HostRuntime) -> Result<(), Fail> {
-    let text = capture(rt.alloc())?;
+fn real_frames_are_copied_in_pieces_of_any_size(rt: HostRuntime) {
+    let text = capture(rt.alloc()).expect(&rt, "memory");
     for piece in [1, 2, 17, 61, 62, 63, text.len()] {
         is_copied(&rt, text.as_slice(), piece);
     }
-    Ok(())
+}
+
+/// A cut into a sink that broke, or had room for all, is told so.
+fn ends_so(
+    rt: &(impl Abort + AllocGlobal),
+    end: &CutEnd<Counted<&[u8]>, Counted<BreakingWriter>>,
+    breaks: bool,
+) {
+    let (failures, wanted, line, status) = if breaks {
+        (
+            1,
+            End::Output(Fault::Device),
+            "bpftap: Device out.pcap\n",
+            3,
+        )
+    } else {
+        (0, End::Clean, "", 0)
+    };
+    same(rt, (end.sink.failures, end.end), (failures, wanted));
+    is_told(rt, end, line, status);
 }
 
 /// A sink of so much room has a beginning of what is wanted, and breaks once, unless it has room for all.
@@ -166,26 +168,16 @@ fn has_beginning_at(rt: &(impl Abort + AllocGlobal), text: &[u8], wanted: &[u8],
     let program = program_of(rt, ETHERTYPE);
     let end = cut_into(rt.alloc(), text, &program, room);
     has_beginning(rt, &end, wanted, room);
-    if room < wanted.len() {
-        assert_eq!(rt;
-            (end.sink.failures, end.end),
-            (1, End::Output(Fault::Device))
-        );
-        is_told(rt, &end, "bpftap: Device out.pcap\n", 3);
-    } else {
-        assert_eq!(rt; (end.sink.failures, end.end), (0, End::Clean));
-        is_told(rt, &end, "", 0);
-    }
+    ends_so(rt, &end, room < wanted.len());
 }
 
 #[test]
-fn a_broken_sink_has_a_beginning(rt: HostRuntime) -> Result<(), Fail> {
-    let text = concat(rt.alloc(), &[HEADER, ARP_RECORD, IP_RECORD])?;
-    let wanted = concat(rt.alloc(), &[HEADER, IP_RECORD])?;
+fn a_broken_sink_has_a_beginning(rt: HostRuntime) {
+    let text = text_of(&rt, &[HEADER, ARP_RECORD, IP_RECORD]);
+    let wanted = text_of(&rt, &[HEADER, IP_RECORD]);
     for room in 0..wanted.len() + 1 {
         has_beginning_at(&rt, text.as_slice(), wanted.as_slice(), room);
     }
-    Ok(())
 }
 
 /// A cut of a text into a sink of so much room.
@@ -209,7 +201,7 @@ fn has_beginning<R>(
     room: usize,
 ) {
     let taken = end.sink.inner.taken.as_slice();
-    assert_eq!(rt; (end.sent, taken.len()), (room as u64, room));
+    same(rt, (end.sent, taken.len()), (room as u64, room));
     assert!(rt; wanted.starts_with(taken), "at {room}");
 }
 
@@ -217,6 +209,5 @@ fn has_beginning<R>(
 fn is_told<R, W>(rt: &(impl Abort + AllocGlobal), end: &CutEnd<R, W>, line: &str, wanted: u8) {
     let mut err: Vec<u8> = Vec::new(rt.alloc());
     let status = tell(end, "in.pcap", "out.pcap", &mut err);
-    assert_eq!(rt; err.as_slice(), line.as_bytes());
-    assert_eq!(rt; status, wanted);
+    same(rt, (err.as_slice(), status), (line.as_bytes(), wanted));
 }

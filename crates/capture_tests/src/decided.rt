@@ -1,5 +1,6 @@
 //! The caller of the page of `deciding`.
 
+use crate::same::same;
 use deciding::put_decision;
 use filterlang::{Fault, parse};
 use std::alloc::Global;
@@ -17,5 +18,5 @@ pub fn told(alloc: Global, expression: &str, frame: &[u8]) -> Result<String, Fau
 fn what_decides_stands_behind_the_answer(rt: HostRuntime) {
     let alloc = rt.alloc();
     let told = told(alloc, "arp and not (ether[20] = 1)", &[0; 14]).expect(&rt, "an expression");
-    assert_eq!(rt; told.as_str(), "No arp");
+    same(&rt, told.as_str(), "No arp");
 }

@@ -1,5 +1,6 @@
 //! The caller that the page of `verdicts` shows, crates/verdicts/README.md.
 
+use crate::same::same;
 use filtergen::ExpressionFault;
 use std::alloc::Global;
 use verdicts::each::{Counts, explain_each};
@@ -30,14 +31,11 @@ place 1 time 2.000000000 len 14 captured 14 Abort not tcp, byte 23 is not captur
 fn a_cut_frame_aborts(rt: HostRuntime) {
     let mut told: Vec<u8> = Vec::new(rt.alloc());
     let counts = explained(rt.alloc(), CAPTURE, "not tcp", &mut told).expect(&rt, "an expression");
-    assert_eq!(rt; told.as_slice(), TOLD.as_bytes());
-    assert_eq!(rt;
-        counts,
-        Counts {
-            packets: 2,
-            yes: 1,
-            no: 0,
-            abort: 1,
-        }
-    );
+    let wanted = Counts {
+        packets: 2,
+        yes: 1,
+        no: 0,
+        abort: 1,
+    };
+    same(&rt, (told.as_slice(), counts), (TOLD.as_bytes(), wanted));
 }

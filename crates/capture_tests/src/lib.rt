@@ -15,6 +15,8 @@ mod late;
 #[cfg(test)]
 mod paths;
 #[cfg(test)]
+mod same;
+#[cfg(test)]
 mod split;
 #[cfg(test)]
 mod system;

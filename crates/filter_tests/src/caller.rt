@@ -1,9 +1,11 @@
 //! The caller that the page of `filtergen` shows, crates/filtergen/README.md.
 
+use crate::same::same;
 use bpfvm::{Program, run};
 use filtergen::{Refusal, compile};
 use filterlang::parse;
 use std::alloc::Global;
+use std::process::Abort;
 use thiserror::Error;
 
 /// Why a text is no filter.
@@ -31,19 +33,26 @@ pub fn kept(filter: &Program, captured: &[u8], wire: u32) -> usize {
     captured.len().min(run(filter, captured, wire) as usize)
 }
 
+/// The first 16 bytes of a frame of IPv4.
+const FRAME: [u8; 16] = [0, 0, 0, 0, 0, 0, 0, 0, 0, 0, 0, 0, 8, 0, 69, 0];
+
+/// So many bytes of it are kept by the filter of a text.
+fn keeps(rt: &(impl Abort + AllocGlobal), text: &str, snap: u32, wire: u32, want: usize) {
+    let filter = filter(rt.alloc(), text, snap).expect(rt, "a filter");
+    same(rt, kept(&filter, &FRAME, wire), want);
+}
+
+/// A text is no filter, for this.
+fn is_none(rt: &(impl Abort + AllocGlobal), text: &str, snap: u32, why: NoFilter) {
+    same(rt, filter(rt.alloc(), text, snap).err(), Some(why));
+}
+
 #[test]
 fn a_listener_keeps_what_its_filter_says(rt: HostRuntime) {
-    let ip = filter(rt.alloc(), "ip and less 60", 20).expect(&rt, "a filter");
-    let frame = [0, 0, 0, 0, 0, 0, 0, 0, 0, 0, 0, 0, 8, 0, 69, 0];
-    assert_eq!(rt; kept(&ip, &frame, 60), 16);
-    assert_eq!(rt; kept(&ip, &frame, 61), 0);
-    let all = filter(rt.alloc(), "", 10).expect(&rt, "a filter");
-    assert_eq!(rt; kept(&all, &frame, 61), 10);
-    let fault = filter(rt.alloc(), "tcp and 80", 20).err();
-    assert_eq!(rt;
-        fault,
-        Some(NoFilter::Text(filterlang::Fault::NoQualifier(8)))
-    );
-    let refusal = filter(rt.alloc(), "tcp", 0).err();
-    assert_eq!(rt; refusal, Some(NoFilter::Tree(Refusal::BadSnap)));
+    keeps(&rt, "ip and less 60", 20, 60, 16);
+    keeps(&rt, "ip and less 60", 20, 61, 0);
+    keeps(&rt, "", 10, 61, 10);
+    let fault = NoFilter::Text(filterlang::Fault::NoQualifier(8));
+    is_none(&rt, "tcp and 80", 20, fault);
+    is_none(&rt, "tcp", 0, NoFilter::Tree(Refusal::BadSnap));
 }

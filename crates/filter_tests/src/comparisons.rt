@@ -3,15 +3,15 @@
 ghost use Rattle.std.specs.Prelude.{◌<◌};
 
 use crate::random_relations::random_relation;
+use crate::same::same;
 use bpfvm::{Program, run};
 use filtergen::{MAX_WEIGHT, Refusal, Verdict, compile, evaluate, weight};
 use filterlang::{Direction, EthernetAddress, Expr, Network, Plain, Primitive, Transport};
 use fixtures::captures::bytes_of;
-use std::alloc::{AllocError, Global};
 use std::process::Abort;
 
 /// Frames that come to each branch of each primitive, as hexadecimal digits.
-const FRAMES: [&str; 12] = [
+static FRAMES: [&str; 12] = [
     // UDP, 10.0.0.1 port 53 to 10.0.0.2 port 53
     "ffffffffffff 000102030405 0800 4500001800000000 4011 0000 0a000001 0a000002 00350035",
     // TCP, 10.0.0.3 port 80 to 10.0.0.1 port 443
@@ -37,28 +37,28 @@ const FRAMES: [&str; 12] = [
 
 pub(crate) fn frames(rt: &(impl Abort + AllocGlobal)) -> Vec<Vec<u8>> {
     let mut frames = Vec::new(rt.alloc());
-    for hex in FRAMES {
+    for hex in FRAMES.iter() {
         let frame = bytes_of(rt.alloc(), hex).expect(rt, "there is memory");
         frames.push(frame).expect(rt, "there is memory");
     }
     frames
 }
 
-const DIRECTIONS: [Direction; 4] = [
+static DIRECTIONS: [Direction; 4] = [
     Direction::Src,
     Direction::Dst,
     Direction::SrcOrDst,
     Direction::SrcAndDst,
 ];
 
-const NETWORKS: [Option<Network>; 4] = [
+static NETWORKS: [Option<Network>; 4] = [
     None,
     Some(Network::Ip),
     Some(Network::Arp),
     Some(Network::Rarp),
 ];
 
-const TRANSPORTS: [Option<Transport>; 4] = [
+static TRANSPORTS: [Option<Transport>; 4] = [
     None,
     Some(Transport::Tcp),
     Some(Transport::Udp),
@@ -66,7 +66,7 @@ const TRANSPORTS: [Option<Transport>; 4] = [
 ];
 
 /// Addresses with their masks. Of the last two one has bits outside its mask, as no text has, and one has none at all.
-const NETS: [(u32, u32); 6] = [
+static NETS: [(u32, u32); 6] = [
     (0x0a00_0001, 0xffff_ffff),
     (0x0a00_0002, 0xffff_ffff),
     (0x0a00_0000, 0xff00_0000),
@@ -76,15 +76,15 @@ const NETS: [(u32, u32); 6] = [
 ];
 
 /// Ranges of ports. The last one reads as no text.
-const RANGES: [(u16, u16); 5] = [(53, 53), (80, 443), (0, 65_535), (443, 443), (80, 53)];
+static RANGES: [(u16, u16); 5] = [(53, 53), (80, 443), (0, 65_535), (443, 443), (80, 53)];
 
-const ADDRESSES: [[u8; 6]; 3] = [
+static ADDRESSES: [[u8; 6]; 3] = [
     [0, 1, 2, 3, 4, 5],
     [6, 7, 8, 9, 10, 11],
     [255, 255, 255, 255, 255, 255],
 ];
 
-const PLAIN: [Plain; 7] = [
+static PLAIN: [Plain; 7] = [
     Plain::Ip,
     Plain::Arp,
     Plain::Rarp,
@@ -95,7 +95,7 @@ const PLAIN: [Plain; 7] = [
 ];
 
 /// Primitives without a direction.
-const UNDIRECTED: [Primitive; 14] = [
+static UNDIRECTED: [Primitive; 14] = [
     Primitive::IpProto(0),
     Primitive::IpProto(17),
     Primitive::IpProto(255),
@@ -117,7 +117,7 @@ pub(crate) fn program_of(rt: &impl Abort, expr: &Expr) -> Option<Program> {
     match compile(expr, 96) {
         Ok(program) => Some(program),
         Err(refusal) => {
-            assert_eq!(rt; refusal, Refusal::TooLong);
+            same(rt, refusal, Refusal::TooLong);
             assert!(rt; weight(expr) > MAX_WEIGHT);
             None
         }
@@ -162,33 +162,58 @@ fn compare_everywhere(rt: &impl Abort, frames: &[Vec<u8>], primitive: Primitive)
 #[test]
 fn every_protocol_on_frames_cut_at_each_byte(rt: HostRuntime) {
     let frames = frames(&rt);
-    for word in PLAIN {
-        compare_everywhere(&rt, frames.as_slice(), Primitive::Protocol(word));
+    for word in PLAIN.iter() {
+        compare_everywhere(&rt, frames.as_slice(), Primitive::Protocol(*word));
     }
-    for primitive in UNDIRECTED {
-        compare_everywhere(&rt, frames.as_slice(), primitive);
+    for primitive in UNDIRECTED.iter() {
+        compare_everywhere(&rt, frames.as_slice(), *primitive);
+    }
+}
+
+// Every network in a direction.
+fn compare_networks(rt: &impl Abort, frames: &[Vec<u8>], direction: Direction) {
+    for network in NETWORKS.iter() {
+        for (address, mask) in NETS.iter() {
+            let primitive = Primitive::Net {
+                network: *network,
+                direction,
+                address: *address,
+                mask: *mask,
+            };
+            compare_everywhere(rt, frames, primitive);
+        }
+    }
+}
+
+// Every address of Ethernet in a direction.
+fn compare_hosts(rt: &impl Abort, frames: &[Vec<u8>], direction: Direction) {
+    for octets in ADDRESSES.iter() {
+        let address = EthernetAddress { octets: *octets };
+        let primitive = Primitive::EtherHost { direction, address };
+        compare_everywhere(rt, frames, primitive);
     }
 }
 
 #[test]
 fn every_address_on_frames_cut_at_each_byte(rt: HostRuntime) {
     let frames = frames(&rt);
-    for direction in DIRECTIONS {
-        for network in NETWORKS {
-            for (address, mask) in NETS {
-                let primitive = Primitive::Net {
-                    network,
-                    direction,
-                    address,
-                    mask,
-                };
-                compare_everywhere(&rt, frames.as_slice(), primitive);
-            }
-        }
-        for octets in ADDRESSES {
-            let address = EthernetAddress { octets };
-            let primitive = Primitive::EtherHost { direction, address };
-            compare_everywhere(&rt, frames.as_slice(), primitive);
+    for direction in DIRECTIONS.iter() {
+        compare_networks(&rt, frames.as_slice(), *direction);
+        compare_hosts(&rt, frames.as_slice(), *direction);
+    }
+}
+
+// Every range of ports in a direction.
+fn compare_ports(rt: &impl Abort, frames: &[Vec<u8>], direction: Direction) {
+    for transport in TRANSPORTS.iter() {
+        for (low, high) in RANGES.iter() {
+            let primitive = Primitive::Ports {
+                transport: *transport,
+                direction,
+                low: *low,
+                high: *high,
+            };
+            compare_everywhere(rt, frames, primitive);
         }
     }
 }
@@ -196,18 +221,8 @@ fn every_address_on_frames_cut_at_each_byte(rt: HostRuntime) {
 #[test]
 fn every_port_on_frames_cut_at_each_byte(rt: HostRuntime) {
     let frames = frames(&rt);
-    for direction in DIRECTIONS {
-        for transport in TRANSPORTS {
-            for (low, high) in RANGES {
-                let primitive = Primitive::Ports {
-                    transport,
-                    direction,
-                    low,
-                    high,
-                };
-                compare_everywhere(&rt, frames.as_slice(), primitive);
-            }
-        }
+    for direction in DIRECTIONS.iter() {
+        compare_ports(&rt, frames.as_slice(), *direction);
     }
 }
 
@@ -266,64 +281,79 @@ fn random_primitive(random: &mut Random) -> Primitive {
     }
 }
 
+fn boxed(rt: &(impl Abort + AllocGlobal), expr: Expr) -> Box<Expr> {
+    Box::new(rt.alloc(), expr).expect(rt, "there is memory")
+}
+
 // Two trees joined by `and` or by `or`, in either order.
-fn joined(alloc: Global, random: &mut Random, one: Expr, other: Expr) -> Result<Expr, AllocError> {
+fn joined(rt: &(impl Abort + AllocGlobal), random: &mut Random, one: Expr, other: Expr) -> Expr {
+    let (one, other) = (boxed(rt, one), boxed(rt, other));
     let (left, right) = if random.below(2) == 0 {
         (one, other)
     } else {
         (other, one)
     };
-    let (left, right) = (Box::new(alloc, left)?, Box::new(alloc, right)?);
     if random.below(2) == 0 {
-        Ok(Expr::And(left, right))
+        Expr::And(left, right)
     } else {
-        Ok(Expr::Or(left, right))
+        Expr::Or(left, right)
+    }
+}
+
+// A tree, negated now and then.
+fn negated(rt: &(impl Abort + AllocGlobal), random: &mut Random, tree: Expr) -> Expr {
+    if random.below(4) == 0 {
+        Expr::Not(boxed(rt, tree))
+    } else {
+        tree
     }
 }
 
 // A tree, and so many others joined to it, negated or not.
 fn joined_trees(
-    alloc: Global,
+    rt: &(impl Abort + AllocGlobal),
     random: &mut Random,
     mut tree: Expr,
     others: Vec<Expr>,
-) -> Result<Expr, AllocError> {
+) -> Expr {
     for other in others {
-        tree = joined(alloc, random, tree, other)?;
-        if random.below(4) == 0 {
-            tree = Expr::Not(Box::new(alloc, tree)?);
-        }
+        let both = joined(rt, random, tree, other);
+        tree = negated(rt, random, both);
     }
-    Ok(tree)
+    tree
 }
 
 // A primitive or a relation, or now and then the empty expression.
-fn random_leaf(alloc: Global, random: &mut Random) -> Result<Expr, AllocError> {
+fn random_leaf(rt: &(impl Abort + AllocGlobal), random: &mut Random) -> Expr {
     match random.below(12) {
-        0 => Ok(Expr::Everything),
-        1 | 2 | 3 => random_relation(alloc, random),
-        _ => Ok(Expr::Test(random_primitive(random))),
+        0 => Expr::Everything,
+        1 | 2 | 3 => random_relation(rt, random),
+        _ => Expr::Test(random_primitive(random)),
     }
 }
 
 // A tree of a few primitives.
-fn random_branch(alloc: Global, random: &mut Random) -> Result<Expr, AllocError> {
-    let mut leaves = Vec::new(alloc);
+fn random_branch(rt: &(impl Abort + AllocGlobal), random: &mut Random) -> Expr {
+    let mut leaves = Vec::new(rt.alloc());
     for _ in 0..random.below(4) {
-        leaves.push(random_leaf(alloc, random)?)?;
+        leaves
+            .push(random_leaf(rt, random))
+            .expect(rt, "there is memory");
     }
-    let first = random_leaf(alloc, random)?;
-    joined_trees(alloc, random, first, leaves)
+    let first = random_leaf(rt, random);
+    joined_trees(rt, random, first, leaves)
 }
 
 // A tree of up to so many such trees.
-fn random_tree(alloc: Global, random: &mut Random, most: u32) -> Result<Expr, AllocError> {
-    let mut branches = Vec::new(alloc);
+fn random_tree(rt: &(impl Abort + AllocGlobal), random: &mut Random, most: u32) -> Expr {
+    let mut branches = Vec::new(rt.alloc());
     for _ in 1..most {
-        branches.push(random_branch(alloc, random)?)?;
+        branches
+            .push(random_branch(rt, random))
+            .expect(rt, "there is memory");
     }
-    let first = random_branch(alloc, random)?;
-    joined_trees(alloc, random, first, branches)
+    let first = random_branch(rt, random);
+    joined_trees(rt, random, first, branches)
 }
 
 // A tree and its program on every frame, cut anywhere and whole; how many whole frames it accepts.
@@ -348,16 +378,12 @@ fn accepted_by(
     accepted
 }
 
-// A random tree compared, and how many frames it accepts; nothing where it is too long.
-fn compared(
-    rt: &(impl Abort + AllocGlobal),
-    random: &mut Random,
-    most: u32,
-    frames: &[Vec<u8>],
-) -> Option<u32> {
-    let expr = random_tree(rt.alloc(), random, most).expect(rt, "there is memory");
-    let program = program_of(rt, &expr)?;
-    Some(accepted_by(rt, random, &expr, &program, frames))
+// A tree compared, and how many frames it accepts; nothing where it is too long.
+fn compared(rt: &impl Abort, random: &mut Random, expr: Expr, frames: &[Vec<u8>]) -> Option<u32> {
+    match program_of(rt, &expr) {
+        Some(program) => Some(accepted_by(rt, random, &expr, &program, frames)),
+        None => None,
+    }
 }
 
 #[test]
@@ -367,7 +393,8 @@ fn two_thousand_random_trees(rt: HostRuntime) {
     let mut compiled = 0u32;
     let mut accepted = 0u32;
     for number in 0..2000u32 {
-        if let Some(more) = compared(&rt, &mut random, 1 + number % 12, frames.as_slice()) {
+        let expr = random_tree(&rt, &mut random, 1 + number % 12);
+        if let Some(more) = compared(&rt, &mut random, expr, frames.as_slice()) {
             compiled = compiled.saturating_add(1);
             accepted = accepted.saturating_add(more);
         }

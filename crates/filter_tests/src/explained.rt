@@ -1,9 +1,11 @@
 //! The caller that the page of `explaining` shows, crates/explaining/README.md.
 
+use crate::same::same;
 use bpfvm::NoMemory;
 use explaining::{Cause, explain};
 use filterlang::{Expr, parse};
 use std::alloc::Global;
+use std::process::Abort;
 
 /// The first byte of a packet that an expression wants and that was not captured, where it aborts for that.
 pub fn wanted(
@@ -22,10 +24,14 @@ pub fn wanted(
     }
 }
 
+/// The byte of a frame of IPv4, of which 14 were captured, that an expression wants.
+fn wanted_by(rt: &(impl Abort + AllocGlobal), expr: Expr) -> Option<usize> {
+    let frame = [0, 0, 0, 0, 0, 0, 0, 0, 0, 0, 0, 0, 8, 0];
+    wanted(rt.alloc(), &expr, &frame, 60).expect(rt, "there is memory")
+}
+
 #[test]
 fn the_byte_that_was_wanted_is_told(rt: HostRuntime) {
     let expr = parse(rt.alloc(), "arp or not tcp").expect(&rt, "an expression");
-    let frame = [0, 0, 0, 0, 0, 0, 0, 0, 0, 0, 0, 0, 8, 0];
-    let place = wanted(rt.alloc(), &expr, &frame, 60).expect(&rt, "there is memory");
-    assert_eq!(rt; place, Some(23));
+    same(&rt, wanted_by(&rt, expr), Some(23));
 }

@@ -15,4 +15,6 @@ mod random_relations;
 #[cfg(test)]
 mod relations;
 #[cfg(test)]
+mod same;
+#[cfg(test)]
 mod weights;

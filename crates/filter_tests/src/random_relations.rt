@@ -1,12 +1,12 @@
 //! Random relations, by their programs and by the evaluator, on frames that are cut at each byte.
 
 use crate::comparisons::{Random, compare_cut, frames, program_of, wire_of};
+use bpfvm::Program;
 use filtergen::{Verdict, evaluate};
 use filterlang::{Comparison, Expr, Layer, Operator, Size, Value};
-use std::alloc::{AllocError, Global};
 use std::process::Abort;
 
-const LAYERS: [Layer; 7] = [
+static LAYERS: [Layer; 7] = [
     Layer::Ether,
     Layer::Ip,
     Layer::Arp,
@@ -16,9 +16,9 @@ const LAYERS: [Layer; 7] = [
     Layer::Icmp,
 ];
 
-const SIZES: [Size; 3] = [Size::One, Size::Two, Size::Four];
+static SIZES: [Size; 3] = [Size::One, Size::Two, Size::Four];
 
-const OPERATORS: [Operator; 10] = [
+static OPERATORS: [Operator; 10] = [
     Operator::Plus,
     Operator::Minus,
     Operator::Times,
@@ -31,7 +31,7 @@ const OPERATORS: [Operator; 10] = [
     Operator::ShiftRight,
 ];
 
-const COMPARISONS: [Comparison; 6] = [
+static COMPARISONS: [Comparison; 6] = [
     Comparison::Equal,
     Comparison::NotEqual,
     Comparison::Less,
@@ -41,7 +41,7 @@ const COMPARISONS: [Comparison; 6] = [
 ];
 
 /// Numbers that a frame has, and those at which a sum or a shift turns.
-const NUMBERS: [u32; 12] = [
+static NUMBERS: [u32; 12] = [
     0,
     1,
     4,
@@ -72,62 +72,71 @@ fn random_leaf(random: &mut Random) -> Value {
     }
 }
 
-fn random_accessor(alloc: Global, random: &mut Random, index: Value) -> Result<Value, AllocError> {
+fn boxed(rt: &(impl Abort + AllocGlobal), value: Value) -> Box<Value> {
+    Box::new(rt.alloc(), value).expect(rt, "there is memory")
+}
+
+fn random_accessor(rt: &(impl Abort + AllocGlobal), random: &mut Random, index: Value) -> Value {
     let (layer, size) = (LAYERS[random.below(7)], SIZES[random.below(3)]);
-    Ok(Value::Accessor(layer, Box::new(alloc, index)?, size))
+    Value::Accessor(layer, boxed(rt, index), size)
 }
 
 // An operator over two values, in either order.
 fn random_binary(
-    alloc: Global,
+    rt: &(impl Abort + AllocGlobal),
     random: &mut Random,
     one: Value,
     other: Value,
-) -> Result<Value, AllocError> {
+) -> Value {
+    let (one, other) = (boxed(rt, one), boxed(rt, other));
     let (left, right) = if random.below(2) == 0 {
         (one, other)
     } else {
         (other, one)
     };
-    let (left, right) = (Box::new(alloc, left)?, Box::new(alloc, right)?);
-    Ok(Value::Binary(OPERATORS[random.below(10)], left, right))
+    Value::Binary(OPERATORS[random.below(10)], left, right)
+}
+
+// A value under a sign.
+fn random_sign(rt: &(impl Abort + AllocGlobal), random: &mut Random, value: Value) -> Value {
+    match random.below(6) {
+        0 => Value::Negation(boxed(rt, value)),
+        1 | 2 => {
+            let leaf = random_leaf(random);
+            random_binary(rt, random, value, leaf)
+        }
+        _ => random_accessor(rt, random, value),
+    }
 }
 
 // A leaf under up to three signs.
-fn random_chain(alloc: Global, random: &mut Random) -> Result<Value, AllocError> {
+fn random_chain(rt: &(impl Abort + AllocGlobal), random: &mut Random) -> Value {
     let mut value = random_leaf(random);
     for _ in 0..random.below(4) {
-        value = match random.below(6) {
-            0 => Value::Negation(Box::new(alloc, value)?),
-            1 | 2 => {
-                let leaf = random_leaf(random);
-                random_binary(alloc, random, value, leaf)?
-            }
-            _ => random_accessor(alloc, random, value)?,
-        };
+        value = random_sign(rt, random, value);
     }
-    Ok(value)
+    value
 }
 
 // Up to three chains, joined by operators.
-fn random_value(alloc: Global, random: &mut Random) -> Result<Value, AllocError> {
-    let mut value = random_chain(alloc, random)?;
+fn random_value(rt: &(impl Abort + AllocGlobal), random: &mut Random) -> Value {
+    let mut value = random_chain(rt, random);
     for _ in 0..random.below(3) {
-        let other = random_chain(alloc, random)?;
-        value = random_binary(alloc, random, value, other)?;
+        let other = random_chain(rt, random);
+        value = random_binary(rt, random, value, other);
     }
-    Ok(value)
+    value
 }
 
-pub(crate) fn random_relation(alloc: Global, random: &mut Random) -> Result<Expr, AllocError> {
+pub(crate) fn random_relation(rt: &(impl Abort + AllocGlobal), random: &mut Random) -> Expr {
     let comparison = COMPARISONS[random.below(6)];
-    let left = random_value(alloc, random)?;
+    let left = random_value(rt, random);
     let right = if random.below(2) == 0 {
         Value::Number(random_number(random))
     } else {
-        random_value(alloc, random)?
+        random_value(rt, random)
     };
-    Ok(Expr::Relation(comparison, left, right))
+    Expr::Relation(comparison, left, right)
 }
 
 /// How often each answer came.
@@ -148,21 +157,25 @@ impl Answers {
     }
 }
 
-// A random relation compared on every frame, and its answers to whole ones counted, unless it is too long.
-fn compared(
-    rt: &(impl Abort + AllocGlobal),
-    random: &mut Random,
+// A relation compared on every frame, and its answers to whole ones counted.
+fn counted(
+    rt: &impl Abort,
+    expr: &Expr,
+    program: &Program,
     frames: &[Vec<u8>],
     answers: &mut Answers,
 ) {
-    let expr = random_relation(rt.alloc(), random).expect(rt, "there is memory");
-    let Some(program) = program_of(rt, &expr) else {
-        return;
-    };
     for frame in frames {
         let frame = frame.as_slice();
-        compare_cut(rt, &expr, &program, frame);
-        answers.count(evaluate(&expr, frame, wire_of(frame)));
+        compare_cut(rt, expr, program, frame);
+        answers.count(evaluate(expr, frame, wire_of(frame)));
+    }
+}
+
+// The same, unless it is too long.
+fn compared(rt: &impl Abort, expr: Expr, frames: &[Vec<u8>], answers: &mut Answers) {
+    if let Some(program) = program_of(rt, &expr) {
+        counted(rt, &expr, &program, frames, answers);
     }
 }
 
@@ -176,7 +189,8 @@ fn two_thousand_random_relations_on_frames_cut_at_each_byte(rt: HostRuntime) {
         abort: 0,
     };
     for _ in 0..2000u32 {
-        compared(&rt, &mut random, frames.as_slice(), &mut answers);
+        let expr = random_relation(&rt, &mut random);
+        compared(&rt, expr, frames.as_slice(), &mut answers);
     }
     // Each answer comes often.
     let Answers { yes, no, abort } = answers;

@@ -1,6 +1,7 @@
 //! Relations over numbers at their bounds, by the program and by the evaluator. The trees are put together by hand.
 
-use bpfvm::run;
+use crate::comparisons::compare;
+use crate::same::same;
 use filtergen::{Refusal, Verdict, compile, evaluate, need, weight};
 use filterlang::{Comparison, Expr, Layer, Operator, Size, Value};
 use std::process::Abort;
@@ -22,27 +23,35 @@ fn equal(left: Value, right: u32) -> Expr {
 
 // What an expression answers, by its program too.
 fn answer(rt: &impl Abort, expr: &Expr, packet: &[u8], wire: u32) -> Verdict {
-    let verdict = evaluate(expr, packet, wire);
-    let expected = if verdict == Verdict::Yes { 96 } else { 0 };
     let program = compile(expr, 96).expect(rt, "the expression compiles");
-    assert_eq!(rt; run(&program, packet, wire), expected, "{expr:?}");
-    verdict
+    compare(rt, expr, &program, packet, wire);
+    evaluate(expr, packet, wire)
 }
 
 // A tree that no text reads as: len / 0 = 1, len % 0 = 1
+fn by_zero(rt: &(impl Abort + AllocGlobal), operator: Operator) -> Expr {
+    equal(binary(rt, Value::Length, operator, Value::Number(0)), 1)
+}
+
+fn negated(rt: &(impl Abort + AllocGlobal), expr: Expr) -> Expr {
+    Expr::Not(Box::new(rt.alloc(), expr).expect(rt, "there is memory"))
+}
+
+// That an expression aborts on no byte.
+fn aborts(rt: &impl Abort, expr: Expr) {
+    same(rt, answer(rt, &expr, &[], 38), Verdict::Abort);
+}
+
 #[test]
 fn a_divisor_of_zero_aborts_under_a_negation_too(rt: HostRuntime) {
     for operator in [Operator::Divide, Operator::Modulo] {
-        let value = binary(&rt, Value::Length, operator, Value::Number(0));
-        let expr = equal(value, 1);
-        assert_eq!(rt; answer(&rt, &expr, &[], 38), Verdict::Abort);
-        let negated = Expr::Not(Box::new(rt.alloc(), expr).expect(&rt, "there is memory"));
-        assert_eq!(rt; answer(&rt, &negated, &[], 38), Verdict::Abort);
+        aborts(&rt, by_zero(&rt, operator));
+        aborts(&rt, negated(&rt, by_zero(&rt, operator)));
     }
 }
 
 /// Numbers at which an operator may slip.
-const NUMBERS: [u32; 12] = [
+static NUMBERS: [u32; 12] = [
     0,
     1,
     2,
@@ -57,7 +66,7 @@ const NUMBERS: [u32; 12] = [
     u32::MAX,
 ];
 
-const OPERATORS: [Operator; 10] = [
+static OPERATORS: [Operator; 10] = [
     Operator::Plus,
     Operator::Minus,
     Operator::Times,
@@ -95,25 +104,38 @@ fn frame_of(a: u32, b: u32) -> [u8; 8] {
     [p, q, r, s, t, u, v, w]
 }
 
+// A number of the frame.
+fn word(rt: &(impl Abort + AllocGlobal), index: u32) -> Value {
+    accessor(rt, Layer::Ether, Value::Number(index), Size::Four)
+}
+
 // The operands as the frame's two numbers, as a literal, and as the wire length.
 fn operands(rt: &(impl Abort + AllocGlobal), form: u32, a: u32, b: u32) -> (Value, Value) {
-    let first = accessor(rt, Layer::Ether, Value::Number(0), Size::Four);
-    let second = accessor(rt, Layer::Ether, Value::Number(4), Size::Four);
     match form {
-        0 => (first, second),
-        1 => (first, Value::Number(b)),
-        2 => (Value::Number(a), second),
-        3 => (Value::Length, second),
-        4 => (first, Value::Length),
+        0 => (word(rt, 0), word(rt, 4)),
+        1 => (word(rt, 0), Value::Number(b)),
+        2 => (Value::Number(a), word(rt, 4)),
+        3 => (Value::Length, word(rt, 4)),
+        4 => (word(rt, 0), Value::Length),
         _ => (Value::Number(a), Value::Number(b)),
     }
 }
 
+fn is_expected(
+    rt: &impl Abort,
+    expr: &Expr,
+    numbers: (u32, u32),
+    verdict: Verdict,
+    expected: Verdict,
+) {
+    assert_eq!(rt; verdict, expected, "{expr:?} of {numbers:?}");
+}
+
 // That a relation over operands in this form answers so of two numbers.
-fn answers_of(rt: &impl Abort, expr: &Expr, form: u32, a: u32, b: u32, expected: Verdict) {
+fn answers_of(rt: &impl Abort, expr: Expr, form: u32, a: u32, b: u32, expected: Verdict) {
     let wire = if form == 3 { a } else { b };
-    let verdict = answer(rt, expr, &frame_of(a, b), wire);
-    assert_eq!(rt; verdict, expected, "{expr:?} of {a} and {b}");
+    let verdict = answer(rt, &expr, &frame_of(a, b), wire);
+    is_expected(rt, &expr, (a, b), verdict, expected);
 }
 
 // An operator over two numbers, in each form of operands.
@@ -125,16 +147,16 @@ fn operator_of(rt: &(impl Abort + AllocGlobal), operator: Operator, a: u32, b: u
     for form in 0..6u32 {
         let (left, right) = operands(rt, form, a, b);
         let expr = equal(binary(rt, left, operator, right), number);
-        answers_of(rt, &expr, form, a, b, expected);
+        answers_of(rt, expr, form, a, b, expected);
     }
 }
 
 #[test]
 fn every_operator_at_the_bounds(rt: HostRuntime) {
-    for operator in OPERATORS {
-        for a in NUMBERS {
-            for b in NUMBERS {
-                operator_of(&rt, operator, a, b);
+    for operator in OPERATORS.iter() {
+        for a in NUMBERS.iter() {
+            for b in NUMBERS.iter() {
+                operator_of(&rt, *operator, *a, *b);
             }
         }
     }
@@ -152,20 +174,24 @@ fn comparison_of(
     for form in 0..6u32 {
         let (left, right) = operands(rt, form, a, b);
         let expr = Expr::Relation(comparison, left, right);
-        answers_of(rt, &expr, form, a, b, expected);
+        answers_of(rt, expr, form, a, b, expected);
     }
+}
+
+fn comparisons_of(rt: &(impl Abort + AllocGlobal), a: u32, b: u32) {
+    comparison_of(rt, Comparison::Equal, a, b, a == b);
+    comparison_of(rt, Comparison::NotEqual, a, b, a != b);
+    comparison_of(rt, Comparison::Less, a, b, a < b);
+    comparison_of(rt, Comparison::Greater, a, b, a > b);
+    comparison_of(rt, Comparison::LessOrEqual, a, b, a <= b);
+    comparison_of(rt, Comparison::GreaterOrEqual, a, b, a >= b);
 }
 
 #[test]
 fn every_comparison_at_the_bounds(rt: HostRuntime) {
-    for a in NUMBERS {
-        for b in NUMBERS {
-            comparison_of(&rt, Comparison::Equal, a, b, a == b);
-            comparison_of(&rt, Comparison::NotEqual, a, b, a != b);
-            comparison_of(&rt, Comparison::Less, a, b, a < b);
-            comparison_of(&rt, Comparison::Greater, a, b, a > b);
-            comparison_of(&rt, Comparison::LessOrEqual, a, b, a <= b);
-            comparison_of(&rt, Comparison::GreaterOrEqual, a, b, a >= b);
+    for a in NUMBERS.iter() {
+        for b in NUMBERS.iter() {
+            comparisons_of(&rt, *a, *b);
         }
     }
 }
@@ -179,10 +205,13 @@ fn accessors(rt: &(impl Abort + AllocGlobal), times: u32) -> Value {
     value
 }
 
+/// An expression needs and weighs so much, and is too long.
+fn is_too_long(rt: &impl Abort, expr: Expr, want: (u64, u64)) {
+    same(rt, (need(&expr), weight(&expr)), want);
+    same(rt, compile(&expr, 96).err(), Some(Refusal::TooLong));
+}
+
 #[test]
 fn heavy_relations_are_too_long(rt: HostRuntime) {
-    let deep = equal(accessors(&rt, 200), 0);
-    assert_eq!(rt; need(&deep), 1);
-    assert_eq!(rt; weight(&deep), 4_010);
-    assert_eq!(rt; compile(&deep, 96), Err(Refusal::TooLong));
+    is_too_long(&rt, equal(accessors(&rt, 200), 0), (1, 4_010));
 }

@@ -1,5 +1,6 @@
 //! What expressions weigh and need, and what `compile` looks at first: what no command shows.
 
+use crate::same::same;
 use bpfvm::run;
 use filtergen::{
     ExpressionFault, MAX_NEED, MAX_SNAP, MAX_WEIGHT, Refusal, Verdict, compile, compile_text,
@@ -48,7 +49,7 @@ fn nested(rt: &(impl Abort + AllocGlobal), text: Nested) -> Expr {
 }
 
 /// What expressions weigh.
-const WEIGHTS: [(Text, u64); 6] = [
+static WEIGHTS: [(Text, u64); 6] = [
     (("", "", 0, ""), 0),
     (("port (1", " or 2", 11, ")"), 480),
     (("port (1", " or 2", 12, ")"), 520),
@@ -57,17 +58,25 @@ const WEIGHTS: [(Text, u64); 6] = [
     (("ether[1]", "+ether[1]", 300, " = 0"), 9_030),
 ];
 
+static NESTED_WEIGHTS: [(Nested, u64); 2] = [(("", 16, " = 17"), 170), (HEAVY, 610)];
+
+/// A tree weighs so much.
+fn weighs(rt: &impl Abort, tree: Expr, want: u64) {
+    same(rt, weight(&tree), want);
+}
+
 #[test]
 fn expressions_weigh_as_worked_out(rt: HostRuntime) {
-    for (text, want) in WEIGHTS {
-        assert_eq!(rt; weight(&repeated(&rt, text)), want);
+    for (text, want) in WEIGHTS.iter() {
+        weighs(&rt, repeated(&rt, *text), *want);
     }
-    assert_eq!(rt; weight(&nested(&rt, ("", 16, " = 17"))), 170);
-    assert_eq!(rt; weight(&nested(&rt, HEAVY)), 610);
+    for (text, want) in NESTED_WEIGHTS.iter() {
+        weighs(&rt, nested(&rt, *text), *want);
+    }
 }
 
 /// What values need. A comparison keeps its left value in a word too, and the need is the most that a relation has, wherever it stands.
-const NEEDS: [(Nested, u64); 5] = [
+static NEEDS: [(Nested, u64); 5] = [
     (("", 16, " = 17"), MAX_NEED),
     (DEEP, 17),
     (("16 = ", 15, ""), 16),
@@ -75,45 +84,60 @@ const NEEDS: [(Nested, u64); 5] = [
     (("not (ip or ", 17, " = 18)"), 17),
 ];
 
+const SUMS: Text = (
+    "ether[1]",
+    "+ether[1]",
+    7,
+    " = ether[3]+ether[3]+ether[3]+ether[3]",
+);
+
 /// Fifteen differences, each the right side of another.
 const DIFFERENCES: &str =
     "9 = ether[0]-(ether[1]-(ether[2]-(ether[3]-(ether[4]-(ether[5]-(ether[6]-(ether[7]-(ether[8]-(ether[9]-(ether[10]-(ether[11]-(ether[12]-(ether[13]-(ether[14]-ether[15]))))))))))))))";
 
+/// A tree needs so many words.
+fn needs(rt: &impl Abort, tree: Expr, want: u64) {
+    same(rt, need(&tree), want);
+}
+
 #[test]
 fn values_need_as_worked_out(rt: HostRuntime) {
-    for (text, want) in NEEDS {
-        assert_eq!(rt; need(&nested(&rt, text)), want);
+    for (text, want) in NEEDS.iter() {
+        needs(&rt, nested(&rt, *text), *want);
     }
-    let sums = (
-        "ether[1]",
-        "+ether[1]",
-        7,
-        " = ether[3]+ether[3]+ether[3]+ether[3]",
+    needs(&rt, repeated(&rt, SUMS), 2);
+    needs(&rt, tree_of(&rt, DIFFERENCES), 16);
+}
+
+/// A tree is refused at a snapshot length, for this.
+fn is_refused_at(rt: &impl Abort, tree: &Expr, snap: u32) {
+    same(
+        rt,
+        (snap, compile(tree, snap).err()),
+        (snap, Some(Refusal::BadSnap)),
     );
-    assert_eq!(rt; need(&repeated(&rt, sums)), 2);
-    assert_eq!(rt; need(&tree_of(&rt, DIFFERENCES)), 16);
 }
 
 /// A tree is refused for its snapshot length, whatever else is wrong.
-fn is_refused(rt: &impl Abort, tree: &Expr) {
+fn is_refused(rt: &impl Abort, tree: Expr) {
     for snap in [0, MAX_SNAP + 1, u32::MAX] {
-        assert_eq!(rt; compile(tree, snap), Err(Refusal::BadSnap), "{snap}");
+        is_refused_at(rt, &tree, snap);
     }
 }
 
 #[test]
 fn the_snapshot_length_is_looked_at_first(rt: HostRuntime) {
-    is_refused(&rt, &repeated(&rt, LONG));
-    is_refused(&rt, &nested(&rt, DEEP));
-    is_refused(&rt, &nested(&rt, HEAVY));
+    is_refused(&rt, repeated(&rt, LONG));
+    is_refused(&rt, nested(&rt, DEEP));
+    is_refused(&rt, nested(&rt, HEAVY));
     let fault = compile_text(rt.alloc(), "ip", 0).err();
-    assert_eq!(rt; fault, Some(ExpressionFault::Tree(Refusal::BadSnap)));
+    same(&rt, fault, Some(ExpressionFault::Tree(Refusal::BadSnap)));
 }
 
 #[test]
 fn a_bad_snapshot_length_is_told_by_its_name(rt: HostRuntime) {
     let told = format!(in rt.alloc(); "{}", Refusal::BadSnap).expect(&rt, "there is memory");
-    assert_eq!(rt; told.as_str(), "BadSnap");
+    same(&rt, told.as_str(), "BadSnap");
 }
 
 /// The first 14 bytes of a frame of IPv4, and of one of ARP.
@@ -121,18 +145,26 @@ const IP: [u8; 14] = [0, 0, 0, 0, 0, 0, 0, 0, 0, 0, 0, 0, 8, 0];
 
 const ARP: [u8; 14] = [0, 0, 0, 0, 0, 0, 0, 0, 0, 0, 0, 0, 8, 6];
 
+/// A program of this snapshot length keeps so much.
+fn keeps(rt: &(impl Abort + AllocGlobal), snap: u32) {
+    let program = compile_text(rt.alloc(), "ip", snap).expect(rt, "it compiles");
+    same(rt, run(&program, &IP, 38), snap);
+}
+
 #[test]
 fn the_least_and_the_greatest_snapshot_length_are_answered(rt: HostRuntime) {
-    for snap in [1, MAX_SNAP] {
-        let program = compile_text(rt.alloc(), "ip", snap).expect(&rt, "it compiles");
-        assert_eq!(rt; run(&program, &IP, 38), snap);
-    }
+    keeps(&rt, 1);
+    keeps(&rt, MAX_SNAP);
+}
+
+/// A tree answers this to a packet.
+fn answers(rt: &impl Abort, tree: Expr, packet: &[u8], wire: u32, want: Verdict) {
+    same(rt, evaluate(&tree, packet, wire), want);
 }
 
 #[test]
 fn what_does_not_compile_is_evaluated(rt: HostRuntime) {
-    assert_eq!(rt; evaluate(&nested(&rt, DEEP), &[], 0), Verdict::Yes);
-    let long = repeated(&rt, LONG);
-    assert_eq!(rt; evaluate(&long, &IP, 38), Verdict::Yes);
-    assert_eq!(rt; evaluate(&long, &ARP, 42), Verdict::No);
+    answers(&rt, nested(&rt, DEEP), &[], 0, Verdict::Yes);
+    answers(&rt, repeated(&rt, LONG), &IP, 38, Verdict::Yes);
+    answers(&rt, repeated(&rt, LONG), &ARP, 42, Verdict::No);
 }

@@ -4,4 +4,6 @@
 #[cfg(test)]
 mod machine;
 #[cfg(test)]
+mod same;
+#[cfg(test)]
 mod savefiles;

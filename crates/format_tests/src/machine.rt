@@ -4,26 +4,34 @@ mod caller;
 mod named;
 mod traced;
 
+use crate::same::same;
 use bpfvm::{Insn, NoMemory, read_listing};
-use std::test::Fail;
+use std::process::Abort;
+
+/// The first instruction, and how many there are.
+fn begins_so(rt: &impl Abort, insns: &[Insn], first: Insn, length: usize) {
+    same(
+        rt,
+        (insns.first().copied(), insns.len()),
+        (Some(first), length),
+    );
+}
 
 #[test]
-fn a_program_tells_its_instructions(rt: HostRuntime) -> Result<(), Fail> {
-    let program = read_listing(b"2\n0 1 2 3\n22 0 0 0")
-        .ok()
-        .ok_or("a program")?;
-    assert_eq!(rt; program.insns().len(), 2);
-    assert!(rt; program.clone()? == program);
-    assert_eq!(rt;
-        program.insns()[0],
-        Insn {
-            code: 0,
-            jt: 1,
-            jf: 2,
-            k: 3
-        }
-    );
-    let told = format!(in rt.alloc(); "{}", NoMemory)?;
-    assert_eq!(rt; told.as_str(), "NoMemory");
-    Ok(())
+fn a_program_tells_its_instructions(rt: HostRuntime) {
+    let program = read_listing(b"2\n0 1 2 3\n22 0 0 0").expect(&rt, "a program");
+    let first = Insn {
+        code: 0,
+        jt: 1,
+        jf: 2,
+        k: 3,
+    };
+    begins_so(&rt, program.insns(), first, 2);
+    assert!(rt; program.clone().expect(&rt, "memory") == program);
+}
+
+#[test]
+fn want_of_memory_is_told_by_its_name(rt: HostRuntime) {
+    let told = format!(in rt.alloc(); "{}", NoMemory).expect(&rt, "memory");
+    same(&rt, told.as_str(), "NoMemory");
 }

@@ -3,12 +3,12 @@
 mod caller;
 mod reader;
 
+use crate::same::same;
 use savefile::{Counted, Data, Fault, Header, Order, Packet, Sink, Unit, Writer, read_all};
-use std::alloc::{AllocError, Global};
+use std::fmt::Write as _;
 use std::io;
 use std::io::{Read, Write};
 use std::process::Abort;
-use std::test::Fail;
 
 /// Little-endian, microseconds, snapshot length 262,144.
 const HEADER_LITTLE_MICRO: [u8; 24] = [
@@ -22,64 +22,64 @@ const TCP_FRAME: [u8; 38] = [
 ];
 
 /// The parts, one behind the other.
-fn joined(alloc: Global, parts: &[&[u8]]) -> Result<Vec<u8>, AllocError> {
-    let mut text = Vec::new(alloc);
+fn joined(rt: &(impl Abort + AllocGlobal), parts: &[&[u8]]) -> Vec<u8> {
+    let mut text = Vec::new(rt.alloc());
     for part in parts {
-        text.extend_from_slice(part)?;
+        text.extend_from_slice(part).expect(rt, "memory");
     }
-    Ok(text)
+    text
 }
 
 /// Adds a packet's parts.
-fn push_packet(alloc: Global, out: &mut String, packet: &Packet) -> Result<(), AllocError> {
+fn push_packet(rt: &(impl Abort + AllocGlobal), out: &mut String, packet: &Packet) {
     let bytes = packet.bytes.as_slice();
-    let line = format!(in alloc;
+    write!(
+        out,
         "; {}.{:09} {} {:?}",
         packet.sec, packet.nanos, packet.len, bytes
-    )?;
-    out.push_str(line.as_str())
-}
-
-/// Adds the packets, and the fault that ended them.
-fn push_packets(
-    alloc: Global,
-    out: &mut String,
-    packets: &[Packet],
-    fault: Option<Fault>,
-) -> Result<(), AllocError> {
-    for packet in packets {
-        push_packet(alloc, out, packet)?;
-    }
-    let Some(fault) = fault else { return Ok(()) };
-    let line = format!(in alloc; "; {fault}")?;
-    out.push_str(line.as_str())
+    )
+    .expect(rt, "memory");
 }
 
 /// The header, the packets and the fault that ended them.
 fn told_read(
-    alloc: Global,
+    rt: &(impl Abort + AllocGlobal),
     header: Header,
     packets: &[Packet],
     fault: Option<Fault>,
-) -> Result<String, AllocError> {
-    let mut out = format!(in alloc; "{:?} {:?} {}", header.order, header.unit, header.snap)?;
-    push_packets(alloc, &mut out, packets, fault)?;
-    Ok(out)
+) -> String {
+    let mut out = told_header(rt, header);
+    for packet in packets {
+        push_packet(rt, &mut out, packet);
+    }
+    if let Some(fault) = fault {
+        write!(out, "; {fault}").expect(rt, "memory");
+    }
+    out
+}
+
+fn told_header(rt: &(impl Abort + AllocGlobal), header: Header) -> String {
+    let told = format!(in rt.alloc(); "{:?} {:?} {}", header.order, header.unit, header.snap);
+    told.expect(rt, "memory")
 }
 
 /// What a text is read as: a fault, or the header, the packets and the fault that ended them.
-fn told(alloc: Global, text: &[u8]) -> Result<String, AllocError> {
-    match read_all(alloc, text) {
-        Ok((header, packets, fault)) => told_read(alloc, header, packets.as_slice(), fault),
-        Err(fault) => format!(in alloc; "{fault}"),
+fn told(rt: &(impl Abort + AllocGlobal), text: &[u8]) -> String {
+    match read_all(rt.alloc(), text) {
+        Ok((header, packets, fault)) => told_read(rt, header, packets.as_slice(), fault),
+        Err(fault) => format!(in rt.alloc(); "{fault}").expect(rt, "memory"),
     }
 }
 
 /// The parts, one behind the other, are read as this.
 fn reads(rt: &(impl Abort + AllocGlobal), parts: &[&[u8]], want: &str) {
-    let text = joined(rt.alloc(), parts).expect(rt, "memory");
-    let got = told(rt.alloc(), &text).expect(rt, "memory");
-    assert_eq!(rt; got.as_str(), want);
+    let text = joined(rt, parts);
+    is_text(rt, told(rt, &text), want);
+}
+
+/// A text is this.
+fn is_text(rt: &impl Abort, got: String, want: &str) {
+    same(rt, got.as_str(), want);
 }
 
 #[test]
@@ -98,20 +98,16 @@ fn reserved_fields_and_snapshot_lengths_have_any_content(rt: HostRuntime) {
     );
 }
 
-fn sevens(alloc: Global, len: usize) -> Result<Vec<u8>, AllocError> {
-    vec![in alloc; 7; len]
+fn sevens(rt: &(impl Abort + AllocGlobal), len: usize) -> Vec<u8> {
+    vec![in rt.alloc(); 7; len].expect(rt, "memory")
 }
 
 /// Puts a packet, whose numbers are in their ranges.
-fn put(
-    rt: &impl Abort,
-    writer: &mut Writer<Counted<Vec<u8>>>,
-    packet: (u32, u32, u32, &[u8]),
-) -> Result<(), Fault> {
+fn put(rt: &impl Abort, writer: &mut Writer<Counted<Vec<u8>>>, packet: (u32, u32, u32, &[u8])) {
     let (sec, nanos, len, bytes) = packet;
     assert!(rt; nanos < 1_000_000_000);
     assert!(rt; bytes.len() <= 262_144);
-    writer.put(sec, nanos, len, bytes)
+    writer.put(sec, nanos, len, bytes).expect(rt, "it is put");
 }
 
 /// Writes a savefile of one packet into memory.
@@ -121,13 +117,13 @@ fn written(
     unit: Unit,
     snap: u32,
     packet: (u32, u32, u32, &[u8]),
-) -> Result<Vec<u8>, Fault> {
+) -> Vec<u8> {
     let memory = Counted::new(Vec::new(rt.alloc()));
     let (mut writer, opened) = Writer::open(memory, order, unit, snap);
-    opened?;
-    put(rt, &mut writer, packet)?;
+    opened.expect(rt, "it is opened");
+    put(rt, &mut writer, packet);
     let (sink, _) = writer.close();
-    Ok(sink.into_inner())
+    sink.into_inner()
 }
 
 /// A savefile of one packet is written as this.
@@ -138,15 +134,14 @@ fn writes(
     snap: u32,
     packet: (u32, u32, u32, &[u8]),
     want: &[u8],
-) -> Result<(), Fail> {
-    let got = written(rt, order, unit, snap, packet)?;
-    assert_eq!(rt; got.as_slice(), want);
-    Ok(())
+) {
+    let got = written(rt, order, unit, snap, packet);
+    same(rt, got.as_slice(), want);
 }
 
 /// Each form: the header with the greatest snapshot length, and one packet with each field at its
 /// greatest.
-const GREATEST: [(Order, Unit, [u8; 41], &str); 4] = [
+static GREATEST: [(Order, Unit, [u8; 41], &str); 4] = [
     (
         Order::Little,
         Unit::Micro,
@@ -190,24 +185,23 @@ const GREATEST: [(Order, Unit, [u8; 41], &str); 4] = [
 ];
 
 #[test]
-fn each_form_is_read_and_written_at_its_limits(rt: HostRuntime) -> Result<(), Fail> {
+fn each_form_is_read_and_written_at_its_limits(rt: HostRuntime) {
     let packet = (u32::MAX, 999_999_999, u32::MAX, [7].as_slice());
-    for (order, unit, text, want) in GREATEST {
-        reads(&rt, &[&text], want);
-        writes(&rt, order, unit, u32::MAX, packet, &text)?;
+    for (order, unit, text, want) in GREATEST.iter() {
+        reads(&rt, &[text.as_slice()], want);
+        writes(&rt, *order, *unit, u32::MAX, packet, text.as_slice());
     }
-    Ok(())
 }
 
 #[test]
-fn each_field_is_read_and_written_at_zero(rt: HostRuntime) -> Result<(), Fail> {
+fn each_field_is_read_and_written_at_zero(rt: HostRuntime) {
     let zeros = [
         0x4d, 0x3c, 0xb2, 0xa1, 2, 0, 4, 0, 0, 0, 0, 0, 0, 0, 0, 0, 0, 0, 0, 0, 1, 0, 0, 0, 0, 0,
         0, 0, 0, 0, 0, 0, 0, 0, 0, 0, 0, 0, 0, 0,
     ];
     reads(&rt, &[&zeros], "Little Nano 0; 0.000000000 0 []");
     let packet = (0, 0, 0, [].as_slice());
-    writes(&rt, Order::Little, Unit::Nano, 0, packet, &zeros)
+    writes(&rt, Order::Little, Unit::Nano, 0, packet, &zeros);
 }
 
 /// A device that moves few bytes a call, and fails at one of its calls.
@@ -267,27 +261,26 @@ fn dripping(bytes: Vec<u8>, at_once: usize, fails_at: usize) -> Counted<Drip> {
 
 /// A packet that is put is answered so, and so many bytes were sent then.
 fn puts(rt: &impl Abort, writer: &mut Writer<Counted<Drip>>, want: Result<(), Fault>, sent: u64) {
-    assert_eq!(rt; writer.put(1, 0, 38, &TCP_FRAME), want);
-    assert_eq!(rt; writer.sent(), sent);
+    same(rt, writer.put(1, 0, 38, &TCP_FRAME), want);
+    same(rt, writer.sent(), sent);
 }
 
 /// A sink that failed in a record's header, and how many bytes its writer says that it took.
 fn broken_in_a_record(rt: &(impl Abort + AllocGlobal)) -> (Counted<Drip>, u64) {
     let sink = dripping(Vec::new(rt.alloc()), 1, 31);
     let (mut writer, opened) = Writer::open(sink, Order::Little, Unit::Micro, 262_144);
-    assert_eq!(rt; opened, Ok(()));
+    same(rt, opened, Ok(()));
     puts(rt, &mut writer, Err(Fault::Device), 30);
     puts(rt, &mut writer, Err(Fault::Failed), 30);
     writer.close()
 }
 
 /// A sink that fails in a record's header has what stands before it, and gets nothing more.
-fn fails_in_a_record(rt: &(impl Abort + AllocGlobal)) -> Result<(), AllocError> {
+fn fails_in_a_record(rt: &(impl Abort + AllocGlobal)) {
     let (sink, sent) = broken_in_a_record(rt);
-    assert_eq!(rt; (sent, sink.failures), (30, 1));
-    let text = joined(rt.alloc(), &[&HEADER_LITTLE_MICRO, &[1, 0, 0, 0, 0, 0]])?;
-    assert_eq!(rt; sink.inner.bytes.as_slice(), text.as_slice());
-    Ok(())
+    same(rt, (sent, sink.failures), (30, 1));
+    let text = joined(rt, &[&HEADER_LITTLE_MICRO, &[1, 0, 0, 0, 0, 0]]);
+    same(rt, sink.inner.bytes.as_slice(), text.as_slice());
 }
 
 /// A writer whose sink fails in the file's header, with so many bytes sent, takes no packet.
@@ -301,58 +294,63 @@ fn fails_in_the_header(
 ) {
     let sink = dripping(Vec::new(rt.alloc()), at_once, fails_at);
     let (mut writer, opened) = Writer::open(sink, order, unit, 0);
-    assert_eq!(rt; opened, Err(Fault::Device));
-    assert_eq!(rt; writer.sent(), sent);
+    same(rt, opened, Err(Fault::Device));
+    same(rt, writer.sent(), sent);
     puts(rt, &mut writer, Err(Fault::Failed), sent);
 }
 
-#[test]
-fn a_failed_sink_has_what_was_sent(rt: HostRuntime) -> Result<(), Fail> {
-    fails_in_a_record(&rt)?;
-    fails_in_the_header(&rt, 5, 3, Order::Little, Unit::Micro, 10);
-    // a sink that takes nothing
-    fails_in_the_header(&rt, 0, 9, Order::Big, Unit::Nano, 0);
-    // no byte taken of none is no failure
+/// No byte taken of none is no failure.
+fn takes_none(rt: &(impl Abort + AllocGlobal)) {
     let mut sink = dripping(Vec::new(rt.alloc()), 5, 9);
-    assert_eq!(rt; sink.write(&[]), Ok(0));
-    assert_eq!(rt; sink.failures, 0);
-    Ok(())
+    same(rt, (sink.write(&[]), sink.failures), (Ok(0), 0));
 }
 
 #[test]
-fn faults_are_told_by_name_and_place(rt: HostRuntime) -> Result<(), Fail> {
-    for (fault, want) in [
-        (Fault::ShortHeader, "ShortHeader"),
-        (Fault::NotSavefile, "NotSavefile"),
-        (Fault::Version, "Version"),
-        (Fault::LinkType, "LinkType"),
-        (Fault::TornRecord(4), "TornRecord 4"),
-        (Fault::BadFraction(0), "BadFraction 0"),
-        (Fault::TooLong(u64::MAX), "TooLong 18446744073709551615"),
-        (Fault::NoMemory, "NoMemory"),
-        (Fault::Device, "Device"),
-        (Fault::Failed, "Failed"),
-        (Fault::CountFull, "CountFull"),
-    ] {
-        let text = format!(in rt.alloc(); "{fault}")?;
-        assert_eq!(rt; text.as_str(), want);
+fn a_failed_sink_has_what_was_sent(rt: HostRuntime) {
+    fails_in_a_record(&rt);
+    fails_in_the_header(&rt, 5, 3, Order::Little, Unit::Micro, 10);
+    // a sink that takes nothing
+    fails_in_the_header(&rt, 0, 9, Order::Big, Unit::Nano, 0);
+    takes_none(&rt);
+}
+
+static FAULTS: [(Fault, &str); 11] = [
+    (Fault::ShortHeader, "ShortHeader"),
+    (Fault::NotSavefile, "NotSavefile"),
+    (Fault::Version, "Version"),
+    (Fault::LinkType, "LinkType"),
+    (Fault::TornRecord(4), "TornRecord 4"),
+    (Fault::BadFraction(0), "BadFraction 0"),
+    (Fault::TooLong(u64::MAX), "TooLong 18446744073709551615"),
+    (Fault::NoMemory, "NoMemory"),
+    (Fault::Device, "Device"),
+    (Fault::Failed, "Failed"),
+    (Fault::CountFull, "CountFull"),
+];
+
+#[test]
+fn faults_are_told_by_name_and_place(rt: HostRuntime) {
+    for (fault, want) in FAULTS.iter() {
+        let text = format!(in rt.alloc(); "{fault}").expect(&rt, "memory");
+        is_text(&rt, text, want);
     }
-    Ok(())
 }
 
 /// These are the time and the length of the packet below, and its bytes.
 fn are_its(rt: &impl Abort, numbers: (u32, u32, u32), bytes: &[u8]) {
-    assert_eq!(rt; numbers, (1, 2, 60));
+    same(rt, numbers, (1, 2, 60));
     assert!(rt; bytes == TCP_FRAME.as_slice());
 }
 
 /// This one passes too where any one request for memory is refused.
 #[test]
-fn a_packet_is_lent_and_copied(rt: HostRuntime) -> Result<(), Fail> {
-    let bytes = match Vec::from_slice(rt.alloc(), &TCP_FRAME) {
-        Ok(bytes) => bytes,
-        Err(_) => return Ok(()),
-    };
+fn a_packet_is_lent_and_copied(rt: HostRuntime) {
+    if let Ok(bytes) = Vec::from_slice(rt.alloc(), &TCP_FRAME) {
+        is_lent_and_copied(&rt, bytes);
+    }
+}
+
+fn is_lent_and_copied(rt: &(impl Abort + AllocGlobal), bytes: Vec<u8>) {
     let packet = Packet {
         sec: 1,
         nanos: 2,
@@ -360,12 +358,11 @@ fn a_packet_is_lent_and_copied(rt: HostRuntime) -> Result<(), Fail> {
         bytes: Data::new(bytes),
     };
     let lent = packet.as_ref();
-    are_its(&rt, (lent.sec, lent.nanos, lent.len), lent.bytes);
+    are_its(rt, (lent.sec, lent.nanos, lent.len), lent.bytes);
     if let Ok(copy) = lent.to_packet(rt.alloc()) {
         let bytes = copy.bytes.as_slice();
-        are_its(&rt, (copy.sec, copy.nanos, copy.len), bytes);
+        are_its(rt, (copy.sec, copy.nanos, copy.len), bytes);
     }
-    Ok(())
 }
 
 /// A header, two records of two bytes, and a third without its last byte.
@@ -376,16 +373,21 @@ const TORN: [u8; 77] = [
     3, 0, 0, 0, 0, 0, 0, 0, 2, 0, 0, 0, 2, 0, 0, 0, 7,
 ];
 
+/// Each packet has these bytes.
+fn have_two_bytes(rt: &impl Abort, packets: &[Packet]) {
+    for packet in packets {
+        same(rt, packet.bytes.as_slice(), [7, 8].as_slice());
+    }
+}
+
 /// This one passes too where any one request for memory is refused.
 #[test]
 fn want_of_memory_is_named(rt: HostRuntime) {
     match read_all(rt.alloc(), &TORN) {
         Ok((_, packets, fault)) => {
-            assert_eq!(rt; (packets.len(), fault), (2, Some(Fault::TornRecord(2))));
-            for packet in &packets {
-                assert_eq!(rt; packet.bytes.as_slice(), [7, 8].as_slice());
-            }
+            same(&rt, (packets.len(), fault), (2, Some(Fault::TornRecord(2))));
+            have_two_bytes(&rt, packets.as_slice());
         }
-        Err(fault) => assert_eq!(rt; fault, Fault::NoMemory),
+        Err(fault) => same(&rt, fault, Fault::NoMemory),
     }
 }

@@ -1,5 +1,6 @@
 //! What is printed and told of a split.
 
+use crate::same::same;
 use cutting::cut::Tally;
 use fixtures::devices::BreakingWriter;
 use savefile::Fault;
@@ -10,46 +11,48 @@ use splitting::tell::tell_split;
 use std::alloc::Global;
 use std::io::Write;
 use std::process::Abort;
-use std::test::Fail;
 
 const LINES: &[u8] = b"0 a.pcap\n0 b.pcap tcp\n";
 
 /// How a split of two parts ended, of nine packets; of which these were not written whole.
 fn end_of(
-    alloc: Global,
+    rt: &(impl Abort + AllocGlobal),
     written: [Result<(), Fault>; 2],
     end: Result<(), Stop>,
-) -> Result<SplitEnd<(), ()>, Fail> {
-    let mut parts = Vec::new(alloc);
+) -> SplitEnd<(), ()> {
+    let mut parts = Vec::new(rt.alloc());
     for (n, written) in written.into_iter().enumerate() {
-        parts.push(PartEnd {
-            sink: (),
-            sent: 24,
-            tally: Tally {
-                read: 9,
-                written: n as u64,
-            },
-            written,
-        })?;
+        let tally = Tally {
+            read: 9,
+            written: n as u64,
+        };
+        parts
+            .push(PartEnd {
+                sink: (),
+                sent: 24,
+                tally,
+                written,
+            })
+            .expect(rt, "memory");
     }
-    Ok(SplitEnd {
-        sources: Vec::new(alloc),
+    SplitEnd {
+        sources: Vec::new(rt.alloc()),
         parts,
         end,
-    })
+    }
 }
 
 /// What is told of an end, the status, and what is printed into a writer.
 fn told<O: Write>(
     rt: &(impl Abort + AllocGlobal),
-    end: &SplitEnd<(), ()>,
+    end: SplitEnd<(), ()>,
     out: &mut O,
-) -> Result<(u8, Vec<u8>), Fail> {
-    let alloc = rt.alloc();
+) -> (u8, Vec<u8>) {
+    let alloc: Global = rt.alloc();
     let mut err = Vec::new(alloc);
     let lines = read_split_lines(alloc, LINES).expect(rt, "each line has its form");
-    let status = tell_split(lines.as_slice(), end, out, &mut err);
-    Ok((status, err))
+    let status = tell_split(lines.as_slice(), &end, out, &mut err);
+    (status, err)
 }
 
 /// How the parts were written, how the reading ended, and what is printed and told, with the status.
@@ -63,7 +66,7 @@ type Case = (
 
 const BOTH: &str = "a.pcap 0 of 9\nb.pcap 1 of 9\n";
 
-const CASES: [Case; 8] = [
+static CASES: [Case; 8] = [
     ([Ok(()), Ok(())], Ok(()), BOTH, "", 0),
     (
         [Err(Fault::Device), Ok(())],
@@ -117,31 +120,30 @@ const CASES: [Case; 8] = [
     ),
 ];
 
-#[test]
-fn whole_parts_are_printed_and_the_others_told(rt: HostRuntime) -> Result<(), Fail> {
-    for (written, end, printed, err, status) in CASES {
-        let mut out = Vec::new(rt.alloc());
-        let seen = told(&rt, &end_of(rt.alloc(), written, end)?, &mut out)?;
-        assert_eq!(rt; out.as_slice(), printed.as_bytes());
-        assert_eq!(rt; seen.1.as_slice(), err.as_bytes());
-        assert_eq!(rt; seen.0, status);
-    }
-    Ok(())
+/// A case is printed and told so.
+fn is_told(rt: &(impl Abort + AllocGlobal), case: Case) {
+    let (written, end, printed, err, status) = case;
+    let mut out = Vec::new(rt.alloc());
+    let (found, told) = told(rt, end_of(rt, written, end), &mut out);
+    same(rt, out.as_slice(), printed.as_bytes());
+    same(rt, (told.as_slice(), found), (err.as_bytes(), status));
 }
 
 #[test]
-fn standard_output_that_fails_is_told_first(rt: HostRuntime) -> Result<(), Fail> {
-    let mut out = BreakingWriter {
-        taken: Vec::new(rt.alloc()),
-        room: 10,
-    };
+fn whole_parts_are_printed_and_the_others_told(rt: HostRuntime) {
+    for case in CASES.iter() {
+        is_told(&rt, *case);
+    }
+}
+
+#[test]
+fn standard_output_that_fails_is_told_first(rt: HostRuntime) {
+    let taken = Vec::new(rt.alloc());
+    let mut out = BreakingWriter { taken, room: 10 };
     let stop = Err(Stop::AtRecord(0, Fault::TooLong(9)));
-    let seen = told(&rt, &end_of(rt.alloc(), [Ok(()), Ok(())], stop)?, &mut out)?;
-    assert_eq!(rt; out.taken.as_slice(), b"a.pcap 0 o".as_slice());
-    assert_eq!(rt;
-        seen.1.as_slice(),
-        b"bpftap: Device standard output\nbpftap: Capture 0 TooLong 9\n".as_slice()
-    );
-    assert_eq!(rt; seen.0, 3);
-    Ok(())
+    let end = end_of(&rt, [Ok(()), Ok(())], stop);
+    let (status, err) = told(&rt, end, &mut out);
+    same(&rt, out.taken.as_slice(), b"a.pcap 0 o".as_slice());
+    let wanted = b"bpftap: Device standard output\nbpftap: Capture 0 TooLong 9\n";
+    same(&rt, (err.as_slice(), status), (wanted.as_slice(), 3));
 }

@@ -1,12 +1,13 @@
 //! Instructions by their names. That each line of a program is what libpcap prints is tested of the program.
 
+use crate::same::same;
 use bpfvm::{Brief, Insn, Placed};
 use std::process::Abort;
 
 /// Fields of an instruction, its text, and that with one space in it.
 type Row = (u16, u8, u8, u32, &'static str, &'static str);
 
-const ROWS: [Row; 12] = [
+static ROWS: [Row; 12] = [
     (0x28, 0, 0, 12, "ldh      [12]", "ldh [12]"),
     (0x50, 0, 0, 4, "ldb      [x + 4]", "ldb [x + 4]"),
     (0xb1, 0, 0, 14, "ldxb     4*([14]&0xf)", "ldxb 4*([14]&0xf)"),
@@ -41,7 +42,7 @@ fn is_printed(rt: &(impl Abort + AllocGlobal), row: &Row) {
     let insn = Insn { code, jt, jf, k };
     let printed = format!(in rt.alloc(); "{insn}|{}", Brief(&insn)).expect(rt, "memory");
     let wanted = format!(in rt.alloc(); "{text}|{brief}").expect(rt, "memory");
-    assert_eq!(rt; printed.as_str(), wanted.as_str());
+    same(rt, printed.as_str(), wanted.as_str());
 }
 
 #[test]
@@ -64,8 +65,9 @@ fn a_jump_has_the_places_that_it_leads_to(rt: HostRuntime) {
         insn: &insn,
     };
     let line = format!(in rt.alloc(); "{placed}").expect(&rt, "memory");
-    assert_eq!(rt;
+    same(
+        &rt,
         line.as_str(),
-        "(007) jeq      #0x800           jt 9\tjf 10"
+        "(007) jeq      #0x800           jt 9\tjf 10",
     );
 }

@@ -2,7 +2,6 @@
 
 use savefile::{Counted, Fault, Reader, Sink, Source, Writer};
 use std::alloc::Global;
-use std::test::Fail;
 
 /// Copies the packets that had more than 1,000 bytes on the wire. The sink comes back.
 fn copy_long<R: Source + Drop, W: Sink + Drop>(alloc: Global, from: R, to: W) -> Result<W, Fault> {
@@ -44,8 +43,7 @@ const LONG: [u8; 42] = [
 ];
 
 #[test]
-fn long_packets_are_copied(rt: HostRuntime) -> Result<(), Fail> {
-    let copied = copied(rt.alloc(), &SHORT_AND_LONG)?;
+fn long_packets_are_copied(rt: HostRuntime) {
+    let copied = copied(rt.alloc(), &SHORT_AND_LONG).expect(&rt, "it is copied");
     assert!(rt; copied.as_slice() == LONG.as_slice());
-    Ok(())
 }
