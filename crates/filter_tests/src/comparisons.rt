@@ -66,7 +66,7 @@ static TRANSPORTS: [Option<Transport>; 4] = [
 ];
 
 /// Addresses with their masks. Of the last two one has bits outside its mask, as no text has, and one has none at all.
-static NETS: [(u32, u32); 6] = [
+pub(crate) static NETS: [(u32, u32); 6] = [
     (0x0a00_0001, 0xffff_ffff),
     (0x0a00_0002, 0xffff_ffff),
     (0x0a00_0000, 0xff00_0000),
@@ -76,15 +76,21 @@ static NETS: [(u32, u32); 6] = [
 ];
 
 /// Ranges of ports. The last one reads as no text.
-static RANGES: [(u16, u16); 5] = [(53, 53), (80, 443), (0, 65_535), (443, 443), (80, 53)];
+pub(crate) static RANGES: [(u16, u16); 5] = [
+    (53, 53),
+    (80, 443),
+    (0, 65_535),
+    (443, 443),
+    (80, 53),
+];
 
-static ADDRESSES: [[u8; 6]; 3] = [
+pub(crate) static ADDRESSES: [[u8; 6]; 3] = [
     [0, 1, 2, 3, 4, 5],
     [6, 7, 8, 9, 10, 11],
     [255, 255, 255, 255, 255, 255],
 ];
 
-static PLAIN: [Plain; 7] = [
+pub(crate) static PLAIN: [Plain; 7] = [
     Plain::Ip,
     Plain::Arp,
     Plain::Rarp,
@@ -95,7 +101,7 @@ static PLAIN: [Plain; 7] = [
 ];
 
 /// Primitives without a direction.
-static UNDIRECTED: [Primitive; 14] = [
+pub(crate) static UNDIRECTED: [Primitive; 14] = [
     Primitive::IpProto(0),
     Primitive::IpProto(17),
     Primitive::IpProto(255),
@@ -249,7 +255,7 @@ impl Random {
     }
 }
 
-fn random_primitive(random: &mut Random) -> Primitive {
+pub(crate) fn random_primitive(random: &mut Random) -> Primitive {
     let direction = DIRECTIONS[random.below(4)];
     match random.below(6) {
         0 => Primitive::Protocol(PLAIN[random.below(7)]),
@@ -281,7 +287,7 @@ fn random_primitive(random: &mut Random) -> Primitive {
     }
 }
 
-fn boxed(rt: &(impl Abort + AllocGlobal), expr: Expr) -> Box<Expr> {
+pub(crate) fn boxed(rt: &(impl Abort + AllocGlobal), expr: Expr) -> Box<Expr> {
     Box::new(rt.alloc(), expr).expect(rt, "there is memory")
 }
 

@@ -11,6 +11,8 @@ mod comparisons;
 #[cfg(test)]
 mod explained;
 #[cfg(test)]
+mod random_lists;
+#[cfg(test)]
 mod random_relations;
 #[cfg(test)]
 mod relations;

@@ -141,10 +141,10 @@ pub(crate) fn random_relation(rt: &(impl Abort + AllocGlobal), random: &mut Rand
 
 /// How often each answer came.
 #[derive(Clone, Copy)]
-struct Answers {
-    yes: u32,
-    no: u32,
-    abort: u32,
+pub(crate) struct Answers {
+    pub yes: u32,
+    pub no: u32,
+    pub abort: u32,
 }
 
 impl Answers {
@@ -173,7 +173,7 @@ fn counted(
 }
 
 // The same, unless it is too long.
-fn compared(rt: &impl Abort, expr: Expr, frames: &[Vec<u8>], answers: &mut Answers) {
+pub(crate) fn compared(rt: &impl Abort, expr: Expr, frames: &[Vec<u8>], answers: &mut Answers) {
     if let Some(program) = program_of(rt, &expr) {
         counted(rt, &expr, &program, frames, answers);
     }
