@@ -164,8 +164,9 @@ LISTS = [
 SIZES = [
     ("host ", "10.0.0.", 100, 320), ("src host ", "10.0.0.", 100, 115), ("dst net ", "10.0.", 100, 115),
     ("net ", "10.0.", 30, 115), ("port ", "", 200, 420), ("tcp port ", "", 200, 420), ("ip proto ", "", 100, 115),
-    ("", "ip[8] = ", 100, 115), ("ether src ", "0:1:2:3:4:", 100, 115), ("ether dst ", "0:1:2:3:4:", 100, 115),
-    ("ether host ", "0:1:2:3:4:", 100, 220),
+    ("", "ip[8] = ", 100, 110), ("ether src ", "0:1:2:3:4:", 100, 115), ("ether dst ", "0:1:2:3:4:", 100, 115),
+    ("ether host ", "0:1:2:3:4:", 100, 220), ("net ", "10.0.", 100, 325), ("dst port ", "", 100, 115),
+    ("ether proto ", "0x90", 100, 115), ("", "portrange 10-10", 100, 425),
 ]
 
 # Each word of the language without relations, and each kind of identifier.

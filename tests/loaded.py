@@ -1,0 +1,48 @@
+#!/usr/bin/env python3
+"""Runs the tests of threads again and again under load: `nice`, beside a busy loop on each processor.
+
+  tests/loaded.py [ROUNDS]    20 rounds of each test of listener_tests, replay_tests and thread_tests
+
+`./test` or `rt test` in these crates builds them. The last line is `N passed, M failed`.
+"""
+import concurrent.futures
+import os
+import pathlib
+import subprocess
+import sys
+
+ROOT = pathlib.Path(__file__).resolve().parent.parent
+CRATES = ["listener_tests", "replay_tests", "thread_tests"]
+LIMIT = 120
+
+
+def passes(words):
+    """Whether one test ended well, and in time."""
+    try:
+        return subprocess.run(["nice", *words], stdout=subprocess.DEVNULL, stderr=subprocess.DEVNULL, timeout=LIMIT).returncode == 0
+    except subprocess.TimeoutExpired:
+        return False
+
+
+def main():
+    rounds = int(sys.argv[1]) if len(sys.argv) > 1 else 20
+    tests = []
+    for name in CRATES:
+        program = ROOT / "crates" / name / "out" / f"{name}_tests"
+        listed = subprocess.run([program, "--list"], stdout=subprocess.PIPE, text=True, check=True).stdout.split("\n")
+        tests += [(str(program), line.split(": ")[0]) for line in listed if line]
+    busy = [subprocess.Popen([sys.executable, "-c", "while True: pass"]) for _ in range(os.cpu_count())]
+    try:
+        with concurrent.futures.ThreadPoolExecutor(os.cpu_count()) as threads:
+            ended = list(threads.map(passes, tests * rounds))
+    finally:
+        for process in busy:
+            process.kill()
+    for test in sorted({test for test, is_passed in zip(tests * rounds, ended) if not is_passed}):
+        print("failed:", *test[1:])
+    print(f"{sum(ended)} passed, {len(ended) - sum(ended)} failed")
+    return not all(ended)
+
+
+if __name__ == "__main__":
+    sys.exit(main())
