@@ -9,7 +9,6 @@ use commands::check_files::check_files;
 use commands::cut_files::cut_files;
 use commands::explain_files::explain_files;
 use commands::split_files::split_files;
-use commands::steps_files::steps_files;
 use files::late::hold_stream;
 use hints::TakesHints;
 use hints::quotes::hint_unquoted;
@@ -19,6 +18,7 @@ use std::fs::Files;
 use std::io::Write;
 use std::sync::Wait;
 use std::thread::Threads;
+use stepping_files::steps_files::steps_files;
 use words::command_line::{Request, read_words};
 use words::telling::tell_words_fault;
 

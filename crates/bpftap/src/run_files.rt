@@ -3,10 +3,11 @@
 ghost use Rattle.std.specs.Prelude.{◌≡◌, ◌<◌, ◌≤◌, All, IfErr, IfOk, MatchResult, length, vec_len};
 
 use crate::run_hints::{hint_plan, hint_run, hint_unopened};
-use commands::hinting::{NotedInput, hint_printed};
 use files::late::{LateFile, LateInput};
 use files::paths::{STANDARD_OUTPUT, all_apart};
 use files::reading::read_file;
+use hints::failures::hint_printed;
+use hints::noted::NotedInput;
 use hints::{Noted, TakesHints};
 use lines::telling::{REFUSED, tell_fault};
 use replay::RunFault;

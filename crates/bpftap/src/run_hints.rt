@@ -1,8 +1,9 @@
 //! Hints on the faults of `bpftap run`, behind the lines that tell them.
 
-use commands::hinting::{NotedInput, hint_refusal, hint_source};
-use hints::expressions::hint_text_fault;
+use hints::expressions::{hint_refusal, hint_text_fault};
+use hints::failures::hint_source;
 use hints::files::{LISTENERS_OF_RUN, hint_bad_line, hint_capacity, hint_reason};
+use hints::noted::NotedInput;
 use hints::stream::give_hint;
 use hints::{Noted, TakesHints};
 use lines::LineFault;

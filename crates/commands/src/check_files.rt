@@ -2,13 +2,10 @@
 
 ghost use Rattle.std.specs.Prelude.{◌≤◌, IfErr};
 
-use crate::hinting::{told_filter, told_print};
+use crate::filters::{program_of_expression, program_of_file, told_print};
 use bpfvm::Program;
 use cutting::check::{Form, check, show, show_read};
-use cutting::filter::filter;
-use files::reading::tell_io;
 use hints::TakesHints;
-use std::fs;
 use std::fs::Files;
 use std::io::Write;
 use words::check::CheckWords;
@@ -21,19 +18,9 @@ fn program_of<R: Files + AllocGlobal, E: TakesHints>(
 ) -> Result<Program, u8>
     ensures { IfErr result (λ status. status ≤ 3) }
 {
-    let alloc = rt.alloc();
     match words.listing {
-        Some(path) => match fs::read(rt, path) {
-            Ok(listing) => {
-                let listing = Some(listing.as_slice());
-                told_filter(listing, None, filter(alloc, listing, None, words.snap), err)
-            }
-            Err(error) => Err(tell_io(&error, path, err)),
-        },
-        None => {
-            let found = filter(alloc, None, words.expr, words.snap);
-            told_filter(None, words.expr, found, err)
-        }
+        Some(path) => program_of_file(rt, path, err),
+        None => program_of_expression(rt, words.expr, words.snap, err),
     }
 }
 

@@ -2,16 +2,19 @@
 
 ghost use Rattle.std.specs.Prelude.{◌≤◌, IfErr, MatchResult};
 
-use crate::hinting::{hint_cut, told_filter};
+use crate::filters::{program_of_expression, program_of_file};
 use bpfvm::Program;
 use cutting::cut::{CutEnd, End, cut};
-use cutting::filter::filter;
-use cutting::tell::{tell, tell_count, tell_filter};
+use cutting::filter::FilterFault;
+use cutting::tell::{tell, tell_count};
 use files::late::LateFile;
 use files::paths::all_apart;
 use files::reading::tell_io;
 use files::retried::Retried;
+use hints::failures::{hint_failure, hint_input};
+use hints::noted::{NotedInput, NotedOutput};
 use hints::{Noted, TakesHints};
+use lines::telling::{REFUSED, tell_fault};
 use savefile::{Counted, Fault};
 use std::fs;
 use std::fs::Files;
@@ -29,20 +32,22 @@ fn filter_of<R: Files + AllocGlobal, E: TakesHints>(
 ) -> Result<Program, u8>
     ensures { IfErr result (λ status. status ≤ 3) }
 {
-    let alloc = rt.alloc();
     match words.listing {
-        Some(path) if words.expr.is_none() => match fs::read(rt, path) {
-            Ok(listing) => {
-                let listing = Some(listing.as_slice());
-                told_filter(listing, None, filter(alloc, listing, None, words.snap), err)
-            }
-            Err(error) => Err(tell_io(&error, path, err)),
-        },
-        Some(_) => tell_filter(filter(alloc, Some(&[]), words.expr, words.snap), err),
-        None => {
-            let found = filter(alloc, None, words.expr, words.snap);
-            told_filter(None, words.expr, found, err)
-        }
+        Some(path) if words.expr.is_none() => program_of_file(rt, path, err),
+        Some(_) => Err(tell_fault(FilterFault::Twice, REFUSED, err)),
+        None => program_of_expression(rt, words.expr, words.snap, err),
+    }
+}
+
+/// Hints on how a cut ended.
+fn hint_cut<R, W: Write + Drop, E: TakesHints>(
+    end: &CutEnd<NotedInput<R>, NotedOutput<W>>,
+    err: &mut E,
+) {
+    match end.end {
+        End::Clean => {}
+        End::Input(fault) => hint_input(&end.source, fault, err),
+        End::Output(_) => hint_failure(end.sink.inner.get_ref(), err),
     }
 }
 

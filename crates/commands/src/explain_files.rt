@@ -2,11 +2,14 @@
 
 ghost use Rattle.std.specs.Prelude.{◌≤◌, IfErr, MatchResult};
 
-use crate::hinting::{NotedInput, hint_expression, hint_input, hint_output, told_filter};
-use cutting::filter::{FilterFault, filter};
+use crate::filters::program_of_file;
+use cutting::filter::FilterFault;
 use files::paths::{STANDARD_OUTPUT, all_apart};
-use files::reading::{read_file, tell_io};
+use files::reading::tell_io;
 use files::retried::Retried;
+use hints::expressions::hint_expression;
+use hints::failures::{hint_input, hint_output};
+use hints::noted::NotedInput;
 use hints::{Noted, TakesHints};
 use lines::telling::{REFUSED, tell_fault};
 use savefile::{Counted, Fault};
@@ -43,20 +46,6 @@ fn expression_filter<R: Files + AllocGlobal, E: TakesHints>(
     }
 }
 
-/// The filter of a listing's file.
-fn listing_filter<R: Files + AllocGlobal, E: TakesHints>(
-    rt: &R,
-    path: &str,
-    err: &mut E,
-) -> Result<Filter, u8>
-    ensures { IfErr result (λ status. status ≤ 3) }
-{
-    let listing = read_file(rt, path, err)?;
-    let listing = Some(listing.as_slice());
-    let program = told_filter(listing, None, filter(rt.alloc(), listing, None, 0), err)?;
-    Ok(of_program(program))
-}
-
 /// The filter that the words give.
 fn filter_of<R: Files + AllocGlobal, E: TakesHints>(
     rt: &R,
@@ -67,7 +56,7 @@ fn filter_of<R: Files + AllocGlobal, E: TakesHints>(
 {
     match (words.expr, words.listing) {
         (Some(_), Some(_)) => Err(tell_fault(FilterFault::Twice, REFUSED, err)),
-        (None, Some(path)) => listing_filter(rt, path, err),
+        (None, Some(path)) => Ok(of_program(program_of_file(rt, path, err)?)),
         (expr, None) => expression_filter(rt, expr.unwrap_or(""), words.snap, err),
     }
 }

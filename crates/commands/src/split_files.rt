@@ -2,14 +2,14 @@
 
 ghost use Rattle.std.specs.Prelude.{◌≤◌, IfErr, MatchResult};
 
-use crate::hinting::{
-    NotedInput, NotedOutput, hint_expression, hint_failure, hint_printed, hint_source,
-};
 use bpfvm::Program;
 use files::late::{LateFile, LateInput};
 use files::paths::{STANDARD_OUTPUT, all_apart};
 use files::reading::read_file;
+use hints::expressions::hint_expression;
+use hints::failures::{hint_failure, hint_printed, hint_source};
 use hints::files::{LINES, hint_bad_line};
+use hints::noted::{NotedInput, NotedOutput};
 use hints::stream::give_hint;
 use hints::{Noted, TakesHints};
 use lines::telling::{Path, REFUSED, tell_fault};

@@ -5,6 +5,7 @@ ghost use Rattle.std.specs.Prelude.{◌≡◌, false};
 use crate::advice::advice_on;
 use crate::excerpt::{Caret, Excerpt};
 use crate::stream::{TakesHints, give_hint};
+use filtergen::{ExpressionFault, Refusal};
 use filterlang::Fault;
 
 /// The byte that a fault stands at.
@@ -63,4 +64,25 @@ pub fn hint_too_deep<E: TakesHints>(err: &mut E)
         "write long sums from the left, `a + b + c`, not `a + (b + c)`: a relation has 16 words of memory",
         err,
     )
+}
+
+/// Hints on a tree that has no program.
+pub fn hint_refusal<E: TakesHints>(refusal: Refusal, err: &mut E)
+    ensures quiet { E.takes_hints err.old ≡ false → err.new ≡ err.old }
+{
+    match refusal {
+        Refusal::TooLong => hint_too_long(err),
+        Refusal::TooDeep => hint_too_deep(err),
+        _ => {}
+    }
+}
+
+/// Hints on an expression that has no program.
+pub fn hint_expression<E: TakesHints>(text: &str, fault: ExpressionFault, err: &mut E)
+    ensures quiet { E.takes_hints err.old ≡ false → err.new ≡ err.old }
+{
+    match fault {
+        ExpressionFault::Text(fault) => hint_text_fault(text, fault, err),
+        ExpressionFault::Tree(refusal) => hint_refusal(refusal, err),
+    }
 }

@@ -5,6 +5,7 @@ mod advice;
 pub mod captures;
 mod excerpt;
 pub mod expressions;
+pub mod failures;
 pub mod files;
 mod nearest;
 pub mod noted;

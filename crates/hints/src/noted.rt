@@ -1,7 +1,8 @@
 //! Readers and writers that note what a hint tells of them.
 
+use savefile::Counted;
 use std::io;
-use std::io::{Read, Write};
+use std::io::{BufWriter, Read, Write};
 
 /// The bytes of a capture's header.
 pub const HEADER: usize = 24;
@@ -15,6 +16,12 @@ pub struct Noted<T> {
     came: usize,
     failure: Option<io::Error>,
 }
+
+/// A capture that is read, whose first bytes and failure are noted.
+pub type NotedInput<R> = Counted<Noted<R>>;
+
+/// A capture that is written, behind a buffer, whose failure is noted.
+pub type NotedOutput<W> = Counted<BufWriter<Noted<W>>>;
 
 impl<T> Noted<T> {
     pub fn new(inner: T) -> Noted<T> {

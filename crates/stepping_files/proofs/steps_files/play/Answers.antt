@@ -2,9 +2,9 @@ use Rattle.std.proofs.Common.{rules, inl, inr, refl, None, Ok, codes}
 use Rattle.std.proofs.KnownBytes.{Keeps-refl}
 use Rattle.lines.specs.Telling.{told_line}
 use Rattle.tap.specs.declared.fault.Fault.TheVariants.{NoMemory}
-use Rattle.commands.proofs.Told.{first_ok, on_ok_any, takes_and}
-use Rattle.commands.proofs.steps_files.play.Goals.{then-hinted, else-hinted}
-use Rattle.commands.proofs.steps_files.play.Goals as goal
+use Rattle.stepping_files.proofs.Told.{first_ok, on_ok_any, takes_and}
+use Rattle.stepping_files.proofs.steps_files.play.Goals.{then-hinted, else-hinted}
+use Rattle.stepping_files.proofs.steps_files.play.Goals as goal
 
 -- want of memory before anything was played is the fault that stands
 pub returns-in_default-clause-tells : goal.returns-in_default-clause-tells

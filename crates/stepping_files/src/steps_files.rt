@@ -1,13 +1,14 @@
 //! `bpftap steps`, over files.
 
 ghost use Rattle.std.specs.Prelude.{◌≡◌, ◌≤◌, false, map, IfErr, MatchResult};
-ghost use Rattle.commands.specs.Telling.{IsStillTold, TellsPlayed};
+ghost use Rattle.stepping_files.specs.Telling.{IsStillTold, TellsPlayed};
 
-use crate::hinting::{hint_asked, hint_output, hint_steps};
 use crate::picture_files::draw;
+use crate::step_hints::{hint_asked, hint_steps};
 use files::paths::{STANDARD_OUTPUT, all_apart};
 use files::piped::Piped;
 use files::reading::read_file;
+use hints::failures::hint_output;
 use hints::{Noted, TakesHints};
 use lines::sending::send;
 use lines::telling::{Ended, REFUSED, tell_fault, tell_line};

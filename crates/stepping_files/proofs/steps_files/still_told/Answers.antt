@@ -2,7 +2,7 @@ use Rattle.std.proofs.Common.{inr, Some, codes}
 use Rattle.std.proofs.lemmas.Bool.Decides.{Decides-eqb}
 use Rattle.std.proofs.lemmas.Slice.Eq.{strip_prefix_is}
 use Rattle.lines.specs.Telling.{told_line}
-use Rattle.commands.proofs.steps_files.still_told.Goals as goal
+use Rattle.stepping_files.proofs.steps_files.still_told.Goals as goal
 
 pub returns-in-Some-clause-still : goal.returns-in-Some-clause-still
 returns-in-Some-clause-still c =
