@@ -128,8 +128,8 @@ fn marked_insns(insns: &[Insn], marks: &[bool]) -> ArrayVec<Insn, MAX_INSNS>
     kept
 }
 
-/// The program without the instructions that nothing reaches: it answers as before, and its jumps are no longer. From its first
-/// instruction some path of jumps leads to each of the others; such a path may take a side that no packet takes.
+/// The program without the instructions that nothing reaches: it answers as before. From its first instruction some path of jumps
+/// leads to each of the others; such a path may take a side that no packet takes.
 pub fn without_unreached(insns: &[Insn]) -> ArrayVec<Insn, MAX_INSNS>
     requires { IsValidProgram insns.now }
     ensures valid { IsValidProgram result.items }

@@ -24,7 +24,9 @@ of each of its buffers; how many buffers go round between the listener and its w
 the capture that it writes; and its filter, which may be empty. An i behind CAPACITY makes the
 listener Immediate: a packet that is stored can be read at once.
 
-A word + among IN begins the captures of the next interface.
+A word + among IN begins the captures of the next interface. What a listener hands over is written
+to its OUT as soon as its writer has nothing more to write, so an OUT can be followed: with FLUSH 1,
+or with an i, packet by packet. Threads that wait for captures take no processor.
 
 Examples:
   bpftap run examples/run/listeners.txt examples/veth.pcap
