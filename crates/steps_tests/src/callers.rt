@@ -1,15 +1,16 @@
 //! The callers that the pages of `lines`, `stepping` and `picture` show, crates/NAME/README.md.
 
-use fixtures::captures::{HEADER, TCP, UDP, bytes_of};
+use crate::same::same;
+use fixtures::captures::{HEADER, TCP, UDP, concat};
 use lines::Line;
 use lines::fields::{first_line, number, split_once};
 use lines::sending::send;
 use listener::Mode;
 use picture::write_picture;
-use std::alloc::{AllocError, Global};
+use std::alloc::Global;
 use std::io;
 use std::io::Write;
-use std::test::Fail;
+use std::process::Abort;
 use stepping::steps::steps;
 use tap::{Filter, Spec, Step, trace};
 
@@ -70,52 +71,55 @@ fn drawn(
 }
 
 /// A capture of a TCP and a UDP frame.
-fn two(alloc: Global) -> Result<Vec<u8>, AllocError> {
-    let mut text = bytes_of(alloc, HEADER)?;
-    for record in [TCP, UDP] {
-        text.extend_from_slice(bytes_of(alloc, record)?.as_slice())?;
-    }
-    Ok(text)
+fn two(rt: &(impl Abort + AllocGlobal)) -> Vec<u8> {
+    concat(rt.alloc(), &[HEADER, TCP, UDP]).expect(rt, "memory")
 }
 
 #[test]
-fn ports_are_printed_line_by_line(rt: HostRuntime) -> Result<(), Fail> {
+fn ports_are_printed_line_by_line(rt: HostRuntime) {
     let mut out: Vec<u8> = Vec::new(rt.alloc());
-    print_ports(b"http 80\nssh\nbig 65536\nlast 007", &mut out)?;
-    assert_eq!(rt;
-        out.as_slice(),
-        b"port 80\nno port\nno port\nport 7\n".as_slice()
-    );
-    Ok(())
+    let text = b"http 80\nssh\nbig 65536\nlast 007";
+    print_ports(text, &mut out).expect(&rt, "memory");
+    let ports = b"port 80\nno port\nno port\nport 7\n";
+    same(&rt, out.as_slice(), ports.as_slice());
 }
 
 #[test]
-fn a_listener_is_printed_or_told(rt: HostRuntime) -> Result<(), Fail> {
-    let text = two(rt.alloc())?;
+fn a_listener_is_printed(rt: HostRuntime) {
+    let text = two(&rt);
     let out = printed(rt.alloc(), text.as_slice()).expect(&rt, "a replay");
     let wanted =
         b"listener 0 received 2 matched 1 dropped 0\nheld\ncapture 0 place 0 time 1.000000000 len 38 kept 38\n";
-    assert_eq!(rt; out.as_slice(), wanted.as_slice());
-    let err = printed(rt.alloc(), b"").err().expect(&rt, "a refusal");
-    assert_eq!(rt;
-        err.as_slice(),
-        b"bpftap: Capture 0 ShortHeader\n".as_slice()
-    );
-    Ok(())
+    same(&rt, out.as_slice(), wanted.as_slice());
 }
 
 #[test]
-fn a_replay_is_drawn(rt: HostRuntime) -> Result<(), Fail> {
-    let text = two(rt.alloc())?;
+fn a_refusal_is_told(rt: HostRuntime) {
+    let err = printed(rt.alloc(), b"").err().expect(&rt, "a refusal");
+    let fault = b"bpftap: Capture 0 ShortHeader\n";
+    same(&rt, err.as_slice(), fault.as_slice());
+}
+
+/// The picture of a replay of one capture to one listener, where there is one.
+fn picture_of(rt: &(impl Abort + AllocGlobal), capture: &[u8]) -> Option<Vec<u8>> {
     let specs = [Spec {
-        filter: Filter::Text(String::from_str(rt.alloc(), "tcp")?),
+        filter: Filter::Text(String::from_str(rt.alloc(), "tcp").expect(rt, "memory")),
         snap: 96,
         capacity: 128,
         mode: Mode::Buffered,
     }];
     let steps = [Step::Arrive, Step::Flush(0)];
-    let picture = drawn(rt.alloc(), text.as_slice(), &specs, &steps)?.expect(&rt, "a picture");
+    drawn(rt.alloc(), capture, &specs, &steps).expect(rt, "memory")
+}
+
+#[test]
+fn a_replay_is_drawn(rt: HostRuntime) {
+    let text = two(&rt);
+    let picture = picture_of(&rt, text.as_slice()).expect(&rt, "a picture");
     assert!(rt; picture.starts_with(b"<svg "));
-    assert!(rt; drawn(rt.alloc(), b"", &specs, &steps)?.is_none());
-    Ok(())
+}
+
+#[test]
+fn a_replay_that_is_refused_is_not_drawn(rt: HostRuntime) {
+    assert!(rt; picture_of(&rt, b"").is_none());
 }

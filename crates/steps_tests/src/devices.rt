@@ -1,10 +1,11 @@
 //! `bpftap steps` into an output that takes all and sends nothing on.
 
+use crate::same::same;
 use fixtures::captures::{HEADER, bytes_of};
 use std::io;
 use std::io::{ErrorKind, Write};
-use std::test::Fail;
-use stepping::steps::{play_asked, read_asked};
+use std::process::Abort;
+use stepping::steps::{Asked, play_asked, read_asked};
 
 /// A writer that takes all, and cannot send on what it has gathered.
 #[derive(Drop)]
@@ -23,22 +24,21 @@ impl Write for Unflushed {
     }
 }
 
+/// What `steps` prints is a device fault where it is not sent on, and was taken.
+fn is_a_fault(rt: &(impl Abort + AllocGlobal), asked: &Asked, header: &[u8], explained: bool) {
+    let taken = Vec::new(rt.alloc());
+    let mut out = Unflushed { taken };
+    let mut err: Vec<u8> = Vec::new(rt.alloc());
+    let ended = play_asked(rt.alloc(), asked, &[header], explained, &mut out, &mut err);
+    let line = b"bpftap: Device standard output\n";
+    same(rt, (err.as_slice(), ended.status), (line.as_slice(), 3));
+    assert!(rt; out.taken.ends_with(b"held\n"));
+}
+
 #[test]
-fn reports_that_are_not_sent_on_are_a_device_fault(rt: HostRuntime) -> Result<(), Fail> {
-    let header = bytes_of(rt.alloc(), HEADER)?;
-    let asked = read_asked(rt.alloc(), b"32 64", b"arrive")?;
-    for explained in [false, true] {
-        let taken = Vec::new(rt.alloc());
-        let mut out = Unflushed { taken };
-        let mut err: Vec<u8> = Vec::new(rt.alloc());
-        let captures = [header.as_slice()];
-        let ended = play_asked(rt.alloc(), &asked, &captures, explained, &mut out, &mut err);
-        assert_eq!(rt;
-            err.as_slice(),
-            b"bpftap: Device standard output\n".as_slice()
-        );
-        assert_eq!(rt; ended.status, 3);
-        assert!(rt; out.taken.ends_with(b"held\n"));
-    }
-    Ok(())
+fn reports_that_are_not_sent_on_are_a_device_fault(rt: HostRuntime) {
+    let header = bytes_of(rt.alloc(), HEADER).expect(&rt, "memory");
+    let asked = read_asked(rt.alloc(), b"32 64", b"arrive").expect(&rt, "both are read");
+    is_a_fault(&rt, &asked, header.as_slice(), false);
+    is_a_fault(&rt, &asked, header.as_slice(), true);
 }

@@ -1,12 +1,12 @@
 //! The texts of a replay's faults, which `fault_texts` and `stepping` say again by a contract, are the faults' own.
 
+use crate::same::same;
 use fault_texts::ExpressionFaultText;
 use filtergen::Refusal;
 use lines::CaptureFaultText;
 use listener::OpenFault;
 use std::fmt::Display;
 use std::process::Abort;
-use std::test::Fail;
 use stepping::faults::FaultText;
 use tap::Fault;
 
@@ -14,14 +14,13 @@ fn is_its_own(
     rt: &(impl Abort + AllocGlobal),
     told: impl Display + Drop,
     own: impl Display + Drop,
-) -> Result<(), Fail> {
-    let told = format!(in rt.alloc(); "{told}")?;
-    let own = format!(in rt.alloc(); "{own}")?;
-    assert_eq!(rt; told.as_str(), own.as_str());
-    Ok(())
+) {
+    let told = format!(in rt.alloc(); "{told}").expect(rt, "memory");
+    let own = format!(in rt.alloc(); "{own}").expect(rt, "memory");
+    same(rt, told.as_str(), own.as_str());
 }
 
-const OF_CAPTURES: [savefile::Fault; 11] = [
+static OF_CAPTURES: [savefile::Fault; 11] = [
     savefile::Fault::ShortHeader,
     savefile::Fault::NotSavefile,
     savefile::Fault::Version,
@@ -35,7 +34,7 @@ const OF_CAPTURES: [savefile::Fault; 11] = [
     savefile::Fault::CountFull,
 ];
 
-const OF_EXPRESSIONS: [filterlang::Fault; 13] = [
+static OF_EXPRESSIONS: [filterlang::Fault; 13] = [
     filterlang::Fault::TextTooLong,
     filterlang::Fault::BadByte(1),
     filterlang::Fault::BadWord(2),
@@ -51,7 +50,7 @@ const OF_EXPRESSIONS: [filterlang::Fault; 13] = [
     filterlang::Fault::NoMemory,
 ];
 
-const OF_REPLAYS: [Fault; 14] = [
+static OF_REPLAYS: [Fault; 14] = [
     Fault::TooMany,
     Fault::NoListener(12),
     Fault::Capture(13, savefile::Fault::TornRecord(14)),
@@ -69,15 +68,14 @@ const OF_REPLAYS: [Fault; 14] = [
 ];
 
 #[test]
-fn faults_are_told_by_their_own_texts(rt: HostRuntime) -> Result<(), Fail> {
-    for fault in OF_CAPTURES {
-        is_its_own(&rt, CaptureFaultText(fault), fault)?;
+fn faults_are_told_by_their_own_texts(rt: HostRuntime) {
+    for fault in OF_CAPTURES.iter() {
+        is_its_own(&rt, CaptureFaultText(*fault), *fault);
     }
-    for fault in OF_EXPRESSIONS {
-        is_its_own(&rt, ExpressionFaultText(fault), fault)?;
+    for fault in OF_EXPRESSIONS.iter() {
+        is_its_own(&rt, ExpressionFaultText(*fault), *fault);
     }
-    for fault in OF_REPLAYS {
-        is_its_own(&rt, FaultText(fault), fault)?;
+    for fault in OF_REPLAYS.iter() {
+        is_its_own(&rt, FaultText(*fault), *fault);
     }
-    Ok(())
 }

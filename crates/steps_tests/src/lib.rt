@@ -10,3 +10,5 @@ mod devices;
 mod faults;
 #[cfg(test)]
 mod replays;
+#[cfg(test)]
+mod same;

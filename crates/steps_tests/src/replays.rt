@@ -2,10 +2,10 @@
 
 mod caller;
 
+use crate::same::same;
 use bpfvm::read_listing;
 use filtergen::Refusal;
 use listener::{Fed, Message, Mode, OpenFault};
-use std::alloc::{AllocError, Global};
 use std::process::Abort;
 use std::rt::Env;
 use tap::{Answer, Fault, Filter, Report, Spec, Step, Trace, replay, trace};
@@ -21,19 +21,25 @@ const UDP: [u8; 38] = [
     0x11, 0, 0, 10, 0, 0, 1, 10, 0, 0, 2, 0, 0x35, 0, 0x35,
 ];
 
+/// The header of a capture.
+fn header(rt: &(impl Abort + AllocGlobal)) -> Vec<u8> {
+    Vec::from_slice(rt.alloc(), &HEADER).expect(rt, "memory")
+}
+
 /// Appends a record at a second, of a packet of these bytes, as many as `len`.
-fn put_record(text: &mut Vec<u8>, sec: u8, len: u8, data: &[u8]) -> Result<(), AllocError> {
-    text.extend_from_slice(&[sec, 0, 0, 0, 0, 0, 0, 0, len, 0, 0, 0, len, 0, 0, 0])?;
-    text.extend_from_slice(data)
+fn put_record(rt: &(impl Abort + AllocGlobal), text: &mut Vec<u8>, sec: u8, len: u8, data: &[u8]) {
+    text.extend_from_slice(&[sec, 0, 0, 0, 0, 0, 0, 0, len, 0, 0, 0, len, 0, 0, 0])
+        .expect(rt, "memory");
+    text.extend_from_slice(data).expect(rt, "memory");
 }
 
 /// A capture of so many packets of 60 zeros, at second 1, 2, ..
-fn zeros(alloc: Global, packets: u8) -> Result<Vec<u8>, AllocError> {
-    let mut text = Vec::from_slice(alloc, &HEADER)?;
+fn zeros(rt: &(impl Abort + AllocGlobal), packets: u8) -> Vec<u8> {
+    let mut text = header(rt);
     for i in 0..packets {
-        put_record(&mut text, i.wrapping_add(1), 60, &[0; 60])?;
+        put_record(rt, &mut text, i.wrapping_add(1), 60, &[0; 60]);
     }
-    Ok(text)
+    text
 }
 
 /// The frame with the protocol TCP.
@@ -44,10 +50,10 @@ fn tcp() -> [u8; 38] {
 }
 
 /// A capture of one TCP frame, at second 1.
-fn one_tcp(alloc: Global) -> Result<Vec<u8>, AllocError> {
-    let mut text = Vec::from_slice(alloc, &HEADER)?;
-    put_record(&mut text, 1, 38, &tcp())?;
-    Ok(text)
+fn one_tcp(rt: &(impl Abort + AllocGlobal)) -> Vec<u8> {
+    let mut text = header(rt);
+    put_record(rt, &mut text, 1, 38, &tcp());
+    text
 }
 
 fn wanted(
@@ -85,6 +91,11 @@ fn fates(rt: &(impl Abort + AllocGlobal), trace: &Trace, l: usize) -> Vec<Fed> {
     fates
 }
 
+/// This became of the packets that arrived at the first listener.
+fn has_fates(rt: &(impl Abort + AllocGlobal), trace: &Trace, want: &[Fed]) {
+    same(rt, fates(rt, trace, 0).as_slice(), want);
+}
+
 /// The item at a place, where there is one.
 fn at<'a, T>(rt: &(impl Abort + AllocGlobal), items: &'a [T], place: usize) -> &'a T {
     items.get(place).expect(rt, "an item")
@@ -97,12 +108,12 @@ fn counts(report: &Report) -> (u64, u64, u64) {
 /// The places of a batch's messages are these.
 fn has_batch(rt: &(impl Abort + AllocGlobal), report: &Report, batch: usize, want: &[u64]) {
     let batch = at(rt, report.batches.as_slice(), batch);
-    assert_eq!(rt; places(rt, batch.as_slice()).as_slice(), want);
+    same(rt, places(rt, batch.as_slice()).as_slice(), want);
 }
 
 /// The places of the messages that are held are these.
 fn holds(rt: &(impl Abort + AllocGlobal), report: &Report, want: &[u64]) {
-    assert_eq!(rt; places(rt, report.held.as_slice()).as_slice(), want);
+    same(rt, places(rt, report.held.as_slice()).as_slice(), want);
 }
 
 /// A program that keeps 32 bytes of each packet.
@@ -112,46 +123,49 @@ fn keeping_32(rt: &impl Abort) -> Filter {
 
 /// Of four packets the third is dropped, and the others are kept with 32 bytes each.
 fn drops_the_third(rt: &(impl Abort + AllocGlobal), report: &Report) {
-    assert_eq!(rt; counts(report), (4, 4, 1));
-    assert_eq!(rt; report.batches.len(), 1);
+    same(rt, counts(report), (4, 4, 1));
+    same(rt, report.batches.len(), 1);
     has_batch(rt, report, 0, &[0]);
     holds(rt, report, &[1, 3]);
     let last = at(rt, report.held.as_slice(), 1);
-    assert_eq!(rt; last.bytes.as_slice().len(), 32);
-    assert_eq!(rt; (last.sec, last.nanos, last.len), (4, 0, 60));
+    same(rt, last.bytes.as_slice().len(), 32);
+    same(rt, (last.sec, last.nanos, last.len), (4, 0, 60));
 }
 
 /// Four packets, of which the listener has read the first before the fourth arrives.
+static ROTATING: [Step; 5] = [
+    Step::Arrive,
+    Step::Arrive,
+    Step::Arrive,
+    Step::Read(0),
+    Step::Arrive,
+];
+
+static ROTATED: [Fed; 4] = [Fed::Stored, Fed::Rotated, Fed::Dropped, Fed::Rotated];
+
 fn rotates_and_drops(rt: &(impl Abort + AllocGlobal), spec: Spec) {
-    let text = zeros(rt.alloc(), 4).expect(rt, "memory");
-    let steps = [
-        Step::Arrive,
-        Step::Arrive,
-        Step::Arrive,
-        Step::Read(0),
-        Step::Arrive,
-    ];
-    let trace = trace(rt.alloc(), &[text.as_slice()], &[spec], &steps).expect(rt, "a trace");
+    let text = zeros(rt, 4);
+    let steps = ROTATING.as_slice();
+    let trace = trace(rt.alloc(), &[text.as_slice()], &[spec], steps).expect(rt, "a trace");
     drops_the_third(rt, at(rt, trace.reports.as_slice(), 0));
-    assert_eq!(rt;
-        fates(rt, &trace, 0).as_slice(),
-        [Fed::Stored, Fed::Rotated, Fed::Dropped, Fed::Rotated].as_slice()
-    );
+    has_fates(rt, &trace, ROTATED.as_slice());
     assert!(rt; trace.record_fault.is_none());
+}
+
+/// A spec of a program that keeps 32 bytes.
+fn keeping(rt: &impl Abort, snap: u32, capacity: usize) -> Spec {
+    Spec {
+        filter: keeping_32(rt),
+        snap,
+        capacity,
+        mode: Mode::Buffered,
+    }
 }
 
 #[test]
 fn four_packets_rotate_and_drop(rt: HostRuntime) {
     rotates_and_drops(&rt, wanted(&rt, "", 32, 64, Mode::Buffered));
-    rotates_and_drops(
-        &rt,
-        Spec {
-            filter: keeping_32(&rt),
-            snap: 64,
-            capacity: 96,
-            mode: Mode::Buffered,
-        },
-    );
+    rotates_and_drops(&rt, keeping(&rt, 64, 96));
 }
 
 /// What a replay answers.
@@ -162,10 +176,14 @@ fn are_alike(rt: &(impl Abort + AllocGlobal), plain: &Answered, trace: &Result<T
     match (plain, trace) {
         (Ok((reports, torn)), Ok(trace)) => {
             let plain = at(rt, reports.as_slice(), 0);
-            assert_eq!(rt; counts(plain), counts(at(rt, trace.reports.as_slice(), 0)));
-            assert_eq!(rt; *torn, trace.record_fault);
+            same(
+                rt,
+                counts(plain),
+                counts(at(rt, trace.reports.as_slice(), 0)),
+            );
+            same(rt, *torn, trace.record_fault);
         }
-        (Err(plain), Err(trace)) => assert_eq!(rt; plain, trace),
+        (Err(plain), Err(trace)) => same(rt, plain, trace),
         _ => assert!(rt; false, "one of the two calls refused"),
     }
 }
@@ -192,7 +210,7 @@ fn replayed_at_32(
     mode: Mode,
     steps: &[Step],
 ) -> Trace {
-    let text = zeros(rt.alloc(), packets).expect(rt, "memory");
+    let text = zeros(rt, packets);
     let spec = wanted(rt, "", 32, capacity, mode);
     replayed(rt, text.as_slice(), spec, steps).expect(rt, "a trace")
 }
@@ -208,42 +226,46 @@ fn answers(rt: &(impl Abort + AllocGlobal), trace: &Trace) -> Vec<(usize, usize,
     answers
 }
 
+static CLOSING: [Step; 8] = [
+    Step::Arrive,
+    Step::Arrive,
+    Step::Read(0),
+    Step::Flush(0),
+    Step::Close(0),
+    Step::Arrive,
+    Step::Read(0),
+    Step::Close(0),
+];
+
+/// The answer to each of these steps, with the load and the number of held messages.
+static CLOSED: [(usize, usize, Answer); 8] = [
+    (0, 0, Answer::Arrived(Fed::Stored)),
+    (64, 0, Answer::Arrived(Fed::Stored)),
+    (128, 0, Answer::Read(false)),
+    (128, 0, Answer::Flushed(true)),
+    (0, 2, Answer::Closed),
+    (0, 2, Answer::Arrived(Fed::Closed)),
+    (0, 2, Answer::Read(false)),
+    (0, 2, Answer::Closed),
+];
+
+/// Two packets are held, and nothing was read.
+fn holds_two(rt: &(impl Abort + AllocGlobal), report: &Report) {
+    same(rt, counts(report), (2, 2, 0));
+    assert!(rt; report.batches.is_empty());
+    holds(rt, report, &[0, 1]);
+}
+
 #[test]
 fn a_closed_listener_takes_nothing_and_gives_nothing(rt: HostRuntime) {
-    let steps = [
-        Step::Arrive,
-        Step::Arrive,
-        Step::Read(0),
-        Step::Flush(0),
-        Step::Close(0),
-        Step::Arrive,
-        Step::Read(0),
-        Step::Close(0),
-    ];
-    let trace = replayed_at_32(&rt, 3, 128, Mode::Buffered, &steps);
-    let report = at(&rt, trace.reports.as_slice(), 0);
-    assert_eq!(rt; counts(report), (2, 2, 0));
-    assert!(rt; report.batches.is_empty());
-    holds(&rt, report, &[0, 1]);
-    assert_eq!(rt;
-        answers(&rt, &trace).as_slice(),
-        [
-            (0, 0, Answer::Arrived(Fed::Stored)),
-            (64, 0, Answer::Arrived(Fed::Stored)),
-            (128, 0, Answer::Read(false)),
-            (128, 0, Answer::Flushed(true)),
-            (0, 2, Answer::Closed),
-            (0, 2, Answer::Arrived(Fed::Closed)),
-            (0, 2, Answer::Read(false)),
-            (0, 2, Answer::Closed),
-        ]
-        .as_slice()
-    );
+    let trace = replayed_at_32(&rt, 3, 128, Mode::Buffered, CLOSING.as_slice());
+    holds_two(&rt, at(&rt, trace.reports.as_slice(), 0));
+    same(&rt, answers(&rt, &trace).as_slice(), CLOSED.as_slice());
 }
 
 /// A replay of one TCP frame to a listener of an expression that keeps ten bytes, and a read of it.
 fn read_of_tcp(rt: &(impl Abort + AllocGlobal), expression: &str) -> Trace {
-    let text = one_tcp(rt.alloc()).expect(rt, "memory");
+    let text = one_tcp(rt);
     let spec = wanted(rt, expression, 10, 48, Mode::Buffered);
     let steps = [Step::Arrive, Step::Flush(0), Step::Read(0)];
     replayed(rt, text.as_slice(), spec, &steps).expect(rt, "a trace")
@@ -251,17 +273,17 @@ fn read_of_tcp(rt: &(impl Abort + AllocGlobal), expression: &str) -> Trace {
 
 /// One packet was kept with ten bytes.
 fn has_ten_bytes(rt: &(impl Abort + AllocGlobal), report: &Report) {
-    assert_eq!(rt; counts(report), (1, 1, 0));
-    assert_eq!(rt; report.batches.len(), 1);
+    same(rt, counts(report), (1, 1, 0));
+    same(rt, report.batches.len(), 1);
     let message = at(rt, at(rt, report.batches.as_slice(), 0).as_slice(), 0);
-    assert_eq!(rt; message.bytes.as_slice(), &UDP[..10]);
-    assert_eq!(rt; (message.sec, message.nanos, message.len), (1, 0, 38));
+    same(rt, message.bytes.as_slice(), &UDP[..10]);
+    same(rt, (message.sec, message.nanos, message.len), (1, 0, 38));
 }
 
 /// One packet arrived and was passed over.
 fn has_passed_one(rt: &(impl Abort + AllocGlobal), trace: &Trace) {
-    assert_eq!(rt; counts(at(rt, trace.reports.as_slice(), 0)), (1, 0, 0));
-    assert_eq!(rt; fates(rt, trace, 0).as_slice(), [Fed::Passed].as_slice());
+    same(rt, counts(at(rt, trace.reports.as_slice(), 0)), (1, 0, 0));
+    has_fates(rt, trace, &[Fed::Passed]);
 }
 
 #[test]
@@ -273,25 +295,29 @@ fn an_expression_keeps_what_it_accepts_cut(rt: HostRuntime) {
 
 /// Nothing was counted, read or held.
 fn has_nothing(rt: &impl Abort, report: &Report) {
-    assert_eq!(rt; counts(report), (0, 0, 0));
+    same(rt, counts(report), (0, 0, 0));
     assert!(rt; report.batches.is_empty());
     assert!(rt; report.held.is_empty());
+}
+
+/// Nothing arrived at the first listener, which answered two steps.
+fn has_no_packet(rt: &(impl Abort + AllocGlobal), trace: &Trace) {
+    has_nothing(rt, at(rt, trace.reports.as_slice(), 0));
+    same(rt, at(rt, trace.answers.as_slice(), 0).len(), 2);
+    assert!(rt; trace.playlist.is_empty());
 }
 
 #[test]
 fn past_the_last_packet_nothing_arrives(rt: HostRuntime) {
     let steps = [Step::Arrive, Step::Flush(0), Step::Arrive, Step::Read(0)];
-    let trace = replayed_at_32(&rt, 0, 64, Mode::Buffered, &steps);
-    has_nothing(&rt, at(&rt, trace.reports.as_slice(), 0));
-    assert_eq!(rt; at(&rt, trace.answers.as_slice(), 0).len(), 2);
-    assert!(rt; trace.playlist.is_empty());
+    has_no_packet(&rt, &replayed_at_32(&rt, 0, 64, Mode::Buffered, &steps));
 }
 
 /// A replay of one TCP frame to one listener is refused so.
 fn refuses(rt: &(impl Abort + AllocGlobal), spec: Spec, want: Fault) {
-    let text = one_tcp(rt.alloc()).expect(rt, "memory");
+    let text = one_tcp(rt);
     let fault = replayed(rt, text.as_slice(), spec, &[]).err();
-    assert_eq!(rt; fault, Some(want));
+    same(rt, fault, Some(want));
 }
 
 #[test]
@@ -300,12 +326,7 @@ fn a_bad_snapshot_length_is_told_of_an_expression_and_of_a_program(rt: HostRunti
         let spec = wanted(&rt, "tcp", snap, 0, Mode::Buffered);
         refuses(&rt, spec, Fault::Compile(0, Refusal::BadSnap));
     }
-    let spec = Spec {
-        filter: keeping_32(&rt),
-        snap: 262_145,
-        capacity: 0,
-        mode: Mode::Buffered,
-    };
+    let spec = keeping(&rt, 262_145, 0);
     refuses(&rt, spec, Fault::Open(0, OpenFault::BadSnap));
 }
 
@@ -313,7 +334,7 @@ fn a_bad_snapshot_length_is_told_of_an_expression_and_of_a_program(rt: HostRunti
 fn is_refused(rt: &impl Abort, answer: Answered, want: Fault) {
     match answer {
         Ok(_) => assert!(rt; false, "it was not refused"),
-        Err(fault) => assert_eq!(rt; fault, want),
+        Err(fault) => same(rt, fault, want),
     }
 }
 
@@ -352,19 +373,31 @@ fn are_too_many(rt: &(impl Abort + AllocGlobal), listeners: u32, captures: usize
     is_refused(rt, answer, Fault::TooMany);
 }
 
-// A capture that is read clears half a mebibyte, and behind a torn one only headers are looked at.
+/// A replay was not refused.
+fn is_taken(rt: &impl Abort, answer: Answered) {
+    assert!(rt; answer.is_ok());
+}
+
+/// A replay was not refused, and its first capture is torn in its first record.
+fn is_torn(rt: &impl Abort, answer: Answered) {
+    let (_reports, fault) = answer.expect(rt, "a report");
+    same(rt, fault, Some((0, savefile::Fault::TornRecord(0))));
+}
+
 #[test]
 fn as_many_as_may_be(rt: HostRuntime) {
     are_taken(&rt, 64, 1);
     are_too_many(&rt, 65, 1);
     are_taken(&rt, 1, 65_536);
     are_too_many(&rt, 1, 65_537);
-    assert!(rt; replay_many(&rt, 64, 1, &HEADER, Step::Arrive).is_ok());
-    assert!(rt; replay_many(&rt, 1, 16, &HEADER, Step::Arrive).is_ok());
+}
+
+// A capture that is read clears half a mebibyte, and behind a torn one only headers are looked at.
+#[test]
+fn as_many_as_may_be_are_replayed(rt: HostRuntime) {
+    is_taken(&rt, replay_many(&rt, 64, 1, &HEADER, Step::Arrive));
+    is_taken(&rt, replay_many(&rt, 1, 16, &HEADER, Step::Arrive));
     let mut torn = [0; 25];
     torn[..24].copy_from_slice(&HEADER);
-    let (_reports, fault) = replay_many(&rt, 1, 65_536, &torn, Step::Arrive).expect(
-        &rt, "a report",
-    );
-    assert_eq!(rt; fault, Some((0, savefile::Fault::TornRecord(0))));
+    is_torn(&rt, replay_many(&rt, 1, 65_536, &torn, Step::Arrive));
 }

@@ -6,4 +6,6 @@ mod run_devices;
 #[cfg(test)]
 mod run_plan;
 #[cfg(test)]
+mod same;
+#[cfg(test)]
 mod tally;

@@ -1,10 +1,10 @@
 //! `bpftap run` over devices that break, and over calls that are counted.
 
+use crate::same::same;
 use fixtures::captures::{HEADER, TCP, UDP, concat};
 use fixtures::devices::{BreakingWriter, PiecesReader};
 use running::run::run;
 use savefile::Counted;
-use std::alloc::{AllocError, Global};
 use std::fmt::Write as _;
 use std::io;
 use std::io::{Read, Write};
@@ -12,7 +12,6 @@ use std::process::Abort;
 use std::sync::Wait;
 use std::sync::atomic::AtomicU64;
 use std::sync::atomic::Ordering::SeqCst;
-use std::test::Fail;
 use std::thread::Threads;
 
 /// The n-th item, which is there.
@@ -51,17 +50,18 @@ impl Write for Touched<'_> {
 
 /// A capture of one source for each interface, all of which count their calls together.
 fn counting_devices<'a>(
-    alloc: Global,
+    rt: &(impl Abort + AllocGlobal),
     calls: &'a AtomicU64,
     interfaces: usize,
-) -> Result<Vec<Vec<Counted<Touched<'a>>>>, AllocError> {
-    let mut captures = Vec::new(alloc);
+) -> Vec<Vec<Counted<Touched<'a>>>> {
+    let mut captures = Vec::new(rt.alloc());
     for _ in 0..interfaces {
-        let mut sources = Vec::new(alloc);
-        sources.push(Counted::new(Touched { calls }))?;
-        captures.push(sources)?;
+        let mut sources = Vec::new(rt.alloc());
+        let source = Counted::new(Touched { calls });
+        sources.push(source).expect(rt, "memory");
+        captures.push(sources).expect(rt, "memory");
     }
-    Ok(captures)
+    captures
 }
 
 /// The fault that a call over counting devices tells, and how often they were called and how many sinks were made.
@@ -69,10 +69,10 @@ fn call_touched<R: Abort + AllocGlobal + Threads + Wait + Sync>(
     rt: &R,
     listeners: &[u8],
     interfaces: usize,
-) -> Result<(String, u64, u64), Fail> {
+) -> (String, u64, u64) {
     let alloc = rt.alloc();
     let (calls, made) = (AtomicU64::new(0), AtomicU64::new(0));
-    let captures = counting_devices(alloc, &calls, interfaces)?;
+    let captures = counting_devices(rt, &calls, interfaces);
     let mut out: Vec<u8> = Vec::new(alloc);
     let mut err: Vec<u8> = Vec::new(alloc);
     let make = |_: &str| {
@@ -80,15 +80,15 @@ fn call_touched<R: Abort + AllocGlobal + Threads + Wait + Sync>(
         Counted::new(Touched { calls: &calls })
     };
     let (status, sinks) = run(rt, alloc, listeners, captures, make, &mut out, &mut err);
-    assert_eq!(rt; status, 1);
-    assert!(rt; out.is_empty());
-    assert!(rt; sinks.is_empty());
+    same(rt, (status, out.len(), sinks.len()), (1, 0, 0));
     let told = String::from_utf8(err).expect(rt, "standard error is text");
-    Ok((told, calls.load(SeqCst), made.load(SeqCst)))
+    (told, calls.load(SeqCst), made.load(SeqCst))
 }
 
 /// LISTENERS, how many interfaces there are, the fault, and how many sinks were made.
-const REFUSED: [(&[u8], usize, &str, u64); 5] = [
+type Refused = (&'static [u8], usize, &'static str, u64);
+
+static REFUSED: [Refused; 5] = [
     (b"0 0 64 96 1 a\n1 0 64 96 1", 2, "bpftap: Listeners 2\n", 0),
     (
         b"0 0 64 96 1 a\n0 0 64 96 1 b x",
@@ -106,55 +106,63 @@ const REFUSED: [(&[u8], usize, &str, u64); 5] = [
     (b"0 0 64 96 1 a\n", 17, "bpftap: TooMany\n", 1),
 ];
 
+/// A run is refused so, and no device is touched.
+fn is_refused(rt: &(impl Abort + AllocGlobal + Threads + Wait + Sync), row: Refused) {
+    let (listeners, interfaces, fault, sinks) = row;
+    let (told, calls, made) = call_touched(rt, listeners, interfaces);
+    same(rt, (told.as_str(), calls, made), (fault, 0, sinks));
+}
+
 #[test]
-fn no_device_is_touched_where_a_run_is_refused(rt: HostRuntime) -> Result<(), Fail> {
-    for (listeners, interfaces, fault, sinks) in REFUSED {
-        let (told, calls, made) = call_touched(&rt, listeners, interfaces)?;
-        assert_eq!(rt; (told.as_str(), calls, made), (fault, 0, sinks));
+fn no_device_is_touched_where_a_run_is_refused(rt: HostRuntime) {
+    for row in REFUSED.iter() {
+        is_refused(&rt, *row);
     }
-    Ok(())
 }
 
 /// One interface of these sources, each of which gives five bytes a call and breaks at its end where it says so.
 fn in_pieces<'a>(
-    alloc: Global,
+    rt: &(impl Abort + AllocGlobal),
     sources: &[(&'a [u8], bool)],
-) -> Result<Vec<Vec<Counted<PiecesReader<'a>>>>, AllocError> {
-    let mut captures = Vec::new(alloc);
+) -> Vec<Vec<Counted<PiecesReader<'a>>>> {
+    let mut captures = Vec::new(rt.alloc());
     for (left, breaks) in sources {
-        captures.push(Counted::new(PiecesReader {
+        let source = PiecesReader {
             left: *left,
             piece: 5,
             breaks: *breaks,
-        }))?;
+        };
+        captures.push(Counted::new(source)).expect(rt, "memory");
     }
-    let mut interfaces = Vec::new(alloc);
-    interfaces.push(captures)?;
-    Ok(interfaces)
+    let mut interfaces = Vec::new(rt.alloc());
+    interfaces.push(captures).expect(rt, "memory");
+    interfaces
 }
 
 /// So many listeners that lose nothing.
-fn ample_lines(alloc: Global, listeners: usize) -> Result<String, Fail> {
-    let mut lines = String::new(alloc);
+fn ample_lines(rt: &(impl Abort + AllocGlobal), listeners: usize) -> String {
+    let mut lines = String::new(rt.alloc());
     for l in 0..listeners {
-        write!(lines, "0 0 0 1048576 2 {l}\n")?;
+        write!(lines, "0 0 0 1048576 2 {l}\n").expect(rt, "memory");
     }
-    Ok(lines)
+    lines
 }
 
 /// What was told, the status, and what each sink took.
-type Broken = (String, u8, Vec<Vec<u8>>);
+#[derive(Drop)]
+struct Broken {
+    told: String,
+    status: u8,
+    written: Vec<Vec<u8>>,
+}
 
 /// What each sink took.
-fn taken_by(
-    alloc: Global,
-    sinks: Vec<Counted<BreakingWriter>>,
-) -> Result<Vec<Vec<u8>>, AllocError> {
-    let mut written = Vec::new(alloc);
+fn taken_by(rt: &(impl Abort + AllocGlobal), sinks: Vec<Counted<BreakingWriter>>) -> Vec<Vec<u8>> {
+    let mut written = Vec::new(rt.alloc());
     for sink in sinks {
-        written.push(sink.into_inner().taken)?;
+        written.push(sink.into_inner().taken).expect(rt, "memory");
     }
-    Ok(written)
+    written
 }
 
 /// Replays interfaces by these lines to sinks of so much room each.
@@ -164,7 +172,7 @@ fn broken_by<R: Abort + AllocGlobal + Threads + Wait + Sync>(
     listeners: &[u8],
     rooms: &[usize],
     out: &mut impl Write,
-) -> Result<Broken, AllocError> {
+) -> Broken {
     let alloc = rt.alloc();
     let mut err: Vec<u8> = Vec::new(alloc);
     let mut rooms = rooms.iter();
@@ -175,38 +183,45 @@ fn broken_by<R: Abort + AllocGlobal + Threads + Wait + Sync>(
         })
     };
     let (status, sinks) = run(rt, alloc, listeners, interfaces, make, out, &mut err);
-    let told = String::from_utf8(err).expect(rt, "standard error is text");
-    Ok((told, status, taken_by(alloc, sinks)?))
+    Broken {
+        told: String::from_utf8(err).expect(rt, "standard error is text"),
+        status,
+        written: taken_by(rt, sinks),
+    }
 }
 
 /// Replays one interface of these sources to sinks of so much room each, into an output.
-fn broken<R: Abort + AllocGlobal + Threads + Wait + Sync>(
+fn run_broken<R: Abort + AllocGlobal + Threads + Wait + Sync>(
     rt: &R,
     sources: &[(&[u8], bool)],
     rooms: &[usize],
     out: &mut impl Write,
-) -> Result<Broken, Fail> {
-    let interfaces = in_pieces(rt.alloc(), sources)?;
-    let listeners = ample_lines(rt.alloc(), rooms.len())?;
-    Ok(broken_by(rt, interfaces, listeners.as_bytes(), rooms, out)?)
+) -> Broken {
+    let interfaces = in_pieces(rt, sources);
+    let listeners = ample_lines(rt, rooms.len());
+    broken_by(rt, interfaces, listeners.as_bytes(), rooms, out)
+}
+
+/// This was told, with this status.
+fn told(rt: &impl Abort, broken: &Broken, line: &str, status: u8) {
+    same(rt, (broken.told.as_str(), broken.status), (line, status));
 }
 
 /// More than any test writes.
 const AMPLE: usize = 1 << 20;
 
 /// How many bytes of the second source can be read, how many packets arrive, and how many bytes are written.
-const SOURCES: [(usize, usize, usize); 4] = [(81, 2, 132), (77, 1, 78), (23, 1, 78), (0, 1, 78)];
+static SOURCES: [(usize, usize, usize); 4] = [(81, 2, 132), (77, 1, 78), (23, 1, 78), (0, 1, 78)];
 
 #[test]
-fn a_broken_source_is_told_behind_its_packets(rt: HostRuntime) -> Result<(), Fail> {
-    let whole = concat(rt.alloc(), &[HEADER, TCP])?;
-    let more = concat(rt.alloc(), &[HEADER, UDP, "000000"])?;
-    assert_eq!(rt; more.len(), 81);
-    for (given, packets, length) in SOURCES {
-        let second = front(&rt, more.as_slice(), given);
-        breaks_behind(&rt, whole.as_slice(), second, packets, length)?;
+fn a_broken_source_is_told_behind_its_packets(rt: HostRuntime) {
+    let whole = concat(rt.alloc(), &[HEADER, TCP]).expect(&rt, "memory");
+    let more = concat(rt.alloc(), &[HEADER, UDP, "000000"]).expect(&rt, "memory");
+    same(&rt, more.len(), 81);
+    for (given, packets, length) in SOURCES.iter() {
+        let second = front(&rt, more.as_slice(), *given);
+        breaks_behind(&rt, whole.as_slice(), second, *packets, *length);
     }
-    Ok(())
 }
 
 /// A source that breaks behind what it has of its capture, between two whole ones: so many packets arrive, and so many bytes
@@ -217,25 +232,26 @@ fn breaks_behind(
     second: &[u8],
     packets: usize,
     length: usize,
-) -> Result<(), Fail> {
-    let alloc = rt.alloc();
-    let mut out: Vec<u8> = Vec::new(alloc);
+) {
+    let mut out: Vec<u8> = Vec::new(rt.alloc());
     let sources = [(whole, false), (second, true), (whole, false)];
-    let (told, status, written) = broken(rt, &sources, &[AMPLE], &mut out)?;
-    assert_eq!(rt;
-        (told.as_str(), status),
-        ("bpftap: Interface 0 Capture 1 Device\n", 3)
-    );
-    assert_eq!(rt; item(rt, written.as_slice(), 0).len(), length);
-    let line = format!(in alloc;
+    let broken = run_broken(rt, &sources, &[AMPLE], &mut out);
+    told(rt, &broken, "bpftap: Interface 0 Capture 1 Device\n", 3);
+    let written = item(rt, broken.written.as_slice(), 0).len();
+    same(rt, written, length);
+    is_clean(rt, out.as_slice(), packets);
+}
+
+/// The line of a listener that took so many packets.
+fn is_clean(rt: &(impl Abort + AllocGlobal), out: &[u8], packets: usize) {
+    let line = format!(in rt.alloc();
         "interface 0 listener 0 received {packets} matched {packets} dropped 0 written {packets} Clean\n"
-    )?;
-    assert_eq!(rt; out.as_slice(), line.as_bytes());
-    Ok(())
+    );
+    same(rt, out, line.expect(rt, "memory").as_bytes());
 }
 
 /// The room of a sink, and how many packets it takes whole.
-const ROOMS: [(usize, usize); 8] = [
+static ROOMS: [(usize, usize); 8] = [
     (0, 0),
     (1, 0),
     (23, 0),
@@ -252,28 +268,26 @@ fn breaks_at(
     text: &[u8],
     room: usize,
     packets: usize,
-) -> Result<(), Fail> {
+) {
     let mut out: Vec<u8> = Vec::new(rt.alloc());
-    let (told, status, written) = broken(rt, &[(text, false)], &[room, AMPLE], &mut out)?;
-    assert_eq!(rt; (told.as_str(), status), ("", 3));
+    let broken = run_broken(rt, &[(text, false)], &[room, AMPLE], &mut out);
+    told(rt, &broken, "", 3);
     lines_end(rt, out, room, packets);
-    took(rt, written.as_slice(), 0, front(rt, text, room));
-    took(rt, written.as_slice(), 1, text);
-    Ok(())
+    took(rt, broken.written.as_slice(), 0, front(rt, text, room));
+    took(rt, broken.written.as_slice(), 1, text);
 }
 
 #[test]
-fn a_broken_sink_is_told_by_its_bytes(rt: HostRuntime) -> Result<(), Fail> {
-    let text = concat(rt.alloc(), &[HEADER, TCP, UDP, TCP])?;
-    for (room, packets) in ROOMS {
-        breaks_at(&rt, text.as_slice(), room, packets)?;
+fn a_broken_sink_is_told_by_its_bytes(rt: HostRuntime) {
+    let text = concat(rt.alloc(), &[HEADER, TCP, UDP, TCP]).expect(&rt, "memory");
+    for (room, packets) in ROOMS.iter() {
+        breaks_at(&rt, text.as_slice(), *room, *packets);
     }
-    Ok(())
 }
 
 /// Checks what the n-th sink took.
 fn took(rt: &impl Abort, written: &[Vec<u8>], n: usize, wanted: &[u8]) {
-    assert_eq!(rt; item(rt, written, n).as_slice(), wanted);
+    same(rt, item(rt, written, n).as_slice(), wanted);
 }
 
 /// The line of the first of two listeners, whose sink broke, ends so; the other one's is whole.
@@ -283,38 +297,32 @@ fn lines_end(rt: &(impl Abort + AllocGlobal), out: Vec<u8>, room: usize, packets
     );
     let out = String::from_utf8(out).expect(rt, "standard output is text");
     let (first, second) = out.split_once('\n').expect(rt, "there are two lines");
-    // How many packets arrived before the drain was found closed is the threads' to say.
-    assert!(rt;
-        first.starts_with("interface 0 listener 0 received "),
-        "{first}"
-    );
-    assert!(rt; first.ends_with(ends.as_str()), "{first}");
-    assert_eq!(rt;
-        second,
-        "interface 0 listener 1 received 3 matched 3 dropped 0 written 3 Clean\n"
-    );
+    ends_so(rt, first, ends.as_str());
+    let whole = "interface 0 listener 1 received 3 matched 3 dropped 0 written 3 Clean\n";
+    same(rt, second, whole);
+}
+
+/// How many packets arrived before the drain was found closed is the threads' to say.
+fn ends_so(rt: &impl Abort, line: &str, ends: &str) {
+    let begins = "interface 0 listener 0 received ";
+    assert!(rt; line.starts_with(begins), "{line}");
+    assert!(rt; line.ends_with(ends), "{line}");
 }
 
 /// An output of so much room is told, and then the torn capture, whose packet was written.
-fn is_not_taken(
-    rt: &(impl Abort + AllocGlobal + Threads + Wait + Sync),
-    torn: &[u8],
-    room: usize,
-) -> Result<(), Fail> {
+fn is_not_taken(rt: &(impl Abort + AllocGlobal + Threads + Wait + Sync), torn: &[u8], room: usize) {
     let taken = Vec::new(rt.alloc());
     let mut out = BreakingWriter { taken, room };
-    let (told, status, written) = broken(rt, &[(torn, false)], &[AMPLE], &mut out)?;
+    let broken = run_broken(rt, &[(torn, false)], &[AMPLE], &mut out);
     let wanted = "bpftap: Device standard output\nbpftap: Interface 0 Capture 0 TornRecord 1\n";
-    assert_eq!(rt; (told.as_str(), status), (wanted, 3));
-    took(rt, written.as_slice(), 0, front(rt, torn, 78));
-    Ok(())
+    told(rt, &broken, wanted, 3);
+    took(rt, broken.written.as_slice(), 0, front(rt, torn, 78));
 }
 
 #[test]
-fn an_output_that_breaks_is_a_device_fault(rt: HostRuntime) -> Result<(), Fail> {
-    let torn = concat(rt.alloc(), &[HEADER, TCP, "00"])?;
+fn an_output_that_breaks_is_a_device_fault(rt: HostRuntime) {
+    let torn = concat(rt.alloc(), &[HEADER, TCP, "00"]).expect(&rt, "memory");
     for room in [0, 5, 69] {
-        is_not_taken(&rt, torn.as_slice(), room)?;
+        is_not_taken(&rt, torn.as_slice(), room);
     }
-    Ok(())
 }

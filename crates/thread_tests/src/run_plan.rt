@@ -1,5 +1,6 @@
 //! `bpftap run`: when a packet can be read, and what is printed of ends that no capture brings about.
 
+use crate::same::same;
 use bpfvm::read_listing;
 use fixtures::captures::{HEADER, TCP, concat};
 use handover::{Past, pair, settle};
@@ -9,13 +10,11 @@ use running::faults::RunFaultText;
 use running::reports::tell_run;
 use running::run::run;
 use savefile::Counted;
-use std::alloc::Global;
 use std::io::{Read, Write};
 use std::process::Abort;
 use std::sync::Wait;
 use std::sync::atomic::AtomicU64;
 use std::sync::atomic::Ordering::SeqCst;
-use std::test::Fail;
 use std::thread::Threads;
 use std::time::{Clock, Duration};
 use std::{io, thread};
@@ -65,51 +64,59 @@ impl Write for Counting<'_> {
     }
 }
 
+/// One interface of one source, which gives a capture of one packet and does not end before that is written.
+fn one_patient<'a, T: Abort + AllocGlobal>(
+    rt: &'a T,
+    text: &'a [u8],
+    written: &'a AtomicU64,
+) -> Vec<Vec<Counted<Patient<'a, T>>>> {
+    let mut sources = Vec::new(rt.alloc());
+    let source = Patient {
+        rt,
+        left: text,
+        written,
+        wanted: 78,
+    };
+    sources.push(Counted::new(source)).expect(rt, "memory");
+    let mut captures = Vec::new(rt.alloc());
+    captures.push(sources).expect(rt, "memory");
+    captures
+}
+
 /// Replays a packet whose capture does not end before the packet is written, and answers the exit status.
 fn status_of(
     rt: &(impl Abort + AllocGlobal + Clock + Threads + Wait + Sync),
     listeners: &[u8],
-) -> Result<u8, Fail> {
+) -> u8 {
     let alloc = rt.alloc();
     let written = AtomicU64::new(0);
-    let text = concat(alloc, &[HEADER, TCP])?;
-    let mut sources = Vec::new(alloc);
-    sources.push(Counted::new(Patient {
-        rt,
-        left: text.as_slice(),
-        written: &written,
-        wanted: 78,
-    }))?;
-    let mut captures = Vec::new(alloc);
-    captures.push(sources)?;
+    let text = concat(alloc, &[HEADER, TCP]).expect(rt, "memory");
+    let captures = one_patient(rt, text.as_slice(), &written);
     let make = |_: &str| Counted::new(Counting { written: &written });
     let mut out: Vec<u8> = Vec::new(alloc);
     let mut err: Vec<u8> = Vec::new(alloc);
     let (status, _) = run(rt, alloc, listeners, captures, make, &mut out, &mut err);
-    Ok(status)
+    status
 }
 
 #[test]
-fn a_flush_and_the_letter_let_a_packet_be_read_at_once(rt: HostRuntime) -> Result<(), Fail> {
-    assert_eq!(rt; status_of(&rt, b"0 1 64 4096 2 a")?, 0);
-    assert_eq!(rt; status_of(&rt, b"0 0 64 4096i 2 a")?, 0);
-    Ok(())
+fn a_flush_and_the_letter_let_a_packet_be_read_at_once(rt: HostRuntime) {
+    same(&rt, status_of(&rt, b"0 1 64 4096 2 a"), 0);
+    same(&rt, status_of(&rt, b"0 0 64 4096i 2 a"), 0);
 }
 
 /// The past of a pair that was settled before anything arrived.
-fn nothing_done(alloc: Global) -> Result<Past, Fail> {
-    let rejecting = read_listing(b"1\n6 0 0 0\n")?;
-    let (link, feeder, drain) = pair(alloc, rejecting, 96, 4096)?;
+pub(crate) fn nothing_done(rt: &(impl Abort + AllocGlobal)) -> Past {
+    let rejecting = read_listing(b"1\n6 0 0 0\n").expect(rt, "a program");
+    let (link, feeder, drain) = pair(rt.alloc(), rejecting, 96, 4096).expect(rt, "a pair");
     let (feed_end, _rest) = feeder.end(&link);
     let drain_end = drain.close(&link);
-    Ok(settle(link, feed_end, drain_end).past)
+    settle(link, feed_end, drain_end).past
 }
 
-#[test]
-fn an_end_that_is_not_reached_is_told(rt: HostRuntime) -> Result<(), Fail> {
-    let alloc = rt.alloc();
-    let mut listeners = Vec::new(alloc);
-    listeners.push(ListenerReport {
+/// A listener whose drain was not ended.
+fn unfinished(rt: &(impl Abort + AllocGlobal)) -> ListenerReport<()> {
+    ListenerReport {
         sink: (),
         sent: 24,
         received: 4,
@@ -117,41 +124,48 @@ fn an_end_that_is_not_reached_is_told(rt: HostRuntime) -> Result<(), Fail> {
         dropped: 1,
         written: 2,
         end: TaskEnd::Unfinished,
-        past: nothing_done(alloc)?,
-    })?;
-    let sources: Vec<u8> = Vec::new(alloc);
-    let mut reports = Vec::new(alloc);
-    reports.push(InterfaceReport {
+        past: nothing_done(rt),
+    }
+}
+
+/// An interface of one such listener, whose packets were too many to count.
+fn uncounted(rt: &(impl Abort + AllocGlobal)) -> Vec<InterfaceReport<u8, ()>> {
+    let mut listeners = Vec::new(rt.alloc());
+    listeners.push(unfinished(rt)).expect(rt, "memory");
+    let report = InterfaceReport {
         end: InterfaceEnd::CountFull,
-        sources,
+        sources: Vec::new(rt.alloc()),
         listeners,
-    })?;
-    let mut out: Vec<u8> = Vec::new(alloc);
-    let mut err: Vec<u8> = Vec::new(alloc);
-    assert_eq!(rt; tell_run(reports.as_slice(), &mut out, &mut err), 1);
-    assert_eq!(rt;
-        out.as_slice(),
-        b"interface 0 listener 0 received 4 matched 3 dropped 1 written 2 Unfinished\n".as_slice()
-    );
-    assert_eq!(rt;
-        err.as_slice(),
-        b"bpftap: Interface 0 CountFull\n".as_slice()
-    );
-    Ok(())
+    };
+    let mut reports = Vec::new(rt.alloc());
+    reports.push(report).expect(rt, "memory");
+    reports
 }
 
 #[test]
-fn refusals_are_told_by_their_own_texts(rt: HostRuntime) -> Result<(), Fail> {
-    for fault in [
-        RunFault::TooMany,
-        RunFault::Open(1, 23, OpenFault::BadSnap),
-        RunFault::Open(4, 0, OpenFault::BadCapacity),
-        RunFault::Open(0, 5, OpenFault::NoMemory),
-        RunFault::NoStart,
-    ] {
-        let told = format!(in rt.alloc(); "{}", RunFaultText(fault))?;
-        let own = format!(in rt.alloc(); "{fault}")?;
-        assert_eq!(rt; told.as_str(), own.as_str());
-    }
-    Ok(())
+fn an_end_that_is_not_reached_is_told(rt: HostRuntime) {
+    let reports = uncounted(&rt);
+    let mut out: Vec<u8> = Vec::new(rt.alloc());
+    let mut err: Vec<u8> = Vec::new(rt.alloc());
+    let status = tell_run(reports.as_slice(), &mut out, &mut err);
+    let line = b"interface 0 listener 0 received 4 matched 3 dropped 1 written 2 Unfinished\n";
+    same(&rt, (out.as_slice(), status), (line.as_slice(), 1));
+    let fault = b"bpftap: Interface 0 CountFull\n";
+    same(&rt, err.as_slice(), fault.as_slice());
+}
+
+/// A refusal is told by its own text.
+fn is_its_own(rt: &(impl Abort + AllocGlobal), fault: RunFault) {
+    let told = format!(in rt.alloc(); "{}", RunFaultText(fault)).expect(rt, "memory");
+    let own = format!(in rt.alloc(); "{fault}").expect(rt, "memory");
+    same(rt, told.as_str(), own.as_str());
+}
+
+#[test]
+fn refusals_are_told_by_their_own_texts(rt: HostRuntime) {
+    is_its_own(&rt, RunFault::TooMany);
+    is_its_own(&rt, RunFault::Open(1, 23, OpenFault::BadSnap));
+    is_its_own(&rt, RunFault::Open(4, 0, OpenFault::BadCapacity));
+    is_its_own(&rt, RunFault::Open(0, 5, OpenFault::NoMemory));
+    is_its_own(&rt, RunFault::NoStart);
 }

@@ -1,15 +1,13 @@
 //! What is told of an OUT that failed, by the bytes that it took.
 
-use bpfvm::read_listing;
-use handover::{Past, pair, settle};
+use crate::run_plan::nothing_done;
+use crate::same::same;
 use replay::{ListenerReport, TaskEnd};
 use running::tally::{Output, Tallied, flush_one};
 use savefile::Counted;
-use std::alloc::Global;
 use std::io;
 use std::io::{BufWriter, ErrorKind, Write};
 use std::process::Abort;
-use std::test::Fail;
 
 /// Takes so many bytes, and then fails.
 #[derive(Drop)]
@@ -32,18 +30,25 @@ impl Write for Narrow {
     }
 }
 
-/// A header, a record of 3 bytes, one without bytes, and one of 258.
-fn capture(alloc: Global) -> Result<Vec<u8>, Fail> {
-    let mut bytes = Vec::from_slice(alloc, &[7; 24])?;
-    for length in [3, 0, 258] {
-        bytes.extend_from_slice(&[9; 8])?;
-        bytes.extend_from_slice(&u32::to_le_bytes(length))?;
-        bytes.extend_from_slice(&[9; 4])?;
-        for _ in 0..length {
-            bytes.push(255)?;
-        }
+/// A record of so many bytes.
+fn push_record(rt: &(impl Abort + AllocGlobal), bytes: &mut Vec<u8>, length: u32) {
+    bytes.extend_from_slice(&[9; 8]).expect(rt, "memory");
+    bytes
+        .extend_from_slice(&u32::to_le_bytes(length))
+        .expect(rt, "memory");
+    bytes.extend_from_slice(&[9; 4]).expect(rt, "memory");
+    for _ in 0..length {
+        bytes.push(255).expect(rt, "memory");
     }
-    Ok(bytes)
+}
+
+/// A header, a record of 3 bytes, one without bytes, and one of 258.
+fn capture(rt: &(impl Abort + AllocGlobal)) -> Vec<u8> {
+    let mut bytes = Vec::from_slice(rt.alloc(), &[7; 24]).expect(rt, "memory");
+    for length in [3, 0, 258] {
+        push_record(rt, &mut bytes, length);
+    }
+    bytes
 }
 
 /// How many packets are whole in so many bytes of it.
@@ -51,56 +56,54 @@ fn whole_in(bytes: u64) -> u64 {
     [43, 59, 333].iter().filter(|end| bytes >= **end).count() as u64
 }
 
-/// The past of a pair that was settled before anything arrived.
-fn nothing_done(alloc: Global) -> Result<Past, Fail> {
-    let rejecting = read_listing(b"1\n6 0 0 0\n")?;
-    let (link, feeder, drain) = pair(alloc, rejecting, 96, 4096)?;
-    let (feed_end, _rest) = feeder.end(&link);
-    let drain_end = drain.close(&link);
-    Ok(settle(link, feed_end, drain_end).past)
+/// A buffer before an OUT that takes so many bytes, into which a capture went.
+fn filled(rt: &(impl Abort + AllocGlobal), room: usize) -> Counted<BufWriter<Tallied<Narrow>>> {
+    let out = Tallied::new(Narrow { room });
+    let buffer = BufWriter::with_capacity(rt.alloc(), 40, out).expect(rt, "memory");
+    let mut sink = Counted::new(buffer);
+    for piece in capture(rt).as_slice().chunks(5) {
+        let _ = sink.inner.write(piece);
+    }
+    sink
 }
 
 /// The report of a listener whose capture went into a buffer, before an OUT that takes so many bytes.
 fn reported(
-    alloc: Global,
+    rt: &(impl Abort + AllocGlobal),
     room: usize,
     end: TaskEnd,
-) -> Result<ListenerReport<Output<Narrow>>, Fail> {
-    let out = Tallied::new(Narrow { room });
-    let mut sink = Counted::new(BufWriter::with_capacity(alloc, 40, out)?);
-    for piece in capture(alloc)?.as_slice().chunks(5) {
-        let _ = sink.inner.write(piece);
-    }
-    Ok(ListenerReport {
-        sink,
+) -> ListenerReport<Output<Narrow>> {
+    ListenerReport {
+        sink: filled(rt, room),
         sent: 333,
         received: 4,
         matched: 3,
         dropped: 0,
         written: 3,
         end,
-        past: nothing_done(alloc)?,
-    })
+        past: nothing_done(rt),
+    }
+}
+
+/// What is told as written of an OUT that takes so many bytes is what it has.
+fn is_told(rt: &(impl Abort + AllocGlobal), room: usize, end: TaskEnd) {
+    let taken = room.min(333) as u64;
+    let mut report = reported(rt, room, end);
+    flush_one(&mut report);
+    let told = match end {
+        TaskEnd::Clean if room >= 333 => end,
+        TaskEnd::Unfinished => end,
+        _ => TaskEnd::Write(taken),
+    };
+    let found = (room, report.end, report.written);
+    same(rt, found, (room, told, whole_in(taken)));
 }
 
 #[test]
-fn what_is_told_as_written_is_what_out_has(rt: HostRuntime) -> Result<(), Fail> {
+fn what_is_told_as_written_is_what_out_has(rt: HostRuntime) {
     for room in 0..=340 {
-        let taken = room.min(333) as u64;
-        for end in [TaskEnd::Clean, TaskEnd::Write(333), TaskEnd::Unfinished] {
-            let mut report = reported(rt.alloc(), room, end)?;
-            flush_one(&mut report);
-            let told = match end {
-                TaskEnd::Clean if room >= 333 => end,
-                TaskEnd::Unfinished => end,
-                _ => TaskEnd::Write(taken),
-            };
-            assert_eq!(rt;
-                (report.end, report.written),
-                (told, whole_in(taken)),
-                "{room}"
-            );
-        }
+        is_told(&rt, room, TaskEnd::Clean);
+        is_told(&rt, room, TaskEnd::Write(333));
+        is_told(&rt, room, TaskEnd::Unfinished);
     }
-    Ok(())
 }

@@ -1,9 +1,10 @@
 //! The caller of `tap`'s page, README.md.
 
-use super::{HEADER, put_record, tcp};
+use super::{header, put_record, tcp};
+use crate::same::same;
 use listener::Mode;
-use std::alloc::{AllocError, Global};
-use std::test::Fail;
+use std::alloc::Global;
+use std::process::Abort;
 use tap::{Fault, Filter, Spec, Step, replay};
 
 /// How many TCP packets of a capture are lost to a reader that reads after each burst of four packets.
@@ -27,19 +28,18 @@ fn lost(alloc: Global, capture: &[u8], bursts: u32) -> Result<u64, Fault> {
 }
 
 /// A capture of eight TCP frames.
-fn eight(alloc: Global) -> Result<Vec<u8>, AllocError> {
-    let mut text = Vec::from_slice(alloc, &HEADER)?;
+fn eight(rt: &(impl Abort + AllocGlobal)) -> Vec<u8> {
+    let mut text = header(rt);
     for sec in 0..8 {
-        put_record(&mut text, sec, 38, &tcp())?;
+        put_record(rt, &mut text, sec, 38, &tcp());
     }
-    Ok(text)
+    text
 }
 
 #[test]
-fn a_slow_reader_loses_packets(rt: HostRuntime) -> Result<(), Fail> {
-    let text = eight(rt.alloc())?;
+fn a_slow_reader_loses_packets(rt: HostRuntime) {
+    let text = eight(&rt);
     // A record has 72 bytes, so the store has room for one. Of the first burst two are lost, of the second three, since
     // its first packet finds the store full.
-    assert_eq!(rt; lost(rt.alloc(), text.as_slice(), 2)?, 5);
-    Ok(())
+    same(&rt, lost(rt.alloc(), text.as_slice(), 2), Ok(5));
 }
