@@ -55,6 +55,20 @@ impl<R: Clock> Gate for Batches<'_, R> {
     }
 }
 
+/// An interface of three packets, and a task that is flushed behind the third: its store becomes the hold then, and not before.
+fn three_at_once(
+    alloc: Global,
+    bytes: &AtomicU64,
+) -> Result<Interface<Source, Counted<Weighed<'_>>>, Fail> {
+    let text = capture(alloc, 1, &[TCP_FRAME, UDP_FRAME, TCP_FRAME])?;
+    let mut one = task(keeping_all()?, 64, 1_000, Counted::new(Weighed { bytes }));
+    one.flush_every = 3;
+    Ok(Interface {
+        captures: vec![in alloc; source_of(text)]?,
+        tasks: vec![in alloc; one]?,
+    })
+}
+
 #[test]
 fn a_batch_is_told_with_its_packets_before_it_is_handed_on(rt: HostRuntime) -> Result<(), Fail> {
     let alloc = rt.alloc();
@@ -66,24 +80,8 @@ fn a_batch_is_told_with_its_packets_before_it_is_handed_on(rt: HostRuntime) -> R
         packets: AtomicU64::new(0),
         late: AtomicU64::new(0),
     };
-    // The store becomes the hold behind the third packet, and not before.
-    let mut one = task(
-        keeping_all()?,
-        64,
-        1_000,
-        Counted::new(Weighed { bytes: &bytes }),
-    );
-    one.flush_every = 3;
-    let captures = vec![in alloc;
-        source_of(capture(alloc, 1, &[TCP_FRAME, UDP_FRAME, TCP_FRAME])?),
-    ]?;
-    let tasks = vec![in alloc; one]?;
-    let reports = run(
-        &rt,
-        alloc,
-        vec![in alloc; Interface { captures, tasks }]?,
-        &gate,
-    )?;
+    let interfaces = vec![in alloc; three_at_once(alloc, &bytes)?]?;
+    let reports = run(&rt, alloc, interfaces, &gate)?;
     assert_eq!(rt; reports.len(), 1);
     assert_eq!(rt; (gate.told.load(SeqCst), gate.packets.load(SeqCst)), (1, 3));
     assert_eq!(rt; gate.late.load(SeqCst), 0);

@@ -11,6 +11,37 @@ use std::sync::Wait;
 use std::test::Fail;
 use std::thread::Threads;
 
+/// A task that keeps what a listing accepts, cut to 96 bytes, in memory.
+fn task_for(alloc: Global, listing: &[u8]) -> Result<Task<Counted<Vec<u8>>>, Fail> {
+    Ok(Task {
+        program: read_listing(listing)?,
+        snap: 96,
+        capacity: 1_048_576,
+        mode: Mode::Buffered,
+        flush_every: 0,
+        spares: 8,
+        order: Order::Little,
+        unit: Unit::Micro,
+        sink: Counted::new(Vec::new(alloc)),
+    })
+}
+
+/// An interface with one capture, and a task for each listing.
+fn interface_for<'a>(
+    alloc: Global,
+    listings: &[&[u8]],
+    capture: &'a [u8],
+) -> Result<Interface<&'a [u8], Counted<Vec<u8>>>, Fail> {
+    let mut tasks = Vec::new(alloc);
+    for listing in listings {
+        tasks.push(task_for(alloc, listing)?)?;
+    }
+    Ok(Interface {
+        captures: vec![in alloc; capture]?,
+        tasks,
+    })
+}
+
 /// Reads a capture once, and makes a savefile for each listing: the packets that it accepts, cut to 96 bytes, and how many of
 /// them were lost.
 fn sorted_out<R: Threads + Wait + Sync>(
@@ -19,22 +50,7 @@ fn sorted_out<R: Threads + Wait + Sync>(
     listings: &[&[u8]],
     capture: &[u8],
 ) -> Result<Vec<(Vec<u8>, u64)>, Fail> {
-    let mut tasks = Vec::new(alloc);
-    for listing in listings {
-        tasks.push(Task {
-            program: read_listing(listing)?,
-            snap: 96,
-            capacity: 1_048_576,
-            mode: Mode::Buffered,
-            flush_every: 0,
-            spares: 8,
-            order: Order::Little,
-            unit: Unit::Micro,
-            sink: Counted::new(Vec::new(alloc)),
-        })?;
-    }
-    let captures = vec![in alloc; capture]?;
-    let interfaces = vec![in alloc; Interface { captures, tasks }]?;
+    let interfaces = vec![in alloc; interface_for(alloc, listings, capture)?]?;
     let mut files = Vec::new(alloc);
     for report in run(rt, alloc, interfaces, &Open)? {
         for listener in report.listeners {

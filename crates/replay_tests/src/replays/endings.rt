@@ -75,18 +75,23 @@ fn frames(alloc: Global, packets: u8) -> Result<Vec<[u8; 38]>, AllocError> {
     Ok(frames)
 }
 
+/// A task with buffers of this capacity: another one for each round.
+fn varied_task(alloc: Global, capacity: usize, round: u64) -> Result<Task<Sink>, Fail> {
+    let mut one = task(keeping_tcp()?, 40, capacity, sink_with(alloc, usize::MAX));
+    one.spares = 1 + (round % 3) as usize;
+    one.flush_every = (round % 5) as u32;
+    Ok(one)
+}
+
 /// An interface of one capture and 1 to 4 tasks, each with buffers of one to four records: another one for each round.
 fn varied(alloc: Global, packets: u8, round: u64) -> Result<Interface<Source, Sink>, Fail> {
     let text = capture(alloc, 1, frames(alloc, packets)?.as_slice())?;
+    let captures = vec![in alloc; source_of(text)]?;
     let mut tasks = Vec::new(alloc);
     for k in 0..1 + round % 4 {
         let capacity = 72 * (1 + (k + round % 4) as usize % 4);
-        let mut one = task(keeping_tcp()?, 40, capacity, sink_with(alloc, usize::MAX));
-        one.spares = 1 + (round % 3) as usize;
-        one.flush_every = (round % 5) as u32;
-        tasks.push(one)?;
+        tasks.push(varied_task(alloc, capacity, round)?)?;
     }
-    let captures = vec![in alloc; source_of(text)]?;
     Ok(Interface { captures, tasks })
 }
 
@@ -102,16 +107,21 @@ fn is_clean(rt: &impl Abort, listener: &ListenerReport<Sink>, packets: u8) {
     assert_eq!(rt; listener.sent, 24 + 54 * listener.written.min(12));
 }
 
+/// Tests that an interface is clean, and each of its tasks, of which there are so many.
+fn are_clean(rt: &impl Abort, report: &InterfaceReport<Source, Sink>, tasks: u64, packets: u8) {
+    assert_eq!(rt; report.end, InterfaceEnd::Clean);
+    assert_eq!(rt; report.listeners.len() as u64, tasks);
+    for listener in &report.listeners {
+        is_clean(rt, listener, packets);
+    }
+}
+
 #[test]
 fn ends_clean_when_nothing_failed(rt: HostRuntime) -> Result<(), Fail> {
-    for round in 0..100u64 {
+    for round in 0..100 {
         let packets = (round % 23) as u8;
         let report = replay_one(&rt, varied(rt.alloc(), packets, round)?)?;
-        assert_eq!(rt; report.end, InterfaceEnd::Clean);
-        assert_eq!(rt; report.listeners.len() as u64, 1 + round % 4);
-        for listener in &report.listeners {
-            is_clean(&rt, listener, packets);
-        }
+        are_clean(&rt, &report, 1 + round % 4, packets);
     }
     Ok(())
 }
@@ -235,19 +245,21 @@ fn torn_unheard(alloc: Global) -> Result<Interface<Source, Sink>, Fail> {
     interface(alloc, vec![in alloc; torn]?, 0)
 }
 
+/// Tests that an interface with no task ended so.
+fn ends_unheard(rt: &impl Abort, report: &InterfaceReport<Source, Sink>, end: InterfaceEnd) {
+    assert_eq!(rt; (report.end, report.listeners.len()), (end, 0));
+}
+
 #[test]
 fn captures_are_read_where_nobody_listens(rt: HostRuntime) -> Result<(), Fail> {
     let alloc = rt.alloc();
     let interfaces = vec![in alloc; whole(alloc, [1, 3], 0)?, torn_unheard(alloc)?]?;
     let reports = run(&rt, alloc, interfaces, &Open)?;
     let report = at(&rt, reports.as_slice(), 0);
-    let told = (report.end, report.listeners.len());
-    assert_eq!(rt; told, (InterfaceEnd::Clean, 0));
+    ends_unheard(&rt, report, InterfaceEnd::Clean);
     was_read(&rt, report, &[132, 132]);
-    let report = at(&rt, reports.as_slice(), 1);
-    let told = (report.end, report.listeners.len());
     let end = InterfaceEnd::Capture(0, Fault::TornRecord(1));
-    assert_eq!(rt; told, (end, 0));
+    ends_unheard(&rt, at(&rt, reports.as_slice(), 1), end);
     Ok(())
 }
 

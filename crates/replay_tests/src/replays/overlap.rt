@@ -92,21 +92,12 @@ impl<R: Clock> Gate for Lockstep<'_, R> {
     }
 }
 
-/// The interface of the example: T and U arrive, and then T, at a listener for TCP, whose sink has so much room, and one for
-/// all. Where they are Immediate, nothing is flushed.
-fn example(alloc: Global, mode: Mode, room: usize) -> Result<Vec<Interface<Source, Sink>>, Fail> {
-    let captures = vec![in alloc;
-        source_of(capture(alloc, 1, &[TCP_FRAME, UDP_FRAME])?),
-        source_of(capture(alloc, 3, &[TCP_FRAME])?),
-    ]?;
+/// The tasks of the example, of which the first sink has so much room.
+fn example_tasks(alloc: Global, mode: Mode, room: usize) -> Result<Vec<Task<Sink>>, Fail> {
+    let everywhere = sink_with(alloc, usize::MAX);
     let mut tasks = vec![in alloc;
         task(keeping_tcp()?, 64, 96, sink_with(alloc, room)),
-        task(
-            keeping_all()?,
-            262_144,
-            262_176,
-            sink_with(alloc, usize::MAX)
-        ),
+        task(keeping_all()?, 262_144, 262_176, everywhere),
     ]?;
     if mode == Mode::Immediate {
         for task in tasks.iter_mut() {
@@ -114,6 +105,17 @@ fn example(alloc: Global, mode: Mode, room: usize) -> Result<Vec<Interface<Sourc
             task.flush_every = 0;
         }
     }
+    Ok(tasks)
+}
+
+/// The interface of the example: T and U arrive, and then T, at a listener for TCP, whose sink has so much room, and one for
+/// all. Where they are Immediate, nothing is flushed.
+fn example(alloc: Global, mode: Mode, room: usize) -> Result<Vec<Interface<Source, Sink>>, Fail> {
+    let captures = vec![in alloc;
+        source_of(capture(alloc, 1, &[TCP_FRAME, UDP_FRAME])?),
+        source_of(capture(alloc, 3, &[TCP_FRAME])?),
+    ]?;
+    let tasks = example_tasks(alloc, mode, room)?;
     Ok(vec![in alloc; Interface { captures, tasks }]?)
 }
 
@@ -212,6 +214,15 @@ impl<R: Clock> Gate for Meeting<'_, R> {
     fn after_read(&self, _interface: u32, _listener: u32, _packets: u32) {}
 }
 
+/// An interface of one packet, at this second, to which nobody listens.
+fn unheard(alloc: Global, sec: u8) -> Result<Interface<Source, Sink>, AllocError> {
+    let text = capture(alloc, sec, &[TCP_FRAME])?;
+    Ok(Interface {
+        captures: vec![in alloc; source_of(text)]?,
+        tasks: Vec::new(alloc),
+    })
+}
+
 #[test]
 fn interfaces_are_replayed_side_by_side(rt: HostRuntime) -> Result<(), Fail> {
     let alloc = rt.alloc();
@@ -220,13 +231,7 @@ fn interfaces_are_replayed_side_by_side(rt: HostRuntime) -> Result<(), Fail> {
         entered: AtomicU64::new(0),
         met: AtomicU64::new(0),
     };
-    let mut interfaces: Vec<Interface<Source, Sink>> = Vec::new(alloc);
-    for sec in 0..2 {
-        interfaces.push(Interface {
-            captures: vec![in alloc; source_of(capture(alloc, sec, &[TCP_FRAME])?)]?,
-            tasks: Vec::new(alloc),
-        })?;
-    }
+    let interfaces = vec![in alloc; unheard(alloc, 0)?, unheard(alloc, 1)?]?;
     let reports = run(&rt, alloc, interfaces, &gate)?;
     assert_eq!(rt; (reports.len(), gate.met.load(SeqCst)), (2, 2));
     Ok(())

@@ -36,6 +36,23 @@ fn tally(calls: &AtomicU64) -> Tally<'_> {
     Counted::new(Tallied { calls })
 }
 
+/// So many devices.
+fn tallies(alloc: Global, calls: &AtomicU64, devices: usize) -> Result<Vec<Tally<'_>>, AllocError> {
+    let mut made = Vec::new(alloc);
+    for _ in 0..devices {
+        made.push(tally(calls))?;
+    }
+    Ok(made)
+}
+
+/// A task with this snapshot length, capacity and number of spare buffers.
+fn task_of(calls: &AtomicU64, numbers: (u32, usize, usize)) -> Result<Task<Tally<'_>>, Fail> {
+    let (snap, capacity, spares) = numbers;
+    let mut one = task(keeping_all()?, snap, capacity, tally(calls));
+    one.spares = spares;
+    Ok(one)
+}
+
 /// An interface with so many captures, and a task for each snapshot length, capacity and number of spare buffers.
 fn interface<'a>(
     alloc: Global,
@@ -43,18 +60,13 @@ fn interface<'a>(
     captures: usize,
     tasks: &[(u32, usize, usize)],
 ) -> Result<Interface<Tally<'a>, Tally<'a>>, Fail> {
-    let mut sources = Vec::new(alloc);
-    for _ in 0..captures {
-        sources.push(tally(calls))?;
-    }
+    let captures = tallies(alloc, calls, captures)?;
     let mut made = Vec::new(alloc);
-    for (snap, capacity, spares) in tasks {
-        let mut one = task(keeping_all()?, *snap, *capacity, tally(calls));
-        one.spares = *spares;
-        made.push(one)?;
+    for numbers in tasks {
+        made.push(task_of(calls, *numbers)?)?;
     }
     Ok(Interface {
-        captures: sources,
+        captures,
         tasks: made,
     })
 }
@@ -176,6 +188,19 @@ fn replays_the_most_captures_and_tasks(
     Ok(())
 }
 
+/// So many interfaces of one task each ended clean.
+fn end_clean(
+    rt: &impl Abort,
+    reports: &[InterfaceReport<Tally<'_>, Tally<'_>>],
+    interfaces: usize,
+) {
+    assert_eq!(rt; reports.len(), interfaces);
+    for report in reports {
+        let told = (report.end, report.listeners.len());
+        assert_eq!(rt; told, (InterfaceEnd::Clean, 1));
+    }
+}
+
 /// 16 interfaces are replayed.
 fn replays_the_most_interfaces(
     rt: &(impl Abort + AllocGlobal + Threads + Wait + Sync),
@@ -183,11 +208,7 @@ fn replays_the_most_interfaces(
     let calls = AtomicU64::new(0);
     let interfaces = interfaces_of_one_task(rt.alloc(), &calls, 16, 0)?;
     let reports = run(rt, rt.alloc(), interfaces, &Open)?;
-    assert_eq!(rt; reports.len(), 16);
-    for report in &reports {
-        let told = (report.end, report.listeners.len());
-        assert_eq!(rt; told, (InterfaceEnd::Clean, 1));
-    }
+    end_clean(rt, reports.as_slice(), 16);
     assert_eq!(rt; calls.load(SeqCst), 16);
     Ok(())
 }

@@ -117,6 +117,12 @@ fn as_many_batches_are_read_ahead_as_buffers_go_round(rt: HostRuntime) -> Result
     Ok(())
 }
 
+/// The sink took the header alone, and the pair was closed: an arrival that finds it so is not received.
+fn was_closed(rt: &impl Abort, one: &ListenerReport<Sink>) {
+    assert_eq!(rt; (one.end, one.written), (TaskEnd::Write(24), 0));
+    assert!(rt; one.received < 250);
+}
+
 #[test]
 fn a_failed_write_closes_the_drain(rt: HostRuntime) -> Result<(), Fail> {
     let alloc = rt.alloc();
@@ -129,9 +135,6 @@ fn a_failed_write_closes_the_drain(rt: HostRuntime) -> Result<(), Fail> {
     let reports = run(&rt, alloc, crowded(alloc, 250, one)?, &gate)?;
     let report = at(&rt, reports.as_slice(), 0);
     assert_eq!(rt; report.end, InterfaceEnd::Clean);
-    let one = at(&rt, report.listeners.as_slice(), 0);
-    assert_eq!(rt; (one.end, one.written), (TaskEnd::Write(24), 0));
-    // An arrival that finds the pair closed is not received.
-    assert!(rt; one.received < 250);
+    was_closed(&rt, at(&rt, report.listeners.as_slice(), 0));
     Ok(())
 }

@@ -42,25 +42,46 @@ impl<R: Clock> Gate for Slow<'_, R> {
     fn after_read(&self, _interface: u32, _listener: u32, _packets: u32) {}
 }
 
+/// A capture of so many TCP frames.
+fn tcp_frames(alloc: Global, packets: u8) -> Result<Vec<u8>, AllocError> {
+    let mut text = Vec::from_slice(alloc, &HEADER)?;
+    for sec in 0..packets {
+        put_record(&mut text, sec, &TCP_FRAME, 38)?;
+    }
+    Ok(text)
+}
+
+/// A task that keeps 20 bytes of each packet, one in a buffer.
+fn narrow_task(alloc: Global, mode: Mode, flush_every: u32) -> Result<Task<Sink>, Fail> {
+    let mut one = task(keeping_tcp()?, 20, 56, sink_with(alloc, usize::MAX));
+    one.mode = mode;
+    one.flush_every = flush_every;
+    Ok(one)
+}
+
 /// An interface with a capture of so many TCP frames, and a listener in each mode that keeps 20 bytes of each, one in a buffer.
 fn narrow(
     alloc: Global,
     packets: u8,
     flush_every: u32,
 ) -> Result<Vec<Interface<Source, Sink>>, Fail> {
-    let mut text = Vec::from_slice(alloc, &HEADER)?;
-    for sec in 0..packets {
-        put_record(&mut text, sec, &TCP_FRAME, 38)?;
-    }
-    let mut tasks = Vec::new(alloc);
-    for mode in [Mode::Buffered, Mode::Immediate] {
-        let mut one = task(keeping_tcp()?, 20, 56, sink_with(alloc, usize::MAX));
-        one.mode = mode;
-        one.flush_every = flush_every;
-        tasks.push(one)?;
-    }
-    let captures = vec![in alloc; source_of(text)]?;
+    let tasks = vec![in alloc;
+        narrow_task(alloc, Mode::Buffered, flush_every)?,
+        narrow_task(alloc, Mode::Immediate, flush_every)?,
+    ]?;
+    let captures = vec![in alloc; source_of(tcp_frames(alloc, packets)?)]?;
     Ok(vec![in alloc; Interface { captures, tasks }]?)
+}
+
+/// Both listeners kept the first two of all packets: one was held, one stored.
+fn keep_two(rt: &(impl Abort + AllocGlobal), report: &InterfaceReport<Source, Sink>) {
+    assert_eq!(rt; report.end, InterfaceEnd::Clean);
+    assert_eq!(rt; report.listeners.len(), 2);
+    let two = [(0, TCP_FRAME), (1, TCP_FRAME)];
+    let text = written(rt.alloc(), 20, &two, 20).expect(rt, "memory");
+    for listener in &report.listeners {
+        serves(rt, listener, "96 10 10 8 2 Clean", text.as_slice());
+    }
 }
 
 #[test]
@@ -72,14 +93,7 @@ fn a_slow_reader_loses_packets(rt: HostRuntime) -> Result<(), Fail> {
     };
     let reports = run(&rt, alloc, narrow(alloc, PACKETS, 0)?, &gate)?;
     assert!(rt; gate.is_given.load(SeqCst));
-    let report = at(&rt, reports.as_slice(), 0);
-    assert_eq!(rt; report.end, InterfaceEnd::Clean);
-    assert_eq!(rt; report.listeners.len(), 2);
-    // one is held, one stored
-    let text = written(alloc, 20, &[(0, TCP_FRAME), (1, TCP_FRAME)], 20)?;
-    for listener in &report.listeners {
-        serves(&rt, listener, "96 10 10 8 2 Clean", text.as_slice());
-    }
+    keep_two(&rt, at(&rt, reports.as_slice(), 0));
     Ok(())
 }
 

@@ -144,14 +144,20 @@ impl<R: Clock> Gate for Watch<'_, R> {
     }
 }
 
-/// An interface of a capture for each frame, at a listener for TCP and one for all.
-fn interface(alloc: Global, frames: &[[u8; 38]]) -> Result<Interface<Source, Sink>, Fail> {
-    let tcp = task(keeping_tcp()?, 64, 96, sink_with(alloc, usize::MAX));
-    let all = task(keeping_all()?, 64, 96, sink_with(alloc, usize::MAX));
+/// A capture for each frame.
+fn one_of_each(alloc: Global, frames: &[[u8; 38]]) -> Result<Vec<Source>, AllocError> {
     let mut captures = Vec::new(alloc);
     for frame in frames {
         captures.push(source_of(capture(alloc, 1, &[*frame])?))?;
     }
+    Ok(captures)
+}
+
+/// An interface of a capture for each frame, at a listener for TCP and one for all.
+fn interface(alloc: Global, frames: &[[u8; 38]]) -> Result<Interface<Source, Sink>, Fail> {
+    let captures = one_of_each(alloc, frames)?;
+    let tcp = task(keeping_tcp()?, 64, 96, sink_with(alloc, usize::MAX));
+    let all = task(keeping_all()?, 64, 96, sink_with(alloc, usize::MAX));
     Ok(Interface {
         captures,
         tasks: vec![in alloc; tcp, all]?,
@@ -176,13 +182,18 @@ fn was_told(rt: &impl Abort, told: &Told, arrivals: u64, packets: [u64; 2]) {
     }
 }
 
+/// The interfaces whose steps are watched.
+fn two_interfaces(alloc: Global) -> Result<Vec<Interface<Source, Sink>>, Fail> {
+    Ok(vec![in alloc;
+        interface(alloc, &[TCP_FRAME, UDP_FRAME, TCP_FRAME])?,
+        interface(alloc, &[UDP_FRAME, TCP_FRAME])?,
+    ]?)
+}
+
 #[test]
 fn each_step_is_told_once_with_its_numbers(rt: HostRuntime) -> Result<(), Fail> {
     let watch = Watch::new(&rt);
-    let interfaces = vec![in rt.alloc();
-        interface(rt.alloc(), &[TCP_FRAME, UDP_FRAME, TCP_FRAME])?,
-        interface(rt.alloc(), &[UDP_FRAME, TCP_FRAME])?,
-    ]?;
+    let interfaces = two_interfaces(rt.alloc())?;
     let reports = run(&rt, rt.alloc(), interfaces, &watch)?;
     assert_eq!(rt; watch.odd.load(SeqCst), 0);
     end_clean(&rt, reports.as_slice(), 2);

@@ -16,6 +16,11 @@ loop-n-preserved g c =
     let all = c.args.captures.items in
     let taken = c.in-Some.ensures.steps.0.0 in
     let rest = c.next.new.self.iter.rest.items in
+    let left = c.loop-n.n-iterator.iter.rest.items in
+    let before = c.loop-n.sources.items in
+    let after = c.push_reserved.new.self.items in
+    let k = c.loop-n.n-iterator.count in
+    let m = c.next.new.self.count in
     elim c.match-end.branch [
       | in-Some-end w ↦ (
         search rules,
@@ -27,7 +32,7 @@ loop-n-preserved g c =
               playlist,
               timely,
               subst (λ p. HasArrived starts playlist p) (sym w.self-is) arrived,
-              loop-unread L B all _ _ _ _ c.in-Some.source c.match-end.source _ rest playlist c.loop-n.end c.match-end.end _ so w.in-Some-end.is taken w.source-is
+              loop-unread L B all before after k m c.in-Some.source c.match-end.source left rest playlist c.loop-n.end c.match-end.end _ so w.in-Some-end.is taken w.source-is
                   c.push_reserved.ensures.items w.end-is,
             )),
         search rules,
@@ -45,7 +50,7 @@ loop-n-preserved g c =
               playlist ++ arrivals_from c.in-Some.n 0 played.packets,
               All-append (λ a. IsTimely a.packet.nanos) playlist (arrivals_from c.in-Some.n 0 played.packets) timely (writable-timely c.in-Some.n 0 played.packets played.writable),
               subst (λ p. HasArrived starts (playlist ++ arrivals_from c.in-Some.n 0 played.packets) p) (sym w.self-is) (played.arrive starts playlist arrived),
-              loop-read L B all _ _ c.loop-n.n-iterator.count _ c.in-Some.n w.give_capture-source.new.self.arrived c.in-Some.source w.give_capture-source.result.0 c.match-end.source _ rest
+              loop-read L B all before after k m c.in-Some.n w.give_capture-source.new.self.arrived c.in-Some.source w.give_capture-source.result.0 c.match-end.source left rest
                   playlist played.packets c.loop-n.end c.match-end.end w.give_capture-source.result.1 so w.in-None-end.is taken w.source-is c.push_reserved.ensures.items
                   (search rules) (search rules) (played.arrive starts playlist arrived).0 (played.ends, w.give_capture-source.ensures.back) w.end-is,
             )),
@@ -62,5 +67,6 @@ returns g c = λ starts fresh.
       timely,
       arrived,
       subst (λ (e : InterfaceEnd). GivesPlaylist g.S.Source.left g.S.Source.failures (length playlist) 0 c.args.captures.items c.loop-n.sources.items playlist e) (sym c.unwrap_or.ensures)
-          (plays-all g.S.Source.left g.S.Source.failures c.args.captures.items c.loop-n.sources.items _ _ playlist c.loop-n.end so (search rules)),
+          (plays-all g.S.Source.left g.S.Source.failures c.args.captures.items c.loop-n.sources.items c.loop-n.n-iterator.count
+          c.loop-n.n-iterator.iter.rest.items playlist c.loop-n.end so (search rules)),
     )
