@@ -59,7 +59,7 @@ fn split_texts(
     let end = split(alloc, captures, parts, Order::Little, Unit::Micro).expect(rt, "memory");
     let (mut out, mut err) = (Vec::new(alloc), Vec::new(alloc));
     let status = tell_split(lines.as_slice(), &end, &mut out, &mut err);
-    same(rt, status, 0);
+    assert_eq!(rt; status, 0);
     (out, written_of(rt, end.parts))
 }
 

@@ -3,7 +3,6 @@
 ghost use Rattle.std.specs.Prelude.{◌≡◌, min, length};
 ghost use Rattle.bpfvm.specs.Machine.{verdict};
 
-use crate::same::same;
 use bpfvm::{Program, read_listing, run};
 
 /// How many captured bytes of a packet a program keeps, 0 where it rejects the packet.
@@ -20,8 +19,8 @@ const IP: &str = "4\n40 0 0 12\n21 0 1 2048\n6 0 0 20\n6 0 0 0\n";
 fn ipv4_alone_is_kept(rt: HostRuntime) {
     let program = read_listing(IP.as_bytes()).expect(&rt, "a program");
     let mut frame = [0; 60];
-    same(&rt, kept(&program, &frame, 60), 0);
+    assert_eq!(rt; kept(&program, &frame, 60), 0);
     frame[12] = 8;
-    same(&rt, kept(&program, &frame, 60), 20);
-    same(&rt, kept(&program, &frame[..14], 60), 14);
+    assert_eq!(rt; kept(&program, &frame, 60), 20);
+    assert_eq!(rt; kept(&program, &frame[..14], 60), 14);
 }
