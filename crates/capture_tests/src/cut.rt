@@ -22,7 +22,7 @@ fn program_of(rt: &(impl Abort + AllocGlobal), listing: &[u8]) -> Program {
 }
 
 /// What a cut of a text gives: what was written, the number of bytes told, the line on standard error, the status.
-#[derive(Debug, Drop)]
+#[derive(Drop)]
 struct Seen {
     written: Vec<u8>,
     sent: u64,

@@ -48,17 +48,16 @@ fn a_device_and_a_folder_are_no_files(rt: HostRuntime) {
 /// A file of this name would be made in the folder, by a path that begins so.
 fn is_made_in(rt: &(impl Abort + AllocGlobal + Files), folder: FileId, front: &str, name: &str) {
     let path = format!(in rt.alloc(); "{front}{name}").expect(rt, "memory");
-    let name = name.to_string(rt.alloc()).expect(rt, "memory");
-    leads_to(rt, path.as_str(), Some(Target::New(folder, name)));
-    leads_nowhere(rt, path.as_str());
+    let made = name.to_string(rt.alloc()).expect(rt, "memory");
+    leads_to(rt, path.as_str(), Some(Target::New(folder, made)));
+    // Nothing can be made below a name that is not there, nor without a name.
+    leads_nowhere(rt, path.as_str(), "/new");
+    leads_nowhere(rt, path.as_str(), "/");
 }
 
-/// Nothing can be made below a name that is not there, nor without a name.
-fn leads_nowhere(rt: &(impl Abort + AllocGlobal + Files), path: &str) {
-    let below = format!(in rt.alloc(); "{path}/new").expect(rt, "memory");
-    leads_to(rt, below.as_str(), None);
-    let folder = format!(in rt.alloc(); "{path}/").expect(rt, "memory");
-    leads_to(rt, folder.as_str(), None);
+fn leads_nowhere(rt: &(impl Abort + AllocGlobal + Files), path: &str, behind: &str) {
+    let path = format!(in rt.alloc(); "{path}{behind}").expect(rt, "memory");
+    leads_to(rt, path.as_str(), None);
 }
 
 #[test]

@@ -5,22 +5,22 @@ use std::fs::{Files, Metadata, OpenFile, OpenOptions};
 use std::io;
 use std::io::{ErrorKind, Read, Seek, SeekFrom, Write};
 use std::sync::atomic::Ordering::SeqCst;
-use std::sync::atomic::{AtomicBool, AtomicU32, AtomicUsize};
+use std::sync::atomic::{AtomicBool, AtomicU32};
 
 /// Enough for the standard streams, and a few files.
-const DESCRIPTORS: usize = 8;
+const DESCRIPTORS: u32 = 8;
 
 /// What `in.pcap` has: a header, and 7 bytes of a record's.
 pub const TORN: &[u8] =
     b"\xd4\xc3\xb2\xa1\x02\0\x04\0\0\0\0\0\0\0\0\0\0\0\x04\0\x01\0\0\0\x02\0\0\0\0\0\0";
 
-/// Which descriptors are taken, and which one OUT was given; whether it is told what stands at a path; how many of the next
+/// Which descriptors are taken, a bit for each, and which one OUT was given; whether it is told what stands at a path; how many of the next
 /// calls that make or write a file are refused, whether the one that is refused answers that it took nothing, and how many
 /// calls there were.
 #[derive(Drop)]
 pub struct Table {
-    taken: [AtomicBool; DESCRIPTORS],
-    pub output: AtomicUsize,
+    taken: AtomicU32,
+    pub output: AtomicU32,
     pub is_told: AtomicBool,
     pub refused: AtomicU32,
     pub takes_nothing: AtomicBool,
@@ -28,24 +28,16 @@ pub struct Table {
 }
 
 /// No descriptor.
-pub const NONE: usize = usize::MAX;
+pub const NONE: u32 = u32::MAX;
 
 impl Table {
     /// The table with these descriptors taken.
     pub fn new(open: [bool; 3]) -> Table {
         let [input, output, error] = open;
+        let taken = u32::from(input) | u32::from(output) << 1 | u32::from(error) << 2;
         Table {
-            taken: [
-                AtomicBool::new(input),
-                AtomicBool::new(output),
-                AtomicBool::new(error),
-                AtomicBool::new(false),
-                AtomicBool::new(false),
-                AtomicBool::new(false),
-                AtomicBool::new(false),
-                AtomicBool::new(false),
-            ],
-            output: AtomicUsize::new(NONE),
+            taken: AtomicU32::new(taken),
+            output: AtomicU32::new(NONE),
             is_told: AtomicBool::new(true),
             refused: AtomicU32::new(0),
             takes_nothing: AtomicBool::new(false),
@@ -64,14 +56,16 @@ impl Table {
     }
 
     /// The first descriptor that is free.
-    fn free(&self) -> Option<usize> {
-        self.taken.iter().position(|taken| !taken.load(SeqCst))
+    fn free(&self) -> Option<u32> {
+        let free = self.taken.load(SeqCst).trailing_ones();
+        (free < DESCRIPTORS).then_some(free)
     }
 
-    fn set(&self, number: usize, taken: bool) {
-        if let Some(one) = self.taken.get(number) {
-            one.store(taken, SeqCst);
-        }
+    fn set(&self, number: u32, taken: bool) {
+        let bit = 1u32.checked_shl(number).unwrap_or(0);
+        let others = self.taken.load(SeqCst) & !bit;
+        self.taken
+            .store(if taken { others | bit } else { others }, SeqCst);
     }
 }
 
@@ -83,7 +77,7 @@ pub struct System<'a> {
 
 /// A file of it, whose descriptor is free again when it is let go. A signal breaks its calls in turn, the first one too.
 pub struct Numbered<'a> {
-    number: usize,
+    number: u32,
     table: &'a Table,
     left: &'static [u8],
     is_broken_off: bool,

@@ -9,4 +9,6 @@ mod lengths;
 #[cfg(test)]
 mod page;
 #[cfg(test)]
+mod same;
+#[cfg(test)]
 mod tokens;

@@ -1,11 +1,10 @@
 //! Which tokens a text has.
 
+use crate::same::{same, same_in};
 use filterlang::{
-    Comparison, EthernetAddress, Fault, Joint, Kind, Operator, Parts, Protocol, Side, Token,
-    TypeWord, lex,
+    Comparison, EthernetAddress, Joint, Kind, Operator, Parts, Protocol, Side, Token, TypeWord, lex,
 };
 use std::process::Abort;
-use std::test::Fail;
 
 const HOST: Kind = Kind::Type(TypeWord::Host);
 
@@ -15,7 +14,7 @@ const ZERO_TO_FIVE: EthernetAddress = EthernetAddress {
     octets: [0, 1, 2, 3, 4, 5],
 };
 
-const TEXTS: [(&str, &[(Kind, usize, usize)]); 18] = [
+static TEXTS: [(&str, &[(Kind, usize, usize)]); 18] = [
     ("", &[]),
     (" \t\r\n", &[]),
     (
@@ -184,32 +183,30 @@ const TEXTS: [(&str, &[(Kind, usize, usize)]); 18] = [
 /// A token of a text is of this kind, from this place to that.
 fn is_token(rt: &impl Abort, text: &str, token: &Token, wanted: (Kind, usize, usize)) {
     let found = (token.kind, token.span.start, token.span.end);
-    assert_eq!(rt; found, wanted, "a token of {text:?}");
+    same_in(rt, text, found, wanted);
 }
 
 /// A text has these tokens.
-fn has_tokens(
-    rt: &(impl Abort + AllocGlobal),
-    text: &str,
-    wanted: &[(Kind, usize, usize)],
-) -> Result<(), Fault> {
-    let tokens = lex(rt.alloc(), text)?;
-    assert_eq!(rt; tokens.len(), wanted.len(), "tokens of {text:?}");
+fn has_tokens(rt: &(impl Abort + AllocGlobal), text: &str, wanted: &[(Kind, usize, usize)]) {
+    let tokens = lex(rt.alloc(), text).expect(rt, "the text has tokens");
+    are_tokens(rt, text, tokens.as_slice(), wanted);
+}
+
+fn are_tokens(rt: &impl Abort, text: &str, tokens: &[Token], wanted: &[(Kind, usize, usize)]) {
+    same_in(rt, text, tokens.len(), wanted.len());
     for (token, one) in tokens.iter().zip(wanted) {
         is_token(rt, text, token, *one);
     }
-    Ok(())
 }
 
 #[test]
-fn texts_have_these_tokens(rt: HostRuntime) -> Result<(), Fail> {
-    for (text, wanted) in TEXTS.as_slice() {
-        has_tokens(&rt, text, wanted)?;
+fn texts_have_these_tokens(rt: HostRuntime) {
+    for (text, wanted) in TEXTS.iter() {
+        has_tokens(&rt, text, wanted);
     }
-    Ok(())
 }
 
-const WORDS: [(&str, Kind); 44] = [
+static WORDS: [(&str, Kind); 44] = [
     ("ether", Kind::Protocol(Protocol::Ether)),
     ("ip", Kind::Protocol(Protocol::Ip)),
     ("arp", Kind::Protocol(Protocol::Arp)),
@@ -256,7 +253,7 @@ const WORDS: [(&str, Kind); 44] = [
     ("\\rarp", Kind::Name(Protocol::Rarp)),
 ];
 
-const SIGNS: [(&str, Kind); 25] = [
+static SIGNS: [(&str, Kind); 25] = [
     ("(", Kind::Open),
     (")", Kind::Close),
     ("[", Kind::OpenBracket),
@@ -284,7 +281,7 @@ const SIGNS: [(&str, Kind); 25] = [
     (">=", Kind::Comparison(Comparison::GreaterOrEqual)),
 ];
 
-const NUMBERS: [(&str, Kind); 15] = [
+static NUMBERS: [(&str, Kind); 15] = [
     ("0", Kind::Number(0)),
     ("10", Kind::Number(10)),
     ("4294967295", Kind::Number(4_294_967_295)),
@@ -333,34 +330,33 @@ const NUMBERS: [(&str, Kind); 15] = [
 ];
 
 /// Each of these texts is one token.
-fn each_is_one_token(rt: &(impl Abort + AllocGlobal), rows: &[(&str, Kind)]) -> Result<(), Fail> {
+fn each_is_one_token(rt: &(impl Abort + AllocGlobal), rows: &[(&str, Kind)]) {
     for (text, kind) in rows {
-        has_tokens(rt, text, &[(*kind, 0, text.len())])?;
+        has_tokens(rt, text, &[(*kind, 0, text.len())]);
     }
-    Ok(())
 }
 
 #[test]
-fn each_word_is_one_token(rt: HostRuntime) -> Result<(), Fail> {
-    each_is_one_token(&rt, WORDS.as_slice())
+fn each_word_is_one_token(rt: HostRuntime) {
+    each_is_one_token(&rt, WORDS.as_slice());
 }
 
 #[test]
-fn each_sign_is_one_token(rt: HostRuntime) -> Result<(), Fail> {
-    each_is_one_token(&rt, SIGNS.as_slice())
+fn each_sign_is_one_token(rt: HostRuntime) {
+    each_is_one_token(&rt, SIGNS.as_slice());
 }
 
 #[test]
-fn each_number_and_address_is_one_token(rt: HostRuntime) -> Result<(), Fail> {
-    each_is_one_token(&rt, NUMBERS.as_slice())
+fn each_number_and_address_is_one_token(rt: HostRuntime) {
+    each_is_one_token(&rt, NUMBERS.as_slice());
 }
 
 /// A text of 8,192 bytes has as many tokens as signs.
 fn has_as_many_as_signs(rt: &(impl Abort + AllocGlobal), sign: &str, signs: usize) {
     let text = sign.repeat(rt.alloc(), signs).expect(rt, "memory");
-    assert_eq!(rt; text.len(), 8192);
+    same(rt, text.len(), 8192);
     let tokens = lex(rt.alloc(), text.as_str()).expect(rt, "tokens");
-    assert_eq!(rt; tokens.len(), signs, "{sign:?}");
+    same_in(rt, sign, tokens.len(), signs);
 }
 
 #[test]
