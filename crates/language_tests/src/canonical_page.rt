@@ -1,6 +1,5 @@
 //! The caller that the page of `canonical` shows, crates/canonical/README.md.
 
-use crate::same::same;
 use canonical::Canonical;
 use filterlang::{Fault, parse};
 use std::alloc::Global;
@@ -15,10 +14,9 @@ fn as_read(alloc: Global, line: &str) -> Result<String, Fault> {
 fn what_is_inherited_is_written_out(rt: HostRuntime) {
     let alloc = rt.alloc();
     let shown = as_read(alloc, "tcp port 80 or 8080").expect(&rt, "an expression");
-    same(&rt, shown.as_str(), "tcp port 80 or tcp port 8080");
-    same(
-        &rt,
+    assert_eq!(rt; shown.as_str(), "tcp port 80 or tcp port 8080");
+    assert_eq!(rt;
         as_read(alloc, "tcp and 80").err(),
-        Some(Fault::NoQualifier(8)),
+        Some(Fault::NoQualifier(8))
     );
 }
