@@ -69,6 +69,13 @@ fn three_at_once(
     })
 }
 
+/// One batch of three packets was told, and nothing of it was written before; in the end all is.
+fn told_at_once<R>(rt: &impl Abort, gate: &Batches<'_, R>) {
+    assert_eq!(rt; (gate.told.load(SeqCst), gate.packets.load(SeqCst)), (1, 3));
+    assert_eq!(rt; gate.late.load(SeqCst), 0);
+    assert_eq!(rt; gate.bytes.load(SeqCst), 24 + 3 * (16 + 38));
+}
+
 #[test]
 fn a_batch_is_told_with_its_packets_before_it_is_handed_on(rt: HostRuntime) -> Result<(), Fail> {
     let alloc = rt.alloc();
@@ -83,8 +90,6 @@ fn a_batch_is_told_with_its_packets_before_it_is_handed_on(rt: HostRuntime) -> R
     let interfaces = vec![in alloc; three_at_once(alloc, &bytes)?]?;
     let reports = run(&rt, alloc, interfaces, &gate)?;
     assert_eq!(rt; reports.len(), 1);
-    assert_eq!(rt; (gate.told.load(SeqCst), gate.packets.load(SeqCst)), (1, 3));
-    assert_eq!(rt; gate.late.load(SeqCst), 0);
-    assert_eq!(rt; bytes.load(SeqCst), 24 + 3 * (16 + 38));
+    told_at_once(&rt, &gate);
     Ok(())
 }

@@ -3,7 +3,7 @@
 use super::at;
 use bpfvm::read_listing;
 use listener::Mode;
-use replay::{Interface, Open, Task, run};
+use replay::{Interface, ListenerReport, Open, Task, run};
 use savefile::{Counted, Order, Unit};
 use std::alloc::Global;
 use std::process::Abort;
@@ -42,6 +42,17 @@ fn interface_for<'a>(
     })
 }
 
+/// Adds the savefile of each listener, and how many of its packets were lost.
+fn add_files(
+    files: &mut Vec<(Vec<u8>, u64)>,
+    listeners: Vec<ListenerReport<Counted<Vec<u8>>>>,
+) -> Result<(), Fail> {
+    for listener in listeners {
+        files.push((listener.sink.into_inner(), listener.dropped))?;
+    }
+    Ok(())
+}
+
 /// Reads a capture once, and makes a savefile for each listing: the packets that it accepts, cut to 96 bytes, and how many of
 /// them were lost.
 fn sorted_out<R: Threads + Wait + Sync>(
@@ -53,9 +64,7 @@ fn sorted_out<R: Threads + Wait + Sync>(
     let interfaces = vec![in alloc; interface_for(alloc, listings, capture)?]?;
     let mut files = Vec::new(alloc);
     for report in run(rt, alloc, interfaces, &Open)? {
-        for listener in report.listeners {
-            files.push((listener.sink.into_inner(), listener.dropped))?;
-        }
+        add_files(&mut files, report.listeners)?;
     }
     Ok(files)
 }
