@@ -12,8 +12,8 @@ that does not come back so is tried alone, and so is one that changes something 
 still proved is a failure: then a contract says too little, or the edit is none. So is one that is refused only since a
 proof names what it takes away: that tells nothing of the contract.
 
-The copies lie in a temporary folder and take the work along that `rt check` kept in out/; so run `rt all check` before,
-or each crate is first proved from nothing. The last line is `N passed, M failed`.
+Each lane has a copy of the crate in a temporary folder, with what `./build` and `./build --check NAME` kept of it and of those below;
+what is not kept is proved there first. The last line is `N passed, M failed`.
 """
 import argparse
 import collections
@@ -206,8 +206,13 @@ def listed():
     return lines, below
 
 
+def work_of(crate):
+    """What `./build --check` kept of a crate."""
+    return ROOT / "out" / "build" / f"{crate}.work"
+
+
 class Copy:
-    """A copy of a crate and of the libraries that it stands on, with the work that was kept of them."""
+    """A copy of a crate and of the libraries that it stands on, with what `./build` kept of them."""
 
     def __init__(self, crate, room):
         lines, below = listed()
@@ -215,20 +220,27 @@ class Copy:
         for it in own:
             own += [low for low in below[it] if low in lines and low not in own]
         (room / "crates.txt").write_text("".join(f"{lines[it]}\n" for it in lines if it in own))
-        shutil.copy(ROOT / "HANDLES", room)
+        (room / "out" / "build").mkdir(parents=True)
+        shutil.copy(ROOT / "build", room)
         for it in own:
-            for part in [*PARTS, "out/rlib", *["out/incremental"] * (it == crate)]:
+            for part in PARTS:
                 if (ROOT / "crates" / it / part).is_dir():
                     shutil.copytree(ROOT / "crates" / it / part, room / "crates" / it / part)
+            kept = ROOT / "out" / "build" / it
+            if it == crate and work_of(it).is_dir():
+                shutil.copytree(work_of(it), room / "out" / "build" / f"{it}.work")
+            elif kept.with_suffix(".key").is_file():
+                shutil.copy(kept.with_suffix(".key"), room / "out" / "build")
+                (room / "out" / "build" / f"{it}.rlib").symlink_to(kept.with_suffix(".rlib"))
 
     def check(self, texts):
-        """What `rt check` says with these texts in place of the crate's own."""
+        """What the check says with these texts in place of the crate's own."""
         folder = self.room / "crates" / self.crate
         were = {path: (folder / path).read_text() for path in texts}
         for path, text in texts.items():
             (folder / path).write_text(text)
         try:
-            words = ["rt", "check", "--jobs", "1"]
+            words = [self.room / "build", "--check", self.crate]
             how = {"stdin": subprocess.DEVNULL, "stdout": subprocess.PIPE, "stderr": subprocess.STDOUT, "errors": "replace"}
             return subprocess.run(words, cwd=folder, **how).stdout
         finally:
@@ -322,8 +334,8 @@ class Trial:
         while batch:
             crate = batch[0].crate
             with tempfile.TemporaryDirectory(dir=self.room, ignore_cleanup_errors=True) as room:
-                if not (ROOT / "crates" / crate / "out/incremental").is_dir():
-                    self.say(f"{crate}: no work is kept in out/, so it is proved from nothing first")
+                if not work_of(crate).is_dir():
+                    self.say(f"{crate}: nothing is kept of it in out/build, so it is proved from nothing first")
                 copy = Copy(crate, pathlib.Path(room))
                 is_proved = re.search(r"^logic=proved\b", copy.check({}), re.M)
                 while batch and batch[0].crate == crate:

@@ -1,0 +1,190 @@
+"""`./build` and the launcher: what is proved in which order, what is kept, and what is told. A stand-in takes the toolchain's place."""
+import os
+import shutil
+import signal
+import subprocess
+import time
+
+from .common import LIMIT, ROOT, Seen, case
+
+# What stands on what. `side` is no part of the program.
+CRATES = "# A comment.\nlow: thiserror\nmiddle: low\nother: low\nbpftap: middle other\nside: low\n"
+
+# A toolchain: `rt` tells its version and where it lies, `rattle` notes each call, and fails or waits where a file says so.
+RT = """#!/bin/sh
+case $1 in version) cat "$KIT/version" ;; doc) echo "$KIT/START-HERE.md" ;; esac
+"""
+RATTLE = """#!/bin/sh
+for last; do :; done
+echo "$1 $3" >>"$KIT/calls"
+[ -e "$KIT/fails" ] && [ "$(cat "$KIT/fails")" = "$3" ] && { echo 'src/lib.rt:1:1: error: not proved: too little'; exit 1; }
+[ -e "$KIT/waits" ] && [ "$(cat "$KIT/waits")" = "$3" ] && exec sleep 60
+[ "$1" = check ] && { echo "checked with $*"; exit 0; }
+case $last in *.rlib) mkdir "$last" ;; *) echo made >"$last" ;; esac
+"""
+# The tests of a crate that is built with tests: how they end is its last word.
+TEST = """#!/bin/sh
+echo "tests of ${3##*/}"
+[ "${3##*/}" = middle_tests ]
+"""
+LINK = """#!/bin/sh
+printf '#!/bin/sh\\necho "here: $PWD, words: $*"\\nexit 7\\n' >"$6"
+chmod +x "$6"
+"""
+
+
+class Source:
+    """A source folder of its own with the launcher, and a kit beside it."""
+
+    def __init__(self, scene):
+        self.scene, self.folder, self.kit = scene, scene.folder / "source", scene.folder / "kit"
+        for line in CRATES.splitlines()[1:]:
+            name = line.partition(":")[0]
+            (self.folder / "crates" / name / "src").mkdir(parents=True)
+            (self.folder / "crates" / name / "src" / ("main.rt" if name == "bpftap" else "lib.rt")).write_text(f"// {name}\n")
+        (self.folder / "crates.txt").write_text(CRATES)
+        for name in ["build", "bpftap"]:
+            shutil.copy(ROOT / name, self.folder)
+        (self.kit / "bin").mkdir(parents=True)
+        (self.kit / "version").write_text("kit 1\n")
+        for name, text in [("rt", RT), ("rattle", RATTLE), ("rattle-link", LINK), ("rattle-test", TEST)]:
+            (self.kit / "bin" / name).write_text(text)
+            (self.kit / "bin" / name).chmod(0o755)
+
+    def environment(self):
+        return {**os.environ, "PATH": f"{self.kit / 'bin'}:{os.environ['PATH']}", "KIT": str(self.kit)}
+
+    def run(self, *words, program="build", **how):
+        how = {"cwd": self.scene.folder, "env": self.environment(), "stdin": subprocess.DEVNULL, "timeout": LIMIT, **how}
+        done = subprocess.run([self.folder / program, *words], capture_output=True, **how)
+        return Seen(done.stdout, done.stderr, done.returncode)
+
+    def calls(self):
+        """The crates that were built or checked since it was asked last."""
+        noted = self.kit / "calls"
+        calls = noted.read_text().split("\n")[:-1] if noted.exists() else []
+        noted.unlink(missing_ok=True)
+        return [call.removeprefix("build ") for call in calls]
+
+
+@case
+def crates_are_proved_once_and_the_lowest_first(scene):
+    """Each crate is built behind those that it stands on, each is told with its number, and no other one is built."""
+    source = Source(scene)
+    seen = source.run()
+    calls = source.calls()
+    scene.check("calls", sorted(calls), ["bpftap", "low", "middle", "other"])
+    scene.check("first and last", (calls[0], calls[-1]), ("low", "bpftap"))
+    lines = seen.err.decode().splitlines()
+    scene.check("printed, and the status", (seen.out, seen.status), (b"", 0))
+    scene.check("told first", lines[0].startswith("bpftap: building: 4 crates are proved, "), True)
+    scene.check("told last", lines[-1], "bpftap: building: bpftap is proved, 4 of 4 crates (0 min so far)")
+    scene.check("lines", len(lines), 5)
+
+
+@case
+def what_is_proved_is_kept(scene):
+    """A second call proves nothing and tells nothing; behind an edit a crate is proved again with those above it alone."""
+    source = Source(scene)
+    source.run()
+    source.calls()
+    scene.check("a second call", (source.run(), source.calls()), (Seen(b"", b"", 0), []))
+    (source.folder / "crates" / "other" / "src" / "lib.rt").write_text("// another\n")
+    source.run()
+    scene.check("behind an edit", source.calls(), ["other", "bpftap"])
+    (source.folder / "crates" / "low" / "proofs").mkdir()
+    (source.folder / "crates" / "low" / "proofs" / "Lib.antt").write_text("-- a proof\n")
+    source.run("middle")
+    scene.check("behind a new proof, what is named alone", source.calls(), ["low", "middle"])
+    (source.kit / "version").write_text("kit 2\n")
+    source.run()
+    scene.check("by another toolchain", sorted(source.calls()), ["bpftap", "low", "middle", "other"])
+
+
+@case
+def a_crate_that_is_not_proved_is_told(scene):
+    """The build ends at it with its errors and the place of the log, and goes on there once it is mended. The launcher's status is 125."""
+    source = Source(scene)
+    (source.kit / "fails").write_text("middle")
+    told = b"bpftap: building: src/lib.rt:1:1: error: not proved: too little\n"
+    place = b"bpftap: the build failed at middle; out/build/middle.log has all that the toolchain said\n"
+    seen = source.run()
+    scene.check("told", (told + place in seen.err, seen.status), (True, 1))
+    scene.check("calls", "bpftap" in source.calls(), False)
+    seen = source.run(program="bpftap")
+    scene.check("told by the launcher, and its status", (place in seen.err, seen.out, seen.status), (True, b"", 125))
+    scene.check("low is kept", "low" in source.calls(), False)
+    (source.kit / "fails").unlink()
+    scene.check("mended", source.run().status, 0)
+    scene.check("what was left", ("middle" in (calls := source.calls()), calls[-1], "low" in calls), (True, "bpftap", False))
+
+
+@case
+def an_interrupted_build_goes_on(scene):
+    """Behind a signal no check is left running, the way on is told, and the next call begins with what was not proved."""
+    for number, status in [(signal.SIGINT, 130), (signal.SIGTERM, 143)]:
+        source = Source(scene)
+        (source.kit / "waits").write_text("bpftap")
+        process = subprocess.Popen(
+            [source.folder / "build"], env=source.environment(), stdin=subprocess.DEVNULL, stderr=subprocess.PIPE)
+        deadline = time.monotonic() + LIMIT
+        while "bpftap" not in (source.kit / "calls").read_text() if (source.kit / "calls").exists() else True:
+            if time.monotonic() > deadline:
+                break
+            time.sleep(0.02)
+        process.send_signal(number)
+        told = process.communicate(timeout=LIMIT)[1]
+        scene.check(f"told behind {number.name}", told.splitlines()[-1].startswith(b"bpftap: building: interrupted; what is proved is kept"), True)
+        scene.check(f"status behind {number.name}", process.returncode, status)
+        source.calls()
+        (source.kit / "waits").unlink()
+        scene.check(f"the next call behind {number.name}", (source.run().status, source.calls()), (0, ["bpftap"]))
+        shutil.rmtree(source.folder)
+        shutil.rmtree(source.kit)
+
+
+@case
+def the_launcher_runs_the_program(scene):
+    """It builds where a source is newer, and calls the program with the caller's words, in the caller's folder."""
+    source = Source(scene)
+    first = source.run("a b", "-c", program="bpftap")
+    line = f"here: {scene.folder}, words: a b -c\n".encode()
+    scene.check("built and called", (first.out, first.status, b"4 of 4 crates" in first.err), (line, 7, True))
+    scene.check("called again", source.run("a b", "-c", program="bpftap"), Seen(line, b"", 7))
+    source.calls()
+    (source.folder / "crates" / "middle" / "src" / "lib.rt").write_text("// newer\n")
+    source.run(program="bpftap")
+    scene.check("built again", source.calls(), ["middle", "bpftap"])
+
+
+@case
+def one_crate_is_checked(scene):
+    """`--check` builds what stands below a crate, and checks it with the flags that are given."""
+    source = Source(scene)
+    seen = source.run("--check", "middle", "--only", "middle::f")
+    scene.check("printed, and the status", (seen.out.endswith(b"--progress --only middle::f\n"), seen.status), (True, 0))
+    scene.check("calls", source.calls(), ["low", "check middle"])
+
+
+@case
+def tests_of_one_crate_are_run(scene):
+    """`--test` builds what stands below a crate, and then its tests, and ends as these do."""
+    source = Source(scene)
+    seen = source.run("--test", "middle")
+    scene.check("passed", (seen.out, seen.status), (b"tests of middle_tests\n", 0))
+    scene.check("calls", source.calls(), ["low", "middle"])
+    seen = source.run("--test", "other")
+    scene.check("failed", (seen.out, seen.status), (b"tests of other_tests\n", 1))
+
+
+@case
+def wrong_words_are_refused(scene):
+    """A crate that there is not, an option that there is not, and a PATH with no toolchain."""
+    source = Source(scene)
+    scene.check("no such crate", source.run("none"), Seen(b"", b"bpftap: crates.txt has no crate none\n", 1))
+    scene.check("no such option", source.run("-x").status, 2)
+    seen = source.run("--help")
+    scene.check("help", (b"./build NAME.." in seen.out, seen.err, seen.status), (True, b"", 0))
+    seen = source.run(env={"PATH": "/usr/bin:/bin"})
+    scene.check("no toolchain", seen, Seen(b"", b"bpftap: the toolchain's command 'rt' is not on the PATH\n", 1))
+    scene.check("calls", source.calls(), [])
