@@ -1,9 +1,9 @@
 #!/usr/bin/env python3
-"""Runs the tests of threads again and again under load: `nice`, beside a busy loop on each processor.
+"""Runs the tests of threads again and again under load: beside a busy loop on each processor, all of it under `nice`.
 
   tests/loaded.py [ROUNDS]    20 rounds of each test of listener_tests, replay_tests and thread_tests
 
-`./test` or `rt test` in these crates builds them. The last line is `N passed, M failed`.
+`./test` builds them. The last line is `N passed, M failed`.
 """
 import concurrent.futures
 import os
@@ -19,7 +19,7 @@ LIMIT = 120
 def passes(words):
     """Whether one test ended well, and in time."""
     try:
-        return subprocess.run(["nice", *words], stdout=subprocess.DEVNULL, stderr=subprocess.DEVNULL, timeout=LIMIT).returncode == 0
+        return subprocess.run(words, stdout=subprocess.DEVNULL, stderr=subprocess.DEVNULL, timeout=LIMIT).returncode == 0
     except subprocess.TimeoutExpired:
         return False
 
@@ -31,6 +31,8 @@ def main():
         program = ROOT / "crates" / name / "out" / f"{name}_tests"
         listed = subprocess.run([program, "--list"], stdout=subprocess.PIPE, text=True, check=True).stdout.split("\n")
         tests += [(str(program), line.split(": ")[0]) for line in listed if line]
+    # Tests and busy loops alike: a test that yields to all loops would take a hundred times as long, and show no more.
+    os.nice(10)
     busy = [subprocess.Popen([sys.executable, "-c", "while True: pass"]) for _ in range(os.cpu_count())]
     try:
         with concurrent.futures.ThreadPoolExecutor(os.cpu_count()) as threads:
