@@ -3,6 +3,7 @@
 ghost use Rattle.std.specs.Prelude.{◌≤◌, IfErr, MatchResult};
 
 use crate::filters::{program_of_expression, program_of_file};
+use crate::opening::open_input;
 use bpfvm::Program;
 use cutting::cut::{CutEnd, End, cut};
 use cutting::filter::FilterFault;
@@ -16,9 +17,9 @@ use hints::noted::{NotedInput, NotedOutput};
 use hints::{Noted, TakesHints};
 use lines::telling::{REFUSED, tell_fault};
 use savefile::{Counted, Fault};
-use std::fs;
+use std::alloc::Global;
 use std::fs::Files;
-use std::io::{BufWriter, Write};
+use std::io::{BufWriter, Read, Write};
 use words::command_line::CutWords;
 
 /// How many bytes of output are gathered before they are written.
@@ -51,8 +52,72 @@ fn hint_cut<R, W: Write + Drop, E: TakesHints>(
     }
 }
 
-/// `bpftap cut`: the filter is accepted, and the paths are compared, before IN is opened. OUT is made at its first write.
+/// Opens IN, once nothing may be lost: OUT is neither of the files that are read, nor the one that faults are told to.
+fn input_of<R: Files + AllocGlobal, E: TakesHints>(
+    rt: &R,
+    words: &CutWords<'_>,
+    err: &mut E,
+) -> Result<NotedInput<Retried<R::File>>, u8>
+    ensures { IfErr result (λ status. status ≤ 3) }
+{
+    let listing = words.listing.unwrap_or(words.input);
+    let read = [listing, words.input];
+    all_apart(rt, None, &read, &[words.output], err)?;
+    open_input(rt, words.input, err)
+}
+
+/// Cuts IN, and tells how that ended.
 #[tactic(auto, using(crate::proofs::Statuses::cut_bound))]
+fn cut_told<R: Read + Drop, W: Write + Drop, E: TakesHints>(
+    alloc: Global,
+    words: &CutWords<'_>,
+    program: &Program,
+    from: NotedInput<R>,
+    to: NotedOutput<W>,
+    err: &mut E,
+) -> u8
+    ensures { result ≤ 3 }
+{
+    let end = cut(
+        alloc,
+        from,
+        program,
+        words.snap,
+        words.order,
+        words.unit,
+        to,
+    );
+    let end = flushed(end);
+    let status = tell(&end, words.input, words.output, err);
+    if words.counted {
+        let _ = tell_count(&end, err);
+    }
+    hint_cut(&end, err);
+    status
+}
+
+/// Cuts IN to OUT, which is made at its first write.
+fn cut_input<R: Files + AllocGlobal, I: Read + Drop, E: TakesHints>(
+    rt: &R,
+    words: &CutWords<'_>,
+    program: &Program,
+    from: NotedInput<I>,
+    err: &mut E,
+) -> Result<u8, u8>
+    ensures { MatchResult result (λ status. status ≤ 3) (λ status. status ≤ 3) }
+{
+    let alloc = rt.alloc();
+    let late = Noted::new(LateFile::new(rt, words.output));
+    match BufWriter::with_capacity(alloc, OUTPUT_BUFFER, late) {
+        Ok(output) => {
+            let to = Counted::new(output);
+            Ok(cut_told(alloc, words, program, from, to, err))
+        }
+        Err(error) => Err(tell_io(&error, words.output, err)),
+    }
+}
+
+/// `bpftap cut`: the filter is accepted, and the paths are compared, before IN is opened. OUT is made at its first write.
 pub fn cut_files<R: Files + AllocGlobal, E: TakesHints>(
     rt: &R,
     words: &CutWords<'_>,
@@ -61,37 +126,8 @@ pub fn cut_files<R: Files + AllocGlobal, E: TakesHints>(
     ensures { MatchResult result (λ status. status ≤ 3) (λ status. status ≤ 3) }
 {
     let program = filter_of(rt, words, err)?;
-    // Nothing may be lost: OUT is neither of the files that are read, nor the one that faults are told to.
-    let listing = words.listing.unwrap_or(words.input);
-    let read = [listing, words.input];
-    all_apart(rt, None, &read, &[words.output], err)?;
-    let input = match fs::open(rt, words.input) {
-        Ok(input) => Noted::new(Retried::new(input)),
-        Err(error) => return Err(tell_io(&error, words.input, err)),
-    };
-    let late = Noted::new(LateFile::new(rt, words.output));
-    match BufWriter::with_capacity(rt.alloc(), OUTPUT_BUFFER, late) {
-        Ok(output) => {
-            let (from, to) = (Counted::new(input), Counted::new(output));
-            let end = cut(
-                rt.alloc(),
-                from,
-                &program,
-                words.snap,
-                words.order,
-                words.unit,
-                to,
-            );
-            let end = flushed(end);
-            let status = tell(&end, words.input, words.output, err);
-            if words.counted {
-                let _ = tell_count(&end, err);
-            }
-            hint_cut(&end, err);
-            Ok(status)
-        }
-        Err(error) => Err(tell_io(&error, words.output, err)),
-    }
+    let input = input_of(rt, words, err)?;
+    cut_input(rt, words, &program, input, err)
 }
 
 /// Empties the buffer before OUT. What fails only now is a fault of OUT too, and goes before a torn record.

@@ -3,18 +3,17 @@
 ghost use Rattle.std.specs.Prelude.{◌≤◌, IfErr, MatchResult};
 
 use crate::filters::program_of_file;
+use crate::opening::open_input;
 use cutting::filter::FilterFault;
 use files::paths::{STANDARD_OUTPUT, all_apart};
-use files::reading::tell_io;
 use files::retried::Retried;
 use hints::expressions::hint_expression;
 use hints::failures::{hint_input, hint_output};
 use hints::noted::NotedInput;
 use hints::{Noted, TakesHints};
 use lines::telling::{REFUSED, tell_fault};
-use savefile::{Counted, Fault};
+use savefile::Fault;
 use std::alloc::Global;
-use std::fs;
 use std::fs::Files;
 use std::io::{BufWriter, Read, Write};
 use verdicts::Filter;
@@ -120,6 +119,43 @@ fn explain_all<R: Read + Drop, O: Write, E: TakesHints>(
     status
 }
 
+/// Opens IN, which is not the file that is printed to.
+fn input_of<R: Files + AllocGlobal, E: TakesHints>(
+    rt: &R,
+    words: &ExplainWords<'_>,
+    err: &mut E,
+) -> Result<NotedInput<Retried<R::File>>, u8>
+    ensures { IfErr result (λ status. status ≤ 3) }
+{
+    let listing = words.listing.unwrap_or(words.input);
+    let read = [listing, words.input];
+    all_apart(rt, Some(STANDARD_OUTPUT), &read, &[], err)?;
+    open_input(rt, words.input, err)
+}
+
+/// What the words ask for of IN, printed behind a buffer.
+fn explain_input<R: Read + Drop, O: Write, E: TakesHints>(
+    alloc: Global,
+    words: &ExplainWords<'_>,
+    filter: &Filter,
+    input: NotedInput<R>,
+    out: &mut O,
+    err: &mut E,
+) -> Result<u8, u8>
+    ensures { MatchResult result (λ status. status ≤ 3) (λ status. status ≤ 3) }
+{
+    let noted = Noted::new(&mut *out);
+    let Ok(mut out) = BufWriter::with_capacity(alloc, OUTPUT_BUFFER, noted) else {
+        return Err(tell_fault(Fault::NoMemory, REFUSED, err));
+    };
+    let status = match words.place {
+        Some(place) => explain_place(alloc, input, filter, place, words.input, &mut out, err),
+        None => explain_all(alloc, input, filter, words.input, &mut out, err),
+    };
+    hint_output(out.get_ref(), err);
+    Ok(status)
+}
+
 /// The filter is accepted before IN is opened, and IN is not the file that is printed to.
 pub fn explain_files<R: Files + AllocGlobal, O: Write, E: TakesHints>(
     rt: &R,
@@ -130,21 +166,6 @@ pub fn explain_files<R: Files + AllocGlobal, O: Write, E: TakesHints>(
     ensures { MatchResult result (λ status. status ≤ 3) (λ status. status ≤ 3) }
 {
     let filter = filter_of(rt, words, err)?;
-    let listing = words.listing.unwrap_or(words.input);
-    all_apart(rt, Some(STANDARD_OUTPUT), &[listing, words.input], &[], err)?;
-    let input = match fs::open(rt, words.input) {
-        Ok(input) => Counted::new(Noted::new(Retried::new(input))),
-        Err(error) => return Err(tell_io(&error, words.input, err)),
-    };
-    let alloc = rt.alloc();
-    let noted = Noted::new(&mut *out);
-    let Ok(mut out) = BufWriter::with_capacity(alloc, OUTPUT_BUFFER, noted) else {
-        return Err(tell_fault(Fault::NoMemory, REFUSED, err));
-    };
-    let status = match words.place {
-        Some(place) => explain_place(alloc, input, &filter, place, words.input, &mut out, err),
-        None => explain_all(alloc, input, &filter, words.input, &mut out, err),
-    };
-    hint_output(out.get_ref(), err);
-    Ok(status)
+    let input = input_of(rt, words, err)?;
+    explain_input(rt.alloc(), words, &filter, input, out, err)
 }

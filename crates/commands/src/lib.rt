@@ -5,4 +5,5 @@ pub mod check_files;
 pub mod cut_files;
 pub mod explain_files;
 mod filters;
+mod opening;
 pub mod split_files;

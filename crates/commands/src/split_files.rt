@@ -13,7 +13,7 @@ use hints::noted::{NotedInput, NotedOutput};
 use hints::stream::give_hint;
 use hints::{Noted, TakesHints};
 use lines::telling::{Path, REFUSED, tell_fault};
-use savefile::{Counted, Fault};
+use savefile::{Counted, Fault, Order, Source, Unit};
 use splitting::outputs::{SplitLine, read_split_lines};
 use splitting::part::{Part, PartEnd};
 use splitting::plan::{Plan, PlanFault, read_plan};
@@ -56,14 +56,27 @@ fn parts<'r, 'p, R: Files>(
 ) -> io::Result<Vec<Part<LateOutput<'r, 'p, R>>>> {
     let mut parts = Vec::with_capacity(alloc, lines.len())?;
     for (line, program) in lines.iter().zip(programs) {
-        let late = Noted::new(LateFile::new(rt, line.output));
-        parts.push(Part {
-            program,
-            snap: line.snap,
-            sink: Counted::new(BufWriter::with_capacity(alloc, OUTPUT_BUFFER, late)?),
-        })?;
+        parts.push(part_of(rt, alloc, *line, program)?)?;
     }
     Ok(parts)
+}
+
+/// The capture that a line asks for, not made.
+fn part_of<'r, 'p, R: Files>(
+    rt: &'r R,
+    alloc: Global,
+    line: SplitLine<'p>,
+    program: Program,
+) -> io::Result<Part<LateOutput<'r, 'p, R>>> {
+    let late = Noted::new(LateFile::new(rt, line.output));
+    match BufWriter::with_capacity(alloc, OUTPUT_BUFFER, late) {
+        Ok(output) => Ok(Part {
+            program,
+            snap: line.snap,
+            sink: Counted::new(output),
+        }),
+        Err(error) => Err(error),
+    }
 }
 
 /// Nothing may be lost: no OUT is a file that is read, the file of another OUT, or the one that the lines are printed to.
@@ -93,11 +106,17 @@ fn all_paths<'a, 'b>(
     words: &SplitWords<'a>,
     lines: &[SplitLine<'b>],
 ) -> Result<(Vec<&'a str>, Vec<&'b str>), AllocError> {
+    let read = paths_read(alloc, words)?;
+    let written = lines.iter().map(|line| line.output).collect(alloc)?;
+    Ok((read, written))
+}
+
+/// All paths that are read.
+fn paths_read<'a>(alloc: Global, words: &SplitWords<'a>) -> Result<Vec<&'a str>, AllocError> {
     let mut read = Vec::new(alloc);
     read.push(words.lines)?;
     read.extend_from_slice(words.inputs.as_slice())?;
-    let written = lines.iter().map(|line| line.output).collect(alloc)?;
-    Ok((read, written))
+    Ok(read)
 }
 
 /// Looks at the lines of LINES, and compiles the expressions.
@@ -158,6 +177,32 @@ fn flush_all<W: Write>(parts: &mut [PartEnd<Counted<W>>]) {
     }
 }
 
+/// Splits captures, and empties the buffers before their OUT.
+fn split_flushed<R: Source + Drop, W: Write + Drop>(
+    alloc: Global,
+    captures: Vec<R>,
+    parts: Vec<Part<Counted<W>>>,
+    order: Order,
+    unit: Unit,
+) -> Result<SplitEnd<R, Counted<W>>, AllocError> {
+    let mut end = split(alloc, captures, parts, order, unit)?;
+    flush_all(end.parts.as_mut_slice());
+    Ok(end)
+}
+
+/// Splits the captures as the lines ask.
+fn split_lines<'r, 'p, R: Files>(
+    rt: &'r R,
+    alloc: Global,
+    words: &SplitWords<'p>,
+    lines: &[SplitLine<'p>],
+    programs: Vec<Program>,
+) -> io::Result<SplitEnd<Input<'r, 'p, R>, LateOutput<'r, 'p, R>>> {
+    let parts = parts(rt, alloc, lines, programs)?;
+    let captures = sources(rt, alloc, words.inputs.as_slice())?;
+    Ok(split_flushed(alloc, captures, parts, words.order, words.unit)?)
+}
+
 /// Splits the captures as the lines ask, and prints how many packets each part has.
 fn split_captures<R: Files + AllocGlobal, O: Write, E: TakesHints>(
     rt: &R,
@@ -168,21 +213,46 @@ fn split_captures<R: Files + AllocGlobal, O: Write, E: TakesHints>(
 ) -> Result<u8, u8>
     ensures { MatchResult result (λ status. status ≤ 3) (λ status. status ≤ 3) }
 {
-    let alloc = rt.alloc();
     let Plan { lines, programs } = plan;
-    let (Ok(captures), Ok(parts)) = (
-        sources(rt, alloc, words.inputs.as_slice()),
-        parts(rt, alloc, lines.as_slice(), programs),
-    ) else {
+    let Ok(end) = split_lines(rt, rt.alloc(), words, lines.as_slice(), programs) else {
         return Err(tell_fault(Fault::NoMemory, REFUSED, err));
     };
-    let Ok(mut end) = split(alloc, captures, parts, words.order, words.unit) else {
-        return Err(tell_fault(Fault::NoMemory, REFUSED, err));
-    };
-    flush_all(end.parts.as_mut_slice());
     let status = tell_split(lines.as_slice(), &end, out, err);
     hint_split(words.inputs.as_slice(), lines.as_slice(), &end, err);
     Ok(status)
+}
+
+/// The same, printed behind a buffer.
+fn split_printed<R: Files + AllocGlobal, O: Write, E: TakesHints>(
+    rt: &R,
+    words: &SplitWords<'_>,
+    plan: Plan<'_>,
+    out: &mut O,
+    err: &mut E,
+) -> Result<u8, u8>
+    ensures { MatchResult result (λ status. status ≤ 3) (λ status. status ≤ 3) }
+{
+    let noted = Noted::new(&mut *out);
+    let Ok(mut out) = BufWriter::with_capacity(rt.alloc(), OUTPUT_BUFFER, noted) else {
+        return Err(tell_fault(Fault::NoMemory, REFUSED, err));
+    };
+    let status = split_captures(rt, words, plan, &mut out, err);
+    hint_printed(out.get_ref(), err);
+    status
+}
+
+/// What LINES asks for, once it is accepted and the paths are compared.
+fn plan_of<'p, R: Files + AllocGlobal, E: TakesHints>(
+    rt: &R,
+    words: &SplitWords<'_>,
+    text: &'p [u8],
+    err: &mut E,
+) -> Result<Plan<'p>, u8>
+    ensures { IfErr result (λ status. status ≤ 3) }
+{
+    let plan = accepted(rt.alloc(), text, err)?;
+    looked_at(rt, words, plan.lines.as_slice(), err)?;
+    Ok(plan)
 }
 
 /// `bpftap split`: LINES is accepted, and the paths are compared, before a capture is opened. An OUT is made at its first write.
@@ -194,15 +264,7 @@ pub fn split_files<R: Files + AllocGlobal, O: Write, E: TakesHints>(
 ) -> Result<u8, u8>
     ensures { MatchResult result (λ status. status ≤ 3) (λ status. status ≤ 3) }
 {
-    let alloc = rt.alloc();
     let text = read_file(rt, words.lines, err)?;
-    let plan = accepted(alloc, text.as_slice(), err)?;
-    looked_at(rt, words, plan.lines.as_slice(), err)?;
-    let noted = Noted::new(&mut *out);
-    let Ok(mut out) = BufWriter::with_capacity(alloc, OUTPUT_BUFFER, noted) else {
-        return Err(tell_fault(Fault::NoMemory, REFUSED, err));
-    };
-    let status = split_captures(rt, words, plan, &mut out, err)?;
-    hint_printed(out.get_ref(), err);
-    Ok(status)
+    let plan = plan_of(rt, words, text.as_slice(), err)?;
+    split_printed(rt, words, plan, out, err)
 }

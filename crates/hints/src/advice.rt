@@ -7,13 +7,13 @@ use std::fmt;
 use std::fmt::{Display, Formatter};
 
 /// Words of other systems' languages that this profile has not.
-const OTHER_LINKS: [&[u8]; 12] = [
+static OTHER_LINKS: [&[u8]; 12] = [
     b"ip6", b"icmp6", b"vlan", b"mpls", b"pppoed", b"pppoes", b"geneve", b"atalk", b"decnet",
     b"ipx", b"llc", b"wlan",
 ];
 
 /// Words of libpcap's language, and what means the same here.
-const WRITTEN: [(&[u8], &str); 7] = [
+static WRITTEN: [(&[u8], &str); 7] = [
     (b"length", "len"),
     (b"igmp", "proto 2"),
     (b"igrp", "proto 9"),
@@ -23,8 +23,20 @@ const WRITTEN: [(&[u8], &str); 7] = [
     (b"vrrp", "proto 112"),
 ];
 
+/// Flags behind `tcp-` that the language has not, and what helps at each.
+static OTHER_FLAGS: [(&[u8], &str); 2] = [
+    (b"ece", "write `64` for `tcp-ece`"),
+    (b"cwr", "write `128` for `tcp-cwr`"),
+];
+
+/// Words that the number of a port stands behind.
+static BEFORE_PORTS: [&[u8]; 2] = [b"port", b"portrange"];
+
+/// Words that an address stands behind.
+static BEFORE_ADDRESSES: [&[u8]; 4] = [b"host", b"net", b"src", b"dst"];
+
 /// What helps to mend an expression.
-#[derive(Clone, Copy, Debug, PartialEq, Eq)]
+#[derive(Clone, Copy)]
 pub(crate) enum Advice<'a> {
     /// A sentence that is the same for each such fault.
     Said(&'static str),
@@ -121,32 +133,29 @@ fn without_blanks(text: &[u8]) -> &[u8] {
     }
 }
 
-/// What is written here for a word of libpcap's language.
-fn written_for(word: &[u8]) -> Option<&'static str> {
-    WRITTEN
-        .iter()
-        .find(|pair| pair.0 == word)
-        .map(|pair| pair.1)
+/// What a table has beside a word.
+fn beside(table: &[(&[u8], &'static str)], word: &[u8]) -> Option<&'static str> {
+    table.iter().find(|pair| pair.0 == word).map(|pair| pair.1)
 }
 
 /// What helps at the second word of a flag that the language has not.
-fn of_flag(before: &[u8], word: &[u8]) -> Option<Advice<'static>> {
-    match (before, word) {
-        (b"tcp-", b"ece") => Some(Advice::Said("write `64` for `tcp-ece`")),
-        (b"tcp-", b"cwr") => Some(Advice::Said("write `128` for `tcp-cwr`")),
-        _ => None,
+fn of_flag(before: &[u8], word: &[u8]) -> Option<&'static str> {
+    if before == b"tcp-".as_slice() {
+        beside(OTHER_FLAGS.as_slice(), word)
+    } else {
+        None
     }
 }
 
 /// What helps at a word that the language has not, behind another word.
 fn of_word<'a>(before: &[u8], word: &'a [u8]) -> Advice<'a> {
-    if let Some(advice) = of_flag(before, word) {
-        return advice;
+    if let Some(said) = of_flag(before, word) {
+        return Advice::Said(said);
     }
     if OTHER_LINKS.contains(&word) {
         return Advice::OtherLink(word);
     }
-    if let Some(written) = written_for(word) {
+    if let Some(written) = beside(WRITTEN.as_slice(), word) {
         return Advice::Written(written, word);
     }
     if let Some(small) = in_small_letters(word) {
@@ -160,25 +169,43 @@ fn of_word<'a>(before: &[u8], word: &'a [u8]) -> Advice<'a> {
 
 /// What helps at what may be a name, behind another word.
 fn of_name<'a>(before: &[u8], name: &'a [u8]) -> Advice<'a> {
-    match before {
-        b"port" | b"portrange" => Advice::Service(name),
-        b"host" | b"net" | b"src" | b"dst" => Advice::Host(name),
-        _ if name.contains(&b'.') => Advice::Host(name),
-        _ => Advice::NoWord(name),
+    if BEFORE_PORTS.contains(&before) {
+        Advice::Service(name)
+    } else if BEFORE_ADDRESSES.contains(&before) || name.contains(&b'.') {
+        Advice::Host(name)
+    } else {
+        Advice::NoWord(name)
+    }
+}
+
+/// Whether a text begins with a quote: a shell's, or a printed one, U+2018 to U+201F.
+fn begins_with_quote(text: &[u8]) -> bool {
+    match text.strip_prefix(b"\xe2\x80") {
+        Some(rest) => matches!(rest.first(), Some(0x98..=0x9f)),
+        None => matches!(text.first(), Some(b'"' | b'\'' | b'`')),
+    }
+}
+
+/// How many bytes of UTF-8 the character has that begins with this one; 1 where none does.
+fn width_of(first: u8) -> usize {
+    match first {
+        0xc2..=0xdf => 2,
+        0xe0..=0xef => 3,
+        0xf0..=0xf7 => 4,
+        _ => 1,
     }
 }
 
 /// What helps where no token begins.
 fn of_byte(rest: &[u8]) -> Advice<'_> {
-    match rest {
-        [b'"' | b'\'' | b'`', ..] | [0xe2, 0x80, 0x98..=0x9f, ..] => Advice::Said(
+    if begins_with_quote(rest) {
+        return Advice::Said(
             "quotes are the shell's, and no part of an expression: '..' round it on the command line alone",
-        ),
-        [0xc2..=0xdf, _, ..] => Advice::NoToken(&rest[..2]),
-        [0xe0..=0xef, _, _, ..] => Advice::NoToken(&rest[..3]),
-        [0xf0..=0xf7, _, _, _, ..] => Advice::NoToken(&rest[..4]),
-        [_, ..] => Advice::NoToken(&rest[..1]),
-        [] => Advice::Said("no word, number or sign begins here"),
+        );
+    }
+    match rest.first() {
+        Some(first) => Advice::NoToken(rest.get(..width_of(*first)).unwrap_or(&rest[..1])),
+        None => Advice::Said("no word, number or sign begins here"),
     }
 }
 
@@ -197,26 +224,35 @@ fn of_number(word: &[u8]) -> Advice<'static> {
     }
 }
 
-/// What helps where no expression can go on with what stands behind a text.
-fn of_syntax<'a>(before: &[u8], rest: &'a [u8]) -> Advice<'a> {
-    match (last_word(before), rest) {
-        (b"port" | b"portrange", []) => {
-            Advice::Said("the expression ends here, and a number is wanted, as `port 80`")
-        }
-        (b"host" | b"net" | b"src" | b"dst", []) => {
-            Advice::Said("the expression ends here, and an address is wanted, as `host 192.0.2.1`")
-        }
-        (_, []) => Advice::Said(
-            "the expression ends here, and more is wanted: a term behind `and`, `or` and `not`, a `)` for each `(`",
-        ),
-        (b"proto", [b'a'..=b'z', ..]) => {
-            Advice::Said("behind `proto` a name has a backslash, as `proto \\tcp`")
-        }
-        (_, [b'a'..=b'z' | b'0'..=b'9' | b'(' | b'!', ..]) => {
-            Advice::Said("`and` or `or` stands between two terms: is it wanting before this one?")
-        }
-        _ => Advice::Said("no expression can go on with this behind what stands before it"),
+/// What helps where an expression ends behind a word, and more is wanted.
+fn at_end(last: &[u8]) -> &'static str {
+    if BEFORE_PORTS.contains(&last) {
+        "the expression ends here, and a number is wanted, as `port 80`"
+    } else if BEFORE_ADDRESSES.contains(&last) {
+        "the expression ends here, and an address is wanted, as `host 192.0.2.1`"
+    } else {
+        "the expression ends here, and more is wanted: a term behind `and`, `or` and `not`, a `)` for each `(`"
     }
+}
+
+/// What helps where no expression goes on behind a word with what begins with this byte.
+fn going_on(last: &[u8], first: u8) -> &'static str {
+    if last == b"proto".as_slice() && first.is_ascii_lowercase() {
+        "behind `proto` a name has a backslash, as `proto \\tcp`"
+    } else if matches!(first, b'a'..=b'z' | b'0'..=b'9' | b'(' | b'!') {
+        "`and` or `or` stands between two terms: is it wanting before this one?"
+    } else {
+        "no expression can go on with this behind what stands before it"
+    }
+}
+
+/// What helps where no expression can go on with what stands behind a text.
+fn of_syntax(before: &[u8], rest: &[u8]) -> Advice<'static> {
+    let last = last_word(before);
+    Advice::Said(match rest.first() {
+        Some(first) => going_on(last, *first),
+        None => at_end(last),
+    })
 }
 
 /// What helps at an identifier that has no qualifier.

@@ -9,25 +9,42 @@ use std::fmt::{Display, Formatter};
 use std::io::Write;
 use std::{fmt, io};
 
+/// What is done with a capture that is no savefile.
+const ANOTHER_FORMAT: &str = "this is a capture of another format: editcap -F pcap IN OUT";
+
+/// What files of other formats begin with, and what is done with them.
+static OTHER_FORMATS: [(&[u8], &str); 8] = [
+    (
+        &[0x0a, 0x0d, 0x0d, 0x0a],
+        "this is pcapng: editcap -F pcap IN OUT",
+    ),
+    (
+        &[0x1f, 0x8b],
+        "this is compressed: gzip -dc IN, and /dev/stdin for IN",
+    ),
+    (
+        &[0x28, 0xb5, 0x2f, 0xfd],
+        "this is compressed: zstd -dc IN, and /dev/stdin for IN",
+    ),
+    (
+        &[0xfd, b'7', b'z', b'X', b'Z'],
+        "this is compressed: xz -dc IN, and /dev/stdin for IN",
+    ),
+    (
+        b"BZh",
+        "this is compressed: bzip2 -dc IN, and /dev/stdin for IN",
+    ),
+    (&[0x34, 0xcd, 0xb2, 0xa1], ANOTHER_FORMAT),
+    (&[0xa1, 0xb2, 0xcd, 0x34], ANOTHER_FORMAT),
+    (b"snoop\0", ANOTHER_FORMAT),
+];
+
 /// What a file is that begins with some bytes, and what is done with it.
 fn other_format(first: &[u8]) -> Option<&'static str> {
-    match first {
-        [0x0a, 0x0d, 0x0d, 0x0a, ..] => Some("this is pcapng: editcap -F pcap IN OUT"),
-        [0x1f, 0x8b, ..] => Some("this is compressed: gzip -dc IN, and /dev/stdin for IN"),
-        [0x28, 0xb5, 0x2f, 0xfd, ..] => Some(
-            "this is compressed: zstd -dc IN, and /dev/stdin for IN",
-        ),
-        [0xfd, b'7', b'z', b'X', b'Z', ..] => Some(
-            "this is compressed: xz -dc IN, and /dev/stdin for IN",
-        ),
-        [b'B', b'Z', b'h', ..] => Some("this is compressed: bzip2 -dc IN, and /dev/stdin for IN"),
-        [0x34, 0xcd, 0xb2, 0xa1, ..]
-        | [0xa1, 0xb2, 0xcd, 0x34, ..]
-        | [b's', b'n', b'o', b'o', b'p', 0, ..] => {
-            Some("this is a capture of another format: editcap -F pcap IN OUT")
-        }
-        _ => None,
-    }
+    OTHER_FORMATS
+        .iter()
+        .find(|format| first.starts_with(format.0))
+        .map(|format| format.1)
 }
 
 /// Bytes as hexadecimal numbers, the first four of them.

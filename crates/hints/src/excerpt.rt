@@ -13,7 +13,7 @@ const AROUND: usize = 36;
 const CUT: &str = "..";
 
 /// The part of a text that is shown: bytes `start` to `end`, and a place among them or at their end.
-#[derive(Clone, Copy, Debug)]
+#[derive(Clone, Copy)]
 pub(crate) struct Excerpt<'a> {
     text: &'a str,
     start: usize,
@@ -59,7 +59,7 @@ impl Display for Excerpt<'_> {
 }
 
 /// A caret below the place of an excerpt.
-#[derive(Clone, Copy, Debug)]
+#[derive(Clone, Copy)]
 pub(crate) struct Caret<'a>(pub Excerpt<'a>);
 
 /// A blank for each character that the excerpt shows before its place, and then the caret.

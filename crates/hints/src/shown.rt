@@ -22,7 +22,7 @@ pub(crate) fn visible(character: char) -> char
 }
 
 /// The first 60 characters of a text. Of bytes that are not UTF-8 each that is not ASCII is shown as `?`.
-#[derive(Clone, Copy, Debug)]
+#[derive(Clone, Copy)]
 pub(crate) struct Shown<'a>(pub &'a [u8]);
 
 impl Display for Shown<'_> {

@@ -23,7 +23,7 @@ pub(crate) enum Looked {
 }
 
 /// Why no more is looked at.
-#[derive(Drop)]
+#[derive(Clone, Copy)]
 enum Stop {
     /// The test aborts.
     Aborts,
@@ -46,13 +46,24 @@ struct Wanted {
 }
 
 impl Wanted {
-    /// Numbers of so many bytes from low to high.
-    fn range(size: usize, low: u64, high: u64) -> Wanted {
+    /// Ports from low to high.
+    fn ports(low: u16, high: u16) -> Wanted {
         Wanted {
-            size,
+            size: 2,
             mask: u64::MAX,
-            low,
-            high,
+            low: u64::from(low),
+            high: u64::from(high),
+        }
+    }
+
+    /// An Ethernet address.
+    fn octets(address: EthernetAddress) -> Wanted {
+        let number = number_of(address.octets.as_slice());
+        Wanted {
+            size: 6,
+            mask: u64::MAX,
+            low: number,
+            high: number,
         }
     }
 
@@ -64,6 +75,14 @@ impl Wanted {
             low: u64::from(address),
             high: u64::from(address),
         }
+    }
+}
+
+/// Looking alone, whatever it answers.
+fn without_answer<T: Drop>(answer: Result<T, Stop>) -> Result<(), Stop> {
+    match answer {
+        Ok(_) => Ok(()),
+        Err(stop) => Err(stop),
     }
 }
 
@@ -244,58 +263,65 @@ impl Looking<'_> {
         direction: Direction,
         address: EthernetAddress,
     ) -> Result<bool, Stop> {
-        let number = number_of(address.octets.as_slice());
-        self.has_side(direction, 6, 0, Wanted::range(6, number, number))
+        self.has_side(direction, 6, 0, Wanted::octets(address))
     }
 
-    fn primitive(&mut self, primitive: Primitive) -> Result<bool, Stop> {
+    fn net(
+        &mut self,
+        network: Option<Network>,
+        direction: Direction,
+        wanted: Wanted,
+    ) -> Result<(), Stop> {
+        without_answer(match network {
+            Some(network) => self.in_net(network, direction, wanted),
+            None => self.in_any_net(direction, wanted),
+        })
+    }
+
+    fn ports(
+        &mut self,
+        transport: Option<Transport>,
+        direction: Direction,
+        wanted: Wanted,
+    ) -> Result<(), Stop> {
+        without_answer(match transport {
+            Some(transport) => self.has_ports(transport, direction, wanted),
+            None => self.has_any_ports(direction, wanted),
+        })
+    }
+
+    fn ip_multicast(&mut self) -> Result<(), Stop> {
+        if self.is_type(0x0800)? {
+            without_answer(self.number(30, 1))
+        } else {
+            Ok(())
+        }
+    }
+
+    fn primitive(&mut self, primitive: Primitive) -> Result<(), Stop> {
         match primitive {
-            Primitive::Protocol(word) => self.is_plain(word),
+            Primitive::Protocol(word) => without_answer(self.is_plain(word)),
             Primitive::Net {
                 network,
                 direction,
                 address,
                 mask,
-            } => {
-                let wanted = Wanted::address(address, mask);
-                match network {
-                    Some(network) => self.in_net(network, direction, wanted),
-                    None => self.in_any_net(direction, wanted),
-                }
+            } => self.net(network, direction, Wanted::address(address, mask)),
+            Primitive::EtherHost { direction, address } => {
+                without_answer(self.has_address(direction, address))
             }
-            Primitive::EtherHost { direction, address } => self.has_address(direction, address),
             Primitive::Ports {
                 transport,
                 direction,
                 low,
                 high,
-            } => {
-                let wanted = Wanted::range(2, u64::from(low), u64::from(high));
-                match transport {
-                    Some(transport) => self.has_ports(transport, direction, wanted),
-                    None => self.has_any_ports(direction, wanted),
-                }
-            }
-            Primitive::IpProto(number) => self.is_protocol(number),
-            Primitive::EtherProto(number) => self.is_type(number),
-            Primitive::EtherBroadcast => {
-                self.number(0, 6)?;
-                Ok(true)
-            }
-            Primitive::EtherMulticast => {
-                self.number(0, 1)?;
-                Ok(true)
-            }
-            Primitive::IpMulticast => {
-                if self.is_type(0x0800)? {
-                    self.number(30, 1)?;
-                }
-                Ok(true)
-            }
-            Primitive::Less(_) | Primitive::Greater(_) => {
-                self.length()?;
-                Ok(true)
-            }
+            } => self.ports(transport, direction, Wanted::ports(low, high)),
+            Primitive::IpProto(number) => without_answer(self.is_protocol(number)),
+            Primitive::EtherProto(number) => without_answer(self.is_type(number)),
+            Primitive::EtherBroadcast => without_answer(self.number(0, 6)),
+            Primitive::EtherMulticast => without_answer(self.number(0, 1)),
+            Primitive::IpMulticast => self.ip_multicast(),
+            Primitive::Less(_) | Primitive::Greater(_) => self.length(),
         }
     }
 
@@ -347,8 +373,15 @@ impl Looking<'_> {
                 14 + index.wrapping_add(behind) as usize
             }
         };
-        self.number(offset, size)?;
-        Ok(())
+        without_answer(self.number(offset, size))
+    }
+
+    /// What a value answers.
+    fn answer(&self, value: &Value) -> Result<u32, Stop> {
+        match value_of(value, self.packet, self.wire) {
+            Some(number) => Ok(number),
+            None => Err(Stop::Aborts),
+        }
     }
 
     fn value(&mut self, value: &Value) -> Result<(), Stop> {
@@ -359,17 +392,12 @@ impl Looking<'_> {
             Value::Binary(_, left, right) => {
                 self.value(left)?;
                 self.value(right)?;
-                match value_of(value, self.packet, self.wire) {
-                    Some(_) => Ok(()),
-                    None => Err(Stop::Aborts),
-                }
+                without_answer(self.answer(value))
             }
             Value::Accessor(layer, index, size) => {
                 self.value(index)?;
-                match value_of(index, self.packet, self.wire) {
-                    Some(index) => self.access(*layer, index, *size),
-                    None => Err(Stop::Aborts),
-                }
+                let index = self.answer(index)?;
+                self.access(*layer, index, *size)
             }
         }
     }
@@ -387,10 +415,7 @@ impl Looking<'_> {
 
     fn part(&mut self, part: &Expr) -> Result<(), Stop> {
         match part {
-            Expr::Test(primitive) => {
-                self.primitive(*primitive)?;
-                Ok(())
-            }
+            Expr::Test(primitive) => self.primitive(*primitive),
             Expr::Relation(_, left, right) => self.relation(left, right),
             _ => Ok(()),
         }

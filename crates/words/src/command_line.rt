@@ -5,6 +5,7 @@ use crate::explain::{ExplainWords, bad_explain_words, explain_command, explain_w
 use crate::run::{RunWords, run_command, run_words};
 use crate::split::{SplitWords, split_command, split_words};
 use crate::steps::{StepsWords, steps_command, steps_words};
+use crate::subcommand::Subcommand;
 use clap::error::ErrorKind;
 use clap::{Arg, ArgAction, ArgMatches, Command, Error};
 use lines::fields::snapshot_length;
@@ -94,39 +95,40 @@ fn snap<'a>(alloc: Global) -> Arg<'a> {
 }
 
 fn cut_command<'a>(alloc: Global) -> Result<Command<'a>, AllocError> {
-    let args = vec![in alloc;
-        snap(alloc),
-        listing(alloc),
-        option(
-            alloc,
-            "expr",
-            'e',
-            "EXPR",
-            "Filter expression of pcap-filter(7), as one word; without -e and -f every packet is taken"
-        ),
-        order(alloc),
-        unit(alloc),
-        flag(
-            alloc,
-            "counted",
-            'c',
-            "Tell on standard error how many of how many packets were written"
-        ),
-        path(
-            alloc,
-            "IN",
-            "Capture to read: a classic savefile of Ethernet frames"
-        ),
-        path(
-            alloc,
-            "OUT",
-            "Capture to write; made once the filter and the header of IN are accepted"
-        ),
-    ]?;
-    Command::new(alloc, "cut")
-        .about("Write each packet of IN that the filter accepts, cut, to OUT")
-        .after_help(CUT_EXAMPLES)
-        .args(args)
+    Subcommand::new(
+        alloc,
+        "cut",
+        "Write each packet of IN that the filter accepts, cut, to OUT",
+        CUT_EXAMPLES,
+    )
+    .with(snap(alloc))
+    .with(listing(alloc))
+    .with(option(
+        alloc,
+        "expr",
+        'e',
+        "EXPR",
+        "Filter expression of pcap-filter(7), as one word; without -e and -f every packet is taken",
+    ))
+    .with(order(alloc))
+    .with(unit(alloc))
+    .with(flag(
+        alloc,
+        "counted",
+        'c',
+        "Tell on standard error how many of how many packets were written",
+    ))
+    .with(path(
+        alloc,
+        "IN",
+        "Capture to read: a classic savefile of Ethernet frames",
+    ))
+    .with(path(
+        alloc,
+        "OUT",
+        "Capture to write; made once the filter and the header of IN are accepted",
+    ))
+    .made()
 }
 
 fn hints_arg<'a>(alloc: Global) -> Arg<'a> {
@@ -136,31 +138,32 @@ fn hints_arg<'a>(alloc: Global) -> Arg<'a> {
         .help("Say below a fault what helps to mend it, as where it is told on a terminal")
 }
 
-/// With the subcommands that ask about packets one by one.
-fn with_packets<'a>(alloc: Global, program: Command<'a>) -> Result<Command<'a>, AllocError> {
-    program
-        .subcommand(check_command(alloc)?)?
-        .subcommand(explain_command(alloc)?)?
-        .subcommand(cut_command(alloc)?)
+/// With a subcommand more, where there was memory for both.
+fn with<'a>(
+    program: Result<Command<'a>, AllocError>,
+    subcommand: Result<Command<'a>, AllocError>,
+) -> Result<Command<'a>, AllocError> {
+    program?.subcommand(subcommand?)
 }
 
-/// With those that have files of lines.
-fn with_lines<'a>(alloc: Global, program: Command<'a>) -> Result<Command<'a>, AllocError> {
-    program
-        .subcommand(split_command(alloc)?)?
-        .subcommand(steps_command(alloc)?)?
-        .subcommand(run_command(alloc)?)
-}
-
-fn program<'a>(alloc: Global) -> Result<Command<'a>, AllocError> {
-    let program = Command::new(alloc, "bpftap")
+/// The program without its subcommands.
+fn bare_program<'a>(alloc: Global) -> Result<Command<'a>, AllocError> {
+    Command::new(alloc, "bpftap")
         .version(VERSION)
         .about(ABOUT)
         .after_help(EXAMPLES)
-        .arg(hints_arg(alloc))?
         .subcommand_required(true)
-        .arg_required_else_help(true);
-    with_lines(alloc, with_packets(alloc, program)?)
+        .arg_required_else_help(true)
+        .arg(hints_arg(alloc))
+}
+
+fn program<'a>(alloc: Global) -> Result<Command<'a>, AllocError> {
+    let program = with(bare_program(alloc), check_command(alloc));
+    let program = with(program, explain_command(alloc));
+    let program = with(program, cut_command(alloc));
+    let program = with(program, split_command(alloc));
+    let program = with(program, steps_command(alloc));
+    with(program, run_command(alloc))
 }
 
 pub(crate) fn order_of(matches: &ArgMatches<'_>) -> Order {
@@ -177,6 +180,16 @@ pub(crate) fn unit_of(matches: &ArgMatches<'_>) -> Unit {
     }
 }
 
+/// What the words of a subcommand of one capture, or of none, ask for; nothing where one is missing or wrong.
+fn single_request_of<'a>(name: &str, words: &ArgMatches<'a>) -> Option<Request<'a>> {
+    match name {
+        "check" => Some(Request::Check(check_words(words)?)),
+        "explain" => Some(Request::Explain(explain_words(words)?)),
+        "cut" => Some(Request::Cut(cut_words(words)?)),
+        _ => None,
+    }
+}
+
 /// What the words of a subcommand ask for; nothing where one is missing or wrong.
 fn request_of<'a>(
     alloc: Global,
@@ -184,13 +197,10 @@ fn request_of<'a>(
     words: &ArgMatches<'a>,
 ) -> Result<Option<Request<'a>>, AllocError> {
     match name {
-        "check" => Ok(check_words(words).map(|words| Request::Check(words))),
-        "explain" => Ok(explain_words(words).map(|words| Request::Explain(words))),
-        "cut" => Ok(cut_words(words).map(|words| Request::Cut(words))),
         "steps" => Ok(steps_words(alloc, words)?.map(|words| Request::Steps(words))),
         "run" => Ok(run_words(alloc, words)?.map(|words| Request::Run(words))),
         "split" => Ok(split_words(alloc, words)?.map(|words| Request::Split(words))),
-        _ => Ok(None),
+        _ => Ok(single_request_of(name, words)),
     }
 }
 

@@ -1,6 +1,7 @@
 //! The words of `bpftap explain`, by `clap`.
 
 use crate::arguments::{default_snap, listing, number, option, path};
+use crate::subcommand::Subcommand;
 use clap::error::ErrorKind;
 use clap::{ArgGroup, ArgMatches, Command, Error};
 use lines::fields::snapshot_length;
@@ -39,45 +40,45 @@ want of memory; 2 a torn or bad record, after the packets before it; 3 a file or
 
 /// A filter is wanted: an expression, a listing, or both.
 fn filter_group<'a>(alloc: Global) -> Result<ArgGroup<'a>, AllocError> {
-    Ok(
-        ArgGroup::new(alloc, "filter")
-            .arg("expr")?
-            .arg("listing")?
-            .required(true)
-            .multiple(true),
-    )
+    ArgGroup::new(alloc, "filter")
+        .required(true)
+        .multiple(true)
+        .arg("expr")?
+        .arg("listing")
 }
 
 /// The subcommand.
 pub fn explain_command<'a>(alloc: Global) -> Result<Command<'a>, AllocError> {
-    let args = vec![in alloc;
-        default_snap(alloc),
-        option(
-            alloc,
-            "expr",
-            'e',
-            "EXPR",
-            "Filter expression of pcap-filter(7), as one word; it may be empty"
-        ),
-        listing(alloc),
-        number(
-            alloc,
-            "place",
-            'p',
-            "PLACE",
-            "Tell this packet alone, counted from 0, in full"
-        ),
-        path(
-            alloc,
-            "IN",
-            "Capture to read: a classic savefile of Ethernet frames"
-        ),
-    ]?;
-    Command::new(alloc, "explain")
-        .about("Tell of each packet of IN whether the filter accepts it, and what decided")
-        .after_help(EXPLAIN_EXAMPLES)
-        .args(args)?
-        .group(filter_group(alloc)?)
+    let filter = filter_group(alloc)?;
+    Subcommand::new(
+        alloc,
+        "explain",
+        "Tell of each packet of IN whether the filter accepts it, and what decided",
+        EXPLAIN_EXAMPLES,
+    )
+    .with(default_snap(alloc))
+    .with(option(
+        alloc,
+        "expr",
+        'e',
+        "EXPR",
+        "Filter expression of pcap-filter(7), as one word; it may be empty",
+    ))
+    .with(listing(alloc))
+    .with(number(
+        alloc,
+        "place",
+        'p',
+        "PLACE",
+        "Tell this packet alone, counted from 0, in full",
+    ))
+    .with(path(
+        alloc,
+        "IN",
+        "Capture to read: a classic savefile of Ethernet frames",
+    ))
+    .made()?
+    .group(filter)
 }
 
 /// The place of a packet, where one is given; nothing inside where it is no number.

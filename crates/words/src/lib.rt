@@ -8,4 +8,5 @@ pub mod explain;
 pub mod run;
 pub mod split;
 pub mod steps;
+mod subcommand;
 pub mod telling;

@@ -1,6 +1,7 @@
 //! The words of `bpftap run`, by `clap`.
 
 use crate::arguments::{path, paths};
+use crate::subcommand::Subcommand;
 use clap::{ArgMatches, Command};
 use std::alloc::{AllocError, Global};
 
@@ -37,22 +38,23 @@ Exit status: 0 clean; 1 wrong words, a refused line, expression or file, an Unfi
 
 /// The subcommand.
 pub fn run_command<'a>(alloc: Global) -> Result<Command<'a>, AllocError> {
-    let args = vec![in alloc;
-        path(
-            alloc,
-            "LISTENERS",
-            "File with a line INTERFACE FLUSH SNAP CAPACITY SPARES OUT EXPRESSION for each listener"
-        ),
-        paths(
-            alloc,
-            "IN",
-            "Captures to replay, in order, with + between those of two interfaces"
-        ),
-    ]?;
-    Command::new(alloc, "run")
-        .about("Replay captures in threads to listeners, each of which writes a capture")
-        .after_help(RUN_EXAMPLES)
-        .args(args)
+    Subcommand::new(
+        alloc,
+        "run",
+        "Replay captures in threads to listeners, each of which writes a capture",
+        RUN_EXAMPLES,
+    )
+    .with(path(
+        alloc,
+        "LISTENERS",
+        "File with a line INTERFACE FLUSH SNAP CAPACITY SPARES OUT EXPRESSION for each listener",
+    ))
+    .with(paths(
+        alloc,
+        "IN",
+        "Captures to replay, in order, with + between those of two interfaces",
+    ))
+    .made()
 }
 
 /// The paths of each interface.

@@ -2,6 +2,7 @@
 
 use crate::arguments::{order, path, paths, unit};
 use crate::command_line::{order_of, unit_of};
+use crate::subcommand::Subcommand;
 use clap::{ArgMatches, Command};
 use savefile::{Order, Unit};
 use std::alloc::{AllocError, Global};
@@ -36,26 +37,25 @@ Exit status: 0 clean; 1 wrong words, a refused line, expression or file, or want
 
 /// The subcommand.
 pub fn split_command<'a>(alloc: Global) -> Result<Command<'a>, AllocError> {
-    let args = vec![in alloc;
-        order(alloc),
-        unit(alloc),
-        path(
-            alloc,
-            "LINES",
-            "File with a line SNAP OUT EXPRESSION for each capture that is written"
-        ),
-        paths(
-            alloc,
-            "IN",
-            "Captures to read, in order: classic savefiles of Ethernet frames"
-        ),
-    ]?;
-    Command::new(alloc, "split")
-        .about(
-            "Write the packets of captures to several OUT, each by a filter of its own, in one pass",
-        )
-        .after_help(SPLIT_EXAMPLES)
-        .args(args)
+    Subcommand::new(
+        alloc,
+        "split",
+        "Write the packets of captures to several OUT, each by a filter of its own, in one pass",
+        SPLIT_EXAMPLES,
+    )
+    .with(order(alloc))
+    .with(unit(alloc))
+    .with(path(
+        alloc,
+        "LINES",
+        "File with a line SNAP OUT EXPRESSION for each capture that is written",
+    ))
+    .with(paths(
+        alloc,
+        "IN",
+        "Captures to read, in order: classic savefiles of Ethernet frames",
+    ))
+    .made()
 }
 
 /// The words that were found, nothing where one is missing.

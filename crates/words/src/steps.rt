@@ -1,6 +1,7 @@
 //! The words of `bpftap steps`, by `clap`.
 
 use crate::arguments::{flag, option, path, paths};
+use crate::subcommand::Subcommand;
 use clap::{ArgMatches, Command};
 use std::alloc::{AllocError, Global};
 
@@ -38,40 +39,41 @@ Exit status: 0 clean; 1 wrong words, a refused line, expression or file, or want
 
 /// The subcommand.
 pub fn steps_command<'a>(alloc: Global) -> Result<Command<'a>, AllocError> {
-    let args = vec![in alloc;
-        flag(
-            alloc,
-            "explained",
-            'v',
-            "Print each step's answers first, and why they were given"
-        ),
-        option(
-            alloc,
-            "picture",
-            'p',
-            "FILE",
-            "Draw what each step found in the buffers to FILE, as SVG"
-        ),
-        path(
-            alloc,
-            "LISTENERS",
-            "File with a line SNAP CAPACITY EXPRESSION for each listener"
-        ),
-        path(
-            alloc,
-            "SCRIPT",
-            "File with a line for each step: arrive, flush L, read L or close L"
-        ),
-        paths(
-            alloc,
-            "IN",
-            "Captures to replay, in order: classic savefiles of Ethernet frames"
-        ),
-    ]?;
-    Command::new(alloc, "steps")
-        .about("Play a script to listeners over captures, and report what each has read and holds")
-        .after_help(STEPS_EXAMPLES)
-        .args(args)
+    Subcommand::new(
+        alloc,
+        "steps",
+        "Play a script to listeners over captures, and report what each has read and holds",
+        STEPS_EXAMPLES,
+    )
+    .with(flag(
+        alloc,
+        "explained",
+        'v',
+        "Print each step's answers first, and why they were given",
+    ))
+    .with(option(
+        alloc,
+        "picture",
+        'p',
+        "FILE",
+        "Draw what each step found in the buffers to FILE, as SVG",
+    ))
+    .with(path(
+        alloc,
+        "LISTENERS",
+        "File with a line SNAP CAPACITY EXPRESSION for each listener",
+    ))
+    .with(path(
+        alloc,
+        "SCRIPT",
+        "File with a line for each step: arrive, flush L, read L or close L",
+    ))
+    .with(paths(
+        alloc,
+        "IN",
+        "Captures to replay, in order: classic savefiles of Ethernet frames",
+    ))
+    .made()
 }
 
 /// The words that were found, nothing where one is missing.
