@@ -11,9 +11,9 @@ use Rattle.savefile.specs.declared.packet.Packet.{Packet}
 use Rattle.replay.specs.Captures.{arrivals_from, IsStopped, GivesPlaylist}
 use Rattle.replay.specs.declared.report.InterfaceEnd.{InterfaceEnd}
 use Rattle.replay.specs.declared.report.InterfaceEnd.TheVariants.{Clean, Capture, CountFull}
-use Rattle.tap.specs.OwnSteps.{arrival_of}
-use Rattle.tap.specs.Playlist.{placed, IsPlaylist}
-use Rattle.tap.specs.declared.playlist.Placed.{Placed}
+use Rattle.playback.specs.OwnSteps.{arrival_of}
+use Rattle.playback.specs.Playlist.{placed, IsPlaylist}
+use Rattle.playback.specs.declared.playlist.Placed.{Placed}
 use Rattle.bpftap.specs.Laws.{EndsAs}
 
 -- the packets of a capture arrive as they are placed

@@ -6,9 +6,9 @@ use Rattle.savefile.specs.declared.fault.Fault.TheVariants.{TornRecord, BadFract
 use Rattle.replay.specs.Captures.{GivesPlaylist}
 use Rattle.replay.specs.declared.report.InterfaceEnd.{InterfaceEnd}
 use Rattle.replay.specs.declared.report.InterfaceEnd.TheVariants.{Clean, Capture, CountFull}
-use Rattle.tap.specs.OwnSteps.{arrival_of}
-use Rattle.tap.specs.Playlist.{IsPlaylist}
-use Rattle.tap.specs.declared.playlist.Placed.{Placed}
+use Rattle.playback.specs.OwnSteps.{arrival_of}
+use Rattle.playback.specs.Playlist.{IsPlaylist}
+use Rattle.playback.specs.declared.playlist.Placed.{Placed}
 
 -- Captures end so for what stands in them: all were read to their end, or this one up to a torn or bad record, which is told
 -- beside its number.

@@ -1,8 +1,8 @@
 //! What each step found in a listener, and what became of it.
 
 use listener::Fed;
+use playback::{Answer, Answered, Placed, Step, Trace};
 use std::slice::Iter;
-use tap::{Answer, Answered, Placed, Step, Trace};
 
 /// A step as one listener sees it.
 #[derive(Clone, Copy)]

@@ -3,9 +3,9 @@
 use crate::columns::{Column, Columns};
 use crate::frame::{BARS, MARGIN};
 use listener::Fed;
+use playback::{Answer, Step};
 use std::io;
 use std::io::Write;
-use tap::{Answer, Step};
 
 /// The bars' own lengths, in which a height is a number of bytes. From the top: a mark of what became of the step, the hold,
 /// and the store with room above it for a record that exceeds the capacity.

@@ -4,9 +4,9 @@ use crate::columns::{Columns, highest};
 use crate::frame::{BARS, HEAD, LANE, MARGIN, are_named, step_width};
 use crate::lane::{Scale, write_bars, write_names};
 use listener::Mode;
+use playback::{Answered, Filter, Spec, Step, Trace};
 use std::io;
 use std::io::Write;
-use tap::{Answered, Filter, Spec, Step, Trace};
 
 /// The colours: blue is the store, green the hold, red a drop.
 const STYLE: &str = "\

@@ -1,30 +1,14 @@
 -- More listeners than are kept of LISTENERS.
-use Rattle.std.proofs.Common.{◌≡◌, ℕ, ◌<◌, ◌≤◌, ◌⊎◌, inl, inr, Bool, List, [], ◌∷◌, ◌++◌, length, take, sym, ap, subst, ◌∙◌, arith, length-append, length-take, take_all}
-use Rattle.std.proofs.lemmas.List.{take-append-le}
+use Rattle.std.proofs.Common.{◌≡◌, ℕ, ◌<◌, ◌≤◌, ◌⊎◌, inl, inr, Bool, List, length, take, subst, arith, length-take, take_all}
 use Rattle.std.proofs.lemmas.Bool.{cases_lt}
 use Rattle.tap.specs.declared.fault.Fault.{Fault}
 use Rattle.tap.specs.declared.fault.Fault.TheVariants.{TooMany, NoListener, Capture, Expression, Compile, Open, NoMemory}
-use Rattle.tap.specs.declared.filters.Spec.{Spec}
-use Rattle.tap.specs.declared.step.Step.{Step}
+use Rattle.playback.specs.declared.filters.Spec.{Spec}
+use Rattle.playback.specs.declared.step.Step.{Step}
 use Rattle.tap.specs.Refusals.{AreTooMany, IsFirst}
 use Rattle.lines.specs.declared.telling.Ended.{Ended}
 use Rattle.lines.specs.Sending.{Streams}
 use Rattle.stepping.specs.Playing.{Plays}
-
--- ---- What is kept, line by line
-
--- where fewer than n were kept, so is the next one
-pub take-next : {X : Type 0} (n : ℕ) (xs : List X) (x : X) → length (take n xs) < n → take n (xs ++ x ∷ []) ≡ take n xs ++ x ∷ []
-take-next n xs x few =
-    let short : length xs < n = omega (arith, few, length-take n xs) in
-    take_all n (xs ++ x ∷ []) (omega (arith, short, length-append xs (x ∷ [])))
-    ∙ ap (λ (ys : List _). ys ++ x ∷ []) (sym (take_all n xs (omega (arith, short))))
-
--- and where n were, it is not
-pub take-none : {X : Type 0} (n : ℕ) (xs : List X) (x : X) → n ≤ length (take n xs) → take n (xs ++ x ∷ []) ≡ take n xs
-take-none n xs x many = take-append-le n xs (x ∷ []) (omega (arith, many, length-take n xs))
-
--- ---- What that replays
 
 -- the first fault that stands is told by so many listeners as are kept
 first-of-all : (captures : List (List ℕ)) (all : List Spec) (steps : List Step) (fault : Fault) → 64 < length all → IsFirst captures (take 65 all) steps fault → IsFirst captures all steps fault

@@ -4,13 +4,13 @@ use Rattle.lines.specs.declared.telling.Ended.{Ended}
 use Rattle.lines.specs.Sending.{Takes, Streams}
 use Rattle.lines.specs.Telling.{print_status_of}
 use Rattle.savefile.specs.declared.fault.Fault.{Fault as RecordFault}
-use Rattle.tap.specs.declared.filters.Spec.{Spec}
-use Rattle.tap.specs.declared.step.Step.{Step}
-use Rattle.tap.specs.declared.playlist.Placed.{Placed}
-use Rattle.tap.specs.declared.report.Report.{Report}
+use Rattle.playback.specs.declared.filters.Spec.{Spec}
+use Rattle.playback.specs.declared.step.Step.{Step}
+use Rattle.playback.specs.declared.playlist.Placed.{Placed}
+use Rattle.playback.specs.declared.report.Report.{Report}
 use Rattle.tap.specs.Headline.{Replays}
 use Rattle.tap.specs.Refusals.{NoneStands}
-use Rattle.stepping.specs.Printed.{printed_reports}
+use Rattle.step_texts.specs.Printed.{printed_reports}
 use Rattle.stepping.specs.Playing.{IsAnswersText, IsPrintStatus, record_fault_status, failed_output_line, record_fault_line, Reported}
 
 -- nothing stands before the reports where answers are not explained

@@ -1,10 +1,3 @@
-pub mod Listeners
-pub mod Script
-pub mod Printed
 pub mod Faults
-pub mod Reasons
-pub mod Rejections
-pub mod Answers
 pub mod Playing
 pub mod Stepping
-pub mod Laws

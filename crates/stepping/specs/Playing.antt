@@ -4,20 +4,20 @@ use Rattle.std.specs.Io.KnownBytes.{Appends, Keeps}
 use Rattle.savefile.specs.declared.fault.Fault.{Fault as RecordFault}
 use Rattle.tap.specs.declared.fault.Fault.{Fault}
 use Rattle.tap.specs.declared.fault.Fault.TheVariants.{Capture}
-use Rattle.tap.specs.declared.answer.Answered.{Answered}
-use Rattle.tap.specs.declared.filters.Spec.{Spec}
-use Rattle.tap.specs.declared.step.Step.{Step}
-use Rattle.tap.specs.declared.playlist.Placed.{Placed}
-use Rattle.tap.specs.declared.report.Report.{Report}
+use Rattle.playback.specs.declared.answer.Answered.{Answered}
+use Rattle.playback.specs.declared.filters.Spec.{Spec}
+use Rattle.playback.specs.declared.step.Step.{Step}
+use Rattle.playback.specs.declared.playlist.Placed.{Placed}
+use Rattle.playback.specs.declared.report.Report.{Report}
 use Rattle.tap.specs.Answers.{Traces}
 use Rattle.tap.specs.Headline.{Replays}
 use Rattle.tap.specs.Refusals.{IsFirst, NoneStands}
 use Rattle.lines.specs.declared.telling.Ended.{Ended}
 use Rattle.lines.specs.Sending.{Takes, TakesPart, Streams}
 use Rattle.lines.specs.Telling.{told_line}
-use Rattle.stepping.specs.Answers.{ArePrintedAnswers}
+use Rattle.step_texts.specs.Answers.{ArePrintedAnswers}
 use Rattle.stepping.specs.Faults.{fault_text}
-use Rattle.stepping.specs.Printed.{printed_reports}
+use Rattle.step_texts.specs.Printed.{printed_reports}
 
 -- How the printing of a text ended, as a status: 0 where the writer took the text, 3 where it failed, and took a beginning of it.
 abbrev pub IsPrintStatus : Option (List ℕ) → Option (List ℕ) → List ℕ → ℕ → Type 0

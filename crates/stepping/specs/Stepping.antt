@@ -1,16 +1,16 @@
 -- `steps`, from the bytes of its files to what is printed and told.
 use Rattle.std.specs.Prelude.{◌≡◌, ℕ, ◌⊎◌, false, List}
 use Rattle.std.specs.Io.KnownBytes.{Keeps}
-use Rattle.tap.specs.declared.filters.Spec.{Spec}
-use Rattle.tap.specs.declared.step.Step.{Step}
+use Rattle.playback.specs.declared.filters.Spec.{Spec}
+use Rattle.playback.specs.declared.step.Step.{Step}
 use Rattle.lines.specs.declared.fault.LineFault.{LineFault}
 use Rattle.lines.specs.declared.fault.LineFault.TheVariants.{Listeners, Script, NoMemory}
 use Rattle.lines.specs.Files.{IsFileOf, IsFirstBad}
 use Rattle.lines.specs.declared.telling.Ended.{Ended}
 use Rattle.lines.specs.Sending.{Takes, Streams}
 use Rattle.lines.specs.Telling.{told_line, line_fault_text}
-use Rattle.stepping.specs.Listeners.{IsListenerLine}
-use Rattle.stepping.specs.Script.{IsStepLine}
+use Rattle.step_texts.specs.Listeners.{IsListenerLine}
+use Rattle.step_texts.specs.Script.{IsStepLine}
 use Rattle.stepping.specs.Playing.{Plays}
 
 -- Why the files are not taken: the first bad line, one of LISTENERS before one of SCRIPT, or want of memory.

@@ -4,24 +4,24 @@ ghost use Rattle.std.specs.Prelude.{◌≡◌, ◌++◌, max, map, true, IfOk, I
 ghost use Rattle.lines.specs.Files.{IsFileOf};
 ghost use Rattle.lines.specs.Sending.{Takes, streams};
 ghost use Rattle.lines.specs.Telling.{told_line, print_status_of};
-ghost use Rattle.stepping.specs.Listeners.{AreFirstOf};
-ghost use Rattle.stepping.specs.Script.{IsStepLine};
-ghost use Rattle.stepping.specs.Answers.{answers_from};
+ghost use Rattle.step_texts.specs.Listeners.{AreFirstOf};
+ghost use Rattle.step_texts.specs.Script.{IsStepLine};
+ghost use Rattle.step_texts.specs.Answers.{answers_from};
 ghost use Rattle.stepping.specs.Faults.{fault_text};
-ghost use Rattle.stepping.specs.Printed.{printed_reports};
+ghost use Rattle.step_texts.specs.Printed.{printed_reports};
 ghost use Rattle.stepping.specs.Playing.{record_fault_status, failed_output_line, record_fault_line, Plays};
 ghost use Rattle.stepping.specs.Stepping.{IsRefusedFiles, Steps, StepsTo};
 
-use crate::answers::{AnswersLeft, all_left, line_for, write_answers};
 use crate::faults::FaultText;
-use crate::listeners::read_listeners;
-use crate::reports::write_reports;
-use crate::script::read_script;
 use lines::LineFault;
 use lines::telling::{BAD_RECORD, Ended, REFUSED, print_status, tell_line};
 use std::alloc::Global;
 use std::io;
 use std::io::Write;
+use step_texts::answers::{AnswersLeft, all_left, line_for, write_answers};
+use step_texts::listeners::read_listeners;
+use step_texts::reports::write_reports;
+use step_texts::script::read_script;
 use tap::{Fault, Report, Spec, Step, Trace, replay, trace};
 
 /// What the files LISTENERS and SCRIPT ask for.
@@ -143,7 +143,7 @@ fn print_trace<O: Write>(
 /// step goes before, and below it one for each listener that it reaches, with what it answered, and why.
 ///
 /// What is printed, told and answered is as [`steps`] says. With `explained` memory may also be wanting behind the replay; then
-/// that alone is told, and nothing is printed, unless it is for a line ([`crate::answers::line_for`]).
+/// that alone is told, and nothing is printed, unless it is for a line ([`line_for`]).
 pub fn play_asked<O: Write, E: Write>(
     alloc: Global,
     asked: &Asked,

@@ -4,8 +4,8 @@ use Rattle.lines.specs.declared.telling.Ended.{Ended}
 use Rattle.lines.specs.Sending.{Takes, streams}
 use Rattle.lines.specs.Telling.{told_line}
 use Rattle.stepping.specs.Playing.{Plays}
-use Rattle.tap.specs.declared.filters.Spec.{Spec}
-use Rattle.tap.specs.declared.step.Step.{Step}
+use Rattle.playback.specs.declared.filters.Spec.{Spec}
+use Rattle.playback.specs.declared.step.Step.{Step}
 
 -- what is still told: all, or all but the line of standard output that failed
 abbrev pub IsStillTold : List ℕ → List ℕ → Type 0

@@ -1,16 +1,18 @@
-//! The callers that the pages of `lines`, `stepping` and `picture` show, crates/NAME/README.md.
+//! The callers that the pages of `lines`, `playback`, `step_texts`, `stepping` and `picture` show, crates/NAME/README.md.
 
 use crate::same::same;
 use fixtures::captures::{HEADER, TCP, UDP, concat};
-use lines::Line;
 use lines::fields::{first_line, number, split_once};
 use lines::sending::send;
+use lines::{Line, LineFault};
 use listener::Mode;
 use picture::write_picture;
+use playback::{MOST_CAPTURES, PlaylistFault, read_playlist};
 use std::alloc::Global;
 use std::io;
 use std::io::Write;
 use std::process::Abort;
+use step_texts::script::read_script;
 use stepping::steps::steps;
 use tap::{Filter, Spec, Step, trace};
 
@@ -35,6 +37,20 @@ fn print_ports<O: Write>(text: &[u8], out: &mut O) -> io::Result<()> {
         rest = after;
     }
     Ok(())
+}
+
+/// How many packets captures have for steps, nothing where the captures are too many.
+fn packets(alloc: Global, captures: &[&[u8]]) -> Result<Option<usize>, PlaylistFault> {
+    if captures.len() > MOST_CAPTURES {
+        return Ok(None);
+    }
+    let playlist = read_playlist(alloc, captures)?;
+    Ok(Some(playlist.arrivals.len()))
+}
+
+/// How many steps a script has.
+fn step_count(alloc: Global, script: &[u8]) -> Result<usize, LineFault> {
+    Ok(read_script(alloc, script)?.len())
 }
 
 /// What is printed of one listener that nobody reads, over a capture, or why there is nothing.
@@ -82,6 +98,19 @@ fn ports_are_printed_line_by_line(rt: HostRuntime) {
     print_ports(text, &mut out).expect(&rt, "memory");
     let ports = b"port 80\nno port\nno port\nport 7\n";
     same(&rt, out.as_slice(), ports.as_slice());
+}
+
+#[test]
+fn packets_of_captures_are_counted(rt: HostRuntime) {
+    let text = two(&rt);
+    let count = packets(rt.alloc(), &[text.as_slice(), text.as_slice()]).expect(&rt, "memory");
+    assert!(rt; count == Some(4));
+}
+
+#[test]
+fn steps_of_a_script_are_counted(rt: HostRuntime) {
+    let count = step_count(rt.alloc(), b"arrive\nread 0").expect(&rt, "memory");
+    assert!(rt; count == 2);
 }
 
 #[test]

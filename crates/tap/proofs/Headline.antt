@@ -1,99 +1,38 @@
 -- A listener's report is that of its own steps.
-use Rattle.std.proofs.Common.{◌≡◌, ℕ, ◌<◌, ◌≤◌, Bool, true, false, cond, List, [], ◌∷◌, ◌++◌, Option, Some, length, take, min, ◌==◌, refl, ap, sym, ◌∙◌, subst, arith}
+use Rattle.std.proofs.Common.{◌≡◌, ℕ, ◌<◌, ◌^◌, Bool, true, false, cond, List, [], ◌∷◌, Option, Some, length, take, min, refl, ap, ◌∙◌, subst, arith, ◌⊎◌, inl, inr, option_map}
 use Rattle.std.proofs.lemmas.Bool.{lt-ltb}
 use Rattle.bpfvm.specs.declared.insn.Insn.{Insn}
 use Rattle.bpfvm.specs.Machine.{verdict}
 use Rattle.filterlang.specs.Trees.{Tree}
-use Rattle.filtergen.specs.Meaning.{HasBytes}
+use Rattle.filtergen.specs.Meaning.{HasBytes, packet_of, accepts}
 use Rattle.listener.specs.declared.message.Message.{Message}
 use Rattle.filtergen.specs.Compiling.{StandsFor}
-use Rattle.filtergen.specs.Meaning.{packet_of, accepts}
-use Rattle.listener.specs.Messages.{Arrival, cut_to, kept_by, size}
-use Rattle.listener.specs.Listening.{listening}
-use Rattle.listener.specs.PlainList.{Terms, Request, Event, Legal, answers, empty, batches, requests}
-use Rattle.listener.specs.PlainList as P
-use Rattle.listener.specs.Laws.{AnswersAreLegal, RunsAreKept, KeptFits, FitsIn, AllFitIn, IsKept, joined}
-use Rattle.tap.specs.declared.playlist.Placed.{Placed}
-use Rattle.tap.specs.declared.report.Report.{Report}
-use Rattle.tap.specs.declared.step.Step.{Step}
-use Rattle.tap.specs.declared.step.Step.TheVariants.{Arrive, Flush, Read, Close}
-use Rattle.tap.specs.declared.answer.Answered.{Answered}
+use Rattle.listener.specs.Messages.{Arrival, cut_to, kept_by}
+use Rattle.listener.specs.PlainList.{Request, answers}
+use Rattle.listener.specs.Laws.{AnswersAreLegal, RunsAreKept, KeptFits}
+use Rattle.playback.specs.declared.playlist.Placed.{Placed}
+use Rattle.playback.specs.declared.report.Report.{Report}
+use Rattle.playback.specs.declared.step.Step.{Step}
+use Rattle.playback.specs.declared.answer.Answered.{Answered}
 use Rattle.savefile.specs.declared.fault.Fault.{Fault as Misread}
-use Rattle.tap.specs.Answers.{all_answered, AreLegal, Traces}
+use Rattle.playback.specs.Answers.{AreLegal}
+use Rattle.tap.specs.Answers.{Traces}
 use Rattle.tap.specs.Filters.{kept_by_tree, FiltersAs}
-use Rattle.tap.specs.Headline.{run_of, terms_of, Reports, Replays}
-use Rattle.tap.specs.OwnSteps.{own, arrival_of}
-use Rattle.tap.specs.Watching.{AllPackets}
-use Rattle.tap.specs.declared.filters.Filter.{Filter}
-use Rattle.tap.specs.declared.filters.Filter.TheVariants.{Text, Program}
-use Rattle.tap.specs.Watching.{Watch, watch, all_stepped, Tells, IsFollowed, ProgramOf, Opened, no_answers, ComesTo, played, arrived_at, one_stepped}
-use Rattle.tap.proofs.Stepping.{all_stepped_is}
-use Rattle.tap.proofs.Owns.{goes, played_own}
-use Rattle.tap.proofs.Counting.{length_one, zip_length}
+use Rattle.playback.specs.Reports.{terms_of, Reports}
+use Rattle.tap.specs.Headline.{Replays}
+use Rattle.playback.specs.OwnSteps.{own, arrival_of}
+use Rattle.playback.specs.Watching.{AllPackets, CountsFit, Watch, Tells, IsFollowed, played}
+use Rattle.playback.specs.declared.filters.Filter.{Filter}
+use Rattle.playback.specs.declared.filters.Filter.TheVariants.{Text, Program}
+use Rattle.tap.specs.Opening.{ProgramOf, Opened, ComesTo}
+use Rattle.playback.proofs.Owns.{goes, played_own}
+use Rattle.playback.proofs.OwnReports.{came_to, reports_by, legal_by, own_alike, zip_at, length_played}
+use Rattle.playback.proofs.Counting.{zip_length}
 use Rattle.tap.specs.Refusals.{ListenersAreRight, RefusesListener, RefusesOne}
 use Rattle.tap.specs.declared.fault.Fault.{Fault}
 use Rattle.tap.specs.declared.fault.Fault.TheVariants as faults
-use Rattle.std.proofs.Common.{◌⊎◌, inl, inr}
-use Rattle.tap.specs.declared.filters.Spec.{Spec}
+use Rattle.playback.specs.declared.filters.Spec.{Spec}
 use Rattle.std.specs.List.{AllZip, slice_get}
-use Rattle.std.proofs.Common.{zero, suc, map, option_map}
-use Rattle.std.proofs.lemmas.List.{length-map}
-
--- ---- Own steps fit
-
-if_fits : (capacity : ℕ) (b : Bool) (r : Request) (rs : List Request) → FitsIn capacity r → AllFitIn capacity rs → AllFitIn capacity (cond b (r ∷ []) [] ++ rs)
-if_fits capacity true r rs h hs = (h, hs)
-if_fits capacity false r rs h hs = hs
-
-own_fits : (keeps : Arrival → Option Message) (capacity l : ℕ) → ((a : Arrival) → FitsIn capacity (P.Arrive (keeps a))) → (steps : List Step) (playlist : List Placed) → AllFitIn capacity (own keeps l steps playlist)
-own_fits keeps capacity l h [] playlist = tt
-own_fits keeps capacity l h (Arrive ∷ steps) [] = own_fits keeps capacity l h steps []
-own_fits keeps capacity l h (Arrive ∷ steps) (p ∷ playlist) = (h (arrival_of p), own_fits keeps capacity l h steps playlist)
-own_fits keeps capacity l h (Flush k ∷ steps) playlist = if_fits capacity (k == l) P.Flush (own keeps l steps playlist) tt (own_fits keeps capacity l h steps playlist)
-own_fits keeps capacity l h (Read k ∷ steps) playlist = if_fits capacity (k == l) P.Read (own keeps l steps playlist) tt (own_fits keeps capacity l h steps playlist)
-own_fits keeps capacity l h (Close k ∷ steps) playlist = if_fits capacity (k == l) P.Close (own keeps l steps playlist) tt (own_fits keeps capacity l h steps playlist)
-
--- ---- A listener's report and answers, by its program
-
--- the state to which a listener's own steps lead from the beginning
-abbrev came_to : Bool → List Insn → ℕ → Terms → List Request → Watch
-came_to traced program snap t rs = all_stepped rs (watch (listening program snap t empty) [] (no_answers traced))
-
-module _ (legal_law : AnswersAreLegal) (kept_law : RunsAreKept) (fit_law : KeptFits) where
-  pub reports_by : (traced : Bool) (program : List Insn) (snap : ℕ) (t : Terms) (l : ℕ) (steps : List Step) (playlist : List Placed) (report : Report) → size snap ≤ t.capacity →
-      Tells (came_to traced program snap t (own (kept_by program snap) l steps playlist)) report →
-      Reports t (own (kept_by program snap) l steps playlist) report
-  reports_by traced program snap t l steps playlist report room tells =
-      let rs : List Request = own (kept_by program snap) l steps playlist in
-      let es : List Event = answers t empty rs in
-      let law = legal_law t empty rs in
-      let is = all_stepped_is program snap t empty [] (no_answers traced) rs in
-      let r : Tells (watch (listening program snap t (run_of t rs)) (batches es) (option_map (λ l. l ++ all_answered empty es) (no_answers traced))) report =
-      subst (λ (w : Watch). Tells w report) is tells in
-      let fit : AllFitIn t.capacity (requests es) = subst (AllFitIn t.capacity) (sym law.1)
-      (own_fits (kept_by program snap) t.capacity l (λ a. fit_law program snap t.capacity a room) steps playlist) in
-      let k : IsKept t rs (batches es) (run_of t rs) = subst (λ (q : List Request). IsKept t q (batches es) (run_of t rs)) law.1 (kept_law t es fit law.0) in
-      record {
-        looks_back = record {
-          whole = (λ i. joined (r.read i) ++ r.held i) ∙ k.whole;
-          received = r.received ∙ k.all_received;
-          matched = r.matched ∙ k.all_matched;
-          dropped = r.dropped ∙ k.all_dropped;
-        };
-        runs = record { batches = r.read; pending = r.held; received = r.received; matched = r.matched; dropped = r.dropped };
-      }
-
--- the answers that were followed are the legal ones of a listener's own steps
-pub legal_by : AnswersAreLegal → (program : List Insn) (snap : ℕ) (t : Terms) (rs : List Request) (followed : List Answered) →
-    IsFollowed (came_to true program snap t rs) followed → AreLegal t rs followed
-legal_by legal_law program snap t rs followed follows =
-    let law = legal_law t empty rs in
-    record {
-      events = answers t empty rs;
-      of_steps = law.1;
-      legal = law.0;
-      told = follows (all_answered empty (answers t empty rs)) (ap (λ (w : Watch). w.answers) (all_stepped_is program snap t empty [] (no_answers true) rs));
-    }
 
 -- ---- An expression stands for its program
 
@@ -103,14 +42,6 @@ unfolding kept_by kept_by_tree
 kept_alike_if program tree snap a true some e f =
     rw (e, f, lt-ltb 0 snap some) (ap (λ (n : ℕ). Some (cut_to n a)) (let m : min snap snap ≡ snap = omega arith in m))
 kept_alike_if program tree snap a false some e f = rw (e, f) refl
-
-own_alike : (f g : Arrival → Option Message) (l : ℕ) (steps : List Step) (playlist : List Placed) → ((p : Placed) → HasBytes (packet_of p.packet.bytes p.packet.len) → f (arrival_of p) ≡ g (arrival_of p)) → AllPackets playlist → own f l steps playlist ≡ own g l steps playlist
-own_alike f g l [] playlist h all = refl
-own_alike f g l (Arrive ∷ steps) [] h all = own_alike f g l steps [] h all
-own_alike f g l (Arrive ∷ steps) (p ∷ playlist) h all = λ i. P.Arrive (h p all.0 i) ∷ own_alike f g l steps playlist h all.1 i
-own_alike f g l (Flush k ∷ steps) playlist h all = ap (λ (q : List Request). cond (k == l) (P.Flush ∷ []) [] ++ q) (own_alike f g l steps playlist h all)
-own_alike f g l (Read k ∷ steps) playlist h all = ap (λ (q : List Request). cond (k == l) (P.Read ∷ []) [] ++ q) (own_alike f g l steps playlist h all)
-own_alike f g l (Close k ∷ steps) playlist h all = ap (λ (q : List Request). cond (k == l) (P.Close ∷ []) [] ++ q) (own_alike f g l steps playlist h all)
 
 pub kept_alike : (program : List Insn) (tree : Tree) (snap : ℕ) → 0 < snap → StandsFor program tree snap → (p : Placed) → HasBytes (packet_of p.packet.bytes p.packet.len) → kept_by program snap (arrival_of p) ≡ kept_by_tree tree snap (arrival_of p)
 kept_alike program tree snap some stands p real = kept_alike_if program tree snap (arrival_of p) (accepts tree (packet_of p.packet.bytes p.packet.len)) some (stands (packet_of p.packet.bytes p.packet.len) real) refl
@@ -131,12 +62,6 @@ told Says (Text text) program snap l steps playlist some real made says = (
   (made.0, made.1, refl),
   subst Says (own_alike (kept_by program snap) (kept_by_tree made.0 snap) l steps playlist (kept_alike program made.0 snap some made.2) real) says,
 )
-
-zip_at : {A B : Type 0} (R : A → B → Type 0) (xs : List A) (ys : List B) (l : ℕ) (x : A) → AllZip R xs ys → slice_get xs l ≡ Some x → (y : B) × (slice_get ys l ≡ Some y) × R x y
-zip_at R [] ys l x z h = absurd (cc)
-zip_at R (u ∷ xs) [] l x z h = absurd z
-zip_at R (u ∷ xs) (v ∷ ys) zero x z h = let e : u ≡ x = cc in (v, refl, subst (λ w. R w v) e z.0)
-zip_at R (u ∷ xs) (v ∷ ys) (suc l) x z h = zip_at R xs ys l x z.1 h
 
 -- what is told of a listener at the end is told of one that was opened and went through its own steps
 ended_at : {B : Type 0} (R : Watch → B → Type 0) (traced : Bool) (specs : List Spec) (ws done : List Watch) (ys : List B) (steps : List Step) (playlist : List Placed) →
@@ -174,14 +99,6 @@ module _ (legal_law : AnswersAreLegal) (specs : List Spec) (ws done : List Watch
       (legal_by legal_law o.program spec.snap (terms_of spec) (own (kept_by o.program spec.snap) l steps playlist) e.2 f) in
       (e.2, e.3, k.0, k.1, k.2)
 
-pub length_played : (steps : List Step) (playlist : List Placed) (ws : List Watch) → length (played steps playlist ws) ≡ length ws
-length_played [] playlist ws = refl
-length_played (Arrive ∷ steps) [] ws = length_played steps [] ws
-length_played (Arrive ∷ steps) (p ∷ playlist) ws = length_played steps playlist (map (arrived_at p) ws) ∙ length-map ws (arrived_at p)
-length_played (Flush k ∷ steps) playlist ws = length_played steps playlist (one_stepped k P.Flush ws) ∙ length_one k P.Flush ws
-length_played (Read k ∷ steps) playlist ws = length_played steps playlist (one_stepped k P.Read ws) ∙ length_one k P.Read ws
-length_played (Close k ∷ steps) playlist ws = length_played steps playlist (one_stepped k P.Close ws) ∙ length_one k P.Close ws
-
 -- as many as were wanted
 ended_many : {B : Type 0} (R : Watch → B → Type 0) (traced : Bool) (specs : List Spec) (ws done : List Watch) (ys : List B) (steps : List Step) (playlist : List Placed) →
     AllZip (Opened traced) specs ws → done ≡ played steps playlist ws → AllZip R done ys → length ys ≡ length specs
@@ -212,6 +129,13 @@ pub stand_opened : (traced : Bool) (specs : List Spec) (ws : List Watch) → All
 stand_opened traced [] ws z = tt
 stand_opened traced (spec ∷ specs) [] z = absurd z
 stand_opened traced (spec ∷ specs) (w ∷ ws) z = ((z.0.stands, z.0.range), stand_opened traced specs ws z.1)
+
+-- no count can pass where listeners begin
+pub fit_opened : (traced : Bool) (n : ℕ) (specs : List Spec) (ws : List Watch) → n < 2 ^ 64 → AllZip (Opened traced) specs ws → CountsFit n ws
+fit_opened traced n [] [] h z = tt
+fit_opened traced n [] (w ∷ ws) h z = absurd z
+fit_opened traced n (spec ∷ specs) [] h z = tt
+fit_opened traced n (spec ∷ specs) (w ∷ ws) h z = (let r : w.listener.list.received ≡ 0 = ap (λ (v : Watch). v.listener.list.received) z.0.is in omega (arith, r), fit_opened traced n specs ws h z.1)
 
 -- the first listener against which something stands
 pub refuses_one : (specs : List Spec) (l : ℕ) (spec : Spec) (f : Fault) → slice_get specs l ≡ Some spec → ListenersAreRight (take l specs) → (f ≡ faults.NoMemory) ⊎ RefusesListener l spec f → (f ≡ faults.NoMemory) ⊎ RefusesOne specs f

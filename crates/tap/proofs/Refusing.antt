@@ -13,7 +13,7 @@ use Rattle.filtergen.specs.Compiling.{IsBadSnap}
 use Rattle.tap.specs.declared.fault.Fault.{Fault}
 use Rattle.tap.specs.declared.fault.Fault.TheVariants.{Expression, Compile}
 use Rattle.tap.specs.declared.fault.Fault.TheVariants as faults
-use Rattle.tap.specs.declared.filters.Filter.TheVariants.{Text}
+use Rattle.playback.specs.declared.filters.Filter.TheVariants.{Text}
 use Rattle.tap.specs.Refusals.{IsExpression, RefusesFilter}
 
 -- a text that is no expression

@@ -1,6 +1,5 @@
 -- Why a replay gives no report.
-use Rattle.std.specs.Prelude.{◌≡◌, ℕ, ◌<◌, ◌≤◌, ◌⊎◌, List, [], ◌∷◌, length, take, Some, slice_get, All, string_bytes}
-use Rattle.savefile.specs.Savefile.{RefusesHeader}
+use Rattle.std.specs.Prelude.{◌≡◌, ℕ, ◌<◌, ◌≤◌, ◌⊎◌, List, [], ◌∷◌, length, take, Some, slice_get, string_bytes}
 use Rattle.filterlang.specs.declared.fault.Fault.TheVariants as misread
 use Rattle.filterlang.specs.declared.lexer.TheConstants.{MAX_TEXT}
 use Rattle.filterlang.specs.Trees.{Tree}
@@ -12,38 +11,26 @@ use Rattle.listener.specs.declared.fault.OpenFault.TheVariants as unopened
 use Rattle.listener.specs.Listening.{RefusesOpen, InRange}
 use Rattle.tap.specs.declared.fault.Fault.{Fault}
 use Rattle.tap.specs.declared.fault.Fault.TheVariants.{TooMany, NoListener, Capture, Expression, Compile, Open, NoMemory}
-use Rattle.tap.specs.declared.filters.Spec.{Spec}
-use Rattle.tap.specs.declared.filters.Filter.{Filter}
-use Rattle.tap.specs.declared.filters.Filter.TheVariants.{Text, Program}
-use Rattle.tap.specs.declared.step.Step.{Step}
-use Rattle.tap.specs.OwnSteps.{Names}
-use Rattle.tap.specs.Playlist.{NoHeaderIsRefused}
+use Rattle.playback.specs.declared.filters.Spec.{Spec}
+use Rattle.playback.specs.declared.filters.Filter.{Filter}
+use Rattle.playback.specs.declared.filters.Filter.TheVariants.{Text, Program}
+use Rattle.playback.specs.declared.step.Step.{Step}
+use Rattle.playback.specs.declared.fault.PlaylistFault.{PlaylistFault}
+use Rattle.playback.specs.declared.fault.PlaylistFault.TheVariants as unlisted
+use Rattle.playback.specs.OwnSteps.{AllName, FirstMissing}
+use Rattle.playback.specs.Playlist.{NoHeaderIsRefused, RefusesCapture}
 
 -- ---- The limits
 
 abbrev pub AreTooMany : List (List ℕ) → List Spec → Type 0
 AreTooMany texts specs = (64 < length specs) ⊎ (65536 < length texts)
 
--- ---- Steps
-
--- each step names a listener that there is, or none
-abbrev pub AllName : ℕ → List Step → Type 0
-AllName n steps = All (Names n) steps
-
--- the first step that names a listener that there is not
-pub record FirstMissing (n : ℕ) (steps : List Step) (place : ℕ) : Type 0 where
-  pub step : Step
-  pub here : slice_get steps place ≡ Some step
-  pub missing : Names n step → ⊥
-  pub before : AllName n (take place steps)
-
 -- ---- Captures
 
--- a capture's header is refused, and no header before it is
-abbrev pub RefusesCapture : List (List ℕ) → Fault → Type 0
-RefusesCapture texts (Capture n fault) =
-    (text : List ℕ) × (slice_get texts n ≡ Some text) × RefusesHeader text fault × NoHeaderIsRefused (take n texts)
-RefusesCapture texts other = ⊥
+-- why captures give no playlist, as the fault of a replay
+abbrev pub of_playlist : PlaylistFault → Fault
+of_playlist (unlisted.Capture n fault) = Capture n fault
+of_playlist unlisted.NoMemory = NoMemory
 
 -- ---- Listeners
 
@@ -96,7 +83,7 @@ abbrev pub IsFirst : List (List ℕ) → List Spec → List Step → Fault → T
 IsFirst texts specs steps TooMany = AreTooMany texts specs
 IsFirst texts specs steps (NoListener place) = (AreTooMany texts specs → ⊥) × FirstMissing (length specs) steps place
 IsFirst texts specs steps (Capture n fault) =
-    (AreTooMany texts specs → ⊥) × AllName (length specs) steps × RefusesCapture texts (Capture n fault)
+    (AreTooMany texts specs → ⊥) × AllName (length specs) steps × RefusesCapture texts (unlisted.Capture n fault)
 IsFirst texts specs steps NoMemory = Unit {0}
 IsFirst texts specs steps fault =
     (AreTooMany texts specs → ⊥) × AllName (length specs) steps × NoHeaderIsRefused texts × RefusesOne specs fault

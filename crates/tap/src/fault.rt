@@ -1,10 +1,12 @@
 //! Why a replay gives no report.
 
 ghost use Rattle.std.specs.Prelude.{◌≡◌};
+ghost use Rattle.tap.specs.Refusals.{of_playlist};
 ghost use Rattle.tap.specs.declared.fault.Fault.TheVariants.{NoMemory};
 
 use filtergen::Refusal;
 use listener::OpenFault;
+use playback::PlaylistFault;
 use std::alloc::{AllocError, AllocFailed};
 use thiserror::Error;
 
@@ -33,6 +35,17 @@ pub enum Fault {
     /// Memory was refused, at any point.
     #[error("NoMemory")]
     NoMemory,
+}
+
+impl From<PlaylistFault> for Fault {
+    ghost from_gives = { λ f e. e ≡ of_playlist f };
+
+    fn from(fault: PlaylistFault) -> Fault {
+        match fault {
+            PlaylistFault::Capture(n, fault) => Fault::Capture(n, fault),
+            PlaylistFault::NoMemory => Fault::NoMemory,
+        }
+    }
 }
 
 impl From<AllocError> for Fault {

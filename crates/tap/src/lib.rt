@@ -9,21 +9,12 @@
 //! docs/LANGUAGE.md, or programs of the filter machine; listeners behave as docs/DEFINITIONS.md says, after bpf(4).
 #![tactic(auto)]
 
-mod answer;
 mod fault;
-mod filters;
 mod open;
-mod play;
-mod playlist;
-mod report;
 mod run;
-mod step;
-mod watched;
 
-pub use answer::{Answer, Answered};
 pub use fault::Fault;
-pub use filters::{Filter, Spec};
-pub use playlist::Placed;
-pub use report::{Report, Trace};
-pub use run::{MOST_CAPTURES, MOST_LISTENERS, replay, trace};
-pub use step::Step;
+pub use playback::{
+    Answer, Answered, Filter, MOST_CAPTURES, MOST_LISTENERS, Placed, Report, Spec, Step, Trace,
+};
+pub use run::{replay, trace};

@@ -3,16 +3,15 @@
 ghost use Rattle.std.specs.Prelude.{◌≡◌, ◌≢◌, ◌≤◌, length, IfOk, IfErr, OnOk, ◌⊎◌};
 ghost use Rattle.std.specs.List.{AllZip};
 ghost use Rattle.tap.specs.Refusals.{FilterIsRight, RefusesFilter, RefusesListener, RefusesOne};
-ghost use Rattle.tap.specs.Watching.{Opened, ProgramOf};
+ghost use Rattle.tap.specs.Opening.{Opened, ProgramOf};
 ghost use Rattle.filterlang.specs.declared.fault.Fault.TheVariants as misread;
 ghost use Rattle.tap.specs.declared.fault.Fault.TheVariants.{NoMemory, Expression};
 
 use crate::fault::Fault;
-use crate::filters::{Filter, Spec};
-use crate::watched::Watched;
 use bpfvm::Program;
 use filtergen::{Refusal, compile};
 use listener::{Listener, OpenFault};
+use playback::{Filter, Spec, Watched};
 use std::alloc::Global;
 
 /// Why the text of the l-th listener is no expression.

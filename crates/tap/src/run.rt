@@ -1,30 +1,20 @@
 //! The replay of captures to listeners.
 
-ghost use Rattle.std.specs.Prelude.{◌≡◌, List, map, IfOk, IfErr, OnOk};
-ghost use Rattle.std.specs.List.{AllZip};
+ghost use Rattle.std.specs.Prelude.{List, map, IfOk, IfErr, OnOk};
 ghost use Rattle.tap.specs.Answers.{Traces};
 ghost use Rattle.tap.specs.Headline.{Replays};
 ghost use Rattle.tap.specs.Refusals.{IsFirst, NoneStands};
-ghost use Rattle.tap.specs.Watching.{ComesTo, Tells, IsFollowed};
+ghost use Rattle.tap.specs.Opening.{ComesTo};
 ghost use Rattle.tap.specs.declared.fault.Fault.TheVariants.{NoMemory};
-ghost use Rattle.tap.specs.declared.playlist.Placed.{Placed};
+ghost use Rattle.playback.specs.declared.playlist.Placed.{Placed};
 
-use crate::answer::Answered;
 use crate::fault::Fault;
-use crate::filters::Spec;
 use crate::open::open_all;
-use crate::play::{first_missing, play};
-use crate::playlist::{Playlist, read_playlist};
-use crate::report::{Report, Trace};
-use crate::step::Step;
-use crate::watched::Watched;
+use playback::{
+    MOST_CAPTURES, MOST_LISTENERS, Playlist, Report, Spec, Step, Trace, Watched, first_missing,
+    play, read_playlist, report_all, trace_all,
+};
 use std::alloc::Global;
-
-/// The most listeners of a replay.
-pub const MOST_LISTENERS: usize = 64;
-
-/// The most captures of a replay.
-pub const MOST_CAPTURES: usize = 65_536;
 
 /// What a replay came to.
 #[derive(Drop)]
@@ -55,38 +45,6 @@ fn play_all(
     let mut watched = open_all(alloc, specs, traced)?;
     play(alloc, &mut watched, steps, playlist.arrivals.as_slice())?;
     Ok(Outcome { playlist, watched })
-}
-
-/// The reports.
-fn report_all(alloc: Global, watched: Vec<Watched>) -> Result<Vec<Report>, Fault>
-    ensures ok { IfOk result (λ rs. AllZip Tells watched.items rs.items) }
-    ensures err { IfErr result (λ f. f ≡ NoMemory) }
-{
-    let mut reports = Vec::with_capacity(alloc, watched.len())?;
-    for one in watched {
-        let (report, _answers) = one.report(alloc)?;
-        reports.push(report)?;
-    }
-    Ok(reports)
-}
-
-/// The reports, and the answers that were followed.
-fn trace_all(
-    alloc: Global,
-    watched: Vec<Watched>,
-) -> Result<(Vec<Report>, Vec<Vec<Answered>>), Fault>
-    ensures reports { IfOk result (λ r. AllZip Tells watched.items r.0.items) }
-    ensures answers { IfOk result (λ r. AllZip IsFollowed watched.items (map (λ a. a.items) r.1.items)) }
-    ensures err { IfErr result (λ f. f ≡ NoMemory) }
-{
-    let mut reports = Vec::with_capacity(alloc, watched.len())?;
-    let mut answers = Vec::with_capacity(alloc, watched.len())?;
-    for one in watched {
-        let (report, own) = one.report(alloc)?;
-        reports.push(report)?;
-        answers.push(own.unwrap_or(Vec::new(alloc)))?;
-    }
-    Ok((reports, answers))
 }
 
 /// Replays captures to listeners, step by step, and reports what each listener came to.

@@ -1,9 +1,9 @@
 use Rattle.std.proofs.Common.{inl, inr, true, refl}
 use Rattle.std.proofs.KnownBytes.{Keeps-refl}
 use Rattle.tap.specs.declared.fault.Fault.TheVariants.{NoMemory}
-use Rattle.stepping.specs.Answers.{answers_from}
+use Rattle.step_texts.specs.Answers.{answers_from}
 use Rattle.stepping.proofs.Ending.{Reported-of}
-use Rattle.stepping.proofs.Lefts.{lists}
+use Rattle.step_texts.proofs.Lefts.{lists}
 use Rattle.stepping.proofs.steps.play_explained.Goals as goal
 
 pub returns-in_default : goal.returns-in_default

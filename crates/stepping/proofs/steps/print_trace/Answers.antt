@@ -1,7 +1,7 @@
 use Rattle.std.proofs.lemmas.Result.{err_from_is_err_and}
 use Rattle.lines.proofs.Taking.{TakesPart-more, Takes-then}
-use Rattle.stepping.specs.Answers.{answers_from}
-use Rattle.stepping.specs.Printed.{printed_reports}
+use Rattle.step_texts.specs.Answers.{answers_from}
+use Rattle.step_texts.specs.Printed.{printed_reports}
 use Rattle.stepping.proofs.steps.print_trace.Goals as goal
 
 pub returns-in_err-write_answers : goal.returns-in_err-write_answers

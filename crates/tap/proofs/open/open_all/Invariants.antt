@@ -1,6 +1,6 @@
 use Rattle.std.proofs.Common.{take}
 use Rattle.std.specs.List.{AllZip}
-use Rattle.tap.specs.Watching.{Opened}
+use Rattle.tap.specs.Opening.{Opened}
 use Rattle.tap.proofs.open.open_all.Given as goal
 
 abbrev pub invariant-loop-l : goal.invariant-loop-l

@@ -3,7 +3,7 @@ use Rattle.filterlang.specs.Trees.{Tree, tree_of}
 use Rattle.filterlang.specs.Texts.{ReadsAs, IsRefusalOf}
 use Rattle.tap.specs.declared.fault.Fault.TheVariants.{NoMemory, Compile}
 use Rattle.tap.specs.Refusals.{FilterIsRight, RefusesFilter}
-use Rattle.tap.specs.Watching.{ProgramOf}
+use Rattle.tap.specs.Opening.{ProgramOf}
 use Rattle.tap.proofs.Refusing.{misread_refuses, not_deep, refuses_compile, is_expression}
 use Rattle.tap.proofs.open.program_of.Goals as goal
 

@@ -1,9 +1,10 @@
 use Rattle.std.proofs.Common.{All, inl, inr, sym, ap, ◌∙◌, subst, arith}
 use Rattle.std.proofs.lemmas.List.{length-map}
-use Rattle.tap.specs.OwnSteps.{Names}
-use Rattle.tap.specs.Watching.{Opened, played}
-use Rattle.tap.proofs.Counting.{zip_length, fit_opened}
-use Rattle.tap.proofs.Headline.{stand_opened}
+use Rattle.playback.specs.OwnSteps.{Names}
+use Rattle.tap.specs.Opening.{Opened}
+use Rattle.playback.specs.Watching.{played}
+use Rattle.playback.proofs.Counting.{zip_length}
+use Rattle.tap.proofs.Headline.{fit_opened, stand_opened}
 use Rattle.tap.proofs.run.play_all.Goals as goal
 
 pub play-requires-clause-names : goal.play-requires-clause-names
@@ -20,7 +21,7 @@ returns-clause-ok c =
       packets = c.in_ok-playlist.ensures.packets;
       began = ws;
       opened = c.in_ok-watched.ensures.ok;
-      ends = c.in_ok-play.ensures.ok ∙ ap (λ p. played c.args.steps.now p ws) c.as_slice.ensures.value;
+      ends = c.in_ok-play.ensures ∙ ap (λ p. played c.args.steps.now p ws) c.as_slice.ensures.value;
     }
 
 pub returns-clause-stands : goal.returns-clause-stands

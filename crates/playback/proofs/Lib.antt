@@ -1,0 +1,7 @@
+pub mod Stepping
+pub mod Loads
+pub mod Following
+pub mod Playlists
+pub mod Owns
+pub mod OwnReports
+pub mod Counting

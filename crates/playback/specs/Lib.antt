@@ -1,0 +1,5 @@
+pub mod Playlist
+pub mod OwnSteps
+pub mod Answers
+pub mod Reports
+pub mod Watching

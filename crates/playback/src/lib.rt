@@ -1,0 +1,26 @@
+//! Steps, played over opened listeners and the packets of captures.
+//!
+//! [`read_playlist`] reads the packets of captures in order, [`play`] plays steps over them, and [`report_all`] and
+//! [`trace_all`] tell what each listener came to. How listeners are opened is `tap`'s: nothing here knows what an
+//! expression means, so that this is proved beside the compiler and not behind it.
+#![tactic(auto)]
+
+mod answer;
+mod fault;
+mod filters;
+mod playing;
+mod playlist;
+mod report;
+mod reporting;
+mod step;
+mod watched;
+
+pub use answer::{Answer, Answered};
+pub use fault::PlaylistFault;
+pub use filters::{Filter, MOST_LISTENERS, Spec};
+pub use playing::{first_missing, play};
+pub use playlist::{MOST_CAPTURES, Placed, Playlist, read_playlist};
+pub use report::{Report, Trace};
+pub use reporting::{report_all, trace_all};
+pub use step::Step;
+pub use watched::Watched;

@@ -1,0 +1,7 @@
+pub mod Words
+pub mod Fielded
+pub mod Keeping
+pub mod Answering
+pub mod FirstBad
+pub mod Lefts
+pub mod Rejecting

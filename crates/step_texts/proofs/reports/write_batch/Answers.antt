@@ -1,0 +1,18 @@
+use Rattle.std.proofs.Common.{◌∙◌, subst}
+use Rattle.std.proofs.lemmas.Result.{err_from_is_err_and}
+use Rattle.std.specs.Io.KnownBytes.{Appends}
+use Rattle.step_texts.specs.Printed.{batch_line, message_lines}
+use Rattle.lines.specs.Sending.{TakesPart}
+use Rattle.lines.proofs.Taking.{TakesPart-more, Takes-then}
+use Rattle.step_texts.proofs.reports.write_batch.Goals as goal
+
+pub returns-in_err-send : goal.returns-in_err-send
+returns-in_err-send g c =
+    let p = err_from_is_err_and c.from_residual-in_err-send.result c.from_residual-in_err-send.ensures.1 in
+    let text = c.as_bytes.ensures ∙ c.in_ok-put_batch.ensures in
+    rw p.1 (TakesPart-more _ _ (batch_line c.args.b) (message_lines c.args.batch.now) (subst (TakesPart _ _) text c.in_err-send.ensures))
+
+pub returns : goal.returns
+returns g c =
+    let text = c.as_bytes.ensures ∙ c.in_ok-put_batch.ensures in
+    Takes-then _ _ _ (batch_line c.args.b) (message_lines c.args.batch.now) _ (subst (Appends _ _) text c.in_ok-send.ensures) c.write_messages.ensures

@@ -1,6 +1,0 @@
-use Rattle.std.specs.List.{AllZip}
-use Rattle.tap.specs.Watching.{Tells}
-use Rattle.tap.proofs.run.report_all.Given as goal
-
-abbrev pub invariant-loop-one : goal.invariant-loop-one
-invariant-loop-one l = AllZip Tells l.yielded l.reports.items

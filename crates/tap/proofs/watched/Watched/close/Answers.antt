@@ -1,9 +1,0 @@
-use Rattle.std.proofs.Common.{refl, ◌∙◌}
-use Rattle.listener.specs.PlainList.{closed}
-use Rattle.tap.proofs.Stepping.{step_told}
-use Rattle.tap.proofs.watched.Watched.close.Goals as goal
-
-pub returns-clause-ok : goal.returns-clause-ok
-returns-clause-ok c =
-    rw (← c.self.view_is) (step_told c.answers.ensures.is_right c.self.inside.listener c.close.new.self _ _ _ _ closed _ refl refl
-    _ _ _ _ (c.of-before.ensures.closed ∙ c.self.invariant.1) c.of-before.ensures.load c.of-before.ensures.held (λ _ _. refl) c.answered.ensures c.close.ensures c.in_ok-follow.ensures)
