@@ -1,4 +1,4 @@
-//! The commands of the program over files, but for `steps`, and for `run`, which alone waits for other threads.
+//! `check`, `cut` and `explain`, over files.
 #![tactic(auto)]
 
 pub mod check_files;
@@ -6,4 +6,3 @@ pub mod cut_files;
 pub mod explain_files;
 mod filters;
 mod opening;
-pub mod split_files;

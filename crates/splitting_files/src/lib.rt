@@ -1,0 +1,4 @@
+//! `bpftap split`, over files.
+#![tactic(auto)]
+
+pub mod split_files;
