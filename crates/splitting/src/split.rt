@@ -158,6 +158,77 @@ fn leave_captures<R: Drop>(captures: Vec<R>, mut sources: Vec<R>) -> Vec<R>
     sources
 }
 
+/// The room for what a split writes and gives back.
+#[derive(Drop)]
+struct Room<R, W> {
+    sources: Vec<R>,
+    outlets: Vec<Outlet<W>>,
+    ends: Vec<PartEnd<W>>,
+}
+
+/// The room for so many captures and parts.
+fn room_for<R: Drop, W: Drop>(
+    alloc: Global,
+    captures: usize,
+    parts: usize,
+) -> Result<Room<R, W>, AllocError>
+    ensures sources { IfOk result (λ room. (room.sources.items ≡ []) × (captures ≤ vec_capacity room.sources)) }
+    ensures outlets { IfOk result (λ room. (length room.outlets.items ≡ 0) × (parts ≤ vec_capacity room.outlets)) }
+    ensures ends { IfOk result (λ room. (length room.ends.items ≡ 0) × (parts ≤ vec_capacity room.ends)) }
+{
+    Ok(Room {
+        sources: Vec::with_capacity(alloc, captures)?,
+        outlets: Vec::with_capacity(alloc, parts)?,
+        ends: Vec::with_capacity(alloc, parts)?,
+    })
+}
+
+/// Splits the first capture and the others.
+fn split_first<R: Source + Drop, W: Sink + Drop>(
+    alloc: Global,
+    first: R,
+    others: Vec<R>,
+    parts: Vec<Part<W>>,
+    order: Order,
+    unit: Unit,
+    room: Room<R, W>,
+) -> SplitEnd<R, W>
+    requires sources { (room.sources.items ≡ []) × (length others.items + 1 ≤ vec_capacity room.sources) }
+    requires outlets { (length room.outlets.items ≡ 0) × (length parts.items ≤ vec_capacity room.outlets) }
+    requires ends { (length room.ends.items ≡ 0) × (length parts.items ≤ vec_capacity room.ends) }
+    ensures { Splits R.left R.failures W.taken W.failures (first ∷ others.items) parts.items order unit result }
+{
+    let Room {
+        mut sources,
+        outlets,
+        ends,
+    } = room;
+    match Reader::open(alloc, first) {
+        Ok(reader) => {
+            let mut splitter = Splitter {
+                outlets: begin_all(parts, order, unit, outlets),
+                read: 0,
+            };
+            let (source, end) = splitter.give_opened(0, reader);
+            sources.push_reserved(source);
+            let (sources, end) = splitter.give_captures(alloc, others, sources, end);
+            SplitEnd {
+                sources,
+                parts: close_all(splitter.outlets, ends),
+                end,
+            }
+        }
+        Err((source, fault)) => {
+            sources.push_reserved(source);
+            SplitEnd {
+                sources: leave_captures(others, sources),
+                parts: leave_all(parts, ends),
+                end: Err(Stop::AtHeader(0, fault)),
+            }
+        }
+    }
+}
+
 /// Writes captures of the packets of others, in one pass: each part has those that its program accepts, cut, as a capture of its own,
 /// of exactly the bytes that [`cut`](cutting::cut::cut) would write of all captures one behind the other.
 ///
@@ -180,39 +251,14 @@ pub fn split<R: Source + Drop, W: Sink + Drop>(
 ) -> Result<SplitEnd<R, W>, AllocError>
     ensures { IfOk result (λ end. Splits R.left R.failures W.taken W.failures captures.items parts.items order unit end) }
 {
-    let mut sources = Vec::with_capacity(alloc, captures.len())?;
-    let outlets = Vec::with_capacity(alloc, parts.len())?;
-    let ends = Vec::with_capacity(alloc, parts.len())?;
+    let room = room_for(alloc, captures.len(), parts.len())?;
     if captures.is_empty() {
         return Ok(SplitEnd {
-            sources,
-            parts: leave_all(parts, ends),
+            sources: room.sources,
+            parts: leave_all(parts, room.ends),
             end: Ok(()),
         });
     }
     let first = captures.remove(0);
-    match Reader::open(alloc, first) {
-        Ok(reader) => {
-            let mut splitter = Splitter {
-                outlets: begin_all(parts, order, unit, outlets),
-                read: 0,
-            };
-            let (source, end) = splitter.give_opened(0, reader);
-            sources.push_reserved(source);
-            let (sources, end) = splitter.give_captures(alloc, captures, sources, end);
-            Ok(SplitEnd {
-                sources,
-                parts: close_all(splitter.outlets, ends),
-                end,
-            })
-        }
-        Err((source, fault)) => {
-            sources.push_reserved(source);
-            Ok(SplitEnd {
-                sources: leave_captures(captures, sources),
-                parts: leave_all(parts, ends),
-                end: Err(Stop::AtHeader(0, fault)),
-            })
-        }
-    }
+    Ok(split_first(alloc, first, captures, parts, order, unit, room))
 }
