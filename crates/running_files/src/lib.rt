@@ -1,0 +1,5 @@
+//! `bpftap run`, over files.
+#![tactic(auto)]
+
+pub mod run_files;
+mod run_hints;
