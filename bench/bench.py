@@ -229,7 +229,7 @@ def handover_program(folder):
 
 
 def replay_program(folder):
-    below = ["savefile", "bpfvm", "listener", "handover", "replay"]
+    below = ["savefile", "bpfvm", "listener", "handover", "tasks", "replay"]
     return built(folder, "replay", below, {"main.txt": "src/main.rt"}, ["1", "/dev/null"])
 
 

@@ -1,10 +1,7 @@
 //! The program `bpftap`: the BSD packet tap, replayed from capture files.
 #![tactic(auto)]
 
-mod laws;
 mod program;
-mod run_files;
-mod run_hints;
 
 use hints::ErrorStream;
 use lines::telling::tell_words;

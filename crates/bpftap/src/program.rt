@@ -2,7 +2,6 @@
 
 ghost use Rattle.std.specs.Prelude.{◌≤◌};
 
-use crate::run_files::{NamesFiles, run_files};
 use clap::Error;
 use clap::error::ErrorKind;
 use commands::check_files::check_files;
@@ -11,6 +10,7 @@ use commands::explain_files::explain_files;
 use files::late::hold_stream;
 use hints::TakesHints;
 use hints::quotes::hint_unquoted;
+use running_files::run_files::{NamesFiles, run_files};
 use std::alloc::Global;
 use std::convert::AsStr;
 use std::fs::Files;
@@ -35,6 +35,18 @@ pub fn run<
     let _input = hold_stream(rt);
     let _output = hold_stream(rt);
     let _error = hold_stream(rt);
+    run_command(rt, words, out, err)
+}
+
+/// [`run`], once all standard streams are open.
+fn run_command<
+    R: Files + AllocGlobal + NamesFiles + Threads + Wait + Sync,
+    S: AsStr,
+    O: Write,
+    E: TakesHints,
+>(rt: &R, words: &[S], out: &mut O, err: &mut E) -> u8
+    ensures { result ≤ 3 }
+{
     let ended = match read_words(rt.alloc(), words) {
         Ok(Request::Check(words)) => Ok(check_files(rt, &words, out, err)),
         Ok(Request::Explain(words)) => explain_files(rt, &words, out, err),

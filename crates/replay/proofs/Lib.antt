@@ -6,7 +6,6 @@ mod Chained
 mod Fresh
 mod Lists
 mod Played
-mod Refused
 mod Rings
 mod Served
 mod Settles

@@ -1,5 +1,5 @@
 -- Lists that a loop takes from, and lists that it makes of them.
-use Rattle.std.proofs.Common.{◌≡◌, ◌<◌, ◌≤◌, ℕ, zero, suc, List, [], ◌∷◌, ◌++◌, drop, get_or, length, length-append, take, map, refl, ap, sym, ◌∙◌, arith, subst, All}
+use Rattle.std.proofs.Common.{◌≡◌, ◌<◌, ℕ, zero, suc, List, [], ◌∷◌, ◌++◌, drop, get_or, length, length-append, map, refl, ap, sym, ◌∙◌, arith, subst}
 use Rattle.std.proofs.lemmas.List.{append-nil, append_assoc}
 use Rattle.std.specs.List.{AllZip}
 
@@ -94,16 +94,6 @@ completes-next R all made made' x rest rest' y c taken given r =
 pub completed : {X Y : Type 0} (R : X → Y → Type 0) (all : List X) (made : List Y) (rest : List X) → Completes R all made rest → length rest ≡ 0 → AllZip R all made
 completed R all made [] c none = subst (λ ys. AllZip R all ys) (append-nil made) (c [] tt)
 completed R all made (x ∷ rest) c none = absurd (omega (arith, none))
-
--- all items are those before an index that is none of theirs
-take-whole : {X : Type 0} (xs : List X) (i : ℕ) → length xs ≤ i → take i xs ≡ xs
-take-whole [] zero past = refl
-take-whole [] (suc i) past = refl
-take-whole (x ∷ xs) zero past = absurd (omega (arith, past))
-take-whole (x ∷ xs) (suc i) past = ap (λ ys. x ∷ ys) (take-whole xs i (omega (arith, past)))
-
-pub all-taken : {X : Type 0} (P : X → Type 0) (xs : List X) (i : ℕ) → length xs ≤ i → All P (take i xs) → All P xs
-all-taken P xs i past h = subst (λ ys. All P ys) (take-whole xs i past) h
 
 -- two lists related item by item, of which the first items are taken
 pub zip-taken : {X Y : Type 0} (R : X → Y → Type 0) (xs : List X) (x : X) (xs' : List X) (ys : List Y) (y : Y) (ys' : List Y) → AllZip R xs ys → xs ≡ x ∷ xs' → ys ≡ y ∷ ys'

@@ -6,7 +6,6 @@ pub mod Lines
 pub mod PlayedOut
 pub mod Playing
 pub mod Reading
-pub mod Refusals
 pub mod Replayed
 pub mod Reports
 pub mod Rings

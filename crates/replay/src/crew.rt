@@ -5,7 +5,6 @@ ghost use Rattle.rtrb.specs.Ring.{sent, received, IsPair};
 ghost use Rattle.handover.specs.Rule.{profile_of};
 
 use crate::reading::{ReadEnd, ReadsOut};
-use crate::task::Task;
 use crate::writer::{WriteEnd, WritesOut};
 use crate::writing::Output;
 use handover::Drain;
@@ -14,6 +13,7 @@ use rtrb::{Consumer, Producer};
 use savefile::Sink;
 use std::snapshot::Snapshot;
 use std::thread::PromisedHandle;
+use tasks::Task;
 
 /// All that the two threads of a task are given.
 #[derive(Drop)]

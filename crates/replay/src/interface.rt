@@ -6,10 +6,9 @@ ghost use Rattle.replay.specs.Crews.{crew_line, crew_pair, crew_task, stage_line
 ghost use Rattle.replay.specs.Lines.{entry_line, line_of};
 ghost use Rattle.replay.specs.Runs.{IsReadyFor, IsRunningOf};
 ghost use Rattle.replay.specs.Setups.{HasLinks};
-ghost use Rattle.replay.specs.declared.fault.RunFault.TheVariants.{NoStart};
+ghost use Rattle.tasks.specs.declared.fault.RunFault.TheVariants.{NoStart};
 
 use crate::crew::{Crew, Stage};
-use crate::fault::RunFault;
 use crate::gate::Gate;
 use crate::inlet::{Entry, Inlet};
 use crate::laid::Laid;
@@ -25,6 +24,7 @@ use std::alloc::Global;
 use std::snapshot::Snapshot;
 use std::sync::Wait;
 use std::thread::{Scope, Threads};
+use tasks::RunFault;
 
 /// Each feeder beside its link.
 fn join_links<'a>(

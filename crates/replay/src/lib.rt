@@ -1,10 +1,8 @@
 //! Replays captures to listeners in threads: packets arrive at each listener, and what it keeps is written as a savefile.
 #![tactic(auto)]
 
-mod check;
 mod crew;
 mod ending;
-mod fault;
 mod gate;
 mod inlet;
 mod interface;
@@ -16,20 +14,18 @@ mod player;
 mod playing;
 mod reading;
 mod ready;
-mod report;
 mod reporting;
 mod room;
 mod running;
 mod settling;
 mod setup;
-mod task;
 mod threads;
 mod writer;
 mod writing;
 
-pub use check::{MOST_CAPTURES, MOST_INTERFACES, MOST_SPARES, MOST_TASKS};
-pub use fault::RunFault;
 pub use gate::{Gate, Open};
-pub use report::{InterfaceEnd, InterfaceReport, ListenerReport, TaskEnd};
 pub use running::run;
-pub use task::{Interface, Task};
+pub use tasks::{
+    Interface, InterfaceEnd, InterfaceReport, ListenerReport, MOST_CAPTURES, MOST_INTERFACES,
+    MOST_SPARES, MOST_TASKS, RunFault, Task, TaskEnd,
+};

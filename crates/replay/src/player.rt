@@ -14,10 +14,10 @@ ghost use Rattle.replay.specs.Writing.{IsTimely};
 use crate::gate::Gate;
 use crate::inlet::Inlet;
 use crate::link::TaskLink;
-use crate::report::InterfaceEnd;
 use listener::Fed;
 use savefile::{PacketRef, Reader, Source};
 use std::alloc::Global;
+use tasks::InterfaceEnd;
 
 /// The most packets that arrive at an interface.
 const MOST_ARRIVALS: u64 = u64::MAX - 1;

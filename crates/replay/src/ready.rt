@@ -9,11 +9,11 @@ use crate::crew::{Crew, Stage};
 use crate::inlet::{Entry, Inlet};
 use crate::link::TaskLink;
 use crate::playing::{PlayEnd, PlaysOut};
-use crate::report::ListenerReport;
 use crate::room::Room;
 use savefile::{Sink, Source};
 use std::snapshot::Snapshot;
 use std::thread::PromisedHandle;
+use tasks::ListenerReport;
 
 /// An interface that is ready to be replayed.
 #[derive(Drop)]

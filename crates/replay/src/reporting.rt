@@ -13,19 +13,18 @@ ghost use Rattle.replay.specs.Reports.{IsReported};
 ghost use Rattle.replay.specs.Rings.{ring_of};
 ghost use Rattle.replay.specs.RunsEnded.{HasItsPairs, IsReportOf, past_pair};
 ghost use Rattle.replay.specs.Writing.{IsTimely};
-ghost use Rattle.replay.specs.declared.fault.RunFault.TheVariants.{NoStart};
+ghost use Rattle.tasks.specs.declared.fault.RunFault.TheVariants.{NoStart};
 
 use crate::crew::Crew;
 use crate::ending::Ending;
-use crate::fault::RunFault;
 use crate::link::TaskLink;
 use crate::playing::PlayEnd;
 use crate::ready::Running;
-use crate::report::{InterfaceReport, ListenerReport};
 use crate::settling::settled;
 use crate::threads::finish;
 use savefile::{Sink, Source};
 use std::thread::Threads;
+use tasks::{InterfaceReport, ListenerReport, RunFault};
 
 /// Waits for the threads of a task, and settles it.
 fn report_task<W: Sink + Drop, R: Threads>(

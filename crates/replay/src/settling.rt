@@ -19,13 +19,13 @@ use crate::crew::Done;
 use crate::ending::Ending;
 use crate::link::TaskLink;
 use crate::reading::{ReadEnd, Stop};
-use crate::report::{ListenerReport, TaskEnd};
 use crate::writer::WriteEnd;
 use crate::writing::Written;
 use handover::{Past, Settled, settle};
 use listener::{Buffer, Counts};
 use rtrb::{Consumer, Finished, Producer};
 use savefile::Sink;
+use tasks::{ListenerReport, TaskEnd};
 
 /// How many buffers a writer thread left in its rings: of what was read, and of the rest.
 #[derive(Clone, Copy)]

@@ -3,10 +3,9 @@
 ghost use Rattle.std.specs.Prelude.{◌≡◌, IfOk, IfErr, IfSome};
 ghost use Rattle.rtrb.specs.Ring.{SameConsumer};
 ghost use Rattle.replay.specs.Crews.{IsDone, crew_line, crew_pair, stage_line};
-ghost use Rattle.replay.specs.declared.fault.RunFault.TheVariants.{NoStart};
+ghost use Rattle.tasks.specs.declared.fault.RunFault.TheVariants.{NoStart};
 
 use crate::crew::{Crew, Done, Stage};
-use crate::fault::RunFault;
 use crate::gate::Gate;
 use crate::launch::Launch;
 use crate::link::TaskLink;
@@ -16,6 +15,7 @@ use savefile::Sink;
 use std::snapshot::Snapshot;
 use std::sync::Wait;
 use std::thread::{Scope, Threads};
+use tasks::RunFault;
 
 /// Starts the threads of a task.
 pub(crate) fn start<

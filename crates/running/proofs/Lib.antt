@@ -1,9 +1,1 @@
-pub mod Statuses
-pub mod Fielded
-pub mod Outputs
-pub mod Printing
-pub mod Laid
-pub mod Planned
 pub mod Ran
-pub mod FirstBad
-pub mod Flushed

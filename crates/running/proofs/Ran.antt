@@ -5,33 +5,18 @@ use Rattle.std.specs.List.{AllZip}
 use Rattle.std.specs.declared.alloc.Global.{Global}
 use Rattle.std.specs.declared.vec.Vec.{Vec}
 use Rattle.std.proofs.lemmas.List.{take_more}
-use Rattle.std.proofs.lemmas.List.Elements.{All-nil, All-cons, All-take, All-map, All-same}
+use Rattle.std.proofs.lemmas.List.Elements.{All-map, All-same}
 use Rattle.bpfvm.specs.declared.insn.Insn.{Insn}
-use Rattle.lines.specs.Files.{Say}
 use Rattle.replay.specs.Replayed.{IsReplayed, IsServed}
-use Rattle.replay.specs.declared.report.InterfaceReport.{InterfaceReport}
-use Rattle.replay.specs.declared.task.Interface.{Interface}
-use Rattle.running.specs.declared.listeners.RunLine.{RunLine}
-use Rattle.running.specs.Bare.{HaveTheirListeners}
-use Rattle.replay.specs.Refusals.{IsFirst, NoneStands}
-use Rattle.replay.specs.declared.fault.RunFault.{RunFault}
-use Rattle.running.specs.Layout.{places_of, tasks_of, those_at, AreLaidOut}
-use Rattle.running.specs.Listeners.{IsRunLine, AreRunLines}
+use Rattle.tasks.specs.declared.report.InterfaceReport.{InterfaceReport}
+use Rattle.tasks.specs.declared.task.Interface.{Interface}
+use Rattle.run_texts.specs.declared.listeners.RunLine.{RunLine}
+use Rattle.run_texts.specs.Bare.{HaveTheirListeners}
+use Rattle.tasks.specs.Refusals.{IsFirst, NoneStands}
+use Rattle.tasks.specs.declared.fault.RunFault.{RunFault}
+use Rattle.run_texts.specs.Layout.{places_of, tasks_of, those_at, AreLaidOut}
 use Rattle.running.specs.Running.{IsReplayOf, IsNoReplayOf, Makes}
-use Rattle.running.proofs.Laid.{zip-length, length-those}
-
--- ---- the interface of each line is there
-
-said-there : (interfaces : ℕ) (lines : List (List ℕ)) (asked : List RunLine) → Say (IsRunLine interfaces) lines asked → All (λ line. line.interface < interfaces) asked
-said-there interfaces [] [] each = All-nil (λ line. line.interface < interfaces)
-said-there interfaces [] (a ∷ asked) each = absurd each
-said-there interfaces (l ∷ lines) [] each = absurd each
-said-there interfaces (l ∷ lines) (a ∷ asked) each = All-cons (λ line. line.interface < interfaces) a asked each.0.there (said-there interfaces lines asked each.1)
-
-pub lines_there : (interfaces : ℕ) (text : List ℕ) (lines : List RunLine) → AreRunLines interfaces text lines → All (λ line. line.interface < interfaces) lines
-lines_there interfaces text lines are =
-    All-same (λ line. line.interface < interfaces) lines (take 1025 are.0) are.3
-    (All-take (λ line. line.interface < interfaces) 1025 are.0 (said-there interfaces _ are.0 are.1))
+use Rattle.run_texts.proofs.Laid.{zip-length, length-those}
 
 -- ---- a replay of lines
 

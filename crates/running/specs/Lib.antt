@@ -1,10 +1,1 @@
-pub mod Replaying
-pub mod Printed
-pub mod Listeners
-pub mod Laws
-pub mod Layout
-pub mod Bare
-pub mod Faults
-pub mod Flushing
-pub mod Planning
 pub mod Running

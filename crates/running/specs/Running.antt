@@ -9,19 +9,19 @@ use Rattle.bpfvm.specs.declared.insn.Insn.{Insn}
 use Rattle.lines.specs.declared.telling.Ended.{Ended}
 use Rattle.lines.specs.Sending.{Streams, Takes}
 use Rattle.lines.specs.Telling.{told_line}
-use Rattle.replay.specs.Refusals.{IsFirst, NoneStands}
+use Rattle.tasks.specs.Refusals.{IsFirst, NoneStands}
 use Rattle.replay.specs.Replayed.{IsReplayed}
-use Rattle.replay.specs.declared.fault.RunFault.{RunFault}
-use Rattle.replay.specs.declared.fault.RunFault.TheVariants.{NoStart}
-use Rattle.replay.specs.declared.report.InterfaceReport.{InterfaceReport}
-use Rattle.replay.specs.declared.task.Interface.{Interface}
-use Rattle.running.specs.declared.listeners.RunLine.{RunLine}
-use Rattle.running.specs.declared.plan.PlanFault.{PlanFault}
-use Rattle.running.specs.Faults.{plan_fault_text, run_fault_text}
-use Rattle.running.specs.Layout.{places_of, tasks_of, AreLaidOut, AreSinksOf}
-use Rattle.running.specs.Listeners.{AreRunLines}
-use Rattle.running.specs.Planning.{IsCompiled, IsRefusedPlan}
-use Rattle.running.specs.Replaying.{Tells}
+use Rattle.tasks.specs.declared.fault.RunFault.{RunFault}
+use Rattle.tasks.specs.declared.fault.RunFault.TheVariants.{NoStart}
+use Rattle.tasks.specs.declared.report.InterfaceReport.{InterfaceReport}
+use Rattle.tasks.specs.declared.task.Interface.{Interface}
+use Rattle.run_texts.specs.declared.listeners.RunLine.{RunLine}
+use Rattle.run_texts.specs.declared.plan.PlanFault.{PlanFault}
+use Rattle.run_texts.specs.Faults.{plan_fault_text, run_fault_text}
+use Rattle.run_texts.specs.Layout.{places_of, tasks_of, AreLaidOut, AreSinksOf}
+use Rattle.run_texts.specs.Listeners.{AreRunLines}
+use Rattle.run_texts.specs.Planning.{IsCompiled, IsRefusedPlan}
+use Rattle.run_texts.specs.Replaying.{Tells}
 
 -- The captures were replayed to the listeners of the lines, each with its program and its sink.
 pub record IsReplayOf {S W : Type 0} (left : S → Option (List ℕ)) (broken : S → ℕ) (taken : W → Option (List ℕ)) (failures : W → ℕ)

@@ -4,18 +4,18 @@
 ghost use Rattle.std.specs.Prelude.{◌≡◌, ◌<◌, ◌≤◌, List, All, IfErr, IfOk, IfSome, length, vec_capacity, vec_len};
 ghost use Rattle.lines.specs.Sending.{Takes, streams};
 ghost use Rattle.lines.specs.Telling.{told_line};
-ghost use Rattle.running.specs.Bare.{HaveTheirListeners};
-ghost use Rattle.running.specs.Layout.{AreSinksOf, places_of};
-ghost use Rattle.running.specs.Replaying.{Tells};
 ghost use Rattle.running.specs.Running.{IsNoReplayOf, IsReplayOf, Makes, Runs, RunsTo};
+ghost use Rattle.run_texts.specs.Bare.{HaveTheirListeners};
+ghost use Rattle.run_texts.specs.Layout.{AreSinksOf, places_of};
+ghost use Rattle.run_texts.specs.Replaying.{Tells};
 
-use crate::faults::RunFaultText;
-use crate::layout::{interfaces_of, sinks_of};
-use crate::listeners::RunLine;
-use crate::plan::{Plan, read_plan};
-use crate::reports::tell_run_told;
 use lines::telling::{Ended, REFUSED, tell_line};
 use replay::{InterfaceReport, Open, RunFault};
+use run_texts::faults::RunFaultText;
+use run_texts::layout::{interfaces_of, sinks_of};
+use run_texts::listeners::RunLine;
+use run_texts::plan::{Plan, read_plan};
+use run_texts::reports::tell_run_told;
 use savefile::{Sink, Source};
 use std::alloc::{AllocError, Global};
 use std::fmt::Display;
@@ -123,7 +123,7 @@ fn end_run<R: Drop, W: Drop, O: Write, E: Write>(
     (ended, sinks_of(reports, places.as_slice(), sinks))
 }
 
-/// Tells why there is no replay: a [`crate::plan::PlanFault`], or a [`RunFaultText`]. The status is 1.
+/// Tells why there is no replay: a [`run_texts::plan::PlanFault`], or a [`RunFaultText`]. The status is 1.
 pub fn refuse<E: Write, D: Display + Drop>(fault: D, err: &mut E) -> Ended
     ensures tells { IfSome (D.output fault) (λ text. Takes (E.contents err.old) (E.contents err.new) result.told (told_line text)) }
     ensures status { result.status ≡ REFUSED }

@@ -3,7 +3,7 @@
 use crate::run_plan::nothing_done;
 use crate::same::same;
 use replay::{ListenerReport, TaskEnd};
-use running::tally::{Output, Tallied, flush_one};
+use run_texts::tally::{Output, Tallied, flush_one};
 use savefile::Counted;
 use std::io;
 use std::io::{BufWriter, ErrorKind, Write};

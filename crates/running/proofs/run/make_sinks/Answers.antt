@@ -1,6 +1,6 @@
 use Rattle.std.proofs.Common.{[], rules, of_calls}
 use Rattle.listener.specs.declared.mode.Mode.TheVariants.{Buffered}
-use Rattle.running.specs.declared.listeners.RunLine.{RunLine}
+use Rattle.run_texts.specs.declared.listeners.RunLine.{RunLine}
 use Rattle.running.proofs.Ran.{made_more}
 use Rattle.running.proofs.run.make_sinks.Goals as goal
 

@@ -1,0 +1,110 @@
+//! Hints on the faults of `bpftap run`, behind the lines that tell them.
+
+use hints::expressions::{hint_refusal, hint_text_fault};
+use hints::failures::hint_source;
+use hints::files::{LISTENERS_OF_RUN, hint_bad_line, hint_capacity, hint_reason};
+use hints::noted::NotedInput;
+use hints::stream::give_hint;
+use hints::{Noted, TakesHints};
+use lines::LineFault;
+use listener::OpenFault;
+use run_texts::listeners::read_run_lines;
+use run_texts::plan::PlanFault;
+use run_texts::tally::Output;
+use std::alloc::Global;
+use std::io::Write;
+use tasks::{InterfaceEnd, InterfaceReport, ListenerReport, MOST_SPARES, RunFault, TaskEnd};
+
+/// Hints on LISTENERS of `run`, for so many interfaces, that is refused.
+pub fn hint_plan<E: TakesHints>(
+    alloc: Global,
+    listeners: &[u8],
+    interfaces: usize,
+    fault: PlanFault,
+    err: &mut E,
+) {
+    match fault {
+        PlanFault::Line(LineFault::Listeners(line)) => {
+            hint_bad_line(listeners, line, LISTENERS_OF_RUN, err);
+        }
+        PlanFault::Compile(_, refusal) => hint_refusal(refusal, err),
+        PlanFault::Expression(n, fault) => {
+            if let Ok(lines) = read_run_lines(alloc, listeners, interfaces) {
+                if let Some(line) = lines.get(n) {
+                    hint_text_fault(line.expression, fault, err);
+                }
+            }
+        }
+        _ => {}
+    }
+}
+
+/// Hints on a listener of `run` that is not opened.
+pub fn hint_unopened<E: TakesHints>(
+    alloc: Global,
+    listeners: &[u8],
+    interfaces: usize,
+    fault: RunFault,
+    err: &mut E,
+) {
+    let RunFault::Open(interface, listener, OpenFault::BadCapacity) = fault else {
+        return;
+    };
+    let Ok(lines) = read_run_lines(alloc, listeners, interfaces) else {
+        return;
+    };
+    let found = lines
+        .iter()
+        .filter(|line| line.interface == interface as usize)
+        .nth(listener as usize);
+    if let Some(line) = found {
+        if line.spares < 1 || line.spares > MOST_SPARES {
+            give_hint(
+                format_args!("SPARES is 1 to {MOST_SPARES}, and not {}", line.spares),
+                err,
+            );
+        } else {
+            hint_capacity(line.snap, line.capacity, err);
+        }
+    }
+}
+
+/// Hints on a capture that a listener of `run` could not write.
+fn hint_sink<W: Write + Drop, E: TakesHints>(
+    interface: usize,
+    listener: usize,
+    report: &ListenerReport<Output<Noted<W>>>,
+    err: &mut E,
+) {
+    if let (TaskEnd::Write(_), Some(error)) = (
+        report.end,
+        report.sink.inner.get_ref().get_ref().failure(),
+    ) {
+        give_hint(
+            format_args!("interface {interface} listener {listener}:"),
+            err,
+        );
+        hint_reason(&error, err);
+    }
+}
+
+/// Hints on how the interfaces of `run` ended, each of which has these captures.
+pub fn hint_run<R, W: Write + Drop, E: TakesHints>(
+    inputs: &[Vec<&str>],
+    reports: &[InterfaceReport<NotedInput<R>, Output<Noted<W>>>],
+    err: &mut E,
+) {
+    for (interface, (report, paths)) in reports.iter().zip(inputs).enumerate() {
+        if let InterfaceEnd::Capture(n, fault) = report.end {
+            if let (Some(path), Some(source)) = (
+                paths.get(n as usize),
+                report.sources.get(n as usize),
+            ) {
+                hint_source(*path, source, fault, err);
+            }
+        }
+        for (listener, report) in report.listeners.iter().enumerate() {
+            hint_sink(interface, listener, report, err);
+        }
+    }
+}

@@ -1,0 +1,23 @@
+use Rattle.std.proofs.Common.{◌∙◌, subst}
+use Rattle.std.proofs.lemmas.Result.{err_from_is_err_and}
+use Rattle.std.specs.Io.KnownBytes.{Appends}
+use Rattle.lines.specs.Sending.{TakesPart}
+use Rattle.lines.proofs.Taking.{TakesPart-none, TakesPart-numbered, Appends-numbered}
+use Rattle.run_texts.specs.Printed.{listener_line}
+use Rattle.run_texts.proofs.reports.write_listeners.Goals as goal
+
+pub returns-in_err-put_listener : goal.returns-in_err-put_listener
+returns-in_err-put_listener g c =
+    let p = err_from_is_err_and c.from_residual.result c.from_residual.ensures.1 in
+    rw p.1 (TakesPart-numbered (listener_line c.args.i) c.args.reports.now c.loop-l.l c.index-reports-l.result _ _ _ c.loop-l-test.true c.index-reports-l.is c.loop-l.invariant (TakesPart-none _ _))
+
+pub returns-in_err-send : goal.returns-in_err-send
+returns-in_err-send g c =
+    let p = err_from_is_err_and c.from_residual-in_err-send.result c.from_residual-in_err-send.ensures.1 in
+    let text = c.as_bytes.ensures ∙ c.in_ok-put_listener.ensures in
+    rw p.1 (TakesPart-numbered (listener_line c.args.i) c.args.reports.now c.loop-l.l c.index-reports-l.result _ _ _ c.loop-l-test.true c.index-reports-l.is c.loop-l.invariant (subst (TakesPart _ _) text c.in_err-send.ensures))
+
+pub loop-l-preserved : goal.loop-l-preserved
+loop-l-preserved g c =
+    let text = c.as_bytes.ensures ∙ c.in_ok-put_listener.ensures in
+    Appends-numbered (listener_line c.args.i) c.args.reports.now c.loop-l.l c.index-reports-l.result _ _ _ c.loop-l-test.true c.index-reports-l.is c.loop-l.invariant (subst (Appends _ _) text c.in_ok-send.ensures)

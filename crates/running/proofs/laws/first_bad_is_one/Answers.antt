@@ -1,5 +1,0 @@
-use Rattle.running.proofs.FirstBad.{first_bad_one}
-use Rattle.running.proofs.laws.first_bad_is_one.Goals as goal
-
-pub returns : goal.returns
-returns c = first_bad_one

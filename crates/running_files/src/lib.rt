@@ -1,0 +1,4 @@
+//! `bpftap run`, over files.
+#![tactic(auto)]
+
+pub mod run_files;

@@ -1,0 +1,12 @@
+//! What a replay in threads is asked for, whether its numbers are right, and what it answers.
+#![tactic(auto)]
+
+mod check;
+mod fault;
+mod report;
+mod task;
+
+pub use check::{MOST_CAPTURES, MOST_INTERFACES, MOST_SPARES, MOST_TASKS, check_all};
+pub use fault::RunFault;
+pub use report::{InterfaceEnd, InterfaceReport, ListenerReport, TaskEnd};
+pub use task::{Interface, Task};
