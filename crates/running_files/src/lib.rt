@@ -2,4 +2,3 @@
 #![tactic(auto)]
 
 pub mod run_files;
-mod run_hints;

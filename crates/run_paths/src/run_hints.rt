@@ -8,12 +8,12 @@ use hints::stream::give_hint;
 use hints::{Noted, TakesHints};
 use lines::LineFault;
 use listener::OpenFault;
-use replay::{InterfaceEnd, InterfaceReport, ListenerReport, MOST_SPARES, RunFault, TaskEnd};
 use run_texts::listeners::read_run_lines;
 use run_texts::plan::PlanFault;
 use run_texts::tally::Output;
 use std::alloc::Global;
 use std::io::Write;
+use tasks::{InterfaceEnd, InterfaceReport, ListenerReport, MOST_SPARES, RunFault, TaskEnd};
 
 /// Hints on LISTENERS of `run`, for so many interfaces, that is refused.
 pub fn hint_plan<E: TakesHints>(
