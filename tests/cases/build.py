@@ -96,6 +96,11 @@ def what_is_proved_is_kept(scene):
     (source.folder / "crates" / "low" / "proofs" / "Lib.antt").write_text("-- a proof\n")
     source.run("middle")
     scene.check("behind a new proof, what is named alone", source.calls(), ["low", "middle"])
+    source.run()
+    scene.check("and then the rest", sorted(source.calls()), ["bpftap", "other"])
+    shutil.rmtree(source.folder / "out" / "build" / "other.rlib")
+    source.run()
+    scene.check("where a library is gone", source.calls(), ["other", "bpftap"])
     (source.kit / "version").write_text("kit 2\n")
     source.run()
     scene.check("by another toolchain", sorted(source.calls()), ["bpftap", "low", "middle", "other"])
@@ -155,6 +160,10 @@ def the_launcher_runs_the_program(scene):
     (source.folder / "crates" / "middle" / "src" / "lib.rt").write_text("// newer\n")
     source.run(program="bpftap")
     scene.check("built again", source.calls(), ["middle", "bpftap"])
+    program = source.folder / "crates" / "bpftap" / "out" / "bpftap"
+    program.write_text("#!/bin/sh\necho another one\n")
+    os.utime(program, (0, 0))
+    scene.check("another program in its place", (source.run(program="bpftap").out, source.calls()), (f"here: {scene.folder}, words: \n".encode(), []))
 
 
 @case
