@@ -13,7 +13,7 @@ still proved is a failure: then a contract says too little, or the edit is none.
 proof names what it takes away: that tells nothing of the contract.
 
 Each lane has a copy of the crate in a temporary folder, with what `./build` and `./build --check NAME` kept of it and of those below;
-what is not kept is proved there first. The last line is `N passed, M failed`.
+what is not kept is proved first. The last line is `N passed, M failed`.
 """
 import argparse
 import collections
@@ -417,6 +417,14 @@ def chosen(given):
     return waiting
 
 
+def build_below(waiting):
+    """Has what is missing of the libraries below these crates proved, once for all lanes."""
+    lines, below = listed()
+    names = sorted({it for crate in waiting for it in below[crate] if it in lines})
+    if names and subprocess.run([ROOT / "build", *names]).returncode:
+        sys.exit("what stands below is not proved")
+
+
 def show(waiting):
     """Prints the batches, and which edits can't be applied."""
     batches = [it for found in waiting.values() for it in found]
@@ -433,6 +441,7 @@ def main():
     waiting = chosen(given)
     if given.list:
         return show(waiting)
+    build_below(waiting)
     with tempfile.TemporaryDirectory(prefix="edits-", ignore_cleanup_errors=True) as room:
         trial = Trial(waiting, room, given.logs)
         lanes = [threading.Thread(target=trial.lane) for _ in range(max(1, given.jobs))]

@@ -3,11 +3,13 @@
 
   tests/loaded.py [ROUNDS]    20 rounds of each test of listener_tests, replay_tests and thread_tests
 
-`./test` builds them. The last line is `N passed, M failed`.
+They are proved and built first, over what `./build` keeps. The last line is `N passed, M failed`.
 """
+import argparse
 import concurrent.futures
 import os
 import pathlib
+import signal
 import subprocess
 import sys
 
@@ -25,14 +27,18 @@ def passes(words):
 
 
 def main():
-    rounds = int(sys.argv[1]) if len(sys.argv) > 1 else 20
-    tests = []
+    parser = argparse.ArgumentParser(description=__doc__, formatter_class=argparse.RawDescriptionHelpFormatter)
+    parser.add_argument("rounds", nargs="?", type=int, default=20)
+    rounds, tests = parser.parse_args().rounds, []
     for name in CRATES:
-        program = ROOT / "crates" / name / "out" / f"{name}_tests"
+        subprocess.run([ROOT / "build", "--test", name], stdout=subprocess.DEVNULL, check=True)
+        program = ROOT / "out" / "build" / f"{name}_tests"
         listed = subprocess.run([program, "--list"], stdout=subprocess.PIPE, text=True, check=True).stdout.split("\n")
         tests += [(str(program), line.split(": ")[0]) for line in listed if line]
     # Tests and busy loops alike: a test that yields to all loops would take a hundred times as long, and show no more.
     os.nice(10)
+    # The busy loops end with this script, also where a signal ends it.
+    signal.signal(signal.SIGTERM, lambda *_: sys.exit(1))
     busy = [subprocess.Popen([sys.executable, "-c", "while True: pass"]) for _ in range(os.cpu_count())]
     try:
         with concurrent.futures.ThreadPoolExecutor(os.cpu_count()) as threads:

@@ -1,5 +1,6 @@
 """`./build` and the launcher: what is proved in which order, what is kept, and what is told. A stand-in takes the toolchain's place."""
 import os
+import pathlib
 import shutil
 import signal
 import subprocess
@@ -17,8 +18,12 @@ case $1 in version) cat "$KIT/version" ;; doc) echo "$KIT/START-HERE.md" ;; esac
 RATTLE = """#!/bin/sh
 for last; do :; done
 echo "$1 $3" >>"$KIT/calls"
-[ -e "$KIT/fails" ] && [ "$(cat "$KIT/fails")" = "$3" ] && { echo 'src/lib.rt:1:1: error: not proved: too little'; exit 1; }
-[ -e "$KIT/waits" ] && [ "$(cat "$KIT/waits")" = "$3" ] && exec sleep 60
+does() { [ -e "$KIT/$1" ] && [ "$(cat "$KIT/$1")" = "$2" ]; }
+does fails "$3" && { echo 'src/lib.rt:1:1: error: not proved: too little'; exit 1; }
+does dies "$3" && { rm "$KIT/dies"; kill -9 $$; }
+does takes "$3" && sleep 1
+does waits "$3" && { sleep 60 & echo $! >"$KIT/waiting"; wait; }
+does edited "$3" && echo '// edited' >>src/lib.rt
 [ "$1" = check ] && { echo "checked with $*"; exit 0; }
 case $last in *.rlib) mkdir "$last" ;; *) echo made >"$last" ;; esac
 """
@@ -77,7 +82,7 @@ def crates_are_proved_once_and_the_lowest_first(scene):
     scene.check("first and last", (calls[0], calls[-1]), ("low", "bpftap"))
     lines = seen.err.decode().splitlines()
     scene.check("printed, and the status", (seen.out, seen.status), (b"", 0))
-    scene.check("told first", lines[0].startswith("bpftap: building: 4 crates are proved, "), True)
+    scene.check("told first", (lines[0].startswith("bpftap: building: 4 crates are to be proved, "), "16 minutes" in lines[0]), (True, True))
     scene.check("told last", lines[-1], "bpftap: building: bpftap is proved, 4 of 4 crates (0 min so far)")
     scene.check("lines", len(lines), 5)
 
@@ -112,7 +117,7 @@ def a_crate_that_is_not_proved_is_told(scene):
     source = Source(scene)
     (source.kit / "fails").write_text("middle")
     told = b"bpftap: building: src/lib.rt:1:1: error: not proved: too little\n"
-    place = b"bpftap: the build failed at middle; out/build/middle.log has all that the toolchain said\n"
+    place = b"bpftap: building: the build failed at middle: it is not proved; out/build/middle.log has all that was said\n"
     seen = source.run()
     scene.check("told", (told + place in seen.err, seen.status), (True, 1))
     scene.check("calls", "bpftap" in source.calls(), False)
@@ -125,27 +130,94 @@ def a_crate_that_is_not_proved_is_told(scene):
 
 
 @case
+def what_runs_beside_a_failure_is_kept(scene):
+    """Behind a crate that is not proved none is begun, and one that runs beside it is proved to its end and kept."""
+    source = Source(scene)
+    source.run("low")
+    source.calls()
+    (source.kit / "fails").write_text("middle")
+    (source.kit / "takes").write_text("other")
+    seen = source.run()
+    scene.check("calls, and the status", (sorted(source.calls()), seen.status), (["middle", "other"], 1))
+    (source.kit / "fails").unlink()
+    source.run()
+    scene.check("what was left", source.calls(), ["middle", "bpftap"])
+
+
+@case
+def a_killed_check_is_tried_again(scene):
+    """Where a check is killed, as for want of memory, that is told, and the crate is proved once more with nothing beside it."""
+    source = Source(scene)
+    (source.kit / "dies").write_text("other")
+    seen = source.run()
+    scene.check("told, and the status", (b"the check of other was killed, most likely for want of memory" in seen.err, seen.status), (True, 0))
+    scene.check("calls", sorted(source.calls()), ["bpftap", "low", "middle", "other", "other"])
+
+
+@case
+def an_edit_meanwhile_is_not_kept(scene):
+    """A crate whose source changes while it is proved is told and not kept: the next call proves it."""
+    source = Source(scene)
+    (source.kit / "edited").write_text("middle")
+    seen = source.run()
+    scene.check("told, and the status", (b"middle was edited meanwhile" in seen.err, seen.status), (True, 1))
+    (source.kit / "edited").unlink()
+    source.calls()
+    source.run()
+    scene.check("the next call", ("middle" in (calls := source.calls()), calls[-1]), (True, "bpftap"))
+
+
+def ends(process):
+    """Whether a process is gone, or goes before long."""
+    for _ in range(100):
+        if not pathlib.Path("/proc", process).exists():
+            return True
+        time.sleep(0.05)
+    return False
+
+
+def interrupted(scene, number, program):
+    """A source whose build was broken off by a signal at its last crate, and what was told of it. No check is left running."""
+    source = Source(scene)
+    (source.kit / "waits").write_text("bpftap")
+    process = subprocess.Popen(
+        [source.folder / program], env=source.environment(), stdin=subprocess.DEVNULL, stderr=subprocess.PIPE, start_new_session=True)
+    waiting = source.kit / "waiting"
+    for _ in range(1000):
+        if waiting.exists() and waiting.read_text().endswith("\n"):
+            break
+        time.sleep(0.02)
+    os.killpg(process.pid, number)
+    told = process.communicate(timeout=LIMIT)[1].splitlines()
+    scene.check(f"status of {program} behind {number.name}", process.returncode, 128 + number)
+    scene.check(f"told behind {number.name}", told[-1].startswith(b"bpftap: building: interrupted; what is proved is kept"), True)
+    scene.check(f"ended behind {number.name}", ends(waiting.read_text().strip()), True)
+    (source.kit / "waits").unlink()
+    return source
+
+
+@case
 def an_interrupted_build_goes_on(scene):
-    """Behind a signal no check is left running, the way on is told, and the next call begins with what was not proved."""
-    for number, status in [(signal.SIGINT, 130), (signal.SIGTERM, 143)]:
-        source = Source(scene)
-        (source.kit / "waits").write_text("bpftap")
-        process = subprocess.Popen(
-            [source.folder / "build"], env=source.environment(), stdin=subprocess.DEVNULL, stderr=subprocess.PIPE)
-        deadline = time.monotonic() + LIMIT
-        while "bpftap" not in (source.kit / "calls").read_text() if (source.kit / "calls").exists() else True:
-            if time.monotonic() > deadline:
-                break
-            time.sleep(0.02)
-        process.send_signal(number)
-        told = process.communicate(timeout=LIMIT)[1]
-        scene.check(f"told behind {number.name}", told.splitlines()[-1].startswith(b"bpftap: building: interrupted; what is proved is kept"), True)
-        scene.check(f"status behind {number.name}", process.returncode, status)
+    """Behind a signal the way on is told, and the next call begins with what was not proved."""
+    for number, program in [(signal.SIGINT, "build"), (signal.SIGTERM, "build"), (signal.SIGHUP, "build")]:
+        source = interrupted(scene, number, program)
         source.calls()
-        (source.kit / "waits").unlink()
         scene.check(f"the next call behind {number.name}", (source.run().status, source.calls()), (0, ["bpftap"]))
         shutil.rmtree(source.folder)
         shutil.rmtree(source.kit)
+
+
+@case
+def two_builds_wait_for_each_other(scene):
+    """A second build begins when the first one has ended, and then finds all kept."""
+    source = Source(scene)
+    (source.kit / "takes").write_text("low")
+    first = subprocess.Popen([source.folder / "build"], env=source.environment(), stdin=subprocess.DEVNULL, stderr=subprocess.DEVNULL)
+    while not (source.kit / "calls").exists():
+        time.sleep(0.02)
+    seen = source.run()
+    scene.check("told", seen, Seen(b"", b"bpftap: building: waiting for another build in this folder\n", 0))
+    scene.check("the first one", (first.wait(timeout=LIMIT), len(source.calls())), (0, 4))
 
 
 @case
@@ -171,7 +243,7 @@ def one_crate_is_checked(scene):
     """`--check` builds what stands below a crate, and checks it with the flags that are given."""
     source = Source(scene)
     seen = source.run("--check", "middle", "--only", "middle::f")
-    scene.check("printed, and the status", (seen.out.endswith(b"--progress --only middle::f\n"), seen.status), (True, 0))
+    scene.check("printed, and the status", (b"--progress --only middle::f --jobs" in seen.out, seen.status), (True, 0))
     scene.check("calls", source.calls(), ["low", "check middle"])
 
 
@@ -191,7 +263,8 @@ def wrong_words_are_refused(scene):
     """A crate that there is not, an option that there is not, and a PATH with no toolchain."""
     source = Source(scene)
     scene.check("no such crate", source.run("none"), Seen(b"", b"bpftap: crates.txt has no crate none\n", 1))
-    scene.check("no such option", source.run("-x").status, 2)
+    seen = source.run("-x")
+    scene.check("no such option", (seen.out, b"./build NAME.." in seen.err, seen.status), (b"", True, 2))
     seen = source.run("--help")
     scene.check("help", (b"./build NAME.." in seen.out, seen.err, seen.status), (True, b"", 0))
     seen = source.run(env={"PATH": "/usr/bin:/bin"})

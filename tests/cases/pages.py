@@ -114,6 +114,15 @@ def public_items_stand_on_their_pages(scene):
 
 
 @case
+def contributors_are_told_each_group(scene):
+    """CONTRIBUTING names each group of cases and each crate of tests."""
+    told = set(re.findall(r"`(\w+)`", (ROOT / "CONTRIBUTING.md").read_text()))
+    groups = {page.stem for page in (ROOT / "tests" / "cases").glob("*.py")} - {"__init__", "common"}
+    tests = {page.name for page in ROOT.glob("crates/*_tests")}
+    scene.check("groups and crates that it has not", sorted((groups | tests) - told), [])
+
+
+@case
 def code_of_pages_stands_in_the_sources(scene):
     """Each item of the code on a library's page, its `use` lines aside, stands in a source to the letter, where it is proved."""
     sources = [path.read_text() for path in ROOT.glob("crates/*/src/**/*.rt")]

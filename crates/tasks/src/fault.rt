@@ -17,7 +17,7 @@ pub enum RunFault {
     /// ([`OpenFault::BadCapacity`] too) is out of range.
     #[error("Open {0} {1} {2}")]
     Open(u32, u32, OpenFault),
-    /// Memory or a thread was refused. The threads that ran already have gone on to their end.
+    /// Memory or a thread was refused. The threads that were started already have ended; they read and wrote nothing.
     #[error("NoStart")]
     NoStart,
 }
