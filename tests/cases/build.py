@@ -82,7 +82,7 @@ def crates_are_proved_once_and_the_lowest_first(scene):
     scene.check("first and last", (calls[0], calls[-1]), ("low", "bpftap"))
     lines = seen.err.decode().splitlines()
     scene.check("printed, and the status", (seen.out, seen.status), (b"", 0))
-    scene.check("told first", (lines[0].startswith("bpftap: building: 4 crates are to be proved, "), "16 minutes" in lines[0]), (True, True))
+    scene.check("told first", (lines[0].startswith("bpftap: building: 4 crates are to be proved, "), "17 minutes" in lines[0]), (True, True))
     scene.check("told last", lines[-1], "bpftap: building: bpftap is proved, 4 of 4 crates (0 min so far)")
     scene.check("lines", len(lines), 5)
 
@@ -131,17 +131,18 @@ def a_crate_that_is_not_proved_is_told(scene):
 
 @case
 def what_runs_beside_a_failure_is_kept(scene):
-    """Behind a crate that is not proved none is begun, and one that runs beside it is proved to its end and kept."""
-    source = Source(scene)
+    """Behind a crate that is not proved none is begun, and one that runs beside it is proved to its end and kept. On one processor
+    none runs beside it."""
+    source, beside = Source(scene), ["other"] if len(os.sched_getaffinity(0)) > 1 else []
     source.run("low")
     source.calls()
     (source.kit / "fails").write_text("middle")
     (source.kit / "takes").write_text("other")
     seen = source.run()
-    scene.check("calls, and the status", (sorted(source.calls()), seen.status), (["middle", "other"], 1))
+    scene.check("calls, and the status", (sorted(source.calls()), seen.status), (["middle", *beside], 1))
     (source.kit / "fails").unlink()
     source.run()
-    scene.check("what was left", source.calls(), ["middle", "bpftap"])
+    scene.check("what was left", sorted(source.calls()), sorted({"bpftap", "middle", "other"} - {*beside}))
 
 
 @case
