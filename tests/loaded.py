@@ -1,7 +1,8 @@
 #!/usr/bin/env python3
 """Runs the tests of threads again and again under load: beside a busy loop on each processor, all of it under `nice`.
 
-  tests/loaded.py [ROUNDS]    20 rounds of each test of listener_tests, replay_tests and thread_tests
+  tests/loaded.py [ROUNDS]          20 rounds of each test of listener_tests, replay_tests and thread_tests
+  tests/loaded.py --built [ROUNDS]  the same of those that `./test` has built
 
 They are proved and built first, over what `./build` keeps. The last line is `N passed, M failed`.
 """
@@ -18,6 +19,14 @@ CRATES = ["listener_tests", "replay_tests", "thread_tests"]
 LIMIT = 120
 
 
+def program_of(name, is_built):
+    """The tests of a crate, built."""
+    if is_built:
+        return ROOT / "crates" / name / "out" / f"{name}_tests"
+    subprocess.run([ROOT / "build", "--test", name], stdout=subprocess.DEVNULL, check=True)
+    return ROOT / "out" / "build" / f"{name}_tests"
+
+
 def passes(words):
     """Whether one test ended well, and in time."""
     try:
@@ -28,11 +37,10 @@ def passes(words):
 
 def main():
     parser = argparse.ArgumentParser(description=__doc__, formatter_class=argparse.RawDescriptionHelpFormatter)
+    parser.add_argument("--built", action="store_true")
     parser.add_argument("rounds", nargs="?", type=int, default=20)
-    rounds, tests = parser.parse_args().rounds, []
-    for name in CRATES:
-        subprocess.run([ROOT / "build", "--test", name], stdout=subprocess.DEVNULL, check=True)
-        program = ROOT / "out" / "build" / f"{name}_tests"
+    given, tests = parser.parse_args(), []
+    for program in [program_of(name, given.built) for name in CRATES]:
         listed = subprocess.run([program, "--list"], stdout=subprocess.PIPE, text=True, check=True).stdout.split("\n")
         tests += [(str(program), line.split(": ")[0]) for line in listed if line]
     # Tests and busy loops alike: a test that yields to all loops would take a hundred times as long, and show no more.
@@ -42,11 +50,11 @@ def main():
     busy = [subprocess.Popen([sys.executable, "-c", "while True: pass"]) for _ in range(os.cpu_count())]
     try:
         with concurrent.futures.ThreadPoolExecutor(os.cpu_count()) as threads:
-            ended = list(threads.map(passes, tests * rounds))
+            ended = list(threads.map(passes, tests * given.rounds))
     finally:
         for process in busy:
             process.kill()
-    for test in sorted({test for test, is_passed in zip(tests * rounds, ended) if not is_passed}):
+    for test in sorted({test for test, is_passed in zip(tests * given.rounds, ended) if not is_passed}):
         print("failed:", *test[1:])
     print(f"{sum(ended)} passed, {len(ended) - sum(ended)} failed")
     return not all(ended)

@@ -7,7 +7,6 @@ use Rattle.filterlang.specs.declared.token.Kind.TheVariants as kind
 use Rattle.syntax.specs.declared.tree.Comparison.{Comparison}
 use Rattle.syntax.specs.declared.tree.Operator.{Operator}
 use Rattle.syntax.specs.declared.tree.Operator.TheVariants.{Minus}
-use Rattle.filterlang.specs.declared.token.Protocol.{Protocol}
 use Rattle.syntax.specs.declared.tree.Size.{Size}
 use Rattle.syntax.specs.Trees.{Amount, number, wire_length, relation, binary, accessor}
 use Rattle.filterlang.specs.Operators.{precedence_of, loosest, is_barred}

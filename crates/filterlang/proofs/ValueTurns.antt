@@ -3,7 +3,6 @@ use Rattle.std.proofs.Common.{◌≡◌, ℕ, zero, suc, List, ◌∷◌, length
 use Rattle.filterlang.specs.declared.token.Kind.{Kind}
 use Rattle.filterlang.specs.declared.token.Kind.TheVariants as kind
 use Rattle.syntax.specs.declared.tree.Operator.TheVariants.{Minus}
-use Rattle.filterlang.specs.declared.token.Protocol.{Protocol}
 use Rattle.syntax.specs.declared.tree.Layer.{Layer}
 use Rattle.filterlang.specs.declared.lookahead.Opening.TheVariants as openings
 use Rattle.syntax.specs.Trees.{Amount}

@@ -8,7 +8,7 @@ use Rattle.filtergen.specs.Meaning.{HasBytes, packet_of, accepts}
 use Rattle.listener.specs.declared.message.Message.{Message}
 use Rattle.filtergen.specs.Compiling.{StandsFor}
 use Rattle.listener.specs.Messages.{Arrival, cut_to, kept_by}
-use Rattle.listener.specs.PlainList.{Request, answers}
+use Rattle.listener.specs.PlainList.{Request}
 use Rattle.listener.specs.Laws.{AnswersAreLegal, RunsAreKept, KeptFits}
 use Rattle.playback.specs.declared.playlist.Placed.{Placed}
 use Rattle.playback.specs.declared.report.Report.{Report}

@@ -1,4 +1,4 @@
-use Rattle.std.proofs.Common.{Some, None, option_map, ap, sym, ◌∙◌}
+use Rattle.std.proofs.Common.{Some, option_map, ap, sym, ◌∙◌}
 use Rattle.listener.specs.Messages.{arrival, size_of}
 use Rattle.listener.proofs.ArriveSteps.{size_cut}
 use Rattle.listener.proofs.listener.Listener.record_size.Goals as goal
