@@ -6,4 +6,6 @@ mod listeners;
 #[cfg(test)]
 mod pairs;
 #[cfg(test)]
+mod same;
+#[cfg(test)]
 mod shown;

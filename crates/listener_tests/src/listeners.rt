@@ -3,6 +3,7 @@
 mod caller;
 mod plain;
 
+use crate::same::same;
 use crate::shown::{BYTES, keeping, put_places, put_state, told};
 use listener::{Buffer, Fed, Listener, Mode, OpenFault, Read, Record, kept_of};
 use savefile::PacketRef;
@@ -81,7 +82,7 @@ fn played(
 ) -> Result<(), Fail> {
     let mut listener = Listener::open_as(rt.alloc(), keeping(262_144)?, 32, capacity, mode)?;
     let told = play(rt.alloc(), &mut listener, script)?;
-    assert_eq!(rt; told.as_str(), want);
+    same(rt, told.as_str(), want);
     Ok(())
 }
 
@@ -168,13 +169,13 @@ fn put_three(rt: &impl Abort, buffer: &mut Buffer, place: u64, kept: u32) -> boo
 /// A buffer has these bytes and so many records.
 fn has(rt: &impl Abort, buffer: &Buffer, bytes: &[u8], len: usize) {
     assert!(rt; buffer.bytes() == bytes);
-    assert_eq!(rt; buffer.len(), len);
+    same(rt, buffer.len(), len);
 }
 
 /// A record of three bytes finds its room in an empty buffer of 40 bytes.
 fn is_filled(rt: &impl Abort, buffer: &mut Buffer) {
     assert!(rt; buffer.is_empty());
-    assert_eq!(rt; buffer.capacity(), 40);
+    same(rt, buffer.capacity(), 40);
     assert!(rt; buffer.fits(3));
     assert!(rt; put_three(rt, buffer, 1, 3));
     has(rt, buffer, &RECORD, 1);
@@ -225,8 +226,8 @@ fn each_shows(
     buffer: &Buffer,
     bytes: &[u8],
 ) -> Result<(), AllocError> {
-    assert_eq!(rt; buffer.bytes().len(), 64);
-    assert_eq!(rt; buffer.len(), 1);
+    same(rt, buffer.bytes().len(), 64);
+    same(rt, buffer.len(), 1);
     for record in buffer.records() {
         shows(rt, record, bytes);
         let message = record.to_message(rt.alloc())?;
@@ -254,7 +255,11 @@ fn takes(
 ) -> Result<(), Fail> {
     let mut buffer = Buffer::new(rt.alloc(), capacity)?;
     put(rt, &mut buffer, 0, 0, packet, kept);
-    assert_eq!(rt; buffer.bytes().len(), want, "at {kept} in {capacity}");
+    same(
+        rt,
+        (kept, capacity, buffer.bytes().len()),
+        (kept, capacity, want),
+    );
     Ok(())
 }
 
@@ -330,7 +335,7 @@ fn opens(
 ) -> Result<(), Fail> {
     for mode in [None, Some(Mode::Immediate)] {
         let got = opened(rt.alloc(), snap, capacity, mode)?;
-        assert_eq!(rt; got.as_str(), want, "at {snap} {capacity}");
+        same(rt, (snap, capacity, got.as_str()), (snap, capacity, want));
     }
     Ok(())
 }
@@ -339,7 +344,7 @@ fn opens(
 fn capacities_and_snapshot_lengths_have_their_ranges(rt: HostRuntime) -> Result<(), Fail> {
     for (capacity, want) in BUFFERS {
         let got = told(rt.alloc(), Buffer::new(rt.alloc(), capacity).err())?;
-        assert_eq!(rt; got.as_str(), want, "at {capacity}");
+        same(&rt, (capacity, got.as_str()), (capacity, want));
     }
     for (snap, capacity, want) in LISTENERS {
         opens(&rt, snap, capacity, want)?;
@@ -349,7 +354,7 @@ fn capacities_and_snapshot_lengths_have_their_ranges(rt: HostRuntime) -> Result<
 
 /// A filter that keeps `most` keeps so many of these bytes, at snapshot length 32.
 fn keeps(rt: &impl Abort, most: u32, bytes: &[u8], want: Option<u32>) -> Result<(), Fail> {
-    assert_eq!(rt; kept_of(&keeping(most)?, &32, &packet(bytes)), want);
+    same(rt, kept_of(&keeping(most)?, &32, &packet(bytes)), want);
     Ok(())
 }
 
@@ -390,7 +395,7 @@ fn only_opening_takes_memory(rt: HostRuntime) -> Result<(), Fail> {
     listener.read(empty);
     listener.flush();
     listener.close();
-    assert_eq!(rt; listener.counts().dropped, 2);
+    same(&rt, listener.counts().dropped, 2);
     Ok(())
 }
 

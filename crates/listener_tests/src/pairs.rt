@@ -2,6 +2,7 @@
 
 ghost use Rattle.std.specs.Prelude.{◌≡◌, IfOk};
 
+use crate::same::same;
 use crate::shown::{BYTES, keeping, put_places, put_state, told};
 use handover::{Drain, DrainEnd, FeedEnd, Feeder, Link, Read, Settled, pair, pair_as, settle};
 use listener::{Buffer, Fed, Mode};
@@ -175,7 +176,7 @@ fn ended(
     let mut out = String::new(rt.alloc());
     let (settled, rest) = left_of_ended(rt.alloc(), mode, script, reads, &mut out)?;
     put_state(&settled.hold, &rest, settled.counts, &mut out)?;
-    assert_eq!(rt; out.as_str(), want);
+    same(rt, out.as_str(), want);
     Ok(())
 }
 
@@ -225,7 +226,7 @@ fn closed(
     let mut out = String::new(rt.alloc());
     let (settled, rest) = left_of_closed(rt.alloc(), most, script, behind, &mut out)?;
     put_state(&settled.hold, &rest, settled.counts, &mut out)?;
-    assert_eq!(rt; out.as_str(), want);
+    same(rt, out.as_str(), want);
     Ok(())
 }
 
@@ -320,7 +321,7 @@ fn is_made(
 ) -> Result<(), Fail> {
     let made = pair_as(rt.alloc(), keeping(1)?, snap, capacity, mode);
     let got = told(rt.alloc(), made.err())?;
-    assert_eq!(rt; got.as_str(), want, "at {snap} {capacity}");
+    same(rt, (snap, capacity, got.as_str()), (snap, capacity, want));
     Ok(())
 }
 
@@ -335,7 +336,7 @@ fn is_made_buffered(
         rt.alloc(),
         pair(rt.alloc(), keeping(1)?, snap, capacity).err(),
     )?;
-    assert_eq!(rt; got.as_str(), want, "at {snap} {capacity}");
+    same(rt, (snap, capacity, got.as_str()), (snap, capacity, want));
     Ok(())
 }
 
@@ -370,15 +371,15 @@ fn only_the_pair_takes_memory(rt: HostRuntime) -> Result<(), Fail> {
     let Ok(empty) = Buffer::new(rt.alloc(), drain.capacity()) else {
         panic!(rt; "NoMemory")
     };
-    assert_eq!(rt; arrive(&link, &mut feeder, 0), Some(Fed::Stored));
-    assert_eq!(rt; arrive(&link, &mut feeder, 1), Some(Fed::Rotated));
-    assert_eq!(rt; arrive(&link, &mut feeder, 2), Some(Fed::Dropped));
+    same(&rt, arrive(&link, &mut feeder, 0), Some(Fed::Stored));
+    same(&rt, arrive(&link, &mut feeder, 1), Some(Fed::Rotated));
+    same(&rt, arrive(&link, &mut feeder, 2), Some(Fed::Dropped));
     drain.read(&link, empty);
     assert!(rt; feeder.flush(&link));
     let drain = drain.close(&link);
     let (feeder, _rest) = feeder.end(&link);
     let settled = settle(link, feeder, drain);
-    assert_eq!(rt; settled.counts.dropped, 1);
+    same(&rt, settled.counts.dropped, 1);
     Ok(())
 }
 

@@ -3,3 +3,5 @@
 
 #[cfg(test)]
 mod replays;
+#[cfg(test)]
+mod same;

@@ -9,6 +9,7 @@ mod rings;
 mod small;
 mod steps;
 
+use crate::same::same;
 use bpfvm::{Insn, Program};
 use listener::Mode;
 use replay::{Interface, InterfaceEnd, InterfaceReport, ListenerReport, Open, Task, TaskEnd, run};
@@ -203,7 +204,7 @@ fn replay_one(
 ) -> Result<InterfaceReport<Source, Sink>, Fail> {
     let interfaces = vec![in rt.alloc(); interface]?;
     let mut reports = run(rt, rt.alloc(), interfaces, &Open)?;
-    assert_eq!(rt; reports.len(), 1);
+    same(rt, reports.len(), 1);
     Ok(reports.pop().expect(rt, "a report"))
 }
 
@@ -215,6 +216,6 @@ fn serves(
     bytes: &[u8],
 ) {
     let got = told(rt.alloc(), report).expect(rt, "memory");
-    assert_eq!(rt; got.as_str(), want);
-    assert_eq!(rt; report.sink.inner.bytes.as_slice(), bytes);
+    same(rt, got.as_str(), want);
+    same(rt, report.sink.inner.bytes.as_slice(), bytes);
 }

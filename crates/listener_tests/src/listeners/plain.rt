@@ -3,6 +3,7 @@
 ghost use Rattle.std.specs.Prelude.{◌<◌};
 
 use super::packet;
+use crate::same::same;
 use bpfvm::{Insn, Program};
 use listener::{Buffer, Fed, Listener, Mode, Read};
 use std::alloc::{AllocError, Global};
@@ -186,7 +187,7 @@ fn bytes_arrive(
 ) -> Result<(), AllocError> {
     assert!(rt; listener.counts().received < u64::MAX);
     let fed = listener.arrive(0, place, &packet(bytes));
-    assert_eq!(rt; fed, slow.arrive(kept)?);
+    same(rt, fed, slow.arrive(kept)?);
     Ok(())
 }
 
@@ -244,9 +245,9 @@ fn pending_of(alloc: Global, listener: &Listener) -> Result<(Vec<Kept>, usize), 
 /// Both have the same counts.
 fn compare_counts(rt: &impl Abort, listener: &Listener, slow: &Slow) {
     let counts = listener.counts();
-    assert_eq!(rt; counts.received, slow.received);
-    assert_eq!(rt; counts.matched, slow.matched);
-    assert_eq!(rt; counts.dropped, slow.dropped);
+    same(rt, counts.received, slow.received);
+    same(rt, counts.matched, slow.matched);
+    same(rt, counts.dropped, slow.dropped);
 }
 
 /// Both have the same state.
@@ -257,7 +258,7 @@ fn compare(
 ) -> Result<(), AllocError> {
     compare_counts(rt, listener, slow);
     let (pending, held) = pending_of(rt.alloc(), listener)?;
-    assert_eq!(rt; held, slow.held);
+    same(rt, held, slow.held);
     assert!(rt; pending.as_slice() == slow.pending.as_slice());
     Ok(())
 }
@@ -273,7 +274,7 @@ fn step_at_both(
 ) -> Result<(), Fail> {
     match random.below(40) {
         0..30 => arrive_at_both(rt, listener, slow, random, place, snap)?,
-        30..33 => assert_eq!(rt; listener.flush(), slow.flush()),
+        30..33 => same(rt, listener.flush(), slow.flush()),
         33..39 => read_at_both(rt, listener, slow)?,
         _ => {
             listener.close();

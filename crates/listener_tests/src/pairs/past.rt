@@ -1,5 +1,6 @@
 //! What is left of a pair that was settled.
 
+use crate::same::same;
 use crate::shown::keeping;
 use handover::{pair, settle};
 use std::process::Abort;
@@ -13,6 +14,6 @@ fn a_past_prints_its_name_alone(rt: HostRuntime) -> Result<(), Fail> {
     let drain_end = drain.close(&link);
     let left = settle(link, feed_end, drain_end);
     let printed = format!(in alloc; "{:?}", left.past)?;
-    assert_eq!(rt; printed.as_str(), "Past");
+    same(&rt, printed.as_str(), "Past");
     Ok(())
 }

@@ -4,6 +4,7 @@ ghost use Rattle.std.specs.Prelude.{◌≡◌, []};
 ghost use Rattle.listener.specs.Buffers.{filled};
 
 use super::packet;
+use crate::same::same;
 use crate::shown::keeping;
 use handover::{Drain, DrainEnd, FeedEnd, Feeder, Link, Read, Settled, pair_as, settle};
 use listener::{Buffer, Counts, Fed, Mode, OpenFault};
@@ -228,9 +229,9 @@ fn play(
 fn are_counted(rt: &impl Abort, fates: &Fates, counts: Counts, plan: Plan) {
     assert!(rt; !fates.opened);
     assert!(rt; fates.closed >= plan.late);
-    assert_eq!(rt; counts.received, plan.packets.wrapping_sub(fates.closed));
-    assert_eq!(rt; counts.matched, counts.received);
-    assert_eq!(rt; counts.dropped, fates.dropped);
+    same(rt, counts.received, plan.packets.wrapping_sub(fates.closed));
+    same(rt, counts.matched, counts.received);
+    same(rt, counts.dropped, fates.dropped);
 }
 
 /// Plays a plan, and tests that the packets that were stored are those that were read and those that are left, in order.

@@ -71,9 +71,13 @@ fn three_at_once(
 
 /// One batch of three packets was told, and nothing of it was written before; in the end all is.
 fn told_at_once<R>(rt: &impl Abort, gate: &Batches<'_, R>) {
-    assert_eq!(rt; (gate.told.load(SeqCst), gate.packets.load(SeqCst)), (1, 3));
-    assert_eq!(rt; gate.late.load(SeqCst), 0);
-    assert_eq!(rt; gate.bytes.load(SeqCst), 24 + 3 * (16 + 38));
+    same(
+        rt,
+        (gate.told.load(SeqCst), gate.packets.load(SeqCst)),
+        (1, 3),
+    );
+    same(rt, gate.late.load(SeqCst), 0);
+    same(rt, gate.bytes.load(SeqCst), 24 + 3 * (16 + 38));
 }
 
 #[test]
@@ -89,7 +93,7 @@ fn a_batch_is_told_with_its_packets_before_it_is_handed_on(rt: HostRuntime) -> R
     };
     let interfaces = vec![in alloc; three_at_once(alloc, &bytes)?]?;
     let reports = run(&rt, alloc, interfaces, &gate)?;
-    assert_eq!(rt; reports.len(), 1);
+    same(&rt, reports.len(), 1);
     told_at_once(&rt, &gate);
     Ok(())
 }

@@ -31,7 +31,7 @@ fn ends(
     end: InterfaceEnd,
     records: &[(u8, [u8; 38])],
 ) {
-    assert_eq!(rt; report.end, end);
+    same(rt, report.end, end);
     let text = written(rt.alloc(), 64, records, 38).expect(rt, "memory");
     let n = records.len();
     let sent = text.len();
@@ -47,7 +47,7 @@ fn replayed(
     captures: Vec<Source>,
 ) -> Result<InterfaceReport<Source, Sink>, Fail> {
     let report = replay_one(rt, interface(rt.alloc(), captures, 2)?)?;
-    assert_eq!(rt; report.listeners.len(), 2);
+    same(rt, report.listeners.len(), 2);
     Ok(report)
 }
 
@@ -63,7 +63,7 @@ fn was_read(
         .map(|source| source.inner.place)
         .collect(rt.alloc())
         .expect(rt, "memory");
-    assert_eq!(rt; places.as_slice(), want);
+    same(rt, places.as_slice(), want);
 }
 
 /// So many frames, of TCP and UDP in turn, at seconds from 1 on.
@@ -98,19 +98,20 @@ fn varied(alloc: Global, packets: u8, round: u64) -> Result<Interface<Source, Si
 /// Tests that a task is clean, and that its savefile has as many packets as are told.
 fn is_clean(rt: &impl Abort, listener: &ListenerReport<Sink>, packets: u8) {
     let matched = packets.div_ceil(2) as u64;
-    assert_eq!(rt; listener.end, TaskEnd::Clean);
-    assert_eq!(rt;
+    same(rt, listener.end, TaskEnd::Clean);
+    same(
+        rt,
         (listener.received, listener.matched),
-        (packets as u64, matched)
+        (packets as u64, matched),
     );
-    assert_eq!(rt; listener.written.wrapping_add(listener.dropped), matched);
-    assert_eq!(rt; listener.sent, 24 + 54 * listener.written.min(12));
+    same(rt, listener.written.wrapping_add(listener.dropped), matched);
+    same(rt, listener.sent, 24 + 54 * listener.written.min(12));
 }
 
 /// Tests that an interface is clean, and each of its tasks, of which there are so many.
 fn are_clean(rt: &impl Abort, report: &InterfaceReport<Source, Sink>, tasks: u64, packets: u8) {
-    assert_eq!(rt; report.end, InterfaceEnd::Clean);
-    assert_eq!(rt; report.listeners.len() as u64, tasks);
+    same(rt, report.end, InterfaceEnd::Clean);
+    same(rt, report.listeners.len() as u64, tasks);
     for listener in &report.listeners {
         is_clean(rt, listener, packets);
     }
@@ -151,7 +152,7 @@ fn headless(alloc: Global) -> Result<Interface<Source, Sink>, Fail> {
 fn ends_without_a_header(rt: &(impl Abort + AllocGlobal), report: &InterfaceReport<Source, Sink>) {
     let end = InterfaceEnd::Capture(1, Fault::ShortHeader);
     ends(rt, report, end, &[(1, TCP_FRAME), (2, UDP_FRAME)]);
-    assert_eq!(rt; report.listeners.len(), 2);
+    same(rt, report.listeners.len(), 2);
     was_read(rt, report, &[132, 0, 0]);
 }
 
@@ -164,7 +165,7 @@ fn ends_whole(rt: &(impl Abort + AllocGlobal), report: &InterfaceReport<Source, 
         (6, UDP_FRAME),
     ];
     ends(rt, report, InterfaceEnd::Clean, &records);
-    assert_eq!(rt; report.listeners.len(), 1);
+    same(rt, report.listeners.len(), 1);
     was_read(rt, report, &[132, 132]);
 }
 
@@ -173,7 +174,7 @@ fn a_refused_header_ends_its_interface_alone(rt: HostRuntime) -> Result<(), Fail
     let alloc = rt.alloc();
     let interfaces = vec![in alloc; headless(alloc)?, whole(alloc, [3, 5], 1)?]?;
     let reports = run(&rt, alloc, interfaces, &Open)?;
-    assert_eq!(rt; reports.len(), 2);
+    same(&rt, reports.len(), 2);
     ends_without_a_header(&rt, at(&rt, reports.as_slice(), 0));
     ends_whole(&rt, at(&rt, reports.as_slice(), 1));
     Ok(())
@@ -225,7 +226,7 @@ fn writes_before(
     let records = records.get(..packets).unwrap_or(&[]);
     ends(rt, &report, end, records);
     was_read(rt, &report, &[78, at_byte, 0]);
-    assert_eq!(rt; at(rt, report.sources.as_slice(), 1).failures, 1);
+    same(rt, at(rt, report.sources.as_slice(), 1).failures, 1);
     Ok(())
 }
 
@@ -247,7 +248,7 @@ fn torn_unheard(alloc: Global) -> Result<Interface<Source, Sink>, Fail> {
 
 /// Tests that an interface with no task ended so.
 fn ends_unheard(rt: &impl Abort, report: &InterfaceReport<Source, Sink>, end: InterfaceEnd) {
-    assert_eq!(rt; (report.end, report.listeners.len()), (end, 0));
+    same(rt, (report.end, report.listeners.len()), (end, 0));
 }
 
 #[test]
@@ -290,12 +291,12 @@ fn with_room(alloc: Global, room: usize) -> Result<Interface<Source, Sink>, Fail
 
 /// Tests that a task filled its sink's room, and how many packets are told as written.
 fn filled(rt: &(impl Abort + AllocGlobal), one: &ListenerReport<Sink>, room: usize, count: u64) {
-    assert_eq!(rt; one.end, TaskEnd::Write(room as u64));
-    assert_eq!(rt; (one.sent, one.written), (room as u64, count));
+    same(rt, one.end, TaskEnd::Write(room as u64));
+    same(rt, (one.sent, one.written), (room as u64, count));
     let records = [(1, TCP_FRAME), (2, UDP_FRAME), (3, TCP_FRAME)];
     let whole = written(rt.alloc(), 64, &records, 38).expect(rt, "memory");
     let sent = whole.get(..room).expect(rt, "room for a part");
-    assert_eq!(rt; one.sink.inner.bytes.as_slice(), sent);
+    same(rt, one.sink.inner.bytes.as_slice(), sent);
 }
 
 /// Replays T, U and T to a task whose sink has so much room, and tests how many packets are told as written.
@@ -305,7 +306,7 @@ fn breaks_off(
     count: u64,
 ) -> Result<(), Fail> {
     let report = replay_one(rt, with_room(rt.alloc(), room)?)?;
-    assert_eq!(rt; report.end, InterfaceEnd::Clean);
+    same(rt, report.end, InterfaceEnd::Clean);
     filled(rt, at(rt, report.listeners.as_slice(), 0), room, count);
     Ok(())
 }

@@ -144,9 +144,9 @@ fn overlaps(
     let interfaces = example(rt.alloc(), mode, usize::MAX)?;
     let reports = run(rt, rt.alloc(), interfaces, &gate)?;
     assert!(rt; !gate.is_late.load(SeqCst));
-    assert_eq!(rt; gate.entered.load(SeqCst), 3);
+    same(rt, gate.entered.load(SeqCst), 3);
     let report = at(rt, reports.as_slice(), 0);
-    assert_eq!(rt; report.end, InterfaceEnd::Clean);
+    same(rt, report.end, InterfaceEnd::Clean);
     keeps_tcp(rt, report);
     keeps_all(rt, report);
     Ok(())
@@ -164,12 +164,12 @@ fn immediate_packets_are_read_without_a_flush(rt: HostRuntime) -> Result<(), Fai
 
 /// A listener whose sink took the header alone wrote nothing more.
 fn wrote_the_header(rt: &(impl Abort + AllocGlobal), broken: &ListenerReport<Sink>) {
-    assert_eq!(rt; broken.end, TaskEnd::Write(24));
-    assert_eq!(rt; (broken.sent, broken.written), (24, 0));
+    same(rt, broken.end, TaskEnd::Write(24));
+    same(rt, (broken.sent, broken.written), (24, 0));
     assert!(rt; broken.received >= 1 && broken.received <= 3);
     let head = written(rt.alloc(), 64, &[], 38).expect(rt, "memory");
-    assert_eq!(rt; broken.sink.inner.bytes.as_slice(), head.as_slice());
-    assert_eq!(rt; broken.sink.failures, 1);
+    same(rt, broken.sink.inner.bytes.as_slice(), head.as_slice());
+    same(rt, broken.sink.failures, 1);
 }
 
 #[test]
@@ -179,7 +179,7 @@ fn one_failed_sink_leaves_the_others(rt: HostRuntime) -> Result<(), Fail> {
     let reports = run(&rt, rt.alloc(), interfaces, &gate)?;
     assert!(rt; !gate.is_late.load(SeqCst));
     let report = at(&rt, reports.as_slice(), 0);
-    assert_eq!(rt; report.end, InterfaceEnd::Clean);
+    same(&rt, report.end, InterfaceEnd::Clean);
     wrote_the_header(&rt, at(&rt, report.listeners.as_slice(), 0));
     keeps_all(&rt, report);
     Ok(())
@@ -233,6 +233,6 @@ fn interfaces_are_replayed_side_by_side(rt: HostRuntime) -> Result<(), Fail> {
     };
     let interfaces = vec![in alloc; unheard(alloc, 0)?, unheard(alloc, 1)?]?;
     let reports = run(&rt, alloc, interfaces, &gate)?;
-    assert_eq!(rt; (reports.len(), gate.met.load(SeqCst)), (2, 2));
+    same(&rt, (reports.len(), gate.met.load(SeqCst)), (2, 2));
     Ok(())
 }

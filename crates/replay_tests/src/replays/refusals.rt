@@ -94,9 +94,9 @@ fn refuses(
 ) {
     match run(rt, rt.alloc(), interfaces, &Open) {
         Ok(_) => panic!(rt; "it ran"),
-        Err(fault) => assert_eq!(rt; fault, want),
+        Err(fault) => same(rt, fault, want),
     }
-    assert_eq!(rt; calls.load(SeqCst), 0);
+    same(rt, calls.load(SeqCst), 0);
 }
 
 /// Tests that two interfaces of a capture each, with these tasks, are refused so.
@@ -163,13 +163,14 @@ fn too_many_captures_are_refused(rt: HostRuntime) -> Result<(), Fail> {
 /// The first of 65,536 captures ended an interface, and each of its 64 tasks is clean and wrote its header.
 fn ends_at_the_first_capture(rt: &impl Abort, report: &InterfaceReport<Tally<'_>, Tally<'_>>) {
     let fault = savefile::Fault::ShortHeader;
-    assert_eq!(rt; report.end, InterfaceEnd::Capture(0, fault));
-    assert_eq!(rt;
+    same(rt, report.end, InterfaceEnd::Capture(0, fault));
+    same(
+        rt,
         (report.sources.len(), report.listeners.len()),
-        (65_536, 64)
+        (65_536, 64),
     );
     for listener in &report.listeners {
-        assert_eq!(rt; (listener.sent, listener.end), (24, TaskEnd::Clean));
+        same(rt, (listener.sent, listener.end), (24, TaskEnd::Clean));
     }
 }
 
@@ -184,7 +185,7 @@ fn replays_the_most_captures_and_tasks(
     let reports = run(rt, rt.alloc(), interfaces, &Open)?;
     ends_at_the_first_capture(rt, at(rt, reports.as_slice(), 0));
     // the first source alone was read, once, and each header was written at one go
-    assert_eq!(rt; calls.load(SeqCst), 65);
+    same(rt, calls.load(SeqCst), 65);
     Ok(())
 }
 
@@ -194,10 +195,10 @@ fn end_clean(
     reports: &[InterfaceReport<Tally<'_>, Tally<'_>>],
     interfaces: usize,
 ) {
-    assert_eq!(rt; reports.len(), interfaces);
+    same(rt, reports.len(), interfaces);
     for report in reports {
         let told = (report.end, report.listeners.len());
-        assert_eq!(rt; told, (InterfaceEnd::Clean, 1));
+        same(rt, told, (InterfaceEnd::Clean, 1));
     }
 }
 
@@ -209,7 +210,7 @@ fn replays_the_most_interfaces(
     let interfaces = interfaces_of_one_task(rt.alloc(), &calls, 16, 0)?;
     let reports = run(rt, rt.alloc(), interfaces, &Open)?;
     end_clean(rt, reports.as_slice(), 16);
-    assert_eq!(rt; calls.load(SeqCst), 16);
+    same(rt, calls.load(SeqCst), 16);
     Ok(())
 }
 
@@ -234,7 +235,7 @@ fn faults_are_told_by_name_and_place(rt: HostRuntime) -> Result<(), Fail> {
         (RunFault::NoStart, "NoStart"),
     ] {
         let text = format!(in rt.alloc(); "{fault}")?;
-        assert_eq!(rt; text.as_str(), want);
+        same(&rt, text.as_str(), want);
     }
     Ok(())
 }

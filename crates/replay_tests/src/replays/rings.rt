@@ -112,14 +112,14 @@ fn as_many_batches_are_read_ahead_as_buffers_go_round(rt: HostRuntime) -> Result
     let reports = run(&rt, alloc, crowded(alloc, 200, one)?, &gate)?;
     let report = at(&rt, reports.as_slice(), 0);
     let one = at(&rt, report.listeners.as_slice(), 0);
-    assert_eq!(rt; one.end, TaskEnd::Clean);
-    assert_eq!(rt; one.sink.inner.first, SPARES as u64);
+    same(&rt, one.end, TaskEnd::Clean);
+    same(&rt, one.sink.inner.first, SPARES as u64);
     Ok(())
 }
 
 /// The sink took the header alone, and the pair was closed: an arrival that finds it so is not received.
 fn was_closed(rt: &impl Abort, one: &ListenerReport<Sink>) {
-    assert_eq!(rt; (one.end, one.written), (TaskEnd::Write(24), 0));
+    same(rt, (one.end, one.written), (TaskEnd::Write(24), 0));
     assert!(rt; one.received < 250);
 }
 
@@ -134,7 +134,7 @@ fn a_failed_write_closes_the_drain(rt: HostRuntime) -> Result<(), Fail> {
     let one = task(keeping_all()?, 64, 96, sink_with(alloc, 24));
     let reports = run(&rt, alloc, crowded(alloc, 250, one)?, &gate)?;
     let report = at(&rt, reports.as_slice(), 0);
-    assert_eq!(rt; report.end, InterfaceEnd::Clean);
+    same(&rt, report.end, InterfaceEnd::Clean);
     was_closed(&rt, at(&rt, report.listeners.as_slice(), 0));
     Ok(())
 }

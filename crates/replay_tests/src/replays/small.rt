@@ -75,8 +75,8 @@ fn narrow(
 
 /// Both listeners kept the first two of all packets: one was held, one stored.
 fn keep_two(rt: &(impl Abort + AllocGlobal), report: &InterfaceReport<Source, Sink>) {
-    assert_eq!(rt; report.end, InterfaceEnd::Clean);
-    assert_eq!(rt; report.listeners.len(), 2);
+    same(rt, report.end, InterfaceEnd::Clean);
+    same(rt, report.listeners.len(), 2);
     let two = [(0, TCP_FRAME), (1, TCP_FRAME)];
     let text = written(rt.alloc(), 20, &two, 20).expect(rt, "memory");
     for listener in &report.listeners {
@@ -121,12 +121,12 @@ fn stand_among(records: &[u8], others: &[u8]) -> bool {
 
 /// A listener of 250 packets keeps some of them, as they stand in the whole, and drops the others.
 fn keeps_some_in_order(rt: &impl Abort, listener: &ListenerReport<Sink>, whole: &[u8]) {
-    assert_eq!(rt; listener.end, TaskEnd::Clean);
-    assert_eq!(rt; (listener.received, listener.matched), (250, 250));
-    assert_eq!(rt; listener.dropped.wrapping_add(listener.written), 250);
+    same(rt, listener.end, TaskEnd::Clean);
+    same(rt, (listener.received, listener.matched), (250, 250));
+    same(rt, listener.dropped.wrapping_add(listener.written), 250);
     let file = listener.sink.inner.bytes.as_slice();
     let records = file.get(24..).unwrap_or(&[]);
-    assert_eq!(rt; records.len() as u64, 36 * listener.written.min(250));
+    same(rt, records.len() as u64, 36 * listener.written.min(250));
     assert!(rt; stand_among(records, whole));
 }
 
@@ -139,7 +139,7 @@ fn keep_some_in_order(
     let interfaces = narrow(rt.alloc(), 250, flush_every)?;
     let reports = run(rt, rt.alloc(), interfaces, &Open)?;
     let report = at(rt, reports.as_slice(), 0);
-    assert_eq!(rt; report.end, InterfaceEnd::Clean);
+    same(rt, report.end, InterfaceEnd::Clean);
     for listener in &report.listeners {
         keeps_some_in_order(rt, listener, whole);
     }
@@ -176,11 +176,11 @@ fn lasting(alloc: Global, program: Program) -> Result<Vec<Interface<Source, Sink
 fn packets_before(rt: &impl Abort, end: InterfaceEnd) -> u64 {
     match end {
         InterfaceEnd::Capture(n, fault) => {
-            assert_eq!(rt; fault, Fault::NoMemory);
+            same(rt, fault, Fault::NoMemory);
             n as u64
         }
         end => {
-            assert_eq!(rt; end, InterfaceEnd::Clean);
+            same(rt, end, InterfaceEnd::Clean);
             2
         }
     }
@@ -188,12 +188,13 @@ fn packets_before(rt: &impl Abort, end: InterfaceEnd) -> u64 {
 
 /// A listener is clean and wrote so many packets.
 fn wrote(rt: &impl Abort, listener: &ListenerReport<Sink>, packets: u64) {
-    assert_eq!(rt; listener.end, TaskEnd::Clean);
-    assert_eq!(rt;
+    same(rt, listener.end, TaskEnd::Clean);
+    same(
+        rt,
         (listener.received, listener.written, listener.dropped),
-        (packets, packets, 0)
+        (packets, packets, 0),
     );
-    assert_eq!(rt; listener.sent, 24 + 54 * packets.min(2));
+    same(rt, listener.sent, 24 + 54 * packets.min(2));
 }
 
 // By hand: with `rt try --test --fail-alloc N` this passes for every N.
@@ -209,6 +210,6 @@ fn want_of_memory_is_told_by_name(rt: HostRuntime) {
             let packets = packets_before(&rt, report.end);
             wrote(&rt, at(&rt, report.listeners.as_slice(), 0), packets);
         }
-        Err(fault) => assert_eq!(rt; fault, RunFault::NoStart),
+        Err(fault) => same(&rt, fault, RunFault::NoStart),
     }
 }

@@ -166,19 +166,19 @@ fn interface(alloc: Global, frames: &[[u8; 38]]) -> Result<Interface<Source, Sin
 
 /// So many interfaces ended clean.
 fn end_clean(rt: &impl Abort, reports: &[InterfaceReport<Source, Sink>], interfaces: usize) {
-    assert_eq!(rt; reports.len(), interfaces);
+    same(rt, reports.len(), interfaces);
     for report in reports {
-        assert_eq!(rt; report.end, InterfaceEnd::Clean);
+        same(rt, report.end, InterfaceEnd::Clean);
     }
 }
 
 /// So many arrivals of an interface were told, and of each listener so many packets, each begun and ended.
 fn was_told(rt: &impl Abort, told: &Told, arrivals: u64, packets: [u64; 2]) {
     let ends = (told.began.load(SeqCst), told.arrived.load(SeqCst));
-    assert_eq!(rt; ends, (arrivals, arrivals));
+    same(rt, ends, (arrivals, arrivals));
     for (one, packets) in told.listeners.iter().zip(packets) {
-        assert_eq!(rt; one.packets.load(SeqCst), packets);
-        assert_eq!(rt; one.began.load(SeqCst), one.read.load(SeqCst));
+        same(rt, one.packets.load(SeqCst), packets);
+        same(rt, one.began.load(SeqCst), one.read.load(SeqCst));
     }
 }
 
@@ -195,7 +195,7 @@ fn each_step_is_told_once_with_its_numbers(rt: HostRuntime) -> Result<(), Fail> 
     let watch = Watch::new(&rt);
     let interfaces = two_interfaces(rt.alloc())?;
     let reports = run(&rt, rt.alloc(), interfaces, &watch)?;
-    assert_eq!(rt; watch.odd.load(SeqCst), 0);
+    same(&rt, watch.odd.load(SeqCst), 0);
     end_clean(&rt, reports.as_slice(), 2);
     for (told, (arrivals, packets)) in watch.told.iter().zip([(3, [2, 3]), (2, [1, 2])]) {
         was_told(&rt, told, arrivals, packets);
