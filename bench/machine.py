@@ -20,7 +20,7 @@ import tempfile
 import bench
 import filters
 
-RETURN = 12
+RETURN = 10
 
 
 def counted(machine, folder, capture, name, listing):
