@@ -1,3 +1,5 @@
 pub mod Members
 pub mod Settling
 pub mod Dividing
+pub mod Apart
+pub mod Leaving

@@ -4,7 +4,7 @@ use Rattle.std.proofs.lemmas.Bool.{cases_lt, cases_eq}
 use Rattle.std.proofs.lemmas.Bool.Decides.{nat_tests}
 use Rattle.std.specs.Option.{MatchOption}
 use Rattle.std.proofs.lemmas.List.{take_all}
-use Rattle.std.proofs.lemmas.List.Elements.{All-nil, All-same, All-push, All-pop, All-weaker}
+use Rattle.std.proofs.lemmas.List.Elements.{All-nil, All-same, All-push, All-pop}
 use Rattle.syntax.specs.Trees.{Tree}
 use Rattle.syntax.specs.Trees as trees
 use Rattle.syntax.specs.declared.tree.Comparison.TheVariants as comparisons
@@ -29,7 +29,7 @@ use Rattle.analysis.specs.declared.lists.Kind.{Kind}
 use Rattle.analysis.specs.declared.lists.Span.{Span}
 use Rattle.analysis.specs.Weights.{weight}
 use Rattle.analysis.specs.declared.lists.Member.{Member}
-use Rattle.analysis.specs.Lists.{any_of, in_span, has_tail, net_form, ports_form, bytes_test, form_test, member_test, members_weight, IsMember, IsAnswered, AreAnswered, Passes, Settles, chained, turned, left_chained, weighed, Takes, EndsIn}
+use Rattle.analysis.specs.Lists.{any_of, in_span, has_tail, net_form, ports_form, bytes_test, form_test, member_test, members_weight, IsMember, chained, turned, left_chained, weighed, AreFreeBehind, Takes, EndsIn}
 
 pub equal-true : (m n : ℕ) → (m == n) ≡ true → m ≡ n
 equal-true m n is = grind (arith, nat_tests)
@@ -106,7 +106,7 @@ ports-member (Some transports.Tcp) d m h low high b p = refl
 ports-member (Some transports.Udp) d m h low high b p = refl
 ports-member (Some transports.Sctp) d m h low high b p = refl
 
-equal : (m n : ℕ) → m ≡ n → (m == n) ≡ true
+pub equal : (m n : ℕ) → m ≡ n → (m == n) ≡ true
 equal m n is = grind (arith, nat_tests)
 
 different : (m n : ℕ) → m ≢ n → (m == n) ≡ false
@@ -169,6 +169,10 @@ bytes-member l i size n p =
 pub both-true : (a b : Bool) → true ≡ (a && b) → (a ≡ true) × (true ≡ b)
 both-true true b is = (refl, is)
 both-true false b is = absurd cc
+
+pub all-true : (a b : Bool) → a ≡ true → b ≡ true → (a && b) ≡ true
+all-true true b first second = second
+all-true false b first second = absurd cc
 
 abbrev pub kind_of : Form → Sides → ℕ → ℕ → Bytes → Kind
 kind_of form sides mask head bytes = record { form = form; sides = sides; mask = mask; head = head; bytes = bytes }
@@ -292,23 +296,17 @@ takes-negated t u left old mid new right others = record {
   needs = omega (arith, others.needs);
 }
 
--- the first member, behind which the others are answered
-all-settled : (chain : Chain) (left : Option Tree) (first : Member) (p : Packet) (others : List Member) → All (λ m. Settles chain left first m.kind) others
-    → Passes chain left p → member_test first p ≡ No → AreAnswered others p
-all-settled chain left first p others settled passes none =
-    All-weaker (λ m. Settles chain left first m.kind) (λ m. IsAnswered (member_test m p)) (λ m settles. settles.answered p passes none m.span) others settled
-
 -- the right operand, and what has become of the left one
 pub ends-in : (chain : Chain) (t u : Tree) (left : Option Tree) (first : Member) (one all others : List Member) → Takes chain u None [] one → Takes chain t left one all
-    → all ≡ others ++ (first ∷ []) → length others < 512 → All (λ m. Settles chain left first m.kind) others → EndsIn chain t u left first others
-ends-in chain t u left first one all others right takes is short settled = record {
+    → all ≡ others ++ (first ∷ []) → length others < 512 → AreFreeBehind chain left first others → EndsIn chain t u left first others
+ends-in chain t u left first one all others right takes is short behind = record {
   is_first = (All-pop IsMember all others (Some first) is members).1;
   are_others = (All-pop IsMember all others (Some first) is members).0;
   same = λ p.
       ap (chained chain (meaning t p)) (chained-none (meaning u p) ∙ right.same p)
       ∙ takes.same p
       ∙ left-same chain left _ _ p (ap (turned chain) (ap (λ l. any_of member_test l p) is ∙ any-first member_test p first others));
-  settled = λ p passes none. all-settled chain left first p others settled passes none;
+  behind = behind;
   weighs =
       let whole : members_weight all ≡ members_weight others + weighed first.kind.form 1 = ap members_weight is ∙ weight-append others first in
       omega (arith, right.weighs, takes.weighs, whole);

@@ -40,11 +40,11 @@ answered-either Yes w first second = tt
 answered-either No w first second = second
 answered-either Abort w first second = absurd first
 
-answered-decided : (b : Bool) → IsAnswered (decided b)
+pub answered-decided : (b : Bool) → IsAnswered (decided b)
 answered-decided true = tt
 answered-decided false = tt
 
-settled-check : (f g : Span → ℕ → Bool) (v : Option ℕ) → AreSettled (λ x. check (f x) v) (λ x. check (g x) v)
+pub settled-check : (f g : Span → ℕ → Bool) (v : Option ℕ) → AreSettled (λ x. check (f x) v) (λ x. check (g x) v)
 settled-check f g None x y is = absurd cc
 settled-check f g (Some n) x y is = answered-decided (g y n)
 
@@ -70,7 +70,7 @@ settled-sides sides.Either sides.Source t t' u u' p broader first second = λ x 
 settled-sides sides.Either sides.Destination t t' u u' p broader first second = λ x y is. second x y (both-no (t x p) (u x p) is).1
 settled-sides sides.Either sides.Either t t' u u' p broader first second = settled-either (λ x. t x p) (λ x. t' x p) (λ x. u x p) (λ x. u' x p) first second
 
-settled-net : (s s' : Sides) (m m' o o' : ℕ) (p : Packet) → IsBroader s s'
+pub settled-net : (s s' : Sides) (m m' o o' : ℕ) (p : Packet) → IsBroader s s'
     → AreSettled (λ x. by_direction (direction_of s) (in_span x m o) (in_span x m o') p) (λ x. by_direction (direction_of s') (in_span x m' o) (in_span x m' o') p)
 settled-net s s' m m' o o' p broader =
     let bits : ℕ → Span → ℕ → Bool = λ k x w. within x.low x.high (bit_and w k) in
@@ -135,14 +135,14 @@ on-true true f holds = f holds
 on-true false f holds = holds
 
 -- a number that was there
-is-there : (f : ℕ → Bool) (c : List ℕ) (o n : ℕ) → check f (number_at c o n) ≡ No → o + n ≤ length c
+pub is-there : (f : ℕ → Bool) (c : List ℕ) (o n : ℕ) → check f (number_at c o n) ≡ No → o + n ≤ length c
 is-there f c o n is = by_cases (cases_lt (length c) (o + n))
   where
     by_cases : (length c < o + n) ⊎ (o + n ≤ length c) → o + n ≤ length c
     by_cases (inl past) = absurd (let missing : check f (number_at c o n) ≡ Abort = ap (check f) (number-none c o n past) in let wrong : No ≡ Abort = sym is ∙ missing in cc)
     by_cases (inr within) = within
 
-header-short : (b : ℕ) → 4 * bit_and b 15 ≤ 60
+pub header-short : (b : ℕ) → 4 * bit_and b 15 ≤ 60
 header-short b = let h = and_le_r b 15 in omega arith
 
 -- bytes of both ports are there where the second one is
@@ -197,7 +197,7 @@ turned-passing chains.NoneOf Abort is = absurd cc
 pub asks-member : (c : Chain) (t : Tree) (m : Member) (kind : Kind) → Covers m.kind kind → ((p : Packet) → meaning t p ≡ turned c (member_test m p)) → Asks c t kind
 asks-member c t m kind covers same = record { answered = λ p passes x. covers.answered p m.span x (turned-passing c (member_test m p) (sym (same p) ∙ passes)) }
 
-yes-both : (v w : Verdict) → and_then v w ≡ Yes → (v ≡ Yes) × (w ≡ Yes)
+pub yes-both : (v w : Verdict) → and_then v w ≡ Yes → (v ≡ Yes) × (w ≡ Yes)
 yes-both Yes w is = (refl, is)
 yes-both No w is = absurd cc
 yes-both Abort w is = absurd cc

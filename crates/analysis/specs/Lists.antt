@@ -1,5 +1,5 @@
 -- Lists: links of a chain of `or`, or negations in a chain of `and`, that differ in their numbers alone, wherever in it they stand.
-use Rattle.std.specs.Prelude.{◌≡◌, ℕ, ◌+◌, ◌*◌, ◌/◌, ◌%◌, ◌^◌, ◌≤◌, ◌<◌, ◌==◌, ◌&&◌, List, [], ◌∷◌, All, length, Option, Some, None, MatchOption, bit_and}
+use Rattle.std.specs.Prelude.{◌≡◌, ℕ, ◌+◌, ◌*◌, ◌/◌, ◌%◌, ◌^◌, ◌≤◌, ◌<◌, ◌==◌, ◌&&◌, List, [], ◌∷◌, All, Contains, length, ◌⊎◌, Option, Some, None, MatchOption, bit_and}
 use Rattle.syntax.specs.Trees.{Tree}
 use Rattle.syntax.specs.Trees as trees
 use Rattle.syntax.specs.declared.tree.Layer.TheVariants as layers
@@ -45,11 +45,22 @@ IsBroader sides.Source sides.Source = Unit {0}
 IsBroader sides.Destination sides.Destination = Unit {0}
 IsBroader s t = ⊥
 
+-- an address of IPv4 of the other sides is there where one of these is
+abbrev pub Reaches : Sides → Sides → Type 0
+Reaches sides.Destination t = Unit {0}
+Reaches s t = IsBroader s t
+
 -- bytes of the ports of such tests
 abbrev pub ArePorts : Form → Bytes → Type 0
 ArePorts forms.TcpPorts b = (b.layer ≡ layers.Tcp) × (b.index + bytes_of b.size ≤ 4)
 ArePorts forms.UdpPorts b = (b.layer ≡ layers.Udp) × (b.index + bytes_of b.size ≤ 4)
 ArePorts other b = ⊥
+
+-- one of the ports of such tests
+abbrev pub IsPort : Form → Bytes → Type 0
+IsPort forms.TcpPorts b = (b.layer ≡ layers.Tcp) × (b.size ≡ sizes.Two) × ((b.index ≡ 0) ⊎ (b.index ≡ 2))
+IsPort forms.UdpPorts b = (b.layer ≡ layers.Udp) × (b.size ≡ sizes.Two) × ((b.index ≡ 0) ⊎ (b.index ≡ 2))
+IsPort other b = ⊥
 
 abbrev pub net_form : Option Network → Form
 net_form None = forms.Net
@@ -186,8 +197,33 @@ pub record Asks (chain : Chain) (t : Tree) (kind : Kind) : Type 0 where
 pub record Settles (chain : Chain) (left : Option Tree) (first : Member) (kind : Kind) : Type 0 where
   pub answered : (p : Packet) → Passes chain left p → member_test first p ≡ No → (x : Span) → IsAnswered (kind_test kind x p)
 
-abbrev pub AreAnswered : List Member → Packet → Type 0
-AreAnswered ms p = All (λ m. IsAnswered (member_test m p)) ms
+-- where a test of a kind was No and one of the other kind aborts, each of the kind is No
+pub record IsApart (kind other : Kind) : Type 0 where
+  pub apart : (p : Packet) (x y z : Span) → kind_test kind x p ≡ No → kind_test other y p ≡ Abort → kind_test kind z p ≡ No
+
+-- where a test of a kind is No, so is one of the other kind whose numbers it has
+pub record Includes (kind other : Kind) : Type 0 where
+  pub none : (p : Packet) (x y : Span) → x.low ≤ y.low → y.high ≤ x.high → kind_test kind x p ≡ No → kind_test other y p ≡ No
+
+-- never Yes and Abort, so that either may be asked first
+abbrev pub Commute : Verdict → Verdict → Type 0
+Commute Yes Abort = ⊥
+Commute Abort Yes = ⊥
+Commute v w = Unit {0}
+
+-- of two members of different kinds either may be asked first
+abbrev pub AreFree : List Member → Packet → Type 0
+AreFree ms p = (m n : Member) → Contains ms m → Contains ms n → (m.kind ≡ n.kind) ⊎ Commute (member_test m p) (member_test n p)
+
+-- they are so behind a member that is No and what stands to the left of it
+pub record AreFreeBehind (chain : Chain) (left : Option Tree) (first : Member) (others : List Member) : Type 0 where
+  pub free : (p : Packet) → Passes chain left p → member_test first p ≡ No → AreFree others p
+
+-- members of a kind, and of one that is apart from it
+pub record AreApart (kind : Kind) (others : List Member) : Type 0 where
+  pub other : Kind
+  pub apart : IsApart kind other
+  pub each : All (λ m. (m.kind ≡ kind) ⊎ (m.kind ≡ other)) others
 
 -- a tree has become members of a list, but for what is left
 pub record Takes (chain : Chain) (whole : Tree) (left : Option Tree) (old new : List Member) : Type 0 where
@@ -198,13 +234,13 @@ pub record Takes (chain : Chain) (whole : Tree) (left : Option Tree) (old new : 
   pub smaller : left_size left ≤ size whole
   pub needs : left_need left ≤ need whole
 
--- a chain ends in members, behind what is left of its left operand; none but the first of them can abort where that is asked
+-- a chain ends in members, behind what is left of its left operand; where the first of them is No, the others may be asked kind by kind
 pub record EndsIn (chain : Chain) (t u : Tree) (left : Option Tree) (first : Member) (others : List Member) : Type 0 where
   pub is_first : IsMember first
   pub are_others : All IsMember others
   pub same : (p : Packet) → chained chain (meaning t p) (meaning u p)
       ≡ left_chained chain left (λ q. turned chain (or_else (member_test first q) (any_of member_test others q))) p
-  pub settled : (p : Packet) → Passes chain left p → member_test first p ≡ No → AreAnswered others p
+  pub behind : AreFreeBehind chain left first others
   pub weighs : left_weight left + (weighed first.kind.form 1 + members_weight others) ≤ weight t + weight u
   pub smaller : left_size left ≤ size t
   pub needs : left_need left ≤ need t
@@ -214,22 +250,34 @@ pub record EndsIn (chain : Chain) (t u : Tree) (left : Option Tree) (first : Mem
 abbrev pub IsAlone : Kind → Option Primitive → List Span → Type 0
 IsAlone kind primitive spans = (x : Span) → spans ≡ x ∷ [] → IsMember (record { kind = kind; span = x; primitive = primitive })
 
--- those of a kind leave the others; where none aborts they may be asked first
+-- those of a kind leave the others; where they may be, they are asked first
 pub record Divides (kind : Kind) (all : List Member) (spans : List Span) (others : List Member) : Type 0 where
-  pub same : (p : Packet) → AreAnswered all p → any_of member_test all p ≡ or_else (any_of (kind_test kind) spans p) (any_of member_test others p)
-  pub answered : (p : Packet) → AreAnswered all p → IsAnswered (any_of (kind_test kind) spans p)
-  pub others_answered : (p : Packet) → AreAnswered all p → AreAnswered others p
+  pub same : (p : Packet) → AreFree all p → any_of member_test all p ≡ or_else (any_of (kind_test kind) spans p) (any_of member_test others p)
+  pub commutes : (p : Packet) (v : Verdict) → ((m : Member) → Contains all m → m.kind ≡ kind → Commute v (member_test m p)) → Commute v (any_of (kind_test kind) spans p)
+  pub among : (m : Member) → Contains others m → Contains all m
   pub members : All IsMember all → All IsMember others
   pub weighs : weighed kind.form (length spans) + members_weight others ≡ members_weight all
   pub together : length spans + length others ≡ length all
 
--- the same with a member that is asked before all of them
+-- where all of these of a kind are No, a member is
+pub record IsIncluded (kind : Kind) (spans : List Span) (m : Member) : Type 0 where
+  pub none : (p : Packet) → any_of (kind_test kind) spans p ≡ No → member_test m p ≡ No
+
+-- some that are so are left out
+pub record LeavesOut (kind : Kind) (spans : List Span) (all others : List Member) : Type 0 where
+  pub same : (p : Packet) → any_of (kind_test kind) spans p ≡ No → any_of member_test all p ≡ any_of member_test others p
+  pub among : (m : Member) → Contains others m → Contains all m
+  pub members : All IsMember all → All IsMember others
+  pub weighs : members_weight others ≤ members_weight all
+  pub fewer : length others ≤ length all
+
+-- those of a kind with a member that is asked before all of them, and the others, without some that hold only where one of the kind does
 pub record Groups (first : Member) (all : List Member) (spans : List Span) (others : List Member) : Type 0 where
-  pub same : (p : Packet) → (member_test first p ≡ No → AreAnswered all p)
+  pub same : (p : Packet) → (member_test first p ≡ No → AreFree all p)
       → or_else (member_test first p) (any_of member_test all p) ≡ or_else (any_of (kind_test first.kind) spans p) (any_of member_test others p)
-  pub answered : (p : Packet) → (member_test first p ≡ No → AreAnswered all p) → any_of (kind_test first.kind) spans p ≡ No → AreAnswered others p
+  pub free : (p : Packet) → (member_test first p ≡ No → AreFree all p) → any_of (kind_test first.kind) spans p ≡ No → AreFree others p
   pub alone : IsMember first → IsAlone first.kind first.primitive spans
   pub members : All IsMember all → All IsMember others
-  pub weighs : weighed first.kind.form (length spans) + members_weight others ≡ weighed first.kind.form 1 + members_weight all
+  pub weighs : weighed first.kind.form (length spans) + members_weight others ≤ weighed first.kind.form 1 + members_weight all
   pub some : 0 < length spans
   pub fewer : length others ≤ length all

@@ -1,13 +1,13 @@
 //! Lists: links of a chain of `or`, or negations in a chain of `and`, that differ in their numbers alone, wherever in it they stand.
 
-ghost use Rattle.std.specs.Prelude.{◌≡◌, ◌+◌, ◌≤◌, IfSome, MatchOption, None};
+ghost use Rattle.std.specs.Prelude.{◌≡◌, ◌≢◌, ◌+◌, ◌≤◌, IfSome, MatchOption, None};
 ghost use Rattle.syntax.specs.Trees.{amount_of, tree_of, number as literal};
 ghost use Rattle.syntax.specs.declared.tree.Comparison.TheVariants.{Equal};
 ghost use Rattle.semantics.specs.Meaning.{Packet, by_direction, plain_test, in_any_net, has_any_ports, is_address, primitive_test, relation_test, meaning};
 ghost use Rattle.analysis.specs.Knowing.{behind, LOOK_BACK};
-ghost use Rattle.analysis.specs.Lists.{direction_of, net_form, ports_form, no_bytes, member_test, IsBroader, ArePorts, Covers, IsMember, turned, behind_left, weighed};
+ghost use Rattle.analysis.specs.Lists.{direction_of, net_form, ports_form, no_bytes, member_test, IsBroader, Reaches, ArePorts, IsPort, Covers, IsApart, Includes, IsMember, turned, behind_left, weighed};
 ghost use Rattle.analysis.specs.declared.lists.Sides.TheVariants as sides;
-ghost use Rattle.std.specs.Bool.{OnTrue};
+ghost use Rattle.std.specs.Bool.{OnTrue, OnFalse};
 ghost use Rattle.analysis.specs.Weights.{value_weight, weight};
 
 use crate::known::Known;
@@ -116,6 +116,16 @@ impl Sides {
             _ => false,
         }
     }
+
+    /// Whether an address of IPv4 of the other sides is there where one of these is: the destination stands behind the source.
+    fn reaches(self, other: Sides) -> bool
+        ensures { OnTrue result (Reaches self other) }
+    {
+        match self {
+            Sides::Destination => true,
+            _ => self.is_broader(other),
+        }
+    }
 }
 
 impl Bytes {
@@ -134,12 +144,33 @@ impl Bytes {
             _ => false,
         }
     }
+
+    /// Whether they are one of the ports of such tests.
+    fn are_a_port(self, form: Form) -> bool
+        ensures { OnTrue result (IsPort form self) }
+    {
+        match (form, self.layer, self.size, self.index) {
+            (Form::TcpPorts, Layer::Tcp, Size::Two, 0 | 2) => true,
+            (Form::UdpPorts, Layer::Udp, Size::Two, 0 | 2) => true,
+            _ => false,
+        }
+    }
+}
+
+impl Span {
+    /// Whether it has all numbers of another one.
+    pub(crate) fn has(self, other: Span) -> bool
+        ensures { OnTrue result ((self.low ≤ other.low) × (other.high ≤ self.high)) }
+    {
+        self.low <= other.low && other.high <= self.high
+    }
 }
 
 impl Kind {
     /// Whether two kinds are one.
     pub fn is(self, other: Kind) -> bool
-        ensures { OnTrue result (self ≡ other) }
+        ensures same { OnTrue result (self ≡ other) }
+        ensures differ { OnFalse result (self ≢ other) }
     {
         if self == other { true } else { false }
     }
@@ -181,9 +212,50 @@ impl Kind {
         }
         self.has_ports(other)
     }
+
+    /// Whether all tests of this kind are No where one was and one of the other kind aborts: such a packet is of another type or
+    /// protocol.
+    pub(crate) fn is_apart(self, other: Kind) -> bool
+        ensures { OnTrue result (IsApart self other) }
+    {
+        match (self.form, other.form) {
+            (Form::IpNet, Form::Net) => self.sides.reaches(other.sides),
+            (Form::TcpPorts, Form::UdpPorts | Form::SctpPorts) => true,
+            (Form::UdpPorts, Form::TcpPorts | Form::SctpPorts) => true,
+            (Form::SctpPorts, Form::TcpPorts | Form::UdpPorts) => true,
+            _ => false,
+        }
+    }
+
+    /// Whether both ports of TCP or UDP are asked for, which tests of their bytes may ask for again.
+    pub(crate) fn has_both_ports(self) -> bool {
+        match self.form {
+            Form::TcpPorts | Form::UdpPorts => self.sides == Sides::Either,
+            _ => false,
+        }
+    }
+
+    /// Whether a test of the other kind is No where one of this kind is that has its numbers.
+    pub(crate) fn includes(self, other: Kind) -> bool
+        ensures { OnTrue result (Includes self other) }
+    {
+        match (self.sides, other.form) {
+            (Sides::Either, Form::Bytes) => other.bytes.are_a_port(self.form),
+            _ => false,
+        }
+    }
 }
 
 impl Chain {
+    /// The last link of an expression in a chain.
+    pub fn last_of(self, expr: &Expr) -> &Expr {
+        match (self, expr) {
+            (Chain::AnyOf, Expr::Or(_, right)) => right,
+            (Chain::NoneOf, Expr::And(_, right)) => right,
+            _ => expr,
+        }
+    }
+
     /// What is known where a list is asked that stands behind an expression, or behind none.
     pub fn known_behind(self, known: Known, left: Option<&Expr>) -> Known
         ensures { MatchOption left.entry (result ≡ known) (λ t. result ≡ behind_left self known (tree_of t.now)) }

@@ -3,7 +3,7 @@
 ghost use Rattle.std.specs.Prelude.{◌≡◌, ◌<◌, ◌++◌, All, length, option_to_list, [], IfSome, IfNone, MatchOption, Some, None};
 ghost use Rattle.std.specs.Bool.{OnTrue, OnFalse};
 ghost use Rattle.syntax.specs.Trees.{tree_of};
-ghost use Rattle.analysis.specs.Lists.{IsMember, Asks, Settles, Takes, EndsIn, Divides, Groups};
+ghost use Rattle.analysis.specs.Lists.{IsMember, Asks, Settles, AreApart, AreFreeBehind, Takes, EndsIn, Divides, IsIncluded, LeavesOut, Groups};
 
 use crate::lists::{Chain, Kind, Member, Span};
 use arrayvec::ArrayVec;
@@ -16,8 +16,8 @@ const LOOK_LEFT: u32 = 8;
 /// How many kinds the links of a list have at most, but for the first one. Members of each take room on the stack.
 const MOST_KINDS: usize = 8;
 
-/// Links at the right end of a chain. Behind the first of them, and behind what stands to the left of it, no test of the
-/// others aborts, so that they may be asked in any order.
+/// Links at the right end of a chain. Behind the first of them, and behind what stands to the left of it, the others may be asked
+/// kind by kind: none of them aborts, or where those of one kind do, all of the others are No.
 #[derive(Drop)]
 pub struct Neighbours {
     /// The member that is asked first.
@@ -80,6 +80,21 @@ fn is_settled(chain: Chain, left: Option<&Expr>, first: Member, kind: Kind) -> b
     }
 }
 
+/// Whether a member is No where all of these of a kind are.
+fn is_included(member: Member, kind: Kind, spans: &[Span]) -> bool
+    ensures { OnTrue result (IsIncluded kind spans.now member) }
+{
+    if !kind.includes(member.kind) {
+        return false;
+    }
+    for span in spans {
+        if span.has(member.span) {
+            return true;
+        }
+    }
+    false
+}
+
 /// Whether a kind is one of these, which it becomes where there is room.
 fn is_counted(kinds: &mut ArrayVec<Kind, MOST_KINDS>, kind: Kind) -> bool {
     for own in kinds.as_slice() {
@@ -94,8 +109,26 @@ fn is_counted(kinds: &mut ArrayVec<Kind, MOST_KINDS>, kind: Kind) -> bool {
     true
 }
 
+/// Whether the last link of a chain is of a kind of which all may be asked before one that may abort behind it. These two, of which
+/// that link's has members to its right, are to be the only ones there.
+fn may_lead(chain: Chain, expr: &Expr, kind: Kind, kinds: &[Kind]) -> bool {
+    let Some(first) = Member::of_link(chain, chain.last_of(expr)) else {
+        return false;
+    };
+    let mut is_listed = false;
+    for own in kinds {
+        if first.kind.is(*own) {
+            is_listed = true;
+        } else if !kind.is(*own) {
+            return false;
+        }
+    }
+    is_listed && first.kind.is_apart(kind)
+}
+
 /// How many links at the right end of what stands to the left of a link belong to it: each up to the first one of a kind
-/// that may abort behind those farther left, or of one kind too many.
+/// that may abort behind those farther left, or of one kind too many. Where that one's kind may be asked behind that of the next
+/// link, this one is taken too.
 fn links(
     chain: Chain,
     expr: &Expr,
@@ -103,7 +136,13 @@ fn links(
     kinds: &mut ArrayVec<Kind, MOST_KINDS>,
     found: usize,
 ) -> usize {
-    if found >= MAX_INSNS - 1 || !asks(chain, expr, kind, LOOK_LEFT) || !is_counted(kinds, kind) {
+    if found >= MAX_INSNS - 1 {
+        return found;
+    }
+    if !asks(chain, expr, kind, LOOK_LEFT) {
+        return found + usize::from(may_lead(chain, expr, kind, kinds.as_slice()));
+    }
+    if !is_counted(kinds, kind) {
         return found;
     }
     match (chain, expr) {
@@ -182,6 +221,30 @@ impl Others {
         true
     }
 
+    /// Whether each of these is of a kind, or of that of the last one, which may be asked behind all of the kind.
+    fn are_apart(&self, kind: Kind) -> bool
+        ensures { OnTrue result (AreApart kind self.now.members.items) }
+    {
+        let Some(last) = self.members.as_slice().last() else {
+            return false;
+        };
+        for member in self.members.as_slice() {
+            if !member.kind.is(kind) && !member.kind.is(last.kind) {
+                return false;
+            }
+        }
+        kind.is_apart(last.kind)
+    }
+
+    /// Whether these may be asked kind by kind behind a member and what stands to the left of it.
+    fn are_free(&self, chain: Chain, left: Option<&Expr>, first: Member) -> bool
+        ensures { OnTrue result (MatchOption left.entry
+            (AreFreeBehind chain None first self.now.members.items)
+            (λ t. AreFreeBehind chain (Some (tree_of t.now)) first self.now.members.items)) }
+    {
+        self.are_settled(chain, left, first) || self.are_apart(first.kind)
+    }
+
     /// The numbers of those of a kind, which leave the others.
     #[inline(never)]
     fn divide(&mut self, kind: Kind) -> ArrayVec<Span, MAX_INSNS>
@@ -200,7 +263,22 @@ impl Others {
         spans
     }
 
-    /// Those of the kind of a member that is asked before them, with that one. They leave the others.
+    /// Leaves out those that are No where all of these of a kind are.
+    #[inline(never)]
+    fn leave_out(&mut self, kind: Kind, spans: &[Span])
+        ensures { LeavesOut kind spans.now self.old.members.items self.new.members.items }
+    {
+        let mut kept = ArrayVec::new();
+        for member in self.members.as_slice() {
+            if !is_included(*member, kind, spans) {
+                kept.push(*member);
+            }
+        }
+        self.members = kept;
+    }
+
+    /// Those of the kind of a member that is asked before them, with that one. They leave the others, without those that hold only where
+    /// one of the kind does.
     #[inline(never)]
     pub fn group_of(&mut self, first: Member) -> Group
         requires room { length self.old.members.items < 512 }
@@ -210,6 +288,9 @@ impl Others {
     {
         let mut spans = self.divide(first.kind);
         spans.push(first.span);
+        if first.kind.has_both_ports() {
+            self.leave_out(first.kind, spans.as_slice());
+        }
         Group {
             kind: first.kind,
             spans,
@@ -271,7 +352,7 @@ impl Neighbours {
         }
         let rest = others.take(chain, left, more);
         let first = others.pop()?;
-        if others.are_settled(chain, rest, first) {
+        if others.are_free(chain, rest, first) {
             Some((Neighbours { first, others }, rest))
         } else {
             None

@@ -1,6 +1,5 @@
 -- The code of lists.
-use Rattle.std.proofs.Common.{ℕ, ◌+◌, ◌*◌, ◌<◌, ◌≤◌, ◌≡◌, List, [], ◌∷◌, ◌++◌, length, Option, Some, None, refl, sym, ap, ◌∙◌, arith}
-use Rattle.std.proofs.lemmas.List.Elements.{All-pop}
+use Rattle.std.proofs.Common.{ℕ, ◌+◌, ◌*◌, ◌<◌, ◌≤◌, ◌≡◌, List, [], ◌∷◌, ◌++◌, length, Option, Some, None, refl, sym, ap, subst, ◌∙◌, arith}
 use Rattle.syntax.specs.Trees.{Tree}
 use Rattle.analysis.specs.declared.lists.Chain.{Chain}
 use Rattle.analysis.specs.declared.lists.Chain.TheVariants as chains
@@ -23,8 +22,9 @@ use Rattle.generation.proofs.Leading.{renews-not, renews-either}
 use Rattle.generation.proofs.Narrowed.{behind-more, behind-same, behind-both, behind-either, behind-not}
 use Rattle.syntax.specs.declared.tree.Primitive.{Primitive}
 use Rattle.generation.proofs.Neighbours.{any-same}
-use Rattle.analysis.specs.Lists.{any_of, direction_of, bytes_test, form_test, kind_test, IsAlone, member_test, members_weight, IsAnswered, AreAnswered, Passes, passing, chained, left_chained, turned, weighed, Groups, EndsIn}
+use Rattle.analysis.specs.Lists.{any_of, direction_of, bytes_test, form_test, kind_test, IsAlone, member_test, members_weight, AreFree, Passes, passing, chained, left_chained, turned, weighed, Groups, EndsIn}
 use Rattle.analysis.proofs.Members.{any-first, or-no, weight-append}
+use Rattle.analysis.proofs.Dividing.{free-before}
 use Rattle.generation.specs.Listed.{turned_ways, listed_cost, EmitsMembers, EmitsList}
 use Rattle.analysis.specs.Knowing.{behind, LOOK_BACK}
 use Rattle.generation.proofs.Knowing.{tree-known}
@@ -112,7 +112,7 @@ pub emits-list : {chain : Chain} {t u : Tree} {left : Option Tree} {first : Memb
 emits-list {chain} {t} {u} {left} {first} {others} ends made = record {
   test = λ p. turned chain (made.test p);
   most = weighed first.kind.form 1 + members_weight others;
-  same = λ p. ends.same p ∙ left-settled chain left _ _ p (λ passes. ap (turned chain) (sym (made.same p (λ none. ends.settled p passes none))));
+  same = λ p. ends.same p ∙ left-settled chain left _ _ p (λ passes. ap (turned chain) (sym (made.same p (λ none. ends.behind.free p passes none))));
   fits = ends.weighs;
   smaller = ends.smaller;
   needs = ends.needs;
@@ -139,14 +139,14 @@ pub emits-more : {known : Known} {ways second renewed : Ways} {later entry : Way
     → EmitsMembers known first all ways (record { yes = renewed.yes; no = second.no }) entry a c
 emits-more first next all rest others spans groups parts last made = record {
   test = or_test (any_of (kind_test first.kind) spans) last.test;
-  same = λ p settled. by_group p (any_of (kind_test first.kind) spans p) (λ none. behind p (groups.answered p settled none)) ∙ sym (groups.same p settled);
+  same = λ p settled. by_group p (any_of (kind_test first.kind) spans p) (λ none. behind p (groups.free p settled none)) ∙ sym (groups.same p settled);
   decides = behind-more (weighed first.kind.form 1 + members_weight all) (rest_fits first next all rest others spans groups parts) (behind-either last.renews last.decides made.0);
   renews = renews-either made.0.extends last.renews made.1;
 }
   where
-    behind : (p : Packet) → AreAnswered rest p → last.test p ≡ any_of member_test rest p
-    behind p answered =
-        last.same p (λ none. (All-pop (λ m. IsAnswered (member_test m p)) rest others (Some next) parts answered).0)
+    behind : (p : Packet) → AreFree rest p → last.test p ≡ any_of member_test rest p
+    behind p free =
+        last.same p (λ none. free-before others next p (subst (λ (l : List Member). AreFree l p) parts free))
         ∙ sym (any-first member_test p next others)
         ∙ sym (ap (λ l. any_of member_test l p) parts)
 

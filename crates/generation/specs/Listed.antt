@@ -14,7 +14,7 @@ use Rattle.analysis.specs.declared.lists.Form.TheVariants as forms
 use Rattle.analysis.specs.declared.lists.Span.{Span}
 use Rattle.analysis.specs.Weights.{weight, need}
 use Rattle.analysis.specs.declared.lists.Member.{Member}
-use Rattle.analysis.specs.Lists.{any_of, weighed, member_test, members_weight, AreAnswered, chained, left_chained, left_weight, left_size, left_need, size}
+use Rattle.analysis.specs.Lists.{any_of, weighed, member_test, members_weight, AreFree, chained, left_chained, left_weight, left_size, left_need, size}
 use Rattle.generation.specs.declared.code.Exits.{Exits}
 use Rattle.generation.specs.declared.among.Spot.{Spot}
 use Rattle.generation.specs.declared.among.Spot.TheVariants as spots
@@ -77,11 +77,10 @@ abbrev pub turned_ways : Chain → Ways → Ways
 turned_ways chains.AnyOf ways = ways
 turned_ways chains.NoneOf ways = record { yes = ways.no; no = ways.yes }
 
--- The code of members of which the first one is asked before the others. Where it is No, none of them aborts, and they are
--- asked in another order.
+-- The code of members of which the first one is asked before the others. Where it is No, they may be asked in another order.
 pub record EmitsMembers (known : Known) (first : Member) (others : List Member) (ways renewed : Ways) (entry : Way) (old new : List Insn) : Type 0 where
   pub test : Test
-  pub same : (p : Packet) → (member_test first p ≡ No → AreAnswered others p) → test p ≡ or_else (member_test first p) (any_of member_test others p)
+  pub same : (p : Packet) → (member_test first p ≡ No → AreFree others p) → test p ≡ or_else (member_test first p) (any_of member_test others p)
   pub decides : DecidesBehind known (weighed first.kind.form 1 + members_weight others) test ways entry old new
   pub renews : RenewsBoth ways renewed old new
 

@@ -104,19 +104,9 @@ fn chain_of(expr: &Expr) -> Chain
     }
 }
 
-/// The last link of an expression in a chain.
-fn last_of(chain: Chain, expr: &Expr) -> &Expr {
-    match (chain, expr) {
-        (Chain::AnyOf, Expr::Or(_, right)) => right,
-        (Chain::NoneOf, Expr::And(_, right)) => right,
-        _ => expr,
-    }
-}
-
 /// Whether the last two links of a chain of these two are members of lists, without which there is none.
 fn may_be_listed(chain: Chain, left: &Expr, right: &Expr) -> bool {
-    Member::of_link(chain, right).is_some()
-        && Member::of_link(chain, last_of(chain, left)).is_some()
+    Member::of_link(chain, right).is_some() && Member::of_link(chain, chain.last_of(left)).is_some()
 }
 
 /// The ways of the test whether any member of a list holds.

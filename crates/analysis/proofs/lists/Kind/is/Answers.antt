@@ -1,14 +1,15 @@
-use Rattle.std.proofs.Common.{◌≡◌, sym}
+use Rattle.std.proofs.Common.{◌≡◌, true, false, sym, ap, ◌∙◌}
+use Rattle.analysis.specs.declared.lists.Kind.{Kind}
 use Rattle.analysis.specs.contracts.lists.Form.{the_type as the_forms}
 use Rattle.analysis.specs.contracts.lists.Sides.{the_type as the_sides}
 use Rattle.syntax.specs.contracts.tree.Layer.{the_type as the_layers}
 use Rattle.syntax.specs.contracts.tree.Size.{the_type as the_sizes}
-use Rattle.analysis.proofs.Members.{both-true, kind-same, bytes-same, equal-true}
-use denote.Enum.Bare.{same_true}
+use Rattle.analysis.proofs.Members.{both-true, all-true, kind-same, bytes-same, equal-true, equal}
+use denote.Enum.Bare.{same_true, true_same}
 use Rattle.analysis.proofs.lists.Kind.is.Goals as goal
 
-pub returns-then-eq : goal.returns-then-eq
-returns-then-eq c =
+pub returns-then-eq-clause-same : goal.returns-then-eq-clause-same
+returns-then-eq-clause-same c =
     let kind = c.args.self in
     let other = c.args.other in
     let by_form = both-true _ _ c.if-eq.ensures in
@@ -20,3 +21,15 @@ returns-then-eq c =
     let bytes : kind.bytes ≡ other.bytes =
     bytes-same kind.bytes other.bytes (same_true the_layers tt _ _ by_layer.0) (equal-true _ _ by_index.0) (same_true the_sizes tt _ _ (sym by_index.1)) in
     kind-same kind other (same_true the_forms tt _ _ by_form.0) (same_true the_sides tt _ _ by_sides.0) (equal-true _ _ by_mask.0) (equal-true _ _ by_head.0) bytes
+
+pub returns-else-eq-clause-differ : goal.returns-else-eq-clause-differ
+returns-else-eq-clause-differ c = λ same.
+    let by_bytes =
+    all-true _ _ (true_same the_layers _ _ (ap (λ (k : Kind). k.bytes.layer) same))
+    (all-true _ _ (equal _ _ (ap (λ (k : Kind). k.bytes.index) same)) (true_same the_sizes _ _ (ap (λ (k : Kind). k.bytes.size) same))) in
+    let wrong : false ≡ true =
+    c.if-eq.ensures
+    ∙ all-true _ _ (true_same the_forms _ _ (ap (λ (k : Kind). k.form) same))
+    (all-true _ _ (true_same the_sides _ _ (ap (λ (k : Kind). k.sides) same))
+    (all-true _ _ (equal _ _ (ap (λ (k : Kind). k.mask) same)) (all-true _ _ (equal _ _ (ap (λ (k : Kind). k.head) same)) by_bytes))) in
+    cc

@@ -3,8 +3,8 @@ use Rattle.syntax.specs.Trees.{tree_of}
 use Rattle.analysis.proofs.Members.{map-both, ends-in}
 use Rattle.analysis.proofs.neighbours.Neighbours.behind.Goals as goal
 
-pub returns-then-are_settled : goal.returns-then-are_settled
-returns-then-are_settled c =
+pub returns-then-are_free : goal.returns-then-are_free
+returns-then-are_free c =
     let first = c.in_ok-first.first in
     let all = c.take-rest.new.self.members.items in
     let others = c.pop.new.self.members.items in
@@ -13,6 +13,6 @@ returns-then-are_settled c =
     let one = c.takes.new.self.members.items in
     let right = rw c.new.ensures at c.if-not-takes.ensures.taken in
     let parts : all ≡ others ++ (first ∷ []) = c.pop.ensures.items ∙ ap (λ o. others ++ option_to_list o) c.in_ok-first.was in
-    map-both c.take-rest.result c.take-rest.ensures c.if-are_settled.ensures
-    (λ takes settled. ends-in c.args.chain t u None first one all others right takes parts c.pop.ensures.room settled)
-    (λ rest takes settled. ends-in c.args.chain t u (Some (tree_of rest.now)) first one all others right takes parts c.pop.ensures.room settled)
+    map-both c.take-rest.result c.take-rest.ensures c.if-are_free.ensures
+    (λ takes free. ends-in c.args.chain t u None first one all others right takes parts c.pop.ensures.room free)
+    (λ rest takes free. ends-in c.args.chain t u (Some (tree_of rest.now)) first one all others right takes parts c.pop.ensures.room free)

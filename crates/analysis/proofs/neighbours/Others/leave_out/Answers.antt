@@ -1,0 +1,12 @@
+use Rattle.analysis.proofs.Leaving.{leaves-more, leaves-past}
+use Rattle.analysis.proofs.neighbours.Others.leave_out.Goals.{then-not-is_included, else-not-is_included}
+use Rattle.analysis.proofs.neighbours.Others.leave_out.Goals as goal
+
+pub loop-member-preserved : goal.loop-member-preserved
+loop-member-preserved c =
+    let items = c.as_slice-member-items.result.now in
+    let i = c.loop-member.member-index in
+    elim c.if-not-is_included.branch [
+      | then-not-is_included w ↦ rw w.kept-is (leaves-more c.args.kind c.args.spans.now items i _ _ _ c.loop-member-test.true w.push.ensures.items c.loop-member.invariant)
+      | else-not-is_included w ↦ rw w.kept-is (leaves-past c.args.kind c.args.spans.now items i _ _ c.loop-member-test.true w.if-not-is_included.ensures c.loop-member.invariant)
+    ]
