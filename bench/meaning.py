@@ -217,9 +217,23 @@ def maker(rng):
     return lambda: ("bytes", layer, index, size, "=", rng.choice([0, 1, 5, 8, 64, 80, 443, 0xc0000201, 0x45]))
 
 
+def pair(rng):
+    """Two kinds of which all of one may be asked before the other one, or of which one has what the other one asks for."""
+    sides = ["src", "dst", "src or dst"]
+    host = lambda kind, side: lambda: ("net", kind, side, rng.choice(ADDRESSES), 0xffffffff, True)
+    port = lambda transport, side: lambda: ("ports", transport, side, *[rng.choice(PORTS)] * 2)
+    form = rng.choice(["host", "port", "bytes"])
+    if form == "host":
+        return [host("ip", rng.choice(sides)), host(None, rng.choice(sides))]
+    if form == "port":
+        return [port(transport, rng.choice(sides)) for transport in rng.sample(["tcp", "udp", "sctp"], 2)]
+    transport, index = rng.choice(["tcp", "udp"]), rng.choice([0, 1, 2])
+    return [port(transport, "src or dst"), lambda: ("bytes", transport, index, 2, "=", rng.choice(PORTS))]
+
+
 def a_list(rng):
     """Operands of an `or`, or negations of an `and`, of one list or of several in any order; another test may stand among them."""
-    makers = [maker(rng) for _ in range(rng.choice([1, 1, 2, 2, 3]))]
+    makers = pair(rng) if rng.random() < 0.2 else [maker(rng) for _ in range(rng.choice([1, 1, 2, 2, 3]))]
     count = rng.choice([2, 2, 3, 4, 6, 8]) + len(makers) - 1
     joint = rng.choice(["or", "or", "and"])
     make = lambda: rng.choice(makers)()

@@ -149,6 +149,15 @@ LISTS = [
     "host 9.9.9.9 or net 11.0.0.0/8 or host 10.0.0.2 or net 224.0.0.0/8",
     "not host 9.9.9.9 and not net 11.0.0.0/8 and not host 10.0.0.2 and not net 224.0.0.0/8",
     "tcp port 9 or tcp[2:2] = 443 or tcp port 80 or tcp[2:2] = 53",
+    # of which all of one kind are asked before the other, and of which one has what the other asks for
+    "ip dst host 9.9.9.9 or src host 10.0.0.3 or ip dst host 10.0.0.1 or src host 10.0.0.2",
+    "ip host 9.9.9.9 or dst host 8.8.8.8 or ip host 10.0.0.2 or dst host 10.0.0.3",
+    "not ip dst host 9.9.9.9 and not src host 10.0.0.3 and not ip dst host 10.0.0.2 and not src host 10.0.0.1",
+    "udp port 9 or tcp port 443 or udp port 80 or tcp port 53 or udp port 1",
+    "sctp dst port 9 or udp src port 53 or sctp dst port 80 or udp src port 80",
+    "not udp port 9 and not tcp port 9 and not udp port 80 and not tcp port 443",
+    "tcp port 443 or tcp[2:2] = 443 or tcp portrange 50-60 or tcp[0:2] = 53 or tcp[0:2] = 80",
+    "udp port 9 or udp[0:2] = 9 or udp[2:2] = 80 or udp port 80 or udp[1:2] = 9",
     # Ethernet hosts, of which no frame has the last four bytes of one behind the first two of another
     "ether src 0:1:2:3:4:6 or 0:1:2:3:4:5 or 0:1:9:3:4:5", "ether src 9:9:2:3:4:5 or 9:9:2:3:4:6",
     "ether src 9:9:2:3:4:5 or 9:9:2:3:4:6 or 0:1:2:3:4:6 or 0:1:2:3:4:7",
@@ -186,6 +195,14 @@ PRINTED = [
     ("not less 60", "4\n128 0 0 0\n37 0 1 60\n6 0 0 262144\n6 0 0 0\n"),
     # one of IPv4 is asked first, and is none of these
     ("arp or rarp", "6\n40 0 0 12\n21 3 0 2048\n21 1 0 2054\n21 0 1 32821\n6 0 0 262144\n6 0 0 0\n"),
+]
+
+# Lists by turns, and lists kind by kind of which they have the programs.
+IN_TURN = [
+    ("tcp port 80 or tcp[2:2] = 80 or tcp[0:2] = 80", "tcp port 80"),
+    ("udp port 1 or tcp port 2 or udp port 3 or tcp port 4", "udp port (1 or 3) or tcp port (2 or 4)"),
+    ("ip dst host 1.1.1.1 or src host 2.2.2.2 or ip dst host 3.3.3.3 or src host 4.4.4.4",
+     "ip dst host 1.1.1.1 or ip dst host 3.3.3.3 or src host (2.2.2.2 or 4.4.4.4)"),
 ]
 
 # Expressions, and what tcpdump 4.99.3 with libpcap 1.10.3 prints of them for Ethernet and a snapshot length of 262,144; `tcp or udp`,
@@ -298,6 +315,13 @@ def long_lists_fit(scene):
     for words, prefix, count, most in SIZES:
         size = len(program_of(scene, words + " or ".join(f"{prefix}{number}" for number in range(count))))
         scene.check(f"{words}, {size} instructions", 0 < size <= most, True)
+
+
+@case
+def lists_by_turns_are_asked_kind_by_kind(scene):
+    """Where that answers the same, they have the programs of lists that stand so."""
+    for by_turns, by_kind in IN_TURN:
+        scene.check(by_turns, program_of(scene, by_turns), program_of(scene, by_kind))
 
 
 @case
