@@ -1,15 +1,13 @@
 -- Kinds of which all may be asked before one that may abort behind them.
-use Rattle.std.proofs.Common.{◌≡◌, ℕ, ◌+◌, ◌≤◌, ◌==◌, ◌⊎◌, inl, inr, Bool, true, false, List, All, length, Option, Some, None, refl, sym, ap, subst, ◌∙◌, arith, bit_and}
+use Rattle.std.proofs.Common.{◌≡◌, ℕ, ◌==◌, ◌⊎◌, inl, inr, Bool, true, false, List, All, Option, Some, None, refl, sym, ap, subst, ◌∙◌, arith}
 use Rattle.std.specs.Prelude.{Contains}
 use Rattle.std.proofs.lemmas.List.Elements.{All-contains}
 use Rattle.bpfvm.specs.Machine.{number_at}
 use Rattle.semantics.proofs.Numbers.{number-some}
 use Rattle.syntax.specs.Trees.{Tree}
-use Rattle.syntax.specs.declared.tree.Direction.{Direction}
-use Rattle.syntax.specs.declared.tree.Transport.{Transport}
 use Rattle.semantics.specs.declared.verdict.Verdict.{Verdict}
 use Rattle.semantics.specs.declared.verdict.Verdict.TheVariants.{Yes, No, Abort}
-use Rattle.semantics.specs.Meaning.{Packet, and_then, or_else, check, decided, byte, half, is_type, is_first_fragment_of, by_direction, has_port, has_ports, protocol_number}
+use Rattle.semantics.specs.Meaning.{Packet, and_then, or_else, check, decided, half, is_type, by_direction}
 use Rattle.analysis.specs.declared.lists.Chain.{Chain}
 use Rattle.analysis.specs.declared.lists.Form.TheVariants as forms
 use Rattle.analysis.specs.declared.lists.Sides.{Sides}
@@ -17,9 +15,9 @@ use Rattle.analysis.specs.declared.lists.Sides.TheVariants as sides
 use Rattle.analysis.specs.declared.lists.Kind.{Kind}
 use Rattle.analysis.specs.declared.lists.Span.{Span}
 use Rattle.analysis.specs.declared.lists.Member.{Member}
-use Rattle.analysis.specs.Lists.{direction_of, ports_form, in_span, of_any_type, form_test, kind_test, member_test, IsBroader, Reaches, IsAnswered, Covers, Settles, IsApart, Commute, AreApart, AreFree, AreFreeBehind}
-use Rattle.analysis.proofs.Members.{equal-true, ports-member}
-use Rattle.analysis.proofs.Settling.{AreSettled, yes-both, is-there, answered-decided, answered-either, settled-net, covers-broader}
+use Rattle.analysis.specs.Lists.{direction_of, in_span, of_any_type, form_test, kind_test, member_test, IsBroader, Reaches, IsAnswered, Covers, Settles, IsApart, Commute, AreApart, AreFreeBehind}
+use Rattle.analysis.proofs.Members.{equal-true}
+use Rattle.analysis.proofs.Settling.{AreSettled, is-there, answered-decided, answered-either, settled-net, covers-broader}
 
 yes-decided : (b : Bool) → decided b ≡ Yes → b ≡ true
 yes-decided true is = refl

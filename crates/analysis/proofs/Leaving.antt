@@ -20,7 +20,7 @@ use Rattle.analysis.specs.declared.lists.Bytes.{Bytes}
 use Rattle.analysis.specs.declared.lists.Kind.{Kind}
 use Rattle.analysis.specs.declared.lists.Span.{Span}
 use Rattle.analysis.specs.declared.lists.Member.{Member}
-use Rattle.analysis.specs.Lists.{any_of, direction_of, bytes_test, form_test, kind_test, member_test, members_weight, IsMember, IsPort, Includes, IsIncluded, LeavesOut}
+use Rattle.analysis.specs.Lists.{any_of, direction_of, bytes_test, form_test, kind_test, member_test, IsMember, IsPort, Includes, IsIncluded, LeavesOut}
 use Rattle.analysis.proofs.Members.{any-first, bytes-at, bytes-same, weight-append}
 use Rattle.analysis.proofs.Settling.{both-no, header-short}
 

@@ -44,7 +44,7 @@ pub answered-decided : (b : Bool) → IsAnswered (decided b)
 answered-decided true = tt
 answered-decided false = tt
 
-pub settled-check : (f g : Span → ℕ → Bool) (v : Option ℕ) → AreSettled (λ x. check (f x) v) (λ x. check (g x) v)
+settled-check : (f g : Span → ℕ → Bool) (v : Option ℕ) → AreSettled (λ x. check (f x) v) (λ x. check (g x) v)
 settled-check f g None x y is = absurd cc
 settled-check f g (Some n) x y is = answered-decided (g y n)
 
@@ -197,7 +197,7 @@ turned-passing chains.NoneOf Abort is = absurd cc
 pub asks-member : (c : Chain) (t : Tree) (m : Member) (kind : Kind) → Covers m.kind kind → ((p : Packet) → meaning t p ≡ turned c (member_test m p)) → Asks c t kind
 asks-member c t m kind covers same = record { answered = λ p passes x. covers.answered p m.span x (turned-passing c (member_test m p) (sym (same p) ∙ passes)) }
 
-pub yes-both : (v w : Verdict) → and_then v w ≡ Yes → (v ≡ Yes) × (w ≡ Yes)
+yes-both : (v w : Verdict) → and_then v w ≡ Yes → (v ≡ Yes) × (w ≡ Yes)
 yes-both Yes w is = (refl, is)
 yes-both No w is = absurd cc
 yes-both Abort w is = absurd cc

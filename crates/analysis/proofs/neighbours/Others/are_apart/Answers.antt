@@ -1,5 +1,4 @@
 use Rattle.std.proofs.Common.{◌≡◌, ◌⊎◌, sym}
-use Rattle.analysis.specs.Lists.{IsApart, AreApart}
 use Rattle.analysis.proofs.Members.{all-taken}
 use Rattle.analysis.proofs.Settling.{on-true}
 use Rattle.analysis.proofs.neighbours.Others.are_apart.Goals as goal
