@@ -11,14 +11,14 @@ use Rattle.savefile.specs.declared.packet.Packet.{Packet}
 use Rattle.savefile.specs.Reader.{HasGiven, IsCause, Leaves, Lends, Reading, WasBegun, WasRead, WasRefused}
 use Rattle.semantics.specs.declared.verdict.Verdict.{Verdict}
 use Rattle.lines.specs.Sending.{Takes, TakesPart}
-use Rattle.lines.proofs.Taking.{TakesPart-then}
+use Rattle.lines.proofs.Taking.{TakesPart-more, TakesPart-then}
 use Rattle.verdicts.specs.declared.each.Counts.{Counts}
 use Rattle.verdicts.specs.declared.each.Unprinted.{Unprinted}
 use Rattle.verdicts.specs.declared.each.Unprinted.TheVariants as unprinted
 use Rattle.verdicts.specs.declared.filter.Filter.{Filter}
 use Rattle.verdicts.specs.declared.one.Found.{Found}
-use Rattle.verdicts.specs.Answers.{Answer, IsAnswer}
-use Rattle.verdicts.specs.Explained.{is_yes, is_no, is_abort, count_of, AreCounts, counts_text, answer_lines, printed, packets_of, IsUnopened, PrintsLine, PrintsLines, PrintsAll, PrintsFound, PrintsMore, PrintsWhole, GoesTo, Finds}
+use Rattle.verdicts.specs.Answers.{Answer, IsAnswer, answer, answer_line}
+use Rattle.verdicts.specs.Explained.{is_yes, is_no, is_abort, count_of, AreCounts, counts_text, answer_lines, printed, packets_of, IsLineBroken, IsUnopened, PrintsLine, PrintsLines, PrintsAll, PrintsFound, PrintsMore, PrintsWhole, GoesTo, Finds}
 
 -- the header was not read
 pub unopened : (from left : Option (List ℕ)) (fault : Fault) → WasRefused from fault ⊎ (fault ≡ Device) ⊎ (fault ≡ NoMemory) →
@@ -112,3 +112,10 @@ pub prints-whole : {A : Type 0} (f : Filter) (place : ℕ) (p : Packet) (old mid
 prints-whole f place p old mid new v (Ok x) (reason, is, line) (text, taken) = (v, reason, is, text, Appends-trans old mid new _ text line taken)
 prints-whole f place p old mid new v (Err unprinted.NoMemory) (reason, is, line) kept = inr (v, (reason, is, Appends-kept old mid new _ line kept))
 prints-whole f place p old mid new v (Err (unprinted.Output error)) (reason, is, line) (text, part) = (v, reason, is, text, TakesPart-then old mid new _ text line part)
+
+-- or its line broke off
+pub broken-line : {A : Type 0} (f : Filter) (place : ℕ) (p : Packet) (old new : Option (List ℕ)) (result : Result A Unprinted) (u : Unprinted) →
+    result ≡ Err u → IsLineBroken f place p old new u → PrintsWhole f place p old new result
+broken-line f place p old new result unprinted.NoMemory is kept = rw is (inl kept)
+broken-line f place p old new result (unprinted.Output error) is (verdict, reason, answers, part) =
+    rw is (verdict, reason, answers, [], TakesPart-more old new (answer_line place (answer p verdict reason)) [] part)

@@ -10,7 +10,7 @@ use filterlang::{
 use std::alloc::{AllocFailed, Global};
 
 /// A number of a packet that was looked at.
-#[derive(Clone, Copy, Debug, PartialEq, Eq)]
+#[derive(Clone, Copy, PartialEq, Eq)]
 pub(crate) enum Looked {
     /// So many bytes at an offset of the frame: no number where one of them was not captured.
     Bytes {

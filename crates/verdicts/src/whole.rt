@@ -28,7 +28,7 @@ fn put_bytes(
     }
     match number {
         Some(number) => write!(text, "= {number:#x}\n"),
-        None => write!(text, "is not captured\n"),
+        None => text.push_str("is not captured\n"),
     }
 }
 
@@ -52,7 +52,7 @@ fn put_answer(text: &mut String, asked: Asked<'_>) -> Result<(), AllocError> {
     write!(text, "{:<11}", verdict_text(asked.verdict))?;
     put_part(text, asked.part, false)?;
     put_cause(text, asked.cause)?;
-    write!(text, "\n")
+    text.push('\n')
 }
 
 /// Appends a primitive or a relation that is asked, its own answer, and what it looks at.
@@ -71,9 +71,9 @@ fn put_asked(
 
 /// Appends a primitive or a relation that is not asked.
 fn put_unasked(text: &mut String, part: &Expr) -> Result<(), AllocError> {
-    write!(text, "not asked  ")?;
+    text.push_str("not asked  ")?;
     put_part(text, part, false)?;
-    write!(text, "\n")
+    text.push('\n')
 }
 
 /// What `not` makes of an answer.
@@ -90,6 +90,21 @@ fn joined(first: Verdict, goes_on: Verdict, second: Verdict) -> Verdict {
     if first == goes_on { second } else { first }
 }
 
+/// Appends a primitive or a relation, and answers what it answers, where it is asked.
+fn put_one_part(
+    alloc: Global,
+    text: &mut String,
+    part: &Expr,
+    is_asked: bool,
+    packet: &PacketRef<'_>,
+) -> Result<Verdict, NoMemory> {
+    if is_asked {
+        return put_asked(alloc, text, part, packet);
+    }
+    put_unasked(text, part)?;
+    Ok(Verdict::No)
+}
+
 /// Appends the primitives and relations of an expression from left to right, and answers what it answers. Those that are not
 /// asked are named so.
 fn put_parts(
@@ -99,26 +114,18 @@ fn put_parts(
     is_asked: bool,
     packet: &PacketRef<'_>,
 ) -> Result<Verdict, NoMemory> {
-    match expr {
-        Expr::Not(operand) => Ok(opposite(put_parts(alloc, text, operand, is_asked, packet)?)),
-        Expr::And(left, right) => {
-            let first = put_parts(alloc, text, left, is_asked, packet)?;
-            let goes_on = is_asked && first == Verdict::Yes;
-            let second = put_parts(alloc, text, right, goes_on, packet)?;
-            Ok(joined(first, Verdict::Yes, second))
+    let (left, goes_on, right) = match expr {
+        Expr::Not(operand) => {
+            return Ok(opposite(put_parts(alloc, text, operand, is_asked, packet)?));
         }
-        Expr::Or(left, right) => {
-            let first = put_parts(alloc, text, left, is_asked, packet)?;
-            let goes_on = is_asked && first == Verdict::No;
-            let second = put_parts(alloc, text, right, goes_on, packet)?;
-            Ok(joined(first, Verdict::No, second))
-        }
-        _ if is_asked => put_asked(alloc, text, expr, packet),
-        _ => {
-            put_unasked(text, expr)?;
-            Ok(Verdict::No)
-        }
-    }
+        Expr::And(left, right) => (left, Verdict::Yes, right),
+        Expr::Or(left, right) => (left, Verdict::No, right),
+        _ => return put_one_part(alloc, text, expr, is_asked, packet),
+    };
+    let first = put_parts(alloc, text, left, is_asked, packet)?;
+    let is_next_asked = is_asked && first == goes_on;
+    let second = put_parts(alloc, text, right, is_next_asked, packet)?;
+    Ok(joined(first, goes_on, second))
 }
 
 /// Appends how an expression was read, and its primitives and relations.
@@ -171,7 +178,7 @@ fn put_registers(text: &mut String, executed: &Executed) -> Result<(), AllocErro
     write!(text, " A {accumulator:#x} X {index:#x}")?;
     match executed.stored {
         Some(stored) => write!(text, " M[{}] {:#x}\n", stored.cell, stored.value),
-        None => write!(text, "\n"),
+        None => text.push('\n'),
     }
 }
 
@@ -206,17 +213,11 @@ fn put_broken_off(
 
 /// Appends why an instruction of this code was not carried out, unless it is a return.
 fn put_cause_of_end(text: &mut String, code: u16) -> Result<(), AllocError> {
-    match code {
-        code::RET_K | code::RET_A => Ok(()),
-        code::DIV_X | code::MOD_X => write!(
-            text,
-            "the last instruction was not carried out: its divisor is 0\n"
-        ),
-        _ => write!(
-            text,
-            "the last instruction was not carried out: a byte that it loads is not captured\n"
-        ),
-    }
+    text.push_str(match code {
+        code::RET_K | code::RET_A => "",
+        code::DIV_X | code::MOD_X => "the last instruction was not carried out: its divisor is 0\n",
+        _ => "the last instruction was not carried out: a byte that it loads is not captured\n",
+    })
 }
 
 /// Appends a run of a program, and what it answers.
@@ -226,10 +227,7 @@ fn put_traced(
     program: &Program,
     run: &Traced,
 ) -> Result<(), NoMemory> {
-    write!(
-        text,
-        "\nprogram, with the registers behind each instruction:\n"
-    )?;
+    text.push_str("\nprogram, with the registers behind each instruction:\n")?;
     put_executed(alloc, text, program, run.executed.as_slice())?;
     put_broken_off(text, program, run.executed.as_slice())?;
     write!(text, "answer {}\n", run.answer)?;
