@@ -186,14 +186,19 @@ pub fn all_left<'a>(
     Ok(all)
 }
 
+/// Puts the text of an expression, twice, in place of what the line has.
+fn put_twice(line: &mut String, expr: &Expr) -> Result<(), AllocError> {
+    line.clear();
+    write!(line, "{} {}", Canonical(expr), Canonical(expr))
+}
+
 /// A line with room for each answer of these listeners. What decides of a packet is part of an expression, so that twice the
 /// expression's own text has room for it, with any parentheses.
 pub fn line_for(alloc: Global, all: &[AnswersLeft<'_>]) -> Result<String, AllocError> {
     let mut line = String::with_capacity(alloc, LINE_ROOM)?;
     for one in all {
         if let Some(expr) = &one.expr {
-            line.clear();
-            write!(line, "{} {}", Canonical(expr), Canonical(expr))?;
+            put_twice(&mut line, expr)?;
         }
     }
     line.reserve(LINE_ROOM)?;
@@ -320,7 +325,23 @@ fn put_own(line: &mut String, n: usize, word: &str, l: usize) -> Result<(), Allo
     writeln!(line, "step {n} {word} {l}")
 }
 
-/// Writes the n-th step, which names the l-th listener, and the answer to it, and goes over that.
+/// Writes the n-th step, which names the l-th listener, and the answer to it.
+fn write_named<O: Write>(
+    n: usize,
+    word: &str,
+    l: usize,
+    all: &[AnswersLeft<'_>],
+    line: &mut String,
+    out: &mut O,
+) -> io::Result<()>
+    ensures { Takes (O.contents out.old) (O.contents out.new) result (own_line n word.now l ++ line_at l all.now) }
+{
+    put_own(line, n, word, l)?;
+    send(line.as_bytes(), out)?;
+    write_one(all, l, line, out)
+}
+
+/// The same, and goes over the answer.
 fn write_own<O: Write>(
     n: usize,
     word: &str,
@@ -332,9 +353,7 @@ fn write_own<O: Write>(
     ensures text { Takes (O.contents out.old) (O.contents out.new) result (own_line n word.now l ++ line_at l all.old.items) }
     ensures left { OnOk result (all.new.items ≡ one_behind n l all.old.items) }
 {
-    put_own(line, n, word, l)?;
-    send(line.as_bytes(), out)?;
-    write_one(all.as_slice(), l, line, out)?;
+    write_named(n, word, l, all.as_slice(), line, out)?;
     go_on_one(all, n, l);
     Ok(())
 }

@@ -4,8 +4,13 @@ use Rattle.std.specs.Io.KnownBytes.{Appends}
 use Rattle.lines.specs.Texts.{numbered}
 use Rattle.step_texts.specs.Answers.{arrival_line, arrived_line}
 use Rattle.lines.specs.Sending.{TakesPart}
-use Rattle.lines.proofs.Taking.{TakesPart-more, Takes-then}
+use Rattle.lines.proofs.Taking.{TakesPart-more, TakesPart-none, Takes-then}
 use Rattle.step_texts.proofs.answers.write_arrival.Goals as goal
+
+pub returns-in_err-put_arrival : goal.returns-in_err-put_arrival
+returns-in_err-put_arrival g c =
+    let p = err_from_is_err_and c.from_residual.result c.from_residual.ensures.1 in
+    rw p.1 (TakesPart-none _ _)
 
 pub returns-in_err-send : goal.returns-in_err-send
 returns-in_err-send g c =
