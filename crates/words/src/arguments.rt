@@ -1,16 +1,61 @@
 //! The arguments of the subcommands, each made by what it is.
 
 use clap::{Arg, ArgAction};
-use std::alloc::Global;
+use std::alloc::{AllocError, Global};
+
+/// An argument of a subcommand: its name, its letter, what its help calls the value, and the help itself.
+#[derive(Clone, Copy)]
+pub(crate) enum Argument {
+    /// An option without a value.
+    Flag(&'static str, char, &'static str),
+    /// An option with a value.
+    Text(&'static str, char, &'static str, &'static str),
+    /// An option whose value is a number.
+    Number(&'static str, char, &'static str, &'static str),
+    /// The path of a file.
+    Path(&'static str, &'static str),
+    /// The paths of one file or more.
+    Paths(&'static str, &'static str),
+    /// The snapshot length that packets are cut to.
+    Snap,
+    /// The snapshot length of a program that is printed or explained.
+    DefaultSnap,
+    /// The listing of a filter program.
+    Listing,
+    /// The byte order of what is written.
+    Order,
+    /// The unit of time of what is written.
+    Unit,
+    /// Whether an expression is printed as it was read.
+    Read,
+    /// An expression, as a word of its own, where no listing is given.
+    Word,
+}
+
+impl Argument {
+    /// The argument as `clap` has it.
+    pub fn made<'a>(self, alloc: Global) -> Result<Arg<'a>, AllocError> {
+        match self {
+            Argument::Flag(name, short, help) => Ok(flag(alloc, name, short, help)),
+            Argument::Text(name, short, value, help) => Ok(option(alloc, name, short, value, help)),
+            Argument::Number(name, short, value, help) => Ok(number(
+                alloc, name, short, value, help,
+            )),
+            Argument::Path(name, help) => Ok(path(alloc, name, help)),
+            Argument::Paths(name, help) => Ok(paths(alloc, name, help)),
+            Argument::Snap => Ok(snap(alloc)),
+            Argument::DefaultSnap => Ok(default_snap(alloc)),
+            Argument::Listing => Ok(listing(alloc)),
+            Argument::Order => Ok(order(alloc)),
+            Argument::Unit => Ok(unit(alloc)),
+            Argument::Read => read(alloc),
+            Argument::Word => word(alloc),
+        }
+    }
+}
 
 /// An option with a value.
-pub(crate) fn option<'a>(
-    alloc: Global,
-    name: &'a str,
-    short: char,
-    value: &'a str,
-    help: &'a str,
-) -> Arg<'a> {
+fn option<'a>(alloc: Global, name: &'a str, short: char, value: &'a str, help: &'a str) -> Arg<'a> {
     Arg::new(alloc, name)
         .short(short)
         .value_name(value)
@@ -18,18 +63,12 @@ pub(crate) fn option<'a>(
 }
 
 /// An option whose value is a number; one with a sign is a value too, and refused as one.
-pub(crate) fn number<'a>(
-    alloc: Global,
-    name: &'a str,
-    short: char,
-    value: &'a str,
-    help: &'a str,
-) -> Arg<'a> {
+fn number<'a>(alloc: Global, name: &'a str, short: char, value: &'a str, help: &'a str) -> Arg<'a> {
     option(alloc, name, short, value, help).allow_negative_numbers(true)
 }
 
 /// An option without a value.
-pub(crate) fn flag<'a>(alloc: Global, name: &'a str, short: char, help: &'a str) -> Arg<'a> {
+fn flag<'a>(alloc: Global, name: &'a str, short: char, help: &'a str) -> Arg<'a> {
     Arg::new(alloc, name)
         .short(short)
         .action(ArgAction::SetTrue)
@@ -37,17 +76,29 @@ pub(crate) fn flag<'a>(alloc: Global, name: &'a str, short: char, help: &'a str)
 }
 
 /// The path of a file.
-pub(crate) fn path<'a>(alloc: Global, name: &'a str, help: &'a str) -> Arg<'a> {
+fn path<'a>(alloc: Global, name: &'a str, help: &'a str) -> Arg<'a> {
     Arg::new(alloc, name).required(true).help(help)
 }
 
 /// The paths of one file or more.
-pub(crate) fn paths<'a>(alloc: Global, name: &'a str, help: &'a str) -> Arg<'a> {
+fn paths<'a>(alloc: Global, name: &'a str, help: &'a str) -> Arg<'a> {
     path(alloc, name, help).num_args(1..)
 }
 
+/// The snapshot length that packets are cut to, which has to be given.
+fn snap<'a>(alloc: Global) -> Arg<'a> {
+    number(
+        alloc,
+        "snap",
+        's',
+        "N",
+        "Snapshot length: keep at most N bytes of a packet, 0 to 262144 (0 means 262144)",
+    )
+    .required(true)
+}
+
 /// The snapshot length of a program that is printed or explained.
-pub(crate) fn default_snap<'a>(alloc: Global) -> Arg<'a> {
+fn default_snap<'a>(alloc: Global) -> Arg<'a> {
     number(
         alloc,
         "snap",
@@ -59,7 +110,7 @@ pub(crate) fn default_snap<'a>(alloc: Global) -> Arg<'a> {
 }
 
 /// The listing of a filter program.
-pub(crate) fn listing<'a>(alloc: Global) -> Arg<'a> {
+fn listing<'a>(alloc: Global) -> Arg<'a> {
     option(
         alloc,
         "listing",
@@ -70,15 +121,35 @@ pub(crate) fn listing<'a>(alloc: Global) -> Arg<'a> {
 }
 
 /// The byte order of what is written.
-pub(crate) fn order<'a>(alloc: Global) -> Arg<'a> {
+fn order<'a>(alloc: Global) -> Arg<'a> {
     option(alloc, "order", 'o', "ORDER", "Byte order of OUT")
         .value_parser(["little", "big"].as_slice())
         .default_value("little")
 }
 
 /// The unit of time of what is written.
-pub(crate) fn unit<'a>(alloc: Global) -> Arg<'a> {
+fn unit<'a>(alloc: Global) -> Arg<'a> {
     option(alloc, "unit", 'u', "UNIT", "Unit of the time stamps of OUT")
         .value_parser(["micro", "nano"].as_slice())
         .default_value("micro")
+}
+
+/// Whether an expression is printed as it was read.
+fn read<'a>(alloc: Global) -> Result<Arg<'a>, AllocError> {
+    flag(
+        alloc,
+        "read",
+        'x',
+        "Print the expression as it was read, with all that it inherits written out",
+    )
+    .conflicts_with("named")?
+    .conflicts_with("listing")
+}
+
+/// An expression, as a word of its own, where no listing is given.
+fn word<'a>(alloc: Global) -> Result<Arg<'a>, AllocError> {
+    Arg::new(alloc, "EXPR")
+        .help("Filter expression of pcap-filter(7), as one word; it may be empty")
+        .required_unless_present("listing")?
+        .conflicts_with("listing")
 }

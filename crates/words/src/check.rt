@@ -1,8 +1,8 @@
 //! The words of `bpftap check`, by `clap`.
 
-use crate::arguments::{default_snap, flag, option};
-use crate::subcommand::Subcommand;
-use clap::{Arg, ArgMatches, Command};
+use crate::arguments::Argument;
+use crate::subcommand::subcommand;
+use clap::{ArgMatches, Command};
 use lines::fields::snapshot_length;
 use std::alloc::{AllocError, Global};
 
@@ -39,51 +39,32 @@ expression that it stands at, from 0; docs/LANGUAGE.md has the language.
 Exit status: 0 the program is printed; 1 the expression or listing is refused or the program is
 too long, wrong words, or want of memory; 3 a file or standard output failed.";
 
-fn read_arg<'a>(alloc: Global) -> Result<Arg<'a>, AllocError> {
-    flag(
-        alloc,
-        "read",
-        'x',
-        "Print the expression as it was read, with all that it inherits written out",
-    )
-    .conflicts_with("named")?
-    .conflicts_with("listing")
-}
-
-fn expr_word<'a>(alloc: Global) -> Result<Arg<'a>, AllocError> {
-    Arg::new(alloc, "EXPR")
-        .help("Filter expression of pcap-filter(7), as one word; it may be empty")
-        .required_unless_present("listing")?
-        .conflicts_with("listing")
-}
-
-/// The subcommand.
-pub fn check_command<'a>(alloc: Global) -> Result<Command<'a>, AllocError> {
-    let read = read_arg(alloc)?;
-    let expr = expr_word(alloc)?;
-    Subcommand::new(
-        alloc,
-        "check",
-        "Print the program of a filter expression, or tell what is wrong with it",
-        CHECK_EXAMPLES,
-    )
-    .with(flag(
-        alloc,
+static ARGUMENTS: [Argument; 5] = [
+    Argument::Flag(
         "named",
         'd',
         "Print instructions by their names, as tcpdump -d does",
-    ))
-    .with(read)
-    .with(default_snap(alloc))
-    .with(option(
-        alloc,
+    ),
+    Argument::Read,
+    Argument::DefaultSnap,
+    Argument::Text(
         "listing",
         'f',
         "LISTING",
         "Print the program of this file, which is in the form of tcpdump -ddd",
-    ))
-    .with(expr)
-    .made()
+    ),
+    Argument::Word,
+];
+
+/// The subcommand.
+pub fn check_command<'a>(alloc: Global) -> Result<Command<'a>, AllocError> {
+    subcommand(
+        alloc,
+        "check",
+        "Print the program of a filter expression, or tell what is wrong with it",
+        CHECK_EXAMPLES,
+        &ARGUMENTS,
+    )
 }
 
 /// The words that were found, nothing where one is missing or the snapshot length is none.

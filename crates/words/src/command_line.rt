@@ -1,11 +1,11 @@
 //! The words of the command line, by `clap`.
-use crate::arguments::{flag, listing, number, option, order, path, unit};
+use crate::arguments::Argument;
 use crate::check::{CheckWords, check_command, check_words};
 use crate::explain::{ExplainWords, bad_explain_words, explain_command, explain_words};
 use crate::run::{RunWords, run_command, run_words};
 use crate::split::{SplitWords, split_command, split_words};
 use crate::steps::{StepsWords, steps_command, steps_words};
-use crate::subcommand::Subcommand;
+use crate::subcommand::{bad_value, subcommand};
 use clap::error::ErrorKind;
 use clap::{Arg, ArgAction, ArgMatches, Command, Error};
 use lines::fields::snapshot_length;
@@ -71,6 +71,9 @@ const CUT_EXAMPLES: &str = "Examples:
 Exit status: 0 clean; 1 wrong words, a refused expression, file or listing, or want of memory;
 2 a torn or bad record, after the packets before it; 3 a file or device failed.";
 
+/// The subcommands, in the order of the help.
+static SUBCOMMANDS: [&str; 6] = ["check", "explain", "cut", "split", "steps", "run"];
+
 /// The option that asks for hints, without its dashes.
 const HINTS: &str = "hints";
 
@@ -82,53 +85,40 @@ pub fn asks_hints<S: AsStr>(words: &[S]) -> bool {
     }
 }
 
-/// The snapshot length that packets are cut to, which has to be given.
-fn snap<'a>(alloc: Global) -> Arg<'a> {
-    number(
-        alloc,
-        "snap",
-        's',
-        "N",
-        "Snapshot length: keep at most N bytes of a packet, 0 to 262144 (0 means 262144)",
-    )
-    .required(true)
-}
-
-fn cut_command<'a>(alloc: Global) -> Result<Command<'a>, AllocError> {
-    Subcommand::new(
-        alloc,
-        "cut",
-        "Write each packet of IN that the filter accepts, cut, to OUT",
-        CUT_EXAMPLES,
-    )
-    .with(snap(alloc))
-    .with(listing(alloc))
-    .with(option(
-        alloc,
+static CUT: [Argument; 8] = [
+    Argument::Snap,
+    Argument::Listing,
+    Argument::Text(
         "expr",
         'e',
         "EXPR",
         "Filter expression of pcap-filter(7), as one word; without -e and -f every packet is taken",
-    ))
-    .with(order(alloc))
-    .with(unit(alloc))
-    .with(flag(
-        alloc,
+    ),
+    Argument::Order,
+    Argument::Unit,
+    Argument::Flag(
         "counted",
         'c',
         "Tell on standard error how many of how many packets were written",
-    ))
-    .with(path(
-        alloc,
+    ),
+    Argument::Path(
         "IN",
         "Capture to read: a classic savefile of Ethernet frames",
-    ))
-    .with(path(
-        alloc,
+    ),
+    Argument::Path(
         "OUT",
         "Capture to write; made once the filter and the header of IN are accepted",
-    ))
-    .made()
+    ),
+];
+
+fn cut_command<'a>(alloc: Global) -> Result<Command<'a>, AllocError> {
+    subcommand(
+        alloc,
+        "cut",
+        "Write each packet of IN that the filter accepts, cut, to OUT",
+        CUT_EXAMPLES,
+        &CUT,
+    )
 }
 
 fn hints_arg<'a>(alloc: Global) -> Arg<'a> {
@@ -138,32 +128,35 @@ fn hints_arg<'a>(alloc: Global) -> Arg<'a> {
         .help("Say below a fault what helps to mend it, as where it is told on a terminal")
 }
 
-/// With a subcommand more, where there was memory for both.
-fn with<'a>(
-    program: Result<Command<'a>, AllocError>,
-    subcommand: Result<Command<'a>, AllocError>,
-) -> Result<Command<'a>, AllocError> {
-    program?.subcommand(subcommand?)
-}
-
 /// The program without its subcommands.
-fn bare_program<'a>(alloc: Global) -> Result<Command<'a>, AllocError> {
+fn bare_program<'a>(alloc: Global) -> Command<'a> {
     Command::new(alloc, "bpftap")
         .version(VERSION)
         .about(ABOUT)
         .after_help(EXAMPLES)
         .subcommand_required(true)
         .arg_required_else_help(true)
-        .arg(hints_arg(alloc))
+}
+
+/// The subcommand of this name.
+fn subcommand_of<'a>(alloc: Global, name: &str) -> Result<Command<'a>, AllocError> {
+    match name {
+        "check" => check_command(alloc),
+        "explain" => explain_command(alloc),
+        "cut" => cut_command(alloc),
+        "split" => split_command(alloc),
+        "steps" => steps_command(alloc),
+        _ => run_command(alloc),
+    }
 }
 
 fn program<'a>(alloc: Global) -> Result<Command<'a>, AllocError> {
-    let program = with(bare_program(alloc), check_command(alloc));
-    let program = with(program, explain_command(alloc));
-    let program = with(program, cut_command(alloc));
-    let program = with(program, split_command(alloc));
-    let program = with(program, steps_command(alloc));
-    with(program, run_command(alloc))
+    let mut program = bare_program(alloc).arg(hints_arg(alloc))?;
+    for name in SUBCOMMANDS.iter() {
+        let subcommand = subcommand_of(alloc, *name)?;
+        program = program.subcommand(subcommand)?;
+    }
+    Ok(program)
 }
 
 pub(crate) fn order_of(matches: &ArgMatches<'_>) -> Order {
@@ -232,6 +225,16 @@ fn asked_of<'a>(
     }
 }
 
+/// What the words ask for, by this program.
+fn read_by<'a, S: AsStr>(
+    alloc: Global,
+    program: &mut Command<'a>,
+    words: &'a [S],
+) -> Result<Request<'a>, Error> {
+    let matches = program.try_get_matches_from_mut(words)?;
+    asked_by(alloc, &matches, program)
+}
+
 /// What words that `clap` took ask for.
 fn asked_by<'a>(
     alloc: Global,
@@ -247,20 +250,18 @@ fn asked_by<'a>(
 /// What the words ask for, the program's name first; or `clap`'s error, which for a call for help has the help.
 pub fn read_words<'a, S: AsStr>(alloc: Global, words: &'a [S]) -> Result<Request<'a>, Error> {
     let mut program = program(alloc)?;
-    let matches = program.try_get_matches_from_mut(words)?;
-    asked_by(alloc, &matches, &mut program)
+    read_by(alloc, &mut program, words)
 }
+
+/// What a snapshot length is.
+const SNAP_WANTED: &str = "-s takes a number from 0 to 262144";
 
 /// The error of a snapshot length that is not digits alone, with the usage of its subcommand.
 fn bad_snap(alloc: Global, name: &str) -> Result<Error, AllocError> {
-    let mut command = match name {
-        "check" => check_command(alloc)?.bin_name("bpftap check")?,
-        _ => cut_command(alloc)?.bin_name("bpftap cut")?,
-    };
-    command.error(
-        ErrorKind::ValueValidation,
-        "-s takes a number from 0 to 262144",
-    )
+    match name {
+        "check" => bad_value(check_command(alloc), "bpftap check", SNAP_WANTED),
+        _ => bad_value(cut_command(alloc), "bpftap cut", SNAP_WANTED),
+    }
 }
 
 fn cut_words<'a>(matches: &ArgMatches<'a>) -> Option<CutWords<'a>> {

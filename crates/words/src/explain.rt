@@ -1,8 +1,7 @@
 //! The words of `bpftap explain`, by `clap`.
 
-use crate::arguments::{default_snap, listing, number, option, path};
-use crate::subcommand::Subcommand;
-use clap::error::ErrorKind;
+use crate::arguments::Argument;
+use crate::subcommand::{bad_value, subcommand};
 use clap::{ArgGroup, ArgMatches, Command, Error};
 use lines::fields::snapshot_length;
 use std::alloc::{AllocError, Global};
@@ -47,38 +46,42 @@ fn filter_group<'a>(alloc: Global) -> Result<ArgGroup<'a>, AllocError> {
         .arg("listing")
 }
 
-/// The subcommand.
-pub fn explain_command<'a>(alloc: Global) -> Result<Command<'a>, AllocError> {
-    let filter = filter_group(alloc)?;
-    Subcommand::new(
-        alloc,
-        "explain",
-        "Tell of each packet of IN whether the filter accepts it, and what decided",
-        EXPLAIN_EXAMPLES,
-    )
-    .with(default_snap(alloc))
-    .with(option(
-        alloc,
+static ARGUMENTS: [Argument; 5] = [
+    Argument::DefaultSnap,
+    Argument::Text(
         "expr",
         'e',
         "EXPR",
         "Filter expression of pcap-filter(7), as one word; it may be empty",
-    ))
-    .with(listing(alloc))
-    .with(number(
-        alloc,
+    ),
+    Argument::Listing,
+    Argument::Number(
         "place",
         'p',
         "PLACE",
         "Tell this packet alone, counted from 0, in full",
-    ))
-    .with(path(
-        alloc,
+    ),
+    Argument::Path(
         "IN",
         "Capture to read: a classic savefile of Ethernet frames",
-    ))
-    .made()?
-    .group(filter)
+    ),
+];
+
+/// The subcommand, of which no filter is wanted.
+fn bare_command<'a>(alloc: Global) -> Result<Command<'a>, AllocError> {
+    subcommand(
+        alloc,
+        "explain",
+        "Tell of each packet of IN whether the filter accepts it, and what decided",
+        EXPLAIN_EXAMPLES,
+        &ARGUMENTS,
+    )
+}
+
+/// The subcommand.
+pub fn explain_command<'a>(alloc: Global) -> Result<Command<'a>, AllocError> {
+    let filter = filter_group(alloc)?;
+    bare_command(alloc)?.group(filter)
 }
 
 /// The place of a packet, where one is given; nothing inside where it is no number.
@@ -110,6 +113,5 @@ fn wanted(matches: &ArgMatches<'_>) -> &'static str {
 
 /// The error of a snapshot length or a place that is not digits alone.
 pub fn bad_explain_words(alloc: Global, matches: &ArgMatches<'_>) -> Result<Error, AllocError> {
-    let mut command = explain_command(alloc)?.bin_name("bpftap explain")?;
-    command.error(ErrorKind::ValueValidation, wanted(matches))
+    bad_value(explain_command(alloc), "bpftap explain", wanted(matches))
 }

@@ -1,7 +1,7 @@
 //! The words of `bpftap run`, by `clap`.
 
-use crate::arguments::{path, paths};
-use crate::subcommand::Subcommand;
+use crate::arguments::Argument;
+use crate::subcommand::subcommand;
 use clap::{ArgMatches, Command};
 use std::alloc::{AllocError, Global};
 
@@ -36,40 +36,34 @@ Examples:
 Exit status: 0 clean; 1 wrong words, a refused line, expression or file, an Unfinished listener, or want of memory;
 2 a torn or bad record, after the packets before it; 3 a file or device failed.";
 
+static ARGUMENTS: [Argument; 2] = [
+    Argument::Path(
+        "LISTENERS",
+        "File with a line INTERFACE FLUSH SNAP CAPACITY SPARES OUT EXPRESSION for each listener",
+    ),
+    Argument::Paths(
+        "IN",
+        "Captures to replay, in order, with + between those of two interfaces",
+    ),
+];
+
 /// The subcommand.
 pub fn run_command<'a>(alloc: Global) -> Result<Command<'a>, AllocError> {
-    Subcommand::new(
+    subcommand(
         alloc,
         "run",
         "Replay captures in threads to listeners, each of which writes a capture",
         RUN_EXAMPLES,
+        &ARGUMENTS,
     )
-    .with(path(
-        alloc,
-        "LISTENERS",
-        "File with a line INTERFACE FLUSH SNAP CAPACITY SPARES OUT EXPRESSION for each listener",
-    ))
-    .with(paths(
-        alloc,
-        "IN",
-        "Captures to replay, in order, with + between those of two interfaces",
-    ))
-    .made()
 }
 
 /// The paths of each interface.
 fn by_interface<'a>(alloc: Global, words: &[&'a str]) -> Result<Vec<Vec<&'a str>>, AllocError> {
     let mut interfaces = Vec::new(alloc);
-    let mut paths = Vec::new(alloc);
-    for word in words {
-        if *word == NEXT_INTERFACE {
-            interfaces.push(paths)?;
-            paths = Vec::new(alloc);
-        } else {
-            paths.push(*word)?;
-        }
+    for paths in words.split(|word| *word == NEXT_INTERFACE) {
+        interfaces.push(Vec::from_slice(alloc, paths)?)?;
     }
-    interfaces.push(paths)?;
     Ok(interfaces)
 }
 

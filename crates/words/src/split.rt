@@ -1,8 +1,8 @@
 //! The words of `bpftap split`, by `clap`.
 
-use crate::arguments::{order, path, paths, unit};
+use crate::arguments::Argument;
 use crate::command_line::{order_of, unit_of};
-use crate::subcommand::Subcommand;
+use crate::subcommand::subcommand;
 use clap::{ArgMatches, Command};
 use savefile::{Order, Unit};
 use std::alloc::{AllocError, Global};
@@ -35,27 +35,28 @@ Examples:
 Exit status: 0 clean; 1 wrong words, a refused line, expression or file, or want of memory;
 2 a torn or bad record, after the packets before it; 3 a file or device failed.";
 
+static ARGUMENTS: [Argument; 4] = [
+    Argument::Order,
+    Argument::Unit,
+    Argument::Path(
+        "LINES",
+        "File with a line SNAP OUT EXPRESSION for each capture that is written",
+    ),
+    Argument::Paths(
+        "IN",
+        "Captures to read, in order: classic savefiles of Ethernet frames",
+    ),
+];
+
 /// The subcommand.
 pub fn split_command<'a>(alloc: Global) -> Result<Command<'a>, AllocError> {
-    Subcommand::new(
+    subcommand(
         alloc,
         "split",
         "Write the packets of captures to several OUT, each by a filter of its own, in one pass",
         SPLIT_EXAMPLES,
+        &ARGUMENTS,
     )
-    .with(order(alloc))
-    .with(unit(alloc))
-    .with(path(
-        alloc,
-        "LINES",
-        "File with a line SNAP OUT EXPRESSION for each capture that is written",
-    ))
-    .with(paths(
-        alloc,
-        "IN",
-        "Captures to read, in order: classic savefiles of Ethernet frames",
-    ))
-    .made()
 }
 
 /// The words that were found, nothing where one is missing.

@@ -1,7 +1,7 @@
 //! The words of `bpftap steps`, by `clap`.
 
-use crate::arguments::{flag, option, path, paths};
-use crate::subcommand::Subcommand;
+use crate::arguments::Argument;
+use crate::subcommand::subcommand;
 use clap::{ArgMatches, Command};
 use std::alloc::{AllocError, Global};
 
@@ -37,43 +37,41 @@ Examples:
 Exit status: 0 clean; 1 wrong words, a refused line, expression or file, or want of memory;
 2 a torn or bad record, after the reports; 3 a file or device failed.";
 
-/// The subcommand.
-pub fn steps_command<'a>(alloc: Global) -> Result<Command<'a>, AllocError> {
-    Subcommand::new(
-        alloc,
-        "steps",
-        "Play a script to listeners over captures, and report what each has read and holds",
-        STEPS_EXAMPLES,
-    )
-    .with(flag(
-        alloc,
+static ARGUMENTS: [Argument; 5] = [
+    Argument::Flag(
         "explained",
         'v',
         "Print each step's answers first, and why they were given",
-    ))
-    .with(option(
-        alloc,
+    ),
+    Argument::Text(
         "picture",
         'p',
         "FILE",
         "Draw what each step found in the buffers to FILE, as SVG",
-    ))
-    .with(path(
-        alloc,
+    ),
+    Argument::Path(
         "LISTENERS",
         "File with a line SNAP CAPACITY EXPRESSION for each listener",
-    ))
-    .with(path(
-        alloc,
+    ),
+    Argument::Path(
         "SCRIPT",
         "File with a line for each step: arrive, flush L, read L or close L",
-    ))
-    .with(paths(
-        alloc,
+    ),
+    Argument::Paths(
         "IN",
         "Captures to replay, in order: classic savefiles of Ethernet frames",
-    ))
-    .made()
+    ),
+];
+
+/// The subcommand.
+pub fn steps_command<'a>(alloc: Global) -> Result<Command<'a>, AllocError> {
+    subcommand(
+        alloc,
+        "steps",
+        "Play a script to listeners over captures, and report what each has read and holds",
+        STEPS_EXAMPLES,
+        &ARGUMENTS,
+    )
 }
 
 /// The words that were found, nothing where one is missing.

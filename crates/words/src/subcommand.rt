@@ -1,31 +1,32 @@
 //! A subcommand that is made argument by argument.
 
-use clap::{Arg, Command};
+use crate::arguments::Argument;
+use clap::error::ErrorKind;
+use clap::{Command, Error};
 use std::alloc::{AllocError, Global};
 
-/// A subcommand with the arguments that it has so far, or the want of memory for one.
-#[derive(Drop)]
-pub(crate) struct Subcommand<'a> {
-    made: Result<Command<'a>, AllocError>,
+/// A subcommand with these arguments, in the order of its help.
+pub(crate) fn subcommand<'a>(
+    alloc: Global,
+    name: &'a str,
+    about: &'a str,
+    examples: &'a str,
+    arguments: &[Argument],
+) -> Result<Command<'a>, AllocError> {
+    let mut command = Command::new(alloc, name).about(about).after_help(examples);
+    for argument in arguments {
+        let arg = argument.made(alloc)?;
+        command = command.arg(arg)?;
+    }
+    Ok(command)
 }
 
-impl<'a> Subcommand<'a> {
-    pub fn new(alloc: Global, name: &'a str, about: &'a str, examples: &'a str) -> Subcommand<'a> {
-        let command = Command::new(alloc, name).about(about).after_help(examples);
-        Subcommand { made: Ok(command) }
-    }
-
-    /// With an argument more, behind the others in its help.
-    pub fn with(self, arg: Arg<'a>) -> Subcommand<'a> {
-        let made = match self.made {
-            Ok(command) => command.arg(arg),
-            Err(refused) => Err(refused),
-        };
-        Subcommand { made }
-    }
-
-    /// The subcommand, where there was memory for all of it.
-    pub fn made(self) -> Result<Command<'a>, AllocError> {
-        self.made
-    }
+/// The error of a value that a subcommand does not take, with the usage of that, by its whole name.
+pub(crate) fn bad_value(
+    subcommand: Result<Command<'_>, AllocError>,
+    name: &str,
+    wanted: &str,
+) -> Result<Error, AllocError> {
+    let mut command = subcommand?.bin_name(name)?;
+    command.error(ErrorKind::ValueValidation, wanted)
 }
