@@ -40,58 +40,32 @@ static BEFORE_ADDRESSES: [&[u8]; 4] = [b"host", b"net", b"src", b"dst"];
 pub(crate) enum Advice<'a> {
     /// A sentence that is the same for each such fault.
     Said(&'static str),
-    /// The word that is meant is this one, in small letters.
-    SmallLetters(&'static str),
-    /// The word that may be meant.
-    DidYouMean(&'static str),
-    /// A word of what is no Ethernet with IPv4.
-    OtherLink(&'a [u8]),
+    /// A sentence round a word, which stands between backquotes.
+    Round(&'static str, &'a [u8], &'static str),
     /// What is written for a word here.
     Written(&'static str, &'a [u8]),
-    /// The name of a service.
-    Service(&'a [u8]),
-    /// The name of a host or a net.
-    Host(&'a [u8]),
-    /// A word that is none of the language, or a name.
-    NoWord(&'a [u8]),
-    /// What no token begins with.
-    NoToken(&'a [u8]),
+}
+
+impl<'a> Advice<'a> {
+    /// The word that is meant is this one, in small letters.
+    fn small_letters(word: &'static str) -> Advice<'a> {
+        Advice::Round("words are in small letters: `", word.as_bytes(), "`")
+    }
+
+    /// The word that may be meant.
+    fn did_you_mean(word: &'static str) -> Advice<'a> {
+        Advice::Round("did you mean `", word.as_bytes(), "`?")
+    }
 }
 
 impl Display for Advice<'_> {
     fn fmt<W: fmt::Write>(&self, f: &mut Formatter<W>) -> fmt::Result {
         match self {
             Advice::Said(sentence) => f.write_str(*sentence),
-            Advice::SmallLetters(word) => write!(f, "words are in small letters: `{word}`"),
-            Advice::DidYouMean(word) => write!(f, "did you mean `{word}`?"),
-            Advice::OtherLink(word) => write!(
-                f,
-                "this profile is Ethernet with IPv4: `{}` is not read",
-                Shown(*word)
-            ),
+            Advice::Round(before, word, behind) => write!(f, "{before}{}{behind}", Shown(*word)),
             Advice::Written(written, word) => {
                 write!(f, "write `{written}` for `{}`", Shown(*word))
             }
-            Advice::Service(name) => write!(
-                f,
-                "names of services are not read: write a number, as `port 80`, for `{}`",
-                Shown(*name)
-            ),
-            Advice::Host(name) => write!(
-                f,
-                "names of hosts and nets are not read: write the address of `{}`",
-                Shown(*name)
-            ),
-            Advice::NoWord(word) => write!(
-                f,
-                "`{}` is no word of the language, and names are not read",
-                Shown(*word)
-            ),
-            Advice::NoToken(character) => write!(
-                f,
-                "no word, number or sign begins with `{}`",
-                Shown(*character)
-            ),
         }
     }
 }
@@ -153,16 +127,20 @@ fn of_word<'a>(before: &[u8], word: &'a [u8]) -> Advice<'a> {
         return Advice::Said(said);
     }
     if OTHER_LINKS.contains(&word) {
-        return Advice::OtherLink(word);
+        return Advice::Round(
+            "this profile is Ethernet with IPv4: `",
+            word,
+            "` is not read",
+        );
     }
     if let Some(written) = beside(WRITTEN.as_slice(), word) {
         return Advice::Written(written, word);
     }
     if let Some(small) = in_small_letters(word) {
-        return Advice::SmallLetters(small);
+        return Advice::small_letters(small);
     }
     if let Some(near) = nearest(word) {
-        return Advice::DidYouMean(near);
+        return Advice::did_you_mean(near);
     }
     of_name(before, word)
 }
@@ -170,11 +148,23 @@ fn of_word<'a>(before: &[u8], word: &'a [u8]) -> Advice<'a> {
 /// What helps at what may be a name, behind another word.
 fn of_name<'a>(before: &[u8], name: &'a [u8]) -> Advice<'a> {
     if BEFORE_PORTS.contains(&before) {
-        Advice::Service(name)
+        Advice::Round(
+            "names of services are not read: write a number, as `port 80`, for `",
+            name,
+            "`",
+        )
     } else if BEFORE_ADDRESSES.contains(&before) || name.contains(&b'.') {
-        Advice::Host(name)
+        Advice::Round(
+            "names of hosts and nets are not read: write the address of `",
+            name,
+            "`",
+        )
     } else {
-        Advice::NoWord(name)
+        Advice::Round(
+            "`",
+            name,
+            "` is no word of the language, and names are not read",
+        )
     }
 }
 
@@ -204,7 +194,11 @@ fn of_byte(rest: &[u8]) -> Advice<'_> {
         );
     }
     match rest.first() {
-        Some(first) => Advice::NoToken(rest.get(..width_of(*first)).unwrap_or(&rest[..1])),
+        Some(first) => Advice::Round(
+            "no word, number or sign begins with `",
+            rest.get(..width_of(*first)).unwrap_or(&rest[..1]),
+            "`",
+        ),
         None => Advice::Said("no word, number or sign begins here"),
     }
 }
