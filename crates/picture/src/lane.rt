@@ -3,7 +3,7 @@
 use crate::columns::{Column, Columns};
 use crate::frame::{BARS, MARGIN};
 use listener::Fed;
-use playback::{Answer, Step};
+use playback::{Answer, Placed, Step};
 use std::io;
 use std::io::Write;
 
@@ -76,20 +76,27 @@ fn write_bar<O: Write>(
     )
 }
 
-/// What a step is called: its number as a line of SCRIPT, from 1, and its packet.
+/// What a step is called, and the listener that it names.
+fn words_of(step: Step) -> (&'static str, Option<u32>) {
+    match step {
+        Step::Arrive => ("arrive", None),
+        Step::Flush(l) => ("flush", Some(l)),
+        Step::Read(l) => ("read", Some(l)),
+        Step::Close(l) => ("close", Some(l)),
+    }
+}
+
+/// The title of a step: its number as a line of SCRIPT, from 1, its words and its packet, and what it found.
 fn write_title<O: Write>(column: &Column<'_>, out: &mut O) -> io::Result<()> {
     let line = column.index.wrapping_add(1);
-    write!(out, "<title>step {line} ")?;
-    match (column.step, column.packet) {
-        (Step::Arrive, Some(placed)) => write!(
-            out,
-            "arrive capture {} place {}",
-            placed.capture, placed.place
-        )?,
-        (Step::Arrive, None) => write!(out, "arrive")?,
-        (Step::Flush(l), _) => write!(out, "flush {l}")?,
-        (Step::Read(l), _) => write!(out, "read {l}")?,
-        (Step::Close(l), _) => write!(out, "close {l}")?,
+    let (word, listener) = words_of(column.step);
+    write!(out, "<title>step {line} {word}")?;
+    if let Some(l) = listener {
+        write!(out, " {l}")?;
+    }
+    if let Some(placed) = column.packet {
+        let Placed { capture, place, .. } = placed;
+        write!(out, " capture {capture} place {place}")?;
     }
     let (load, held) = (column.load, column.hold_load);
     write!(out, ": {load} stored, {held} held")?;

@@ -23,7 +23,7 @@ text{font:12px sans-serif;fill:#222}\n\
 .closed{fill:#222}\n";
 
 /// What the colours mean, each with its class.
-const LEGEND: [(&str, &str); 8] = [
+static LEGEND: [(&str, &str); 8] = [
     ("store", "store"),
     ("record", "packet that comes"),
     ("hold", "hold"),
@@ -34,15 +34,23 @@ const LEGEND: [(&str, &str); 8] = [
     ("closed", "closed"),
 ];
 
+/// What stands for a character in XML, where it does not stand for itself.
+fn escape_of(character: char) -> Option<&'static str> {
+    match character {
+        '<' => Some("&lt;"),
+        '>' => Some("&gt;"),
+        '&' => Some("&amp;"),
+        '\0'..=' ' => Some(" "),
+        _ => None,
+    }
+}
+
 /// Writes a text so that XML reads it as that text.
 fn write_escaped<O: Write>(text: &str, out: &mut O) -> io::Result<()> {
     for character in text.chars() {
-        match character {
-            '<' => write!(out, "&lt;")?,
-            '>' => write!(out, "&gt;")?,
-            '&' => write!(out, "&amp;")?,
-            '\0'..=' ' => write!(out, " ")?,
-            _ => write!(out, "{character}")?,
+        match escape_of(character) {
+            Some(escape) => write!(out, "{escape}")?,
+            None => write!(out, "{character}")?,
         }
     }
     Ok(())
@@ -50,7 +58,7 @@ fn write_escaped<O: Write>(text: &str, out: &mut O) -> io::Result<()> {
 
 fn write_legend<O: Write>(out: &mut O) -> io::Result<()> {
     let mut x: u64 = 10;
-    for (class, words) in LEGEND {
+    for (class, words) in LEGEND.iter().copied() {
         writeln!(
             out,
             "<rect class=\"{class}\" x=\"{x}\" y=\"14\" width=\"12\" height=\"12\"/><text x=\"{}\" y=\"24\">{words}</text>",
