@@ -42,7 +42,7 @@ pub enum Target {
 }
 
 /// Why the files of a command are refused.
-#[derive(Debug, Drop)]
+#[derive(Drop)]
 enum PathFault<'a> {
     /// This path and another one are one file.
     Same(&'a str),
