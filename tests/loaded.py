@@ -4,7 +4,7 @@
   tests/loaded.py [ROUNDS]          20 rounds of each test of listener_tests, replay_tests and thread_tests
   tests/loaded.py --built [ROUNDS]  the same of those that `./test` has built
 
-They are proved and built first, over what `./build` keeps. The last line is `N passed, M failed`.
+Without --built they are proved and built first, over what `./build` keeps. The last line is `N passed, M failed`.
 """
 import argparse
 import concurrent.futures
@@ -42,7 +42,7 @@ def main():
     given, tests = parser.parse_args(), []
     for program in [program_of(name, given.built) for name in CRATES]:
         listed = subprocess.run([program, "--list"], stdout=subprocess.PIPE, text=True, check=True).stdout.split("\n")
-        tests += [(str(program), line.split(": ")[0]) for line in listed if line]
+        tests += [(str(program), line.removesuffix(": test")) for line in listed if line.endswith(": test")]
     # Tests and busy loops alike: a test that yields to all loops would take a hundred times as long, and show no more.
     os.nice(10)
     # The busy loops end with this script, also where a signal ends it.
