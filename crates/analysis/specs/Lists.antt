@@ -118,6 +118,12 @@ abbrev pub weighed : Form → ℕ → ℕ
 weighed forms.Bytes n = 30 * n
 weighed other n = 40 * n
 
+-- the last link of an expression in a chain, which is itself one where it is none
+abbrev pub last_link : Chain → Tree → Tree
+last_link chains.AnyOf (trees.either t u) = u
+last_link chains.NoneOf (trees.both t u) = u
+last_link chain t = t
+
 -- Links by `or`, of which any holds, and negations by `and`, of which none does: what a chain makes of two answers, and of
 -- that whether any member holds.
 abbrev pub chained : Chain → Verdict → Verdict → Verdict

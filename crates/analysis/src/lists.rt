@@ -5,7 +5,7 @@ ghost use Rattle.syntax.specs.Trees.{amount_of, tree_of, number as literal};
 ghost use Rattle.syntax.specs.declared.tree.Comparison.TheVariants.{Equal};
 ghost use Rattle.semantics.specs.Meaning.{Packet, by_direction, plain_test, in_any_net, has_any_ports, is_address, primitive_test, relation_test, meaning};
 ghost use Rattle.analysis.specs.Knowing.{behind, LOOK_BACK};
-ghost use Rattle.analysis.specs.Lists.{direction_of, net_form, ports_form, no_bytes, member_test, IsBroader, Reaches, ArePorts, IsPort, Covers, IsApart, Includes, IsMember, turned, behind_left, weighed};
+ghost use Rattle.analysis.specs.Lists.{direction_of, net_form, ports_form, no_bytes, member_test, IsBroader, Reaches, ArePorts, IsPort, Covers, IsApart, Includes, IsMember, turned, last_link, behind_left, weighed};
 ghost use Rattle.analysis.specs.declared.lists.Sides.TheVariants as sides;
 ghost use Rattle.std.specs.Bool.{OnTrue, OnFalse};
 ghost use Rattle.analysis.specs.Weights.{value_weight, weight};
@@ -248,7 +248,9 @@ impl Kind {
 
 impl Chain {
     /// The last link of an expression in a chain.
-    pub fn last_of(self, expr: &Expr) -> &Expr {
+    pub fn last_of(self, expr: &Expr) -> &Expr
+        ensures { tree_of result.now ≡ last_link self (tree_of expr.now) }
+    {
         match (self, expr) {
             (Chain::AnyOf, Expr::Or(_, right)) => right,
             (Chain::NoneOf, Expr::And(_, right)) => right,
