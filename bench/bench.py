@@ -4,20 +4,20 @@
   bench/bench.py                   wall time and peak memory on a capture of some 100 MB, interleaved runs
   bench/bench.py --instructions    user instructions for each packet, by valgrind's callgrind, on a small capture
   bench/bench.py --listener        user instructions for each arrival of 660 bytes at a listener, by callgrind; proves and builds
-                                   bench/listener in a copy first, which takes some minutes
+                                   bench/listener first, in a copy, over what ./build kept
   bench/bench.py --steps           the same for each packet of a replay by `bpftap steps`, one listener and 64, read at each full hold
   bench/bench.py --run             packets per second of `bpftap run` with 1 to 8 listeners and 1 to 4 interfaces, beside as many `cut`
                                    and tcpdump at once; what is dropped with few buffers; instructions of a packet that nobody accepts, and
                                    of the same by `cut`
   bench/bench.py --replay          user instructions of such a packet, with one listener and for each more, by a program over `replay`
-                                   alone; proves and builds bench/replay in a copy first
+                                   alone; proves and builds bench/replay first, in the same way
   bench/bench.py --waiting         processor time of `bpftap run` with 1, 8 and 64 listeners over a fifo that is silent for five seconds;
                                    packets per second and what is dropped with 1 to 8 listeners and few or many spare buffers, with
                                    16 interfaces of 8 listeners, and with an OUT of which 1 MB a second is read; with `--beside PATH`
                                    the same of another built program, interleaved. TMPDIR=/dev/shm puts the files into memory: on a
                                    disk it is mostly the opening of an OUT which is measured
   bench/bench.py --handover        arrivals per second at a listener, at a pair in one thread and in two, and at a listener under
-                                   a lock in two threads; proves and builds bench/handover in a copy first
+                                   a lock in two threads; proves and builds bench/handover first, in the same way
   bench/bench.py --split           wall time of `split` with eight filters, beside a cut and a tcpdump for each, one by one and at once
   bench/bench.py --rejecting       wall and processor time of `cut -e` with `udp port 53` on packets that it rejects, beside tcpdump; with
                                    `--beside PATH` beside another filter too, which is called by EXPRESSION CAPTURE OUT
@@ -199,38 +199,41 @@ def instructions(folder):
     compare(folder)
 
 
-def built(folder, name, below, files, words):
-    """Builds bench/NAME over copies of the crates that it stands on, and tells where the program is."""
+def built(folder, name, below, files):
+    """Builds bench/NAME over copies of the crates that it stands on, and of what ./build kept of them, and tells where the program is."""
+    kept = folder / "out" / "build"
+    kept.mkdir(parents=True)
     for crate in below:
-        shutil.copytree(ROOT / "crates" / crate, folder / "crates" / crate, symlinks=True)
+        shutil.copytree(ROOT / "crates" / crate, folder / "crates" / crate, ignore=shutil.ignore_patterns("out"))
+        for part in (ROOT / "out" / "build").glob(f"{crate}.[rk]*"):
+            (shutil.copytree if part.is_dir() else shutil.copy)(part, kept / part.name)
     crate = folder / "crates" / f"{name}_bench"
     # The gate reads .rt and .antt files only in crates, so here they have other names.
     for file, place in files.items():
         (crate / place).parent.mkdir(parents=True)
         shutil.copyfile(ROOT / "bench" / name / file, crate / place)
-    shutil.copy(ROOT / "HANDLES", folder)
     lines = [line for line in (ROOT / "crates.txt").read_text().splitlines() if re.match(rf"({'|'.join(below)})[ :]", line)]
     (folder / "crates.txt").write_text("\n".join([*lines, f"{name}_bench: {' '.join(below)}"]) + "\n")
-    subprocess.run(["git", "init", "-q"], cwd=folder, check=True)
-    subprocess.run(["rt", "run", "--", *words], cwd=crate, check=True, stdout=subprocess.DEVNULL, stderr=subprocess.DEVNULL)
+    shutil.copy(ROOT / "build", folder)
+    subprocess.run([str(folder / "build"), crate.name], check=True, stdout=subprocess.DEVNULL)
     return str(crate / "out" / crate.name)
 
 
 def listener_program(folder):
     files = {"main.txt": "src/main.rt", "Invariants.txt": "proofs/feed/Invariants.antt"}
-    return built(folder, "listener", ["savefile", "bpfvm", "listener"], files, ["1"])
+    return built(folder, "listener", ["savefile", "bpfvm", "listener"], files)
 
 
 def handover_program(folder):
     loops = {"listener": "through_listener", "pair": "through_pair", "feed": "feed", "drain": "drain_out"}
     files = {f"{file}.txt": f"proofs/{function}/Invariants.antt" for file, function in loops.items()}
     below = ["savefile", "bpfvm", "listener", "handover"]
-    return built(folder, "handover", below, {"main.txt": "src/main.rt", **files}, ["listener", "1"])
+    return built(folder, "handover", below, {"main.txt": "src/main.rt", **files})
 
 
 def replay_program(folder):
     below = ["savefile", "bpfvm", "listener", "handover", "tasks", "replay"]
-    return built(folder, "replay", below, {"main.txt": "src/main.rt"}, ["1", "/dev/null"])
+    return built(folder, "replay", below, {"main.txt": "src/main.rt"})
 
 
 def arrivals(folder):

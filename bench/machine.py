@@ -3,7 +3,7 @@
 
 The programs are those of `bench/filters.py`'s expressions, run once over the real capture of `examples/`. The loop of
 `bench/machine` runs them; what it costs itself is counted by a program of one return, of whose count `RETURN` is the machine's
-own, by the listing of the built program. It proves and builds bench/machine in a copy first, which takes some minutes
+own, by the listing of the built program. It proves and builds bench/machine first, in a copy, over what ./build kept
 (MACHINE=PATH takes a built one), and needs `bpftap` (`./bpftap --help` builds it, or BPFTAP=PATH) and valgrind.
 
   bench/machine.py [EVERY [CAPTURE]]    all programs, or each EVERYth; on another little-endian savefile
@@ -66,10 +66,7 @@ def main():
         folder = pathlib.Path(name)
         machine = os.environ.get("MACHINE")
         if machine is None:
-            first = folder / "first.bpf"
-            first.write_text("1\n6 0 0 0\n")
-            words = [str(first), str(filters.CAPTURE), "1"]
-            machine = bench.built(folder, "machine", ["bpfvm"], {"main.txt": "src/main.rt"}, words)
+            machine = bench.built(folder, "machine", ["bpfvm"], {"main.txt": "src/main.rt"})
         measured(machine, folder, capture, every)
 
 
