@@ -44,7 +44,7 @@ pub enum Request<'a> {
 }
 
 /// What the program calls itself, and what it was proved with.
-const VERSION: &str = "0.1.0, proved with rattle-kit-13b logic dac8208d650f15bf";
+const VERSION: &str = "0.1.0, proved with rattle-kit-13f logic dac8208d650f15bf";
 
 const ABOUT: &str =
     "Filters captures offline, and replays them to listeners that keep and drop packets";
