@@ -158,6 +158,24 @@ LISTS = [
     "not udp port 9 and not tcp port 9 and not udp port 80 and not tcp port 443",
     "tcp port 443 or tcp[2:2] = 443 or tcp portrange 50-60 or tcp[0:2] = 53 or tcp[0:2] = 80",
     "udp port 9 or udp[0:2] = 9 or udp[2:2] = 80 or udp port 80 or udp[1:2] = 9",
+    # of TCP and of UDP, for the same ports in the same order, which are one list
+    "tcp port 9 or udp port 9 or tcp port 443 or udp port 443 or tcp port 53 or udp port 53",
+    "udp port 443 or tcp port 443 or udp port 80 or tcp port 80", "udp port 9 or tcp port 9 or udp port 53 or tcp port 53 or udp port 1 or tcp port 1",
+    "tcp portrange 50-60 or udp portrange 50-60 or tcp port 443 or udp port 443",
+    "udp src port 9 or tcp src port 9 or udp src port 80 or tcp src port 80",
+    "tcp dst port 443 or udp dst port 443 or tcp dst port 50 or udp dst port 50",
+    "not (udp port 80 or tcp port 80 or udp port 9 or tcp port 9)",
+    "not tcp port 9 and not udp port 9 and not tcp port 443 and not udp port 443",
+    "tcp and (tcp port 9 or udp port 9 or tcp port 443 or udp port 443)", "ip and (udp port 9 or tcp port 9 or udp port 80 or tcp port 80)",
+    "(tcp port 9 or udp port 9 or tcp port 53 or udp port 53) and src host 10.0.0.1 or 10.0.0.3",
+    "tcp port 9 or udp port 9 or tcp port 443 or udp port 443 or ip proto 17 or ip proto 1",
+    "(tcp port 9 or udp port 9 or tcp port 443 or udp port 443) or sctp port 53 or 80",
+    "host 9.9.9.9 or 10.0.0.2 or (udp port 9 or tcp port 9 or udp port 443 or tcp port 443)",
+    # in another order, with one port more or another side of one of them, and of TCP and SCTP, which are two
+    "tcp port 443 or udp port 53 or tcp port 53 or udp port 443", "udp port 53 or tcp port 53 or udp port 80 or tcp port 80 or udp port 9",
+    "tcp port 443 or udp port 443 or tcp port 53 or udp port 53 or tcp port 80",
+    "tcp port 9 or udp port 9 or tcp portrange 440-450 or udp port 443", "tcp src port 80 or udp dst port 80 or tcp src port 53 or udp dst port 53",
+    "tcp port 80 or sctp port 80 or tcp port 53 or sctp port 53", "sctp port 9 or udp port 9 or sctp port 53 or udp port 53",
     # Ethernet hosts, of which no frame has the last four bytes of one behind the first two of another
     "ether src 0:1:2:3:4:6 or 0:1:2:3:4:5 or 0:1:9:3:4:5", "ether src 9:9:2:3:4:5 or 9:9:2:3:4:6",
     "ether src 9:9:2:3:4:5 or 9:9:2:3:4:6 or 0:1:2:3:4:6 or 0:1:2:3:4:7",
@@ -176,6 +194,18 @@ SIZES = [
     ("", "ip[8] = ", 100, 110), ("ether src ", "0:1:2:3:4:", 100, 115), ("ether dst ", "0:1:2:3:4:", 100, 115),
     ("ether host ", "0:1:2:3:4:", 100, 220), ("net ", "10.0.", 100, 325), ("dst port ", "", 100, 115),
     ("ether proto ", "0x90", 100, 115), ("", "portrange 10-10", 100, 425),
+]
+
+# Two members by turns, each for as many numbers, how many they are together, and how many instructions they take.
+BY_TURNS = [
+    ("tcp port {}", "udp port {}", 4, 17), ("udp port {}", "tcp port {}", 10, 23), ("tcp port {}", "udp port {}", 30, 43),
+    ("udp port {}", "tcp port {}", 100, 113), ("tcp src port {}", "udp src port {}", 100, 62),
+    ("udp portrange {0}-7{0}", "tcp portrange {0}-7{0}", 30, 74),
+    ("host 10.0.0.{}", "port {}", 30, 125), ("host 10.0.0.{}", "net 10.{}.0.0/16", 30, 135),
+    ("src host 10.0.0.{}", "ip dst host 10.0.0.{}", 4, 15), ("src host 10.0.0.{}", "ip dst host 10.0.0.{}", 30, 41),
+    ("tcp port {}", "tcp[2:2] = {}", 30, 44), ("ip proto {}", "ether proto 0x90{}", 30, 22), ("ip proto {}", "ether proto 0x90{}", 100, 57),
+    ("port {}", "portrange {0}-7{0}", 30, 110), ("ether src 0:1:2:3:4:{}", "host 10.0.0.{}", 30, 80),
+    ("ip[8] = {}", "tcp[2:2] = {}", 30, 45),
 ]
 
 # Each word of the language without relations, and each kind of identifier.
@@ -315,6 +345,15 @@ def long_lists_fit(scene):
     for words, prefix, count, most in SIZES:
         size = len(program_of(scene, words + " or ".join(f"{prefix}{number}" for number in range(count))))
         scene.check(f"{words}, {size} instructions", 0 < size <= most, True)
+
+
+@case
+def lists_by_turns_fit(scene):
+    """How many instructions the members of two kinds by turns take, and their negation."""
+    for first, second, count, most in BY_TURNS:
+        expr = " or ".join((first, second)[n % 2].format(n // 2) for n in range(count))
+        sizes = [len(program_of(scene, whole)) for whole in (expr, f"not ({expr})")]
+        scene.check(f"{count} of {first} and {second}, {sizes} instructions", all(0 < size <= most for size in sizes), True)
 
 
 @case

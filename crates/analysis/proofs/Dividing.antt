@@ -73,6 +73,7 @@ weighed-none forms.Ports = refl
 weighed-none forms.TcpPorts = refl
 weighed-none forms.UdpPorts = refl
 weighed-none forms.SctpPorts = refl
+weighed-none forms.TcpOrUdpPorts = refl
 weighed-none forms.IpProto = refl
 weighed-none forms.EtherProto = refl
 weighed-none forms.EtherHost = refl
@@ -142,7 +143,7 @@ divides-other kind m ms xs os other d = record {
 
 -- the first member is asked before all
 pub groups-with : (first : Member) (all : List Member) (xs ys : List Span) (os qs : List Member) → Divides first.kind all xs os → ys ≡ xs ++ (first.span ∷ []) → LeavesOut first.kind ys os qs
-    → Groups first all ys qs
+    → Groups first all first.kind ys qs
 groups-with first all xs ys os qs d is leaves = record {
   same = λ p settled.
       by_first p (member_test first p) (λ no. d.same p (settled no))

@@ -80,6 +80,7 @@ bytes-included forms.ArpNet m h b c p x y is low high none = absurd is
 bytes-included forms.RarpNet m h b c p x y is low high none = absurd is
 bytes-included forms.Ports m h b c p x y is low high none = absurd is
 bytes-included forms.SctpPorts m h b c p x y is low high none = absurd is
+bytes-included forms.TcpOrUdpPorts m h b c p x y is low high none = absurd is
 bytes-included forms.IpProto m h b c p x y is low high none = absurd is
 bytes-included forms.EtherProto m h b c p x y is low high none = absurd is
 bytes-included forms.EtherHost m h b c p x y is low high none = absurd is

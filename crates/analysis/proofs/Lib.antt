@@ -3,3 +3,4 @@ pub mod Settling
 pub mod Dividing
 pub mod Apart
 pub mod Leaving
+pub mod Joining

@@ -114,6 +114,9 @@ form-settled forms.Ports s s' m m' h h' b p broader =
 form-settled forms.TcpPorts s s' m m' h h' b p broader = settled-ports 6 s s' p broader
 form-settled forms.UdpPorts s s' m m' h h' b p broader = settled-ports 17 s s' p broader
 form-settled forms.SctpPorts s s' m m' h h' b p broader = settled-ports 132 s s' p broader
+form-settled forms.TcpOrUdpPorts s s' m m' h h' b p broader =
+    let ports : Sides → ℕ → Span → Verdict = λ d n x. has_ports n (direction_of d) x.low x.high p in
+    settled-either (ports s 6) (ports s' 6) (ports s 17) (ports s' 17) (settled-ports 6 s s' p broader) (settled-ports 17 s s' p broader)
 form-settled forms.IpProto s s' m m' h h' b p broader =
     settled-guarded (is_type 0x0800 p) (λ x. check (within x.low x.high) (byte 23 p)) (λ x. check (within x.low x.high) (byte 23 p)) (settled-numbers (byte 23 p))
 form-settled forms.EtherProto s s' m m' h h' b p broader = settled-numbers (half 12 p)
@@ -175,6 +178,7 @@ bytes-covered forms.ArpNet m h b c p x y are is = absurd are
 bytes-covered forms.RarpNet m h b c p x y are is = absurd are
 bytes-covered forms.Ports m h b c p x y are is = absurd are
 bytes-covered forms.SctpPorts m h b c p x y are is = absurd are
+bytes-covered forms.TcpOrUdpPorts m h b c p x y are is = absurd are
 bytes-covered forms.IpProto m h b c p x y are is = absurd are
 bytes-covered forms.EtherProto m h b c p x y are is = absurd are
 bytes-covered forms.EtherHost m h b c p x y are is = absurd are

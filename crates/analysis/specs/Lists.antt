@@ -1,5 +1,6 @@
 -- Lists: links of a chain of `or`, or negations in a chain of `and`, that differ in their numbers alone, wherever in it they stand.
 use Rattle.std.specs.Prelude.{◌≡◌, ℕ, ◌+◌, ◌*◌, ◌/◌, ◌%◌, ◌^◌, ◌≤◌, ◌<◌, ◌==◌, ◌&&◌, List, [], ◌∷◌, All, Contains, length, ◌⊎◌, Option, Some, None, MatchOption, bit_and}
+use Rattle.std.specs.List.{AllZip}
 use Rattle.syntax.specs.Trees.{Tree}
 use Rattle.syntax.specs.Trees as trees
 use Rattle.syntax.specs.declared.tree.Layer.TheVariants as layers
@@ -105,6 +106,8 @@ form_test forms.Ports d m h b x = has_any_ports None d x.low x.high
 form_test forms.TcpPorts d m h b x = has_any_ports (Some transports.Tcp) d x.low x.high
 form_test forms.UdpPorts d m h b x = has_any_ports (Some transports.Udp) d x.low x.high
 form_test forms.SctpPorts d m h b x = has_any_ports (Some transports.Sctp) d x.low x.high
+form_test forms.TcpOrUdpPorts d m h b x =
+    or_test (has_any_ports (Some transports.Tcp) d x.low x.high) (has_any_ports (Some transports.Udp) d x.low x.high)
 form_test forms.IpProto d m h b x = and_test (is_type 0x0800) (λ p. check (within x.low x.high) (byte 23 p))
 form_test forms.EtherProto d m h b x = (λ p. check (within x.low x.high) (half 12 p))
 form_test forms.EtherHost d m h b x = by_direction d (has_tail h x 6) (has_tail h x 0)
@@ -112,6 +115,10 @@ form_test forms.Bytes d m h b x = bytes_test b x
 
 abbrev pub kind_test : Kind → Span → Test
 kind_test k x = form_test k.form (direction_of k.sides) k.mask k.head k.bytes x
+
+-- the kind of the same ports of TCP or UDP
+abbrev pub of_tcp_or_udp : Kind → Kind
+of_tcp_or_udp k = record { form = forms.TcpOrUdpPorts; sides = k.sides; mask = k.mask; head = k.head; bytes = k.bytes }
 
 -- what so many members weigh at least
 abbrev pub weighed : Form → ℕ → ℕ
@@ -277,13 +284,23 @@ pub record LeavesOut (kind : Kind) (spans : List Span) (all others : List Member
   pub weighs : members_weight others ≤ members_weight all
   pub fewer : length others ≤ length all
 
--- those of a kind with a member that is asked before all of them, and the others, without some that hold only where one of the kind does
-pub record Groups (first : Member) (all : List Member) (spans : List Span) (others : List Member) : Type 0 where
+-- lists of two kinds that ask for the same are one list of a third kind
+pub record AreJoined (kind other joined : Kind) : Type 0 where
+  pub same : (p : Packet) (xs : List Span) → 0 < length xs → or_else (any_of (kind_test kind) xs p) (any_of (kind_test other) xs p) ≡ any_of (kind_test joined) xs p
+  pub weighs : (n : ℕ) → weighed joined.form n ≡ weighed kind.form n
+
+-- members of a kind, with these numbers in their order
+abbrev pub AskFor : Kind → List Span → List Member → Type 0
+AskFor kind spans ms = AllZip (λ (m : Member) (x : Span). (m.kind ≡ kind) × (m.span ≡ x)) ms spans
+
+-- Those of a kind with a member that is asked before all of them, and the others, without some that hold only where one of the kind does. The kind
+-- is that member's, or one for which the others ask too.
+pub record Groups (first : Member) (all : List Member) (kind : Kind) (spans : List Span) (others : List Member) : Type 0 where
   pub same : (p : Packet) → (member_test first p ≡ No → AreFree all p)
-      → or_else (member_test first p) (any_of member_test all p) ≡ or_else (any_of (kind_test first.kind) spans p) (any_of member_test others p)
-  pub free : (p : Packet) → (member_test first p ≡ No → AreFree all p) → any_of (kind_test first.kind) spans p ≡ No → AreFree others p
-  pub alone : IsMember first → IsAlone first.kind first.primitive spans
+      → or_else (member_test first p) (any_of member_test all p) ≡ or_else (any_of (kind_test kind) spans p) (any_of member_test others p)
+  pub free : (p : Packet) → (member_test first p ≡ No → AreFree all p) → any_of (kind_test kind) spans p ≡ No → AreFree others p
+  pub alone : IsMember first → IsAlone kind first.primitive spans
   pub members : All IsMember all → All IsMember others
-  pub weighs : weighed first.kind.form (length spans) + members_weight others ≤ weighed first.kind.form 1 + members_weight all
+  pub weighs : weighed kind.form (length spans) + members_weight others ≤ weighed first.kind.form 1 + members_weight all
   pub some : 0 < length spans
   pub fewer : length others ≤ length all

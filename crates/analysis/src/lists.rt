@@ -5,7 +5,7 @@ ghost use Rattle.syntax.specs.Trees.{amount_of, tree_of, number as literal};
 ghost use Rattle.syntax.specs.declared.tree.Comparison.TheVariants.{Equal};
 ghost use Rattle.semantics.specs.Meaning.{Packet, by_direction, plain_test, in_any_net, has_any_ports, is_address, primitive_test, relation_test, meaning};
 ghost use Rattle.analysis.specs.Knowing.{behind, LOOK_BACK};
-ghost use Rattle.analysis.specs.Lists.{direction_of, net_form, ports_form, no_bytes, member_test, IsBroader, Reaches, ArePorts, IsPort, Covers, IsApart, Includes, IsMember, turned, last_link, behind_left, weighed};
+ghost use Rattle.analysis.specs.Lists.{direction_of, net_form, ports_form, no_bytes, member_test, IsBroader, Reaches, ArePorts, IsPort, Covers, IsApart, Includes, IsMember, of_tcp_or_udp, AreJoined, turned, last_link, behind_left, weighed};
 ghost use Rattle.analysis.specs.declared.lists.Sides.TheVariants as sides;
 ghost use Rattle.std.specs.Bool.{OnTrue, OnFalse};
 ghost use Rattle.analysis.specs.Weights.{value_weight, weight};
@@ -39,6 +39,8 @@ pub enum Form {
     TcpPorts,
     UdpPorts,
     SctpPorts,
+    /// Ports of TCP or UDP. No member is of this form: lists of both that ask for the same become one.
+    TcpOrUdpPorts,
     IpProto,
     EtherProto,
     /// Ethernet hosts that have their first two bytes in common.
@@ -164,6 +166,13 @@ impl Span {
     {
         self.low <= other.low && other.high <= self.high
     }
+
+    /// Whether two spans are one.
+    pub(crate) fn is(self, other: Span) -> bool
+        ensures { OnTrue result (self ≡ other) }
+    {
+        self.low == other.low && self.high == other.high
+    }
 }
 
 impl Kind {
@@ -224,6 +233,33 @@ impl Kind {
             (Form::UdpPorts, Form::TcpPorts | Form::SctpPorts) => true,
             (Form::SctpPorts, Form::TcpPorts | Form::UdpPorts) => true,
             _ => false,
+        }
+    }
+
+    /// The kind of the same ports of TCP, where this one is of UDP, or the other way round.
+    pub(crate) fn of_other_protocol(self) -> Option<Kind>
+        ensures { IfSome result (λ other. AreJoined self other (of_tcp_or_udp self)) }
+    {
+        match self.form {
+            Form::TcpPorts => Some(Kind {
+                form: Form::UdpPorts,
+                ..self
+            }),
+            Form::UdpPorts => Some(Kind {
+                form: Form::TcpPorts,
+                ..self
+            }),
+            _ => None,
+        }
+    }
+
+    /// The kind of the same ports of TCP or UDP.
+    pub(crate) fn of_tcp_or_udp(self) -> Kind
+        ensures { result ≡ of_tcp_or_udp self }
+    {
+        Kind {
+            form: Form::TcpOrUdpPorts,
+            ..self
         }
     }
 

@@ -1,9 +1,9 @@
 //! The links of a chain that are members of lists, wherever those of a list stand.
 
-ghost use Rattle.std.specs.Prelude.{◌≡◌, ◌<◌, ◌++◌, All, length, option_to_list, [], IfSome, IfNone, MatchOption, Some, None};
+ghost use Rattle.std.specs.Prelude.{◌≡◌, ◌<◌, ◌⊎◌, ◌++◌, All, length, option_to_list, [], IfSome, IfNone, MatchOption, Some, None};
 ghost use Rattle.std.specs.Bool.{OnTrue, OnFalse};
 ghost use Rattle.syntax.specs.Trees.{tree_of};
-ghost use Rattle.analysis.specs.Lists.{IsMember, Asks, Settles, AreApart, AreFreeBehind, Takes, EndsIn, Divides, IsIncluded, LeavesOut, Groups};
+ghost use Rattle.analysis.specs.Lists.{IsMember, Asks, Settles, AreApart, AreFreeBehind, Takes, EndsIn, Divides, IsIncluded, LeavesOut, of_tcp_or_udp, AskFor, Groups};
 
 use crate::lists::{Chain, Kind, Member, Span};
 use arrayvec::ArrayVec;
@@ -277,14 +277,28 @@ impl Others {
         self.members = kept;
     }
 
+    /// Whether these are of a kind and ask for these numbers, in the same order.
+    fn ask_for(&self, kind: Kind, spans: &[Span]) -> bool
+        ensures { OnTrue result (AskFor kind spans.now self.now.members.items) }
+    {
+        if self.members.len() != spans.len() {
+            return false;
+        }
+        for (member, span) in self.members.as_slice().iter().zip(spans) {
+            if !member.kind.is(kind) || !member.span.is(*span) {
+                return false;
+            }
+        }
+        true
+    }
+
     /// Those of the kind of a member that is asked before them, with that one. They leave the others, without those that hold only where
     /// one of the kind does.
-    #[inline(never)]
-    pub fn group_of(&mut self, first: Member) -> Group
+    fn alike(&mut self, first: Member) -> Group
         requires room { length self.old.members.items < 512 }
         ensures kind { result.kind ≡ first.kind }
         ensures primitive { result.primitive ≡ first.primitive }
-        ensures groups { Groups first self.old.members.items result.spans.items self.new.members.items }
+        ensures groups { Groups first self.old.members.items first.kind result.spans.items self.new.members.items }
     {
         let mut spans = self.divide(first.kind);
         spans.push(first.span);
@@ -296,6 +310,25 @@ impl Others {
             spans,
             primitive: first.primitive,
         }
+    }
+
+    /// The same, and where all of the others ask TCP for what those of the kind ask UDP for, or the other way round, they are in it.
+    #[inline(never)]
+    pub fn group_of(&mut self, first: Member) -> Group
+        requires room { length self.old.members.items < 512 }
+        ensures kind { (result.kind ≡ first.kind) ⊎ (result.kind ≡ of_tcp_or_udp first.kind) }
+        ensures primitive { result.primitive ≡ first.primitive }
+        ensures groups { Groups first self.old.members.items result.kind result.spans.items self.new.members.items }
+    {
+        let mut group = self.alike(first);
+        let Some(other) = first.kind.of_other_protocol() else {
+            return group;
+        };
+        if group.spans.len() > 1 && self.ask_for(other, group.spans.as_slice()) {
+            self.members.clear();
+            group.kind = first.kind.of_tcp_or_udp();
+        }
+        group
     }
 
     /// The first of them, which leaves the others.

@@ -21,7 +21,7 @@ use Rattle.generation.specs.Emission.{AreExits, HasCells, run_from, front, Answe
 use Rattle.generation.specs.Listed.{among, spot_value, found_at, onward, LoadsSpot, ChoosesFrom, IsChoice}
 use Rattle.generation.proofs.Runs.{after, answer-first, front-place, extends-one, extends-both, extends-more, length-effect}
 use Rattle.generation.proofs.Following.{decides-followed}
-use Rattle.generation.proofs.Neighbours.{any-same}
+use Rattle.analysis.proofs.Joining.{any-same}
 use Rattle.generation.proofs.Seeking.{choice-from, found-checked, follows-sought, sides-shared, spot-masked}
 
 -- the bits of an address under a mask

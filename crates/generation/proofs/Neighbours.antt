@@ -1,38 +1,15 @@
 -- One test for all members of a list answers as their tests do one after the other.
-use Rattle.std.proofs.Common.{◌≡◌, ◌≢◌, ℕ, ◌<◌, ◌==◌, Bool, true, false, List, [], ◌∷◌, ◌++◌, length, Option, Some, None, refl, sym, ap, ◌∙◌, arith, if◌then◌else◌}
+use Rattle.std.proofs.Common.{◌≡◌, ◌≢◌, ℕ, ◌<◌, ◌==◌, Bool, true, false, List, [], ◌∷◌, ◌++◌, length, Option, Some, None, refl, sym, ap, ◌∙◌, if◌then◌else◌}
 use Rattle.analysis.specs.declared.lists.Span.{Span}
 use Rattle.semantics.specs.declared.verdict.Verdict.{Verdict}
 use Rattle.semantics.specs.declared.verdict.Verdict.TheVariants.{Yes, No, Abort}
-use Rattle.semantics.specs.Meaning.{Packet, Test, and_then, or_else, and_test, check, decided, within}
+use Rattle.semantics.specs.Meaning.{Packet, Test, or_else, check, decided, within}
 use Rattle.analysis.specs.Lists.{any_of}
 use Rattle.generation.specs.Listed.{among}
 use Rattle.analysis.proofs.Members.{any-first}
+use Rattle.analysis.proofs.Joining.{any-same, any-abort, any-no}
 use Rattle.generation.proofs.Runs.{equal-true}
 use Rattle.generation.proofs.Sharing.{chosen_by}
-
--- the same tests in other words
-pub any-same : {X : Type 0} (t u : X → Test) (p : Packet) → ((x : X) → t x p ≡ u x p) → (xs : List X) → any_of t xs p ≡ any_of u xs p
-any-same t u p same [] = refl
-any-same t u p same (x ∷ xs) = ap (λ v. or_else v (t x p)) (any-same t u p same xs) ∙ ap (or_else (any_of u xs p)) (same x)
-
--- the member that stands last in the list is asked first
-pub any-abort : {X : Type 0} (xs : List X) (p : Packet) → 0 < length xs → any_of (λ (x : X) q. Abort) xs p ≡ Abort
-any-abort [] p some = absurd (omega arith)
-any-abort (x ∷ []) p some = refl
-any-abort (x ∷ y ∷ xs) p some = ap (λ v. or_else v Abort) (any-abort (y ∷ xs) p (omega arith))
-
-pub any-no : {X : Type 0} (xs : List X) (p : Packet) → any_of (λ (x : X) q. No) xs p ≡ No
-any-no [] p = refl
-any-no (x ∷ xs) p = ap (λ v. or_else v No) (any-no xs p)
-
--- what all members test first is tested once
-pub any-both : {X : Type 0} (g : Verdict) (t : X → Test) (xs : List X) (p : Packet) → 0 < length xs → any_of (λ x q. and_then g (t x q)) xs p ≡ and_then g (any_of t xs p)
-any-both Yes t xs p some = refl
-any-both No t xs p some = any-no xs p
-any-both Abort t xs p some = any-abort xs p some
-
-pub any-guarded : {X : Type 0} (g : Test) (t : X → Test) (xs : List X) (p : Packet) → 0 < length xs → any_of (λ x. and_test g (t x)) xs p ≡ and_test g (any_of t xs) p
-any-guarded g t xs p some = any-same (λ x. and_test g (t x)) (λ x q. and_then (g p) (t x q)) p (λ x. refl) xs ∙ any-both (g p) t xs p some
 
 -- what all members compare first is compared once
 pub any-chosen : {X : Type 0} (v : Option ℕ) (f g h : ℕ → Bool) (t u : X → Test) (xs : List X) (p : Packet) → 0 < length xs

@@ -28,7 +28,8 @@ use Rattle.generation.proofs.Computing.{computes-same, read-accessed, decides-va
 use Rattle.generation.proofs.Deciding.{outcome-either, decides-same}
 use Rattle.generation.proofs.Following.{follows-more, follows-same}
 use Rattle.generation.proofs.Sides.{behind, directed-is}
-use Rattle.generation.proofs.Neighbours.{any-same, any-abort, any-checked, any-pair, among-more}
+use Rattle.analysis.proofs.Joining.{any-same, any-abort}
+use Rattle.generation.proofs.Neighbours.{any-checked, any-pair, among-more}
 
 -- no span is asked for
 pub chooses-none : (exits : Exits) (a : List Insn) → AreExits a exits → ChoosesFrom 0 (λ r. among [] r.accumulator) exits exits.no a a

@@ -6,17 +6,18 @@ use Rattle.analysis.specs.declared.known.Known.{Known}
 use Rattle.analysis.specs.declared.lists.Bytes.{Bytes}
 use Rattle.analysis.specs.declared.lists.Span.{Span}
 use Rattle.semantics.specs.declared.verdict.Verdict.TheVariants.{Yes}
-use Rattle.semantics.specs.Meaning.{Packet, Test, and_then, and_test, check, half, is_type, by_direction, within, has_port, has_any_ports, bytes_of, accessed, in_layer}
+use Rattle.semantics.specs.Meaning.{Packet, Test, and_then, and_test, or_test, check, byte, half, is_type, by_direction, within, has_port, has_ports, has_any_ports, bytes_of, accessed, in_layer}
 use Rattle.analysis.specs.Knowing.{of_layer}
 use Rattle.generation.specs.Remaining.{shows, rest_of, is_unfragmented}
-use Rattle.generation.specs.Parts.{number_of, of_transport}
+use Rattle.generation.specs.Parts.{has_tcp_or_udp_number, number_of, of_transport}
 use Rattle.analysis.specs.Lists.{any_of, of_any_type, bytes_test}
 use Rattle.generation.specs.Listed.{among}
 use Rattle.generation.proofs.Knowing.{rest-same, layer-shown}
-use Rattle.generation.proofs.Neighbours.{any-same, any-guarded, any-chosen, any-checked}
+use Rattle.analysis.proofs.Joining.{any-same, any-guarded, either-guarded}
+use Rattle.generation.proofs.Neighbours.{any-chosen, any-checked}
 use Rattle.generation.proofs.Nets.{by_type, by-type}
 use Rattle.generation.proofs.Narrowed.{of-transport-is}
-use Rattle.generation.proofs.Sharing.{number-shared}
+use Rattle.generation.proofs.Sharing.{one_of_two, number-shared}
 
 -- the type
 pub types-shared : (t u : Span → Test) (xs : List Span) (p : Packet) → 0 < length xs → of_any_type (any_of t xs) (any_of u xs) p ≡ any_of (λ x. of_any_type (t x) (u x)) xs p
@@ -34,6 +35,14 @@ ports-shared asked d xs p some =
     sym (number-shared asked (any_of t xs) p)
     ∙ sym (any-guarded g t xs p some)
     ∙ any-same (λ x. and_test g (t x)) (λ (x : Span). has_any_ports asked d x.low x.high) p (λ x. number-shared asked (t x) p ∙ of-transport-is asked d x.low x.high p) xs
+
+-- and of TCP or UDP
+pub either-shared : (d : Direction) (xs : List Span) (p : Packet) → 0 < length xs
+    → and_then (is_type 0x0800 p) (and_then (has_tcp_or_udp_number p) (and_then (is_unfragmented p) (any_of (λ (x : Span). by_direction d (has_port x.low x.high 0) (has_port x.low x.high 2)) xs p)))
+    ≡ any_of (λ (x : Span). or_test (has_ports 6 d x.low x.high) (has_ports 17 d x.low x.high)) xs p
+either-shared d xs p some =
+    one_of_two (is_type 0x0800 p) (byte 23 p) (λ b. b == 6) (λ b. b == 17) (is_unfragmented p) (any_of (λ (x : Span). by_direction d (has_port x.low x.high 0) (has_port x.low x.high 2)) xs p)
+    ∙ sym (either-guarded d xs p some)
 
 -- the layer
 pub layer-shared : (b : Bytes) (xs : List Span) (p : Packet) → 0 < length xs

@@ -59,16 +59,31 @@ ports_shared i v f g h first d =
     ∙ ap (λ x. or_else (or_else (and_then (and_then (and_then i (check f v)) first) d) x) (and_then (and_then i (check h v)) (and_then first d))) (sym (and-assoc (and_then i (check g v)) first d))
     ∙ ap (λ x. or_else (or_else (and_then (and_then (and_then i (check f v)) first) d) (and_then (and_then (and_then i (check g v)) first) d)) x) (sym (and-assoc (and_then i (check h v)) first d))
 
--- one of three numbers, by comparisons that follow one another
-pub three_numbers : (v : Option ℕ) (f g h : ℕ → Bool)
-    → check (λ n. if f n then true else (if g n then true else h n)) v ≡ or_else (or_else (check f v) (check g v)) (check h v)
-three_numbers None f g h = refl
-three_numbers (Some n) f g h = by_test (f n) (g n) (h n)
+-- one of two numbers behind a test, and then two tests
+pub one_of_two : (i : Verdict) (v : Option ℕ) (f g : ℕ → Bool) (first d : Verdict)
+    → and_then i (and_then (or_else (check f v) (check g v)) (and_then first d))
+    ≡ and_then (or_else (and_then (and_then i (check f v)) first) (and_then (and_then i (check g v)) first)) d
+one_of_two No v f g first d = refl
+one_of_two Abort v f g first d = refl
+one_of_two Yes None f g first d = refl
+one_of_two Yes (Some n) f g first d = by_test (f n) (g n) first
   where
-    by_test : (a b c : Bool) → decided (if a then true else (if b then true else c)) ≡ or_else (or_else (decided a) (decided b)) (decided c)
-    by_test true b c = refl
-    by_test false true c = refl
-    by_test false false c = refl
+    by_test : (a b : Bool) (e : Verdict) → and_then (or_else (decided a) (decided b)) (and_then e d) ≡ and_then (or_else (and_then (decided a) e) (and_then (decided b) e)) d
+    by_test true b Yes = refl
+    by_test true true No = refl
+    by_test true false No = refl
+    by_test true b Abort = refl
+    by_test false true e = refl
+    by_test false false e = refl
+
+-- one of two numbers, by comparisons that follow each other
+pub two_numbers : (v : Option ℕ) (f g : ℕ → Bool) → check (λ n. if f n then true else g n) v ≡ or_else (check f v) (check g v)
+two_numbers None f g = refl
+two_numbers (Some n) f g = by_test (f n) (g n)
+  where
+    by_test : (a b : Bool) → decided (if a then true else b) ≡ or_else (decided a) (decided b)
+    by_test true b = refl
+    by_test false b = refl
 
 -- Each of three numbers has its test, and two of them share one. A packet has one number, so that the others are No.
 pub by_number : (v : Option ℕ) (f g h : ℕ → Bool) (first other : Verdict)

@@ -10,7 +10,8 @@ use Rattle.semantics.specs.Meaning.{Packet, HasBytes, and_then, or_else, or_test
 use Rattle.analysis.specs.declared.lists.Span.{Span}
 use Rattle.analysis.specs.Lists.{any_of, has_tail}
 use Rattle.generation.specs.Listed.{among}
-use Rattle.generation.proofs.Neighbours.{any-same, any-abort, any-no, among-decided, decided-either}
+use Rattle.analysis.proofs.Joining.{any-same, any-abort, any-no}
+use Rattle.generation.proofs.Neighbours.{among-decided, decided-either}
 use Rattle.generation.proofs.Six.{fold-joined, all-dropped, four_below}
 
 -- whether a number of two bytes and one of four are of a member

@@ -21,7 +21,7 @@ use Rattle.generation.specs.Ways.{AreWays, RenewsBoth, DecidesBehind}
 use Rattle.generation.proofs.Leading.{renews-not, renews-either}
 use Rattle.generation.proofs.Narrowed.{behind-more, behind-same, behind-both, behind-either, behind-not}
 use Rattle.syntax.specs.declared.tree.Primitive.{Primitive}
-use Rattle.generation.proofs.Neighbours.{any-same}
+use Rattle.analysis.proofs.Joining.{any-same}
 use Rattle.analysis.specs.Lists.{any_of, direction_of, bytes_test, form_test, kind_test, IsAlone, member_test, members_weight, AreFree, Passes, passing, chained, left_chained, turned, weighed, Groups, EndsIn}
 use Rattle.analysis.proofs.Members.{any-first, or-no, weight-append}
 use Rattle.analysis.proofs.Dividing.{free-before}
@@ -39,6 +39,7 @@ listed_fits forms.Ports n many = omega (arith, many)
 listed_fits forms.TcpPorts n many = omega (arith, many)
 listed_fits forms.UdpPorts n many = omega (arith, many)
 listed_fits forms.SctpPorts n many = omega (arith, many)
+listed_fits forms.TcpOrUdpPorts n many = omega (arith, many)
 listed_fits forms.IpProto n many = omega (arith, many)
 listed_fits forms.EtherProto n many = omega (arith, many)
 listed_fits forms.EtherHost n many = omega (arith, many)
@@ -100,9 +101,9 @@ left-settled c (Some w) t u p same = by_chain c (meaning w p) same
     by_chain chains.NoneOf Abort same' = refl
 
 -- how much room those of one kind and the others take
-pub rest_fits : (first next : Member) (all rest others : List Member) (spans : List Span) → Groups first all spans rest → rest ≡ others ++ (next ∷ [])
-    → weighed next.kind.form 1 + members_weight others + weighed first.kind.form (length spans) ≤ weighed first.kind.form 1 + members_weight all
-rest_fits first next all rest others spans groups parts =
+pub rest_fits : (first next : Member) (all rest others : List Member) (kind : Kind) (spans : List Span) → Groups first all kind spans rest → rest ≡ others ++ (next ∷ [])
+    → weighed next.kind.form 1 + members_weight others + weighed kind.form (length spans) ≤ weighed first.kind.form 1 + members_weight all
+rest_fits first next all rest others kind spans groups parts =
     let more : members_weight rest ≡ members_weight others + weighed next.kind.form 1 = ap members_weight parts ∙ weight-append others next in
     omega (arith, groups.weighs, more)
 
@@ -121,26 +122,26 @@ emits-list {chain} {t} {u} {left} {first} {others} ends made = record {
 }
 
 -- the code of members, all of one kind
-pub emits-alone : {known : Known} {ways renewed : Ways} {entry : Way} {a b : List Insn} (first : Member) (all : List Member) (spans : List Span) → Groups first all spans []
-    → DecidesBehind known (weighed first.kind.form (length spans)) (any_of (kind_test first.kind) spans) ways entry a b × RenewsBoth ways renewed a b
+pub emits-alone : {known : Known} {ways renewed : Ways} {entry : Way} {a b : List Insn} (first : Member) (all : List Member) (kind : Kind) (spans : List Span) → Groups first all kind spans []
+    → DecidesBehind known (weighed kind.form (length spans)) (any_of (kind_test kind) spans) ways entry a b × RenewsBoth ways renewed a b
     → EmitsMembers known first all ways renewed entry a b
-emits-alone first all spans groups made = record {
-  test = any_of (kind_test first.kind) spans;
-  same = λ p settled. sym (or-no (any_of (kind_test first.kind) spans p)) ∙ sym (groups.same p settled);
+emits-alone first all kind spans groups made = record {
+  test = any_of (kind_test kind) spans;
+  same = λ p settled. sym (or-no (any_of (kind_test kind) spans p)) ∙ sym (groups.same p settled);
   decides = behind-more (weighed first.kind.form 1 + members_weight all) (omega (arith, groups.weighs)) made.0;
   renews = made.1;
 }
 
 -- those of one kind, and behind them the others
-pub emits-more : {known : Known} {ways second renewed : Ways} {later entry : Way} {a b c : List Insn} (first next : Member) (all rest others : List Member) (spans : List Span) → Groups first all spans rest
+pub emits-more : {known : Known} {ways second renewed : Ways} {later entry : Way} {a b c : List Insn} (first next : Member) (all rest others : List Member) (kind : Kind) (spans : List Span) → Groups first all kind spans rest
     → rest ≡ others ++ (next ∷ []) → EmitsMembers known next others ways second later a b
-    → DecidesBehind known (weighed first.kind.form (length spans)) (any_of (kind_test first.kind) spans) (record { yes = second.yes; no = later }) entry b c
+    → DecidesBehind known (weighed kind.form (length spans)) (any_of (kind_test kind) spans) (record { yes = second.yes; no = later }) entry b c
     × RenewsBoth (record { yes = second.yes; no = later }) renewed b c
     → EmitsMembers known first all ways (record { yes = renewed.yes; no = second.no }) entry a c
-emits-more first next all rest others spans groups parts last made = record {
-  test = or_test (any_of (kind_test first.kind) spans) last.test;
-  same = λ p settled. by_group p (any_of (kind_test first.kind) spans p) (λ none. behind p (groups.free p settled none)) ∙ sym (groups.same p settled);
-  decides = behind-more (weighed first.kind.form 1 + members_weight all) (rest_fits first next all rest others spans groups parts) (behind-either last.renews last.decides made.0);
+emits-more first next all rest others kind spans groups parts last made = record {
+  test = or_test (any_of (kind_test kind) spans) last.test;
+  same = λ p settled. by_group p (any_of (kind_test kind) spans p) (λ none. behind p (groups.free p settled none)) ∙ sym (groups.same p settled);
+  decides = behind-more (weighed first.kind.form 1 + members_weight all) (rest_fits first next all rest others kind spans groups parts) (behind-either last.renews last.decides made.0);
   renews = renews-either made.0.extends last.renews made.1;
 }
   where

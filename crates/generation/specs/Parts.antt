@@ -39,12 +39,13 @@ side_test (sides.Ethernet offset address) = is_address address.octets offset
 abbrev pub port_behind : ℕ → ℕ → ℕ → ℕ → Test
 port_behind length low high o p = check (within low high) (half (length + (14 + o)) p)
 
+-- the protocol number of TCP or of UDP
+abbrev pub has_tcp_or_udp_number : Test
+has_tcp_or_udp_number = or_test (λ p. check (λ b. b == 6) (byte 23 p)) (λ p. check (λ b. b == 17) (byte 23 p))
+
 -- one of the protocol numbers of IPv4 that have ports
 abbrev pub has_port_number : Test
-has_port_number =
-    or_test
-    (or_test (λ p. check (λ b. b == 6) (byte 23 p)) (λ p. check (λ b. b == 17) (byte 23 p)))
-    (λ p. check (λ b. b == 132) (byte 23 p))
+has_port_number = or_test has_tcp_or_udp_number (λ p. check (λ b. b == 132) (byte 23 p))
 
 -- the protocol number of a transport protocol, or of any
 abbrev pub number_of : Option Transport → Test

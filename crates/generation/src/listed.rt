@@ -1,7 +1,7 @@
 //! Lists by their kinds. Code is written from its end: of two tests that follow each other, the second one comes first here.
 
 ghost use Rattle.std.specs.Prelude.{◌≡◌, ℕ, ◌+◌, ◌*◌, ◌<◌, ◌≤◌, length};
-ghost use Rattle.semantics.specs.Meaning.{check, byte, half, and_test, is_type, is_first_fragment_of, protocol_number, in_layer, by_direction, within, has_any_ports};
+ghost use Rattle.semantics.specs.Meaning.{check, byte, half, and_test, or_test, is_type, is_first_fragment_of, protocol_number, in_layer, by_direction, within, has_ports, has_any_ports};
 ghost use Rattle.analysis.specs.Lists.{any_of, direction_of, in_span, has_tail, of_any_type, bytes_test, kind_test};
 ghost use Rattle.generation.specs.Listed.{among, listed_cost, IsChoice};
 ghost use Rattle.generation.specs.Emission.{AreExits, Extends, Decides, OrFull};
@@ -261,6 +261,28 @@ impl Code {
         }
     }
 
+    /// Ports, or port ranges, of TCP or UDP: what is asked of either stands once behind both protocol numbers.
+    fn listed_tcp_or_udp_ports(
+        &mut self,
+        known: Known,
+        sides: Sides,
+        spans: &[Span],
+        ways: Ways,
+    ) -> Result<Way, Full>
+        requires many { 2 ≤ length spans.now }
+        requires ways { AreWays self.old ways }
+        ensures { OrFull (14 * length spans.now + 22) self.old result (λ way. DecidesBehind known (14 * length spans.now + 22)
+            (any_of (λ x. or_test (has_ports 6 (direction_of sides) x.low x.high) (has_ports 17 (direction_of sides) x.low x.high))
+            spans.now) ways way self.old self.new) }
+    {
+        let exits = ways.ip_exits();
+        let yes = self.seek_ports(sides, spans, exits)?;
+        self.room(15)?;
+        let yes = self.unfragmented(Exits { yes, ..exits });
+        let inner = self.tcp_or_udp_number(Exits { yes, ..exits });
+        Ok(self.behind_ip_unless(known, inner, ways))
+    }
+
     /// Ethernet hosts that have their first two bytes in common.
     #[tactic(auto, using(crate::proofs::Leading::decides_any))]
     fn listed_ethernet(
@@ -403,6 +425,7 @@ impl Code {
             Form::TcpPorts => self.listed_ports(known, Some(Transport::Tcp), sides, spans, ways),
             Form::UdpPorts => self.listed_ports(known, Some(Transport::Udp), sides, spans, ways),
             Form::SctpPorts => self.listed_ports(known, Some(Transport::Sctp), sides, spans, ways),
+            Form::TcpOrUdpPorts => self.listed_tcp_or_udp_ports(known, sides, spans, ways),
             Form::IpProto => self.listed_protocols(known, spans, ways),
             Form::EtherProto => self.listed_types(spans, ways),
             Form::EtherHost => self.listed_ethernet(sides, head, spans, ways),

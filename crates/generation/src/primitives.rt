@@ -1,12 +1,12 @@
 //! The primitives. Code is written from its end: of two tests that follow each other, the second one comes first here.
 
-ghost use Rattle.std.specs.Prelude.{◌≡◌, ◌≢◌, ℕ, ◌+◌, ◌≤◌, ◌==◌, None, length};
+ghost use Rattle.std.specs.Prelude.{◌≡◌, ◌≢◌, ℕ, ◌+◌, ◌≤◌, ◌==◌, true, if◌then◌else◌, None, length};
 ghost use Rattle.syntax.specs.declared.tree.Primitive.TheVariants.{IpMulticast, Less};
 ghost use Rattle.semantics.specs.Meaning.{check, byte, and_test, is_type, is_protocol, plain_test, by_direction, has_address, in_net, in_any_net, is_address, within, has_port, has_any_ports, protocol_number, primitive_test};
 ghost use Rattle.generation.specs.Insns.{plain_insn};
-ghost use Rattle.generation.specs.Emission.{IsPlace, AreExits, ChoosesBehind, same_index, Follows, Decides};
+ghost use Rattle.generation.specs.Emission.{IsPlace, AreExits, Chooses, ChoosesBehind, same_index, Follows, Decides};
 ghost use Rattle.generation.specs.Ways.{IsWay, AreWays, DecidesBy, GuardsPorts};
-ghost use Rattle.generation.specs.Parts.{side_cost, side_offset, side_test, port_behind, has_port_number, number_of, plain_cost, cost};
+ghost use Rattle.generation.specs.Parts.{side_cost, side_offset, side_test, port_behind, has_tcp_or_udp_number, has_port_number, number_of, plain_cost, cost};
 ghost use Rattle.generation.specs.Remaining.{is_unfragmented};
 
 use crate::code::{Code, Exits};
@@ -181,6 +181,34 @@ impl Code {
         self.test(Field::Half(20), Jump::AnyBit, 0x1fff, exits.swapped())
     }
 
+    /// Whether the number that was loaded is the protocol number of TCP or UDP.
+    fn branch_tcp_or_udp(&mut self, exits: Exits)
+        requires room { length self.old + 6 ≤ 512 }
+        requires exits { AreExits self.old exits }
+        ensures { Chooses 6 (λ r. if r.accumulator == 6 then true else r.accumulator == 17) exits self.old self.new }
+    {
+        self.branch(Jump::Equal, Operand::Constant(17), exits);
+        let udp = self.len();
+        self.branch(
+            Jump::Equal,
+            Operand::Constant(6),
+            Exits { no: udp, ..exits },
+        );
+    }
+
+    /// The protocol number of TCP or UDP: two comparisons of one byte. An exit that begins with the same load is passed.
+    pub fn tcp_or_udp_number(&mut self, exits: Exits) -> usize
+        requires room { length self.old + 7 ≤ 512 }
+        requires exits { AreExits self.old exits }
+        ensures { Decides 7 has_tcp_or_udp_number exits result self.old self.new }
+    {
+        let load = load_insn(Field::Byte(23));
+        let exits = self.both_passed(load, exits);
+        self.branch_tcp_or_udp(exits);
+        self.push(load);
+        self.len()
+    }
+
     /// A protocol number of IPv4 that has ports: three comparisons of one byte. An exit that begins with the same load is
     /// passed.
     fn port_number(&mut self, exits: Exits) -> usize
@@ -192,17 +220,7 @@ impl Code {
         let exits = self.both_passed(load, exits);
         self.branch(Jump::Equal, Operand::Constant(132), exits);
         let sctp = self.len();
-        self.branch(
-            Jump::Equal,
-            Operand::Constant(17),
-            Exits { no: sctp, ..exits },
-        );
-        let udp = self.len();
-        self.branch(
-            Jump::Equal,
-            Operand::Constant(6),
-            Exits { no: udp, ..exits },
-        );
+        self.branch_tcp_or_udp(Exits { no: sctp, ..exits });
         self.push(load);
         self.len()
     }

@@ -1,16 +1,10 @@
-use Rattle.analysis.proofs.Dividing.{groups-with}
-use Rattle.analysis.proofs.Leaving.{leaves-all}
-use Rattle.analysis.proofs.neighbours.Others.group_of.Goals.{then-has_both_ports, else-has_both_ports}
+use Rattle.std.proofs.Common.{arith}
+use Rattle.analysis.proofs.Joining.{groups-joined}
 use Rattle.analysis.proofs.neighbours.Others.group_of.Goals as goal
 
-pub returns-clause-groups : goal.returns-clause-groups
-returns-clause-groups c =
-    let first = c.args.first in
-    let all = c.args.self.now.members.items in
-    let spans = c.push.new.self.items in
-    let others = c.divide-spans.new.self.members.items in
-    let with_all = groups-with first all c.divide-spans.result.items spans others in
-    elim c.if-has_both_ports.branch [
-      | then-has_both_ports w ↦ rw w.self-is (with_all _ c.divide-spans.ensures c.push.ensures.items (rw w.as_slice.ensures.value at w.leave_out.ensures))
-      | else-has_both_ports w ↦ rw w.self-is (with_all _ c.divide-spans.ensures c.push.ensures.items (leaves-all first.kind spans others))
-    ]
+pub returns-then-ask_for-clause-groups : goal.returns-then-ask_for-clause-groups
+returns-then-ask_for-clause-groups c =
+    let asked = rw c.as_slice.ensures.value at c.if-ask_for.ensures in
+    rw (c.of_tcp_or_udp-group.ensures, c.clear.ensures)
+    (groups-joined c.args.first c.args.self.now.members.items c.in-Some.other _ c.alike-group.result.spans.items c.alike-group.new.self.members.items
+    c.alike-group.ensures.groups c.in-Some.ensures asked (omega (arith, c.len.ensures.value, c.if-len-gt1.true)))

@@ -12,8 +12,8 @@ returns-in_default t c =
     let all = c.args.others.now.members.items in
     let spans = c.group_of-group.result.spans.items in
     let groups = rw c.in_default.ensures.none at c.group_of-group.ensures.groups in
-    let made = rw c.group_of-group.ensures.kind at c.group.ensures in
-    MatchResult-weaker c.group.result made (λ emitted done. emits-alone first all spans groups done) (λ e full. omega (arith, full, groups.weighs))
+    let kind = c.group_of-group.result.kind in
+    MatchResult-weaker c.group.result c.group.ensures (λ emitted done. emits-alone first all kind spans groups done) (λ e full. omega (arith, full, groups.weighs))
 
 pub members-requires : goal.members-requires
 members-requires t c =
@@ -34,7 +34,8 @@ returns-in_err-second t c =
     let spans = c.group_of-group.result.spans.items in
     let rest = c.group_of-group.new.self.members.items in
     let others = c.pop.new.self.members.items in
-    let fits = rest_fits c.args.first c.in-Some.next all rest others spans c.group_of-group.ensures.groups c.in-Some.ensures.items in
+    let kind = c.group_of-group.result.kind in
+    let fits = rest_fits c.args.first c.in-Some.next all rest others kind spans c.group_of-group.ensures.groups c.in-Some.ensures.items in
     MatchResult-from_err c.from_residual.result _ _ c.from_residual.ensures.0 (λ e. omega (arith, c.in_err-second.ensures, fits))
 
 pub returns-in_err-head : goal.returns-in_err-head
@@ -43,10 +44,10 @@ returns-in_err-head t c =
     let spans = c.group_of-group.result.spans.items in
     let rest = c.group_of-group.new.self.members.items in
     let others = c.pop.new.self.members.items in
-    let fits = rest_fits c.args.first c.in-Some.next all rest others spans c.group_of-group.ensures.groups c.in-Some.ensures.items in
-    let full = rw c.group_of-group.ensures.kind at c.in_err-head.ensures in
+    let kind = c.group_of-group.result.kind in
+    let fits = rest_fits c.args.first c.in-Some.next all rest others kind spans c.group_of-group.ensures.groups c.in-Some.ensures.items in
     let within = c.in_ok-second.ensures.decides.extends.within in
-    MatchResult-from_err c.from_residual-in_err-head.result _ _ c.from_residual-in_err-head.ensures.0 (λ e. omega (arith, full, within, fits))
+    MatchResult-from_err c.from_residual-in_err-head.result _ _ c.from_residual-in_err-head.ensures.0 (λ e. omega (arith, c.in_err-head.ensures, within, fits))
 
 pub returns : goal.returns
 returns t c =
@@ -56,5 +57,4 @@ returns t c =
     let rest = c.group_of-group.new.self.members.items in
     let others = c.pop.new.self.members.items in
     let next = c.in-Some.next in
-    let made = rw c.group_of-group.ensures.kind at c.in_ok-head.ensures in
-    emits-more first next all rest others spans c.group_of-group.ensures.groups c.in-Some.ensures.items c.in_ok-second.ensures made
+    emits-more first next all rest others c.group_of-group.result.kind spans c.group_of-group.ensures.groups c.in-Some.ensures.items c.in_ok-second.ensures c.in_ok-head.ensures

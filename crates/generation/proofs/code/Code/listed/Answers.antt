@@ -35,6 +35,10 @@ pub returns-in-SctpPorts : goal.returns-in-SctpPorts
 returns-in-SctpPorts c =
     rw c.in-SctpPorts.is (MatchResult-weaker c.listed_ports-in-SctpPorts.result c.listed_ports-in-SctpPorts.ensures (λ way done. behind-more _ (omega (arith, c.requires.many)) done) (λ e full. omega (arith, full, c.requires.many)))
 
+pub returns-in-TcpOrUdpPorts : goal.returns-in-TcpOrUdpPorts
+returns-in-TcpOrUdpPorts c =
+    rw c.in-TcpOrUdpPorts.is (MatchResult-weaker c.listed_tcp_or_udp_ports.result c.listed_tcp_or_udp_ports.ensures (λ way done. behind-more _ (omega (arith, c.requires.many)) done) (λ e full. omega (arith, full, c.requires.many)))
+
 pub returns-in-IpProto : goal.returns-in-IpProto
 returns-in-IpProto c =
     rw c.in-IpProto.is (MatchResult-weaker c.listed_protocols.result c.listed_protocols.ensures (λ way done. behind-more _ (omega (arith, c.requires.many)) done) (λ e full. omega (arith, full, c.requires.many)))

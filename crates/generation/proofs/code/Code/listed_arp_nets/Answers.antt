@@ -4,7 +4,7 @@ use Rattle.semantics.specs.Meaning.{and_test, is_type, by_direction}
 use Rattle.analysis.specs.Lists.{any_of, direction_of, in_span}
 use Rattle.generation.proofs.Deciding.{decides-both}
 use Rattle.generation.proofs.Leading.{decides_any, decides-by-same, decides-by-more}
-use Rattle.generation.proofs.Neighbours.{any-guarded}
+use Rattle.analysis.proofs.Joining.{any-guarded}
 use Rattle.generation.proofs.code.Code.listed_arp_nets.Goals as goal
 
 pub returns : goal.returns

@@ -3,7 +3,7 @@ use Rattle.analysis.specs.declared.lists.Span.{Span}
 use Rattle.semantics.specs.Meaning.{and_test, is_type, by_direction}
 use Rattle.analysis.specs.Lists.{any_of, direction_of, in_span}
 use Rattle.generation.proofs.Narrowed.{behind-more, behind-same}
-use Rattle.generation.proofs.Neighbours.{any-guarded}
+use Rattle.analysis.proofs.Joining.{any-guarded}
 use Rattle.generation.proofs.code.Code.listed_ip_nets.Goals as goal
 
 pub returns : goal.returns

@@ -6,7 +6,7 @@ use Rattle.analysis.specs.Knowing.{has_type}
 use Rattle.analysis.specs.Lists.{any_of, direction_of, in_span, of_any_type}
 use Rattle.generation.proofs.Knowing.{type-from}
 use Rattle.generation.proofs.Narrowed.{behind-any, behind-more, behind-same, nets-known}
-use Rattle.generation.proofs.Neighbours.{any-same}
+use Rattle.analysis.proofs.Joining.{any-same}
 use Rattle.generation.proofs.code.Code.listed_nets.Goals as goal
 
 pub returns-then-has_type : goal.returns-then-has_type

@@ -4,7 +4,7 @@ use Rattle.semantics.specs.Meaning.{Test, check, byte, and_test, is_type, within
 use Rattle.analysis.specs.Lists.{any_of}
 use Rattle.generation.proofs.Following.{decides-followed}
 use Rattle.generation.proofs.Narrowed.{behind-more, behind-same}
-use Rattle.generation.proofs.Neighbours.{any-guarded}
+use Rattle.analysis.proofs.Joining.{any-guarded}
 use Rattle.generation.proofs.code.Code.listed_protocols.Goals as goal
 
 abbrev number : Span → Test

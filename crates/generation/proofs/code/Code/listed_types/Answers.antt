@@ -5,7 +5,8 @@ use Rattle.analysis.specs.Lists.{any_of}
 use Rattle.generation.specs.Listed.{among}
 use Rattle.generation.proofs.Following.{decides-followed}
 use Rattle.generation.proofs.Leading.{decides-apart, decides-by-more}
-use Rattle.generation.proofs.Neighbours.{any-same, any-checked, type-known, type-missing}
+use Rattle.analysis.proofs.Joining.{any-same}
+use Rattle.generation.proofs.Neighbours.{any-checked, type-known, type-missing}
 use Rattle.generation.proofs.code.Code.listed_types.Goals as goal
 
 abbrev number : Span → Test
