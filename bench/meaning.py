@@ -231,8 +231,28 @@ def pair(rng):
     return [port(transport, "src or dst"), lambda: ("bytes", transport, index, 2, "=", rng.choice(PORTS))]
 
 
+def twins(rng):
+    """Tests of TCP and of UDP by turns, most of which ask for the same ports in the same order."""
+    side, joint, first = rng.choice(["src", "dst", "src or dst"]), rng.choice(["or", "and"]), rng.choice(["tcp", "udp"])
+    both = [(first, low) for low in rng.choices(PORTS, k=rng.choice([2, 3, 5]))]
+    both = [one for transport, low in both for one in [(transport, low), ("tcp" if transport == "udp" else "udp", low)]]
+    if rng.random() < 0.3:
+        both.append((rng.choice(["tcp", "udp", "sctp"]), rng.choice(PORTS)))
+    if rng.random() < 0.3:
+        rng.shuffle(both)
+    width = rng.choice([0, 0, 30])
+    one = lambda transport, low: ("ports", transport, side, low, min(65535, low + width))
+    tests = [one(*each) if joint == "or" else ("not", one(*each)) for each in both]
+    tree = tests[0]
+    for other in tests[1:]:
+        tree = (joint, tree, other)
+    return tree
+
+
 def a_list(rng):
     """Operands of an `or`, or negations of an `and`, of one list or of several in any order; another test may stand among them."""
+    if rng.random() < 0.1:
+        return twins(rng)
     makers = pair(rng) if rng.random() < 0.2 else [maker(rng) for _ in range(rng.choice([1, 1, 2, 2, 3]))]
     count = rng.choice([2, 2, 3, 4, 6, 8]) + len(makers) - 1
     joint = rng.choice(["or", "or", "and"])

@@ -201,9 +201,9 @@ BY_TURNS = [
     ("tcp port {}", "udp port {}", 4, 17), ("udp port {}", "tcp port {}", 10, 23), ("tcp port {}", "udp port {}", 30, 43),
     ("udp port {}", "tcp port {}", 100, 113), ("tcp src port {}", "udp src port {}", 100, 62),
     ("udp portrange {0}-7{0}", "tcp portrange {0}-7{0}", 30, 74),
-    ("host 10.0.0.{}", "port {}", 30, 125), ("host 10.0.0.{}", "net 10.{}.0.0/16", 30, 135),
-    ("src host 10.0.0.{}", "ip dst host 10.0.0.{}", 4, 15), ("src host 10.0.0.{}", "ip dst host 10.0.0.{}", 30, 41),
-    ("tcp port {}", "tcp[2:2] = {}", 30, 44), ("ip proto {}", "ether proto 0x90{}", 30, 22), ("ip proto {}", "ether proto 0x90{}", 100, 57),
+    ("host 10.0.0.{}", "port {}", 30, 110), ("host 10.0.0.{}", "net 10.{}.0.0/16", 30, 135),
+    ("ip dst host 10.0.0.{}", "src host 10.0.0.{}", 4, 15), ("ip dst host 10.0.0.{}", "src host 10.0.0.{}", 30, 41),
+    ("tcp port {}", "tcp[2:2] = {}", 30, 44), ("ether proto 0x8{:02}", "ip proto {}", 30, 22), ("ether proto 0x8{:02}", "ip proto {}", 100, 57),
     ("port {}", "portrange {0}-7{0}", 30, 110), ("ether src 0:1:2:3:4:{}", "host 10.0.0.{}", 30, 80),
     ("ip[8] = {}", "tcp[2:2] = {}", 30, 45),
 ]

@@ -1,4 +1,4 @@
-use Rattle.std.proofs.Common.{◌≡◌, true, false, sym, ap, ◌∙◌}
+use Rattle.std.proofs.Common.{◌≡◌, true, false, sym, ap, ◌∙◌, rules}
 use Rattle.analysis.specs.declared.lists.Kind.{Kind}
 use Rattle.analysis.specs.contracts.lists.Form.{the_type as the_forms}
 use Rattle.analysis.specs.contracts.lists.Sides.{the_type as the_sides}
@@ -20,7 +20,9 @@ returns-then-eq-clause-same c =
     let by_index = both-true _ _ by_layer.1 in
     let bytes : kind.bytes ≡ other.bytes =
     bytes-same kind.bytes other.bytes (same_true the_layers tt _ _ by_layer.0) (equal-true _ _ by_index.0) (same_true the_sizes tt _ _ (sym by_index.1)) in
-    kind-same kind other (same_true the_forms tt _ _ by_form.0) (same_true the_sides tt _ _ by_sides.0) (equal-true _ _ by_mask.0) (equal-true _ _ by_head.0) bytes
+    let same : kind ≡ other =
+    kind-same kind other (same_true the_forms tt _ _ by_form.0) (same_true the_sides tt _ _ by_sides.0) (equal-true _ _ by_mask.0) (equal-true _ _ by_head.0) bytes in
+    search (rules, same)
 
 pub returns-else-eq-clause-differ : goal.returns-else-eq-clause-differ
 returns-else-eq-clause-differ c = λ same.
