@@ -19,3 +19,4 @@ pub mod Complete
 pub mod Turns
 pub mod Answered
 pub mod Directions
+pub mod Closing

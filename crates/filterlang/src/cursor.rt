@@ -83,6 +83,15 @@ impl<'a> Cursor<'a> {
         self.past(close_at(self.rest))
     }
 
+    /// Goes past the `)` behind what was read.
+    pub fn closed<T: Drop>(&mut self, read: T) -> Result<T, Fault>
+        ensures { Gives {Y = T × List Kind} (λ t. (t, kinds self.new.rest.now)) result
+            (option_map (λ behind. (read, behind.1)) (close_at (kinds self.old.rest.now))) }
+    {
+        self.close()?;
+        Ok(read)
+    }
+
     /// A port number.
     fn port(&mut self) -> Result<u16, Fault>
         ensures { Gives (λ port. (port, kinds self.new.rest.now)) result (port_at (kinds self.old.rest.now)) }

@@ -54,8 +54,9 @@ impl<'a> Parser<'a> {
         let mut expr = self.term(alloc, levels)?;
         while let Some((joint, rest)) = joint_at(self.cursor.rest) {
             self.cursor.rest = rest;
+            let left = Box::new(alloc, expr)?;
             let next = self.term(alloc, levels)?;
-            expr = joined_by(alloc, joint, expr, next)?;
+            expr = joined_by(alloc, joint, left, next)?;
         }
         Ok(expr)
     }
@@ -91,16 +92,14 @@ impl<'a> Parser<'a> {
             Beginning::Parenthesis => {
                 let levels = self.cursor.deeper(levels)?;
                 let expr = self.expr(alloc, levels)?;
-                self.cursor.close()?;
-                Ok(expr)
+                self.cursor.closed(expr)
             }
             Beginning::Primitive => match self.start()? {
                 Start::Primitive(primitive) => Ok(Expr::Test(primitive)),
                 Start::Group(qualifiers) => {
                     let levels = self.cursor.deeper(levels)?;
                     let expr = self.cursor.group(alloc, levels, qualifiers)?;
-                    self.cursor.close()?;
-                    Ok(expr)
+                    self.cursor.closed(expr)
                 }
             },
         }

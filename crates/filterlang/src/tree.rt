@@ -1,6 +1,6 @@
 //! The nodes of trees that join others.
 
-ghost use Rattle.std.specs.Prelude.{Some};
+ghost use Rattle.std.specs.Prelude.{Some, box_value};
 ghost use Rattle.syntax.specs.Trees.{tree_of, negation};
 ghost use Rattle.filterlang.specs.Readers.{Gives};
 ghost use Rattle.filterlang.specs.Reading.{joined_by};
@@ -18,10 +18,14 @@ pub(crate) fn negated(alloc: Global, expr: Expr) -> Result<Expr, Fault>
 }
 
 /// Two expressions and the word between them.
-pub(crate) fn joined_by(alloc: Global, joint: Joint, left: Expr, right: Expr) -> Result<Expr, Fault>
-    ensures { Gives (λ e. tree_of e) result (Some (joined_by joint (tree_of left) (tree_of right))) }
+pub(crate) fn joined_by(
+    alloc: Global,
+    joint: Joint,
+    left: Box<Expr>,
+    right: Expr,
+) -> Result<Expr, Fault>
+    ensures { Gives (λ e. tree_of e) result (Some (joined_by joint (tree_of (box_value left)) (tree_of right))) }
 {
-    let left = Box::new(alloc, left)?;
     let right = Box::new(alloc, right)?;
     match joint {
         Joint::And => Ok(Expr::And(left, right)),

@@ -73,8 +73,9 @@ impl<'a> Cursor<'a> {
         while let Some((operator, rest)) = operator_at(precedence, self.rest) {
             self.rest = rest;
             let place = self.place();
+            let left = Box::new(alloc, value)?;
             let right = self.arith(alloc, levels, tighter)?;
-            value = operated(alloc, operator, value, right, place)?;
+            value = operated(alloc, operator, left, right, place)?;
         }
         Ok(value)
     }
@@ -95,8 +96,7 @@ impl<'a> Cursor<'a> {
             Opening::Parenthesis => {
                 let levels = self.deeper(levels)?;
                 let value = self.arith(alloc, levels, LOOSEST)?;
-                self.close()?;
-                Ok(value)
+                self.closed(value)
             }
             Opening::Accessor => self.accessor(alloc, levels),
             Opening::Leaf => self.leaf(),
@@ -112,10 +112,10 @@ impl<'a> Cursor<'a> {
     {
         let layer = self.layer()?;
         let levels = self.deeper(levels)?;
-        let index = self.arith(alloc, levels, LOOSEST)?;
+        let index = Box::new(alloc, self.arith(alloc, levels, LOOSEST)?)?;
         let size = self.size()?;
         self.past(close_bracket_at(self.rest))?;
-        Ok(Value::Accessor(layer, Box::new(alloc, index)?, size))
+        Ok(Value::Accessor(layer, index, size))
     }
 
     /// A number, a named value or `len`.

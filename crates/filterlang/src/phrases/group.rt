@@ -29,8 +29,9 @@ impl<'a> Cursor<'a> {
         let mut expr = self.group_term(alloc, levels, qualifiers)?;
         while let Some((joint, rest)) = joint_at(self.rest) {
             self.rest = rest;
+            let left = Box::new(alloc, expr)?;
             let next = self.group_term(alloc, levels, qualifiers)?;
-            expr = joined_by(alloc, joint, expr, next)?;
+            expr = joined_by(alloc, joint, left, next)?;
         }
         Ok(expr)
     }
@@ -56,8 +57,7 @@ impl<'a> Cursor<'a> {
             Beginning::Parenthesis => {
                 let levels = self.deeper(levels)?;
                 let expr = self.group(alloc, levels, qualifiers)?;
-                self.close()?;
-                Ok(expr)
+                self.closed(expr)
             }
             Beginning::Primitive => Ok(Expr::Test(self.identified(qualifiers)?)),
         }

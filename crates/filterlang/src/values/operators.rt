@@ -1,6 +1,6 @@
 //! The operators of arithmetic, and the layers and sizes of accessors.
 
-ghost use Rattle.std.specs.Prelude.{◌≡◌, option_map};
+ghost use Rattle.std.specs.Prelude.{◌≡◌, option_map, box_value};
 ghost use Rattle.filterlang.specs.Phrases.{kinds};
 ghost use Rattle.syntax.specs.Trees.{amount_of};
 ghost use Rattle.filterlang.specs.Operators.{precedence_of, divides, is_zero, layer_of, size_of};
@@ -64,16 +64,15 @@ pub(crate) fn operator_at(precedence: usize, tokens: &[Token]) -> Option<(Operat
 pub(crate) fn operated(
     alloc: Global,
     operator: Operator,
-    left: Value,
+    left: Box<Value>,
     right: Value,
     place: usize,
 ) -> Result<Value, Fault>
-    ensures { Gives (λ v. amount_of v) result (operated operator (amount_of left) (amount_of right)) }
+    ensures { Gives (λ v. amount_of v) result (operated operator (amount_of (box_value left)) (amount_of right)) }
 {
     if divides(operator) && is_zero(&right) {
         return Err(Fault::DivideByZero(place));
     }
-    let left = Box::new(alloc, left)?;
     let right = Box::new(alloc, right)?;
     Ok(Value::Binary(operator, left, right))
 }

@@ -14,5 +14,5 @@ arith-loop-operator-smaller t c =
 
 pub arith-loop-operator-preserved : goal.arith-loop-operator-preserved
 arith-loop-operator-preserved t c =
-    sym (chain_turn (operators c.args.precedence) (arith_at c.args.levels _) (operators_shorter c.args.precedence) (arith_shortens c.args.levels _) _ _ _ _ _ _ _ _ _ (sym c.in-Some-operator_at.ensures) c.in_ok-right.ensures c.in_ok-value-2.ensures)
+    sym (chain_turn (operators c.args.precedence) (arith_at c.args.levels _) (operators_shorter c.args.precedence) (arith_shortens c.args.levels _) _ _ _ _ _ _ _ _ _ (sym c.in-Some-operator_at.ensures) c.in_ok-right.ensures (rw c.in_ok-left.ensures.ok at c.in_ok-value-2.ensures))
     ∙ c.loop-operator.invariant

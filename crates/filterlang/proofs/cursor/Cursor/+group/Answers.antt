@@ -1,7 +1,11 @@
 use Rattle.std.proofs.Common.{sym, ◌∙◌}
+use Rattle.filterlang.specs.Phrases.{kinds}
+use Rattle.syntax.specs.Trees.{tree_of}
 use Rattle.filterlang.specs.Reading.{joints, group_term_at}
 use Rattle.filterlang.proofs.Chains.{turn_shorter, chain_turn}
 use Rattle.filterlang.proofs.Shorter.{joints_shorter, group_term_shortens}
+use Rattle.filterlang.proofs.Turns.{group_parenthesis}
+use Rattle.filterlang.proofs.Closing.{closed_gives}
 use Rattle.filterlang.proofs.cursor.Cursor.+group.Goals as goal
 
 pub group-loop-joint-smaller : goal.group-loop-joint-smaller
@@ -10,5 +14,10 @@ group-loop-joint-smaller t c =
 
 pub group-loop-joint-preserved : goal.group-loop-joint-preserved
 group-loop-joint-preserved t c =
-    sym (chain_turn joints (group_term_at c.args.levels) joints_shorter (group_term_shortens c.args.levels) _ _ _ _ _ _ _ _ _ (sym c.in-Some.ensures) c.in_ok-next.ensures c.in_ok-expr-2.ensures)
+    sym (chain_turn joints (group_term_at c.args.levels) joints_shorter (group_term_shortens c.args.levels) _ _ _ _ _ _ _ _ _ (sym c.in-Some.ensures) c.in_ok-next.ensures (rw c.in_ok-left.ensures.ok at c.in_ok-expr-2.ensures))
     ∙ c.loop-joint.invariant
+
+pub group_term-returns-in_ok-expr-in-Parenthesis : goal.group_term-returns-in_ok-expr-in-Parenthesis
+group_term-returns-in_ok-expr-in-Parenthesis t c =
+    rw (group_parenthesis c.args.levels c.args.qualifiers (kinds c.args.self.now.rest.now) (cc), c.in_ok-levels-in-Parenthesis.ensures, c.in_ok-expr-in-Parenthesis.ensures)
+    (closed_gives tree_of c.closed.result c.in_ok-expr-in-Parenthesis.expr c.args.qualifiers _ _ c.closed.ensures)
