@@ -134,7 +134,7 @@ impl<'a> AnswersLeft<'a> {
             return Ok(());
         };
         self.put_reason(l, answered, line)?;
-        write!(line, "\n")?;
+        line.push('\n')?;
         send(line.as_bytes(), out)
     }
 
@@ -153,7 +153,7 @@ impl<'a> AnswersLeft<'a> {
         };
         self.put_reason(l, answered, line)?;
         put_rejection(line, placed, &self.expr, answered.answer)?;
-        write!(line, "\n")?;
+        line.push('\n')?;
         send(line.as_bytes(), out)
     }
 
@@ -261,7 +261,6 @@ struct Arriving<'a>(&'a Placed);
 impl Display for Arriving<'_> {
     ghost output = { λ arriving. Some (placed_text arriving.0.now) };
 
-    #[tactic(auto, unfolding(crate::specs::Answers::placed_text))]
     fn fmt<W: fmt::Write>(&self, f: &mut Formatter<W>) -> fmt::Result {
         let Placed {
             capture,
@@ -270,11 +269,11 @@ impl Display for Arriving<'_> {
         } = self.0;
         write!(
             f,
-            "capture {capture} place {place} time {}.{}",
+            "capture {capture} place {place} time {}.{} len {}",
             packet.sec,
-            NineDigits(packet.nanos)
-        )?;
-        write!(f, " len {}", packet.len)
+            NineDigits(packet.nanos),
+            packet.len
+        )
     }
 }
 

@@ -58,12 +58,16 @@ impl Display for FullHold {
 
     #[tactic(auto, unfolding(crate::specs::Reasons::hold_text))]
     fn fmt<W: fmt::Write>(&self, f: &mut Formatter<W>) -> fmt::Result {
-        write!(f, "the hold of step {} with {}", self.step, self.packets)?;
-        f.write_str(if self.packets == 1 {
+        let noun = if self.packets == 1 {
             " packet"
         } else {
             " packets"
-        })
+        };
+        write!(
+            f,
+            "the hold of step {} with {}{noun}",
+            self.step, self.packets
+        )
     }
 }
 
@@ -118,12 +122,11 @@ impl Display for ArrivalEnd {
                 "Rotated, {sum} exceed {capacity}, and the empty hold takes the {load}"
             ),
             Fed::Dropped => {
-                write!(f, "Dropped, {sum} exceed {capacity}")?;
                 let hold = FullHold {
                     step: held_since,
                     packets: in_hold,
                 };
-                write!(f, "; {hold} is not read")
+                write!(f, "Dropped, {sum} exceed {capacity}; {hold} is not read")
             }
             Fed::Closed => f.write_str("Closed"),
         }

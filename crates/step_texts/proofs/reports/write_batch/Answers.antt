@@ -3,8 +3,13 @@ use Rattle.std.proofs.lemmas.Result.{err_from_is_err_and}
 use Rattle.std.specs.Io.KnownBytes.{Appends}
 use Rattle.step_texts.specs.Printed.{batch_line, message_lines}
 use Rattle.lines.specs.Sending.{TakesPart}
-use Rattle.lines.proofs.Taking.{TakesPart-more, Takes-then}
+use Rattle.lines.proofs.Taking.{TakesPart-more, TakesPart-none, Takes-then}
 use Rattle.step_texts.proofs.reports.write_batch.Goals as goal
+
+pub returns-in_err-put_batch : goal.returns-in_err-put_batch
+returns-in_err-put_batch g c =
+    let p = err_from_is_err_and c.from_residual.result c.from_residual.ensures.1 in
+    rw p.1 (TakesPart-none _ _)
 
 pub returns-in_err-send : goal.returns-in_err-send
 returns-in_err-send g c =

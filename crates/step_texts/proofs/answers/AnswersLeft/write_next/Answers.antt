@@ -7,7 +7,7 @@ returns-in_err-put_reason g c =
     let p = err_from_is_err_and c.from_residual.result c.from_residual.ensures.1 in
     rw p.1 (TakesPart-none _ _)
 
-pub returns-in_err-write : goal.returns-in_err-write
-returns-in_err-write g c =
-    let p = err_from_is_err_and c.from_residual-in_err-write.result c.from_residual-in_err-write.ensures.1 in
+pub returns-in_err-push : goal.returns-in_err-push
+returns-in_err-push g c =
+    let p = err_from_is_err_and c.from_residual-in_err-push.result c.from_residual-in_err-push.ensures.1 in
     rw p.1 (TakesPart-none _ _)
