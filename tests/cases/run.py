@@ -9,6 +9,7 @@ import struct
 import subprocess
 import termios
 import time
+from collections import Counter
 
 from .common import (
     HEADER, IP_RECORD, LIMIT, PROGRAM, ROOT, TCP_RECORD, TORN, UDP_RECORD, VETH, as_bytes, case, header, records, told)
@@ -329,6 +330,28 @@ def threads_that_wait_sleep(scene):
         printed = running.communicate(timeout=LIMIT)[0].decode()
     scene.check(f"{taken} s of a processor in 2 s", taken < 0.4, True)
     scene.check("printed", printed, "".join(report((0, out), 1, 1) for out in range(8)))
+
+
+@case
+def threads_that_wait_are_woken(scene):
+    """Who makes something to do wakes the thread that waits for it, a reading one or a writer. A wake-up that is lost costs
+    milliseconds alone, so it is the calls of the system that show it, where `strace` is there."""
+    if shutil.which("strace") is None or subprocess.run(["strace", "-o", os.devnull, "true"], capture_output=True).returncode != 0:
+        return
+    scene.start({"listeners.txt": "0 1 0 1048576 2 out.pcap\n"})
+    os.mkfifo(scene.folder / "fifo")
+    calls = scene.folder / "calls"
+    words = ["strace", "-f", "-qq", "-o", calls, "-e", "trace=futex", PROGRAM, "run", "listeners.txt", "fifo"]
+    with subprocess.Popen(words, cwd=scene.folder, stdout=subprocess.PIPE) as running:
+        with open(scene.folder / "fifo", "wb", buffering=0) as fifo:
+            fifo.write(HEADER)
+            for _ in range(40):
+                fifo.write(T)
+                time.sleep(0.03)
+        printed = running.communicate(timeout=LIMIT)[0].decode()
+    scene.check("printed", printed, report((0, 0), 40, 40))
+    woken = Counter(re.findall(r"futex\((\w+), FUTEX_WAKE", calls.read_text()))
+    scene.check(f"threads that were woken again and again, of {woken}", sum(times >= 5 for times in woken.values()), 2)
 
 
 @case

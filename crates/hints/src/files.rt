@@ -8,14 +8,16 @@ use crate::stream::{TakesHints, give_hint};
 use lines::fields::first_line;
 use std::io;
 
-/// The form of a line of LINES.
-pub const LINES: &str = "SNAP OUT EXPRESSION";
+/// The form of a line of LINES, and what else it wants.
+pub const LINES: &str = "SNAP OUT EXPRESSION, with SNAP up to 262144 and an OUT of its own";
 
-/// The form of a line of LISTENERS of `bpftap steps`.
-pub const LISTENERS_OF_STEPS: &str = "SNAP CAPACITY EXPRESSION";
+/// The form of a line of LISTENERS of `bpftap steps`, and what else it wants.
+pub const LISTENERS_OF_STEPS: &str = "SNAP CAPACITY EXPRESSION, with SNAP up to 262144";
 
-/// The form of a line of LISTENERS of `bpftap run`.
-pub const LISTENERS_OF_RUN: &str = "INTERFACE FLUSH SNAP CAPACITY SPARES OUT EXPRESSION";
+/// The form of a line of LISTENERS of `bpftap run`, and what else it wants.
+pub const LISTENERS_OF_RUN: &str =
+    "INTERFACE FLUSH SNAP CAPACITY SPARES OUT EXPRESSION, with an INTERFACE that has captures, \
+    SNAP up to 262144 and an OUT of its own";
 
 /// The form of a line of SCRIPT.
 pub const SCRIPT: &str = "`arrive`, `flush L`, `read L` or `close L`";
