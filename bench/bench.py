@@ -589,6 +589,12 @@ def hostile():
     yield "a list of relations", "ip[8]=1" + "||ip[8]=1" * 909, 1
     yield "relations by turns", "ip[8]=1" + "||ip[9]=1||ip[8]=1" * 454, 1
     yield "a list of negations", "!port 1" + "&&!port 1" * 909, 1
+    yield "ports of two protocols by turns", "||".join(f"tcp port {n}||udp port {n}" for n in range(1000, 1240)), 0
+    yield "negations of such ports", "&&".join(f"!tcp port {n}&&!udp port {n}" for n in range(1000, 1240)), 0
+    yield "such ports in another order", "||".join(f"tcp port {n}||udp port {2240 - n}" for n in range(1000, 1270)), 1
+    yield "hosts and ports by turns", "||".join(f"host 10.0.0.{n}||port {1000 + n}" for n in range(255)), 1
+    yield "sides by turns", "||".join(f"ip dst host 10.0.0.{n}||src host 10.0.1.{n}" for n in range(185)), 0
+    yield "ports and bytes by turns", "||".join(f"tcp port {n}||tcp[2:2]={n}" for n in range(1000, 1270)), 1
     yield "a divisor of 0 behind all else", "1" + "+1" * 4094 + "/0", 1
     yield "blanks", "ip" + " " * 8190, 0
 

@@ -203,7 +203,7 @@ BY_TURNS = [
     ("udp portrange {0}-7{0}", "tcp portrange {0}-7{0}", 30, 74),
     ("host 10.0.0.{}", "port {}", 30, 110), ("host 10.0.0.{}", "net 10.{}.0.0/16", 30, 135),
     ("ip dst host 10.0.0.{}", "src host 10.0.0.{}", 4, 15), ("ip dst host 10.0.0.{}", "src host 10.0.0.{}", 30, 41),
-    ("tcp port {}", "tcp[2:2] = {}", 30, 44), ("ether proto 0x8{:02}", "ip proto {}", 30, 22), ("ether proto 0x8{:02}", "ip proto {}", 100, 57),
+    ("tcp port {}", "tcp[2:2] = {}", 30, 44), ("ether proto 0x8{:02}", "ip proto {}", 30, 20), ("ether proto 0x8{:02}", "ip proto {}", 100, 55),
     ("port {}", "portrange {0}-7{0}", 30, 110), ("ether src 0:1:2:3:4:{}", "host 10.0.0.{}", 30, 80),
     ("ip[8] = {}", "tcp[2:2] = {}", 30, 45),
 ]
