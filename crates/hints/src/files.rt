@@ -16,8 +16,7 @@ pub const LISTENERS_OF_STEPS: &str = "SNAP CAPACITY EXPRESSION, with SNAP up to 
 
 /// The form of a line of LISTENERS of `bpftap run`, and what else it wants.
 pub const LISTENERS_OF_RUN: &str =
-    "INTERFACE FLUSH SNAP CAPACITY SPARES OUT EXPRESSION, with an INTERFACE that has captures, \
-    SNAP up to 262144 and an OUT of its own";
+    "INTERFACE FLUSH SNAP CAPACITY SPARES OUT EXPRESSION, with captures of INTERFACE, SNAP up to 262144 and an OUT of its own";
 
 /// The form of a line of SCRIPT.
 pub const SCRIPT: &str = "`arrive`, `flush L`, `read L` or `close L`";
