@@ -1,4 +1,4 @@
-use Rattle.std.proofs.Common.{◌≡◌, ℕ, drop, get_or, length, map, sym, ap, ◌∙◌, rules}
+use Rattle.std.proofs.Common.{◌≡◌, ℕ, drop, get_or, length, map, sym, ap, ◌∙◌, arith, rules}
 use Rattle.replay.specs.Crews.{crew_line, crew_pair, crew_task, stage_line, stage_pair, stage_task}
 use Rattle.replay.specs.Lines.{Line}
 use Rattle.replay.proofs.Lists.{all-moved, grown, moved-next, next-there}
@@ -12,6 +12,19 @@ start-requires-clause-pair g c κs within =
     (sym c.loop-stage.invariant.2 ∙ ap (λ ss. map stage_pair ss) c.in-Some.ensures.steps.0) in
     sym (n.1 c.index-links-k.result) ∙ ap (λ (k : ℕ). get_or c.args.links.now k c.index-links-k.result) here ∙ sym c.index-links-k.is
 
+pub bounds-links-k : goal.bounds-links-k
+bounds-links-k g c =
+    let here : length c.loop-stage.crews.items ≡ c.len-k.result = search rules in
+    let n = next-there c.args.links.now _ (stage_pair c.in-Some.stage) (map stage_pair c.next.new.self.rest.items)
+    (sym c.loop-stage.invariant.2 ∙ ap (λ ss. map stage_pair ss) c.in-Some.ensures.steps.0) in
+    let inside = n.0 in omega (arith, here, inside)
+
+pub push_reserved-requires : goal.push_reserved-requires
+push_reserved-requires g c =
+    let less = ap length c.in-Some.ensures.steps.0 in
+    let sum = c.loop-stage.invariant.6 in
+    let room = c.loop-stage.invariant.7 in omega (arith, less, sum, room)
+
 pub loop-stage-preserved : goal.loop-stage-preserved
 loop-stage-preserved g c =
     let stage = c.in-Some.stage in
@@ -22,14 +35,14 @@ loop-stage-preserved g c =
     let n = next-there c.args.links.now _ (stage_pair stage) (map stage_pair rest) (sym c.loop-stage.invariant.2 ∙ ap (λ ss. map stage_pair ss) taken) in
     let task = c.in_ok-crew.ensures.crew.0 in
     let line = c.in_ok-crew.ensures.line in (
-      search rules,
-      search rules,
+      tt,
+      tt,
       sym n.2 ∙ ap (λ (k : ℕ). drop k c.args.links.now) (sym (grown _ _ _ pushed)),
       moved-next crew_line stage_line _ _ crew stage _ _ _ c.loop-stage.invariant.3 taken pushed line,
       moved-next crew_pair stage_pair _ _ crew stage _ _ _ c.loop-stage.invariant.4 taken pushed (ap (λ (l : Line). l.pair) line),
       moved-next crew_task stage_task _ _ crew stage _ _ _ c.loop-stage.invariant.5 taken pushed task,
-      search rules,
-      search rules,
+      (let more = grown _ _ _ pushed in let less = ap length taken in let sum = c.loop-stage.invariant.6 in omega (arith, more, less, sum)),
+      (let capacity = c.push_reserved.ensures.capacity in let room = c.loop-stage.invariant.7 in omega (arith, capacity, room)),
     )
 
 pub returns-clause-lines : goal.returns-clause-lines

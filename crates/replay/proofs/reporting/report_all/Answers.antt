@@ -7,6 +7,12 @@ pub report_one-requires : goal.report_one-requires
 report_one-requires g c =
     (zip-taken HasItsPairs _ c.in-Some-next.its_links _ _ c.in-Some.one _ c.loop-one.invariant.2 c.in-Some-next.ensures.items c.in-Some.ensures.steps.0).0
 
+pub push_reserved-requires : goal.push_reserved-requires
+push_reserved-requires g c =
+    let less = ap length c.in-Some.ensures.steps.0 in
+    let sum = c.loop-one.invariant.4 in
+    let room = c.loop-one.invariant.5 in omega (arith, less, sum, room)
+
 pub loop-one-preserved : goal.loop-one-preserved
 loop-one-preserved g c = (
   tt,
@@ -17,7 +23,7 @@ loop-one-preserved g c = (
   (let more = grown _ _ _ c.push_reserved.ensures.items in
       let less = ap length c.in-Some.ensures.steps.0 in
       let sum = c.loop-one.invariant.4 in omega (arith, more, less, sum)),
-  search rules,
+  (let capacity = c.push_reserved.ensures.capacity in let room = c.loop-one.invariant.5 in omega (arith, capacity, room)),
 )
 
 pub returns-clause-reports : goal.returns-clause-reports

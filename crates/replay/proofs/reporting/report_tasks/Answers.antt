@@ -1,10 +1,10 @@
-use Rattle.std.proofs.Common.{◌≡◌, ◌∷◌, ◌++◌, map, length, refl, sym, ap, ◌∙◌, subst, rules}
+use Rattle.std.proofs.Common.{◌≡◌, ◌∷◌, ◌++◌, map, length, refl, sym, ap, ◌∙◌, subst, arith, rules}
 use Rattle.std.proofs.lemmas.List.{length-map}
 use Rattle.replay.specs.Crews.{crew_pair, crew_task}
 use Rattle.replay.specs.Lines.{EndedLine}
 use Rattle.replay.specs.Replayed.{IsServed}
 use Rattle.replay.specs.RunsEnded.{past_pair}
-use Rattle.replay.proofs.Lists.{all-moved, completed, completes-next, moved}
+use Rattle.replay.proofs.Lists.{all-moved, completed, completes-next, grown, moved}
 use Rattle.replay.proofs.Served.{ended-timely, next-ended, next-paired, served}
 use Rattle.replay.proofs.reporting.report_tasks.Goals as goal
 
@@ -33,12 +33,18 @@ report_task-requires-clause-timely g c =
     let n = next-ended playlist _ c.in-Some-next-2.ending _ _ c.in-Some.crew _ fed c.in-Some-next-2.ensures.items c.in-Some.ensures.steps.0 in
     ended-timely playlist c.in-Some-next-2.ending c.in-Some.crew timely n.0
 
+pub push_reserved-requires : goal.push_reserved-requires
+push_reserved-requires g c =
+    let less = ap length c.in-Some.ensures.steps.0 in
+    let sum = c.loop-crew.invariant.6 in
+    let room = c.loop-crew.invariant.7 in omega (arith, less, sum, room)
+
 pub loop-crew-preserved : goal.loop-crew-preserved
 loop-crew-preserved g c =
     let (playlist, timely, fed) = c.loop-crew.invariant.3 in
     let n = next-ended playlist _ c.in-Some-next-2.ending _ _ c.in-Some.crew _ fed c.in-Some-next-2.ensures.items c.in-Some.ensures.steps.0 in (
-      search rules,
-      search rules,
+      tt,
+      tt,
       (next-paired _ _ c.in-Some.crew _ _ c.in-Some-next.link c.loop-crew.invariant.2 c.in-Some.ensures.steps.0 c.in-Some-next.ensures.items).1,
       (playlist, timely, n.1),
       (λ playlist timely all.
@@ -59,8 +65,10 @@ loop-crew-preserved g c =
           subst (λ cs. map past_pair c.loop-crew.reports.items ++ map crew_pair cs ≡ all) c.in-Some.ensures.steps.0 c.loop-crew.invariant.5 in
           subst (λ rs. map past_pair rs ++ map crew_pair rest ≡ all) (sym c.push_reserved.ensures.items)
           (moved past_pair crew_pair c.loop-crew.reports.items c.in_ok-report.report c.in-Some.crew rest all before c.in_ok-report.ensures.past.0)),
-      search rules,
-      search rules,
+      (let more = grown _ _ _ c.push_reserved.ensures.items in
+          let less = ap length c.in-Some.ensures.steps.0 in
+          let sum = c.loop-crew.invariant.6 in omega (arith, more, less, sum)),
+      (let capacity = c.push_reserved.ensures.capacity in let room = c.loop-crew.invariant.7 in omega (arith, capacity, room)),
     )
 
 pub returns-clause-pairs : goal.returns-clause-pairs

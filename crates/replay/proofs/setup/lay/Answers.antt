@@ -1,4 +1,4 @@
-use Rattle.std.proofs.Common.{length, ap, arith}
+use Rattle.std.proofs.Common.{◌≡◌, length, ap, arith, rules}
 use Rattle.std.proofs.lemmas.List.{length-map}
 use Rattle.replay.specs.Crews.{stage_task}
 use Rattle.replay.proofs.setup.lay.Goals as goal
@@ -8,3 +8,17 @@ invariant_of-laid-clause-few g c =
     let same = ap length c.in_ok-links.ensures.tasks in
     let many = length-map c.in_ok-links.field-0.stages.items stage_task in
     let few = c.requires.0 in (c.requires.1, omega (arith, same, many, few))
+
+pub invariant_of-laid-clause-enough : goal.invariant_of-laid-clause-enough
+invariant_of-laid-clause-enough g c =
+    let same = ap length c.in_ok-links.ensures.tasks in
+    let many = length-map c.in_ok-links.field-0.stages.items stage_task in
+    let captures : c.len.result ≡ length c.args.interface.captures.items = search rules in
+    let tasks : c.len-2.result ≡ length c.args.interface.tasks.items = search rules in
+    let room = c.in_ok-room.ensures.enough in record {
+      none = room.none;
+      sources = omega (arith, captures, room.sources);
+      ends = omega (arith, same, many, tasks, room.ends);
+      crews = omega (arith, same, many, tasks, room.crews);
+      reports = omega (arith, same, many, tasks, room.reports);
+    }

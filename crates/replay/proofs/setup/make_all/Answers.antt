@@ -19,17 +19,17 @@ loop-task-preserved g c =
     let more-links = grown _ _ link links in
     let more-entries = grown _ _ entry entries in
     let more-stages = grown _ _ stage stages in (
-      search rules,
-      search rules,
+      tt,
+      tt,
       moved-itself-next stage_task _ _ stage c.in-Some.task _ _ _ c.loop-task.invariant.2 taken stages made.task,
       image-next stage_pair _ _ stage _ _ link c.loop-task.invariant.3 stages links made.pair,
       both-next entry_line stage_line _ _ entry _ _ stage c.loop-task.invariant.4 entries stages made.line,
       (let less = ap length taken in let sum = c.loop-task.invariant.5 in omega (arith, more-stages, less, sum)),
       omega (arith, more-links, more-stages, same-links),
       omega (arith, more-entries, more-stages, same-entries),
-      search rules,
-      search rules,
-      search rules,
+      (let capacity = c.push_reserved.ensures.capacity in let room = c.loop-task.invariant.8 in omega (arith, capacity, room)),
+      (let capacity = c.push_reserved-in-loop-task.ensures.capacity in let room = c.loop-task.invariant.9 in omega (arith, capacity, room)),
+      (let capacity = c.push_reserved-in-loop-task-2.ensures.capacity in let room = c.loop-task.invariant.10 in omega (arith, capacity, room)),
     )
 
 pub returns-clause-tasks : goal.returns-clause-tasks
