@@ -5,6 +5,7 @@ use Rattle.listener.specs.declared.message.Message.{Message}
 use Rattle.replay.specs.Reading.{messages_of}
 use Rattle.replay.specs.Writing.{Writes}
 use Rattle.replay.proofs.Batches.{joins_buffer}
+use Rattle.replay.proofs.writer.write_read.Goals.{in-None, in-Some+then-not-written, in-Some+else-not-written+in-Err+then-last}
 use Rattle.replay.proofs.writer.write_read.Goals as goal
 
 pub loop-preserved-in-Ok : goal.loop-preserved-in-Ok
@@ -17,3 +18,17 @@ loop-preserved-in-Ok g c = (
       ∙ ap (λ ms. messages ++ ms) (sym (ap (λ bs. joined (messages_of bs)) c.in-Ok.ensures.ok.0 ∙ joins_buffer (received c.loop.full) c.in-Ok.buffer)))
       (c.put_all.ensures output (messages ++ so_far) (c.loop.invariant.1 output messages t))),
 )
+
+pub returns-clause-ring : goal.returns-clause-ring
+returns-clause-ring g c = elim c.match-next.branch [
+  | in-None w ↦ rw w.full-is c.loop.invariant.0
+  | in-Some+then-not-written w ↦ rw w.full-is c.loop.invariant.0
+  | in-Some+else-not-written+in-Err+then-last w ↦ rw w.full-is (search rules)
+]
+
+pub returns-clause-writes : goal.returns-clause-writes
+returns-clause-writes g c = elim c.match-next.branch [
+  | in-None w ↦ rw w.full-is c.loop.invariant.1
+  | in-Some+then-not-written w ↦ rw w.full-is c.loop.invariant.1
+  | in-Some+else-not-written+in-Err+then-last w ↦ rw w.full-is (search rules)
+]
