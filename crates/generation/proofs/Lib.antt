@@ -8,6 +8,7 @@ pub mod Sharing
 pub mod Nets
 pub mod Six
 pub mod Tails
+pub mod Beyond
 pub mod Verdicts
 pub mod Computing
 pub mod Bounds

@@ -101,20 +101,25 @@ same-insn i j is =
     ∙ ap (λ n. insn_of j.code j.jt j.jf n) (equal-true i.k j.k each.3)
 
 -- the code's last instruction comes first in its buffer
+pub insn-there : (d : Insn) (place : ℕ) (items : List Insn) → 0 < place → place ≤ length items → slice_get (reverse items) (length (reverse items) - place) ≡ Some (get_or items (place - 1) d)
+insn-there d place items some within =
+    let code = reverse items in
+    let l : length code ≡ length items = length-reverse items in
+    let k = length code - place in
+    let at : get_or code k d ≡ get_or items (length items - 1 - k) d = get_or-reverse items k d (omega arith) in
+    let same : length items - 1 - k ≡ place - 1 = omega arith in
+    slice_get-get_or code k d (omega arith) ∙ ap Some (at ∙ ap (λ n. get_or items n d) same)
+
 pub passes-one : (i d : Insn) (place : ℕ) (items : List Insn) → 1 < place → place ≤ length items → get_or items (place - 1) d ≡ i → Passes i place (place - 1) (reverse items)
 passes-one i d place items behind' within is =
     let code = reverse items in
     let l : length code ≡ length items = length-reverse items in
-    let k = length items - place in
-    let at : get_or code k d ≡ get_or items (length items - 1 - k) d = get_or-reverse items k d (omega arith) in
-    let same : length items - 1 - k ≡ place - 1 = omega arith in
-    let here : slice_get code k ≡ Some i = slice_get-get_or code k d (omega arith) ∙ ap Some (at ∙ ap (λ n. get_or items n d) same ∙ is) in
+    let k = length code - place in
+    let here : slice_get code k ≡ Some i = insn-there d place items (omega arith) within ∙ ap Some is in
     let next : length code - (place - 1) ≡ suc k = omega arith in
-    let this : length code - place ≡ k = omega arith in
     record {
       here = (omega arith, omega arith);
-      leads = λ p r unchanged.
-          ap (λ n. answer code p.captured p.wire n r) next ∙ passing code k i p r here unchanged ∙ sym (ap (λ n. answer code p.captured p.wire n r) this);
+      leads = λ p r unchanged. ap (λ n. answer code p.captured p.wire n r) next ∙ passing code k i p r here unchanged;
     }
 
 pub near-itself : (place reach : ℕ) (code : List Insn) → IsPlace code place → length code - place ≤ reach → Nears place reach place code code
@@ -159,14 +164,8 @@ pub return-leads : (d : Insn) (n place : ℕ) (items : List Insn) (p : Packet) (
     → answer (plain_insn 6 n ∷ reverse items) p.captured p.wire 0 r ≡ run_from (reverse items) place p r
 return-leads d n place items p r some within is =
     let code = reverse items in
-    let l : length code ≡ length items = length-reverse items in
-    let k = length items - place in
-    let at : get_or code k d ≡ get_or items (length items - 1 - k) d = get_or-reverse items k d (omega arith) in
-    let same : length items - 1 - k ≡ place - 1 = omega arith in
-    let here : slice_get code k ≡ Some (plain_insn 6 n) = slice_get-get_or code k d (omega arith) ∙ ap Some (at ∙ ap (λ m. get_or items m d) same ∙ is) in
-    let this : length code - place ≡ k = omega arith in
-    answer-first _ code p r (Ends n) (return-effect n p r)
-    ∙ sym (ap (λ m. answer code p.captured p.wire m r) this ∙ ending code k (plain_insn 6 n) n p r here (return-effect n p r))
+    let here : slice_get code (length code - place) ≡ Some (plain_insn 6 n) = insn-there d place items some within ∙ ap Some is in
+    answer-first _ code p r (Ends n) (return-effect n p r) ∙ sym (ending code (length code - place) (plain_insn 6 n) n p r here (return-effect n p r))
 
 pub load-effect : (f : Field) (p : Packet) (r : Registers) → effect p.captured p.wire (load_insn f) r ≡ loaded Accumulator r (field_of f p)
 unfolding effect operation_of

@@ -10,7 +10,7 @@ use Rattle.analysis.specs.declared.lists.Span.{Span}
 use Rattle.analysis.specs.declared.lists.Member.{Member}
 use Rattle.semantics.specs.declared.verdict.Verdict.{Verdict}
 use Rattle.semantics.specs.declared.verdict.Verdict.TheVariants.{Yes, No, Abort}
-use Rattle.semantics.specs.Meaning.{Packet, Test, or_else, and_test, or_test, primitive_test, meaning}
+use Rattle.semantics.specs.Meaning.{Packet, Test, or_else, and_test, or_test, by_direction, primitive_test, meaning}
 use Rattle.analysis.specs.Weights.{weight}
 use Rattle.std.specs.Option.{MatchOption}
 use Rattle.bpfvm.specs.declared.insn.Insn.{Insn}
@@ -22,7 +22,7 @@ use Rattle.generation.proofs.Leading.{renews-not, renews-either}
 use Rattle.generation.proofs.Narrowed.{behind-more, behind-same, behind-both, behind-either, behind-not}
 use Rattle.syntax.specs.declared.tree.Primitive.{Primitive}
 use Rattle.analysis.proofs.Joining.{any-same}
-use Rattle.analysis.specs.Lists.{any_of, direction_of, bytes_test, form_test, kind_test, IsAlone, member_test, members_weight, AreFree, Passes, passing, chained, left_chained, turned, weighed, Groups, EndsIn}
+use Rattle.analysis.specs.Lists.{any_of, direction_of, has_tail, bytes_test, form_test, kind_test, IsAlone, member_test, members_weight, AreFree, Passes, passing, chained, left_chained, turned, weighed, Groups, EndsIn}
 use Rattle.analysis.proofs.Members.{any-first, or-no, weight-append}
 use Rattle.analysis.proofs.Dividing.{free-before}
 use Rattle.generation.specs.Listed.{turned_ways, listed_cost, EmitsMembers, EmitsList}
@@ -52,6 +52,15 @@ bytes-kind k xs p is = any-same (bytes_test k.bytes) (kind_test k) p (λ x. ap (
 pub relation-fits : (k : Kind) (xs : List Span) → k.form ≡ forms.Bytes → length xs ≡ 1 → 2 + (7 * length xs + 20) ≤ weighed k.form (length xs)
 relation-fits k xs is one =
     let weight : weighed k.form (length xs) ≡ 30 = ap (λ f. weighed f (length xs)) is ∙ ap (weighed forms.Bytes) one in
+    omega (arith, weight, one)
+
+-- an Ethernet host alone
+pub host-kind : (k : Kind) (xs : List Span) (p : Packet) → k.form ≡ forms.EtherHost → any_of (λ x. by_direction (direction_of k.sides) (has_tail k.head x 6) (has_tail k.head x 0)) xs p ≡ any_of (kind_test k) xs p
+host-kind k xs p is = any-same (λ x. by_direction (direction_of k.sides) (has_tail k.head x 6) (has_tail k.head x 0)) (kind_test k) p (λ x. ap (λ f. form_test f (direction_of k.sides) k.mask k.head k.bytes x p) (sym is)) xs
+
+pub host-fits : (k : Kind) (xs : List Span) → k.form ≡ forms.EtherHost → length xs ≡ 1 → 2 + (14 * length xs + 12) ≤ weighed k.form (length xs)
+host-fits k xs is one =
+    let weight : weighed k.form (length xs) ≡ 40 = ap (λ f. weighed f (length xs)) is ∙ ap (weighed forms.EtherHost) one in
     omega (arith, weight, one)
 
 -- a member alone

@@ -16,6 +16,7 @@ use Rattle.analysis.specs.Weights.{weight, need}
 use Rattle.analysis.specs.declared.lists.Member.{Member}
 use Rattle.analysis.specs.Lists.{any_of, weighed, member_test, members_weight, AreFree, chained, left_chained, left_weight, left_size, left_need, size}
 use Rattle.generation.specs.declared.code.Exits.{Exits}
+use Rattle.generation.specs.declared.insns.Field.{Field}
 use Rattle.generation.specs.declared.among.Spot.{Spot}
 use Rattle.generation.specs.declared.among.Spot.TheVariants as spots
 use Rattle.generation.specs.declared.ways.Way.{Way}
@@ -72,6 +73,20 @@ pub record IsChoice (choice : Registers → Bool) (exits : Exits) (place : ℕ) 
   pub here : IsPlace code place
   pub chooses : (p : Packet) (r : Registers)
       → run_from code place p r ≡ (if choice r then run_from code exits.yes p r else run_from code exits.no p r)
+
+-- a run goes on at a place in the same way whatever is in the accumulator
+pub record IsFresh (place : ℕ) (code : List Insn) : Type 0 where
+  pub same : (p : Packet) (r : Registers) (n : ℕ) → run_from code place p (with_value Accumulator n r) ≡ run_from code place p r
+
+-- a place from which a run with such a number in the accumulator goes on as from the place
+pub record FailsTo (choice : ℕ → Bool) (place passed : ℕ) (code : List Insn) : Type 0 where
+  pub here : IsPlace code passed
+  pub leads : (p : Packet) (r : Registers) → choice r.accumulator ≡ true → run_from code passed p r ≡ run_from code place p r
+
+-- a place from which a run goes on as from the place where the packet has such a number
+pub record Skips (field : Field) (choice : ℕ → Bool) (place passed : ℕ) (code : List Insn) : Type 0 where
+  pub here : IsPlace code passed
+  pub leads : (p : Packet) (r : Registers) (n : ℕ) → field_of field p ≡ Some n → choice n ≡ true → run_from code passed p r ≡ run_from code place p r
 
 abbrev pub turned_ways : Chain → Ways → Ways
 turned_ways chains.AnyOf ways = ways

@@ -304,7 +304,7 @@ impl Code {
     }
 
     /// Ethernet hosts at an offset of the frame that have their first two bytes in common. The other four are asked for first:
-    /// where these are there, all are.
+    /// where these are there, all are. Behind them, what comes next is passed as far as it asks for another four.
     fn seek_tails(
         &mut self,
         offset: u32,
@@ -319,16 +319,26 @@ impl Code {
             (any_of (λ x. has_tail head x offset) spans.now) exits entry self.old self.new) }
     {
         self.room(4)?;
-        let first = self.test(Field::Half(offset), Jump::Equal, u32::from(head), exits);
-        let tail = Spot::At(Field::Word(offset + 2));
-        self.seek(
-            tail,
-            spans,
+        let tail = Field::Word(offset + 2);
+        let no = self.beyond(tail, spans, exits.no);
+        let first = self.test(
+            Field::Half(offset),
+            Jump::Equal,
+            u32::from(head),
+            Exits { no, ..exits },
+        );
+        let load = load_insn(tail);
+        let exits = self.both_passed(
+            load,
             Exits {
                 yes: first,
                 ..exits
             },
-        )
+        );
+        self.among(spans, exits)?;
+        self.room(1)?;
+        self.push(load);
+        Ok(self.len())
     }
 
     /// Ethernet hosts that have their first two bytes in common. The destination stands before the source, so that it is there

@@ -1,15 +1,19 @@
 //! Code that is written from its end, so that what a jump leads to is there before the jump.
 
-ghost use Rattle.std.specs.Prelude.{◌≡◌, ℕ, ◌+◌, ◌-◌, ◌<◌, ◌≤◌, List, [], ◌∷◌, length, None, reverse, bit_and, MatchResult};
+ghost use Rattle.std.specs.Prelude.{◌≡◌, ℕ, ◌+◌, ◌-◌, ◌<◌, ◌≤◌, List, [], ◌∷◌, length, Some, None, reverse, bit_and, MatchResult, slice_get};
+ghost use Rattle.std.specs.Bool.{OnTrue};
 ghost use Rattle.bpfvm.specs.declared.insn.Insn.{Insn};
 ghost use Rattle.bpfvm.specs.Validity.{fault_of, IsValidProgram};
 ghost use Rattle.bpfvm.specs.Machine.{holds, verdict};
 ghost use Rattle.semantics.specs.Meaning.{check, within};
 ghost use Rattle.trimming.specs.Reaching.{IsAllReached};
 ghost use Rattle.generation.specs.Insns.{plain_insn};
+ghost use Rattle.generation.specs.Listed.{among, IsFresh, FailsTo, Skips};
 ghost use Rattle.generation.specs.Emission.{IsPlace, AreExits, comparison_of, condition, field_of, Passes, GoesOnAt, Nears, Chooses, Decides};
 
 use crate::insns::{Field, Jump, Operand, branch_insn, load_insn, plain_insn};
+use crate::listed::has_number;
+use analysis::Span;
 use arrayvec::ArrayVec;
 use bpfvm::{Insn, MAX_INSNS, Program, code};
 use std::marker::Model;
@@ -199,6 +203,56 @@ impl Code {
         Exits {
             yes: self.passed(insn, exits.yes),
             no: self.passed(insn, exits.no),
+        }
+    }
+
+    /// The instruction at a place.
+    fn insn_at(&self, place: usize) -> Insn
+        requires { IsPlace self.now place }
+        ensures here { slice_get self.now (length self.now - place) ≡ Some result }
+        ensures jump { result.code ≡ 0x15 → 1 + result.jf < place }
+    {
+        self.insns.as_slice()[place - 1]
+    }
+
+    /// Whether a run goes on at a place in the same way whatever is in the accumulator.
+    fn is_fresh(&self, place: usize) -> bool
+        requires { IsPlace self.now place }
+        ensures { OnTrue result (IsFresh place self.now) }
+    {
+        matches!(
+            self.insn_at(place).code,
+            code::LD_W_ABS | code::LD_H_ABS | code::LD_B_ABS | code::LD_LEN | code::RET_K
+        )
+    }
+
+    /// The place, or the one to which the comparisons there lead where each fails: for a run that has one of these numbers in the
+    /// accumulator.
+    fn behind_others(&self, spans: &[Span], place: usize) -> usize
+        requires { IsPlace self.now place }
+        ensures { FailsTo (among spans.now) place result self.now }
+    {
+        let mut at = place;
+        loop {
+            let insn = self.insn_at(at);
+            if insn.code != code::JEQ_K || has_number(spans, insn.k) {
+                return at;
+            }
+            at -= 1 + usize::from(insn.jf);
+        }
+    }
+
+    /// The place, or one behind the comparisons there that fail where the number of the packet is one of these.
+    pub fn beyond(&self, field: Field, spans: &[Span], place: usize) -> usize
+        requires { IsPlace self.now place }
+        ensures { Skips field (among spans.now) place result self.now }
+    {
+        let behind = self.passed(load_insn(field), place);
+        let beyond = self.behind_others(spans, behind);
+        if self.is_fresh(place) && self.is_fresh(beyond) {
+            beyond
+        } else {
+            place
         }
     }
 

@@ -1,6 +1,6 @@
 //! Expressions to programs.
 
-ghost use Rattle.std.specs.Prelude.{◌≡◌, ◌≢◌, ◌↔◌, ℕ, ◌+◌, ◌<◌, ◌≤◌, All, length, Some, None, Err, IfOk, MatchOption, MatchResult};
+ghost use Rattle.std.specs.Prelude.{◌≡◌, ◌≢◌, ◌↔◌, ◌⊎◌, ℕ, ◌+◌, ◌<◌, ◌≤◌, All, length, Some, None, Err, IfOk, MatchOption, MatchResult};
 ghost use Rattle.syntax.specs.Trees.{tree_of};
 ghost use Rattle.semantics.specs.Meaning.{primitive_test, meaning};
 ghost use Rattle.analysis.specs.Weights.{weight, need};
@@ -8,7 +8,7 @@ ghost use Rattle.generation.specs.Compiling.{StandsFor, IsBadSnap};
 ghost use Rattle.trimming.specs.Reaching.{IsAllReached};
 ghost use Rattle.generation.specs.Emission.{OrFull};
 ghost use Rattle.generation.specs.Ways.{AreWays, DecidesBehind, RenewsBoth};
-ghost use Rattle.analysis.specs.declared.lists.Form.TheVariants.{Bytes};
+ghost use Rattle.analysis.specs.declared.lists.Form.TheVariants.{Bytes, EtherHost};
 ghost use Rattle.analysis.specs.Lists.{any_of, kind_test, weighed, members_weight, IsMember, IsAlone, behind_left};
 ghost use Rattle.generation.specs.Listed.{turned_ways, EmitsMembers, EmitsList};
 ghost use Rattle.generation.specs.Ends.{chain_of, left_ways, kept_ways, kept_behind, Leaves};
@@ -17,7 +17,7 @@ use crate::code::{Code, Full};
 use crate::primitives::cost;
 use crate::refusal::Refusal;
 use crate::ways::{Way, Ways};
-use analysis::{Chain, Group, Known, MAX_NEED, Member, Neighbours, Others, need};
+use analysis::{Chain, Form, Group, Known, MAX_NEED, Member, Neighbours, Others, need};
 use bpfvm::Program;
 use syntax::{Expr, Primitive};
 
@@ -155,9 +155,9 @@ impl Code {
         Ok(Emitted { entry, ways })
     }
 
-    /// What is left of a relation that is the one member of its kind.
-    fn relation_alone(&mut self, known: Known, group: &Group, ways: Ways) -> Result<Emitted, Full>
-        requires bytes { group.now.kind.form ≡ Bytes }
+    /// What is left of a relation or an Ethernet host that is the one member of its kind.
+    fn alone(&mut self, known: Known, group: &Group, ways: Ways) -> Result<Emitted, Full>
+        requires form { (group.now.kind.form ≡ Bytes) ⊎ (group.now.kind.form ≡ EtherHost) }
         requires some { length group.now.spans.items ≡ 1 }
         requires ways { AreWays self.old ways }
         ensures { OrFull (weighed group.now.kind.form (length group.now.spans.items)) self.old result (λ emitted.
@@ -167,11 +167,17 @@ impl Code {
     {
         self.room(2)?;
         let ways = self.renew(ways);
-        let entry = self.listed_bytes(known, group.kind.bytes, group.spans.as_slice(), ways)?;
+        let kind = group.kind;
+        let spans = group.spans.as_slice();
+        let entry = match kind.form {
+            Form::EtherHost => self.listed_ethernet(kind.sides, kind.head, spans, ways)?,
+            _ => self.listed_bytes(known, kind.bytes, spans, ways)?,
+        };
         Ok(Emitted { entry, ways })
     }
 
-    /// What is left of the members of a kind. One alone is what it is.
+    /// What is left of the members of a kind. One alone is the primitive that it is, but for an Ethernet host, which is asked for as a list
+    /// is: such ones pass each other.
     #[inline(never)]
     fn group(&mut self, known: Known, group: &Group, ways: Ways) -> Result<Emitted, Full>
         requires some { 0 < length group.now.spans.items }
@@ -186,8 +192,11 @@ impl Code {
             return self.several(known, group, ways);
         }
         match group.primitive {
-            Some(primitive) => self.reached_primitive(known, primitive, ways),
-            None => self.relation_alone(known, group, ways),
+            Some(primitive) => match group.kind.form {
+                Form::EtherHost => self.alone(known, group, ways),
+                _ => self.reached_primitive(known, primitive, ways),
+            },
+            None => self.alone(known, group, ways),
         }
     }
 

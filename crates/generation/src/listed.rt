@@ -23,7 +23,7 @@ fn is_within(span: Span, number: u32) -> bool
 }
 
 /// Whether a number is in one of these spans.
-fn has_number(spans: &[Span], number: u32) -> bool
+pub(crate) fn has_number(spans: &[Span], number: u32) -> bool
     ensures { result ≡ among spans.now number }
 {
     let mut found = false;
@@ -285,7 +285,7 @@ impl Code {
 
     /// Ethernet hosts that have their first two bytes in common.
     #[tactic(auto, using(crate::proofs::Leading::decides_any))]
-    fn listed_ethernet(
+    pub fn listed_ethernet(
         &mut self,
         sides: Sides,
         head: u16,

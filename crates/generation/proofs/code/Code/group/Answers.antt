@@ -1,17 +1,20 @@
-use Rattle.std.proofs.Common.{arith}
+use Rattle.std.proofs.Common.{inl, inr, arith}
 use Rattle.std.proofs.lemmas.Result.{MatchResult-weaker}
 use Rattle.generation.proofs.Narrowed.{behind-more, behind-same}
 use Rattle.generation.proofs.Taking.{alone-told}
 use Rattle.generation.proofs.code.Code.group.Goals as goal
 
-pub relation_alone-requires-clause-bytes : goal.relation_alone-requires-clause-bytes
-relation_alone-requires-clause-bytes c =
+pub alone-requires-clause-form : goal.alone-requires-clause-form
+alone-requires-clause-form c = inr c.in-EtherHost.is
+
+pub alone-requires-in-None-clause-form : goal.alone-requires-in-None-clause-form
+alone-requires-in-None-clause-form c =
     let group = c.args.group.now in
     let told = alone-told group.kind group.primitive group.spans.items c.requires.alone c.requires.some (omega (arith, c.len.ensures.value, c.if-len-gt1.false)) in
-    rw c.in-None.is at told
+    inl (rw c.in-None.is at told)
 
-pub returns-in-Some : goal.returns-in-Some
-returns-in-Some c =
+pub returns-in_default : goal.returns-in_default
+returns-in_default c =
     let group = c.args.group.now in
     let told = alone-told group.kind group.primitive group.spans.items c.requires.alone c.requires.some (omega (arith, c.len.ensures.value, c.if-len-gt1.false)) in
     let is = rw c.in-Some.is at told in
