@@ -24,7 +24,7 @@ yes-decided true is = refl
 yes-decided false is = absurd cc
 
 -- one number is no other one
-other-number : (a b : ℕ) (v : Option ℕ) → (a == b) ≡ false → check (λ n. n == a) v ≡ Yes → check (λ n. n == b) v ≡ No
+pub other-number : (a b : ℕ) (v : Option ℕ) → (a == b) ≡ false → check (λ n. n == a) v ≡ Yes → check (λ n. n == b) v ≡ No
 other-number a b None differ is = absurd cc
 other-number a b (Some n) differ is = ap decided (ap (λ k. k == b) (equal-true n a (yes-decided (n == a) is)) ∙ differ)
 

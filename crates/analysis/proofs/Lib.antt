@@ -4,3 +4,4 @@ pub mod Dividing
 pub mod Apart
 pub mod Leaving
 pub mod Joining
+pub mod Narrowed

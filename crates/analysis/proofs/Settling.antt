@@ -201,7 +201,7 @@ turned-passing chains.NoneOf Abort is = absurd cc
 pub asks-member : (c : Chain) (t : Tree) (m : Member) (kind : Kind) → Covers m.kind kind → ((p : Packet) → meaning t p ≡ turned c (member_test m p)) → Asks c t kind
 asks-member c t m kind covers same = record { answered = λ p passes x. covers.answered p m.span x (turned-passing c (member_test m p) (sym (same p) ∙ passes)) }
 
-yes-both : (v w : Verdict) → and_then v w ≡ Yes → (v ≡ Yes) × (w ≡ Yes)
+pub yes-both : (v w : Verdict) → and_then v w ≡ Yes → (v ≡ Yes) × (w ≡ Yes)
 yes-both Yes w is = (refl, is)
 yes-both No w is = absurd cc
 yes-both Abort w is = absurd cc

@@ -11,6 +11,8 @@ use Rattle.syntax.specs.declared.tree.Network.{Network}
 use Rattle.syntax.specs.declared.tree.Network.TheVariants as networks
 use Rattle.syntax.specs.declared.tree.Transport.{Transport}
 use Rattle.syntax.specs.declared.tree.Transport.TheVariants as transports
+use Rattle.syntax.specs.declared.tree.Plain.{Plain}
+use Rattle.syntax.specs.declared.tree.Plain.TheVariants as words
 use Rattle.semantics.specs.declared.verdict.Verdict.{Verdict}
 use Rattle.semantics.specs.declared.verdict.Verdict.TheVariants.{Yes, No, Abort}
 use Rattle.semantics.specs.Meaning.{Packet, Test, and_then, or_else, opposite, or_test, and_test, check, byte, half, word, six, is_type, by_direction, within, has_any_ports, bytes_of, accessed, in_layer, primitive_test, meaning}
@@ -74,6 +76,19 @@ ports_form None = forms.Ports
 ports_form (Some transports.Tcp) = forms.TcpPorts
 ports_form (Some transports.Udp) = forms.UdpPorts
 ports_form (Some transports.Sctp) = forms.SctpPorts
+
+-- what a protocol word stands for: a network or a transport
+abbrev pub network_of : Plain → Option Network
+network_of words.Ip = Some networks.Ip
+network_of words.Arp = Some networks.Arp
+network_of words.Rarp = Some networks.Rarp
+network_of other = None
+
+abbrev pub transport_of : Plain → Option Transport
+transport_of words.Tcp = Some transports.Tcp
+transport_of words.Udp = Some transports.Udp
+transport_of words.Sctp = Some transports.Sctp
+transport_of other = None
 
 -- the bits of four bytes under a mask are in a span
 abbrev pub in_span : Span → ℕ → ℕ → Test

@@ -1,11 +1,11 @@
 //! Lists: links of a chain of `or`, or negations in a chain of `and`, that differ in their numbers alone, wherever in it they stand.
 
 ghost use Rattle.std.specs.Prelude.{◌≡◌, ◌≢◌, ◌+◌, ◌≤◌, IfSome, MatchOption, None};
-ghost use Rattle.syntax.specs.Trees.{amount_of, tree_of, number as literal};
+ghost use Rattle.syntax.specs.Trees.{amount_of, tree_of, number as literal, both};
 ghost use Rattle.syntax.specs.declared.tree.Comparison.TheVariants.{Equal};
-ghost use Rattle.semantics.specs.Meaning.{Packet, by_direction, plain_test, in_any_net, has_any_ports, is_address, primitive_test, relation_test, meaning};
+ghost use Rattle.semantics.specs.Meaning.{Packet, and_then, by_direction, plain_test, in_any_net, has_any_ports, is_address, primitive_test, relation_test, meaning};
 ghost use Rattle.analysis.specs.Knowing.{behind, LOOK_BACK};
-ghost use Rattle.analysis.specs.Lists.{direction_of, net_form, ports_form, no_bytes, member_test, IsBroader, Reaches, ArePorts, IsPort, Covers, IsApart, Includes, IsMember, of_tcp_or_udp, AreJoined, turned, last_link, behind_left, weighed};
+ghost use Rattle.analysis.specs.Lists.{direction_of, net_form, ports_form, network_of, transport_of, no_bytes, member_test, IsBroader, Reaches, ArePorts, IsPort, Covers, IsApart, Includes, IsMember, of_tcp_or_udp, AreJoined, turned, last_link, behind_left, weighed};
 ghost use Rattle.analysis.specs.declared.lists.Sides.TheVariants as sides;
 ghost use Rattle.std.specs.Bool.{OnTrue, OnFalse};
 ghost use Rattle.analysis.specs.Weights.{value_weight, weight};
@@ -352,6 +352,62 @@ fn ports_form(transport: Option<Transport>) -> Form
     }
 }
 
+/// The network that a protocol word stands for.
+fn network_of(word: Plain) -> Option<Network>
+    ensures { result ≡ network_of word }
+{
+    match word {
+        Plain::Ip => Some(Network::Ip),
+        Plain::Arp => Some(Network::Arp),
+        Plain::Rarp => Some(Network::Rarp),
+        _ => None,
+    }
+}
+
+/// The transport that a protocol word stands for.
+fn transport_of(word: Plain) -> Option<Transport>
+    ensures { result ≡ transport_of word }
+{
+    match word {
+        Plain::Tcp => Some(Transport::Tcp),
+        Plain::Udp => Some(Transport::Udp),
+        Plain::Sctp => Some(Transport::Sctp),
+        _ => None,
+    }
+}
+
+/// What a protocol word and a primitive of any protocol behind it ask for together, where that is one primitive.
+fn narrowed(word: Plain, primitive: Primitive) -> Option<Primitive>
+    ensures { IfSome result (λ q. (p : Packet)
+        → and_then (plain_test word p) (primitive_test primitive p) ≡ primitive_test q p) }
+{
+    match primitive {
+        Primitive::Net {
+            network: None,
+            direction,
+            address,
+            mask,
+        } => Some(Primitive::Net {
+            network: Some(network_of(word)?),
+            direction,
+            address,
+            mask,
+        }),
+        Primitive::Ports {
+            transport: None,
+            direction,
+            low,
+            high,
+        } => Some(Primitive::Ports {
+            transport: Some(transport_of(word)?),
+            direction,
+            low,
+            high,
+        }),
+        _ => None,
+    }
+}
+
 /// The number that a value is written as, where it is a low one.
 fn low_literal(value: &Value) -> Option<u16>
     ensures { IfSome result (λ n. amount_of value.now ≡ literal n) }
@@ -562,6 +618,21 @@ impl Member {
         }
     }
 
+    /// The member that two operands of `and` are, as `tcp` and `port 80` are `tcp port 80`. In the other order they are none: where a
+    /// packet is of another protocol, `port 80` may abort before `tcp` is asked.
+    fn of_both(left: &Expr, right: &Expr) -> Option<Member>
+        ensures same { IfSome result (λ m. (p : Packet) → meaning (both (tree_of left.now) (tree_of right.now)) p ≡ member_test m p) }
+        ensures weighs { IfSome result (λ m. weighed m.kind.form 1 ≤ weight (both (tree_of left.now) (tree_of right.now))) }
+        ensures member { IfSome result IsMember }
+    {
+        match (left, right) {
+            (Expr::Test(Primitive::Protocol(word)), Expr::Test(primitive)) => {
+                Member::of(narrowed(*word, *primitive)?)
+            }
+            _ => None,
+        }
+    }
+
     /// The member that an expression is.
     fn of_expr(expr: &Expr) -> Option<Member>
         ensures same { IfSome result (λ m. (p : Packet) → meaning (tree_of expr.now) p ≡ member_test m p) }
@@ -573,6 +644,7 @@ impl Member {
             Expr::Relation(comparison, left, right) => {
                 Member::of_relation(*comparison, left, right)
             }
+            Expr::And(left, right) => Member::of_both(left, right),
             _ => None,
         }
     }
