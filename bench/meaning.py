@@ -22,7 +22,7 @@ TYPES = {"ip": IP, "arp": ARP, "rarp": RARP}
 # Few numbers of each kind, so that frames often have those that are asked for.
 ADDRESSES = [0xc0000201, 0xc0000209, 0xc0000301, 0x0a000001, 0x0a000002, 0x0a010001, 0xe0000001]
 PORTS = [53, 80, 443, 8080, 5353, 1024, 65535]
-ETHERNET = [0x020000000001, 0x020000000002, 0x020100000001, 0x0a0000000001, 0xffffffffffff]
+ETHERNET = [0x020000000001, 0x020000000002, 0x020100000001, 0x0a0000000001, 0x0b0000000002, 0x0c0107000003, 0xffffffffffff]
 
 
 # What a test answers: True, False, or None where it aborts.
@@ -192,7 +192,7 @@ def direction(rng):
 
 def maker(rng):
     """A kind of primitives or relations that differ in their numbers alone: what makes one of them."""
-    form = rng.choice(["host", "host", "net", "port", "port", "range", "ether", "ip proto", "ether proto", "word", "bytes", "bytes"])
+    form = rng.choice(["host", "host", "net", "port", "port", "range", "ether", "ether", "behind", "ip proto", "ether proto", "word", "bytes", "bytes"])
     if form in ("host", "net"):
         kind, side = rng.choice([None, None, "ip", "arp", "rarp"]), direction(rng)
         mask = 0xffffffff if form == "host" else rng.choice([0xffffff00, 0xffff0000, 0xff000000, 0xff0000ff])
@@ -203,6 +203,11 @@ def maker(rng):
             low = rng.choice(PORTS)
             return ("ports", transport, side, low, low if form == "port" else min(65535, low + rng.choice([1, 30, 400])))
         return ports
+    if form == "behind":
+        word, side = rng.choice([*TYPES, *NUMBERS]), direction(rng)
+        if rng.random() < 0.5:
+            return lambda: ("and", ("word", word), ("net", None, side, rng.choice(ADDRESSES), 0xffffffff, True))
+        return lambda: ("and", ("word", word), ("ports", None, side, *[rng.choice(PORTS)] * 2))
     if form == "ether":
         side = direction(rng)
         return lambda: ("ether host", side, rng.choice(ETHERNET))

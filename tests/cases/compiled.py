@@ -183,6 +183,18 @@ LISTS = [
     "ether host 9:9:ff:ff:ff:ff or 9:9:2:3:4:5", "ether host 0:1:2:3:4:6 or 0:1:2:3:4:7 or 0:1:2:3:4:5",
     "ether host 33:33:0:0:0:2 or 33:33:0:0:0:1", "ether src 0:1:2:3:4:6 or host 9.9.9.9 or ether src 0:1:2:3:4:5 or host 10.0.0.2",
     "not ether host 0:1:2:3:4:6 and not ether host 9:9:2:3:4:5 and not ether host 0:1:2:3:4:7",
+    # Ethernet hosts of any addresses, of which one that has the last four bytes of another may come behind a third one
+    "ether src 0:1:9:9:9:9 or 9:9:2:3:4:5 or 0:1:2:3:4:5", "ether src 9:9:2:3:4:5 or 8:8:2:3:4:5 or 0:1:2:3:4:5",
+    "ether src 8:8:2:3:4:5 or 7:7:9:9:9:9 or 0:1:2:3:4:5 or 6:6:2:3:4:5", "ether dst 9:9:ff:ff:ff:ff or 8:8:9:9:9:9 or 7:7:0:0:0:1 or ff:ff:ff:ff:ff:ff",
+    "ether host 9:9:2:3:4:5 or 8:8:9:9:9:9 or 6:7:8:9:a:b", "ether src 9:9:2:3:4:5 or 8:8:9:9:9:9 or ip", "not ether src 9:9:2:3:4:5 and not ether src 8:8:9:9:9:9",
+    "(ether src 9:9:2:3:4:5 or 8:8:9:9:9:9) or ether dst 7:7:ff:ff:ff:ff or ether src 0:1:2:3:4:5", "ether src 9:9:2:3:4:5 or 8:8:9:9:9:9 or ether[8:4] = 0x2030405",
+    "ether src 9:9:2:3:4:5 or ether[8:4] = 0x8090a0b or ether src 0:1:9:9:9:9", "(ether src 9:9:2:3:4:5 or 0:1:9:9:9:9 or 8:8:8:9:a:b) and port 80",
+    # a protocol word and a host or port behind it
+    "(ip and host 9.9.9.9) or (ip and host 10.0.0.2) or (ip and host 10.0.0.3)", "(arp and host 10.0.0.2) or (arp and dst host 9.9.9.9) or (arp and src host 10.0.0.1)",
+    "(rarp and net 11.0.0.0/8) or (rarp and net 10.0.0.0/8)", "(tcp and port 9) or (tcp and port 443) or tcp port 53", "(udp and src port 9) or (udp and src port 53)",
+    "(sctp and portrange 70-80) or (sctp and port 9)", "(tcp and port 9) or (udp and port 9) or (tcp and port 53) or (udp and port 53)",
+    "not (ip and host 9.9.9.9) and not (ip and host 10.0.0.2)", "not (tcp and dst port 80) and not (udp and dst port 53)", "(ip and host 9.9.9.9) or host 10.0.0.2 or (arp and host 10.0.0.1)",
+    "(udp and host 10.0.0.1) or (udp and host 10.0.0.2)", "(arp and port 53) or (arp and port 80)",
     "ip proto 1 or ether proto 0x806 or ip proto 17 or ether proto 0x8035",
     "not ip proto 1 and not ether proto 0x806 and not ip proto 17 and not ether proto 0x8035",
 ]
@@ -205,7 +217,9 @@ BY_TURNS = [
     ("ip dst host 10.0.0.{}", "src host 10.0.0.{}", 4, 15), ("ip dst host 10.0.0.{}", "src host 10.0.0.{}", 30, 41),
     ("tcp port {}", "tcp[2:2] = {}", 30, 44), ("ether proto 0x8{:02}", "ip proto {}", 30, 20), ("ether proto 0x8{:02}", "ip proto {}", 100, 55),
     ("port {}", "portrange {0}-7{0}", 30, 110), ("ether src 0:1:2:3:4:{}", "host 10.0.0.{}", 30, 80),
-    ("ip[8] = {}", "tcp[2:2] = {}", 30, 45),
+    ("ip[8] = {}", "tcp[2:2] = {}", 30, 45), ("ether src {0}:1:2:3:4:{0}", "ether src 0:{0}:{0}:3:4:5", 100, 303),
+    ("ether dst {0}:1:2:3:4:{0}", "ether dst 0:{0}:{0}:3:4:5", 30, 93), ("(ip and host 10.0.0.{})", "(ip and host 10.0.1.{})", 30, 85),
+    ("(tcp and port {})", "(udp and port {})", 30, 43), ("(tcp and dst port {})", "(tcp and dst port 1{})", 100, 115),
 ]
 
 # Each word of the language without relations, and each kind of identifier.
@@ -233,6 +247,7 @@ IN_TURN = [
     ("udp port 1 or tcp port 2 or udp port 3 or tcp port 4", "udp port (1 or 3) or tcp port (2 or 4)"),
     ("ip dst host 1.1.1.1 or src host 2.2.2.2 or ip dst host 3.3.3.3 or src host 4.4.4.4",
      "ip dst host 1.1.1.1 or ip dst host 3.3.3.3 or src host (2.2.2.2 or 4.4.4.4)"),
+    ("(ip and host 1.1.1.1) or (ip and host 2.2.2.2)", "ip host (1.1.1.1 or 2.2.2.2)"), ("(udp and port 1) or (udp and port 2)", "udp port (1 or 2)"),
 ]
 
 # Expressions, and what tcpdump 4.99.3 with libpcap 1.10.3 prints of them for Ethernet and a snapshot length of 262,144; `tcp or udp`,

@@ -4,7 +4,7 @@ use crate::comparisons::{
     ADDRESSES, NETS, PLAIN, RANGES, Random, UNDIRECTED, boxed, frames, random_primitive,
 };
 use crate::random_relations::{Answers, compared};
-use filterlang::{EthernetAddress, Expr, Primitive};
+use filterlang::{EthernetAddress, Expr, Network, Plain, Primitive, Transport};
 use std::process::Abort;
 
 /// Another primitive of the same kind: of the same protocol, direction and mask, by chance with the same number.
@@ -50,9 +50,76 @@ fn neighbour(random: &mut Random, primitive: Primitive) -> Primitive {
     }
 }
 
+fn word_of(network: Network) -> Plain {
+    match network {
+        Network::Ip => Plain::Ip,
+        Network::Arp => Plain::Arp,
+        Network::Rarp => Plain::Rarp,
+    }
+}
+
+fn word_of_transport(transport: Transport) -> Plain {
+    match transport {
+        Transport::Tcp => Plain::Tcp,
+        Transport::Udp => Plain::Udp,
+        Transport::Sctp => Plain::Sctp,
+    }
+}
+
+/// The word of a primitive's protocol, and the primitive of any protocol that stands behind it.
+fn apart(primitive: Primitive) -> Option<(Plain, Primitive)> {
+    match primitive {
+        Primitive::Net {
+            network: Some(network),
+            direction,
+            address,
+            mask,
+        } => {
+            let any = Primitive::Net {
+                network: None,
+                direction,
+                address,
+                mask,
+            };
+            Some((word_of(network), any))
+        }
+        Primitive::Ports {
+            transport: Some(transport),
+            direction,
+            low,
+            high,
+        } => {
+            let any = Primitive::Ports {
+                transport: None,
+                direction,
+                low,
+                high,
+            };
+            Some((word_of_transport(transport), any))
+        }
+        _ => None,
+    }
+}
+
+/// A primitive, or the word of its protocol and what stands behind it.
+fn tested(rt: &(impl Abort + AllocGlobal), primitive: Primitive, is_apart: bool) -> Expr {
+    match apart(primitive) {
+        Some((word, any)) if is_apart => {
+            let word = boxed(rt, Expr::Test(Primitive::Protocol(word)));
+            Expr::And(word, boxed(rt, Expr::Test(any)))
+        }
+        _ => Expr::Test(primitive),
+    }
+}
+
 /// A link of a chain: of one by `and` each test is negated.
-fn link(rt: &(impl Abort + AllocGlobal), primitive: Primitive, is_negated: bool) -> Expr {
-    let test = Expr::Test(primitive);
+fn link(
+    rt: &(impl Abort + AllocGlobal),
+    random: &mut Random,
+    primitive: Primitive,
+    is_negated: bool,
+) -> Expr {
+    let test = tested(rt, primitive, random.below(2) == 0);
     if is_negated {
         Expr::Not(boxed(rt, test))
     } else {
@@ -74,10 +141,11 @@ fn linked(rt: &(impl Abort + AllocGlobal), chain: Expr, link: Expr, is_negated: 
 fn random_chain(rt: &(impl Abort + AllocGlobal), random: &mut Random) -> Expr {
     let kinds = [random_primitive(random), random_primitive(random)];
     let is_negated = random.below(2) == 0;
-    let mut chain = link(rt, kinds[0], is_negated);
+    let mut chain = link(rt, random, kinds[0], is_negated);
     for _ in 0..random.below(40) {
         let kind = kinds[random.below(2)];
-        let next = link(rt, neighbour(random, kind), is_negated);
+        let next = neighbour(random, kind);
+        let next = link(rt, random, next, is_negated);
         chain = linked(rt, chain, next, is_negated);
     }
     chain

@@ -242,14 +242,15 @@ impl Code {
         }
     }
 
-    /// The place, or one behind the comparisons there that fail where the number of the packet is one of these.
+    /// The place, or one in reach behind the comparisons there that fail where the number of the packet is one of these.
     pub fn beyond(&self, field: Field, spans: &[Span], place: usize) -> usize
         requires { IsPlace self.now place }
         ensures { Skips field (among spans.now) place result self.now }
     {
         let behind = self.passed(load_insn(field), place);
         let beyond = self.behind_others(spans, behind);
-        if self.is_fresh(place) && self.is_fresh(beyond) {
+        let is_near = self.len() - beyond < REACH;
+        if is_near && self.is_fresh(place) && self.is_fresh(beyond) {
             beyond
         } else {
             place
