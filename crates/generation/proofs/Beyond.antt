@@ -13,10 +13,10 @@ use Rattle.generation.specs.declared.code.Exits.{Exits}
 use Rattle.generation.specs.declared.insns.Field.{Field}
 use Rattle.semantics.specs.Meaning.{Packet, HasBytes, Test, and_then, check, decided}
 use Rattle.analysis.specs.declared.lists.Span.{Span}
-use Rattle.generation.specs.Insns.{load_insn}
+use Rattle.generation.specs.Insns.{load_insn, plain_insn}
 use Rattle.generation.specs.Emission.{IsPlace, AreExits, HasCells, run_from, Answers, Passes, outcome, field_of, Decides}
-use Rattle.generation.specs.Listed.{among, ChoosesFrom, IsFresh, FailsTo, Skips}
-use Rattle.generation.proofs.Runs.{after, answer-first, front-place, extends-one, extends-both, load-effect}
+use Rattle.generation.specs.Listed.{among, ChoosesFrom, IsFresh, GoesOnAs, FailsTo, Skips}
+use Rattle.generation.proofs.Runs.{after, answer-first, front-place, extends-one, extends-both, load-effect, ending, return-effect}
 
 -- two runs on which an instruction has the same effect go on together
 together : (code : List Insn) (k : ℕ) (i : Insn) (p : Packet) (r s : Registers) → slice_get code k ≡ Some i → effect p.captured p.wire i r ≡ effect p.captured p.wire i s
@@ -100,6 +100,20 @@ fails-next choice place at code i inside here is none before =
           ∙ going code (length code - at) i i.jf p r here (failing-effect i p r is (other-number choice r.accumulator i.k one none))
           ∙ before.leads p r one;
     }
+
+pub fails-on : (choice : ℕ → Bool) (place at further : ℕ) (code : List Insn) → FailsTo choice place at code → GoesOnAs at further code → FailsTo choice place further code
+fails-on choice place at further code before next = record { here = next.here; leads = λ p r one. next.leads p r ∙ before.leads p r one }
+
+pub goes-on-itself : (place : ℕ) (code : List Insn) → IsPlace code place → GoesOnAs place place code
+goes-on-itself place code here = record { here = here; leads = λ p r. refl }
+
+-- two returns that answer the same
+pub same-returns : (place at : ℕ) (code : List Insn) (i : Insn) (n : ℕ) → IsPlace code at → i ≡ plain_insn 6 n → slice_get code (length code - place) ≡ Some i → slice_get code (length code - at) ≡ Some i → GoesOnAs place at code
+same-returns place at code i n here is first second = record {
+  here = here;
+  leads = λ p r.
+      ending code (length code - at) (plain_insn 6 n) n p r (second ∙ ap Some is) (return-effect n p r) ∙ sym (ending code (length code - place) (plain_insn 6 n) n p r (first ∙ ap Some is) (return-effect n p r));
+}
 
 -- behind the load, over the comparisons, to where the accumulator does not matter
 pub skips-over : (field : Field) (choice : ℕ → Bool) (place behind beyond : ℕ) (code : List Insn) → Passes (load_insn field) place behind code → FailsTo choice behind beyond code

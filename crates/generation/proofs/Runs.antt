@@ -146,12 +146,12 @@ pub jump-leads : (place : ℕ) (code : List Insn) (p : Packet) (r : Registers) �
 unfolding effect operation_of
 jump-leads place code p r = answer-first _ code p r (Goes (length code - place) r) refl
 
-return-effect : (k : ℕ) (p : Packet) (r : Registers) → effect p.captured p.wire (plain_insn 6 k) r ≡ Ends k
+pub return-effect : (k : ℕ) (p : Packet) (r : Registers) → effect p.captured p.wire (plain_insn 6 k) r ≡ Ends k
 unfolding effect operation_of
 return-effect k p r = refl
 
 -- a run that comes to a return ends there
-ending : (code : List Insn) (k : ℕ) (i : Insn) (n : ℕ) (p : Packet) (r : Registers) → slice_get code k ≡ Some i → effect p.captured p.wire i r ≡ Ends n → answer code p.captured p.wire k r ≡ n
+pub ending : (code : List Insn) (k : ℕ) (i : Insn) (n : ℕ) (p : Packet) (r : Registers) → slice_get code k ≡ Some i → effect p.captured p.wire i r ≡ Ends n → answer code p.captured p.wire k r ≡ n
 unfolding answer
 ending [] k i n p r here is = absurd cc
 ending (j ∷ rest) zero i n p r here is =

@@ -1,6 +1,7 @@
 -- Six bytes as two and four, asked for once for all members of a list.
-use Rattle.std.proofs.Common.{◌≡◌, ℕ, ◌+◌, ◌-◌, ◌*◌, ◌/◌, ◌%◌, ◌^◌, ◌<◌, ◌≤◌, ◌==◌, ◌&&◌, Bool, true, false, List, [], ◌∷◌, ◌++◌, length, take, drop, Some, refl, sym, ap, ◌∙◌, arith, ◌⊎◌, inl, inr, if◌then◌else◌}
-use Rattle.std.proofs.lemmas.Bool.{cases_lt}
+use Rattle.std.proofs.Common.{◌≡◌, ◌≢◌, ℕ, ◌+◌, ◌-◌, ◌*◌, ◌/◌, ◌%◌, ◌^◌, ◌<◌, ◌≤◌, ◌==◌, ◌&&◌, Bool, true, false, List, [], ◌∷◌, ◌++◌, length, take, drop, Some, refl, sym, ap, ◌∙◌, arith, ◌⊎◌, inl, inr, if◌then◌else◌}
+use Rattle.std.proofs.lemmas.Bool.{cases_lt, cases_eq}
+use Rattle.std.proofs.lemmas.Bool.Decides.{nat_tests}
 use Rattle.std.proofs.lemmas.List.{length-drop}
 use Rattle.std.proofs.Math.Seq.{take-add, drop-drop}
 use Rattle.bpfvm.specs.Machine.{big_endian}
@@ -44,6 +45,41 @@ six-there o p bytes inside =
       number-some b (o + 2) 4 (omega arith),
       four_below back (all-dropped (o + 2) b bytes),
     )
+
+equal : (m n : ℕ) → m ≡ n → (m == n) ≡ true
+equal m n is = grind (arith, nat_tests)
+
+different : (m n : ℕ) → m ≢ n → (m == n) ≡ false
+different m n is = grind (arith, nat_tests)
+
+parted : (a b c d : ℕ) → b < 2 ^ 32 → d < 2 ^ 32 → and_then (decided (b == d)) (decided (a == c)) ≡ decided (a * 2 ^ 32 + b == c * 2 ^ 32 + d)
+parted a b c d first second = by_cases (cases_eq b d) (cases_eq a c)
+  where
+    by_cases : (b ≡ d) ⊎ (b ≢ d) → (a ≡ c) ⊎ (a ≢ c) → and_then (decided (b == d)) (decided (a == c)) ≡ decided (a * 2 ^ 32 + b == c * 2 ^ 32 + d)
+    by_cases (inl same) (inl same') =
+        ap (λ x. and_then (decided x) (decided (a == c))) (equal b d same) ∙ ap decided (equal a c same') ∙ sym (ap decided (equal (a * 2 ^ 32 + b) (c * 2 ^ 32 + d) (omega arith)))
+    by_cases (inl same) (inr other) =
+        ap (λ x. and_then (decided x) (decided (a == c))) (equal b d same) ∙ ap decided (different a c other) ∙ sym (ap decided (different (a * 2 ^ 32 + b) (c * 2 ^ 32 + d) (λ is. other (omega arith))))
+    by_cases (inr other) either' =
+        ap (λ x. and_then (decided x) (decided (a == c))) (different b d other) ∙ sym (ap decided (different (a * 2 ^ 32 + b) (c * 2 ^ 32 + d) (λ is. other (omega arith))))
+
+-- two tests are the one of six bytes
+pub six-parted : (o high low number : ℕ) (p : Packet) → HasBytes p → low < 2 ^ 32 → number ≡ high * 2 ^ 32 + low
+    → and_then (check (λ n. n == low) (word (o + 2) p)) (check (λ n. n == high) (half o p)) ≡ check (λ n. n == number) (six o p)
+six-parted o high low number p bytes below is = by_length (cases_lt (length p.captured) (o + 6))
+  where
+    by_length : (length p.captured < o + 6) ⊎ (o + 6 ≤ length p.captured)
+        → and_then (check (λ n. n == low) (word (o + 2) p)) (check (λ n. n == high) (half o p)) ≡ check (λ n. n == number) (six o p)
+    by_length (inl past) =
+        ap (λ v. and_then (check (λ n. n == low) v) (check (λ n. n == high) (half o p))) (number-none p.captured (o + 2) 4 (omega arith))
+        ∙ sym (ap (check (λ n. n == number)) (number-none p.captured o 6 past))
+    by_length (inr inside) =
+        let there = six-there o p bytes inside in
+        ap (λ v. and_then (check (λ k. k == low) v) (check (λ k. k == high) (half o p))) there.4
+        ∙ ap (λ v. and_then (decided (there.1 == low)) (check (λ k. k == high) v)) there.3
+        ∙ parted there.0 there.1 high low there.5 below
+        ∙ ap (λ k. decided (there.0 * 2 ^ 32 + there.1 == k)) (sym is)
+        ∙ sym (ap (check (λ k. k == number)) there.2)
 
 -- the first two of all members are one number
 any-headed : (b : Bool) (xs : List Span) (n : ℕ) (p : Packet) → any_of (λ (x : Span) q. decided (b && within x.low x.high n)) xs p ≡ and_then (decided (among xs n)) (decided b)

@@ -78,6 +78,11 @@ pub record IsChoice (choice : Registers → Bool) (exits : Exits) (place : ℕ) 
 pub record IsFresh (place : ℕ) (code : List Insn) : Type 0 where
   pub same : (p : Packet) (r : Registers) (n : ℕ) → run_from code place p (with_value Accumulator n r) ≡ run_from code place p r
 
+-- a place from which a run goes on as from the place
+pub record GoesOnAs (place passed : ℕ) (code : List Insn) : Type 0 where
+  pub here : IsPlace code passed
+  pub leads : (p : Packet) (r : Registers) → run_from code passed p r ≡ run_from code place p r
+
 -- a place from which a run with such a number in the accumulator goes on as from the place
 pub record FailsTo (choice : ℕ → Bool) (place passed : ℕ) (code : List Insn) : Type 0 where
   pub here : IsPlace code passed

@@ -8,7 +8,7 @@ ghost use Rattle.bpfvm.specs.Machine.{holds, verdict};
 ghost use Rattle.semantics.specs.Meaning.{check, within};
 ghost use Rattle.trimming.specs.Reaching.{IsAllReached};
 ghost use Rattle.generation.specs.Insns.{plain_insn};
-ghost use Rattle.generation.specs.Listed.{among, IsFresh, FailsTo, Skips};
+ghost use Rattle.generation.specs.Listed.{among, IsFresh, GoesOnAs, FailsTo, Skips};
 ghost use Rattle.generation.specs.Emission.{IsPlace, AreExits, comparison_of, condition, field_of, Passes, GoesOnAt, Nears, Chooses, Decides};
 
 use crate::insns::{Field, Jump, Operand, branch_insn, load_insn, plain_insn};
@@ -242,15 +242,39 @@ impl Code {
         }
     }
 
-    /// The place, or one in reach behind the comparisons there that fail where the number of the packet is one of these.
+    /// The place, or where it is a return that is out of reach, the nearest one that answers the same.
+    fn nearest(&self, place: usize) -> usize
+        requires { IsPlace self.now place }
+        ensures { GoesOnAs place result self.now }
+    {
+        let wanted = self.insn_at(place);
+        let mut found = place;
+        if self.len() - place >= REACH && wanted == plain_insn(code::RET_K, wanted.k) {
+            for at in place..self.len() + 1 {
+                if self.insn_at(at) == wanted {
+                    found = at;
+                }
+            }
+        }
+        found
+    }
+
+    /// Whether a jump reaches a place, or a copy of the return there, which later jumps reach too.
+    fn is_near(&self, place: usize) -> bool
+        requires { IsPlace self.now place }
+    {
+        self.len() - place < REACH || self.insn_at(place).code == code::RET_K
+    }
+
+    /// The place, or one behind the comparisons there that fail where the number of the packet is one of these, if that is near.
     pub fn beyond(&self, field: Field, spans: &[Span], place: usize) -> usize
         requires { IsPlace self.now place }
         ensures { Skips field (among spans.now) place result self.now }
     {
         let behind = self.passed(load_insn(field), place);
-        let beyond = self.behind_others(spans, behind);
-        let is_near = self.len() - beyond < REACH;
-        if is_near && self.is_fresh(place) && self.is_fresh(beyond) {
+        let others = self.behind_others(spans, behind);
+        let beyond = self.nearest(others);
+        if self.is_near(beyond) && self.is_fresh(place) && self.is_fresh(beyond) {
             beyond
         } else {
             place

@@ -369,7 +369,7 @@ impl Code {
         }
     }
 
-    /// Six bytes that are an Ethernet address. The last two are tested first, so that a missing byte is met in any case.
+    /// Six bytes that are an Ethernet address. The last four are tested first, so that a missing byte is met in any case.
     fn ethernet(&mut self, offset: u32, address: EthernetAddress, exits: Exits) -> usize
         requires offset { offset ≤ 40 }
         requires room { length self.old + 8 ≤ 512 }
@@ -377,14 +377,14 @@ impl Code {
         ensures { Decides 8 (is_address address.octets offset) exits result self.old self.new }
     {
         let [a, b, c, d, e, f] = address.octets;
-        let high = u32::from_be_bytes([a, b, c, d]);
-        let low = u32::from(u16::from_be_bytes([e, f]));
-        let inner = self.test(Field::Word(offset), Jump::Equal, high, exits);
+        let high = u32::from(u16::from_be_bytes([a, b]));
+        let low = u32::from_be_bytes([c, d, e, f]);
+        let inner = self.test(Field::Half(offset), Jump::Equal, high, exits);
         let exits = Exits {
             yes: inner,
             ..exits
         };
-        self.test(Field::Half(offset + 4), Jump::Equal, low, exits)
+        self.test(Field::Word(offset + 2), Jump::Equal, low, exits)
     }
 
     /// The test of one side.

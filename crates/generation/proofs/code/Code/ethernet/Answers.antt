@@ -1,7 +1,7 @@
 use Rattle.std.proofs.Common.{arith}
 use Rattle.semantics.specs.Meaning.{is_address, address_number}
 use Rattle.generation.proofs.Deciding.{decides-both, decides-same}
-use Rattle.generation.proofs.Six.{six_split}
+use Rattle.generation.proofs.Tails.{six-parted}
 use Rattle.generation.proofs.code.Code.ethernet.Goals as goal
 
 pub returns : goal.returns
@@ -9,5 +9,5 @@ returns c =
     let o = c.args.offset in
     let octets = c.args.address.octets in
     decides-same _ (is_address octets o)
-    (λ p bytes. six_split o c.from_be_bytes-high.result c.from-low.result (address_number octets) p bytes (omega (arith, c.from-low.ensures, c.from_be_bytes.type_inv)) (omega (arith, c.from_be_bytes-high.ensures, c.from-low.ensures, c.from_be_bytes.ensures)))
+    (λ p bytes. six-parted o c.from-high.result c.from_be_bytes-low.result (address_number octets) p bytes (omega (arith, c.from_be_bytes-low.type_inv)) (omega (arith, c.from-high.ensures, c.from_be_bytes.ensures, c.from_be_bytes-low.ensures)))
     (decides-both c.requires.exits c.test-inner.ensures c.test.ensures)
