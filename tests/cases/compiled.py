@@ -26,6 +26,12 @@ WORKED = [
     ("not tcp", UDP_FRAME[:20], "Abort"), ("not arp", UDP_FRAME[:20], "Yes"),
     # All six bytes of an address are wanted.
     ("ether host 0:1:2:3:4:5", bytes(range(10)), "Abort"), ("ether dst host 0:1:2:3:4:5", bytes(range(10)), "Yes"),
+    # The first member asks for its destination before a later one is asked: a frame without it is rejected, also where a later
+    # member has the source.
+    ("src host 10.0.0.9 or 10.0.0.1", UDP_FRAME[:30], "Yes"), ("host 10.0.0.9 or 10.0.0.1", UDP_FRAME[:30], "Abort"),
+    ("host 10.0.0.1 or 10.0.0.9", UDP_FRAME[:30], "Yes"), ("host 10.0.0.9 or 10.0.0.1", UDP_FRAME, "Yes"),
+    # A word of a protocol that is not there leaves open whether an address is.
+    ("(arp and host 10.0.0.9) or (arp and host 10.0.0.1)", UDP_FRAME[:30], "No"), ("host 10.0.0.9 and arp or udp", UDP_FRAME[:30], "Abort"),
     # `and` binds as `or` does.
     ("udp or tcp and arp", UDP_FRAME, "No"),
     # A later fragment has no port.

@@ -84,10 +84,14 @@ pub(crate) static RANGES: [(u16, u16); 5] = [
     (80, 53),
 ];
 
-pub(crate) static ADDRESSES: [[u8; 6]; 3] = [
+// The first three stand in frames; the others have the first two or the last four bytes of one of these.
+pub(crate) static ADDRESSES: [[u8; 6]; 6] = [
     [0, 1, 2, 3, 4, 5],
     [6, 7, 8, 9, 10, 11],
     [255, 255, 255, 255, 255, 255],
+    [0, 1, 8, 9, 10, 11],
+    [6, 7, 2, 3, 4, 5],
+    [9, 9, 2, 3, 4, 5],
 ];
 
 pub(crate) static PLAIN: [Plain; 7] = [
@@ -263,7 +267,7 @@ pub(crate) fn random_primitive(random: &mut Random) -> Primitive {
         2 => Primitive::EtherHost {
             direction,
             address: EthernetAddress {
-                octets: ADDRESSES[random.below(3)],
+                octets: ADDRESSES[random.below(6)],
             },
         },
         3 => {

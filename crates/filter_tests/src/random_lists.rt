@@ -16,7 +16,7 @@ fn neighbour(random: &mut Random, primitive: Primitive) -> Primitive {
         Primitive::EtherHost { direction, .. } => Primitive::EtherHost {
             direction,
             address: EthernetAddress {
-                octets: ADDRESSES[random.below(3)],
+                octets: ADDRESSES[random.below(6)],
             },
         },
         Primitive::Net {
