@@ -1,5 +1,5 @@
 -- A task that was settled, and what it was asked for.
-use Rattle.std.proofs.Common.{◌≡◌, ℕ, Bool, true, false, List, [], ◌∷◌, All, map, refl, ap, sym, ◌∙◌, arith, subst, Option}
+use Rattle.std.proofs.Common.{◌≡◌, ℕ, Bool, true, false, List, [], ◌∷◌, All, length, map, refl, ap, sym, ◌∙◌, arith, subst, Option}
 use Rattle.atomic_table.specs.Seated.{TableId}
 use Rattle.listener.specs.LookingBack.{all_accepted, count, is_arrival}
 use Rattle.listener.specs.Messages.{Arrival}
@@ -56,6 +56,14 @@ served taken failures playlist task feeds takes r fed past profile reported = re
       let written = all.1 in let balance = reported.balance in
       (omega (arith, got, many, one, so), omega (arith, written, balance));
 }
+
+-- while threads of a task are left, so is an ended feeder
+pub ended-missing : {W : Type 0} (playlist : List Arrival) (ends : List Ending) (crews : List (Crew W)) (crew : Crew W) (crews' : List (Crew W))
+    → map ended_of ends ≡ ended_all (map (fed_all playlist) (map crew_line crews)) → crews ≡ crew ∷ crews' → length ends ≡ 0 → ⊥
+ended-missing {W} playlist [] crews crew crews' same f none =
+    let left : [] ≡ ended_all (map (fed_all playlist) (map crew_line (crew ∷ crews'))) = same ∙ ap (λ (cs : List (Crew W)). ended_all (map (fed_all playlist) (map crew_line cs))) f in
+    absurd cc
+ended-missing {W} playlist (ending ∷ ends) crews crew crews' same f none = absurd (omega (arith, none))
 
 -- the ended feeders, of which the first is taken, and the tasks that they are of
 pub next-ended : {W : Type 0} (playlist : List Arrival) (ends : List Ending) (ending : Ending) (ends' : List Ending) (crews : List (Crew W)) (crew : Crew W)

@@ -1,11 +1,18 @@
-use Rattle.std.proofs.Common.{length, ap, arith, rules}
+use Rattle.std.proofs.Common.{◌≡◌, ◌∷◌, length, ap, arith, rules, subst}
+use Rattle.std.specs.List.{AllZip}
 use Rattle.replay.specs.RunsEnded.{HasItsPairs, IsReportOf}
-use Rattle.replay.proofs.Lists.{completed, completes-next, grown, zip-taken}
+use Rattle.replay.proofs.Lists.{completed, completes-next, empty, grown, zip-taken}
 use Rattle.replay.proofs.reporting.report_all.Goals as goal
 
 pub report_one-requires : goal.report_one-requires
 report_one-requires g c =
     (zip-taken HasItsPairs _ c.in-Some-next.its_links _ _ c.in-Some.one _ c.loop-one.invariant.2 c.in-Some-next.ensures.items c.in-Some.ensures.steps.0).0
+
+pub unreachable-requires : goal.unreachable-requires
+unreachable-requires g c =
+    let none : length c.loop-one.links.rest.items ≡ 0 = search rules in
+    subst (λ ls. AllZip HasItsPairs ls (c.in-Some.one ∷ c.next.new.self.rest.items)) (empty _ none)
+    (subst (λ rs. AllZip HasItsPairs c.loop-one.links.rest.items rs) c.in-Some.ensures.steps.0 c.loop-one.invariant.2)
 
 pub push_reserved-requires : goal.push_reserved-requires
 push_reserved-requires g c =

@@ -5,8 +5,20 @@ use Rattle.replay.specs.Lines.{EndedLine}
 use Rattle.replay.specs.Replayed.{IsServed}
 use Rattle.replay.specs.RunsEnded.{past_pair}
 use Rattle.replay.proofs.Lists.{all-moved, completed, completes-next, grown, moved}
-use Rattle.replay.proofs.Served.{ended-timely, next-ended, next-paired, served}
+use Rattle.replay.proofs.Served.{ended-missing, ended-timely, next-ended, next-paired, served}
 use Rattle.replay.proofs.reporting.report_tasks.Goals as goal
+
+pub unreachable-requires : goal.unreachable-requires
+unreachable-requires g c =
+    let none : length c.loop-crew.links.rest.items ≡ 0 = search rules in
+    let here = ap length c.in-Some.ensures.steps.0 in
+    let same = ap length c.loop-crew.invariant.2 in
+    let many = length-map c.loop-crew.crew-iterator.rest.items crew_pair in omega (arith, none, here, same, many)
+
+pub unreachable-requires-in_default-next : goal.unreachable-requires-in_default-next
+unreachable-requires-in_default-next g c =
+    let none : length c.loop-crew.ends.rest.items ≡ 0 = search rules in
+    let (playlist, timely, fed) = c.loop-crew.invariant.3 in ended-missing playlist _ _ c.in-Some.crew _ fed c.in-Some.ensures.steps.0 none
 
 pub report_task-requires-clause-pair : goal.report_task-requires-clause-pair
 report_task-requires-clause-pair g c =

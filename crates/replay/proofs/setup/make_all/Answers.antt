@@ -4,6 +4,26 @@ use Rattle.replay.specs.Lines.{entry_line}
 use Rattle.replay.proofs.Lists.{all-moved-itself, both-next, grown, image-next, moved-itself-next}
 use Rattle.replay.proofs.setup.make_all.Goals as goal
 
+pub push_reserved-requires : goal.push_reserved-requires
+push_reserved-requires g c =
+    let less = ap length c.in-Some.ensures.steps.0 in
+    let sum = c.loop-task.invariant.5 in
+    let same = c.loop-task.invariant.6 in
+    let room = c.loop-task.invariant.8 in omega (arith, less, sum, same, room)
+
+pub push_reserved-requires-in-loop-task : goal.push_reserved-requires-in-loop-task
+push_reserved-requires-in-loop-task g c =
+    let less = ap length c.in-Some.ensures.steps.0 in
+    let sum = c.loop-task.invariant.5 in
+    let same = c.loop-task.invariant.7 in
+    let room = c.loop-task.invariant.9 in omega (arith, less, sum, same, room)
+
+pub push_reserved-requires-in-loop-task-2 : goal.push_reserved-requires-in-loop-task-2
+push_reserved-requires-in-loop-task-2 g c =
+    let less = ap length c.in-Some.ensures.steps.0 in
+    let sum = c.loop-task.invariant.5 in
+    let room = c.loop-task.invariant.10 in omega (arith, less, sum, room)
+
 pub loop-task-preserved : goal.loop-task-preserved
 loop-task-preserved g c =
     let link = c.in_ok-link.field-0.link in

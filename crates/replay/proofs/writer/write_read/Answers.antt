@@ -1,4 +1,4 @@
-use Rattle.std.proofs.Common.{rules, ap, sym, ◌∙◌, subst, List, ◌++◌, append_assoc}
+use Rattle.std.proofs.Common.{◌≡◌, rules, ap, sym, ◌∙◌, subst, List, ◌++◌, append_assoc}
 use Rattle.rtrb.specs.Ring.{received}
 use Rattle.listener.specs.Laws.{joined}
 use Rattle.listener.specs.declared.message.Message.{Message}
@@ -18,6 +18,21 @@ loop-preserved-in-Ok g c = (
       ∙ ap (λ ms. messages ++ ms) (sym (ap (λ bs. joined (messages_of bs)) c.in-Ok.ensures.ok.0 ∙ joins_buffer (received c.loop.full) c.in-Ok.buffer)))
       (c.put_all.ensures output (messages ++ so_far) (c.loop.invariant.1 output messages t))),
 )
+
+pub loop-preserved-then-not-last : goal.loop-preserved-then-not-last
+loop-preserved-then-not-last g c =
+    let same : received c.loop.full ≡ received c.is_abandoned-last.new.self = search rules in (
+      search rules,
+      (λ output messages t.
+          c.wait.ensures output _ (subst (λ bs. Writes g.W.Sink.taken g.W.Sink.failures output (messages ++ joined (messages_of bs)) c.loop.written) same (c.loop.invariant.1 output messages t))),
+    )
+
+pub loop-preserved : goal.loop-preserved
+loop-preserved g c =
+    let same : received c.loop.full ≡ received c.is_abandoned-last.new.self = search rules in (
+      search rules,
+      (λ output messages t. subst (λ bs. Writes g.W.Sink.taken g.W.Sink.failures output (messages ++ joined (messages_of bs)) c.loop.written) same (c.loop.invariant.1 output messages t)),
+    )
 
 pub returns-clause-ring : goal.returns-clause-ring
 returns-clause-ring g c = elim c.match-next.branch [

@@ -1,4 +1,4 @@
-use Rattle.std.proofs.Common.{ap, sym, ◌∙◌, subst, List, [], ◌∷◌, ◌++◌, append_assoc}
+use Rattle.std.proofs.Common.{rules, ap, sym, ◌∙◌, subst, List, [], ◌∷◌, ◌++◌, append_assoc}
 use Rattle.rtrb.specs.Ring.{received}
 use Rattle.listener.specs.Laws.{joined}
 use Rattle.listener.specs.declared.message.Message.{Message}
@@ -6,6 +6,13 @@ use Rattle.replay.specs.Reading.{messages_of}
 use Rattle.replay.specs.Writing.{Writes}
 use Rattle.replay.proofs.Batches.{joins_buffer}
 use Rattle.replay.proofs.writer.write_rest.Goals as goal
+
+pub loop-preserved : goal.loop-preserved
+loop-preserved g c = (search rules, search rules, (λ output messages t. c.wait.ensures output messages (c.loop.invariant.2 output messages t)))
+
+pub returns-then-not-written-clause-writes : goal.returns-then-not-written-clause-writes
+returns-then-not-written-clause-writes g c = λ output messages t.
+    subst (λ bs. Writes g.W.Sink.taken g.W.Sink.failures output (messages ++ joined (messages_of bs)) c.loop.written) (sym c.loop.invariant.1) (c.loop.invariant.2 output _ t)
 
 pub returns-in-Ok-clause-writes : goal.returns-in-Ok-clause-writes
 returns-in-Ok-clause-writes g c = λ output messages t.
