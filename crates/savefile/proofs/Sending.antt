@@ -1,7 +1,8 @@
 -- What a writer sends, call after call.
-use Rattle.std.proofs.Common.{◌≡◌, ℕ, ◌-◌, ◌≤◌, false, List, [], ◌∷◌, ◌++◌, length, take, drop, Option, Result, Ok, Err, refl, sym, ap, subst, ◌∙◌, append_assoc, arith, length-append, length-drop, take-append-drop}
+use Rattle.std.proofs.Common.{◌≡◌, ◌≢◌, ℕ, ◌-◌, ◌≤◌, true, false, List, [], ◌∷◌, ◌++◌, length, take, drop, Option, Result, Ok, Err, refl, sym, ap, subst, ◌∙◌, append_assoc, arith, length-append, length-drop, take-append-drop}
 use Rattle.std.proofs.lemmas.List.{take_all}
-use Rattle.std.proofs.KnownBytes.{Appends-nil, Appends-trans}
+use Rattle.std.proofs.KnownBytes.{Appends-kept, Appends-nil, Appends-trans}
+use Rattle.std.specs.Io.KnownBytes.{Keeps}
 use Rattle.std.specs.Prelude.{OnOk, OnErr}
 use Rattle.savefile.specs.declared.header.Order.{Order}
 use Rattle.savefile.specs.declared.header.Unit.{Unit as TimeUnit}
@@ -125,6 +126,23 @@ SendsPart-second taken old mid new s t q p = record {
   short = omega (arith, p.short, length-append s t, length-append s p.part);
   sends = Sends-trans taken old mid new s p.part q p.sends;
   failed = p.failed;
+}
+
+-- where the sink fails before the rest, the front is what was sent
+pub sends_front : {W : Type 0} (taken : W → Option (List ℕ)) (old mid new : Writing W) (bytes front rest : List ℕ)
+    → bytes ≡ front ++ rest → Sends taken old mid front → length rest ≢ 0 → Keeps (taken mid.sink) (taken new.sink)
+    → new.sent ≡ mid.sent → new.order ≡ mid.order → new.unit ≡ mid.unit → new.failed ≡ true → SendsPart taken old new bytes
+sends_front taken old mid new bytes front rest e p some keeps sent order unit failed = record {
+  part = front;
+  begins = (rest, e);
+  short = (let all = ap length e in omega (arith, all, some, length-append front rest));
+  sends = record {
+    bytes = Appends-kept (taken old.sink) (taken mid.sink) (taken new.sink) front p.bytes keeps;
+    count = sent ∙ p.count;
+    in_order = order ∙ p.in_order;
+    in_unit = unit ∙ p.in_unit;
+  };
+  failed = failed;
 }
 
 -- what was sent before stays

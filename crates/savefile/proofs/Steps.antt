@@ -1,5 +1,5 @@
 -- The steps of a reader.
-use Rattle.std.proofs.Common.{◌≡◌, ◌≢◌, ◌↔◌, ℕ, ◌+◌, ◌*◌, ◌<◌, ◌≤◌, ◌⊎◌, inl, inr, Bool, true, false, cond, List, [], ◌++◌, length, take, drop, Option, Some, None, IfSome, Result, Err, nat_lt, nat_le, ◌==◌, refl, sym, ap, subst, ◌∙◌, append_assoc, arith, length-append}
+use Rattle.std.proofs.Common.{◌≡◌, ◌≢◌, ◌↔◌, ℕ, ◌+◌, ◌-◌, ◌*◌, ◌<◌, ◌≤◌, ◌⊎◌, inl, inr, Bool, true, false, cond, List, [], ◌++◌, length, take, drop, Option, Some, None, IfSome, Result, Err, nat_lt, nat_le, ◌==◌, refl, sym, ap, subst, ◌∙◌, append_assoc, arith, length-append}
 use Rattle.std.proofs.KnownBytes.{Consumes-trans}
 use Rattle.std.proofs.lemmas.Bool.{le-ltb, lt-leb, lt-ltb, ne_eqb}
 use Rattle.std.proofs.lemmas.List.{append-nil}
@@ -7,13 +7,20 @@ use Rattle.std.specs.Io.KnownBytes.{IsAtEnd}
 use Rattle.savefile.specs.declared.header.Order.{Order}
 use Rattle.savefile.specs.declared.ahead.Ahead.{Ahead}
 use Rattle.savefile.specs.declared.fault.Fault.{Fault}
-use Rattle.savefile.specs.declared.fault.Fault.TheVariants.{TornRecord, BadFraction, TooLong, Device}
+use Rattle.savefile.specs.declared.fault.Fault.TheVariants.{ShortHeader, NotSavefile, Version, LinkType, TornRecord, BadFraction, TooLong, NoMemory, Device, Failed, CountFull}
 use Rattle.savefile.specs.declared.header.Unit.{Unit as TimeUnit}
 use Rattle.savefile.specs.declared.record.RecordHeader.{RecordHeader}
+use Rattle.savefile.specs.declared.header.Header.{Header}
 use Rattle.savefile.specs.Ahead.{waiting_in, Grows}
+use Rattle.savefile.specs.Passing.{MeetsFault}
+use Rattle.savefile.specs.Reader.{Leaves, Reading}
 use Rattle.savefile.specs.RecordHeader.{IsRecordHeader}
 use Rattle.savefile.specs.Savefile.{captured, field, first_fault, fraction, nanos_in, packet, per_second, IsRecord, NoRecord}
-use Rattle.savefile.proofs.Pieces.{field-front, known_rest}
+use Rattle.savefile.proofs.Pieces.{field-front, known_rest, length-slice_range}
+
+-- how many bytes wait
+pub length-waiting : {R : Type 0} (a : Ahead R) → length (waiting_in a) ≡ a.end - a.start
+length-waiting a = length-slice_range a.memory.items a.start a.end (omega arith) (omega arith)
 
 -- more bytes were taken, and then more again
 pub Grows-trans : {R : Type 0} (left : R → Option (List ℕ)) (a b c : Ahead R) → Grows left a b → Grows left b c → Grows left a c
@@ -53,6 +60,46 @@ first_fault-no_device order unit place rest =
 pub stands-no_device : (order : Order) (unit : TimeUnit) (place : ℕ) (waiting : List ℕ) (left : Option (List ℕ)) (fault : Fault)
     → ((rest : List ℕ) × IfSome left (λ bytes. bytes ≡ rest) × (first_fault order unit place (waiting ++ rest) ≡ Some fault)) → fault ≡ Device → ⊥
 stands-no_device order unit place waiting left fault s device = first_fault-no_device order unit place (waiting ++ s.0) (s.2 ∙ ap Some device)
+
+-- which faults stand in a text
+which_fault : (none torn bad long cut : Bool) (place : ℕ) (fault : Fault) →
+    cond none None (cond torn (Some (TornRecord place)) (cond bad (Some (BadFraction place)) (cond long (Some (TooLong place)) (cond cut (Some (TornRecord place)) None)))) ≡ Some fault
+    → (fault ≡ TornRecord place) ⊎ (fault ≡ BadFraction place) ⊎ (fault ≡ TooLong place)
+which_fault true torn bad long cut place fault e = absurd cc
+which_fault false true bad long cut place fault e = inl cc
+which_fault false false true long cut place fault e = inr (inl cc)
+which_fault false false false true cut place fault e = inr (inr cc)
+which_fault false false false false true place fault e = inl cc
+which_fault false false false false false place fault e = absurd cc
+
+-- a fault that a record meets tells of no earlier fault, and of no count
+pub met_neither : {R : Type 0} (left : R → Option (List ℕ)) (header : Header) (place : ℕ) (old new : Ahead R) (fault : Fault) → MeetsFault left header place old new fault
+    → (fault ≡ Failed → ⊥) × (fault ≡ CountFull → ⊥)
+met_neither left header place old new fault (grows, inl broke) =
+    (λ e. let clash : Device ≡ Failed = sym broke.0 ∙ e in absurd cc, λ e. let clash : Device ≡ CountFull = sym broke.0 ∙ e in absurd cc)
+met_neither left header place old new fault (grows, inr stands) =
+    let rest = waiting_in new ++ stands.0 in
+    let which = which_fault (length rest == 0) (nat_lt (length rest) 16) (nat_le (per_second header.unit) (fraction header.order rest)) (nat_lt 262144 (captured header.order rest))
+    (nat_lt (length rest) (16 + captured header.order rest)) place fault stands.2 in
+    elim which [
+      | inl torn ↦ (λ e. let clash : TornRecord place ≡ Failed = sym torn ∙ e in absurd cc, λ e. let clash : TornRecord place ≡ CountFull = sym torn ∙ e in absurd cc)
+      | inr (inl bad) ↦ (λ e. let clash : BadFraction place ≡ Failed = sym bad ∙ e in absurd cc, λ e. let clash : BadFraction place ≡ CountFull = sym bad ∙ e in absurd cc)
+      | inr (inr long) ↦ (λ e. let clash : TooLong place ≡ Failed = sym long ∙ e in absurd cc, λ e. let clash : TooLong place ≡ CountFull = sym long ∙ e in absurd cc)
+    ]
+
+-- how such a fault leaves a reader
+pub leaves_failed : {R : Type 0} (old new : Reading R) (fault : Fault) → (fault ≡ Failed → ⊥) × (fault ≡ CountFull → ⊥) → new.failed ≡ true → Leaves old new (Err fault)
+leaves_failed old new ShortHeader neither failed = failed
+leaves_failed old new NotSavefile neither failed = failed
+leaves_failed old new Version neither failed = failed
+leaves_failed old new LinkType neither failed = failed
+leaves_failed old new (TornRecord place) neither failed = failed
+leaves_failed old new (BadFraction place) neither failed = failed
+leaves_failed old new (TooLong place) neither failed = failed
+leaves_failed old new NoMemory neither failed = failed
+leaves_failed old new Device neither failed = failed
+leaves_failed old new Failed neither failed = absurd (neither.0 refl)
+leaves_failed old new CountFull neither failed = absurd (neither.1 refl)
 
 -- an answer that is no fault of a device, where none failed
 pub no_device_failed : {T : Type 0} (result : Result T Fault) (fault : Fault) (old new : ℕ) → result ≡ Err fault → (fault ≡ Device → ⊥) → new ≡ old → (result ≡ Err Device) ↔ (new ≢ old)

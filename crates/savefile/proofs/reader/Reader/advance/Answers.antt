@@ -1,6 +1,10 @@
-use Rattle.std.proofs.Common.{[], refl}
+use Rattle.std.proofs.Common.{◌≡◌, true, false, [], refl, sym, ap, ◌∙◌}
 use Rattle.std.proofs.KnownBytes.{Consumes-nil}
 use Rattle.savefile.specs.Ahead.{waiting_in}
+use Rattle.savefile.specs.Passing.{is_broken}
+use Rattle.savefile.specs.Reader.{Reading}
+use Rattle.savefile.specs.declared.fault.Fault.TheVariants.{CountFull, Failed}
+use Rattle.savefile.proofs.Steps.{leaves_failed, met_neither}
 use Rattle.savefile.proofs.Given.{begins_all, gives_packet, gives_all, gives_fault}
 use Rattle.savefile.proofs.reader.Reader.advance.Goals as goal
 
@@ -68,3 +72,25 @@ returns-in-Ok-true-clause-idle g c = rw (← c.self.view_is) c.in-Ok-true.ensure
 
 pub returns-in-Err-clause-idle : goal.returns-in-Err-clause-idle
 returns-in-Err-clause-idle g c = rw (← c.self.view_is) c.in-Err.ensures.idle
+
+pub returns-in-Err-clause-failed : goal.returns-in-Err-clause-failed
+returns-in-Err-clause-failed g c =
+    let r = c.self.inside in
+    let neither = met_neither g.R.Source.left r.header r.given r.ahead c.read_record.new.ahead c.in-Err.fault c.in-Err.ensures.fault in
+    let works : c.args.self.now.failed ≡ false = sym (ap (λ (v : Reading g.row.R.Denot). v.failed) c.self.view_is) ∙ ap is_broken c.in-Reading.is in (
+      (λ e. let failed : c.in-Err.fault ≡ Failed = cc in absurd (neither.0 failed)),
+      (λ failed. let clash : false ≡ true = sym works ∙ failed in absurd cc),
+    )
+
+pub returns-in-Err-clause-count_full : goal.returns-in-Err-clause-count_full
+returns-in-Err-clause-count_full g c =
+    let r = c.self.inside in
+    let neither = met_neither g.R.Source.left r.header r.given r.ahead c.read_record.new.ahead c.in-Err.fault c.in-Err.ensures.fault in (
+      (λ e. let full : c.in-Err.fault ≡ CountFull = cc in absurd (neither.1 full)),
+      (λ full. absurd (c.if-self.false (ap (λ (v : Reading g.row.R.Denot). v.given) c.self.view_is ∙ full.1))),
+    )
+
+pub returns-in-Err-clause-leaves : goal.returns-in-Err-clause-leaves
+returns-in-Err-clause-leaves g c =
+    let r = c.self.inside in
+    leaves_failed c.args.self.now _ c.in-Err.fault (met_neither g.R.Source.left r.header r.given r.ahead c.read_record.new.ahead c.in-Err.fault c.in-Err.ensures.fault) refl
