@@ -74,8 +74,9 @@ pub record IsMade {A B : Type 0} (R : A → B → Type 0) (all : List A) (made :
   pub whole : all ≡ front ++ left
   pub each : AllZip R front made
 
-pub nothing_made : {A B : Type 0} (R : A → B → Type 0) (all : List A) → IsMade R all [] all
-nothing_made R all = record { front = []; whole = refl; each = tt }
+-- nothing was made, and all are left
+pub none_made : {A B : Type 0} (R : A → B → Type 0) (all : List A) (made : List B) (left : List A) → made ≡ [] → left ≡ all → IsMade R all made left
+none_made R all made left none same = record { front = []; whole = sym same; each = subst (λ (t : List _). AllZip R [] t) (sym none) tt }
 
 pub one_made : {A B : Type 0} (R : A → B → Type 0) (all : List A) (made : List B) (left left' : List A) (x : A) (y : B) → left ≡ x ∷ left' → IsMade R all made left → R x y → IsMade R all (made ++ y ∷ []) left'
 one_made R all made left left' x y cut is one = record {

@@ -1,8 +1,9 @@
 -- The programs of lines, one behind the other, and their interfaces.
-use Rattle.std.proofs.Common.{◌≡◌, ◌≢◌, ℕ, ◌+◌, ◌<◌, List, [], ◌∷◌, ◌++◌, All, get_or, length, take, refl, subst, sym}
+use Rattle.std.proofs.Common.{◌≡◌, ◌≢◌, ℕ, ◌+◌, ◌<◌, List, [], ◌∷◌, ◌++◌, All, get_or, length, take, inl, inr, refl, subst, sym}
 use Rattle.std.specs.List.{AllZip}
 use Rattle.std.proofs.lemmas.List.{take_more}
 use Rattle.std.proofs.lemmas.List.Elements.{All-nil, All-cons, All-take, All-same}
+use Rattle.lines.specs.declared.fault.LineFault.{LineFault}
 use Rattle.lines.specs.Files.{Say}
 use Rattle.filterlang.specs.declared.fault.Fault.{Fault as Misreading}
 use Rattle.filterlang.specs.declared.fault.Fault.TheVariants as misread
@@ -10,12 +11,14 @@ use Rattle.generation.specs.declared.refusal.Refusal.{Refusal}
 use Rattle.generation.specs.declared.refusal.Refusal.TheVariants as uncompiled
 use Rattle.bpfvm.specs.declared.insn.Insn.{Insn}
 use Rattle.filtergen.specs.declared.expression.ExpressionFault.{ExpressionFault}
+use Rattle.filtergen.specs.declared.expression.ExpressionFault.TheVariants.{Text, Tree}
 use Rattle.filtergen.specs.Expressions.{IsUncompiled}
 use Rattle.std.proofs.lemmas.Option.{slice_get-get_or}
 use Rattle.run_texts.specs.declared.listeners.RunLine.{RunLine}
-use Rattle.run_texts.specs.declared.plan.PlanFault.TheVariants.{Expression, Compile}
+use Rattle.run_texts.specs.declared.plan.PlanFault.{PlanFault}
+use Rattle.run_texts.specs.declared.plan.PlanFault.TheVariants.{Line, Expression, Compile, NoMemory}
 use Rattle.run_texts.specs.Listeners.{IsRunLine, AreRunLines}
-use Rattle.run_texts.specs.Planning.{misreading_of, refusal_of, IsCompiled, IsFirstUncompiled}
+use Rattle.run_texts.specs.Planning.{misreading_of, refusal_of, plan_fault, AreUncompiled, IsCompiled, IsFirstUncompiled, IsRefusedPlan}
 use Rattle.run_texts.proofs.Laid.{zip-push}
 
 -- every fault but want of memory is named with its line
@@ -55,3 +58,18 @@ pub lines_there : (interfaces : ℕ) (text : List ℕ) (lines : List RunLine) �
 lines_there interfaces text lines are =
     All-same (λ line. line.interface < interfaces) lines (take 1025 are.0) are.3
     (All-take (λ line. line.interface < interfaces) 1025 are.0 (said-there interfaces _ are.0 are.1))
+
+-- no expression's fault is a line's
+not_line : (fault : LineFault) (n : ℕ) (why : ExpressionFault) → Line fault ≡ plan_fault n why → ⊥
+not_line fault n (Text misread.NoMemory) is = cc
+not_line fault n (Text _) is = cc
+not_line fault n (Tree uncompiled.NoMemory) is = cc
+not_line fault n (Tree _) is = cc
+
+-- what is told of expressions is told of the file
+pub refused_expression : (interfaces : ℕ) (text : List ℕ) (lines : List RunLine) (fault : PlanFault) → AreRunLines interfaces text lines → AreUncompiled lines fault → IsRefusedPlan interfaces text fault
+refused_expression interfaces text lines (Line fault) are (inl none) = absurd cc
+refused_expression interfaces text lines (Line fault) are (inr named) = absurd (not_line fault named.0 named.1 named.2)
+refused_expression interfaces text lines (Expression n fault) are why = (lines, are, why)
+refused_expression interfaces text lines (Compile n refusal) are why = (lines, are, why)
+refused_expression interfaces text lines NoMemory are why = tt

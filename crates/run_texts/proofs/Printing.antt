@@ -1,8 +1,10 @@
--- A line that is put together in three pieces.
-use Rattle.std.proofs.Common.{◌≡◌, ℕ, List, [], ◌++◌, Result, Ok, Err, OnOk, ap, ◌∙◌}
+-- What is put behind a line that was emptied.
+use Rattle.std.proofs.Common.{◌≡◌, ℕ, List, [], ◌++◌, Result, Ok, Err, OnOk, ap, append_assoc, ◌∙◌}
 
-pub three_pieces : {A E : Type 0} (r : Result A E) (empty one two new a b d whole : List ℕ) → empty ≡ [] → one ≡ empty ++ a → two ≡ one ++ b → OnOk r (new ≡ two ++ d)
-    → (a ++ b) ++ d ≡ whole → OnOk r (new ≡ whole)
-three_pieces (Ok x) empty one two new a b d whole none first second third is =
-    third ∙ ap (λ (t : List ℕ). t ++ d) (second ∙ ap (λ (t : List ℕ). t ++ b) (first ∙ ap (λ (t : List ℕ). t ++ a) none)) ∙ is
-three_pieces (Err e) empty one two new a b d whole none first second third is = tt
+pub in_place : {A E : Type 0} (r : Result A E) (empty new text whole : List ℕ) → empty ≡ [] → OnOk r (new ≡ empty ++ text) → text ≡ whole → OnOk r (new ≡ whole)
+in_place (Ok x) empty new text whole none put is = put ∙ ap (λ (t : List ℕ). t ++ text) none ∙ is
+in_place (Err e) empty new text whole none put is = tt
+
+-- fifteen pieces, of which the second to the twelfth are put by one call
+pub regrouped : (a b c d e f g h i j k l m n o : List ℕ) → a ++ ((b ++ (c ++ (d ++ (e ++ (f ++ (g ++ (h ++ (i ++ (j ++ (k ++ l)))))))))) ++ (m ++ (n ++ o))) ≡ a ++ b ++ c ++ d ++ e ++ f ++ g ++ h ++ i ++ j ++ k ++ l ++ m ++ n ++ o
+regrouped a b c d e f g h i j k l m n o = simp append_assoc

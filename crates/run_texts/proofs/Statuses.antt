@@ -1,7 +1,8 @@
 -- An exit status is at most 3.
-use Rattle.std.proofs.Common.{◌≡◌, ℕ, zero, suc, ◌+◌, ◌<◌, ◌≤◌, max, List, [], ◌∷◌, ◌++◌, fold, get_or, length, take, refl, ap, sym, ◌∙◌, arith}
+use Rattle.std.proofs.Common.{◌≡◌, ℕ, zero, suc, ◌+◌, ◌<◌, ◌≤◌, max, List, [], ◌∷◌, ◌++◌, fold, get_or, length, take, nat_cmp, refl, ap, sym, ◌∙◌, arith, rules}
 use Rattle.std.proofs.lemmas.List.{take_more}
 use Rattle.std.proofs.Math.Nat.{max-le}
+use Rattle.std.specs.Ordering.{ord_max}
 use Rattle.savefile.specs.declared.fault.Fault.{Fault}
 use Rattle.savefile.specs.declared.fault.Fault.TheVariants as faults
 use Rattle.tasks.specs.declared.report.InterfaceEnd.{InterfaceEnd}
@@ -69,3 +70,17 @@ take-whole (x ∷ xs) (suc i) past = ap (λ ys. x ∷ ys) (take-whole xs i (omeg
 -- all items are folded
 pub fold-whole : {A B : Type 0} (f : B → A → B) (start : B) (xs : List A) (i : ℕ) → length xs ≤ i → fold f start (take i xs) ≡ fold f start xs
 fold-whole f start xs i past = ap (λ ys. fold f start ys) (take-whole xs i past)
+
+greater : (a b : ℕ) → ord_max nat_cmp a b ≡ max a b
+greater a b = search rules
+
+-- the greatest number so far, with that of one item more
+pub greatest-more : {X : Type 0} (f : X → ℕ) (xs : List X) (i so_far number next : ℕ) (x : X) → i < length xs → x ≡ get_or xs i x
+    → so_far ≡ fold (λ greatest x. max greatest (f x)) 0 (take i xs) → number ≡ f x → next ≡ ord_max nat_cmp so_far number
+    → next ≡ fold (λ greatest x. max greatest (f x)) 0 (take (i + 1) xs)
+greatest-more f xs i so_far number next x inside is before one now =
+    now
+    ∙ greater so_far number
+    ∙ ap (λ n. max n number) before
+    ∙ ap (λ n. max (fold (λ greatest x. max greatest (f x)) 0 (take i xs)) n) one
+    ∙ sym (fold-more (λ greatest x. max greatest (f x)) 0 xs i x inside is)

@@ -41,13 +41,15 @@ fn put_listener<W>(
     ensures { OnOk result (line.new ≡ listener_line i l report.now) }
 {
     line.clear();
-    write!(line, "interface {i} listener {l}")?;
-    write!(
+    writeln!(
         line,
-        " received {} matched {} dropped {}",
-        report.received, report.matched, report.dropped
-    )?;
-    writeln!(line, " written {} {}", report.written, EndText(report.end))
+        "interface {i} listener {l} received {} matched {} dropped {} written {} {}",
+        report.received,
+        report.matched,
+        report.dropped,
+        report.written,
+        EndText(report.end)
+    )
 }
 
 /// The lines of the i-th interface's listeners, numbered from 0.

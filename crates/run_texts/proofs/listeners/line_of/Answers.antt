@@ -71,3 +71,22 @@ pub returns-in_default-from_utf8-clause-none : goal.returns-in_default-from_utf8
 returns-in_default-from_utf8-clause-none c = λ asked is.
     let one = fields_one c.args.line.now _ _ _ _ _ _ _ _ _ _ _ _ _ _ c.in_ok-fields.ensures.some is.fields in
     c.in_default-from_utf8.ensures.cases.0 (subst IsUtf8 (sym one.expression) is.expression_text)
+
+pub returns-clause-some : goal.returns-clause-some
+returns-clause-some c = record {
+  interface = c.in_ok-fields.fields.interface.now;
+  flush_every = c.in_ok-fields.fields.flush_every.now;
+  snap = c.in_ok-fields.fields.snap.now;
+  capacity = c.in_ok-fields.fields.capacity.now;
+  spares = c.in_ok-fields.fields.spares.now;
+  fields = rw (c.in-Ok.ensures.cases.0, c.in-Ok-from_utf8.ensures.cases.0) c.in_ok-fields.ensures.some;
+  interface_is = c.in_ok-interface.ensures.some;
+  flush_every_is = rw c.from.ensures at c.in_ok-flush_every.ensures.some;
+  snap_is = c.in_ok-snap.ensures.some;
+  capacity_is = c.in_ok-capacity.ensures.some;
+  spares_is = c.in_ok-spares.ensures.some;
+  there = c.if-interface-interfaces.false;
+  named = search rules;
+  output_text = subst IsUtf8 (sym c.in-Ok.ensures.cases.0) c.in-Ok.ensures.cases.1;
+  expression_text = subst IsUtf8 (sym c.in-Ok-from_utf8.ensures.cases.0) c.in-Ok-from_utf8.ensures.cases.1;
+}

@@ -1,6 +1,9 @@
-use Rattle.std.proofs.Common.{◌∙◌, subst}
+use Rattle.std.proofs.Common.{List, ◌∙◌, subst}
+use Rattle.std.proofs.lemmas.List.{take_all}
+use Rattle.tasks.specs.declared.report.ListenerReport.{ListenerReport}
 use Rattle.std.proofs.lemmas.Result.{err_from_is_err_and}
 use Rattle.std.specs.Io.KnownBytes.{Appends}
+use Rattle.lines.specs.Texts.{numbered}
 use Rattle.lines.specs.Sending.{TakesPart}
 use Rattle.lines.proofs.Taking.{TakesPart-none, TakesPart-numbered, Appends-numbered}
 use Rattle.run_texts.specs.Printed.{listener_line}
@@ -21,3 +24,8 @@ pub loop-l-preserved : goal.loop-l-preserved
 loop-l-preserved g c =
     let text = c.as_bytes.ensures ∙ c.in_ok-put_listener.ensures in
     Appends-numbered (listener_line c.args.i) c.args.reports.now c.loop-l.l c.index-reports-l.result _ _ _ c.loop-l-test.true c.index-reports-l.is c.loop-l.invariant (subst (Appends _ _) text c.in_ok-send.ensures)
+
+pub returns : goal.returns
+returns g c =
+    subst (λ (reports : List (ListenerReport g.row.W.Denot)). Appends (g.O.Write.contents c.args.out.now) (g.O.Write.contents c.loop-l.out) (numbered (listener_line c.args.i) 0 reports))
+    (take_all c.loop-l.l c.args.reports.now c.loop-l-test.false) c.loop-l.invariant
