@@ -42,7 +42,7 @@ fn sources<'r, 'p, R: Files>(
 ) -> Result<Vec<Input<'r, 'p, R>>, AllocError> {
     let mut sources = Vec::with_capacity(alloc, paths.len())?;
     for path in paths {
-        sources.push(Counted::new(Noted::new(LateInput::new(rt, *path))))?;
+        sources.push_reserved(Counted::new(Noted::new(LateInput::new(rt, *path))));
     }
     Ok(sources)
 }
@@ -56,7 +56,7 @@ fn parts<'r, 'p, R: Files>(
 ) -> io::Result<Vec<Part<LateOutput<'r, 'p, R>>>> {
     let mut parts = Vec::with_capacity(alloc, lines.len())?;
     for (line, program) in lines.iter().zip(programs) {
-        parts.push(part_of(rt, alloc, *line, program)?)?;
+        parts.push_reserved(part_of(rt, alloc, *line, program)?);
     }
     Ok(parts)
 }
