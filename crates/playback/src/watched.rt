@@ -196,17 +196,11 @@ impl Watched {
         ensures ok { IfOk result (λ r. Tells self r.0) }
         ensures answers { IfOk result (λ r. option_map (λ a. a.items) r.1 ≡ self.answers) }
     {
+        let held = held_by(alloc, &self.listener)?;
+        let counts = self.listener.counts();
         let Watched {
-            listener,
-            batches,
-            answers,
-            ..
+            batches, answers, ..
         } = self;
-        let counts = listener.counts();
-        let (hold, store) = listener.buffers();
-        let mut held = Vec::with_capacity(alloc, hold.len() + store.len())?;
-        copy(alloc, hold, &mut held)?;
-        copy(alloc, store, &mut held)?;
         let report = Report {
             batches,
             held,
@@ -216,6 +210,17 @@ impl Watched {
         };
         Ok((report, answers))
     }
+}
+
+/// The messages that a listener has and that were not read.
+fn held_by(alloc: Global, listener: &Listener) -> Result<Vec<Message>, AllocError>
+    ensures { IfOk result (λ held. held.items ≡ listener.now.list.pending) }
+{
+    let (hold, store) = listener.buffers();
+    let mut held = Vec::with_capacity(alloc, hold.len() + store.len())?;
+    copy(alloc, hold, &mut held)?;
+    copy(alloc, store, &mut held)?;
+    Ok(held)
 }
 
 /// Copies the messages of a buffer behind those that are there.

@@ -1,6 +1,6 @@
 use Rattle.std.proofs.Common.{ℕ, List, [], map, take, get_or, sym, subst}
 use Rattle.std.specs.Borrow.{Bor}
-use Rattle.std.proofs.lemmas.List.{take-map}
+use Rattle.std.proofs.lemmas.List.{take-map, take_all}
 use Rattle.std.proofs.lemmas.Result.{err_from_is_err_and}
 use Rattle.playback.specs.Playlist.{IsPlaylist, NoHeaderIsRefused}
 use Rattle.playback.proofs.Playlists.{stand-push, one_more, this_one, as_many, refuses_capture}
@@ -29,3 +29,12 @@ loop-n-preserved c =
       packets = c.in_ok-read_next.ensures.packets i.packets;
       stand = subst NoHeaderIsRefused (sym e) (stand-push texts text i.stand c.in_ok-read_next.ensures.stands);
     }
+
+pub returns-clause-ok : goal.returns-clause-ok
+returns-clause-ok c =
+    subst (λ (cs : List (Bor (List ℕ))). IsPlaylist 0 (map (λ r. r.now) cs) c.loop-n.playlist.arrivals.items c.loop-n.playlist.record_fault)
+    (take_all c.loop-n.n c.args.captures.now c.loop-n-test.false) c.loop-n.invariant.so_far
+
+pub returns-clause-stand : goal.returns-clause-stand
+returns-clause-stand c =
+    subst (λ (cs : List (Bor (List ℕ))). NoHeaderIsRefused (map (λ r. r.now) cs)) (take_all c.loop-n.n c.args.captures.now c.loop-n-test.false) c.loop-n.invariant.stand
