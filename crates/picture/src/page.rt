@@ -58,7 +58,7 @@ fn write_escaped<O: Write>(text: &str, out: &mut O) -> io::Result<()> {
 
 fn write_legend<O: Write>(out: &mut O) -> io::Result<()> {
     let mut x: u64 = 10;
-    for (class, words) in LEGEND.iter().copied() {
+    for (class, words) in &LEGEND {
         writeln!(
             out,
             "<rect class=\"{class}\" x=\"{x}\" y=\"14\" width=\"12\" height=\"12\"/><text x=\"{}\" y=\"24\">{words}</text>",
@@ -86,6 +86,15 @@ fn write_head<O: Write>(width: u64, listeners: usize, out: &mut O) -> io::Result
     write_legend(out)
 }
 
+/// What stands for the filter of a listener.
+fn write_filter<O: Write>(filter: &Filter, out: &mut O) -> io::Result<()> {
+    match filter {
+        Filter::Text(text) if text.is_empty() => write!(out, "all packets"),
+        Filter::Text(text) => write_escaped(text, out),
+        Filter::Program(_) => write!(out, "a program"),
+    }
+}
+
 /// What a listener was asked for.
 fn write_asked<O: Write>(l: u32, spec: &Spec, drawn: u64, out: &mut O) -> io::Result<()> {
     let mode = match spec.mode {
@@ -97,19 +106,14 @@ fn write_asked<O: Write>(l: u32, spec: &Spec, drawn: u64, out: &mut O) -> io::Re
         "<text x=\"10\" y=\"14\">listener {l}: two buffers of {} bytes{mode}, at most {} bytes of a packet: ",
         spec.capacity, spec.snap
     )?;
-    match &spec.filter {
-        Filter::Text(text) if text.is_empty() => write!(out, "all packets")?,
-        Filter::Text(text) => write_escaped(text, out)?,
-        Filter::Program(_) => write!(out, "a program")?,
-    }
+    write_filter(&spec.filter, out)?;
     if drawn < spec.capacity as u64 {
         write!(out, " (drawn up to {drawn} bytes)")?;
     }
-    writeln!(out, "</text>")?;
     let (hold, store) = (24 + BARS / 3, 24 + BARS - BARS / 4);
     writeln!(
         out,
-        "<text x=\"10\" y=\"{hold}\">hold</text>\n<text x=\"10\" y=\"{store}\">store</text>"
+        "</text>\n<text x=\"10\" y=\"{hold}\">hold</text>\n<text x=\"10\" y=\"{store}\">store</text>"
     )
 }
 
