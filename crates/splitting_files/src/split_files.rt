@@ -184,7 +184,7 @@ fn split_flushed<R: Source + Drop, W: Write + Drop>(
     parts: Vec<Part<Counted<W>>>,
     order: Order,
     unit: Unit,
-) -> Result<SplitEnd<R, Counted<W>>, AllocError> {
+) -> io::Result<SplitEnd<R, Counted<W>>> {
     let mut end = split(alloc, captures, parts, order, unit)?;
     flush_all(end.parts.as_mut_slice());
     Ok(end)
@@ -200,7 +200,7 @@ fn split_lines<'r, 'p, R: Files>(
 ) -> io::Result<SplitEnd<Input<'r, 'p, R>, LateOutput<'r, 'p, R>>> {
     let parts = parts(rt, alloc, lines, programs)?;
     let captures = sources(rt, alloc, words.inputs.as_slice())?;
-    Ok(split_flushed(alloc, captures, parts, words.order, words.unit)?)
+    split_flushed(alloc, captures, parts, words.order, words.unit)
 }
 
 /// Splits the captures as the lines ask, and prints how many packets each part has.
