@@ -199,7 +199,9 @@ impl Watched {
         let held = held_by(alloc, &self.listener)?;
         let counts = self.listener.counts();
         let Watched {
-            batches, answers, ..
+            batches,
+            answers,
+            ..
         } = self;
         let report = Report {
             batches,

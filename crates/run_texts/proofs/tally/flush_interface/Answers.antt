@@ -5,14 +5,6 @@ use Rattle.run_texts.specs.Flushing.{IsFlushed}
 use Rattle.run_texts.proofs.Flushed.{changed_more, changed_all, length_changed}
 use Rattle.run_texts.proofs.tally.flush_interface.Goals as goal
 
-pub loop-listener-init : goal.loop-listener-init
-loop-listener-init g c = c.deref_mut-listener-items.ensures.value
-
-pub bounds-listener-items-listener-index : goal.bounds-listener-items-listener-index
-bounds-listener-items-listener-index g c =
-    let many = c.loop-listener.auto.listener-items in
-    let inside = c.loop-listener-test.true in omega (arith, many, inside)
-
 pub loop-listener-preserved : goal.loop-listener-preserved
 loop-listener-preserved g c =
     let all = c.args.report.now.listeners.items in
