@@ -223,7 +223,7 @@ BY_TURNS = [
     ("ip dst host 10.0.0.{}", "src host 10.0.0.{}", 4, 15), ("ip dst host 10.0.0.{}", "src host 10.0.0.{}", 30, 41),
     ("tcp port {}", "tcp[2:2] = {}", 30, 44), ("ether proto 0x8{:02}", "ip proto {}", 30, 20), ("ether proto 0x8{:02}", "ip proto {}", 100, 55),
     ("port {}", "portrange {0}-7{0}", 30, 110), ("ether src 0:1:2:3:4:{}", "host 10.0.0.{}", 30, 80),
-    ("ip[8] = {}", "tcp[2:2] = {}", 30, 45), ("ether src {0}:1:2:3:4:{0}", "ether src 0:{0}:{0}:3:4:5", 100, 340),
+    ("ip[8] = {}", "tcp[2:2] = {}", 30, 45), ("ether src {0}:1:2:3:4:{0}", "ether src 0:{0}:{0}:3:4:5", 100, 307),
     ("ether dst {0}:1:2:3:4:{0}", "ether dst 0:{0}:{0}:3:4:5", 30, 94), ("(ip and host 10.0.0.{})", "(ip and host 10.0.1.{})", 30, 67),
     ("(tcp and port {})", "(udp and port {})", 30, 43), ("(tcp and dst port {})", "(tcp and dst port 1{})", 100, 115),
 ]
