@@ -388,7 +388,7 @@ def lists_by_turns_are_asked_kind_by_kind(scene):
 def a_program_is_printed(scene):
     """Instruction by instruction, as it is worked out and as tcpdump has it."""
     compared = [block.split("\n", 1) for block in AS_TCPDUMP.read_text().split("tcpdump ")[1:]]
-    scene.check("expressions that are compared with tcpdump", len(compared), 9)
+    scene.check("expressions that are compared with tcpdump", len(compared), 15)
     for expr, listing in PRINTED + compared:
         scene.expect(["check", "--", expr], out=listing)
 
