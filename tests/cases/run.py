@@ -332,14 +332,8 @@ def threads_that_wait_sleep(scene):
     scene.check("printed", printed, "".join(report((0, out), 1, 1) for out in range(8)))
 
 
-@case
-def threads_that_wait_are_woken(scene):
-    """Who makes something to do wakes the thread that waits for it, a reading one or a writer. A wake-up that is lost costs
-    milliseconds alone, so it is the calls of the system that show it, where `strace` is there."""
-    if shutil.which("strace") is None or subprocess.run(["strace", "-o", os.devnull, "true"], capture_output=True).returncode != 0:
-        return
-    scene.start({"listeners.txt": "0 1 0 1048576 2 out.pcap\n"})
-    os.mkfifo(scene.folder / "fifo")
+def woken_threads(scene):
+    """What a replay prints to which a packet comes now and then, and where its threads were woken again and again."""
     calls = scene.folder / "calls"
     words = ["strace", "-f", "-qq", "-o", calls, "-e", "trace=futex", PROGRAM, "run", "listeners.txt", "fifo"]
     with subprocess.Popen(words, cwd=scene.folder, stdout=subprocess.PIPE) as running:
@@ -349,9 +343,25 @@ def threads_that_wait_are_woken(scene):
                 fifo.write(T)
                 time.sleep(0.03)
         printed = running.communicate(timeout=LIMIT)[0].decode()
-    scene.check("printed", printed, report((0, 0), 40, 40))
     woken = Counter(re.findall(r"futex\((\w+), FUTEX_WAKE", calls.read_text()))
-    scene.check(f"threads that were woken again and again, of {woken}", sum(times >= 5 for times in woken.values()), 2)
+    return printed, [place for place, times in woken.items() if times >= 5]
+
+
+@case
+def threads_that_wait_are_woken(scene):
+    """Who makes something to do wakes the thread that waits for it, a reading one or a writer. A wake-up that is lost costs
+    milliseconds alone, so it is the calls of the system that show it, where `strace` is there. On a processor that others
+    use a thread may find something to do before it waits, so it is tried five times at most."""
+    if shutil.which("strace") is None or subprocess.run(["strace", "-o", os.devnull, "true"], capture_output=True).returncode != 0:
+        return
+    scene.start({"listeners.txt": "0 1 0 1048576 2 out.pcap\n"})
+    os.mkfifo(scene.folder / "fifo")
+    for _ in range(5):
+        printed, places = woken_threads(scene)
+        scene.check("printed", printed, report((0, 0), 40, 40))
+        if len(places) == 2:
+            break
+    scene.check(f"threads that were woken again and again, at {places}", len(places), 2)
 
 
 @case
