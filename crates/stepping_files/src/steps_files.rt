@@ -131,6 +131,67 @@ pub fn play<O: Write, E: TakesHints>(
     }
 }
 
+/// What LISTENERS and SCRIPT ask for, where their lines are accepted.
+fn accepted<E: TakesHints>(
+    alloc: Global,
+    listeners: &[u8],
+    script: &[u8],
+    err: &mut E,
+) -> Result<Asked, u8>
+    ensures { IfErr result (λ status. status ≤ 3) }
+{
+    match read_asked(alloc, listeners, script) {
+        Ok(asked) => Ok(asked),
+        Err(fault) => {
+            let _ = tell_line(fault, err);
+            hint_asked(listeners, script, fault, err);
+            Err(REFUSED)
+        }
+    }
+}
+
+/// Plays the script over the captures, with hints, and draws the picture that is wanted.
+fn play_script<R: Files + AllocGlobal, O: Write, E: TakesHints>(
+    rt: &R,
+    words: &StepsWords<'_>,
+    script: &[u8],
+    asked: &Asked,
+    captures: &[&[u8]],
+    out: &mut O,
+    err: &mut E,
+) -> u8
+    ensures { result ≤ 3 }
+{
+    let alloc = rt.alloc();
+    let status = play(alloc, asked, captures, words.explained, out, err).status;
+    if status != 0 {
+        hint_steps(alloc, script, asked, captures, err);
+    }
+    match words.picture {
+        Some(path) if status != REFUSED => status.max(draw(rt, asked, captures, path, err)),
+        _ => status,
+    }
+}
+
+/// The same over the captures' files, which are read first.
+fn play_files<R: Files + AllocGlobal, O: Write, E: TakesHints>(
+    rt: &R,
+    words: &StepsWords<'_>,
+    script: &[u8],
+    asked: &Asked,
+    out: &mut O,
+    err: &mut E,
+) -> Result<u8, u8>
+    ensures { MatchResult result (λ status. status ≤ 3) (λ status. status ≤ 3) }
+{
+    looked_at(rt, words, err)?;
+    let texts = read_captures(rt, words.inputs.as_slice(), err)?;
+    let Ok(captures) = lent(rt.alloc(), texts.as_slice()) else {
+        return Err(tell_fault(Fault::NoMemory, REFUSED, err));
+    };
+    Ok(play_script(rt, words, script, asked, captures.as_slice(), out, err))
+}
+
 /// Reads LISTENERS and SCRIPT, looks at their lines, reads the captures, and plays the script.
 pub fn steps_files<R: Files + AllocGlobal, O: Write, E: TakesHints>(
     rt: &R,
@@ -140,38 +201,8 @@ pub fn steps_files<R: Files + AllocGlobal, O: Write, E: TakesHints>(
 ) -> Result<u8, u8>
     ensures { MatchResult result (λ status. status ≤ 3) (λ status. status ≤ 3) }
 {
-    let alloc = rt.alloc();
     let listeners = read_file(rt, words.listeners, err)?;
     let script = read_file(rt, words.script, err)?;
-    let asked = match read_asked(alloc, listeners.as_slice(), script.as_slice()) {
-        Ok(asked) => asked,
-        Err(fault) => {
-            let _ = tell_line(fault, err);
-            hint_asked(listeners.as_slice(), script.as_slice(), fault, err);
-            return Err(REFUSED);
-        }
-    };
-    looked_at(rt, words, err)?;
-    let texts = read_captures(rt, words.inputs.as_slice(), err)?;
-    let Ok(captures) = lent(alloc, texts.as_slice()) else {
-        return Err(tell_fault(Fault::NoMemory, REFUSED, err));
-    };
-    let ended = play(
-        alloc,
-        &asked,
-        captures.as_slice(),
-        words.explained,
-        out,
-        err,
-    );
-    let status = ended.status;
-    if status != 0 {
-        hint_steps(alloc, script.as_slice(), &asked, captures.as_slice(), err);
-    }
-    match words.picture {
-        Some(path) if status != REFUSED => {
-            Ok(status.max(draw(rt, &asked, captures.as_slice(), path, err)))
-        }
-        _ => Ok(status),
-    }
+    let asked = accepted(rt.alloc(), listeners.as_slice(), script.as_slice(), err)?;
+    play_files(rt, words, script.as_slice(), &asked, out, err)
 }
