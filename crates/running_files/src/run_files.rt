@@ -2,12 +2,12 @@
 
 ghost use Rattle.std.specs.Prelude.{◌≡◌, ◌<◌, ◌≤◌, All, IfErr, IfOk, MatchResult, length};
 
+use crate::late_files::{LateFiles, OUTPUT_BUFFER, late_files, looked_at};
+use crate::run_hints::{hint_plan, hint_run, hint_unopened};
 use files::reading::read_file;
 use hints::failures::hint_printed;
 use hints::{Noted, TakesHints};
 use lines::telling::{REFUSED, tell_fault};
-use run_paths::late_files::{LateFiles, OUTPUT_BUFFER, late_files, looked_at};
-use run_paths::run_hints::{hint_plan, hint_run, hint_unopened};
 use run_texts::faults::RunFaultText;
 use run_texts::plan::{Plan, read_plan};
 use run_texts::tally::tell_flushed;

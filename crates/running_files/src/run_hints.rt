@@ -16,7 +16,7 @@ use std::io::Write;
 use tasks::{InterfaceEnd, InterfaceReport, ListenerReport, MOST_SPARES, RunFault, TaskEnd};
 
 /// Hints on LISTENERS of `run`, for so many interfaces, that is refused.
-pub fn hint_plan<E: TakesHints>(
+pub(crate) fn hint_plan<E: TakesHints>(
     alloc: Global,
     listeners: &[u8],
     interfaces: usize,
@@ -40,7 +40,7 @@ pub fn hint_plan<E: TakesHints>(
 }
 
 /// Hints on a listener of `run` that is not opened.
-pub fn hint_unopened<E: TakesHints>(
+pub(crate) fn hint_unopened<E: TakesHints>(
     alloc: Global,
     listeners: &[u8],
     interfaces: usize,
@@ -89,7 +89,7 @@ fn hint_sink<W: Write + Drop, E: TakesHints>(
 }
 
 /// Hints on how the interfaces of `run` ended, each of which has these captures.
-pub fn hint_run<R, W: Write + Drop, E: TakesHints>(
+pub(crate) fn hint_run<R, W: Write + Drop, E: TakesHints>(
     inputs: &[Vec<&str>],
     reports: &[InterfaceReport<NotedInput<R>, Output<Noted<W>>>],
     err: &mut E,

@@ -17,7 +17,7 @@ use tasks::RunFault;
 use words::run::RunWords;
 
 /// How many bytes of a capture are gathered before they are written.
-pub const OUTPUT_BUFFER: usize = 1 << 16;
+pub(crate) const OUTPUT_BUFFER: usize = 1 << 16;
 
 /// A capture that is read.
 pub type Input<'r, 'p> = NotedInput<LateInput<'r, 'p, HostRuntime>>;
@@ -87,7 +87,7 @@ fn written_paths<'a>(alloc: Global, plan: &Plan<'a>) -> Result<Vec<&'a str>, All
 }
 
 /// Nothing may be lost: no OUT is a file that is read, the file of another OUT, or the one that the lines are printed to.
-pub fn looked_at<E: TakesHints>(
+pub(crate) fn looked_at<E: TakesHints>(
     files: &HostRuntime,
     alloc: Global,
     words: &RunWords<'_>,
@@ -120,7 +120,7 @@ pub struct LateFiles<'r, 'i, 'o> {
 }
 
 /// The files that are replayed, and those that are written.
-pub fn late_files<'r, 'i, 'o>(
+pub(crate) fn late_files<'r, 'i, 'o>(
     files: &'r HostRuntime,
     alloc: Global,
     words: &RunWords<'i>,
