@@ -85,9 +85,6 @@ fails-inside at code i valid place here is =
     let inside = step-inside code (length code - at) i [] 0 r i.jf r valid here (failing-effect i p r is other) in
     omega (arith, inside, place.1)
 
-pub fails-itself : (choice : ℕ → Bool) (place : ℕ) (code : List Insn) → IsPlace code place → FailsTo choice place place code
-fails-itself choice place code here = record { here = here; leads = λ p r one. refl }
-
 -- one comparison more
 pub fails-next : (choice : ℕ → Bool) (place at : ℕ) (code : List Insn) (i : Insn) → 1 + i.jf < at → slice_get code (length code - at) ≡ Some i → i.code ≡ 0x15 → choice i.k ≡ false → FailsTo choice place at code
     → FailsTo choice place (at - (1 + i.jf)) code
@@ -103,9 +100,6 @@ fails-next choice place at code i inside here is none before =
 
 pub fails-on : (choice : ℕ → Bool) (place at further : ℕ) (code : List Insn) → FailsTo choice place at code → GoesOnAs at further code → FailsTo choice place further code
 fails-on choice place at further code before next = record { here = next.here; leads = λ p r one. next.leads p r ∙ before.leads p r one }
-
-pub goes-on-itself : (place : ℕ) (code : List Insn) → IsPlace code place → GoesOnAs place place code
-goes-on-itself place code here = record { here = here; leads = λ p r. refl }
 
 -- two returns that answer the same
 pub same-returns : (place at : ℕ) (code : List Insn) (i : Insn) (n : ℕ) → IsPlace code at → i ≡ plain_insn 6 n → slice_get code (length code - place) ≡ Some i → slice_get code (length code - at) ≡ Some i → GoesOnAs place at code
@@ -125,9 +119,6 @@ skips-over field choice place behind beyond code passes fails fresh fresh' = rec
       let unchanged : effect p.captured p.wire (load_insn field) r' ≡ Goes 0 r' = load-effect field p r' ∙ ap (loaded Accumulator r') is in
       sym (fresh'.same p r n) ∙ fails.leads p r' one ∙ passes.leads p r' unchanged ∙ fresh.same p r n;
 }
-
-pub skips-itself : (field : Field) (choice : ℕ → Bool) (place : ℕ) (code : List Insn) → IsPlace code place → Skips field choice place place code
-skips-itself field choice place code here = record { here = here; leads = λ p r n is one. refl }
 
 -- A number that is one of some, and behind it a second test, which goes on beyond comparisons of that number with others.
 pub decides-beyond : {k m e f y n beyond : ℕ} {u : Test} (field : Field) (xs : List Span) {exits : Exits} {a b c : List Insn} → AreExits a exits → f ≡ length c

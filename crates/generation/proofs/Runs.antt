@@ -4,7 +4,6 @@ use Rattle.std.proofs.lemmas.Bool.Decides.{nat_tests}
 use Rattle.std.specs.List.{slice_get}
 use Rattle.std.proofs.lemmas.List.{get_or-reverse, length-reverse}
 use Rattle.std.proofs.lemmas.Option.{slice_get-get_or}
-use Rattle.std.proofs.lemmas.Bool.{cases_lt}
 use Rattle.bpfvm.specs.declared.insn.Insn.{Insn}
 use Rattle.bpfvm.specs.Codes.{Accumulator, Index, operation_of}
 use Rattle.bpfvm.specs.Machine.{Registers, Effect, Goes, Ends, loaded, effect, answer, number_at}
@@ -18,6 +17,7 @@ use Rattle.generation.specs.declared.insns.Field.TheVariants as fields
 use Rattle.semantics.specs.Meaning.{Packet}
 use Rattle.generation.specs.Insns.{plain_insn, branch_insn, load_insn}
 use Rattle.generation.specs.Emission.{IsPlace, AreExits, run_from, Answers, Extends, condition, field_of, Passes, GoesOnAt, Nears, Chooses}
+use Rattle.generation.specs.Listed.{GoesOnAs}
 
 -- a run over code goes on behind its first instruction, or ends
 abbrev pub after : List Insn → Packet → Effect → ℕ
@@ -110,35 +110,32 @@ insn-there d place items some within =
     let same : length items - 1 - k ≡ place - 1 = omega arith in
     slice_get-get_or code k d (omega arith) ∙ ap Some (at ∙ ap (λ n. get_or items n d) same)
 
-pub passes-one : (i d : Insn) (place : ℕ) (items : List Insn) → 1 < place → place ≤ length items → get_or items (place - 1) d ≡ i → Passes i place (place - 1) (reverse items)
-passes-one i d place items behind' within is =
-    let code = reverse items in
-    let l : length code ≡ length items = length-reverse items in
-    let k = length code - place in
-    let here : slice_get code k ≡ Some i = insn-there d place items (omega arith) within ∙ ap Some is in
-    let next : length code - (place - 1) ≡ suc k = omega arith in
+pub passes-one : (i : Insn) (place : ℕ) (code : List Insn) → 1 < place → place ≤ length code → slice_get code (length code - place) ≡ Some i → Passes i place (place - 1) code
+passes-one i place code behind' within here =
+    let next : length code - (place - 1) ≡ suc (length code - place) = omega arith in
     record {
       here = (omega arith, omega arith);
-      leads = λ p r unchanged. ap (λ n. answer code p.captured p.wire n r) next ∙ passing code k i p r here unchanged;
+      leads = λ p r unchanged. ap (λ n. answer code p.captured p.wire n r) next ∙ passing code (length code - place) i p r here unchanged;
     }
 
-pub near-itself : (place reach : ℕ) (code : List Insn) → IsPlace code place → length code - place ≤ reach → Nears place reach place code code
-near-itself place reach code here reached = record {
+pub near-found : (place reach found : ℕ) (code : List Insn) → length code - found ≤ reach → GoesOnAs place found code → Nears place reach found code code
+near-found place reach found code reached goes = record {
   extends = extends-more 1 (omega arith) (extends-none code);
-  here = here;
+  here = goes.here;
   reached = reached;
   kept = λ within. refl;
-  moved = λ far. absurd (omega arith);
-  leads = λ p r. refl;
+  moved = inl refl;
+  leads = goes.leads;
 }
 
-pub near-leading : (i : Insn) (place reach : ℕ) (code : List Insn) → IsPlace code place → reach < length code - place → GoesOnAt i place code → Nears place reach (suc (length code)) code (i ∷ code)
-near-leading i place reach code here far leading = record {
+pub near-leading : (i : Insn) (place found reach : ℕ) (code : List Insn) → IsPlace code place → reach < length code - found → (length code - place ≤ reach → found ≡ place) → GoesOnAt i place code
+    → Nears place reach (suc (length code)) code (i ∷ code)
+near-leading i place found reach code here far same leading = record {
   extends = extends-one i code;
   here = (omega arith, omega arith);
   reached = omega arith;
-  kept = λ within. absurd (omega arith);
-  moved = λ far'. refl;
+  kept = λ within. absurd (omega (arith, same within));
+  moved = inr refl;
   leads = λ p r. front-place (i ∷ code) p r ∙ leading.leads p r;
 }
 
@@ -160,11 +157,9 @@ ending (j ∷ rest) zero i n p r here is =
 ending (j ∷ rest) (suc k) i n p r here is = ending rest k i n p r here is
 
 -- the return at a place, in front of the code
-pub return-leads : (d : Insn) (n place : ℕ) (items : List Insn) (p : Packet) (r : Registers) → 0 < place → place ≤ length items → get_or items (place - 1) d ≡ plain_insn 6 n
-    → answer (plain_insn 6 n ∷ reverse items) p.captured p.wire 0 r ≡ run_from (reverse items) place p r
-return-leads d n place items p r some within is =
-    let code = reverse items in
-    let here : slice_get code (length code - place) ≡ Some (plain_insn 6 n) = insn-there d place items some within ∙ ap Some is in
+pub return-leads : (n place : ℕ) (code : List Insn) (p : Packet) (r : Registers) → slice_get code (length code - place) ≡ Some (plain_insn 6 n)
+    → answer (plain_insn 6 n ∷ code) p.captured p.wire 0 r ≡ run_from code place p r
+return-leads n place code p r here =
     answer-first _ code p r (Ends n) (return-effect n p r) ∙ sym (ending code (length code - place) (plain_insn 6 n) n p r here (return-effect n p r))
 
 pub load-effect : (f : Field) (p : Packet) (r : Registers) → effect p.captured p.wire (load_insn f) r ≡ loaded Accumulator r (field_of f p)
@@ -193,15 +188,13 @@ branch-effect jumps.AnyBit operands.Index jt jf p r = refl
 pub reach-kept : (exits : Exits) (reach no' yes' : ℕ) (a b c : List Insn) → Nears exits.no reach no' a b → Nears exits.yes 255 yes' b c
     → (reach ≡ 254) ⊎ ((reach ≡ 255) × (length a - exits.yes ≤ 255)) → length c - no' ≤ 255
 reach-kept exits reach no' yes' a b c first second (inl is) = omega (arith, first.reached, second.extends.within)
-reach-kept exits reach no' yes' a b c first second (inr (is, near)) = by_place (cases_lt reach (length a - exits.no))
+reach-kept exits reach no' yes' a b c first second (inr (is, near)) = by_move first.moved
   where
-    by_place : (reach < length a - exits.no) ⊎ (length a - exits.no ≤ reach) → length c - no' ≤ 255
-    by_place (inl far) = omega (arith, first.moved far, second.extends.within)
-    by_place (inr within) =
-        let same = ap length (first.kept within) in
-        let near' : length b - exits.yes ≤ 255 = omega arith in
-        let same' = ap length (second.kept near') in
-        omega (arith, first.reached)
+    by_move : (b ≡ a) ⊎ (no' ≡ length b) → length c - no' ≤ 255
+    by_move (inl same) =
+        let near' : length b - exits.yes ≤ 255 = omega (arith, near, ap length same) in
+        omega (arith, first.reached, is, ap length (second.kept near'))
+    by_move (inr front) = omega (arith, front, second.extends.within)
 
 -- a choice between two distances is one between two places
 choice-of : (b : Bool) (code : List Insn) (p : Packet) (r : Registers) (m n : ℕ) → answer code p.captured p.wire (if b then length code - m else length code - n) r ≡ (if b then run_from code m p r else run_from code n p r)

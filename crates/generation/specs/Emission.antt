@@ -1,5 +1,5 @@
 -- What code that is written from its end does. Private clauses alone say this.
-use Rattle.std.specs.Prelude.{◌≡◌, ℕ, ◌+◌, ◌-◌, ◌<◌, ◌≤◌, List, ◌∷◌, length, Bool, Option, Some, None, if◌then◌else◌, slice_index, Result, MatchResult}
+use Rattle.std.specs.Prelude.{◌≡◌, ℕ, ◌+◌, ◌-◌, ◌<◌, ◌≤◌, List, ◌∷◌, length, Bool, Option, Some, None, if◌then◌else◌, slice_index, Result, MatchResult, ◌⊎◌}
 use Rattle.bpfvm.specs.declared.insn.Insn.{Insn}
 use Rattle.bpfvm.specs.Codes.{Register, Comparison, Equal, Greater, GreaterOrEqual, AnyBit}
 use Rattle.bpfvm.specs.Validity.{fault_of}
@@ -58,7 +58,7 @@ pub record Nears (place reach near : ℕ) (old new : List Insn) : Type 0 where
   pub here : IsPlace new near
   pub reached : length new - near ≤ reach
   pub kept : length old - place ≤ reach → new ≡ old
-  pub moved : reach < length old - place → near ≡ length new
+  pub moved : (new ≡ old) ⊎ (near ≡ length new)
   pub leads : (p : Packet) (r : Registers) → run_from new near p r ≡ run_from old place p r
 
 -- a place from which a run in which the instruction would change nothing goes on as from the place

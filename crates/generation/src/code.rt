@@ -118,24 +118,23 @@ impl Code {
         requires { IsPlace self.now place }
         ensures { GoesOnAt result place self.now }
     {
-        let found = self.insns.as_slice()[place - 1];
-        let end = plain_insn(code::RET_K, found.k);
-        if found == end {
-            end
+        let insn = self.insn_at(place);
+        if insn == plain_insn(code::RET_K, insn.k) {
+            insn
         } else {
             plain_insn(code::JA, (self.len() - place) as u32)
         }
     }
 
-    /// The place, or one that goes on there, where the place is farther than reach.
+    /// The place, or where it is farther than reach one that goes on there: a copy of the return, or else a new instruction.
     pub fn near(&mut self, place: usize, reach: usize) -> usize
         requires room { length self.old < 512 }
         requires place { IsPlace self.old place }
         ensures { Nears place reach result self.old self.new }
     {
-        let distance = self.len() - place;
-        if distance <= reach {
-            place
+        let found = self.nearest(place, reach);
+        if self.len() - found <= reach {
+            found
         } else {
             let insn = self.leading(place);
             self.push(insn);
@@ -186,8 +185,7 @@ impl Code {
         requires { IsPlace self.now place }
         ensures { Passes insn place result self.now }
     {
-        let found = self.insns.as_slice()[place - 1];
-        if place > 1 && found == insn {
+        if place > 1 && self.insn_at(place) == insn {
             place - 1
         } else {
             place
@@ -242,14 +240,15 @@ impl Code {
         }
     }
 
-    /// The place, or where it is a return that is out of reach, the nearest one that answers the same.
-    fn nearest(&self, place: usize) -> usize
+    /// The place, or where it is a return that is farther than reach, the nearest one that answers the same.
+    fn nearest(&self, place: usize, reach: usize) -> usize
         requires { IsPlace self.now place }
-        ensures { GoesOnAs place result self.now }
+        ensures leads { GoesOnAs place result self.now }
+        ensures within { length self.now - place ≤ reach → result ≡ place }
     {
         let wanted = self.insn_at(place);
         let mut found = place;
-        if self.len() - place >= REACH && wanted == plain_insn(code::RET_K, wanted.k) {
+        if self.len() - place > reach && wanted == plain_insn(code::RET_K, wanted.k) {
             for at in place..self.len() + 1 {
                 if self.insn_at(at) == wanted {
                     found = at;
@@ -273,7 +272,7 @@ impl Code {
     {
         let behind = self.passed(load_insn(field), place);
         let others = self.behind_others(spans, behind);
-        let beyond = self.nearest(others);
+        let beyond = self.nearest(others, REACH - 1);
         if self.is_near(beyond) && self.is_fresh(place) && self.is_fresh(beyond) {
             beyond
         } else {
