@@ -211,7 +211,7 @@ SIZES = [
     ("net ", "10.0.", 30, 115), ("port ", "", 200, 420), ("tcp port ", "", 200, 420), ("ip proto ", "", 100, 115),
     ("", "ip[8] = ", 100, 110), ("ether src ", "0:1:2:3:4:", 100, 115), ("ether dst ", "0:1:2:3:4:", 100, 115),
     ("ether host ", "0:1:2:3:4:", 100, 220), ("net ", "10.0.", 100, 325), ("dst port ", "", 100, 115),
-    ("ether proto ", "0x90", 100, 115), ("", "portrange 10-10", 100, 425),
+    ("ether proto ", "0x90", 100, 115), ("", "portrange 10-10", 100, 425), ("dst port ", "", 480, 494), ("", "tcp[4:4] = ", 400, 412),
 ]
 
 # Two members by turns, each for as many numbers, how many they are together, and how many instructions they take.
