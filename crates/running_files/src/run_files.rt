@@ -74,6 +74,57 @@ impl NamesFiles for HostRuntime {
     }
 }
 
+/// Replays the captures, and prints and tells what became of them, with hints.
+fn replayed<R: Threads + Wait + Sync + AllocGlobal, O: Write, E: TakesHints>(
+    rt: &R,
+    words: &RunWords<'_>,
+    listeners: &[u8],
+    late: LateFiles<'_, '_, '_>,
+    out: &mut O,
+    err: &mut E,
+) -> Result<u8, u8>
+    ensures { MatchResult result (λ status. status ≤ 3) (λ status. status ≤ 3) }
+{
+    let alloc = rt.alloc();
+    let LateFiles {
+        plan,
+        captures,
+        sinks,
+    } = late;
+    match replay_plan(rt, alloc, plan, captures, sinks) {
+        Ok(mut reports) => {
+            let ended = tell_flushed(reports.as_mut_slice(), out, err);
+            hint_run(words.inputs.as_slice(), reports.as_slice(), err);
+            Ok(ended.status)
+        }
+        Err(fault) => {
+            let ended = refuse(RunFaultText(fault), err);
+            hint_unopened(alloc, listeners, words.inputs.len(), fault, err);
+            Err(ended.status)
+        }
+    }
+}
+
+/// The same, printed behind a buffer.
+fn replayed_printed<R: Threads + Wait + Sync + AllocGlobal, O: Write, E: TakesHints>(
+    rt: &R,
+    words: &RunWords<'_>,
+    listeners: &[u8],
+    late: LateFiles<'_, '_, '_>,
+    out: &mut O,
+    err: &mut E,
+) -> Result<u8, u8>
+    ensures { MatchResult result (λ status. status ≤ 3) (λ status. status ≤ 3) }
+{
+    let noted = Noted::new(&mut *out);
+    let Ok(mut out) = BufWriter::with_capacity(rt.alloc(), OUTPUT_BUFFER, noted) else {
+        return Err(tell_fault(Fault::NoMemory, REFUSED, err));
+    };
+    let status = replayed(rt, words, listeners, late, &mut out, err);
+    hint_printed(out.get_ref(), err);
+    status
+}
+
 /// Reads LISTENERS, and replays the captures.
 pub fn run_files<
     R: Files + AllocGlobal + NamesFiles + Threads + Wait + Sync,
@@ -82,28 +133,7 @@ pub fn run_files<
 >(rt: &R, words: &RunWords<'_>, out: &mut O, err: &mut E) -> Result<u8, u8>
     ensures { MatchResult result (λ status. status ≤ 3) (λ status. status ≤ 3) }
 {
-    let alloc = rt.alloc();
     let listeners = read_file(rt, words.listeners, err)?;
-    let LateFiles {
-        plan,
-        captures,
-        sinks,
-    } = rt.named_files(alloc, words, listeners.as_slice(), err)?;
-    let noted = Noted::new(&mut *out);
-    let Ok(mut out) = BufWriter::with_capacity(alloc, OUTPUT_BUFFER, noted) else {
-        return Err(tell_fault(Fault::NoMemory, REFUSED, err));
-    };
-    match replay_plan(rt, alloc, plan, captures, sinks) {
-        Ok(mut reports) => {
-            let ended = tell_flushed(reports.as_mut_slice(), &mut out, err);
-            hint_run(words.inputs.as_slice(), reports.as_slice(), err);
-            hint_printed(out.get_ref(), err);
-            Ok(ended.status)
-        }
-        Err(fault) => {
-            let ended = refuse(RunFaultText(fault), err);
-            hint_unopened(alloc, listeners.as_slice(), words.inputs.len(), fault, err);
-            Err(ended.status)
-        }
-    }
+    let late = rt.named_files(rt.alloc(), words, listeners.as_slice(), err)?;
+    replayed_printed(rt, words, listeners.as_slice(), late, out, err)
 }
