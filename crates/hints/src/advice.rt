@@ -70,29 +70,26 @@ impl Display for Advice<'_> {
     }
 }
 
-/// Whether a byte belongs to a word or a name, as a reader takes it.
-fn is_of_word(byte: u8) -> bool {
-    byte.is_ascii_alphanumeric() || byte == b'.' || byte == b'-' || byte == b'_'
+/// Whether a byte belongs to no word and no name, as a reader takes it.
+fn is_outside_words(byte: &u8) -> bool {
+    !byte.is_ascii_alphanumeric() && *byte != b'.' && *byte != b'-' && *byte != b'_'
 }
 
-/// Whether a byte separates tokens.
-fn is_blank(byte: u8) -> bool {
-    byte == b' ' || byte == b'\t' || byte == b'\r' || byte == b'\n'
+/// Whether a byte is more than what separates tokens.
+fn is_no_blank(byte: &u8) -> bool {
+    *byte != b' ' && *byte != b'\t' && *byte != b'\r' && *byte != b'\n'
 }
 
 /// The word or the name at the front of a text.
 fn first_word(text: &[u8]) -> &[u8] {
-    let end = text
-        .iter()
-        .position(|byte| !is_of_word(*byte))
-        .unwrap_or(text.len());
+    let end = text.iter().position(is_outside_words).unwrap_or(text.len());
     &text[..end]
 }
 
 /// The word or the name at the end of a text, the blanks behind it left out.
 fn last_word(text: &[u8]) -> &[u8] {
     let text = without_blanks(text);
-    let start = match text.iter().rposition(|byte| !is_of_word(*byte)) {
+    let start = match text.iter().rposition(is_outside_words) {
         Some(before) => before + 1,
         None => 0,
     };
@@ -101,7 +98,7 @@ fn last_word(text: &[u8]) -> &[u8] {
 
 /// A text without the blanks at its end.
 fn without_blanks(text: &[u8]) -> &[u8] {
-    match text.iter().rposition(|byte| !is_blank(*byte)) {
+    match text.iter().rposition(is_no_blank) {
         Some(last) => &text[..last + 1],
         None => &[],
     }
@@ -109,7 +106,12 @@ fn without_blanks(text: &[u8]) -> &[u8] {
 
 /// What a table has beside a word.
 fn beside(table: &[(&[u8], &'static str)], word: &[u8]) -> Option<&'static str> {
-    table.iter().find(|pair| pair.0 == word).map(|pair| pair.1)
+    for (known, said) in table {
+        if *known == word {
+            return Some(*said);
+        }
+    }
+    None
 }
 
 /// What helps at the second word of a flag that the language has not.
@@ -278,32 +280,27 @@ pub(crate) fn advice_on(text: &[u8], fault: Fault) -> Option<Advice<'_>> {
             Some(of_syntax(before, rest))
         }
         Fault::NoQualifier(place) => Some(of_no_qualifier(&text[..place.min(text.len())])),
-        _ => sentence(fault).map(|said| Advice::Said(said)),
+        _ => sentence(fault),
     }
 }
 
 /// The sentence of a fault for which it is always the same.
-fn sentence(fault: Fault) -> Option<&'static str> {
-    match fault {
-        Fault::TextTooLong => Some(
+fn sentence(fault: Fault) -> Option<Advice<'static>> {
+    let said = match fault {
+        Fault::TextTooLong =>
             "an expression has at most 8192 bytes: cut it into parts, with a `bpftap cut` for each",
-        ),
-        Fault::BadQualifier(_) => Some(
+        Fault::BadQualifier(_) =>
             "these words do not go together: `host 192.0.2.1 and tcp`, not `tcp host 192.0.2.1`",
-        ),
-        Fault::BadIdentifier(_) => Some(
+        Fault::BadIdentifier(_) =>
             "`host` takes a whole address, `net` a beginning of one, `port` and `proto` a number",
-        ),
-        Fault::NetBits(_) => Some(
+        Fault::NetBits(_) =>
             "a net's address has no bits outside its mask: `net 10.0.0.0/8`, and `host 10.0.0.1` for one host",
-        ),
-        Fault::OutOfRange(_) => Some(
+        Fault::OutOfRange(_) =>
             "ports are 0 to 65535, protocols 0 to 255, `ether proto` 1501 to 65535, masks 0 to 32, sizes 1, 2 or 4",
-        ),
-        Fault::DivideByZero(_) => Some("a divisor is not written as 0"),
-        Fault::TooNested(_) => Some(
+        Fault::DivideByZero(_) => "a divisor is not written as 0",
+        Fault::TooNested(_) =>
             "at most 64 of `(`, `[`, `not` and `-` are open at once: take parentheses away",
-        ),
-        _ => None,
-    }
+        _ => return None,
+    };
+    Some(Advice::Said(said))
 }

@@ -41,10 +41,12 @@ static OTHER_FORMATS: [(&[u8], &str); 8] = [
 
 /// What a file is that begins with some bytes, and what is done with it.
 fn other_format(first: &[u8]) -> Option<&'static str> {
-    OTHER_FORMATS
-        .iter()
-        .find(|format| first.starts_with(format.0))
-        .map(|format| format.1)
+    for (beginning, format) in OTHER_FORMATS.iter() {
+        if first.starts_with(*beginning) {
+            return Some(*format);
+        }
+    }
+    None
 }
 
 /// Bytes as hexadecimal numbers, the first four of them.

@@ -38,7 +38,8 @@ fn is_lexed(alloc: Global, word: &str) -> Option<bool> {
 }
 
 /// Whether a word begins with a word of the filter language.
-fn begins_expression(word: &str) -> bool {
+fn begins_expression<S: AsStr>(word: &S) -> bool {
+    let word = word.as_str();
     match word.split_once(' ') {
         Some((first, _)) => is_word(first),
         None => is_word(word),
@@ -48,9 +49,7 @@ fn begins_expression(word: &str) -> bool {
 /// The words of a command line that look like an expression: from one on that begins with a word of the filter language, all that
 /// are of its tokens. Where memory is wanting there are none, since some of them may be another expression.
 fn expression_in<S: AsStr>(alloc: Global, words: &[S]) -> Option<&[S]> {
-    let start = words
-        .iter()
-        .position(|word| begins_expression(word.as_str()))?;
+    let start = words.iter().position(begins_expression)?;
     let rest = &words[start..];
     for (place, word) in rest.iter().enumerate() {
         if !is_lexed(alloc, word.as_str())? {
@@ -67,10 +66,15 @@ fn gives_filter(word: &str) -> bool {
 
 /// Whether these are words of a command that takes an expression behind an option, and give it no filter.
 fn lacks_option<S: AsStr>(words: &[S]) -> bool {
-    let takes_one = words
-        .iter()
-        .any(|word| matches!(word.as_str(), "explain" | "cut"));
-    takes_one && !words.iter().any(|word| gives_filter(word.as_str()))
+    let mut takes_one = false;
+    for word in words {
+        let word = word.as_str();
+        if gives_filter(word) {
+            return false;
+        }
+        takes_one = takes_one || word == "explain" || word == "cut";
+    }
+    takes_one
 }
 
 /// A hint on words that are refused: where they look like an expression without quotes, or without an option before it, how it is
