@@ -190,9 +190,9 @@ fn request_of<'a>(
     words: &ArgMatches<'a>,
 ) -> Result<Option<Request<'a>>, AllocError> {
     match name {
-        "steps" => Ok(steps_words(alloc, words)?.map(|words| Request::Steps(words))),
-        "run" => Ok(run_words(alloc, words)?.map(|words| Request::Run(words))),
-        "split" => Ok(split_words(alloc, words)?.map(|words| Request::Split(words))),
+        "steps" => Ok(steps_words(alloc, words)?.map(Request::Steps)),
+        "run" => Ok(run_words(alloc, words)?.map(Request::Run)),
+        "split" => Ok(split_words(alloc, words)?.map(Request::Split)),
         _ => Ok(single_request_of(name, words)),
     }
 }

@@ -58,10 +58,15 @@ pub fn run_command<'a>(alloc: Global) -> Result<Command<'a>, AllocError> {
     )
 }
 
+/// Whether the captures of the next interface begin behind a word.
+fn is_next_interface(word: &&str) -> bool {
+    *word == NEXT_INTERFACE
+}
+
 /// The paths of each interface.
 fn by_interface<'a>(alloc: Global, words: &[&'a str]) -> Result<Vec<Vec<&'a str>>, AllocError> {
     let mut interfaces = Vec::new(alloc);
-    for paths in words.split(|word| *word == NEXT_INTERFACE) {
+    for paths in words.split(is_next_interface) {
         interfaces.push(Vec::from_slice(alloc, paths)?)?;
     }
     Ok(interfaces)
