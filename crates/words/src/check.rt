@@ -7,7 +7,7 @@ use lines::fields::snapshot_length;
 use std::alloc::{AllocError, Global};
 
 /// What one call of `bpftap check` asks for.
-#[derive(Clone, Copy, Debug)]
+#[derive(Clone, Copy)]
 pub struct CheckWords<'a> {
     /// The expression, where no listing is given.
     pub expr: Option<&'a str>,

@@ -14,7 +14,7 @@ use std::alloc::{AllocError, Global};
 use std::convert::AsStr;
 
 /// What one call of `bpftap cut` asks for.
-#[derive(Clone, Copy, Debug)]
+#[derive(Clone, Copy)]
 pub struct CutWords<'a> {
     /// The snapshot length, 1 to [`lines::MAX_SNAP`].
     pub snap: u32,

@@ -7,7 +7,7 @@ use lines::fields::snapshot_length;
 use std::alloc::{AllocError, Global};
 
 /// What one call of `bpftap explain` asks for.
-#[derive(Clone, Copy, Debug)]
+#[derive(Clone, Copy)]
 pub struct ExplainWords<'a> {
     /// The snapshot length of an expression's program, 1 to [`lines::MAX_SNAP`].
     pub snap: u32,
