@@ -74,15 +74,14 @@ pub(crate) fn begin_all<W: Sink + Drop>(
     parts: Vec<Part<W>>,
     order: Order,
     unit: Unit,
-    mut outlets: Vec<Outlet<W>>,
-) -> Vec<Outlet<W>>
-    requires room { (length outlets.items ≡ 0) × (length parts.items ≤ vec_capacity outlets) }
-    ensures { AllZip (HasTaken W.taken W.failures order unit []) parts.items result.items }
+    outlets: &mut Vec<Outlet<W>>,
+)
+    requires room { (length outlets.old.items ≡ 0) × (length parts.items ≤ vec_capacity outlets.old) }
+    ensures { AllZip (HasTaken W.taken W.failures order unit []) parts.items outlets.new.items }
 {
     for part in parts {
         outlets.push_reserved(begin(part, order, unit));
     }
-    outlets
 }
 
 /// Gives a packet to a part, unless that has failed.
@@ -157,10 +156,10 @@ pub(crate) fn close_all<W: Sink + Drop>(
 /// The ends of parts that were not begun.
 pub(crate) fn leave_all<W: Sink + Drop>(
     parts: Vec<Part<W>>,
-    mut ends: Vec<PartEnd<W>>,
-) -> Vec<PartEnd<W>>
-    requires room { (length ends.items ≡ 0) × (length parts.items ≤ vec_capacity ends) }
-    ensures { AllZip IsLeft parts.items result.items }
+    ends: &mut Vec<PartEnd<W>>,
+)
+    requires room { (length ends.old.items ≡ 0) × (length parts.items ≤ vec_capacity ends.old) }
+    ensures { AllZip IsLeft parts.items ends.new.items }
 {
     for part in parts {
         ends.push_reserved(PartEnd {
@@ -170,5 +169,4 @@ pub(crate) fn leave_all<W: Sink + Drop>(
             written: Ok(()),
         });
     }
-    ends
 }

@@ -183,6 +183,34 @@ fn room_for<R: Drop, W: Drop>(
     })
 }
 
+/// Splits the first capture, whose header was read, and the others.
+fn split_opened<R: Source + Drop, W: Sink + Drop>(
+    alloc: Global,
+    reader: Reader<R>,
+    others: Vec<R>,
+    mut splitter: Splitter<W>,
+    mut sources: Vec<R>,
+    ends: Vec<PartEnd<W>>,
+) -> SplitEnd<R, W>
+    requires opened { (first : R) × HasOpened R.left R.failures first reader }
+    requires begun { (order : Order) × (unit : Unit) × (parts : List (Part W)) × HasSplit W.taken W.failures order unit [] parts splitter
+        × (length parts ≤ vec_capacity ends) }
+    requires sources { (sources.items ≡ []) × (length others.items + 1 ≤ vec_capacity sources) }
+    requires ends { length ends.items ≡ 0 }
+    ensures { (first : R) (order : Order) (unit : Unit) (parts : List (Part W)) → HasOpened R.left R.failures first reader →
+        HasSplit W.taken W.failures order unit [] parts splitter →
+        Splits R.left R.failures W.taken W.failures (first ∷ others.items) parts order unit result }
+{
+    let (source, end) = splitter.give_opened(0, reader);
+    sources.push_reserved(source);
+    let (sources, end) = splitter.give_captures(alloc, others, sources, end);
+    SplitEnd {
+        sources,
+        parts: close_all(splitter.outlets, ends),
+        end,
+    }
+}
+
 /// Splits the first capture and the others.
 fn split_first<R: Source + Drop, W: Sink + Drop>(
     alloc: Global,
@@ -200,29 +228,21 @@ fn split_first<R: Source + Drop, W: Sink + Drop>(
 {
     let Room {
         mut sources,
-        outlets,
-        ends,
+        mut outlets,
+        mut ends,
     } = room;
     match Reader::open(alloc, first) {
         Ok(reader) => {
-            let mut splitter = Splitter {
-                outlets: begin_all(parts, order, unit, outlets),
-                read: 0,
-            };
-            let (source, end) = splitter.give_opened(0, reader);
-            sources.push_reserved(source);
-            let (sources, end) = splitter.give_captures(alloc, others, sources, end);
-            SplitEnd {
-                sources,
-                parts: close_all(splitter.outlets, ends),
-                end,
-            }
+            begin_all(parts, order, unit, &mut outlets);
+            let splitter = Splitter { outlets, read: 0 };
+            split_opened(alloc, reader, others, splitter, sources, ends)
         }
         Err((source, fault)) => {
             sources.push_reserved(source);
+            leave_all(parts, &mut ends);
             SplitEnd {
                 sources: leave_captures(others, sources),
-                parts: leave_all(parts, ends),
+                parts: ends,
                 end: Err(Stop::AtHeader(0, fault)),
             }
         }
@@ -251,11 +271,12 @@ pub fn split<R: Source + Drop, W: Sink + Drop>(
 ) -> Result<SplitEnd<R, W>, AllocError>
     ensures { IfOk result (λ end. Splits R.left R.failures W.taken W.failures captures.items parts.items order unit end) }
 {
-    let room = room_for(alloc, captures.len(), parts.len())?;
+    let mut room = room_for(alloc, captures.len(), parts.len())?;
     if captures.is_empty() {
+        leave_all(parts, &mut room.ends);
         return Ok(SplitEnd {
             sources: room.sources,
-            parts: leave_all(parts, room.ends),
+            parts: room.ends,
             end: Ok(()),
         });
     }

@@ -7,7 +7,7 @@ use Rattle.splitting.proofs.split.split.Goals as goal
 
 pub returns-then-is_empty : goal.returns-then-is_empty
 returns-then-is_empty g c =
-    no-capture g.R.Source.left g.R.Source.failures g.W.Sink.taken g.W.Sink.failures c.args.captures.items c.args.parts.items c.args.order c.args.unit c.in_ok-room.room.sources c.leave_all.result
+    no-capture g.R.Source.left g.R.Source.failures g.W.Sink.taken g.W.Sink.failures c.args.captures.items c.args.parts.items c.args.order c.args.unit c.in_ok-room.room.sources c.leave_all.new.ends
     (none-there c.args.captures.items (let none = eqb-true (vec_len c.args.captures) 0 (sym c.is_empty.ensures ∙ c.if-is_empty.true) in omega (arith, none, c.args.captures.ok))) (none-there c.in_ok-room.room.sources.items (search rules)) c.leave_all.ensures
 
 pub returns : goal.returns
