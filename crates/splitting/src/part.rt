@@ -154,10 +154,7 @@ pub(crate) fn close_all<W: Sink + Drop>(
 }
 
 /// The ends of parts that were not begun.
-pub(crate) fn leave_all<W: Sink + Drop>(
-    parts: Vec<Part<W>>,
-    ends: &mut Vec<PartEnd<W>>,
-)
+pub(crate) fn leave_all<W: Sink + Drop>(parts: Vec<Part<W>>, ends: &mut Vec<PartEnd<W>>)
     requires room { (length ends.old.items ≡ 0) × (length parts.items ≤ vec_capacity ends.old) }
     ensures { AllZip IsLeft parts.items ends.new.items }
 {
