@@ -207,11 +207,11 @@ LISTS = [
 
 # The words before a list, what stands before the number of each member, how many members, and how many instructions they take.
 SIZES = [
-    ("host ", "10.0.0.", 100, 320), ("src host ", "10.0.0.", 100, 115), ("dst net ", "10.0.", 100, 115),
-    ("net ", "10.0.", 30, 115), ("port ", "", 200, 420), ("tcp port ", "", 200, 420), ("ip proto ", "", 100, 115),
+    ("host ", "10.0.0.", 100, 315), ("src host ", "10.0.0.", 100, 115), ("dst net ", "10.0.", 100, 115),
+    ("net ", "10.0.", 30, 107), ("port ", "", 200, 416), ("tcp port ", "", 200, 414), ("ip proto ", "", 100, 115),
     ("", "ip[8] = ", 100, 110), ("ether src ", "0:1:2:3:4:", 100, 115), ("ether dst ", "0:1:2:3:4:", 100, 115),
-    ("ether host ", "0:1:2:3:4:", 100, 220), ("net ", "10.0.", 100, 325), ("dst port ", "", 100, 115),
-    ("ether proto ", "0x90", 100, 115), ("", "portrange 10-10", 100, 425), ("dst port ", "", 480, 494), ("", "tcp[4:4] = ", 400, 412),
+    ("ether host ", "0:1:2:3:4:", 100, 220), ("net ", "10.0.", 100, 319), ("dst port ", "", 100, 115),
+    ("ether proto ", "0x90", 100, 115), ("", "portrange 10-10", 100, 416), ("dst port ", "", 480, 494), ("", "tcp[4:4] = ", 400, 412),
 ]
 
 # Two members by turns, each for as many numbers, how many they are together, and how many instructions they take.

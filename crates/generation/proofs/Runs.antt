@@ -124,7 +124,7 @@ near-found place reach found code reached goes = record {
   here = goes.here;
   reached = reached;
   kept = λ within. refl;
-  moved = inl refl;
+  stands = inl refl;
   leads = goes.leads;
 }
 
@@ -135,7 +135,7 @@ near-leading i place found reach code here far same leading = record {
   here = (omega arith, omega arith);
   reached = omega arith;
   kept = λ within. absurd (omega (arith, same within));
-  moved = inr refl;
+  stands = inr refl;
   leads = λ p r. front-place (i ∷ code) p r ∙ leading.leads p r;
 }
 
@@ -188,13 +188,13 @@ branch-effect jumps.AnyBit operands.Index jt jf p r = refl
 pub reach-kept : (exits : Exits) (reach no' yes' : ℕ) (a b c : List Insn) → Nears exits.no reach no' a b → Nears exits.yes 255 yes' b c
     → (reach ≡ 254) ⊎ ((reach ≡ 255) × (length a - exits.yes ≤ 255)) → length c - no' ≤ 255
 reach-kept exits reach no' yes' a b c first second (inl is) = omega (arith, first.reached, second.extends.within)
-reach-kept exits reach no' yes' a b c first second (inr (is, near)) = by_move first.moved
+reach-kept exits reach no' yes' a b c first second (inr (is, near)) = by_place first.stands
   where
-    by_move : (b ≡ a) ⊎ (no' ≡ length b) → length c - no' ≤ 255
-    by_move (inl same) =
+    by_place : (b ≡ a) ⊎ (no' ≡ length b) → length c - no' ≤ 255
+    by_place (inl same) =
         let near' : length b - exits.yes ≤ 255 = omega (arith, near, ap length same) in
         omega (arith, first.reached, is, ap length (second.kept near'))
-    by_move (inr front) = omega (arith, front, second.extends.within)
+    by_place (inr front) = omega (arith, front, second.extends.within)
 
 -- a choice between two distances is one between two places
 choice-of : (b : Bool) (code : List Insn) (p : Packet) (r : Registers) (m n : ℕ) → answer code p.captured p.wire (if b then length code - m else length code - n) r ≡ (if b then run_from code m p r else run_from code n p r)

@@ -52,13 +52,13 @@ pub record GoesOnAt (insn : Insn) (place : ℕ) (code : List Insn) : Type 0 wher
   pub sound : fault_of (length code + 1) 0 insn ≡ None
   pub leads : (p : Packet) (r : Registers) → answer (insn ∷ code) p.captured p.wire 0 r ≡ run_from code place p r
 
--- a nearer place from which the run goes on as from the place
+-- a place in reach from which the run goes on as from the place, and which was there or stands at the front
 pub record Nears (place reach near : ℕ) (old new : List Insn) : Type 0 where
   pub extends : Extends 1 old new
   pub here : IsPlace new near
   pub reached : length new - near ≤ reach
   pub kept : length old - place ≤ reach → new ≡ old
-  pub moved : (new ≡ old) ⊎ (near ≡ length new)
+  pub stands : (new ≡ old) ⊎ (near ≡ length new)
   pub leads : (p : Packet) (r : Registers) → run_from new near p r ≡ run_from old place p r
 
 -- a place from which a run in which the instruction would change nothing goes on as from the place

@@ -126,7 +126,8 @@ impl Code {
         }
     }
 
-    /// The place, or where it is farther than reach one that goes on there: a copy of the return, or else a new instruction.
+    /// The place, or where it is farther than reach one that goes on as it does: that of an equal return in reach, or else of an
+    /// instruction that is put in front.
     pub fn near(&mut self, place: usize, reach: usize) -> usize
         requires room { length self.old < 512 }
         requires place { IsPlace self.old place }
@@ -258,7 +259,7 @@ impl Code {
         found
     }
 
-    /// Whether a jump reaches a place, or a copy of the return there, which later jumps reach too.
+    /// Whether a jump reaches a place, or a return stands there: of that a copy may be put in front, which all later jumps share.
     fn is_near(&self, place: usize) -> bool
         requires { IsPlace self.now place }
     {
