@@ -82,7 +82,7 @@ def crates_are_proved_once_and_the_lowest_first(scene):
     scene.check("first and last", (calls[0], calls[-1]), ("low", "bpftap"))
     lines = seen.err.decode().splitlines()
     scene.check("printed, and the status", (seen.out, seen.status), (b"", 0))
-    scene.check("told first", (lines[0].startswith("bpftap: building: 4 crates are to be proved, "), "17 to 28 minutes" in lines[0]), (True, True))
+    scene.check("told first", (lines[0].startswith("bpftap: building: 4 crates are to be proved, "), "15 to 28 minutes" in lines[0]), (True, True))
     scene.check("told last", lines[-1], "bpftap: building: bpftap is proved, 4 of 4 crates (0 min so far)")
     scene.check("lines", len(lines), 5)
 
