@@ -5,7 +5,8 @@ from the program's own code.
   bench/meaning.py                    a million runs
   bench/meaning.py --runs N --seed N  so many, of other expressions
 
-The expressions are random, with many operands of an `or` (or of an `and` of negations) that differ in their numbers alone.
+The expressions are random, with many operands of an `or` (or of an `and` of negations) that differ in their numbers alone, and many
+comparisons of the same bytes.
 Each is tried on frames of its own numbers, cut at each byte. It needs the program, which `./bpftap --help` builds (or BPFTAP=PATH).
 """
 import argparse
@@ -145,9 +146,12 @@ def answer_of(tree, frame, wire):
         return is_type(frame, tree[1])
     if form == "less":
         return wire <= tree[1]
-    _, layer, index, size, comparison, wanted = tree
-    return both(
-        lambda: in_layer(frame, layer), lambda: check(accessed(frame, layer, index, size), lambda n: COMPARED[comparison](n, wanted)))
+    if form == "length":
+        return COMPARED[tree[1]](wire, tree[2])
+    _, layer, index, size, mask, comparison, wanted = tree
+    bits = lambda n: n if mask is None else n & mask
+    holds = lambda n: COMPARED[comparison](bits(n), wanted)
+    return both(lambda: in_layer(frame, layer), lambda: check(accessed(frame, layer, index, size), holds))
 
 
 # Expressions as texts.
@@ -176,8 +180,10 @@ def text_of(tree):
         return f"ether {tree[1]} host " + ":".join(f"{tree[2] >> shift & 255:x}" for shift in (40, 32, 24, 16, 8, 0))
     if form in ("ip proto", "ether proto", "less"):
         return f"{form} {tree[1]}"
-    _, layer, index, size, comparison, wanted = tree
-    return f"{layer}[{index}:{size}] {comparison} {wanted}"
+    if form == "length":
+        return f"len {tree[1]} {tree[2]}"
+    _, layer, index, size, mask, comparison, wanted = tree
+    return f"{layer}[{index}:{size}]{'' if mask is None else f' & {mask}'} {comparison} {wanted}"
 
 
 def inner(tree):
@@ -192,7 +198,7 @@ def direction(rng):
 
 def maker(rng):
     """A kind of primitives or relations that differ in their numbers alone: what makes one of them."""
-    form = rng.choice(["host", "host", "net", "port", "port", "range", "ether", "ether", "behind", "ip proto", "ether proto", "word", "bytes", "bytes"])
+    form = rng.choice(["host", "host", "net", "port", "port", "range", "ether", "ether", "behind", "ip proto", "ether proto", "word", "bytes", "bytes", "compared", "length"])
     if form in ("host", "net"):
         kind, side = rng.choice([None, None, "ip", "arp", "rarp"]), direction(rng)
         mask = 0xffffffff if form == "host" else rng.choice([0xffffff00, 0xffff0000, 0xff000000, 0xff0000ff])
@@ -217,9 +223,16 @@ def maker(rng):
         return lambda: ("ether proto", rng.choice([IP, ARP, RARP, 0x86dd, 2000]))
     if form == "word":
         return lambda: ("word", rng.choice([*TYPES, *NUMBERS]))
+    if form == "length":
+        return lambda: ("length", rng.choice(list(COMPARED)), rng.choice([30, 42, 60, 1500]))
     layer = rng.choice(["ether", "ip", "arp", "rarp", "tcp", "udp", "icmp"])
     index, size = rng.choice([(0, 1), (2, 2), (8, 1), (12, 4), (4, 2), (6, 4), (0, 2)])
-    return lambda: ("bytes", layer, index, size, "=", rng.choice([0, 1, 5, 8, 64, 80, 443, 0xc0000201, 0x45]))
+    wanted = lambda: rng.choice([0, 1, 5, 8, 64, 80, 443, 0xc0000201, 0x45])
+    if form == "bytes":
+        return lambda: ("bytes", layer, index, size, None, "=", wanted())
+    return lambda: rng.choice([
+        ("bytes", layer, index, size, None, rng.choice(list(COMPARED)), wanted()),
+        ("bytes", layer, index, size, rng.choice([1, 64, 0x45]), rng.choice(["=", "!="]), 0)])
 
 
 def pair(rng):
@@ -233,7 +246,7 @@ def pair(rng):
     if form == "port":
         return [port(transport, rng.choice(sides)) for transport in rng.sample(["tcp", "udp", "sctp"], 2)]
     transport, index = rng.choice(["tcp", "udp"]), rng.choice([0, 1, 2])
-    return [port(transport, "src or dst"), lambda: ("bytes", transport, index, 2, "=", rng.choice(PORTS))]
+    return [port(transport, "src or dst"), lambda: ("bytes", transport, index, 2, None, "=", rng.choice(PORTS))]
 
 
 def twins(rng):
@@ -283,7 +296,7 @@ def single(rng):
     if rng.random() < 0.3:
         return ("less", rng.choice([20, 60, 100]))
     if rng.random() < 0.3:
-        return ("bytes", rng.choice(["ip", "tcp", "udp"]), rng.choice([0, 2, 8]), rng.choice([1, 2]), rng.choice(list(COMPARED)), 80)
+        return ("bytes", rng.choice(["ip", "tcp", "udp"]), rng.choice([0, 2, 8]), rng.choice([1, 2]), None, rng.choice(list(COMPARED)), 80)
     return maker(rng)()
 
 

@@ -43,10 +43,10 @@ WORKED = [
     ("ether proto \\ip or ether proto \\rarp", UDP_FRAME, "Yes"), ("ether proto \\ip or ether proto \\rarp", ARP_FRAME, "No"),
     ("not ip multicast", UDP_FRAME, "Yes"), ("not ip multicast", ARP_FRAME, "Yes"),
     ("greater 39", UDP_FRAME, "No"), ("greater 39", ARP_FRAME, "Yes"),
-    # What weighs 480 compiles, and what weighs 520 may, where it fits; so does a chain of 250.
+    # What weighs 480 compiles, and what weighs 520 may, where it fits; so does a chain of 271.
     (TWELVE, UDP_FRAME, "No"), (TWELVE, changed(36, 0, 12), "Yes"), (TWELVE, changed(36, 0, 1), "Yes"),
     (THIRTEEN, UDP_FRAME, "No"), (THIRTEEN, changed(36, 0, 13), "Yes"),
-    ("ip" + "||ip" * 249, UDP_FRAME, "Yes"), ("ip" + "||ip" * 249, ARP_FRAME, "No"),
+    ("ip" + "||ip" * 270, UDP_FRAME, "Yes"), ("ip" + "||ip" * 270, ARP_FRAME, "No"),
     ("", b"", "Yes"),
     ("arp[6:2] = 1", ARP_FRAME, "Yes"), ("rarp[6:2] = 1", ARP_FRAME, "No"),
     ("udp[0:2] = 53", LATER, "No"), ("ip[0] = 0x45", LATER, "Yes"),
@@ -203,6 +203,9 @@ LISTS = [
     "(udp and host 10.0.0.1) or (udp and host 10.0.0.2)", "(arp and port 53) or (arp and port 80)",
     "ip proto 1 or ether proto 0x806 or ip proto 17 or ether proto 0x8035",
     "not ip proto 1 and not ether proto 0x806 and not ip proto 17 and not ether proto 0x8035",
+    # relations that load their number once, though they are no list
+    "len = 60 or len = 38 or len > 45", "ip[8] != 64 and ip[8] != 1 and ip[9] != 6", "ip[8] > 64 or ip[8] < 2 or ip[9:2] >= 0x1100",
+    "ip[6] & 32 != 0 or ip[6] & 64 = 0 or ip[8] & 1 = 0", "not ip[8] < 64 and not ip[8] > 64", "ether[6:4] != 1 and ether[6:4] != 0x10203 and tcp",
 ]
 
 # The words before a list, what stands before the number of each member, how many members, and how many instructions they take.
@@ -212,6 +215,7 @@ SIZES = [
     ("", "ip[8] = ", 100, 110), ("ether src ", "0:1:2:3:4:", 100, 115), ("ether dst ", "0:1:2:3:4:", 100, 115),
     ("ether host ", "0:1:2:3:4:", 100, 220), ("net ", "10.0.", 100, 319), ("dst port ", "", 100, 115),
     ("ether proto ", "0x90", 100, 115), ("", "portrange 10-10", 100, 416), ("dst port ", "", 480, 494), ("", "tcp[4:4] = ", 400, 412),
+    ("", "len = ", 100, 103), ("port ", "", 248, 512), ("tcp port ", "", 249, 512), ("dst port ", "", 498, 512), ("", "tcp[4:4]=", 500, 512),
 ]
 
 # Two members by turns, each for as many numbers, how many they are together, and how many instructions they take.
@@ -271,6 +275,9 @@ CODES = [
     # Constants and literal indices take no instruction.
     ("ether[12:2] = 0x800", [HALF, 21]), ("ip[0] & 15 = 5", IS_IP + [BYTE, 84, 21]), ("(len - 8) / 10 = 3", [128, 20, 52, 21]),
     ("len + 0 = 3", [128, 4, 21]),
+    # A number that was loaded is compared again, with whatever sign.
+    ("len < 60 or len > 100", [128, 53, 37]), ("ip[8] != 1 and ip[8] != 2", IS_IP + [BYTE, 21, 21]),
+    ("ether[0] & 1 = 0 and ether[0] & 2 = 0 and ether[0] < 9", [BYTE, 69, 69, 53]), ("ip[8] = 1 and ip[9] = 1", IS_IP + [BYTE, 21, BYTE, 21]),
     # A layer that was tested is not tested again. Of IPv4 the type alone is known; later fragments are not left out by `tcp`.
     ("tcp[0] = 0 and tcp[1] = 0", FIRST_OF_TCP + BEHIND_HEADER * 2),
     ("ip[0] = 0 and tcp[0] = 0", IS_IP + [BYTE, 21] + IS_PROTOCOL + IS_FIRST + BEHIND_HEADER),
@@ -451,3 +458,6 @@ def what_does_not_fit_is_refused(scene):
                  "1+(" * 59 + "1+1" + ")" * 59 + " = 61"]:
         scene.refuse(["check", "--", expr], 1, "TooDeep")
     scene.refuse(["check", "ether[1]" + "+ether[1]" * 300 + " = 0"], 1, "TooLong")
+    # One member more than 512 instructions have.
+    for words, count in [("port", 249), ("tcp port", 250), ("dst port", 499)]:
+        scene.refuse(["check", f"{words} ({' or '.join(map(str, range(count)))})"], 1, "TooLong")

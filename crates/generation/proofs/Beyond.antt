@@ -5,10 +5,10 @@ use Rattle.std.proofs.lemmas.Bool.Decides.{nat_tests}
 use Rattle.std.specs.List.{slice_get}
 use Rattle.bpfvm.specs.declared.insn.Insn.{Insn}
 use Rattle.bpfvm.specs.Codes.{Accumulator, Operation, LoadAbsolute, LoadLength, ReturnConstant, Branch, Equal, Constant, operation_of}
-use Rattle.bpfvm.specs.Machine.{Registers, Goes, with_value, loaded, effect, effect_of, answer, initial, number_at}
-use Rattle.bpfvm.specs.Validity.{IsValidProgram}
-use Rattle.bpfvm.proofs.Runs.{step-inside}
+use Rattle.bpfvm.specs.Machine.{Registers, Goes, with_value, loaded, effect, effect_of, answer, number_at}
 use Rattle.bpfvm.proofs.Turning.{effect-of}
+use Rattle.trimming.specs.Sound.{IsSoundCode}
+use Rattle.trimming.proofs.Reached.{leads-inside}
 use Rattle.generation.specs.declared.code.Exits.{Exits}
 use Rattle.generation.specs.declared.insns.Field.{Field}
 use Rattle.semantics.specs.Meaning.{Packet, HasBytes, Test, and_then, check, decided}
@@ -77,12 +77,10 @@ failing-effect : (i : Insn) (p : Packet) (r : Registers) → i.code ≡ 0x15 →
 unfolding operation_of
 failing-effect i p r is other = effect-of p.captured p.wire i r 0x15 (Branch Equal Constant) is refl ∙ ap (λ b. Goes (if b then i.jt else i.jf) r) other
 
-pub fails-inside : (at : ℕ) (code : List Insn) (i : Insn) → IsValidProgram code → IsPlace code at → slice_get code (length code - at) ≡ Some i → i.code ≡ 0x15 → 1 + i.jf < at
-fails-inside at code i valid place here is =
-    let p : Packet = record { captured = []; wire = 0 } in
-    let r : Registers = with_value Accumulator (suc i.k) initial in
-    let other : (suc i.k == i.k) ≡ false = grind (arith, nat_tests) in
-    let inside = step-inside code (length code - at) i [] 0 r i.jf r valid here (failing-effect i p r is other) in
+pub fails-inside : (at : ℕ) (code : List Insn) (i : Insn) → IsSoundCode code → IsPlace code at → slice_get code (length code - at) ≡ Some i → i.code ≡ 0x15 → 1 + i.jf < at
+unfolding operation_of
+fails-inside at code i sound place here is =
+    let inside = leads-inside code (length code - at) i.jf i sound here (omega (arith, place)) (rw is (inr refl)) in
     omega (arith, inside, place.1)
 
 -- one comparison more

@@ -27,7 +27,7 @@ use Rattle.semantics.specs.declared.verdict.Verdict.{Verdict}
 use Rattle.semantics.specs.declared.verdict.Verdict.TheVariants.{Yes, No, Abort}
 use Rattle.analysis.specs.Knowing.{behind_layers}
 use Rattle.generation.specs.Remaining.{rest_of_layers}
-use Rattle.semantics.specs.Meaning.{Packet, and_then, opposite, byte, decided, compared, arithmetic_of, bytes_of, accessed, value, check_both}
+use Rattle.semantics.specs.Meaning.{Packet, and_then, opposite, byte, decided, compared, arithmetic_of, bytes_of, accessed, value, check, check_both}
 use Rattle.generation.specs.Parts.{constant_of, IsLeaf, leaf_value, base_of, read_from, value_cost}
 use Rattle.generation.specs.Insns.{plain_insn, calculation_insn, absolute_code, indirect_code}
 use Rattle.generation.specs.Emission.{AreExits, HasCells, run_from, Answers, outcome, Chooses, Decides, value_of, front, Loads, Keeps, Computed, Computes, Applies, Paired, Pairs}
@@ -337,6 +337,14 @@ bits-none (Some a) = by_test (a == 0)
 -- an accessor with a constant as its index
 pub index-known : (l : Layer) (size : ℕ) (v : Amount) (n : ℕ) (p : Packet) → constant_of v ≡ Some n → accessed l size p n ≡ option_and_then (accessed l size p) (value v p)
 index-known l size v n p is = sym (ap (option_and_then (accessed l size p)) (constant-value v n p is))
+
+-- a value that is a number of the packet, compared with a constant
+pub field-checked : (f : ℕ → ℕ → Bool) (n : ℕ) (v w : Option ℕ) → v ≡ w → check (λ m. f m n) v ≡ check_both f w (Some n)
+field-checked f n v w is = by_value v ∙ ap (λ x. check_both f x (Some n)) is
+  where
+    by_value : (x : Option ℕ) → check (λ m. f m n) x ≡ check_both f x (Some n)
+    by_value None = refl
+    by_value (Some m) = refl
 
 -- what stands in front goes on over what stands behind
 pub computes-applied : {m n cell : ℕ} {f : Packet → ℕ → Option ℕ} {v : Packet → Option ℕ} {old mid new : List Insn} → Applies m f old mid → Computes n v cell mid new

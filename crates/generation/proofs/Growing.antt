@@ -15,15 +15,15 @@ use Rattle.syntax.specs.declared.tree.Operator.{Operator as Sign}
 use Rattle.syntax.specs.declared.tree.Operator.TheVariants as operators
 use Rattle.generation.specs.Insns.{plain_insn, branch_insn, load_insn, calculation_insn}
 use Rattle.generation.specs.Parts.{MayBeOperand}
-use Rattle.bpfvm.specs.Validity.{fault_unless, fault_in, fault_of, is_return, SoundBefore, IsValidProgram}
+use Rattle.bpfvm.specs.Validity.{fault_unless, fault_in, fault_of, is_return, SoundBefore}
+use Rattle.trimming.specs.Sound.{IsSoundCode}
 use Rattle.trimming.proofs.Growing.{fine, unless-true, both-inside}
 
--- the two returns are a program
-pub valid-returns : (m n : ℕ) → IsValidProgram (record { code = 6; jt = 0; jf = 0; k = m } ∷ record { code = 6; jt = 0; jf = 0; k = n } ∷ [])
+-- the two returns are sound code
+pub sound-returns : (m n : ℕ) → IsSoundCode (record { code = 6; jt = 0; jf = 0; k = m } ∷ record { code = 6; jt = 0; jf = 0; k = n } ∷ [])
 unfolding fault_of is_return operation_of
-valid-returns m n = record {
+sound-returns m n = record {
   some = omega arith;
-  most = omega arith;
   sound = each;
   returns = (record { code = 6; jt = 0; jf = 0; k = n }, refl, refl);
 }

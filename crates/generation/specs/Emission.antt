@@ -133,7 +133,7 @@ pub record Decides (most : ℕ) (test : Test) (exits : Exits) (entry : ℕ) (old
 
 -- a call is refused only where its code has no room
 abbrev pub OrFull : {X : Type 0} → ℕ → List Insn → Result X Full → (X → Type 0) → Type 0
-OrFull cost old result P = MatchResult result P (λ _. 512 < length old + cost)
+OrFull cost old result P = MatchResult result P (λ _. 552 < length old + cost)
 
 -- the answer of the run from the front on
 abbrev pub front : List Insn → Packet → Registers → ℕ

@@ -69,7 +69,7 @@ impl Code {
 
     /// Loads the number at a spot.
     fn load_spot(&mut self, spot: Spot)
-        requires room { length self.old + 2 ≤ 512 }
+        requires room { length self.old + 2 ≤ 552 }
         ensures { LoadsSpot spot self.old self.new }
     {
         match spot {

@@ -33,7 +33,7 @@ fn may_be_ip(network: Option<Network>) -> bool
 impl Code {
     /// IPv4, unless that is known, and behind it the test at a place, which is for a packet of IPv4.
     pub fn behind_ip_unless(&mut self, known: Known, inner: usize, ways: Ways) -> Way
-        requires room { length self.old + 4 ≤ 512 }
+        requires room { length self.old + 4 ≤ 552 }
         requires inner { IsPlace self.old inner }
         requires other { IsPlace self.old ways.no.other }
         ensures { GuardsIp known inner ways result self.old self.new }
@@ -55,7 +55,7 @@ impl Code {
     ) -> Way
         requires known { has_protocol known (protocol_number transport) ≡ true }
         requires asked { (asked ≡ None) ⊎ (asked ≡ Some transport) }
-        requires room { length self.old + 4 ≤ 512 }
+        requires room { length self.old + 4 ≤ 552 }
         requires first_fragment { IsPlace self.old first_fragment }
         requires ip { IsPlace self.old ways.no.ip }
         ensures { GuardsKnown known asked transport first_fragment ways result self.old self.new }
@@ -87,7 +87,7 @@ impl Code {
     ) -> Way
         requires known { has_protocol known (protocol_number transport) ≡ true }
         requires asked { (asked ≡ None) ⊎ (asked ≡ Some transport) }
-        requires room { length self.old + 19 ≤ 512 }
+        requires room { length self.old + 19 ≤ 552 }
         requires ways { AreWays self.old ways }
         ensures { DecidesBehind known 19 (has_any_ports asked direction low high) ways result self.old self.new }
     {
@@ -108,7 +108,7 @@ impl Code {
     ) -> Way
         requires known { has_type known 0x0800 ≡ true }
         requires network { (network ≡ None) ⊎ (network ≡ Some networks.Ip) }
-        requires room { length self.old + 10 ≤ 512 }
+        requires room { length self.old + 10 ≤ 552 }
         requires ways { AreWays self.old ways }
         ensures { DecidesBehind known 10 (in_any_net network direction address mask) ways result self.old self.new }
     {
@@ -118,7 +118,7 @@ impl Code {
 
     /// IPv4 with this protocol number.
     fn number_behind(&mut self, known: Known, number: u32, ways: Ways) -> Way
-        requires room { length self.old + 8 ≤ 512 }
+        requires room { length self.old + 8 ≤ 552 }
         requires ways { AreWays self.old ways }
         ensures { DecidesBehind known 8 (is_protocol number) ways result self.old self.new }
     {
@@ -134,7 +134,7 @@ impl Code {
 
     /// A protocol word.
     fn plain_behind(&mut self, known: Known, word: Plain, ways: Ways) -> Way
-        requires room { length self.old + plain_cost word ≤ 512 }
+        requires room { length self.old + plain_cost word ≤ 552 }
         requires ways { AreWays self.old ways }
         ensures { DecidesBehind known (plain_cost word) (plain_test word) ways result self.old self.new }
     {
@@ -194,7 +194,7 @@ impl Code {
 
     /// What is left of a primitive.
     pub fn primitive_behind(&mut self, known: Known, primitive: Primitive, ways: Ways) -> Way
-        requires room { length self.old + cost primitive ≤ 512 }
+        requires room { length self.old + cost primitive ≤ 552 }
         requires ways { AreWays self.old ways }
         ensures { DecidesBehind known (cost primitive) (primitive_test primitive) ways result self.old self.new }
     {

@@ -1,9 +1,9 @@
 //! Code that is written from its end, so that what a jump leads to is there before the jump.
 
-ghost use Rattle.std.specs.Prelude.{◌≡◌, ℕ, ◌+◌, ◌-◌, ◌<◌, ◌≤◌, List, [], ◌∷◌, length, Some, None, reverse, bit_and, MatchResult, slice_get};
+ghost use Rattle.std.specs.Prelude.{◌≡◌, ℕ, ◌+◌, ◌-◌, ◌<◌, ◌≤◌, List, [], ◌∷◌, length, Some, None, reverse, bit_and, MatchResult, IfOk, IsErr, slice_get};
 ghost use Rattle.std.specs.Bool.{OnTrue};
 ghost use Rattle.bpfvm.specs.declared.insn.Insn.{Insn};
-ghost use Rattle.bpfvm.specs.Validity.{fault_of, IsValidProgram};
+ghost use Rattle.bpfvm.specs.Validity.{fault_of};
 ghost use Rattle.bpfvm.specs.Machine.{holds, verdict};
 ghost use Rattle.semantics.specs.Meaning.{check, within};
 ghost use Rattle.trimming.specs.Reaching.{IsAllReached};
@@ -15,9 +15,9 @@ use crate::insns::{Field, Jump, Operand, branch_insn, load_insn, plain_insn};
 use crate::listed::has_number;
 use analysis::Span;
 use arrayvec::ArrayVec;
-use bpfvm::{Insn, MAX_INSNS, Program, code};
+use bpfvm::{Insn, Program, code};
 use std::marker::Model;
-use trimming::without_unreached;
+use trimming::{MAX_CODE, without_unreached};
 
 /// How many instructions a conditional jump passes at most, by its own offset of 8 bits.
 pub(crate) const REACH: usize = 255;
@@ -45,23 +45,24 @@ impl Exits {
 #[derive(Drop)]
 pub(crate) struct Full;
 
-/// The end of a program, which is a program of its own at each moment. Instructions are put in front of it.
+/// The end of a program, which is sound at each moment. Instructions are put in front of it. There is room for more than a program has,
+/// since a part asks for the most that it may take.
 #[derive(Drop)]
 pub(crate) struct Code {
     /// The last instruction comes first.
-    insns: ArrayVec<Insn, MAX_INSNS>,
+    insns: ArrayVec<Insn, MAX_CODE>,
 }
 
 impl Model for Code {
     ghost use Rattle.std.specs.Prelude.{List, reverse};
     ghost use Rattle.bpfvm.specs.declared.insn.Insn.{Insn};
-    ghost use Rattle.bpfvm.specs.Validity.{IsValidProgram};
+    ghost use Rattle.trimming.specs.Sound.{IsSoundCode};
 
     ghost Value = { List Insn };
 
     ghost view = { λ c. reverse c.insns.items };
 
-    ghost invariant = { λ c. IsValidProgram (reverse c.insns.items) };
+    ghost invariant = { λ c. IsSoundCode (reverse c.insns.items) };
 }
 
 impl Code {
@@ -78,7 +79,7 @@ impl Code {
     /// How many instructions there are, and so the place of the first one.
     pub fn len(&self) -> usize
         ensures value { result ≡ length self.now }
-        ensures within { result ≤ 512 }
+        ensures within { result ≤ 552 }
     {
         self.insns.len()
     }
@@ -86,9 +87,9 @@ impl Code {
     /// Whether there is room for so many more instructions.
     pub fn room(&self, more: usize) -> Result<(), Full>
         requires { more ≤ 40 }
-        ensures { MatchResult result (λ _. length self.now + more ≤ 512) (λ _. 512 < length self.now + more) }
+        ensures { MatchResult result (λ _. length self.now + more ≤ 552) (λ _. 552 < length self.now + more) }
     {
-        if self.len() + more <= MAX_INSNS {
+        if self.len() + more <= MAX_CODE {
             Ok(())
         } else {
             Err(Full)
@@ -97,7 +98,7 @@ impl Code {
 
     /// Puts an instruction in front.
     pub fn push(&mut self, insn: Insn)
-        requires room { length self.old < 512 }
+        requires room { length self.old < 552 }
         requires sound { fault_of (length self.old + 1) 0 insn ≡ None }
         ensures { self.new ≡ insn ∷ self.old }
     {
@@ -106,7 +107,7 @@ impl Code {
 
     /// Puts an instruction in front that is sound wherever it stands.
     pub fn put(&mut self, code: u16, k: u32)
-        requires room { length self.old < 512 }
+        requires room { length self.old < 552 }
         requires sound { fault_of 1 0 (plain_insn code k) ≡ None }
         ensures { self.new ≡ plain_insn code k ∷ self.old }
     {
@@ -129,7 +130,7 @@ impl Code {
     /// The place, or where it is farther than reach one that goes on as it does: that of an equal return in reach, or else of an
     /// instruction that is put in front.
     pub fn near(&mut self, place: usize, reach: usize) -> usize
-        requires room { length self.old < 512 }
+        requires room { length self.old < 552 }
         requires place { IsPlace self.old place }
         ensures { Nears place reach result self.old self.new }
     {
@@ -145,7 +146,7 @@ impl Code {
 
     /// Goes to an exit by a comparison of the accumulator.
     pub fn branch(&mut self, jump: Jump, operand: Operand, exits: Exits)
-        requires room { length self.old + 3 ≤ 512 }
+        requires room { length self.old + 3 ≤ 552 }
         requires exits { AreExits self.old exits }
         ensures { Chooses 3 (condition jump operand) exits self.old self.new }
     {
@@ -164,7 +165,7 @@ impl Code {
 
     /// Goes to an exit by whether the accumulator is from low to high.
     pub fn branch_within(&mut self, low: u32, high: u32, exits: Exits)
-        requires room { length self.old + 6 ≤ 512 }
+        requires room { length self.old + 6 ≤ 552 }
         requires exits { AreExits self.old exits }
         ensures { Chooses 6 (λ r. within low high r.accumulator) exits self.old self.new }
     {
@@ -284,7 +285,7 @@ impl Code {
     /// Goes to an exit by a comparison of a number of the packet. An exit that begins with the same load is passed: the
     /// number is still in the accumulator.
     pub fn test(&mut self, field: Field, jump: Jump, value: u32, exits: Exits) -> usize
-        requires room { length self.old + 4 ≤ 512 }
+        requires room { length self.old + 4 ≤ 552 }
         requires exits { AreExits self.old exits }
         ensures { Decides 4 (λ p. check (λ n. holds (comparison_of jump) n value) (field_of field p)) exits result
             self.old self.new }
@@ -298,7 +299,7 @@ impl Code {
 
     /// Goes to an exit by whether the bits of a number under a mask are these.
     pub fn masked_test(&mut self, field: Field, mask: u32, bits: u32, exits: Exits) -> usize
-        requires room { length self.old + 5 ≤ 512 }
+        requires room { length self.old + 5 ≤ 552 }
         requires exits { AreExits self.old exits }
         ensures { Decides 5 (λ p. check (λ n. holds (comparison_of Jump.Equal) (bit_and n mask) bits) (field_of field p)) exits
             result self.old self.new }
@@ -309,16 +310,17 @@ impl Code {
         self.len()
     }
 
-    /// The program that this code is, without the instructions that nothing reaches.
-    pub fn into_program(mut self) -> Program
-        ensures same { (packet : List ℕ) (wire : ℕ) → verdict result packet wire ≡ verdict self packet wire }
-        ensures reached { IsAllReached result }
+    /// The program that this code is, without the instructions that nothing reaches, where no more than 512 are left.
+    pub fn into_program(mut self) -> Result<Program, Full>
+        ensures same { IfOk result (λ program. (packet : List ℕ) (wire : ℕ) → verdict program packet wire ≡ verdict self packet wire) }
+        ensures reached { IfOk result IsAllReached }
+        ensures full { IsErr result → 512 < length self }
     {
         self.insns.reverse();
         let reached = without_unreached(self.insns.as_slice());
         match Program::new(reached.as_slice()) {
-            Ok(program) => program,
-            Err(_) => unreachable!(),
+            Ok(program) => Ok(program),
+            Err(_) => Err(Full),
         }
     }
 }

@@ -1,6 +1,6 @@
 //! Expressions to programs.
 
-ghost use Rattle.std.specs.Prelude.{◌≡◌, ◌≢◌, ◌↔◌, ◌⊎◌, ℕ, ◌+◌, ◌<◌, ◌≤◌, All, length, Some, None, Err, IfOk, MatchOption, MatchResult};
+ghost use Rattle.std.specs.Prelude.{◌≡◌, ◌≢◌, ◌↔◌, ◌⊎◌, ℕ, ◌+◌, ◌<◌, ◌≤◌, All, length, Some, None, Err, IfOk, IsErr, MatchOption};
 ghost use Rattle.syntax.specs.Trees.{tree_of};
 ghost use Rattle.semantics.specs.Meaning.{primitive_test, meaning};
 ghost use Rattle.analysis.specs.Weights.{weight, need};
@@ -379,15 +379,16 @@ impl Code {
 /// The program of an expression, whose entry is its first instruction.
 fn program_of(expr: &Expr, snap: u32) -> Result<Program, Full>
     requires { need (tree_of expr.now) ≤ 16 }
-    ensures { MatchResult result
-        (λ program. StandsFor program (tree_of expr.now) snap × IsAllReached program) (λ _. 500 < weight (tree_of expr.now)) }
+    ensures program { IfOk result (λ program. StandsFor program (tree_of expr.now) snap) }
+    ensures reached { IfOk result IsAllReached }
+    ensures full { IsErr result → 500 < weight (tree_of expr.now) }
 {
     let mut code = Code::new(snap);
     let (yes, no) = (Way::to(2), Way::to(1));
     let emitted = code.expression(Known::Nothing, expr, Ways { yes, no })?;
     code.room(1)?;
     code.near(emitted.entry.any, 0);
-    Ok(code.into_program())
+    code.into_program()
 }
 
 /// Compiles an expression: the program answers the snapshot length where the expression accepts the packet, and else 0.

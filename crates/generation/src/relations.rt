@@ -3,15 +3,16 @@
 ghost use Rattle.std.specs.Prelude.{◌≡◌, ◌+◌, ◌≤◌, length, max, bit_and, option_map, Some, IfSome};
 ghost use Rattle.syntax.specs.Trees.{amount_of};
 ghost use Rattle.syntax.specs.declared.tree.Comparison.TheVariants.{NotEqual};
-ghost use Rattle.semantics.specs.Meaning.{Packet, value, compared, check_both};
+ghost use Rattle.semantics.specs.Meaning.{Packet, value, compared, check, check_both};
 ghost use Rattle.analysis.specs.Weights.{value_need};
 ghost use Rattle.generation.specs.Remaining.{rest_of_type, rest_of_protocol, rest_of_first_fragment, rest_of, rest_of_layers, rest_of_relation};
 ghost use Rattle.generation.specs.Parts.{value_cost, layers_cost, compare_cost, relation_cost};
-ghost use Rattle.generation.specs.Emission.{AreExits, value_of, Chooses, Decides, OrFull};
+ghost use Rattle.generation.specs.Emission.{AreExits, field_of, value_of, Chooses, Decides, OrFull};
 
 use crate::arithmetic::constant;
 use crate::code::{Code, Exits, Full};
-use crate::insns::{Jump, Operand};
+use crate::insns::{Field, Jump, Operand, load_insn};
+use crate::values::field_of;
 use analysis::Known;
 use semantics::IP;
 use syntax::{Comparison, Operator, Value};
@@ -38,7 +39,7 @@ fn masked(amount: &Value) -> Option<(&Value, u32)>
 impl Code {
     /// What is left of a test of the Ethernet type.
     fn rest_of_type(&mut self, known: Known, number: u32, exits: Exits) -> usize
-        requires room { length self.old + 4 ≤ 512 }
+        requires room { length self.old + 4 ≤ 552 }
         requires exits { AreExits self.old exits }
         ensures { Decides 4 (rest_of_type known number) exits result self.old self.new }
     {
@@ -50,7 +51,7 @@ impl Code {
 
     /// What is left of a test of IPv4 with this protocol number.
     fn rest_of_protocol(&mut self, known: Known, number: u32, exits: Exits) -> usize
-        requires room { length self.old + 8 ≤ 512 }
+        requires room { length self.old + 8 ≤ 552 }
         requires exits { AreExits self.old exits }
         ensures { Decides 8 (rest_of_protocol known number) exits result self.old self.new }
     {
@@ -67,7 +68,7 @@ impl Code {
 
     /// What is left of a test of the same, and of no later fragment.
     fn rest_of_first_fragment(&mut self, known: Known, number: u32, exits: Exits) -> usize
-        requires room { length self.old + 12 ≤ 512 }
+        requires room { length self.old + 12 ≤ 552 }
         requires exits { AreExits self.old exits }
         ensures { Decides 12 (rest_of_first_fragment known number) exits result self.old self.new }
     {
@@ -84,7 +85,7 @@ impl Code {
 
     /// What is left of a test, behind what is known.
     pub fn rest_of(&mut self, known: Known, fact: Known, exits: Exits) -> usize
-        requires room { length self.old + 12 ≤ 512 }
+        requires room { length self.old + 12 ≤ 552 }
         requires exits { AreExits self.old exits }
         ensures { Decides 12 (rest_of known fact) exits result self.old self.new }
     {
@@ -133,7 +134,7 @@ impl Code {
 
     /// Compares the accumulator with an operand.
     fn compare_with(&mut self, comparison: Comparison, operand: Operand, exits: Exits)
-        requires room { length self.old + 3 ≤ 512 }
+        requires room { length self.old + 3 ≤ 552 }
         requires exits { AreExits self.old exits }
         ensures { Chooses 3 (λ r. compared comparison r.accumulator (value_of operand r)) exits self.old self.new }
     {
@@ -147,7 +148,21 @@ impl Code {
         }
     }
 
+    /// Compares a number of the packet with a constant. An exit that begins with the same load is passed.
+    fn compare_field(&mut self, comparison: Comparison, field: Field, n: u32, exits: Exits) -> usize
+        requires room { length self.old + 4 ≤ 552 }
+        requires exits { AreExits self.old exits }
+        ensures { Decides 4 (λ p. check (λ m. compared comparison m n) (field_of field p)) exits result self.old self.new }
+    {
+        let load = load_insn(field);
+        let exits = self.both_passed(load, exits);
+        self.compare_with(comparison, Operand::Constant(n), exits);
+        self.push(load);
+        self.len()
+    }
+
     /// Goes to an exit by whether a value has any bit of a mask.
+    #[tactic(auto, using(crate::proofs::Bounds::value_positive))]
     fn any_bit(&mut self, amount: &Value, mask: u32, exits: Exits) -> Result<usize, Full>
         requires need { value_need (amount_of amount.now) ≤ 16 }
         requires exits { AreExits self.old exits }
@@ -156,13 +171,17 @@ impl Code {
             (λ p. check_both (compared NotEqual) (option_map (λ n. bit_and n mask) (value (amount_of amount.now) p)) (Some 0)) exits entry
             self.old self.new) }
     {
-        self.room(3)?;
+        self.room(4)?;
+        if let Some(field) = field_of(amount) {
+            return Ok(self.test(field, Jump::AnyBit, mask, exits));
+        }
         self.branch(Jump::AnyBit, Operand::Constant(mask), exits);
         self.value(amount, 0)?;
         Ok(self.len())
     }
 
     /// Computes a value, and compares it with a number.
+    #[tactic(auto, using(crate::proofs::Bounds::value_positive))]
     fn compare_number(
         &mut self,
         comparison: Comparison,
@@ -176,7 +195,10 @@ impl Code {
             (λ entry. Decides (3 + value_cost (amount_of amount.now))
             (λ p. check_both (compared comparison) (value (amount_of amount.now) p) (Some n)) exits entry self.old self.new) }
     {
-        self.room(3)?;
+        self.room(4)?;
+        if let Some(field) = field_of(amount) {
+            return Ok(self.compare_field(comparison, field, n, exits));
+        }
         self.compare_with(comparison, Operand::Constant(n), exits);
         self.value(amount, 0)?;
         Ok(self.len())

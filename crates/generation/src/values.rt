@@ -4,15 +4,15 @@ ghost use Rattle.std.specs.Prelude.{◌≡◌, ℕ, ◌+◌, ◌<◌, ◌≤◌,
 ghost use Rattle.std.specs.Bool.{OnTrue};
 ghost use Rattle.bpfvm.specs.Codes.{Accumulator, Index};
 ghost use Rattle.syntax.specs.Trees.{amount_of};
-ghost use Rattle.semantics.specs.Meaning.{bytes_of, value};
+ghost use Rattle.semantics.specs.Meaning.{Packet, bytes_of, value};
 ghost use Rattle.analysis.specs.Weights.{value_need};
 ghost use Rattle.generation.specs.Insns.{plain_insn, calculation_insn, indirect_code};
 ghost use Rattle.generation.specs.Parts.{constant_of, IsLeaf, leaf_value, MayStandBehind, MayBeOperand, base_of, read_from, farthest, value_cost, pair_cost};
-ghost use Rattle.generation.specs.Emission.{Loads, Applies, Computes, Pairs, OrFull};
+ghost use Rattle.generation.specs.Emission.{field_of, Loads, Applies, Computes, Pairs, OrFull};
 
 use crate::arithmetic::constant;
 use crate::code::{Code, Full};
-use crate::insns::{Operand, absolute_code, calculation_code, constant_of, indirect_code};
+use crate::insns::{Field, Operand, absolute_code, calculation_code, constant_of, indirect_code};
 use bpfvm::code;
 use syntax::{Layer, Operator, Size, Value};
 
@@ -98,11 +98,43 @@ fn near_constant(base: Base, index: &Value) -> Option<u32>
     Some(n)
 }
 
+/// The number at an index, where one instruction loads it.
+fn field_at(base: Base, size: Size, index: u32) -> Option<Field>
+    requires near { farthest base + index < 2 ^ 32 }
+    ensures { IfSome result (λ field. (p : Packet) → field_of field p ≡ read_from base (bytes_of size) p index) }
+{
+    let offset = match base {
+        Base::Frame => index,
+        Base::Network => 14 + index,
+        Base::Transport => return None,
+    };
+    Some(match size {
+        Size::One => Field::Byte(offset),
+        Size::Two => Field::Half(offset),
+        Size::Four => Field::Word(offset),
+    })
+}
+
+/// The number of a packet that a value is, where one instruction loads it.
+pub(crate) fn field_of(amount: &Value) -> Option<Field>
+    ensures { IfSome result (λ field. (p : Packet) → field_of field p ≡ value (amount_of amount.now) p) }
+{
+    match amount {
+        Value::Length => Some(Field::Length),
+        Value::Accessor(layer, index, size) => {
+            let base = base_of(*layer);
+            let n = near_constant(base, index)?;
+            field_at(base, *size, n)
+        }
+        _ => None,
+    }
+}
+
 impl Code {
     /// Loads a leaf into the accumulator.
     #[tactic(auto, unfolding(bpfvm::specs::Validity::fault_of, bpfvm::specs::Codes::operation_of))]
     fn load_leaf(&mut self, leaf: Leaf)
-        requires { length self.old < 512 }
+        requires { length self.old < 552 }
         ensures { Loads Accumulator (leaf_value leaf) self.old self.new }
     {
         match leaf {
@@ -114,7 +146,7 @@ impl Code {
     /// Loads a leaf into the index register.
     #[tactic(auto, unfolding(bpfvm::specs::Validity::fault_of, bpfvm::specs::Codes::operation_of))]
     fn index_leaf(&mut self, leaf: Leaf)
-        requires { length self.old < 512 }
+        requires { length self.old < 552 }
         ensures { Loads Index (leaf_value leaf) self.old self.new }
     {
         match leaf {
@@ -126,7 +158,7 @@ impl Code {
     /// Calculates with the accumulator and an operand.
     #[tactic(auto, using(crate::proofs::Growing::calculation_sound))]
     fn calculate(&mut self, operator: Operator, operand: Operand)
-        requires room { length self.old < 512 }
+        requires room { length self.old < 552 }
         requires operand { MayBeOperand operator operand }
         ensures { self.new ≡ calculation_insn operator operand ∷ self.old }
     {
@@ -136,7 +168,7 @@ impl Code {
     /// Reads bytes so many behind the accumulator.
     #[tactic(auto, unfolding(bpfvm::specs::Validity::fault_of, bpfvm::specs::Codes::operation_of))]
     fn indirect(&mut self, size: Size, offset: u32)
-        requires { length self.old + 2 ≤ 512 }
+        requires { length self.old + 2 ≤ 552 }
         ensures { self.new ≡ plain_insn 0x07 0 ∷ plain_insn (indirect_code size) offset ∷ self.old }
     {
         self.put(indirect_code(size), offset);
@@ -146,7 +178,7 @@ impl Code {
     /// Reads the bytes of an accessor, where the accumulator has its index.
     #[tactic(auto, unfolding(bpfvm::specs::Validity::fault_of, bpfvm::specs::Codes::operation_of))]
     fn access(&mut self, base: Base, size: Size)
-        requires { length self.old + 4 ≤ 512 }
+        requires { length self.old + 4 ≤ 552 }
         ensures { Applies 4 (read_from base (bytes_of size)) self.old self.new }
     {
         match base {
@@ -163,7 +195,7 @@ impl Code {
     /// Reads the bytes of an accessor, where its index is a number and no sum can wrap.
     #[tactic(auto, unfolding(bpfvm::specs::Validity::fault_of, bpfvm::specs::Codes::operation_of))]
     pub fn access_at(&mut self, base: Base, size: Size, index: u32)
-        requires room { length self.old + 2 ≤ 512 }
+        requires room { length self.old + 2 ≤ 552 }
         requires near { farthest base + index < 2 ^ 32 }
         ensures { (cell : ℕ) → Computes 2 (λ p. read_from base (bytes_of size) p index) cell self.old self.new }
     {

@@ -164,7 +164,7 @@ impl Code {
     /// The way, or one that leads on as it does, where a jump in front would not reach it: a jump goes in front of the place
     /// for any packet, which then also serves for the others that are too far.
     fn renew_one(&mut self, way: Way) -> Way
-        requires room { length self.old + 1 ≤ 512 }
+        requires room { length self.old + 1 ≤ 552 }
         requires way { IsWay self.old way }
         ensures extends { Extends 1 self.old self.new }
         ensures renews { Renews way result self.old self.new }
@@ -182,7 +182,7 @@ impl Code {
     /// The ways, or others that lead on as they do, where a jump in front would not reach them. All tests that come in front
     /// share these, so that a long chain takes few jumps more.
     pub fn renew(&mut self, ways: Ways) -> Ways
-        requires room { length self.old + 2 ≤ 512 }
+        requires room { length self.old + 2 ≤ 552 }
         requires ways { AreWays self.old ways }
         ensures extends { Extends 2 self.old self.new }
         ensures renews { RenewsBoth ways result self.old self.new }

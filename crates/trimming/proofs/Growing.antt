@@ -1,4 +1,4 @@
--- A valid program stays one when a sound instruction is put in front.
+-- Sound code stays so when a sound instruction is put in front.
 use Rattle.std.proofs.Common.{◌≡◌, ℕ, zero, suc, ◌+◌, ◌-◌, ◌<◌, Bool, true, false, ◌&&◌, nat_lt, List, [], ◌∷◌, length, Option, Some, None, refl, ap, subst, arith}
 use Rattle.std.proofs.lemmas.Bool.Decides.{nat_tests}
 use Rattle.std.specs.List.{slice_get}
@@ -6,7 +6,8 @@ use Rattle.bpfvm.specs.declared.insn.Insn.{Insn}
 use Rattle.bpfvm.specs.declared.fault.Invalid.{Invalid}
 use Rattle.bpfvm.specs.declared.fault.Invalid.TheVariants.{JumpOut, Cell, ZeroDivisor}
 use Rattle.bpfvm.specs.Codes.{Constant, InIndex, Add, Subtract, Multiply, Divide, Or, And, ShiftLeft, ShiftRight, Modulo, ExclusiveOr, Operation, LoadMemory, Store, Calculate, Jump, Branch, operation_of}
-use Rattle.bpfvm.specs.Validity.{fault_unless, fault_in, fault_of, SoundBefore, EndsInReturn, IsValidProgram}
+use Rattle.bpfvm.specs.Validity.{fault_unless, fault_in, fault_of, SoundBefore, EndsInReturn}
+use Rattle.trimming.specs.Sound.{IsSoundCode}
 
 -- a bar that gives no fault holds
 pub fine : (b : Bool) (f : Invalid) → fault_unless b f ≡ None → b ≡ true
@@ -46,30 +47,29 @@ fault_in-later (Some (Calculate ShiftRight v)) size place i none = refl
 fault_in-later (Some (Calculate ExclusiveOr v)) size place i none = refl
 fault_in-later (Some other) size place i none = refl
 
-valid-sound : (i : Insn) (rest : List Insn) → SoundBefore rest (length rest) → fault_of (length rest + 1) 0 i ≡ None → SoundBefore (i ∷ rest) (length (i ∷ rest))
+all-sound : (i : Insn) (rest : List Insn) → SoundBefore rest (length rest) → fault_of (length rest + 1) 0 i ≡ None → SoundBefore (i ∷ rest) (length (i ∷ rest))
 unfolding fault_of
-valid-sound i rest sound first zero j within here =
+all-sound i rest sound first zero j within here =
     let same : i ≡ j = cc in
     let size : length rest + 1 ≡ suc (length rest) = omega arith in
     subst (λ (x : Insn). fault_of (suc (length rest)) 0 x ≡ None) same (subst (λ n. fault_of n 0 i ≡ None) size first)
-valid-sound i rest sound first (suc place) j within here =
+all-sound i rest sound first (suc place) j within here =
     fault_in-later (operation_of j.code) (length rest) place j (sound place j (omega arith) here)
 
-valid-ends : (i : Insn) (rest : List Insn) → 0 < length rest → EndsInReturn rest → EndsInReturn (i ∷ rest)
-valid-ends i [] some ends = absurd (omega arith)
-valid-ends i (j ∷ others) some (last, here, returns) =
+still-ends : (i : Insn) (rest : List Insn) → 0 < length rest → EndsInReturn rest → EndsInReturn (i ∷ rest)
+still-ends i [] some ends = absurd (omega arith)
+still-ends i (j ∷ others) some (last, here, returns) =
     let at : length (j ∷ others) - 1 ≡ length others = omega arith in
     let at' : length others + 1 ≡ length (i ∷ j ∷ others) - 1 = omega arith in
     let at'' : suc (length others) ≡ length (i ∷ j ∷ others) - 1 = omega arith in
     let here' : slice_get (i ∷ j ∷ others) (suc (length others)) ≡ Some last = subst (λ n. slice_get (j ∷ others) n ≡ Some last) at here in
     (last, subst (λ n. slice_get (i ∷ j ∷ others) n ≡ Some last) at'' here', returns)
 
-pub valid-grown : (i : Insn) (rest : List Insn) → IsValidProgram rest → length rest < 512 → fault_of (length rest + 1) 0 i ≡ None → IsValidProgram (i ∷ rest)
-valid-grown i rest valid room first = record {
+pub sound-grown : (i : Insn) (rest : List Insn) → IsSoundCode rest → fault_of (length rest + 1) 0 i ≡ None → IsSoundCode (i ∷ rest)
+sound-grown i rest code first = record {
   some = omega arith;
-  most = omega arith;
-  sound = valid-sound i rest valid.sound first;
-  returns = valid-ends i rest valid.some valid.returns;
+  sound = all-sound i rest code.sound first;
+  returns = still-ends i rest code.some code.returns;
 }
 
 pub both-inside : (m n size : ℕ) → m < size → n < size → (nat_lt (0 + 1 + m) (size + 1) && nat_lt (0 + 1 + n) (size + 1)) ≡ true

@@ -13,12 +13,13 @@ use Rattle.bpfvm.specs.declared.insn.Insn.{Insn}
 use Rattle.bpfvm.specs.declared.fault.Invalid.TheVariants.{JumpOut, Cell, ZeroDivisor}
 use Rattle.bpfvm.specs.Codes.{Register, Accumulator, Index, Constant, InIndex, Add, Subtract, Multiply, Divide, Or, And, ShiftLeft, ShiftRight, Modulo, ExclusiveOr, Operation, LoadAbsolute, LoadIndirect, LoadImmediate, LoadMemory, LoadLength, LoadHeaderLength, Store, Calculate, Negate, Jump, Branch, ReturnConstant, ReturnAccumulator, Transfer, codes, operation_in, operation_of}
 use Rattle.bpfvm.specs.Machine.{Registers, Effect, Goes, Ends, loaded, holds, operand, number_at, calculated, effect_if, effect, answer, initial, verdict}
-use Rattle.bpfvm.specs.Validity.{fault_in, fault_of, is_return_code, is_return, SoundBefore, IsValidProgram}
+use Rattle.bpfvm.specs.Validity.{fault_in, fault_of, is_return_code, is_return, SoundBefore}
+use Rattle.trimming.specs.Sound.{IsSoundCode}
 use Rattle.trimming.specs.declared.unreached.Onward.{Onward}
 use Rattle.trimming.specs.declared.unreached.Onward.TheVariants as onward
 use Rattle.trimming.specs.Reaching.{MayPass, LeadsTo, IsPath, IsAllReached}
 use Rattle.trimming.specs.Trimming.{onward_by, onward_of, MayGo, IsSound, IsMarked, marked, moved_by, moved, trimmed, MarksNext, MarksBefore, Marks}
-use Rattle.trimming.proofs.Growing.{fine, unless-true, same-bar, both-inside, valid-grown}
+use Rattle.trimming.proofs.Growing.{fine, unless-true, same-bar, both-inside, sound-grown}
 use Rattle.trimming.proofs.Running.{after, answer-first, equal-true, insn_of}
 
 -- where an instruction may lead, in the words of the definition and in those of the code
@@ -169,7 +170,7 @@ marked-inside (false ∷ marks) (i ∷ others) zero is within = absurd cc
 marked-inside (true ∷ marks) (i ∷ others) (suc n) is within = omega (arith, marked-inside marks others n is (omega arith))
 marked-inside (false ∷ marks) (i ∷ others) (suc n) is within = marked-inside marks others n is (omega arith)
 
-trimmed-within : (marks : List Bool) (program : List Insn) → length (trimmed marks program) ≤ length program
+pub trimmed-within : (marks : List Bool) (program : List Insn) → length (trimmed marks program) ≤ length program
 trimmed-within [] program = omega arith
 trimmed-within (mark ∷ marks) [] = omega arith
 trimmed-within (true ∷ marks) (i ∷ others) = omega (arith, trimmed-within marks others)
@@ -216,8 +217,8 @@ returns-or-goes (Some Jump) i size place none = inr (i.k, refl)
 returns-or-goes (Some (Branch test v)) i size place none = inr (i.jt, inl refl)
 returns-or-goes (Some other) i size place none = inr (0, refl)
 
-single-valid : (i : Insn) → fault_of 1 0 i ≡ None → is_return i ≡ true → IsValidProgram (i ∷ [])
-single-valid i none returns = record { some = omega arith; most = omega arith; sound = each; returns = (i, refl, returns) }
+single-sound : (i : Insn) → fault_of 1 0 i ≡ None → is_return i ≡ true → IsSoundCode (i ∷ [])
+single-sound i none returns = record { some = omega arith; sound = each; returns = (i, refl, returns) }
   where
     each : SoundBefore (i ∷ []) 1
     each zero j within here = let same : i ≡ j = cc in subst (λ (x : Insn). fault_of 1 0 x ≡ None) same none
@@ -232,23 +233,23 @@ last-returns marks i (size, place, none) inside = ap is_return_code (moved-code 
     by_next (inl is) = is
     by_next (inr (n, may)) = let below = inside n may in absurd (omega arith)
 
-valid-first : (marks : List Bool) (i : Insn) (rest : List Insn) → IsSound i → length rest < 512 → ((n : ℕ) → MayPass (operation_of i.code) i n → marked n marks < length rest)
-    → (rest ≡ []) ⊎ IsValidProgram rest → IsValidProgram (moved marks i ∷ rest)
-valid-first marks i [] sound room inside valid = single-valid (moved marks i) (moved-sound marks i 0 sound inside) (last-returns marks i sound inside)
-valid-first marks i (j ∷ rest) sound room inside (inl none) = absurd cc
-valid-first marks i (j ∷ rest) sound room inside (inr valid) = valid-grown (moved marks i) (j ∷ rest) valid room (moved-sound marks i (length (j ∷ rest)) sound inside)
+sound-first : (marks : List Bool) (i : Insn) (rest : List Insn) → IsSound i → ((n : ℕ) → MayPass (operation_of i.code) i n → marked n marks < length rest)
+    → (rest ≡ []) ⊎ IsSoundCode rest → IsSoundCode (moved marks i ∷ rest)
+sound-first marks i [] sound inside code = single-sound (moved marks i) (moved-sound marks i 0 sound inside) (last-returns marks i sound inside)
+sound-first marks i (j ∷ rest) sound inside (inl none) = absurd cc
+sound-first marks i (j ∷ rest) sound inside (inr code) = sound-grown (moved marks i) (j ∷ rest) code (moved-sound marks i (length (j ∷ rest)) sound inside)
 
-pub valid-trimmed : (marks : List Bool) (program : List Insn) → ((k : ℕ) (i : Insn) → slice_get program k ≡ Some i → IsSound i) → IsClosed program marks → IsInside program marks → length program ≤ 512
-    → (trimmed marks program ≡ []) ⊎ IsValidProgram (trimmed marks program)
-valid-trimmed [] program sound closed inside within = inl refl
-valid-trimmed (mark ∷ marks) [] sound closed inside within = inl refl
-valid-trimmed (true ∷ marks) (i ∷ others) sound closed inside within =
+pub sound-trimmed : (marks : List Bool) (program : List Insn) → ((k : ℕ) (i : Insn) → slice_get program k ≡ Some i → IsSound i) → IsClosed program marks → IsInside program marks
+    → (trimmed marks program ≡ []) ⊎ IsSoundCode (trimmed marks program)
+sound-trimmed [] program sound closed inside = inl refl
+sound-trimmed (mark ∷ marks) [] sound closed inside = inl refl
+sound-trimmed (true ∷ marks) (i ∷ others) sound closed inside =
     let inside' = inside-later true marks i others inside in
-    inr (valid-first marks i (trimmed marks others) (sound 0 i refl) (omega (arith, trimmed-within marks others))
+    inr (sound-first marks i (trimmed marks others) (sound 0 i refl)
     (λ n may. let is = closed-here marks i others n closed may in marked-inside marks others n is (inside' n is))
-    (valid-trimmed marks others (λ k j here. sound (suc k) j here) (closed-later true marks i others closed) inside' (omega arith)))
-valid-trimmed (false ∷ marks) (i ∷ others) sound closed inside within =
-    valid-trimmed marks others (λ k j here. sound (suc k) j here) (closed-later false marks i others closed) (inside-later false marks i others inside) (omega arith)
+    (sound-trimmed marks others (λ k j here. sound (suc k) j here) (closed-later true marks i others closed) inside'))
+sound-trimmed (false ∷ marks) (i ∷ others) sound closed inside =
+    sound-trimmed marks others (λ k j here. sound (suc k) j here) (closed-later false marks i others closed) (inside-later false marks i others inside)
 
 closed-of : (marks : List Bool) (program : List Insn) → Marks program marks → IsClosed program marks
 closed-of marks program all = λ k n i here is may. all.closed k n i (slice_get_within program k i here) here is may
@@ -336,7 +337,7 @@ all-reached marks program all = λ k within.
     let path = path-to (suc found.place) marks program found.place all (omega arith) found.is in
     (path.0, subst (λ m. IsPath (trimmed marks program) path.0 m) found.now path.1)
 
--- inside a valid program an instruction leads to another one
+-- inside code an instruction leads to another one
 halves : (b c : Bool) → (b && c) ≡ true → (b ≡ true) × (c ≡ true)
 halves true true is = (refl, refl)
 halves true false is = absurd cc
@@ -356,35 +357,35 @@ inside-by (Some (Branch test v)) i size place n none later (inr may) =
     passed-inside place i.jf n size (halves (nat_lt (place + 1 + i.jt) size) _ (fine _ (JumpOut place) none)).1 may
 inside-by (Some other) i size place n none later may = let next = later refl in omega (arith, may)
 
-later-inside : (program : List Insn) (place : ℕ) (i : Insn) → IsValidProgram program → slice_get program place ≡ Some i → place < length program → is_return i ≡ false → place + 1 < length program
-later-inside program place i valid here within isnt = by_place (cases_lt (place + 1) (length program))
+later-inside : (program : List Insn) (place : ℕ) (i : Insn) → IsSoundCode program → slice_get program place ≡ Some i → place < length program → is_return i ≡ false → place + 1 < length program
+later-inside program place i code here within isnt = by_place (cases_lt (place + 1) (length program))
   where
     by_place : (place + 1 < length program) ⊎ (length program ≤ place + 1) → place + 1 < length program
     by_place (inl below) = below
     by_place (inr last) =
         let at : length program - 1 ≡ place = omega arith in
-        let there : slice_get program place ≡ Some valid.returns.0 = subst (λ k. slice_get program k ≡ Some valid.returns.0) at valid.returns.1 in
-        let same : i ≡ valid.returns.0 = cc in
-        let yes' : is_return i ≡ true = ap is_return same ∙ valid.returns.2 in
+        let there : slice_get program place ≡ Some code.returns.0 = subst (λ k. slice_get program k ≡ Some code.returns.0) at code.returns.1 in
+        let same : i ≡ code.returns.0 = cc in
+        let yes' : is_return i ≡ true = ap is_return same ∙ code.returns.2 in
         absurd cc
 
-pub leads-inside : (program : List Insn) (place n : ℕ) (i : Insn) → IsValidProgram program → slice_get program place ≡ Some i → place < length program → MayPass (operation_of i.code) i n → place + 1 + n < length program
+pub leads-inside : (program : List Insn) (place n : ℕ) (i : Insn) → IsSoundCode program → slice_get program place ≡ Some i → place < length program → MayPass (operation_of i.code) i n → place + 1 + n < length program
 unfolding fault_of is_return
-leads-inside program place n i valid here within may =
-    inside-by (operation_of i.code) i (length program) place n (valid.sound place i within here) (later-inside program place i valid here within) may
+leads-inside program place n i code here within may =
+    inside-by (operation_of i.code) i (length program) place n (code.sound place i within here) (later-inside program place i code here within) may
 
--- each instruction of a valid program is sound
-pub program-sound : (program : List Insn) (place : ℕ) (i : Insn) → IsValidProgram program → slice_get program place ≡ Some i → place < length program → IsSound i
-program-sound program place i valid here within = (length program, place, valid.sound place i within here)
+-- each instruction of sound code is sound
+pub program-sound : (program : List Insn) (place : ℕ) (i : Insn) → IsSoundCode program → slice_get program place ≡ Some i → place < length program → IsSound i
+program-sound program place i code here within = (length program, place, code.sound place i within here)
 
 -- a program, and the places that were marked in it
-pub trimmed-valid : (marks : List Bool) (program : List Insn) → IsValidProgram program → Marks program marks → IsValidProgram (trimmed marks program)
-trimmed-valid marks program valid all =
-    by_cases (valid-trimmed marks program (λ k i here. program-sound program k i valid here (slice_get_within program k i here)) (closed-of marks program all) all.inside valid.most)
+pub trimmed-sound : (marks : List Bool) (program : List Insn) → IsSoundCode program → Marks program marks → IsSoundCode (trimmed marks program)
+trimmed-sound marks program code all =
+    by_cases (sound-trimmed marks program (λ k i here. program-sound program k i code here (slice_get_within program k i here)) (closed-of marks program all) all.inside)
   where
-    by_cases : (trimmed marks program ≡ []) ⊎ IsValidProgram (trimmed marks program) → IsValidProgram (trimmed marks program)
+    by_cases : (trimmed marks program ≡ []) ⊎ IsSoundCode (trimmed marks program) → IsSoundCode (trimmed marks program)
     by_cases (inl none) = let some = marked-inside marks program 0 all.first (all.inside 0 all.first) in absurd (omega (arith, ap length none))
-    by_cases (inr valid') = valid'
+    by_cases (inr code') = code'
 
 pub trimmed-same : (marks : List Bool) (program : List Insn) → Marks program marks → (packet : List ℕ) (wire : ℕ) → verdict (trimmed marks program) packet wire ≡ verdict program packet wire
 unfolding verdict
@@ -507,9 +508,9 @@ marks-begin program marks some room clear =
     by_first k (inr same) = inl same
 
 -- one place farther, where what the instruction leads to was marked
-pub marks-step : (program : List Insn) (place : ℕ) (i : Insn) (marks marks' : List Bool) → IsValidProgram program → slice_get program place ≡ Some i → place < length program
+pub marks-step : (program : List Insn) (place : ℕ) (i : Insn) (marks marks' : List Bool) → IsSoundCode program → slice_get program place ≡ Some i → place < length program
     → IsMarked marks place → MarksBefore program place marks → MarksNext place (onward_of i) marks marks' → MarksBefore program (place + 1) marks'
-marks-step program place i marks marks' valid here within is all next = record {
+marks-step program place i marks marks' code here within is all next = record {
   first = next.kept 0 all.first;
   inside = λ k now. by_inside k (next.only k now);
   closed = λ k n j below here' now may. by_place k n j here' now may (cases_lt k place) below;
@@ -521,7 +522,7 @@ marks-step program place i marks marks' valid here within is all next = record {
 
     by_inside : (k : ℕ) → IsMarked marks k ⊎ New k → k < length program
     by_inside k (inl before) = all.inside k before
-    by_inside k (inr (m, may, same)) = let below = leads-inside program place m i valid here within (go-may (operation_of i.code) i m may) in omega arith
+    by_inside k (inr (m, may, same)) = let below = leads-inside program place m i code here within (go-may (operation_of i.code) i m may) in omega arith
 
     by_before : (k n : ℕ) (j : Insn) → k < place → slice_get program k ≡ Some j → IsMarked marks k ⊎ New k → MayPass (operation_of j.code) j n → IsMarked marks' (k + 1 + n)
     by_before k n j below here' (inl before) may = next.kept _ (all.closed k n j below here' before may)
@@ -616,19 +617,19 @@ none-marked (suc n) zero = refl
 none-marked (suc n) (suc k) = none-marked n k
 
 -- as the code says it
-pub next-inside : (program : List Insn) (place n : ℕ) (d : Insn) (goes : Onward) → IsValidProgram program → place < length program → goes ≡ onward_of (get_or program place d) → MayGo goes n → place + 1 + n < length program
-next-inside program place n d goes valid within is may =
+pub next-inside : (program : List Insn) (place n : ℕ) (d : Insn) (goes : Onward) → IsSoundCode program → place < length program → goes ≡ onward_of (get_or program place d) → MayGo goes n → place + 1 + n < length program
+next-inside program place n d goes code within is may =
     let i = get_or program place d in
     let may' : MayGo (onward_of i) n = subst (λ (x : Onward). MayGo x n) is may in
-    leads-inside program place n i valid (slice_get-get_or program place d within) within (go-may (operation_of i.code) i n may')
+    leads-inside program place n i code (slice_get-get_or program place d within) within (go-may (operation_of i.code) i n may')
 
-pub next-sound : (program : List Insn) (place : ℕ) (d : Insn) → IsValidProgram program → place < length program → IsSound (get_or program place d)
-next-sound program place d valid within = program-sound program place (get_or program place d) valid (slice_get-get_or program place d within) within
+pub next-sound : (program : List Insn) (place : ℕ) (d : Insn) → IsSoundCode program → place < length program → IsSound (get_or program place d)
+next-sound program place d code within = program-sound program place (get_or program place d) code (slice_get-get_or program place d within) within
 
-pub next-marked : (program : List Insn) (place : ℕ) (d : Insn) (goes : Onward) (marks marks' : List Bool) → IsValidProgram program → place < length program → goes ≡ onward_of (get_or program place d)
+pub next-marked : (program : List Insn) (place : ℕ) (d : Insn) (goes : Onward) (marks marks' : List Bool) → IsSoundCode program → place < length program → goes ≡ onward_of (get_or program place d)
     → IsMarked marks place → MarksBefore program place marks → MarksNext place goes marks marks' → MarksBefore program (place + 1) marks'
-next-marked program place d goes marks marks' valid within is here all new =
-    marks-step program place (get_or program place d) marks marks' valid (slice_get-get_or program place d within) within here all (subst (λ (x : Onward). MarksNext place x marks marks') is new)
+next-marked program place d goes marks marks' code within is here all new =
+    marks-step program place (get_or program place d) marks marks' code (slice_get-get_or program place d within) within here all (subst (λ (x : Onward). MarksNext place x marks marks') is new)
 
 -- the marks behind a place
 pub behind-inside : (marks : List Bool) (place n : ℕ) → place + 1 + n < length marks → n ≤ length (take (length marks - (place + 1)) (drop (place + 1) marks))

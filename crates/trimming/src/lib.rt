@@ -1,6 +1,6 @@
-//! Programs of the filter machine without the instructions that nothing reaches.
+//! Code of the filter machine without the instructions that nothing reaches.
 #![tactic(auto)]
 
 mod unreached;
 
-pub use unreached::without_unreached;
+pub use unreached::{MAX_CODE, without_unreached};

@@ -1,13 +1,16 @@
-//! A finished program without the instructions that nothing reaches.
+//! Finished code without the instructions that nothing reaches.
 
 ghost use Rattle.std.specs.Prelude.{◌≡◌, ℕ, ◌+◌, ◌<◌, ◌≤◌, List, false, length, slice_index_or};
 ghost use Rattle.bpfvm.specs.Machine.{verdict};
-ghost use Rattle.bpfvm.specs.Validity.{IsValidProgram};
 ghost use Rattle.trimming.specs.Reaching.{IsAllReached};
+ghost use Rattle.trimming.specs.Sound.{IsSoundCode};
 ghost use Rattle.trimming.specs.Trimming.{onward_of, MayGo, IsSound, marked, moved, trimmed, MarksNext, Marks};
 
 use arrayvec::ArrayVec;
-use bpfvm::{Insn, MAX_INSNS, code};
+use bpfvm::{Insn, code};
+
+/// The most instructions that code has before those that nothing reaches are taken out: 40 more than a program.
+pub const MAX_CODE: usize = 552;
 
 /// Where a run goes on behind an instruction.
 #[derive(Clone, Copy)]
@@ -60,9 +63,9 @@ fn mark_next(next: Onward, place: usize, marks: &mut [bool])
     }
 }
 
-/// Marks the places of a program that are reached: jumps lead forward alone, so that one walk finds them.
+/// Marks the places of code that are reached: jumps lead forward alone, so that one walk finds them.
 fn mark_reached(insns: &[Insn], marks: &mut [bool])
-    requires program { IsValidProgram insns.now }
+    requires code { IsSoundCode insns.now }
     requires room { length insns.now ≤ length marks.old }
     requires clear { (k : ℕ) → slice_index_or marks.old k false ≡ false }
     ensures size { length marks.new ≡ length marks.old }
@@ -113,8 +116,9 @@ fn moved(insn: Insn, behind: &[bool]) -> Insn
 }
 
 /// The instructions at the marked places.
-fn marked_insns(insns: &[Insn], marks: &[bool]) -> ArrayVec<Insn, MAX_INSNS>
-    requires program { IsValidProgram insns.now }
+fn marked_insns(insns: &[Insn], marks: &[bool]) -> ArrayVec<Insn, MAX_CODE>
+    requires code { IsSoundCode insns.now }
+    requires most { length insns.now ≤ 552 }
     requires room { length insns.now ≤ length marks.now }
     requires marks { Marks insns.now marks.now }
     ensures { result.items ≡ trimmed marks.now insns.now }
@@ -128,15 +132,19 @@ fn marked_insns(insns: &[Insn], marks: &[bool]) -> ArrayVec<Insn, MAX_INSNS>
     kept
 }
 
-/// The program without the instructions that nothing reaches: it answers as before. From its first instruction some path of jumps
+/// The code without the instructions that nothing reaches: it answers as before. From its first instruction some path of jumps
 /// leads to each of the others; such a path may take a side that no packet takes.
-pub fn without_unreached(insns: &[Insn]) -> ArrayVec<Insn, MAX_INSNS>
-    requires { IsValidProgram insns.now }
-    ensures valid { IsValidProgram result.items }
+///
+/// Code is what would be a program, were there 512 instructions at most; here there may be [`MAX_CODE`].
+pub fn without_unreached(insns: &[Insn]) -> ArrayVec<Insn, MAX_CODE>
+    requires code { IsSoundCode insns.now }
+    requires most { length insns.now ≤ 552 }
+    ensures code { IsSoundCode result.items }
+    ensures shorter { length result.items ≤ length insns.now }
     ensures same { (packet : List ℕ) (wire : ℕ) → verdict result.items packet wire ≡ verdict insns.now packet wire }
     ensures reached { IsAllReached result.items }
 {
-    let mut marks = [false; MAX_INSNS];
+    let mut marks = [false; MAX_CODE];
     mark_reached(insns, &mut marks);
     marked_insns(insns, &marks)
 }

@@ -4,11 +4,11 @@ use Rattle.trimming.proofs.unreached.marked_insns.Goals as goal
 use Rattle.trimming.proofs.unreached.marked_insns.Goals.{then-marks-place, else-marks-place}
 
 pub moved-requires-clause-sound : goal.moved-requires-clause-sound
-moved-requires-clause-sound c = next-sound c.args.insns.now c.loop-place.place _ c.requires.program c.loop-place-test.true
+moved-requires-clause-sound c = next-sound c.args.insns.now c.loop-place.place _ c.requires.code c.loop-place-test.true
 
 pub moved-requires-clause-inside : goal.moved-requires-clause-inside
 moved-requires-clause-inside c = λ n may.
-    let below = next-inside c.args.insns.now c.loop-place.place n _ _ c.requires.program c.loop-place-test.true refl may in
+    let below = next-inside c.args.insns.now c.loop-place.place n _ _ c.requires.code c.loop-place-test.true refl may in
     behind-inside c.args.marks.now c.loop-place.place n (omega (arith, c.requires.room))
 
 pub loop-place-preserved : goal.loop-place-preserved

@@ -1,10 +1,19 @@
+use Rattle.std.proofs.Common.{◌∙◌, arith}
 use Rattle.bpfvm.specs.Codes.{AnyBit}
 use Rattle.bpfvm.specs.Machine.{holds}
 use Rattle.syntax.specs.Trees.{amount_of}
 use Rattle.semantics.specs.Meaning.{value}
-use Rattle.generation.proofs.Computing.{bits-any, decides-valued}
-use Rattle.generation.proofs.Deciding.{decides-same}
+use Rattle.generation.proofs.Bounds.{value_positive}
+use Rattle.generation.proofs.Computing.{bits-any, decides-valued, field-checked}
+use Rattle.generation.proofs.Deciding.{decides-more, decides-same}
 use Rattle.generation.proofs.code.Code.any_bit.Goals as goal
+
+pub returns-in-Some : goal.returns-in-Some
+returns-in-Some c =
+    let amount = amount_of c.args.amount.now in
+    let mask = c.args.mask in
+    decides-more _ (omega (arith, value_positive amount))
+    (decides-same _ _ (λ p bytes. field-checked (holds AnyBit) mask _ _ (c.in-Some.ensures p) ∙ bits-any mask (value amount p)) c.test.ensures)
 
 pub returns : goal.returns
 returns c =

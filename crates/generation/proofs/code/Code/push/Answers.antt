@@ -1,8 +1,9 @@
-use Rattle.std.proofs.Common.{[], ◌≡◌, ◌+◌, ◌<◌, None, length, List, ◌∷◌, reverse, ap, sym, ◌∙◌, subst}
+use Rattle.std.proofs.Common.{[], ◌≡◌, ◌+◌, None, length, List, ◌∷◌, reverse, ap, sym, ◌∙◌, subst}
 use Rattle.std.proofs.lemmas.List.{reverse-append}
 use Rattle.bpfvm.specs.declared.insn.Insn.{Insn}
-use Rattle.bpfvm.specs.Validity.{IsValidProgram, fault_of}
-use Rattle.trimming.proofs.Growing.{valid-grown}
+use Rattle.bpfvm.specs.Validity.{fault_of}
+use Rattle.trimming.specs.Sound.{IsSoundCode}
+use Rattle.trimming.proofs.Growing.{sound-grown}
 use Rattle.generation.proofs.code.Code.push.Goals as goal
 
 pub invariant_of-self : goal.invariant_of-self
@@ -11,5 +12,4 @@ invariant_of-self c =
     let grown : c.args.insn ∷ old ≡ reverse c.push.new.self.items = sym (ap reverse c.push.ensures.items ∙ reverse-append c.self.inside.insns.items (c.args.insn ∷ [])) in
     let is : c.args.self.now ≡ old = sym c.self.view_is in
     let sound = subst (λ (l : List Insn). fault_of (length l + 1) 0 c.args.insn ≡ None) is c.requires.sound in
-    let room = subst (λ (l : List Insn). length l < 512) is c.requires.room in
-    subst IsValidProgram grown (valid-grown c.args.insn old c.self.invariant room sound)
+    subst IsSoundCode grown (sound-grown c.args.insn old c.self.invariant sound)
