@@ -394,7 +394,7 @@ def parsed():
     parser.add_argument("names", nargs="*", metavar="NAME", help="a crate, or one edit of it as NAME/EDIT")
     parser.add_argument("--all", action="store_true", help=f"the edits of {GATE}/ too")
     parser.add_argument("--list", action="store_true", help="print the batches, and try nothing")
-    parser.add_argument("--jobs", type=int, default=1, metavar="N", help="so many checks at once (1; each takes up to 3 GB)")
+    parser.add_argument("--jobs", type=int, default=1, metavar="N", help="so many checks at once (1; each takes up to 4 GB)")
     parser.add_argument("--logs", type=pathlib.Path, metavar="FOLDER", help="keep what the check says of each batch there")
     return parser.parse_args()
 

@@ -82,9 +82,21 @@ def crates_are_proved_once_and_the_lowest_first(scene):
     scene.check("first and last", (calls[0], calls[-1]), ("low", "bpftap"))
     lines = seen.err.decode().splitlines()
     scene.check("printed, and the status", (seen.out, seen.status), (b"", 0))
-    scene.check("told first", (lines[0].startswith("bpftap: building: 4 crates are to be proved, "), "15 to 28 minutes" in lines[0]), (True, True))
+    scene.check("told first", (lines[0].startswith("bpftap: building: 4 crates are to be proved, "), ", and 2 GB of disk" in lines[0]), (True, True))
     scene.check("told last", lines[-1], "bpftap: building: bpftap is proved, 4 of 4 crates (0 min so far)")
     scene.check("lines", len(lines), 5)
+
+
+@case
+def minutes_are_told_before(scene):
+    """How long it takes, by what is left: a long crate is the end of a chain of three, whatever the processors are; two short ones take no while."""
+    source = Source(scene)
+    (source.folder / "crates" / "low" / "src" / "lib.rt").write_text("// low\n" * 20000)
+    told = source.run().err.decode().splitlines()[0]
+    scene.check(told, "that takes some 21 to 38 minutes, and 2 GB of disk" in told or "21 to 39 minutes" in told, True)
+    (source.folder / "crates" / "middle" / "src" / "lib.rt").write_text("// another\n")
+    told = source.run().err.decode().splitlines()[0]
+    scene.check(told, "minutes" in told, False)
 
 
 @case
