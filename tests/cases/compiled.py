@@ -215,7 +215,7 @@ SIZES = [
     ("", "ip[8] = ", 100, 110), ("ether src ", "0:1:2:3:4:", 100, 115), ("ether dst ", "0:1:2:3:4:", 100, 115),
     ("ether host ", "0:1:2:3:4:", 100, 220), ("net ", "10.0.", 100, 319), ("dst port ", "", 100, 115),
     ("ether proto ", "0x90", 100, 115), ("", "portrange 10-10", 100, 416), ("dst port ", "", 480, 494), ("", "tcp[4:4] = ", 400, 412),
-    ("", "len = ", 100, 103), ("port ", "", 248, 512), ("tcp port ", "", 249, 512), ("dst port ", "", 498, 512), ("", "tcp[4:4]=", 500, 512),
+    ("", "len = ", 100, 103), ("port ", "", 248, 512), ("tcp port ", "", 249, 512), ("dst port ", "", 498, 512), ("", "tcp[4:4]=", 500, 512), ("", "ip[8]=", 504, 512),
 ]
 
 # Two members by turns, each for as many numbers, how many they are together, and how many instructions they take.

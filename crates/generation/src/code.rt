@@ -182,12 +182,15 @@ impl Code {
         }
     }
 
-    /// The place, or the one behind it where this instruction stands there: for a run in which it would change nothing.
+    /// The place, or the one behind it where this instruction stands there: for a run in which it would change nothing. Where a
+    /// jump would reach the place alone, it stays.
     fn passed(&self, insn: Insn, place: usize) -> usize
         requires { IsPlace self.now place }
         ensures { Passes insn place result self.now }
     {
-        if place > 1 && self.insn_at(place) == insn {
+        let distance = self.len() - place;
+        let reached_alone = distance == REACH || distance == REACH - 1;
+        if place > 1 && !reached_alone && self.insn_at(place) == insn {
             place - 1
         } else {
             place

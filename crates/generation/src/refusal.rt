@@ -5,8 +5,8 @@ use thiserror::Error;
 /// Why an expression is not compiled. `BadSnap` is looked for first, and `TooDeep` second.
 #[derive(Clone, Copy, Debug, PartialEq, Eq, Error)]
 pub enum Refusal {
-    /// The program has more than 512 instructions, or nearly 552 before those that nothing reaches are taken out. It comes only where
-    /// the expression's weight is above 500.
+    /// More than 512 instructions are written for the expression, before those that nothing reaches are taken out. It comes only
+    /// where the expression's weight is above 500.
     #[error("TooLong")]
     TooLong,
     /// A relation needs more than 16 cells of the scratch memory.
