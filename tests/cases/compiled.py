@@ -43,10 +43,10 @@ WORKED = [
     ("ether proto \\ip or ether proto \\rarp", UDP_FRAME, "Yes"), ("ether proto \\ip or ether proto \\rarp", ARP_FRAME, "No"),
     ("not ip multicast", UDP_FRAME, "Yes"), ("not ip multicast", ARP_FRAME, "Yes"),
     ("greater 39", UDP_FRAME, "No"), ("greater 39", ARP_FRAME, "Yes"),
-    # What weighs 480 compiles, and what weighs 520 may, where it fits; so does a chain of 271.
+    # What weighs 480 compiles, and what weighs 520 may, where it fits; so does a chain of 272.
     (TWELVE, UDP_FRAME, "No"), (TWELVE, changed(36, 0, 12), "Yes"), (TWELVE, changed(36, 0, 1), "Yes"),
     (THIRTEEN, UDP_FRAME, "No"), (THIRTEEN, changed(36, 0, 13), "Yes"),
-    ("ip" + "||ip" * 270, UDP_FRAME, "Yes"), ("ip" + "||ip" * 270, ARP_FRAME, "No"),
+    ("ip" + "||ip" * 271, UDP_FRAME, "Yes"), ("ip" + "||ip" * 271, ARP_FRAME, "No"),
     ("", b"", "Yes"),
     ("arp[6:2] = 1", ARP_FRAME, "Yes"), ("rarp[6:2] = 1", ARP_FRAME, "No"),
     ("udp[0:2] = 53", LATER, "No"), ("ip[0] = 0x45", LATER, "Yes"),
