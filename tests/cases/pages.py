@@ -55,11 +55,12 @@ def commands_of_all_pages_are_run(scene):
 
 
 @case
-def pages_name_what_the_program_was_proved_with(scene):
-    """README and the page of promises name the toolchain that `--version` does."""
-    kit = scene.run("--version").out.decode().rpartition(", proved with ")[2].strip()
+def program_and_pages_name_the_logic_of_the_toolchain(scene):
+    """The toolchain at hand, `--version`, README and the page of promises name one logic."""
+    _, _, logic = subprocess.run(["rt", "version"], stdout=subprocess.PIPE, text=True, check=True).stdout.partition(" ")
+    scene.check("--version", scene.run("--version").out.decode(), f"bpftap 0.1.0, proved in the {logic}")
     for name in ["README.md", "docs/PROMISES.md"]:
-        scene.check(f"{kit} in {name}", kit != "" and kit in (ROOT / name).read_text(), True)
+        scene.check(f"{logic.strip()} in {name}", f"in the {logic.strip()}," in (ROOT / name).read_text(), True)
 
 
 def pages():

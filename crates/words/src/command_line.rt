@@ -43,8 +43,8 @@ pub enum Request<'a> {
     Split(SplitWords<'a>),
 }
 
-/// What the program calls itself, and what it was proved with.
-const VERSION: &str = "0.1.0, proved with rattle-kit-13f logic dac8208d650f15bf";
+/// What the program calls itself, and in which logic it was proved, as `rt version` names it. Kits share one.
+const VERSION: &str = "0.1.0, proved in the logic dac8208d650f15bf";
 
 const ABOUT: &str =
     "Filters captures offline, and replays them to listeners that keep and drop packets";
