@@ -13,7 +13,7 @@ still proved is a failure: then a contract says too little, or the edit is none.
 proof names what it takes away: that tells nothing of the contract.
 
 Each lane has a copy of the crate in a temporary folder, with what `./build` and `./build --check NAME` kept of it and of those below;
-what is not kept is proved first. The last line is `N passed, M failed`.
+what is not kept is proved first. Edit and build nothing while it runs. The last line is `N passed, M failed`.
 """
 import argparse
 import collections

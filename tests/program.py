@@ -44,7 +44,7 @@ def list_cases(groups):
 
 
 # How many cases run side by side.
-LANES = min(4, os.cpu_count() or 1)
+LANES = min(4, len(os.sched_getaffinity(0)))
 
 
 def run_case(name, number, folder):

@@ -189,35 +189,65 @@ def ends(process):
     return False
 
 
-def interrupted(scene, number, program):
-    """A source whose build was broken off by a signal at its last crate, and what was told of it. No check is left running."""
-    source = Source(scene)
+def waits(source, program, ignored=None):
+    """A build that waits at its last crate, in a session of its own, with a signal that is ignored as under nohup."""
     (source.kit / "waits").write_text("bpftap")
     process = subprocess.Popen(
-        [source.folder / program], env=source.environment(), stdin=subprocess.DEVNULL, stderr=subprocess.PIPE, start_new_session=True)
+        [source.folder / program], env=source.environment(), stdin=subprocess.DEVNULL, stderr=subprocess.PIPE, start_new_session=True,
+        preexec_fn=lambda: ignored and signal.signal(ignored, signal.SIG_IGN))
     waiting = source.kit / "waiting"
     for _ in range(1000):
         if waiting.exists() and waiting.read_text().endswith("\n"):
             break
         time.sleep(0.02)
-    os.killpg(process.pid, number)
+    return process, waiting.read_text().strip()
+
+
+def interrupted(scene, number, program, times):
+    """A source whose build was broken off by signals at its last crate, and what was told of it. No check is left running."""
+    source = Source(scene)
+    process, check = waits(source, program)
+    for _ in range(times):
+        os.killpg(process.pid, number)
     told = process.communicate(timeout=LIMIT)[1].splitlines()
     scene.check(f"status of {program} behind {number.name}", process.returncode, 128 + number)
     scene.check(f"told behind {number.name}", told[-1].startswith(b"bpftap: building: interrupted; what is proved is kept"), True)
-    scene.check(f"ended behind {number.name}", ends(waiting.read_text().strip()), True)
+    scene.check(f"ended behind {number.name}", ends(check), True)
     (source.kit / "waits").unlink()
     return source
 
 
 @case
 def an_interrupted_build_goes_on(scene):
-    """Behind a signal the way on is told, and the next call begins with what was not proved."""
-    for number, program in [(signal.SIGINT, "build"), (signal.SIGTERM, "build"), (signal.SIGHUP, "build")]:
-        source = interrupted(scene, number, program)
+    """Behind a signal, or several, the way on is told, and the next call begins with what was not proved."""
+    for number, program, times in [(signal.SIGINT, "build", 1), (signal.SIGINT, "build", 5), (signal.SIGINT, "bpftap", 1), (signal.SIGTERM, "build", 1),
+                                   (signal.SIGHUP, "build", 1)]:
+        source = interrupted(scene, number, program, times)
         source.calls()
         scene.check(f"the next call behind {number.name}", (source.run().status, source.calls()), (0, ["bpftap"]))
         shutil.rmtree(source.folder)
         shutil.rmtree(source.kit)
+
+
+@case
+def a_build_under_nohup_outlives_its_terminal(scene):
+    """A signal that is ignored as the build begins does not end it."""
+    source = Source(scene)
+    process, check = waits(source, "build", ignored=signal.SIGHUP)
+    os.killpg(process.pid, signal.SIGHUP)
+    time.sleep(0.3)
+    scene.check("goes on", process.poll(), None)
+    os.kill(int(check), signal.SIGTERM)
+    told = process.communicate(timeout=LIMIT)[1].splitlines()
+    scene.check("told last, and the status", (told[-1], process.returncode), (b"bpftap: building: bpftap is proved, 4 of 4 crates (0 min so far)", 0))
+
+
+@case
+def a_folder_that_keeps_nothing_is_told(scene):
+    """Where no folder can be made for what is kept, a line says so."""
+    source = Source(scene)
+    (source.folder / "out").write_text("a file\n")
+    scene.check("told", source.run(), Seen(b"", b"bpftap: nothing can be kept in out/build: Not a directory\n", 1))
 
 
 @case
