@@ -190,11 +190,16 @@ def ends(process):
 
 
 def waits(source, program, ignored=None):
-    """A build that waits at its last crate, in a session of its own, with a signal that is ignored as under nohup."""
+    """A build that waits at its last crate, in a session of its own, with a signal that is ignored as under nohup, and no other one,
+    whatever these tests themselves run under."""
+    def handle():
+        for number in (signal.SIGINT, signal.SIGTERM, signal.SIGHUP):
+            signal.signal(number, signal.SIG_IGN if number == ignored else signal.SIG_DFL)
+
     (source.kit / "waits").write_text("bpftap")
     process = subprocess.Popen(
         [source.folder / program], env=source.environment(), stdin=subprocess.DEVNULL, stderr=subprocess.PIPE, start_new_session=True,
-        preexec_fn=lambda: ignored and signal.signal(ignored, signal.SIG_IGN))
+        preexec_fn=handle)
     waiting = source.kit / "waiting"
     for _ in range(1000):
         if waiting.exists() and waiting.read_text().endswith("\n"):
