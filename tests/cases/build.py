@@ -25,6 +25,7 @@ does takes "$3" && sleep 1
 does waits "$3" && { sleep 60 & echo $! >"$KIT/waiting"; wait; }
 does edited "$3" && echo '// edited' >>src/lib.rt
 [ "$1" = check ] && { echo "checked with $*"; exit 0; }
+does untested "$3" && { : >"$last"; exit 0; }
 case $last in *.rlib) mkdir "$last" ;; *) echo made >"$last" ;; esac
 """
 # The tests of a crate that is built with tests: how they end is its last word.
@@ -92,11 +93,32 @@ def minutes_are_told_before(scene):
     """How long it takes, by what is left: a long crate is the end of a chain of three, whatever the processors are; two short ones take no while."""
     source = Source(scene)
     (source.folder / "crates" / "low" / "src" / "lib.rt").write_text("// low\n" * 20000)
-    told = source.run().err.decode().splitlines()[0]
-    scene.check(told, "that takes some 21 to 38 minutes, and 2 GB of disk" in told or "21 to 39 minutes" in told, True)
+    first, second = source.run().err.decode().splitlines()[:2]
+    scene.check(first, "that takes some 21 to 38 minutes, and 2 GB of disk" in first or "21 to 39 minutes" in first, True)
+    scene.check(second, "1 of 4 crates (0 min so far, some 21 to 3" in second and " in all)" in second, True)
     (source.folder / "crates" / "middle" / "src" / "lib.rt").write_text("// another\n")
     told = source.run().err.decode().splitlines()[0]
     scene.check(told, "minutes" in told, False)
+
+
+@case
+def a_container_has_what_its_group_allows(scene):
+    """As many crates are proved at a time as there are processors with 4 GB of memory each, in a container by its control group."""
+    source, group = Source(scene), scene.folder / "group"
+    group.mkdir()
+    (group / "memory.stat").write_text("file 8000000000\nanon 900000000\n")
+    script = (ROOT / "build").read_text().replace("/sys/fs/cgroup", str(group)).replace("/proc/meminfo", str(group / "meminfo"))
+    (source.folder / "build").write_text(script)
+    machine = len(os.sched_getaffinity(0))
+    for free, quota, memory, lanes in [(4000, "max", "max", machine), (1, "max", "max", 1), (4000, "100000", "max", 1), (4000, "290000", "max", 2),
+                                       (4000, "1000", "max", 1), (4000, "max", "8899999999", 1), (4000, "max", "8900000000", 2)]:
+        (group / "meminfo").write_text(f"MemTotal: 1 kB\nMemAvailable:   {free}000000 kB\n")
+        (group / "cpu.max").write_text(f"{quota} 100000\n")
+        (group / "memory.max").write_text(f"{memory}\n")
+        seen = source.run("--lanes")
+        scene.check(f"of {free} GB, {quota}, {memory}", seen, Seen(f"{min(lanes, machine)}\n".encode(), b"", 0))
+    (group / "memory.max").write_text("1000000000\n")
+    scene.check("told", b" 1 at a time" in source.run().err, True)
 
 
 @case
@@ -145,7 +167,8 @@ def a_crate_that_is_not_proved_is_told(scene):
 def what_runs_beside_a_failure_is_kept(scene):
     """Behind a crate that is not proved none is begun, and one that runs beside it is proved to its end and kept. On one processor
     none runs beside it."""
-    source, beside = Source(scene), ["other"] if len(os.sched_getaffinity(0)) > 1 else []
+    source = Source(scene)
+    beside = ["other"] if int(source.run("--lanes").out) > 1 else []
     source.run("low")
     source.calls()
     (source.kit / "fails").write_text("middle")
@@ -304,6 +327,9 @@ def tests_of_one_crate_are_run(scene):
     scene.check("calls", source.calls(), ["low", "middle"])
     seen = source.run("--test", "other")
     scene.check("failed", (seen.out, seen.status), (b"tests of other_tests\n", 1))
+    (source.kit / "untested").write_text("side")
+    seen = source.run("--test", "side")
+    scene.check("none", (seen.out, seen.status), (b"side has no tests of its own\n", 0))
 
 
 @case

@@ -79,18 +79,23 @@ def files_are_put_again(scene):
 
 @case
 def a_prefix_that_cannot_be_written_is_refused(scene):
-    """Where a file stands in the way nothing is built and nothing is put, and the way out is told: status 1."""
+    """Where a file or a link that leads nowhere stands in the way nothing is built and nothing is put, and the way out is told: status 1."""
     source = source_in(scene)
     (scene.folder / "file").touch()
     (scene.folder / "half" / "share").mkdir(parents=True)
     (scene.folder / "half" / "share" / "man").touch()
-    for prefix, bar in [("file", "file"), ("file/below", "file"), ("half", "half/share/man")]:
+    (scene.folder / "linked").mkdir()
+    (scene.folder / "linked" / "bin").symlink_to("nowhere")
+    for prefix, bar in [("file", "file"), ("file/below", "file"), ("half", "half/share/man"), ("linked", "linked/bin")]:
         seen = install(scene, source, prefix)
         line = f"install: {scene.folder}/{bar} cannot be written, so nothing was put under {scene.folder}/{prefix}\n"
         scene.check(f"told of {prefix}", (line.encode() in seen.err, b"./install ~/.local" in seen.err), (True, True))
         scene.check(f"printed of {prefix}, and the status", (seen.out, seen.status), (b"", 1))
         scene.check("built", (source / "crates" / "bpftap" / "out" / "bpftap").exists(), False)
     scene.check("put", put_below(scene.folder / "half"), {"share/man"})
+    (scene.folder / "taken" / "bin" / "bpftap").mkdir(parents=True)
+    line = f"install: {scene.folder}/taken/bin/bpftap is a folder, so nothing was put under {scene.folder}/taken\n"
+    scene.check("a folder in a file's place", install(scene, source, "taken"), Seen(b"", line.encode(), 1))
 
 
 @case

@@ -1,6 +1,7 @@
 //! The filters of the commands, each of a listing's file or of an expression, and what is told where there is none.
 
-ghost use Rattle.std.specs.Prelude.{◌≤◌, IfErr};
+ghost use Rattle.std.specs.Prelude.{◌≡◌, ◌≤◌, Ok, IfErr, IfOk, IsErr};
+ghost use Rattle.cutting.specs.Telling.{print_status};
 
 use bpfvm::{ListingFault, Program};
 use cutting::check::PrintFault;
@@ -11,6 +12,7 @@ use hints::TakesHints;
 use hints::expressions::hint_expression;
 use hints::failures::hint_unprinted;
 use hints::files::{LISTING, hint_bad_line};
+use lines::telling::REFUSED;
 use std::fs::Files;
 
 fn hint_filter<E: TakesHints>(
@@ -35,7 +37,8 @@ pub fn told_filter<E: TakesHints>(
     found: Result<Program, FilterFault>,
     err: &mut E,
 ) -> Result<Program, u8>
-    ensures { IfErr result (λ status. status ≤ 3) }
+    ensures found { IfOk result (λ program. found ≡ Ok program) }
+    ensures refused { IfErr result (λ status. (status ≡ REFUSED) × IsErr found) }
 {
     match found {
         Ok(program) => Ok(program),
@@ -74,7 +77,7 @@ pub(crate) fn program_of_expression<R: AllocGlobal, E: TakesHints>(
 
 /// Tells why the program of an expression was not printed, if it was not, and answers the exit status.
 pub fn told_print<E: TakesHints>(expr: &str, printed: Result<(), PrintFault>, err: &mut E) -> u8
-    ensures { result ≤ 3 }
+    ensures { result ≡ print_status printed }
 {
     match printed {
         Err(PrintFault::Expression(fault)) => {
