@@ -13,13 +13,10 @@ still proved is a failure: then a contract says too little, or the edit is none.
 proof names what it takes away: that tells nothing of the contract.
 
 Each lane has a copy of the crate in a temporary folder, with what `./build` and `./build --check NAME` kept of it and of those below;
-what is not kept is proved first. Edit nothing while it runs; a build in this folder, that of `./bpftap` too, waits for its end. The
-last line is `N passed, M failed`.
+what is not kept is proved first. Edit and build nothing while it runs. The last line is `N passed, M failed`.
 """
 import argparse
 import collections
-import contextlib
-import fcntl
 import os
 import pathlib
 import re
@@ -428,16 +425,6 @@ def build_below(waiting):
         sys.exit("what stands below is not proved")
 
 
-@contextlib.contextmanager
-def undisturbed():
-    """Keeps builds in this folder waiting, by the lock that they hold."""
-    kept = ROOT / "out" / "build"
-    kept.mkdir(parents=True, exist_ok=True)
-    with open(kept / "lock", "w") as lock:
-        fcntl.flock(lock, fcntl.LOCK_EX)
-        yield
-
-
 def show(waiting):
     """Prints the batches, and which edits can't be applied."""
     batches = [it for found in waiting.values() for it in found]
@@ -455,7 +442,7 @@ def main():
     if given.list:
         return show(waiting)
     build_below(waiting)
-    with undisturbed(), tempfile.TemporaryDirectory(prefix="edits-", ignore_cleanup_errors=True) as room:
+    with tempfile.TemporaryDirectory(prefix="edits-", ignore_cleanup_errors=True) as room:
         trial = Trial(waiting, room, given.logs)
         lanes = [threading.Thread(target=trial.lane) for _ in range(max(1, given.jobs))]
         [it.start() for it in lanes]

@@ -103,22 +103,31 @@ def minutes_are_told_before(scene):
 
 @case
 def a_container_has_what_its_group_allows(scene):
-    """As many crates are proved at a time as there are processors with 4 GB of memory each, in a container by its control group."""
+    """As many crates are proved at a time as there are processors with 4 GB of memory each, in a container by its control group's files."""
     source, group = Source(scene), scene.folder / "group"
-    group.mkdir()
-    (group / "memory.stat").write_text("file 8000000000\nanon 900000000\n")
     script = (ROOT / "build").read_text().replace("/sys/fs/cgroup", str(group)).replace("/proc/meminfo", str(group / "meminfo"))
     (source.folder / "build").write_text(script)
     machine = len(os.sched_getaffinity(0))
-    for free, quota, memory, lanes in [(4000, "max", "max", machine), (1, "max", "max", 1), (4000, "100000", "max", 1), (4000, "290000", "max", 2),
-                                       (4000, "1000", "max", 1), (4000, "max", "8899999999", 1), (4000, "max", "8900000000", 2)]:
-        (group / "meminfo").write_text(f"MemTotal: 1 kB\nMemAvailable:   {free}000000 kB\n")
-        (group / "cpu.max").write_text(f"{quota} 100000\n")
-        (group / "memory.max").write_text(f"{memory}\n")
-        seen = source.run("--lanes")
-        scene.check(f"of {free} GB, {quota}, {memory}", seen, Seen(f"{min(lanes, machine)}\n".encode(), b"", 0))
-    (group / "memory.max").write_text("1000000000\n")
-    scene.check("told", b" 1 at a time" in source.run().err, True)
+    taken, rss = "file 8000000000\nanon 900000000\n", "cache 8000000000\nrss 1\ntotal_rss 900000000\n"
+    rows = [
+        ({}, machine), ({"meminfo": "MemTotal: 64000000 kB\nMemAvailable:   1000000 kB\n"}, 1),
+        ({"cpu.max": "max 100000\n", "memory.max": "max\n", "memory.stat": taken}, machine),
+        ({"cpu.max": "100000 100000\n"}, 1), ({"cpu.max": "290000 100000\n"}, 2), ({"cpu.max": "1000 100000\n"}, 1),
+        ({"memory.max": "8899999999\n", "memory.stat": taken}, 1), ({"memory.max": "8900000000\n", "memory.stat": taken}, 2),
+        ({"memory.max": "1\n"}, machine),
+        ({"cpu/cpu.cfs_quota_us": "-1\n", "cpu/cpu.cfs_period_us": "100000\n"}, machine),
+        ({"cpu/cpu.cfs_quota_us": "200000\n", "cpu/cpu.cfs_period_us": "100000\n"}, 2),
+        ({"memory/memory.limit_in_bytes": "9223372036854771712\n", "memory/memory.stat": rss}, machine),
+        ({"memory/memory.limit_in_bytes": "8899999999\n", "memory/memory.stat": rss}, 1),
+    ]
+    for files, lanes in rows:
+        for name, text in {"meminfo": "MemAvailable:   4000000000 kB\n", **files}.items():
+            (group / name).parent.mkdir(parents=True, exist_ok=True)
+            (group / name).write_text(text)
+        scene.check(f"lanes of {files}", source.run("--lanes"), Seen(f"{min(lanes, machine)}\n".encode(), b"", 0))
+        scene.check("told", f" {min(lanes, machine)} at a time" in source.run().err.decode(), True)
+        shutil.rmtree(group)
+        shutil.rmtree(source.folder / "out")
 
 
 @case

@@ -68,13 +68,18 @@ def files_are_put_under_the_prefix(scene):
 
 @case
 def files_are_put_again(scene):
-    """A second call, with a prefix that is not absolute, replaces what stands there; nothing is told where the PATH has it."""
+    """A second call, with a prefix that is not absolute, replaces what stands there, a link too; nothing is told where the PATH has it."""
     source = source_in(scene)
     install(scene, source, "there")
     (scene.folder / "there" / "bin" / "bpftap").write_text("old")
     seen = install(scene, source, "./there", path=f"{scene.folder}/there/bin:/usr/bin:/bin")
     scene.check("told, and the status", (seen.err, seen.status), (b"there already\n", 0))
     scene.check("the program", b"stand-in" in (scene.read("there/bin/bpftap") or b""), True)
+    program = scene.folder / "there" / "bin" / "bpftap"
+    program.unlink()
+    program.symlink_to(scene.folder)
+    scene.check("the status over a link to a folder", install(scene, source, "there").status, 0)
+    scene.check("a link replaced", (program.is_symlink(), program.is_file()), (False, True))
 
 
 @case
