@@ -57,22 +57,45 @@ fn put_answer(
     Ok(())
 }
 
-/// What a listener answers to a script, what it has then, and its counts.
-fn play(alloc: Global, listener: &mut Listener, script: &str) -> Result<String, Fail> {
-    let mut out = String::new(alloc);
+/// Adds what a listener answers to a script.
+fn put_answers(
+    alloc: Global,
+    listener: &mut Listener,
+    script: &str,
+    out: &mut String,
+) -> Result<(), Fail> {
     let mut place = 0;
     for one in script.chars() {
-        put_answer(alloc, listener, one, place, &mut out)?;
+        put_answer(alloc, listener, one, place, out)?;
         if one == 'a' {
             place = place.wrapping_add(1);
         }
     }
+    Ok(())
+}
+
+/// What a listener answers to a script, what it has then, and its counts.
+fn play(alloc: Global, listener: &mut Listener, script: &str) -> Result<String, Fail> {
+    let mut out = String::new(alloc);
+    put_answers(alloc, listener, script, &mut out)?;
     let (hold, store) = listener.buffers();
     put_state(hold, store, listener.counts(), &mut out)?;
     Ok(out)
 }
 
-/// A script is played so at a listener of snapshot length 32.
+/// A listener of snapshot length 32 that accepts each packet.
+fn keeping_all(alloc: Global, capacity: usize, mode: Mode) -> Result<Listener, Fail> {
+    let program = keeping(262_144)?;
+    Ok(Listener::open_as(alloc, program, 32, capacity, mode)?)
+}
+
+/// What such a listener answers to a script, what it has then, and its counts.
+fn told_of(alloc: Global, capacity: usize, mode: Mode, script: &str) -> Result<String, Fail> {
+    let mut listener = keeping_all(alloc, capacity, mode)?;
+    play(alloc, &mut listener, script)
+}
+
+/// A script is played so at such a listener.
 fn played(
     rt: &(impl Abort + AllocGlobal),
     capacity: usize,
@@ -80,8 +103,7 @@ fn played(
     script: &str,
     want: &str,
 ) -> Result<(), Fail> {
-    let mut listener = Listener::open_as(rt.alloc(), keeping(262_144)?, 32, capacity, mode)?;
-    let told = play(rt.alloc(), &mut listener, script)?;
+    let told = told_of(rt.alloc(), capacity, mode, script)?;
     same(rt, told.as_str(), want);
     Ok(())
 }
@@ -340,12 +362,25 @@ fn opens(
     Ok(())
 }
 
+/// A buffer of that capacity is taken so.
+fn is_taken(rt: &(impl Abort + AllocGlobal), capacity: usize, want: &str) -> Result<(), Fail> {
+    let got = told(rt.alloc(), Buffer::new(rt.alloc(), capacity).err())?;
+    same(rt, (capacity, got.as_str()), (capacity, want));
+    Ok(())
+}
+
 #[test]
-fn capacities_and_snapshot_lengths_have_their_ranges(rt: HostRuntime) -> Result<(), Fail> {
+fn capacities_of_buffers_have_their_range(rt: HostRuntime) -> Result<(), Fail> {
     for (capacity, want) in BUFFERS {
-        let got = told(rt.alloc(), Buffer::new(rt.alloc(), capacity).err())?;
-        same(&rt, (capacity, got.as_str()), (capacity, want));
+        is_taken(&rt, capacity, want)?;
     }
+    Ok(())
+}
+
+#[test]
+fn capacities_and_snapshot_lengths_of_listeners_have_their_ranges(
+    rt: HostRuntime,
+) -> Result<(), Fail> {
     for (snap, capacity, want) in LISTENERS {
         opens(&rt, snap, capacity, want)?;
     }

@@ -53,6 +53,17 @@ fn all_sources<'r, 'p>(
     Ok(all)
 }
 
+/// A capture that is written, not made.
+fn late_output<'r, 'p>(
+    files: &'r HostRuntime,
+    alloc: Global,
+    path: &'p str,
+) -> io::Result<LateOutput<'r, 'p>> {
+    let late = Tallied::new(Noted::new(LateFile::new(files, path)));
+    let output = BufWriter::with_capacity(alloc, OUTPUT_BUFFER, late)?;
+    Ok(Counted::new(output))
+}
+
 /// The captures that are written, none of them made.
 fn sinks<'r, 'p>(
     files: &'r HostRuntime,
@@ -63,8 +74,7 @@ fn sinks<'r, 'p>(
 {
     let mut sinks = Vec::with_capacity(alloc, outputs.len())?;
     for path in outputs {
-        let out = Tallied::new(Noted::new(LateFile::new(files, *path)));
-        sinks.push(Counted::new(BufWriter::with_capacity(alloc, OUTPUT_BUFFER, out)?))?;
+        sinks.push(late_output(files, alloc, *path)?)?;
     }
     Ok(sinks)
 }

@@ -1,5 +1,6 @@
 //! Hints on the faults of `bpftap run`, behind the lines that tell them.
 
+use filterlang::Fault;
 use hints::expressions::{hint_refusal, hint_text_fault};
 use hints::failures::hint_source;
 use hints::files::{LISTENERS_OF_RUN, hint_bad_line, hint_capacity, hint_reason};
@@ -29,13 +30,26 @@ pub(crate) fn hint_plan<E: TakesHints>(
         }
         PlanFault::Compile(_, refusal) => hint_refusal(refusal, err),
         PlanFault::Expression(n, fault) => {
-            if let Ok(lines) = read_run_lines(alloc, listeners, interfaces) {
-                if let Some(line) = lines.get(n) {
-                    hint_text_fault(line.expression, fault, err);
-                }
-            }
+            hint_expression(alloc, listeners, interfaces, n, fault, err);
         }
         _ => {}
+    }
+}
+
+/// Hints on the expression of a line of LISTENERS that is refused.
+fn hint_expression<E: TakesHints>(
+    alloc: Global,
+    listeners: &[u8],
+    interfaces: usize,
+    n: usize,
+    fault: Fault,
+    err: &mut E,
+) {
+    let Ok(lines) = read_run_lines(alloc, listeners, interfaces) else {
+        return;
+    };
+    if let Some(line) = lines.get(n) {
+        hint_text_fault(line.expression, fault, err);
     }
 }
 
@@ -88,6 +102,32 @@ fn hint_sink<W: Write + Drop, E: TakesHints>(
     }
 }
 
+/// Hints on the captures that the listeners of an interface could not write.
+fn hint_sinks<W: Write + Drop, E: TakesHints>(
+    interface: usize,
+    listeners: &[ListenerReport<Output<Noted<W>>>],
+    err: &mut E,
+) {
+    for (listener, report) in listeners.iter().enumerate() {
+        hint_sink(interface, listener, report, err);
+    }
+}
+
+/// Hints on the capture that ended an interface, if one did.
+fn hint_capture<R, E: TakesHints>(
+    paths: &[&str],
+    sources: &[NotedInput<R>],
+    end: InterfaceEnd,
+    err: &mut E,
+) {
+    let InterfaceEnd::Capture(n, fault) = end else {
+        return;
+    };
+    if let (Some(path), Some(source)) = (paths.get(n as usize), sources.get(n as usize)) {
+        hint_source(*path, source, fault, err);
+    }
+}
+
 /// Hints on how the interfaces of `run` ended, each of which has these captures.
 pub(crate) fn hint_run<R, W: Write + Drop, E: TakesHints>(
     inputs: &[Vec<&str>],
@@ -95,16 +135,7 @@ pub(crate) fn hint_run<R, W: Write + Drop, E: TakesHints>(
     err: &mut E,
 ) {
     for (interface, (report, paths)) in reports.iter().zip(inputs).enumerate() {
-        if let InterfaceEnd::Capture(n, fault) = report.end {
-            if let (Some(path), Some(source)) = (
-                paths.get(n as usize),
-                report.sources.get(n as usize),
-            ) {
-                hint_source(*path, source, fault, err);
-            }
-        }
-        for (listener, report) in report.listeners.iter().enumerate() {
-            hint_sink(interface, listener, report, err);
-        }
+        hint_capture(paths.as_slice(), report.sources.as_slice(), report.end, err);
+        hint_sinks(interface, report.listeners.as_slice(), err);
     }
 }

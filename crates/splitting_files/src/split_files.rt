@@ -6,6 +6,7 @@ use bpfvm::Program;
 use files::late::{LateFile, LateInput};
 use files::paths::{STANDARD_OUTPUT, all_apart};
 use files::reading::read_file;
+use filtergen::ExpressionFault;
 use hints::expressions::hint_expression;
 use hints::failures::{hint_failure, hint_printed, hint_source};
 use hints::files::{LINES, hint_bad_line};
@@ -137,14 +138,51 @@ fn accepted<'p, E: TakesHints>(alloc: Global, lines: &'p [u8], err: &mut E) -> R
 fn hint_lines<E: TakesHints>(alloc: Global, lines: &[u8], fault: PlanFault, err: &mut E) {
     match fault {
         PlanFault::Line(line) => hint_bad_line(lines, line, LINES, err),
-        PlanFault::Expression(n, fault) => {
-            if let Ok(lines) = read_split_lines(alloc, lines) {
-                if let Some(line) = lines.get(n) {
-                    hint_expression(line.expression, fault, err);
-                }
-            }
-        }
+        PlanFault::Expression(n, fault) => hint_refused(alloc, lines, n, fault, err),
         PlanFault::NoMemory => {}
+    }
+}
+
+/// Hints on the expression of a line of LINES that is refused.
+fn hint_refused<E: TakesHints>(
+    alloc: Global,
+    lines: &[u8],
+    n: usize,
+    fault: ExpressionFault,
+    err: &mut E,
+) {
+    let Ok(lines) = read_split_lines(alloc, lines) else {
+        return;
+    };
+    if let Some(line) = lines.get(n) {
+        hint_expression(line.expression, fault, err);
+    }
+}
+
+/// Hints on a capture that was not written.
+fn hint_part<W: Write + Drop, E: TakesHints>(
+    line: &SplitLine<'_>,
+    part: &PartEnd<NotedOutput<W>>,
+    err: &mut E,
+) {
+    if part.written.is_err() {
+        give_hint(format_args!("{}:", Path(line.output)), err);
+        hint_failure(part.sink.inner.get_ref(), err);
+    }
+}
+
+/// Hints on the capture that ended the reading, if one did.
+fn hint_capture<R, E: TakesHints>(
+    inputs: &[&str],
+    sources: &[NotedInput<R>],
+    end: Result<(), Stop>,
+    err: &mut E,
+) {
+    let Err(Stop::AtHeader(n, fault) | Stop::AtRecord(n, fault)) = end else {
+        return;
+    };
+    if let (Some(path), Some(source)) = (inputs.get(n), sources.get(n)) {
+        hint_source(*path, source, fault, err);
     }
 }
 
@@ -156,16 +194,9 @@ fn hint_split<R, W: Write + Drop, E: TakesHints>(
     err: &mut E,
 ) {
     for (line, part) in lines.iter().zip(end.parts.iter()) {
-        if part.written.is_err() {
-            give_hint(format_args!("{}:", Path(line.output)), err);
-            hint_failure(part.sink.inner.get_ref(), err);
-        }
+        hint_part(line, part, err);
     }
-    if let Err(Stop::AtHeader(n, fault) | Stop::AtRecord(n, fault)) = end.end {
-        if let (Some(path), Some(source)) = (inputs.get(n), end.sources.get(n)) {
-            hint_source(*path, source, fault, err);
-        }
-    }
+    hint_capture(inputs, end.sources.as_slice(), end.end, err);
 }
 
 /// Empties the buffers before all OUT. What fails only now is a fault of its OUT too.

@@ -183,6 +183,30 @@ fn single_request_of<'a>(name: &str, words: &ArgMatches<'a>) -> Option<Request<'
     }
 }
 
+/// What the words of `steps` ask for; nothing where one is missing.
+fn steps_request_of<'a>(
+    alloc: Global,
+    words: &ArgMatches<'a>,
+) -> Result<Option<Request<'a>>, AllocError> {
+    Ok(steps_words(alloc, words)?.map(Request::Steps))
+}
+
+/// The same of `run`.
+fn run_request_of<'a>(
+    alloc: Global,
+    words: &ArgMatches<'a>,
+) -> Result<Option<Request<'a>>, AllocError> {
+    Ok(run_words(alloc, words)?.map(Request::Run))
+}
+
+/// The same of `split`.
+fn split_request_of<'a>(
+    alloc: Global,
+    words: &ArgMatches<'a>,
+) -> Result<Option<Request<'a>>, AllocError> {
+    Ok(split_words(alloc, words)?.map(Request::Split))
+}
+
 /// What the words of a subcommand ask for; nothing where one is missing or wrong.
 fn request_of<'a>(
     alloc: Global,
@@ -190,9 +214,9 @@ fn request_of<'a>(
     words: &ArgMatches<'a>,
 ) -> Result<Option<Request<'a>>, AllocError> {
     match name {
-        "steps" => Ok(steps_words(alloc, words)?.map(Request::Steps)),
-        "run" => Ok(run_words(alloc, words)?.map(Request::Run)),
-        "split" => Ok(split_words(alloc, words)?.map(Request::Split)),
+        "steps" => steps_request_of(alloc, words),
+        "run" => run_request_of(alloc, words),
+        "split" => split_request_of(alloc, words),
         _ => Ok(single_request_of(name, words)),
     }
 }

@@ -5,6 +5,15 @@ use clap::error::ErrorKind;
 use clap::{Command, Error};
 use std::alloc::{AllocError, Global};
 
+/// The same subcommand with one argument more.
+fn with<'a>(
+    alloc: Global,
+    command: Command<'a>,
+    argument: Argument,
+) -> Result<Command<'a>, AllocError> {
+    command.arg(argument.made(alloc)?)
+}
+
 /// A subcommand with these arguments, in the order of its help.
 pub(crate) fn subcommand<'a>(
     alloc: Global,
@@ -15,8 +24,7 @@ pub(crate) fn subcommand<'a>(
 ) -> Result<Command<'a>, AllocError> {
     let mut command = Command::new(alloc, name).about(about).after_help(examples);
     for argument in arguments {
-        let arg = argument.made(alloc)?;
-        command = command.arg(arg)?;
+        command = with(alloc, command, *argument)?;
     }
     Ok(command)
 }
