@@ -160,17 +160,15 @@ fn write_operand<W: Write>(f: &mut Formatter<W>, next: u64, insn: &Insn, form: F
     let (k, bits) = (Signed(insn.k), Hexadecimal(insn.k));
     match form {
         Form::Nothing => Ok(()),
-        Form::InIndex => f.write_str("x"),
+        Form::InIndex | Form::TestInIndex => f.write_str("x"),
         Form::Signed => write!(f, "#{k}"),
-        Form::Hexadecimal => write!(f, "#{bits}"),
+        Form::Hexadecimal | Form::TestHexadecimal => write!(f, "#{bits}"),
         Form::WireLength => f.write_str("#pktlen"),
         Form::Packet => write!(f, "[{k}]"),
         Form::PacketAtIndex => write!(f, "[x + {k}]"),
         Form::HeaderLength => write!(f, "4*([{k}]&0xf)"),
         Form::Cell => write!(f, "M[{k}]"),
         Form::Target => write!(f, "{}", next + u64::from(insn.k)),
-        Form::TestInIndex => f.write_str("x"),
-        Form::TestHexadecimal => write!(f, "#{bits}"),
         Form::Code => write!(f, "{}", Hexadecimal(u32::from(insn.code))),
     }
 }
