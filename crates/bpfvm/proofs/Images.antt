@@ -1,5 +1,5 @@
 -- Columns, and the lines of a program.
-use Rattle.std.proofs.Common.{◌≡◌, ◌≢◌, ℕ, zero, suc, ◌+◌, ◌-◌, ◌<◌, ◌^◌, Bool, true, false, List, [], ◌∷◌, ◌++◌, length, take, get_or, Option, Some, None, if◌then◌else◌, refl, sym, ap, subst, ◌∙◌, arith, append_assoc, rules}
+use Rattle.std.proofs.Common.{◌≡◌, ◌≢◌, ℕ, zero, suc, ◌+◌, ◌-◌, ◌<◌, ◌^◌, Bool, true, false, List, [], ◌∷◌, ◌++◌, length, take, get_or, Option, Some, None, ◌⊎◌, inl, inr, if◌then◌else◌, refl, sym, ap, subst, ◌∙◌, arith, append_assoc, rules}
 use Rattle.std.specs.Prelude.{replicate, codes}
 use Rattle.std.specs.List.{AllByRecursion, repeat}
 use native.Mathlib.Numerals.{unary_clauses}
@@ -13,7 +13,7 @@ use Rattle.bpfvm.specs.declared.image.Form.{Form}
 use Rattle.bpfvm.specs.declared.image.Form.TheVariants as form
 use Rattle.bpfvm.specs.Codes.{Accumulator, Index, Add, Subtract, Multiply, Divide, Or, And, ShiftLeft, ShiftRight, Modulo, ExclusiveOr, Equal, Greater, GreaterOrEqual, AnyBit, Operation, LoadAbsolute, LoadIndirect, LoadImmediate, LoadMemory, LoadLength, LoadHeaderLength, Store, Calculate, Negate, Jump, Branch, ReturnConstant, ReturnAccumulator, Transfer, operation_of}
 use Rattle.bpfvm.specs.Images.{name_of, column, spaced, line_at, lines_from}
-use Rattle.bpfvm.specs.Naming.{Forms, operand_in}
+use Rattle.bpfvm.specs.Naming.{Forms, signed_in, operand_in}
 use Rattle.bpfvm.proofs.Soundness.{IsOneOf, one-of}
 
 -- ---- What a formatter has written
@@ -124,6 +124,15 @@ spaced_operand form.Target next i other small = some-spaced (decimal (next + i.k
 spaced_operand form.TestInIndex next i other small = refl
 spaced_operand form.TestHexadecimal next i other small = refl
 spaced_operand form.Code next i other small = refl
+
+-- the forms of a number with a sign
+pub signed_operand : (f : Form) (next : ℕ) (i : Insn) → (f ≡ form.Signed) ⊎ ((f ≡ form.Packet) ⊎ ((f ≡ form.PacketAtIndex) ⊎ ((f ≡ form.HeaderLength) ⊎ (f ≡ form.Cell)))) →
+    signed_in f i.k ≡ operand_in f next i
+signed_operand f next i (inl is) = rw is refl
+signed_operand f next i (inr (inl is)) = rw is refl
+signed_operand f next i (inr (inr (inl is))) = rw is refl
+signed_operand f next i (inr (inr (inr (inl is)))) = rw is refl
+signed_operand f next i (inr (inr (inr (inr is)))) = rw is refl
 
 -- ---- Lines
 

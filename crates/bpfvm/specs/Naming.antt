@@ -7,6 +7,14 @@ use Rattle.bpfvm.specs.declared.image.Form.TheVariants.{Nothing, InIndex, Signed
 use Rattle.bpfvm.specs.Codes.{operation_of}
 use Rattle.bpfvm.specs.Images.{signed, hexadecimal, column, ways, operand_text, operands_text}
 
+-- a number with a sign in a form
+abbrev pub signed_in : Form → ℕ → List ℕ
+signed_in Packet k = codes "[" ++ signed k ++ codes "]"
+signed_in PacketAtIndex k = codes "[x + " ++ signed k ++ codes "]"
+signed_in HeaderLength k = codes "4*([" ++ signed k ++ codes "]&0xf)"
+signed_in Cell k = codes "M[" ++ signed k ++ codes "]"
+signed_in form k = codes "#" ++ signed k
+
 -- what is written of an instruction's operand in a form
 abbrev pub operand_in : Form → (next : ℕ) → Insn → List ℕ
 operand_in Nothing next i = []

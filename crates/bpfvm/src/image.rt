@@ -4,7 +4,7 @@ ghost use Rattle.std.specs.Prelude.{◌≡◌, ◌<◌, ◌≤◌, ◌^◌, ◌+
 ghost use Rattle.std.specs.Fmt.{WritesOnOk};
 ghost use Rattle.bpfvm.specs.Codes.{operation_of};
 ghost use Rattle.bpfvm.specs.Images.{signed, hexadecimal, column, name_of, insn_text, brief_text, placed_text, image_of};
-ghost use Rattle.bpfvm.specs.Naming.{Forms, operand_in, operands_in};
+ghost use Rattle.bpfvm.specs.Naming.{Forms, signed_in, operand_in, operands_in};
 
 use crate::code;
 use crate::fault::NoMemory;
@@ -45,13 +45,17 @@ enum Form {
 }
 
 /// The name of a code.
+///
+/// Codes that follow one another stand in arms of their own, since the proof goes by the code.
 fn name_of(code: u16) -> &'static str
     ensures { result.now ≡ name_of (operation_of code) }
 {
     match code {
         code::LD_W_ABS | code::LD_W_IND | code::LD_IMM | code::LD_MEM | code::LD_LEN => "ld",
-        code::LD_H_ABS | code::LD_H_IND => "ldh",
-        code::LD_B_ABS | code::LD_B_IND => "ldb",
+        code::LD_H_ABS => "ldh",
+        code::LD_H_IND => "ldh",
+        code::LD_B_ABS => "ldb",
+        code::LD_B_IND => "ldb",
         code::LDX_IMM | code::LDX_MEM | code::LDX_LEN => "ldx",
         code::LDX_MSH => "ldxb",
         code::ST => "st",
@@ -80,6 +84,8 @@ fn name_of(code: u16) -> &'static str
 }
 
 /// How the operand of a code is written.
+///
+/// Codes that follow one another stand in arms of their own, since the proof goes by the code.
 fn form_of(code: u16) -> Form
     ensures { Forms code result }
 {
@@ -106,7 +112,8 @@ fn form_of(code: u16) -> Form
         code::JA => Form::Target,
         code::JEQ_K | code::JGT_K | code::JGE_K | code::JSET_K => Form::TestHexadecimal,
         code::JEQ_X | code::JGT_X | code::JGE_X | code::JSET_X => Form::TestInIndex,
-        code::NEG | code::RET_A | code::TAX | code::TXA => Form::Nothing,
+        code::NEG => Form::Nothing,
+        code::RET_A | code::TAX | code::TXA => Form::Nothing,
         _ => Form::Code,
     }
 }
@@ -151,25 +158,37 @@ impl Display for HexadecimalColumn {
     }
 }
 
+/// Writes an operand that has a number with a sign.
+#[inline]
+fn write_signed<W: Write>(f: &mut Formatter<W>, k: Signed, form: Form) -> fmt::Result
+    ensures { WritesOnOk W.write_str_gives f.old result (signed_in form k.0) f.new }
+{
+    match form {
+        Form::Packet => write!(f, "[{k}]"),
+        Form::PacketAtIndex => write!(f, "[x + {k}]"),
+        Form::HeaderLength => write!(f, "4*([{k}]&0xf)"),
+        Form::Cell => write!(f, "M[{k}]"),
+        _ => write!(f, "#{k}"),
+    }
+}
+
 /// Writes the operand of an instruction, where the next one has this place.
 fn write_operand<W: Write>(f: &mut Formatter<W>, next: u64, insn: &Insn, form: Form) -> fmt::Result
     requires { next ≤ 2 ^ 32 }
     ensures writes { WritesOnOk W.write_str_gives f.old result (operand_in form next insn.now) f.new }
     ensures fits { insn.now.k < 2 ^ 32 }
 {
-    let (k, bits) = (Signed(insn.k), Hexadecimal(insn.k));
+    let bits = Hexadecimal(insn.k);
     match form {
         Form::Nothing => Ok(()),
         Form::InIndex | Form::TestInIndex => f.write_str("x"),
-        Form::Signed => write!(f, "#{k}"),
         Form::Hexadecimal | Form::TestHexadecimal => write!(f, "#{bits}"),
         Form::WireLength => f.write_str("#pktlen"),
-        Form::Packet => write!(f, "[{k}]"),
-        Form::PacketAtIndex => write!(f, "[x + {k}]"),
-        Form::HeaderLength => write!(f, "4*([{k}]&0xf)"),
-        Form::Cell => write!(f, "M[{k}]"),
         Form::Target => write!(f, "{}", next + u64::from(insn.k)),
         Form::Code => write!(f, "{}", Hexadecimal(u32::from(insn.code))),
+        Form::Signed | Form::Packet | Form::PacketAtIndex | Form::HeaderLength | Form::Cell => {
+            write_signed(f, Signed(insn.k), form)
+        }
     }
 }
 

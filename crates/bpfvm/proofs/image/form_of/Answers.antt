@@ -79,4 +79,8 @@ returns-in-29 c = form-each _ (29 ∷ 45 ∷ 61 ∷ 77 ∷ []) c.args.code c.in-
 
 pub returns-in-132 : goal.returns-in-132
 unfolding operation_of
-returns-in-132 c = form-each _ (7 ∷ 22 ∷ 132 ∷ 135 ∷ []) c.args.code c.in-132.is (search rules)
+returns-in-132 c = form-each _ (132 ∷ []) c.args.code c.in-132.is (search rules)
+
+pub returns-in-22 : goal.returns-in-22
+unfolding operation_of
+returns-in-22 c = form-each _ (7 ∷ 22 ∷ 135 ∷ []) c.args.code c.in-22.is (search rules)

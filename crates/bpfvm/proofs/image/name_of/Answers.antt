@@ -16,11 +16,19 @@ returns-in-32 c = name-each _ (0 ∷ 32 ∷ 64 ∷ 96 ∷ 128 ∷ []) c.args.cod
 
 pub returns-in-40 : goal.returns-in-40
 unfolding operation_of
-returns-in-40 c = name-each _ (40 ∷ 72 ∷ []) c.args.code c.in-40.is (search rules)
+returns-in-40 c = name-each _ (40 ∷ []) c.args.code c.in-40.is (search rules)
+
+pub returns-in-72 : goal.returns-in-72
+unfolding operation_of
+returns-in-72 c = name-each _ (72 ∷ []) c.args.code c.in-72.is (search rules)
 
 pub returns-in-48 : goal.returns-in-48
 unfolding operation_of
-returns-in-48 c = name-each _ (48 ∷ 80 ∷ []) c.args.code c.in-48.is (search rules)
+returns-in-48 c = name-each _ (48 ∷ []) c.args.code c.in-48.is (search rules)
+
+pub returns-in-80 : goal.returns-in-80
+unfolding operation_of
+returns-in-80 c = name-each _ (80 ∷ []) c.args.code c.in-80.is (search rules)
 
 pub returns-in-1 : goal.returns-in-1
 unfolding operation_of
