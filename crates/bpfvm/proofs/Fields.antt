@@ -1,8 +1,9 @@
 -- A line has one way of being cut at its spaces, and is one instruction.
-use Rattle.std.proofs.Common.{◌≡◌, ◌≢◌, ℕ, List, [], ◌∷◌, ◌++◌, All, Option, Some, None, IfNone, refl, sym, subst, ◌∙◌, arith, append_assoc}
+use Rattle.std.proofs.Common.{◌≡◌, ◌≢◌, ℕ, List, [], ◌∷◌, ◌++◌, All, Option, Some, None, IfSome, IfNone, refl, sym, ap, subst, ◌∙◌, arith, append_assoc}
 use Rattle.std.proofs.lemmas.Str.Parse.{digit_at}
 use Rattle.std.proofs.lemmas.List.Elements.{All-head, All-tail, All-from_get_or, All-same}
 use Rattle.bpfvm.specs.declared.insn.Insn.{Insn}
+use Rattle.bpfvm.specs.Lines.{AreFields}
 use Rattle.bpfvm.specs.Listing.{space, IsNumber, IsLine}
 
 -- no instruction is the line
@@ -69,15 +70,39 @@ module _ (line code rest : List ℕ) (cut : line ≡ code ++ space ∷ rest) (no
     NoLine-third lacks i is =
         not-lacking space is.jf is.k (All-same (λ b. b ≢ space) (is.jf ++ (space ∷ is.k)) rest' (sym (second-cut i is).1) lacks)
 
-    -- with three, the four parts are the numbers
-    pub four-fields : (jf k : List ℕ) → rest' ≡ jf ++ space ∷ k → All (λ b. b ≢ space) jf → (i : Insn) → IsLine line i
-        → IsNumber 65535 code i.code × IsNumber 255 jt i.jt × IsNumber 255 jf i.jf × IsNumber 4294967295 k i.k
-    four-fields jf k cut'' none'' i is =
-        let one = first-cut i is in
-        let two = second-cut i is in
-        let three = cut-one space jf k is.jf is.k none'' (number-no_space 255 is.jf i.jf is.jf_is) (sym cut'' ∙ two.1) in (
-          subst (λ (t : List ℕ). IsNumber 65535 t i.code) (sym one.0) is.code_is,
-          subst (λ (t : List ℕ). IsNumber 255 t i.jt) (sym two.0) is.jt_is,
-          subst (λ (t : List ℕ). IsNumber 255 t i.jf) (sym three.0) is.jf_is,
-          subst (λ (t : List ℕ). IsNumber 4294967295 t i.k) (sym three.1) is.k_is,
-        )
+    module _ (jf k : List ℕ) (cut'' : rest' ≡ jf ++ space ∷ k) (none'' : All (λ b. b ≢ space) jf) where
+      -- with three, the four parts are the numbers
+      pub four-fields : (i : Insn) → IsLine line i → AreFields code jt jf k i
+      four-fields i is =
+          let one = first-cut i is in
+          let two = second-cut i is in
+          let three = cut-one space jf k is.jf is.k none'' (number-no_space 255 is.jf i.jf is.jf_is) (sym cut'' ∙ two.1) in
+          record {
+            code_is = subst (λ (t : List ℕ). IsNumber 65535 t i.code) (sym one.0) is.code_is;
+            jt_is = subst (λ (t : List ℕ). IsNumber 255 t i.jt) (sym two.0) is.jt_is;
+            jf_is = subst (λ (t : List ℕ). IsNumber 255 t i.jf) (sym three.0) is.jf_is;
+            k_is = subst (λ (t : List ℕ). IsNumber 4294967295 t i.k) (sym three.1) is.k_is;
+          }
+
+      -- and they are the line
+      pub fields-line : (i : Insn) → AreFields code jt jf k i → IsLine line i
+      fields-line i fields = record {
+        code = code;
+        jt = jt;
+        jf = jf;
+        k = k;
+        text = cut ∙ ap (λ (t : List ℕ). code ++ space ∷ t) (cut' ∙ ap (λ (t : List ℕ). jt ++ space ∷ t) cut'') ∙ sym (simp append_assoc);
+        code_is = fields.code_is;
+        jt_is = fields.jt_is;
+        jf_is = fields.jf_is;
+        k_is = fields.k_is;
+      }
+
+      -- so that there is an instruction where there is one of the fields
+      pub read-some : (r : Option Insn) → IfSome r (λ i. AreFields code jt jf k i) → IfSome r (λ i. IsLine line i)
+      read-some None none = tt
+      read-some (Some i) fields = fields-line i fields
+
+      pub read-none : (r : Option Insn) → IfNone r ((i : Insn) → AreFields code jt jf k i → ⊥) → IfNone r (NoLine line)
+      read-none None none = λ i is. none i (four-fields i is)
+      read-none (Some i) fields = tt

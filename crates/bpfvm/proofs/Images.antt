@@ -1,7 +1,7 @@
 -- Columns, and the lines of a program.
-use Rattle.std.proofs.Common.{◌≡◌, ◌≢◌, ℕ, zero, suc, ◌+◌, ◌-◌, ◌<◌, ◌^◌, Bool, true, false, List, [], ◌∷◌, ◌++◌, length, take, get_or, Option, Some, None, if◌then◌else◌, refl, sym, ap, subst, ◌∙◌, arith, append_assoc, rules}
+use Rattle.std.proofs.Common.{◌≡◌, ◌≢◌, ℕ, zero, suc, ◌+◌, ◌-◌, ◌<◌, ◌^◌, Bool, true, false, List, [], ◌∷◌, ◌++◌, length, take, get_or, Option, Some, None, ◌⊎◌, inl, inr, if◌then◌else◌, refl, sym, ap, subst, ◌∙◌, arith, append_assoc, rules}
 use Rattle.std.specs.Prelude.{replicate, codes}
-use Rattle.std.specs.List.{repeat}
+use Rattle.std.specs.List.{AllByRecursion, repeat}
 use native.Mathlib.Numerals.{unary_clauses}
 use Rattle.std.proofs.lemmas.List.{append-nil}
 use Rattle.std.proofs.lemmas.Grind.{common_steps}
@@ -11,9 +11,10 @@ use Rattle.std.proofs.lemmas.Fmt.{decimal_nonempty}
 use Rattle.bpfvm.specs.declared.insn.Insn.{Insn}
 use Rattle.bpfvm.specs.declared.image.Form.{Form}
 use Rattle.bpfvm.specs.declared.image.Form.TheVariants as form
-use Rattle.bpfvm.specs.Codes.{Accumulator, Index, Add, Subtract, Multiply, Divide, Or, And, ShiftLeft, ShiftRight, Modulo, ExclusiveOr, Equal, Greater, GreaterOrEqual, AnyBit, Operation, LoadAbsolute, LoadIndirect, LoadImmediate, LoadMemory, LoadLength, LoadHeaderLength, Store, Calculate, Negate, Jump, Branch, ReturnConstant, ReturnAccumulator, Transfer}
+use Rattle.bpfvm.specs.Codes.{Accumulator, Index, Add, Subtract, Multiply, Divide, Or, And, ShiftLeft, ShiftRight, Modulo, ExclusiveOr, Equal, Greater, GreaterOrEqual, AnyBit, Operation, LoadAbsolute, LoadIndirect, LoadImmediate, LoadMemory, LoadLength, LoadHeaderLength, Store, Calculate, Negate, Jump, Branch, ReturnConstant, ReturnAccumulator, Transfer, operation_of}
 use Rattle.bpfvm.specs.Images.{name_of, column, spaced, line_at, lines_from}
-use Rattle.bpfvm.specs.Naming.{operand_in}
+use Rattle.bpfvm.specs.Naming.{Forms, signed_in, operand_in}
+use Rattle.bpfvm.proofs.Soundness.{IsOneOf, one-of}
 
 -- ---- What a formatter has written
 
@@ -92,6 +93,16 @@ pub three_padded : (ds : List ℕ) → padded_integral (format_spec 32 0 4 3 (2 
 unfolding padded_integral char_count
 three_padded ds = simp unary_clauses (ap (λ (t : List ℕ). replicate (3 - length ds) 48 ++ t) (append-nil ds))
 
+-- ---- Codes
+
+-- codes of one name
+pub name-each : (name codes : List ℕ) (code : ℕ) → IsOneOf codes code → AllByRecursion (λ code. name ≡ name_of (operation_of code)) codes → name ≡ name_of (operation_of code)
+name-each name codes code is each = one-of (λ code. name ≡ name_of (operation_of code)) codes code is each
+
+-- and of one form
+pub form-each : (f : Form) (codes : List ℕ) (code : ℕ) → IsOneOf codes code → AllByRecursion (λ code. Forms code f) codes → Forms code f
+form-each f codes code is each = one-of (λ code. Forms code f) codes code is each
+
 -- ---- Operands
 
 some-spaced : (text : List ℕ) → 0 < length text → spaced text ≡ 32 ∷ text
@@ -113,6 +124,15 @@ spaced_operand form.Target next i other small = some-spaced (decimal (next + i.k
 spaced_operand form.TestInIndex next i other small = refl
 spaced_operand form.TestHexadecimal next i other small = refl
 spaced_operand form.Code next i other small = refl
+
+-- the forms of a number with a sign
+pub signed_operand : (f : Form) (next : ℕ) (i : Insn) → (f ≡ form.Signed) ⊎ ((f ≡ form.Packet) ⊎ ((f ≡ form.PacketAtIndex) ⊎ ((f ≡ form.HeaderLength) ⊎ (f ≡ form.Cell)))) →
+    signed_in f i.k ≡ operand_in f next i
+signed_operand f next i (inl is) = rw is refl
+signed_operand f next i (inr (inl is)) = rw is refl
+signed_operand f next i (inr (inr (inl is))) = rw is refl
+signed_operand f next i (inr (inr (inr (inl is)))) = rw is refl
+signed_operand f next i (inr (inr (inr (inr is)))) = rw is refl
 
 -- ---- Lines
 

@@ -32,10 +32,10 @@ line-one line i j one other =
     one.jt (one.jf ++ (space ∷ one.k)) refl (number-no_space 255 one.jt i.jt one.jt_is)
     one.jf one.k refl (number-no_space 255 one.jf i.jf one.jf_is) j other in
     same-insn i j
-    (number-one 65535 one.code i.code j.code one.code_is fields.0)
-    (number-one 255 one.jt i.jt j.jt one.jt_is fields.1)
-    (number-one 255 one.jf i.jf j.jf one.jf_is fields.2)
-    (number-one 4294967295 one.k i.k j.k one.k_is fields.3)
+    (number-one 65535 one.code i.code j.code one.code_is fields.code_is)
+    (number-one 255 one.jt i.jt j.jt one.jt_is fields.jt_is)
+    (number-one 255 one.jf i.jf j.jf one.jf_is fields.jf_is)
+    (number-one 4294967295 one.k i.k j.k one.k_is fields.k_is)
 
 -- lines are one list of instructions
 lines-one : (lines : List (List ℕ)) (is js : List Insn) → AreLines lines is → AreLines lines js → is ≡ js

@@ -1,8 +1,10 @@
 -- What is written of a program is a listing of it.
-use Rattle.std.proofs.Common.{◌≡◌, ◌≢◌, ℕ, suc, get_or, ◌<◌, ◌≤◌, ◌^◌, List, [], ◌∷◌, ◌++◌, length, map, All, refl, sym, ap, ◌∙◌, arith, append_assoc}
+use Rattle.std.proofs.Common.{◌≡◌, ◌≢◌, ℕ, get_or, ◌+◌, ◌<◌, ◌≤◌, ◌^◌, List, [], ◌∷◌, ◌++◌, length, map, take, All, refl, sym, ap, subst, ◌∙◌, arith, append_assoc}
 use Rattle.std.specs.List.{AllByRecursion, flat_map}
 use Rattle.std.specs.Fmt.{decimal}
 use Rattle.std.proofs.lemmas.Fmt.{decimal_is_IsNumeral}
+use Rattle.std.proofs.lemmas.Grind.{flat_map-append}
+use Rattle.std.proofs.lemmas.List.{append-nil, take_more}
 use Rattle.std.proofs.lemmas.Str.Parse.{digit_at}
 use Rattle.std.proofs.lemmas.List.Elements.{All-append, All-cons, All-from_get_or}
 use Rattle.bpfvm.specs.declared.insn.Insn.{Insn}
@@ -35,10 +37,24 @@ written-line i fields = record {
   k_is = written-number 4294967295 i.k (omega (arith, fields.k)) (omega arith);
 }
 
--- what holds at each place holds of each element
-pub fields-each : (insns : List Insn) (d : Insn) → ((k : ℕ) → k < length insns → HasFields (get_or insns k d)) → AllByRecursion HasFields insns
-fields-each [] d each = tt
-fields-each (i ∷ insns) d each = (each 0 (omega arith), fields-each insns d (λ k inside. each (suc k) (omega (arith, inside))))
+-- one instruction more has its fields too
+fields-push : (insns : List Insn) (i : Insn) → AllByRecursion HasFields insns → HasFields i → AllByRecursion HasFields (insns ++ i ∷ [])
+fields-push [] i all one = (one, tt)
+fields-push (j ∷ insns) i all one = (all.0, fields-push insns i all.1 one)
+
+pub fields-more : (insns : List Insn) (n : ℕ) (d : Insn) → n < length insns → AllByRecursion HasFields (take n insns) → HasFields (get_or insns n d) → AllByRecursion HasFields (take (n + 1) insns)
+fields-more insns n d inside all one =
+    subst (AllByRecursion HasFields) (sym (take_more insns n d inside)) (fields-push (take n insns) (get_or insns n d) all one)
+
+-- and one line more
+pub text-more : (text text' front : List ℕ) (insns : List Insn) (n : ℕ) (d : Insn) → n < length insns → text ≡ front ++ line_feed ∷ flat_map line_text (take n insns)
+    → text' ≡ text ++ line_text (get_or insns n d) → text' ≡ front ++ line_feed ∷ flat_map line_text (take (n + 1) insns)
+text-more text text' front insns n d inside before after =
+    let line = line_text (get_or insns n d) in
+    let lines = flat_map line_text (take n insns) in
+    let more : flat_map line_text (take (n + 1) insns) ≡ lines ++ line =
+    ap (flat_map line_text) (take_more insns n d inside) ∙ flat_map-append line_text (take n insns) (get_or insns n d ∷ []) ∙ ap (λ (t : List ℕ). lines ++ t) (append-nil line) in
+    after ∙ ap (λ (t : List ℕ). t ++ line) before ∙ append_assoc front (line_feed ∷ lines) line ∙ ap (λ (t : List ℕ). front ++ line_feed ∷ t) (sym more)
 
 -- the lines are read as their instructions
 written-lines : (insns : List Insn) → AllByRecursion HasFields insns → AreLines (map line_of insns) insns

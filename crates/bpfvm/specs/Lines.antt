@@ -1,7 +1,14 @@
--- Where the reading of a listing's lines stops, for its private clauses alone.
+-- The fields of a listing's line, and where the reading of its lines stops, for its private clauses alone.
 use Rattle.std.specs.Prelude.{◌≡◌, ℕ, ◌<◌, List, slice_get, Some}
 use Rattle.bpfvm.specs.declared.insn.Insn.{Insn}
-use Rattle.bpfvm.specs.Listing.{IsLine}
+use Rattle.bpfvm.specs.Listing.{IsNumber, IsLine}
+
+-- texts that write an instruction's fields, each within its range
+pub record AreFields (code jt jf k : List ℕ) (insn : Insn) : Type 0 where
+  pub code_is : IsNumber 65535 code insn.code
+  pub jt_is : IsNumber 255 jt insn.jt
+  pub jf_is : IsNumber 255 jf insn.jf
+  pub k_is : IsNumber 4294967295 k insn.k
 
 -- These lines begin with lines that are instructions, so many, and then comes one that is none.
 pub record StopsAfter (lines : List (List ℕ)) (good : ℕ) : Type 0 where

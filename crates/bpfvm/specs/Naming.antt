@@ -5,7 +5,15 @@ use Rattle.bpfvm.specs.declared.insn.Insn.{Insn}
 use Rattle.bpfvm.specs.declared.image.Form.{Form}
 use Rattle.bpfvm.specs.declared.image.Form.TheVariants.{Nothing, InIndex, Signed, Hexadecimal, WireLength, Packet, PacketAtIndex, HeaderLength, Cell, Target, TestInIndex, TestHexadecimal, Code}
 use Rattle.bpfvm.specs.Codes.{operation_of}
-use Rattle.bpfvm.specs.Images.{signed, hexadecimal, column, ways, name_of, operand_text, operands_text}
+use Rattle.bpfvm.specs.Images.{signed, hexadecimal, column, ways, operand_text, operands_text}
+
+-- a number with a sign in a form
+abbrev pub signed_in : Form → ℕ → List ℕ
+signed_in Packet k = codes "[" ++ signed k ++ codes "]"
+signed_in PacketAtIndex k = codes "[x + " ++ signed k ++ codes "]"
+signed_in HeaderLength k = codes "4*([" ++ signed k ++ codes "]&0xf)"
+signed_in Cell k = codes "M[" ++ signed k ++ codes "]"
+signed_in form k = codes "#" ++ signed k
 
 -- what is written of an instruction's operand in a form
 abbrev pub operand_in : Form → (next : ℕ) → Insn → List ℕ
@@ -29,8 +37,7 @@ operands_in TestInIndex next i = column 16 (codes "x") ++ ways next i
 operands_in TestHexadecimal next i = column 16 (codes "#" ++ hexadecimal i.k) ++ ways next i
 operands_in form next i = operand_in form next i
 
--- the name of a code, and the form of its operand
-pub record Names (code : ℕ) (name : List ℕ) (form : Form) : Type 0 where
-  pub is : name ≡ name_of (operation_of code)
+-- a code's operand is written in this form
+pub record Forms (code : ℕ) (form : Form) : Type 0 where
   pub operand : (next : ℕ) (i : Insn) → operand_in form next i ≡ operand_text (operation_of code) next i
   pub operands : (next : ℕ) (i : Insn) → operands_in form next i ≡ operands_text (operation_of code) next i

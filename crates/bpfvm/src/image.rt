@@ -2,8 +2,9 @@
 
 ghost use Rattle.std.specs.Prelude.{◌≡◌, ◌<◌, ◌≤◌, ◌^◌, ◌++◌, IfOk, Some, codes};
 ghost use Rattle.std.specs.Fmt.{WritesOnOk};
-ghost use Rattle.bpfvm.specs.Images.{signed, hexadecimal, column, insn_text, brief_text, placed_text, image_of};
-ghost use Rattle.bpfvm.specs.Naming.{Names, operand_in, operands_in};
+ghost use Rattle.bpfvm.specs.Codes.{operation_of};
+ghost use Rattle.bpfvm.specs.Images.{signed, hexadecimal, column, name_of, insn_text, brief_text, placed_text, image_of};
+ghost use Rattle.bpfvm.specs.Naming.{Forms, signed_in, operand_in, operands_in};
 
 use crate::code;
 use crate::fault::NoMemory;
@@ -43,63 +44,77 @@ enum Form {
     Code,
 }
 
-/// The name of a code, and how its operand is written.
+/// The name of a code.
 ///
-/// Each code has an arm of its own, since the proof goes by the code.
-fn named(code: u16) -> (&'static str, Form)
-    ensures { Names code result.0.now result.1 }
+/// Codes that follow one another stand in arms of their own, since the proof goes by the code.
+fn name_of(code: u16) -> &'static str
+    ensures { result.now ≡ name_of (operation_of code) }
 {
     match code {
-        code::LD_W_ABS => ("ld", Form::Packet),
-        code::LD_H_ABS => ("ldh", Form::Packet),
-        code::LD_B_ABS => ("ldb", Form::Packet),
-        code::LD_W_IND => ("ld", Form::PacketAtIndex),
-        code::LD_H_IND => ("ldh", Form::PacketAtIndex),
-        code::LD_B_IND => ("ldb", Form::PacketAtIndex),
-        code::LD_IMM => ("ld", Form::Hexadecimal),
-        code::LDX_IMM => ("ldx", Form::Hexadecimal),
-        code::LD_MEM => ("ld", Form::Cell),
-        code::LDX_MEM => ("ldx", Form::Cell),
-        code::LD_LEN => ("ld", Form::WireLength),
-        code::LDX_LEN => ("ldx", Form::WireLength),
-        code::LDX_MSH => ("ldxb", Form::HeaderLength),
-        code::ST => ("st", Form::Cell),
-        code::STX => ("stx", Form::Cell),
-        code::ADD_K => ("add", Form::Signed),
-        code::ADD_X => ("add", Form::InIndex),
-        code::SUB_K => ("sub", Form::Signed),
-        code::SUB_X => ("sub", Form::InIndex),
-        code::MUL_K => ("mul", Form::Signed),
-        code::MUL_X => ("mul", Form::InIndex),
-        code::DIV_K => ("div", Form::Signed),
-        code::DIV_X => ("div", Form::InIndex),
-        code::OR_K => ("or", Form::Hexadecimal),
-        code::OR_X => ("or", Form::InIndex),
-        code::AND_K => ("and", Form::Hexadecimal),
-        code::AND_X => ("and", Form::InIndex),
-        code::LSH_K => ("lsh", Form::Signed),
-        code::LSH_X => ("lsh", Form::InIndex),
-        code::RSH_K => ("rsh", Form::Signed),
-        code::RSH_X => ("rsh", Form::InIndex),
-        code::MOD_K => ("mod", Form::Signed),
-        code::MOD_X => ("mod", Form::InIndex),
-        code::XOR_K => ("xor", Form::Hexadecimal),
-        code::XOR_X => ("xor", Form::InIndex),
-        code::NEG => ("neg", Form::Nothing),
-        code::JA => ("ja", Form::Target),
-        code::JEQ_K => ("jeq", Form::TestHexadecimal),
-        code::JEQ_X => ("jeq", Form::TestInIndex),
-        code::JGT_K => ("jgt", Form::TestHexadecimal),
-        code::JGT_X => ("jgt", Form::TestInIndex),
-        code::JGE_K => ("jge", Form::TestHexadecimal),
-        code::JGE_X => ("jge", Form::TestInIndex),
-        code::JSET_K => ("jset", Form::TestHexadecimal),
-        code::JSET_X => ("jset", Form::TestInIndex),
-        code::RET_K => ("ret", Form::Signed),
-        code::RET_A => ("ret", Form::Nothing),
-        code::TAX => ("tax", Form::Nothing),
-        code::TXA => ("txa", Form::Nothing),
-        _ => ("unimp", Form::Code),
+        code::LD_W_ABS | code::LD_W_IND | code::LD_IMM | code::LD_MEM | code::LD_LEN => "ld",
+        code::LD_H_ABS => "ldh",
+        code::LD_H_IND => "ldh",
+        code::LD_B_ABS => "ldb",
+        code::LD_B_IND => "ldb",
+        code::LDX_IMM | code::LDX_MEM | code::LDX_LEN => "ldx",
+        code::LDX_MSH => "ldxb",
+        code::ST => "st",
+        code::STX => "stx",
+        code::ADD_K | code::ADD_X => "add",
+        code::SUB_K | code::SUB_X => "sub",
+        code::MUL_K | code::MUL_X => "mul",
+        code::DIV_K | code::DIV_X => "div",
+        code::OR_K | code::OR_X => "or",
+        code::AND_K | code::AND_X => "and",
+        code::LSH_K | code::LSH_X => "lsh",
+        code::RSH_K | code::RSH_X => "rsh",
+        code::MOD_K | code::MOD_X => "mod",
+        code::XOR_K | code::XOR_X => "xor",
+        code::NEG => "neg",
+        code::JA => "ja",
+        code::JEQ_K | code::JEQ_X => "jeq",
+        code::JGT_K | code::JGT_X => "jgt",
+        code::JGE_K | code::JGE_X => "jge",
+        code::JSET_K | code::JSET_X => "jset",
+        code::RET_K | code::RET_A => "ret",
+        code::TAX => "tax",
+        code::TXA => "txa",
+        _ => "unimp",
+    }
+}
+
+/// How the operand of a code is written.
+///
+/// Codes that follow one another stand in arms of their own, since the proof goes by the code.
+fn form_of(code: u16) -> Form
+    ensures { Forms code result }
+{
+    match code {
+        code::LD_W_ABS | code::LD_H_ABS | code::LD_B_ABS => Form::Packet,
+        code::LD_W_IND | code::LD_H_IND | code::LD_B_IND => Form::PacketAtIndex,
+        code::LDX_MSH => Form::HeaderLength,
+        code::LD_LEN => Form::WireLength,
+        code::LDX_LEN => Form::WireLength,
+        code::LD_MEM | code::ST => Form::Cell,
+        code::LDX_MEM | code::STX => Form::Cell,
+        code::LD_IMM | code::OR_K | code::AND_K | code::XOR_K => Form::Hexadecimal,
+        code::LDX_IMM => Form::Hexadecimal,
+        code::ADD_K
+        | code::SUB_K
+        | code::MUL_K
+        | code::DIV_K
+        | code::MOD_K
+        | code::LSH_K
+        | code::RSH_K => Form::Signed,
+        code::RET_K => Form::Signed,
+        code::ADD_X | code::SUB_X | code::MUL_X | code::DIV_X | code::MOD_X => Form::InIndex,
+        code::OR_X | code::AND_X | code::XOR_X | code::LSH_X | code::RSH_X => Form::InIndex,
+        code::JA => Form::Target,
+        code::JEQ_K | code::JGT_K | code::JGE_K | code::JSET_K => Form::TestHexadecimal,
+        code::JEQ_X | code::JGT_X | code::JGE_X | code::JSET_X => Form::TestInIndex,
+        code::NEG => Form::Nothing,
+        code::RET_A | code::TAX | code::TXA => Form::Nothing,
+        _ => Form::Code,
     }
 }
 
@@ -143,27 +158,37 @@ impl Display for HexadecimalColumn {
     }
 }
 
+/// Writes an operand that has a number with a sign.
+#[inline]
+fn write_signed<W: Write>(f: &mut Formatter<W>, k: Signed, form: Form) -> fmt::Result
+    ensures { WritesOnOk W.write_str_gives f.old result (signed_in form k.0) f.new }
+{
+    match form {
+        Form::Packet => write!(f, "[{k}]"),
+        Form::PacketAtIndex => write!(f, "[x + {k}]"),
+        Form::HeaderLength => write!(f, "4*([{k}]&0xf)"),
+        Form::Cell => write!(f, "M[{k}]"),
+        _ => write!(f, "#{k}"),
+    }
+}
+
 /// Writes the operand of an instruction, where the next one has this place.
 fn write_operand<W: Write>(f: &mut Formatter<W>, next: u64, insn: &Insn, form: Form) -> fmt::Result
     requires { next ≤ 2 ^ 32 }
     ensures writes { WritesOnOk W.write_str_gives f.old result (operand_in form next insn.now) f.new }
     ensures fits { insn.now.k < 2 ^ 32 }
 {
-    let (k, bits) = (Signed(insn.k), Hexadecimal(insn.k));
+    let bits = Hexadecimal(insn.k);
     match form {
         Form::Nothing => Ok(()),
-        Form::InIndex => f.write_str("x"),
-        Form::Signed => write!(f, "#{k}"),
-        Form::Hexadecimal => write!(f, "#{bits}"),
+        Form::InIndex | Form::TestInIndex => f.write_str("x"),
+        Form::Hexadecimal | Form::TestHexadecimal => write!(f, "#{bits}"),
         Form::WireLength => f.write_str("#pktlen"),
-        Form::Packet => write!(f, "[{k}]"),
-        Form::PacketAtIndex => write!(f, "[x + {k}]"),
-        Form::HeaderLength => write!(f, "4*([{k}]&0xf)"),
-        Form::Cell => write!(f, "M[{k}]"),
         Form::Target => write!(f, "{}", next + u64::from(insn.k)),
-        Form::TestInIndex => f.write_str("x"),
-        Form::TestHexadecimal => write!(f, "#{bits}"),
         Form::Code => write!(f, "{}", Hexadecimal(u32::from(insn.code))),
+        Form::Signed | Form::Packet | Form::PacketAtIndex | Form::HeaderLength | Form::Cell => {
+            write_signed(f, Signed(insn.k), form)
+        }
     }
 }
 
@@ -189,9 +214,9 @@ fn write_insn<W: Write>(f: &mut Formatter<W>, next: u64, insn: &Insn) -> fmt::Re
     requires { next ≤ 2 ^ 32 }
     ensures { WritesOnOk W.write_str_gives f.old result (insn_text next insn.now) f.new }
 {
-    let (name, form) = named(insn.code);
+    let name = name_of(insn.code);
     write!(f, "{name:<8} ")?;
-    write_operands(f, next, insn, form)
+    write_operands(f, next, insn, form_of(insn.code))
 }
 
 /// An instruction as `tcpdump -d` prints it, without its place: `ldh      [12]`, `jeq      #0x800           jt 0\tjf 5`.
@@ -215,8 +240,8 @@ impl Display for Brief<'_> {
     ghost output = { λ insn. Some (brief_text insn.0.now) };
 
     fn fmt<W: Write>(&self, f: &mut Formatter<W>) -> fmt::Result {
-        let (name, form) = named(self.0.code);
-        f.write_str(name)?;
+        let form = form_of(self.0.code);
+        f.write_str(name_of(self.0.code))?;
         match form {
             Form::Nothing => Ok(()),
             _ => {

@@ -5,7 +5,7 @@ ghost use Rattle.std.specs.String.{string_bytes};
 ghost use Rattle.bpfvm.specs.declared.insn.Insn.{Insn};
 ghost use Rattle.bpfvm.specs.Validity.{IsValidProgram};
 ghost use Rattle.bpfvm.specs.Listing.{IsNumber, IsLine, AreLines, IsListing, IsRefusedListing, further_lines, lines_of, line_text, listing_of};
-ghost use Rattle.bpfvm.specs.Lines.{StopsAfter};
+ghost use Rattle.bpfvm.specs.Lines.{AreFields, StopsAfter};
 ghost use Rattle.bpfvm.specs.Laws.{HasFields};
 
 use crate::fault::{Invalid, ListingFault, NoMemory};
@@ -56,14 +56,11 @@ fn number(text: &[u8], most: u32) -> Option<u32>
     Some(n as u32)
 }
 
-/// The instruction of a line, `code jt jf k`.
-fn insn_of(line: &[u8]) -> Option<Insn>
-    ensures some { IfSome result (λ insn. IsLine line.now insn) }
-    ensures none { IfNone result ((insn : Insn) → IsLine line.now insn → ⊥) }
+/// The instruction that has these fields, each in decimal.
+fn insn_from(code: &[u8], jt: &[u8], jf: &[u8], k: &[u8]) -> Option<Insn>
+    ensures some { IfSome result (λ insn. AreFields code.now jt.now jf.now k.now insn) }
+    ensures none { IfNone result ((insn : Insn) → AreFields code.now jt.now jf.now k.now insn → ⊥) }
 {
-    let (code, rest) = split_once(line, b' ')?;
-    let (jt, rest) = split_once(rest, b' ')?;
-    let (jf, k) = split_once(rest, b' ')?;
     let code = number(code, u32::from(u16::MAX))?;
     let jt = number(jt, u32::from(u8::MAX))?;
     let jf = number(jf, u32::from(u8::MAX))?;
@@ -74,6 +71,17 @@ fn insn_of(line: &[u8]) -> Option<Insn>
         jf: jf as u8,
         k,
     })
+}
+
+/// The instruction of a line, `code jt jf k`.
+fn insn_of(line: &[u8]) -> Option<Insn>
+    ensures some { IfSome result (λ insn. IsLine line.now insn) }
+    ensures none { IfNone result ((insn : Insn) → IsLine line.now insn → ⊥) }
+{
+    let (code, rest) = split_once(line, b' ')?;
+    let (jt, rest) = split_once(rest, b' ')?;
+    let (jf, k) = split_once(rest, b' ')?;
+    insn_from(code, jt, jf, k)
 }
 
 /// The instructions of lines: the first of them, as many as a program has, and how many there are.

@@ -13,8 +13,8 @@ unfolding brief_text
 returns-in-Nothing-clause-writes g c = λ plain ok.
     let i = c.args.self.now.0.now in
     let o = operation_of i.code in
-    let none : [] ≡ operand_text o 0 i = subst (λ (form : Form). operand_in form 0 i ≡ operand_text o 0 i) c.in-Nothing.is (c.named-form.ensures.operand 0 i) in
-    written-as _ _ _ _ _ (c.named-form.ensures.is ∙ sym (append-nil (name_of o)) ∙ ap (λ (t : List ℕ). name_of o ++ spaced t) none)
+    let none : [] ≡ operand_text o 0 i = subst (λ (form : Form). operand_in form 0 i ≡ operand_text o 0 i) c.in-Nothing.is (c.form_of-form.ensures.operand 0 i) in
+    written-as _ _ _ _ _ (c.name_of.ensures ∙ sym (append-nil (name_of o)) ∙ ap (λ (t : List ℕ). name_of o ++ spaced t) none)
     (c.in_ok-write_str.ensures.writes plain refl)
 
 pub returns-in_ok-write_str-in_default : goal.returns-in_ok-write_str-in_default
@@ -23,12 +23,12 @@ returns-in_ok-write_str-in_default g c = record {
   writes = λ plain ok.
       let i = c.args.self.now.0.now in
       let o = operation_of i.code in
-      let form = c.named-form.result.1 in
+      let form = c.form_of-form.result in
       let wrote = c.in_ok-write_str.ensures.writes plain refl in
       let blank = c.in_ok-write_str-in_default.ensures.writes wrote.plain refl in
       let rest = c.write_operand.ensures.writes blank.plain ok in
-      let operand = sym (spaced_operand form 0 i c.in_default.not-Nothing (omega (arith, c.write_operand.ensures.fits))) ∙ ap spaced (c.named-form.ensures.operand 0 i) in
-      written-as _ _ _ _ _ (ap (λ (t : List ℕ). t ++ (codes " " ++ operand_in form 0 i)) c.named-form.ensures.is ∙ ap (λ (t : List ℕ). name_of o ++ t) operand)
+      let operand = sym (spaced_operand form 0 i c.in_default.not-Nothing (omega (arith, c.write_operand.ensures.fits))) ∙ ap spaced (c.form_of-form.ensures.operand 0 i) in
+      written-as _ _ _ _ _ (ap (λ (t : List ℕ). t ++ (codes " " ++ operand_in form 0 i)) c.name_of.ensures ∙ ap (λ (t : List ℕ). name_of o ++ t) operand)
       (written-then _ _ _ _ _ _ wrote (written-then _ _ _ _ _ _ blank rest));
   styled = tt;
 }
