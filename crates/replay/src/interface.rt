@@ -14,7 +14,7 @@ use crate::inlet::{Entry, Inlet};
 use crate::laid::Laid;
 use crate::launch::Launch;
 use crate::link::TaskLink;
-use crate::playing::{PlaysOut, play_out};
+use crate::playing::{Play, PlayEnd, PlaysOut, play_out};
 use crate::reading::ListenerId;
 use crate::ready::{Ready, Running};
 use crate::room::Room;
@@ -23,7 +23,7 @@ use savefile::{Sink, Source};
 use std::alloc::Global;
 use std::snapshot::Snapshot;
 use std::sync::Wait;
-use std::thread::{Scope, Threads};
+use std::thread::{PromisedHandle, Scope, Threads};
 use tasks::RunFault;
 
 /// Each feeder beside its link.
@@ -139,6 +139,38 @@ fn start_all<
     Ok(crews)
 }
 
+/// Starts the replaying thread of an interface.
+fn start_player<
+    's,
+    'a: 's,
+    E,
+    S: Source + Send + Drop + 's,
+    G: Gate + Sync + 's,
+    R: Threads + Wait + Sync + 's,
+>(
+    rt: &'s R,
+    scope: &Scope<'s, E>,
+    alloc: Global,
+    launch: &'s Launch,
+    gate: &'s G,
+    entries: Snapshot<Vec<Entry>>,
+    play: Play<'a, S>,
+) -> Result<PromisedHandle<Option<PlayEnd<S>>, PlaysOut<S>>, RunFault>
+    requires entered { map line_of play.inlets.items ≡ map entry_line entries.value.items }
+    ensures entries { IfOk result (λ player. player.promise.entries.value ≡ entries.value) }
+    ensures captures { IfOk result (λ player. player.promise.captures.value ≡ play.entry.captures) }
+    ensures refused { IfErr result (λ fault. fault ≡ NoStart) }
+{
+    let plays = PlaysOut {
+        entries,
+        captures: Snapshot::of(&play.captures),
+    };
+    match scope.spawn_with(plays, move || play_out(rt, launch, alloc, gate, play)) {
+        Ok(player) => Ok(player),
+        Err(_) => Err(RunFault::NoStart),
+    }
+}
+
 /// Starts the threads of an interface.
 fn launch_one<
     's,
@@ -174,18 +206,14 @@ fn launch_one<
         crews,
         reports,
     } = room;
-    let plays = PlaysOut {
-        entries,
-        captures: Snapshot::of(&captures),
+    let play = Play {
+        interface,
+        inlets,
+        captures,
+        ends,
+        sources,
     };
-    let Ok(player) = scope.spawn_with(
-        plays,
-        move || play_out(
-            rt, launch, alloc, gate, interface, inlets, captures, ends, sources,
-        ),
-    ) else {
-        return Err(RunFault::NoStart);
-    };
+    let player = start_player(rt, scope, alloc, launch, gate, entries, play)?;
     let crews = start_all(rt, scope, launch, gate, interface, links, stages, crews)?;
     Ok(Running {
         player,

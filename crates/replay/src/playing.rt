@@ -19,6 +19,22 @@ use std::sync::Wait;
 use std::thread::Promise;
 use tasks::InterfaceEnd;
 
+/// What the replaying thread of an interface is given.
+#[derive(Drop)]
+pub(crate) struct Play<'a, R> {
+    pub(crate) interface: u32,
+    pub(crate) inlets: Vec<Inlet<'a>>,
+    pub(crate) captures: Vec<R>,
+    /// Room for what comes back of the feeders.
+    pub(crate) ends: Vec<Ending>,
+    /// Room for what comes back of the captures.
+    pub(crate) sources: Vec<R>,
+    ghost fresh: { All IsFresh (map line_of inlets.items) },
+    ghost few: { length captures.items ≤ 65536 },
+    ghost ends_fit: { (length ends.items ≡ 0) × (length inlets.items ≤ vec_capacity ends) },
+    ghost sources_fit: { (length sources.items ≡ 0) × (length captures.items ≤ vec_capacity sources) },
+}
+
 /// What the replaying thread of an interface hands back.
 #[derive(Drop)]
 pub(crate) struct PlayEnd<R> {
@@ -73,21 +89,20 @@ pub(crate) fn play_out<S: Source + Drop, G: Gate, R: Wait>(
     launch: &Launch,
     alloc: Global,
     gate: &G,
-    interface: u32,
-    inlets: Vec<Inlet<'_>>,
-    captures: Vec<S>,
-    ends: Vec<Ending>,
-    sources: Vec<S>,
+    play: Play<'_, S>,
 ) -> Option<PlayEnd<S>>
-    requires fresh { All IsFresh (map line_of inlets.items) }
-    requires few { length captures.items ≤ 65536 }
-    requires room { (length ends.items ≡ 0) × (length inlets.items ≤ vec_capacity ends)
-        × (length sources.items ≡ 0) × (length captures.items ≤ vec_capacity sources) }
-    ensures { IfSome result (HasPlayedOut S.left S.failures (map line_of inlets.entry.items) captures.items) }
+    ensures { IfSome result (HasPlayedOut S.left S.failures (map line_of play.entry.inlets.items) play.entry.captures.items) }
 {
     if !launch.is_whole(rt) {
         return None;
     }
+    let Play {
+        interface,
+        inlets,
+        captures,
+        ends,
+        sources,
+    } = play;
     let mut player = Player {
         interface,
         inlets,

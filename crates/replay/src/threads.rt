@@ -1,7 +1,7 @@
 //! Starting the two threads of a task, and waiting for them.
 
-ghost use Rattle.std.specs.Prelude.{◌≡◌, IfOk, IfErr, IfSome};
-ghost use Rattle.rtrb.specs.Ring.{SameConsumer};
+ghost use Rattle.std.specs.Prelude.{◌≡◌, [], IfOk, IfErr, IfSome};
+ghost use Rattle.rtrb.specs.Ring.{received, sent, SameConsumer};
 ghost use Rattle.replay.specs.Crews.{IsDone, crew_line, crew_pair, stage_line};
 ghost use Rattle.tasks.specs.declared.fault.RunFault.TheVariants.{NoStart};
 
@@ -9,13 +9,83 @@ use crate::crew::{Crew, Done, Stage};
 use crate::gate::Gate;
 use crate::launch::Launch;
 use crate::link::TaskLink;
-use crate::reading::{ListenerId, ReadsOut, read_out};
-use crate::writer::{WritesOut, write_out};
+use crate::reading::{ListenerId, ReadEnd, ReadsOut, read_out};
+use crate::writer::{WriteEnd, WritesOut, write_out};
+use crate::writing::Output;
+use handover::Drain;
+use listener::Buffer;
+use rtrb::{Consumer, Producer};
 use savefile::Sink;
 use std::snapshot::Snapshot;
 use std::sync::Wait;
-use std::thread::{Scope, Threads};
+use std::thread::{PromisedHandle, Scope, Threads};
 use tasks::RunFault;
+
+/// A thread that reads a listener.
+type Reader = PromisedHandle<Option<ReadEnd>, ReadsOut>;
+
+/// A thread that writes a savefile.
+type Writer<W> = PromisedHandle<Option<WriteEnd<W>>, WritesOut<W>>;
+
+/// Starts the reading thread of a task.
+fn start_reader<'s, 'a: 's, E, G: Gate + Sync + 's, R: Threads + Wait + Sync + 's>(
+    rt: &'s R,
+    scope: &Scope<'s, E>,
+    launch: &'s Launch,
+    gate: &'s G,
+    link: &'a TaskLink,
+    drain: Drain,
+    full: Producer<Buffer>,
+    empty: Consumer<Buffer>,
+    listener_id: ListenerId,
+) -> Result<Reader, RunFault>
+    requires pair { drain.pair ≡ link.now }
+    requires new { (drain.takes ≡ []) × (sent full ≡ []) }
+    ensures reads { IfOk result (λ reader. (reader.promise.drain.value ≡ drain) × (reader.promise.full.value ≡ full)) }
+    ensures refused { IfErr result (λ fault. fault ≡ NoStart) }
+{
+    let reads = ReadsOut {
+        drain: Snapshot::of(&drain),
+        full: Snapshot::of(&full),
+    };
+    match scope.spawn_with(
+        reads,
+        move || read_out(rt, launch, gate, link, drain, full, empty, listener_id),
+    ) {
+        Ok(reader) => Ok(reader),
+        Err(_) => Err(RunFault::NoStart),
+    }
+}
+
+/// Starts the writing thread of a task.
+fn start_writer<'s, 'a: 's, E, W: Sink + Send + Drop + 's, R: Threads + Wait + Sync + 's>(
+    rt: &'s R,
+    scope: &Scope<'s, E>,
+    launch: &'s Launch,
+    link: &'a TaskLink,
+    output: Output<W>,
+    full: Consumer<Buffer>,
+    empty: Producer<Buffer>,
+    rest: Consumer<Buffer>,
+) -> Result<Writer<W>, RunFault>
+    requires { (received full ≡ []) × (received rest ≡ []) }
+    ensures output { IfOk result (λ writer. writer.promise.output.value ≡ output) }
+    ensures rings { IfOk result (λ writer. (writer.promise.full.value ≡ full) × (writer.promise.rest.value ≡ rest)) }
+    ensures refused { IfErr result (λ fault. fault ≡ NoStart) }
+{
+    let writes = WritesOut {
+        output: Snapshot::of(&output),
+        full: Snapshot::of(&full),
+        rest: Snapshot::of(&rest),
+    };
+    match scope.spawn_with(
+        writes,
+        move || write_out(rt, launch, link, output, full, empty, rest),
+    ) {
+        Ok(writer) => Ok(writer),
+        Err(_) => Err(RunFault::NoStart),
+    }
+}
 
 /// Starts the threads of a task.
 pub(crate) fn start<
@@ -49,36 +119,20 @@ pub(crate) fn start<
         rest_out,
         output,
     } = stage;
-    let reads = ReadsOut {
-        drain: Snapshot::of(&drain),
-        full: Snapshot::of(&full_in),
-    };
-    let writes = WritesOut {
-        output: Snapshot::of(&output),
-        full: Snapshot::of(&full_out),
-        rest: Snapshot::of(&rest_out),
-    };
-    let Ok(reader) = scope.spawn_with(
-        reads,
-        move || read_out(
-            rt,
-            launch,
-            gate,
-            link,
-            drain,
-            full_in,
-            empty_out,
-            listener_id,
-        ),
-    ) else {
-        return Err(RunFault::NoStart);
-    };
-    let Ok(writer) = scope.spawn_with(
-        writes,
-        move || write_out(rt, launch, link, output, full_out, empty_in, rest_out),
-    ) else {
-        return Err(RunFault::NoStart);
-    };
+    let reader = start_reader(
+        rt,
+        scope,
+        launch,
+        gate,
+        link,
+        drain,
+        full_in,
+        empty_out,
+        listener_id,
+    )?;
+    let writer = start_writer(
+        rt, scope, launch, link, output, full_out, empty_in, rest_out,
+    )?;
     Ok(Crew {
         task,
         reader,

@@ -6,22 +6,22 @@ use Rattle.replay.proofs.Lists.{empty}
 use Rattle.replay.proofs.playing.play_out.Goals as goal
 
 pub give_captures-sources-requires-clause-so_far : goal.give_captures-sources-requires-clause-so_far
-give_captures-sources-requires-clause-so_far g c = (map line_of c.args.inlets.items, [], (refl, fresh-fed (map line_of c.args.inlets.items) c.requires.fresh))
+give_captures-sources-requires-clause-so_far g c = (map line_of c.args.play.inlets.items, [], (refl, fresh-fed (map line_of c.args.play.inlets.items) c.args.play.fresh))
 
 pub end_all-ends-requires : goal.end_all-ends-requires
 end_all-ends-requires g c =
-    let starts = map line_of c.args.inlets.items in
-    let (playlist, timely, arrived, plays) = c.give_captures-sources.ensures starts (refl, fresh-fed starts c.requires.fresh) in
+    let starts = map line_of c.args.play.inlets.items in
+    let (playlist, timely, arrived, plays) = c.give_captures-sources.ensures starts (refl, fresh-fed starts c.args.play.fresh) in
     let same = ap length arrived.1 in
     let a = length-map c.give_captures-sources.new.self.inlets.items line_of in
     let b = length-map starts (fed_all playlist) in
-    let d = length-map c.args.inlets.items line_of in
-    let room = c.requires.room.1 in record { room = (empty _ c.requires.room.0, omega (arith, same, a, b, d, room)) }
+    let d = length-map c.args.play.inlets.items line_of in
+    let room = c.args.play.ends_fit.1 in record { room = (empty _ c.args.play.ends_fit.0, omega (arith, same, a, b, d, room)) }
 
 pub returns : goal.returns
 returns g c =
-    let starts = map line_of c.args.inlets.items in
-    let (playlist, timely, arrived, plays) = c.give_captures-sources.ensures starts (refl, fresh-fed starts c.requires.fresh) in record {
+    let starts = map line_of c.args.play.inlets.items in
+    let (playlist, timely, arrived, plays) = c.give_captures-sources.ensures starts (refl, fresh-fed starts c.args.play.fresh) in record {
       playlist = playlist;
       timely = timely;
       plays = plays;
