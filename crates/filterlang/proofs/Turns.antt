@@ -7,11 +7,11 @@ use Rattle.filterlang.specs.declared.lookahead.Beginning.TheVariants as beginnin
 use Rattle.filterlang.specs.declared.phrases.qualifiers.Qualifiers.{Qualifiers}
 use Rattle.filterlang.specs.declared.parser.Start.{Start}
 use Rattle.filterlang.specs.declared.parser.Start.TheVariants as starts
-use Rattle.syntax.specs.Trees.{Tree, test}
+use Rattle.syntax.specs.Trees.{test}
 use Rattle.filterlang.specs.Grammar.{begins_relation}
-use Rattle.filterlang.specs.Readers.{◌>>=◌, Reader, nothing, deeper, closed}
+use Rattle.filterlang.specs.Readers.{◌>>=◌, nothing, deeper, closed}
 use Rattle.filterlang.specs.ValueReading.{relation_at}
-use Rattle.filterlang.specs.Reading.{beginning, negated, group_at, group_term_at, identified_at, start_at, started, without_inheritance, term_at, logical_at, expr_at}
+use Rattle.filterlang.specs.Reading.{beginning, negated, group_at, group_term_at, identified_at, start_at, started, started_by, started_at, without_inheritance, term_at, logical_at, expr_at}
 use Rattle.filterlang.proofs.Steps.{bind_same}
 
 -- a negated term of a group
@@ -58,25 +58,20 @@ logical_parenthesis zero q (kind.Open ∷ ts) h = refl
 logical_parenthesis (suc n) q (kind.Open ∷ ts) h = refl
 logical_parenthesis n q ts h = cc
 
--- a primitive, or the group behind its phrase, with so many levels left
-abbrev pub started_at : ℕ → Start → Reader Tree (Option Qualifiers)
-started_at n (starts.Primitive p) q ts = Some (test p, q, ts)
-started_at n (starts.Group g) q ts = deeper n ts >>= λ d. closed (group_at d.0 g d.1) >>= λ t. Some (t.0, q, t.2)
-
 -- with no level left no group is read
-started_zero : (s : Start) (q : Option Qualifiers) (ts : List Kind) → started nothing s q ts ≡ started_at zero s q ts
+started_zero : (s : Start) (q : Option Qualifiers) (ts : List Kind) → started nothing s q ts ≡ started_by zero s q ts
 started_zero (starts.Primitive p) q ts = refl
 started_zero (starts.Group g) q [] = refl
 started_zero (starts.Group g) q (t ∷ ts) = refl
 
 -- with one more, by the reader of those that are left
-started_suc : (n : ℕ) (s : Start) (q : Option Qualifiers) (ts : List Kind) → started (group_term_at n) s q ts ≡ started_at (suc n) s q ts
+started_suc : (n : ℕ) (s : Start) (q : Option Qualifiers) (ts : List Kind) → started (group_term_at n) s q ts ≡ started_by (suc n) s q ts
 started_suc n (starts.Primitive p) q ts = refl
 started_suc n (starts.Group g) q [] = refl
 started_suc n (starts.Group g) q (t ∷ ts) = refl
 
 -- a primitive, or a group behind its phrase
-pub logical_start : (n : ℕ) (q : Option Qualifiers) (ts : List Kind) → beginning ts ≡ beginnings.Primitive → logical_at n q ts ≡ (start_at q ts >>= λ s. started_at n s.0 s.1 s.2)
+pub logical_start : (n : ℕ) (q : Option Qualifiers) (ts : List Kind) → beginning ts ≡ beginnings.Primitive → logical_at n q ts ≡ started_at n q ts
 unfolding logical_at
 logical_start zero q (kind.Not ∷ ts) h = cc
 logical_start (suc n) q (kind.Not ∷ ts) h = cc

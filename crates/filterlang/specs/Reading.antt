@@ -14,7 +14,7 @@ use Rattle.filterlang.specs.Primitives.{plain_of, stands_alone}
 use Rattle.filterlang.specs.Qualifiers.{qualifiers_of, identified, transport_of, port_of}
 use Rattle.syntax.specs.Trees.{Tree, everything, test, negation, both, either}
 use Rattle.filterlang.specs.Grammar.{begins_relation, is_written}
-use Rattle.filterlang.specs.Readers.{◌>>=◌, Reader, nothing, Joining, chained, closed, bare_number_at}
+use Rattle.filterlang.specs.Readers.{◌>>=◌, Reader, nothing, Joining, chained, closed, deeper, bare_number_at}
 use Rattle.filterlang.specs.ValueReading.{relation_at}
 
 abbrev pub address_at : List Kind → Option (ℕ × Parts × List Kind)
@@ -25,10 +25,17 @@ abbrev pub joint_at : List Kind → Option (Joint × List Kind)
 joint_at (kind.Joint joint ∷ rest) = Some (joint, rest)
 joint_at rest = None
 
+abbrev pub side_at : List Kind → Option (Side × List Kind)
+side_at (kind.Side side ∷ rest) = Some (side, rest)
+side_at rest = None
+
 -- what makes a direction of its first word and what follows
 abbrev pub joined_at : Side → List Kind → Option (Direction × List Kind)
-joined_at first (kind.Joint joint ∷ kind.Side second ∷ rest) = joined first joint second >>= λ direction. Some (direction, rest)
-joined_at first rest = None
+joined_at first tokens =
+    joint_at tokens >>= λ joint.
+    side_at joint.1 >>= λ second.
+    joined first joint.0 second.0 >>= λ direction.
+    Some (direction, second.1)
 
 abbrev pub minus_at : List Kind → Option (Unit {0} × List Kind)
 minus_at (kind.Operator Minus ∷ rest) = Some (tt, rest)
@@ -150,6 +157,15 @@ group_term_at (suc n) = group_term_by (group_term_at n)
 -- identifiers under one phrase
 abbrev pub group_at : ℕ → Reader Tree Qualifiers
 group_at n = chained joints (group_term_at n)
+
+-- a primitive, or the group behind its phrase, with so many levels left, as the parser goes
+abbrev pub started_by : ℕ → Start → Reader Tree (Option Qualifiers)
+started_by n (starts.Primitive p) q tokens = Some (test p, q, tokens)
+started_by n (starts.Group g) q tokens = deeper n tokens >>= λ inner. closed (group_at inner.0 g inner.1) >>= λ t. Some (t.0, q, t.2)
+
+-- what a term begins with, and the group behind it, where it is the phrase of one
+abbrev pub started_at : ℕ → Reader Tree (Option Qualifiers)
+started_at n q tokens = start_at q tokens >>= λ s. started_by n s.0 s.1 s.2
 
 -- a primitive, or the group behind its phrase
 abbrev pub started : Reader Tree Qualifiers → Start → Reader Tree (Option Qualifiers)

@@ -87,10 +87,10 @@ fn after_matching(tokens: &[Token]) -> &[Token]
 pub(crate) fn begins_relation(tokens: &[Token]) -> bool
     ensures { result ≡ begins_relation (kinds tokens.now) }
 {
-    let [token, rest @ ..] = tokens else {
+    let Some((kind, rest)) = next(tokens) else {
         return false;
     };
-    match token.kind {
+    match kind {
         Kind::Open => operator_follows(after_matching(rest)),
         Kind::Number(_) => operator_follows(rest),
         Kind::Operator(Operator::Minus) | Kind::Len | Kind::Named(_) => true,

@@ -5,7 +5,7 @@ ghost use Rattle.filterlang.specs.Phrases.{kinds};
 ghost use Rattle.filterlang.specs.Tokens.{fault_at, Stuck};
 ghost use Rattle.syntax.specs.Trees.{Tree, tree_of};
 ghost use Rattle.filterlang.specs.Readers.{Gives};
-ghost use Rattle.filterlang.specs.Reading.{start_at, phrased_at, qualified_at, inherited_at, logical_at, term_at, expr_at, text_at};
+ghost use Rattle.filterlang.specs.Reading.{start_at, phrased_at, qualified_at, inherited_at, started_at, logical_at, term_at, expr_at, text_at};
 ghost use Rattle.filterlang.specs.Texts.{ReadsAs, IsRefusalOf};
 ghost use Rattle.filterlang.specs.declared.fault.Fault.TheVariants as Fault;
 ghost use Rattle.filterlang.specs.declared.lexer.Cause.{Cause};
@@ -94,14 +94,22 @@ impl<'a> Parser<'a> {
                 let expr = self.expr(alloc, levels)?;
                 self.cursor.closed(expr)
             }
-            Beginning::Primitive => match self.start()? {
-                Start::Primitive(primitive) => Ok(Expr::Test(primitive)),
-                Start::Group(qualifiers) => {
-                    let levels = self.cursor.deeper(levels)?;
-                    let expr = self.cursor.group(alloc, levels, qualifiers)?;
-                    self.cursor.closed(expr)
-                }
-            },
+            Beginning::Primitive => self.started(alloc, levels),
+        }
+    }
+
+    /// A primitive, or a group behind its phrase.
+    fn started(&mut self, alloc: Global, levels: usize) -> Result<Expr, Fault>
+        ensures { Gives (λ e. (tree_of e, self.new.nearest, kinds self.new.cursor.rest.now)) result
+            (started_at levels self.old.nearest (kinds self.old.cursor.rest.now)) }
+    {
+        match self.start()? {
+            Start::Primitive(primitive) => Ok(Expr::Test(primitive)),
+            Start::Group(qualifiers) => {
+                let levels = self.cursor.deeper(levels)?;
+                let expr = self.cursor.group(alloc, levels, qualifiers)?;
+                self.cursor.closed(expr)
+            }
         }
     }
 

@@ -6,7 +6,7 @@ ghost use Rattle.filterlang.specs.Phrases.{kinds, protocol_at, direction_at, one
 ghost use Rattle.filterlang.specs.Primitives.{begins_identifier};
 ghost use Rattle.filterlang.specs.Grammar.{is_written};
 ghost use Rattle.filterlang.specs.Readers.{next_of, bare_number_at, close_at};
-ghost use Rattle.filterlang.specs.Reading.{joined_at, address_at, joint_at, minus_at, range_at};
+ghost use Rattle.filterlang.specs.Reading.{side_at, joined_at, address_at, joint_at, minus_at, range_at};
 
 mod group;
 pub(crate) mod primitives;
@@ -61,14 +61,22 @@ fn joined(first: Side, joint: Joint, second: Side) -> Option<Direction>
     }
 }
 
+/// The word for a direction at the front, if there is one, and what follows.
+fn side_at(tokens: &[Token]) -> Option<(Side, &[Token])>
+    ensures { option_map (λ found. (found.0, kinds found.1.now)) result ≡ side_at (kinds tokens.now) }
+{
+    match next(tokens) {
+        Some((Kind::Side(side), rest)) => Some((side, rest)),
+        _ => None,
+    }
+}
+
 /// What goes on with a direction behind its first word: `and` or `or`, and then the other word.
 fn joined_at(first: Side, tokens: &[Token]) -> Option<(Direction, &[Token])>
     ensures { option_map (λ found. (found.0, kinds found.1.now)) result ≡ joined_at first (kinds tokens.now) }
 {
     let (joint, rest) = joint_at(tokens)?;
-    let Some((Kind::Side(second), rest)) = next(rest) else {
-        return None;
-    };
+    let (second, rest) = side_at(rest)?;
     let direction = joined(first, joint, second)?;
     Some((direction, rest))
 }
@@ -84,11 +92,10 @@ fn one_side(side: Side) -> Direction
 }
 
 /// The direction at the front, as long as possible, if there is one, and what follows.
-#[tactic(auto, using(crate::proofs::Directions::direction_joined))]
 fn direction_at(tokens: &[Token]) -> (Option<Direction>, &[Token])
     ensures { (result.0, kinds result.1.now) ≡ direction_at (kinds tokens.now) }
 {
-    let Some((Kind::Side(first), rest)) = next(tokens) else {
+    let Some((first, rest)) = side_at(tokens) else {
         return (None, tokens);
     };
     match joined_at(first, rest) {

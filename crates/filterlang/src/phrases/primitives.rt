@@ -7,7 +7,7 @@ ghost use Rattle.filterlang.specs.Primitives.{plain_of, stands_alone};
 ghost use Rattle.filterlang.specs.Reading.{plain_at, unqualified_at, broadcast_at};
 
 use crate::phrases::qualifiers::Phrase;
-use crate::phrases::{bare_number_at, begins_identifier};
+use crate::phrases::{bare_number_at, begins_identifier, next};
 use crate::token::{Kind, Protocol, Token};
 use syntax::{Plain, Primitive};
 
@@ -32,10 +32,10 @@ pub(crate) fn plain_of(protocol: Protocol) -> Option<Plain>
 pub(crate) fn stands_alone(protocol: Protocol, rest: &[Token]) -> bool
     ensures { result ≡ stands_alone protocol (kinds rest.now) }
 {
-    let [Token { kind, .. }, ..] = rest else {
+    let Some((kind, _)) = next(rest) else {
         return true;
     };
-    match (protocol, *kind) {
+    match (protocol, kind) {
         (_, Kind::Open | Kind::OpenBracket | Kind::PortRange) => false,
         (Protocol::Ip, Kind::Multicast) => false,
         (_, kind) => !begins_identifier(kind),
@@ -63,10 +63,10 @@ pub(crate) fn unqualified_at(tokens: &[Token]) -> Result<Option<(Primitive, &[To
     ensures { option_map (option_map (λ found. (found.0, kinds found.1.now))) (result_ok result)
         ≡ unqualified_at (kinds tokens.now) }
 {
-    let [first, rest @ ..] = tokens else {
+    let Some((kind, rest)) = next(tokens) else {
         return Ok(None);
     };
-    match first.kind {
+    match kind {
         Kind::Broadcast => Ok(Some((Primitive::EtherBroadcast, rest))),
         Kind::Multicast => Ok(Some((Primitive::EtherMulticast, rest))),
         Kind::Less => {

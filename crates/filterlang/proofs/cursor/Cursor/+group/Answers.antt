@@ -4,8 +4,8 @@ use Rattle.syntax.specs.Trees.{tree_of}
 use Rattle.filterlang.specs.Reading.{joints, group_term_at}
 use Rattle.filterlang.proofs.Chains.{turn_shorter, chain_turn}
 use Rattle.filterlang.proofs.Shorter.{joints_shorter, group_term_shortens}
-use Rattle.filterlang.proofs.Turns.{group_parenthesis}
-use Rattle.filterlang.proofs.Closing.{closed_gives}
+use Rattle.filterlang.proofs.Turns.{group_not, group_parenthesis, group_identifier}
+use Rattle.filterlang.proofs.Closing.{closed_gives, fails}
 use Rattle.filterlang.proofs.cursor.Cursor.+group.Goals as goal
 
 pub group-loop-joint-smaller : goal.group-loop-joint-smaller
@@ -21,3 +21,18 @@ pub group_term-returns-in_ok-expr-in-Parenthesis : goal.group_term-returns-in_ok
 group_term-returns-in_ok-expr-in-Parenthesis t c =
     rw (group_parenthesis c.args.levels c.args.qualifiers (kinds c.args.self.now.rest.now) (cc), c.in_ok-levels-in-Parenthesis.ensures, c.in_ok-expr-in-Parenthesis.ensures)
     (closed_gives tree_of c.closed.result c.in_ok-expr-in-Parenthesis.expr c.args.qualifiers _ _ c.closed.ensures)
+
+pub group-returns-in_err-expr : goal.group-returns-in_err-expr
+group-returns-in_err-expr t c = fails _ _ _ _ _ c.from_residual.ensures c.in_err-expr.ensures
+
+pub group_term-returns-in_err-levels-in-Not : goal.group_term-returns-in_err-levels-in-Not
+group_term-returns-in_err-levels-in-Not t c = rw (group_not c.args.levels c.args.qualifiers (kinds c.args.self.now.rest.now) (cc)) (fails _ _ _ _ _ c.from_residual.ensures c.in_err-levels-in-Not.ensures)
+
+pub group_term-returns-in_err-expr-in-Not : goal.group_term-returns-in_err-expr-in-Not
+group_term-returns-in_err-expr-in-Not t c = rw (group_not c.args.levels c.args.qualifiers (kinds c.args.self.now.rest.now) (cc), c.in_ok-levels-in-Not.ensures) (fails _ _ _ _ _ c.from_residual-in_err-expr-in-Not.ensures c.in_err-expr-in-Not.ensures)
+
+pub group_term-returns-in_err-levels-in-Parenthesis : goal.group_term-returns-in_err-levels-in-Parenthesis
+group_term-returns-in_err-levels-in-Parenthesis t c = rw (group_parenthesis c.args.levels c.args.qualifiers (kinds c.args.self.now.rest.now) (cc)) (fails _ _ _ _ _ c.from_residual-in_err-levels-in-Parenthesis.ensures c.in_err-levels-in-Parenthesis.ensures)
+
+pub group_term-returns-in_err-identified-in-Primitive : goal.group_term-returns-in_err-identified-in-Primitive
+group_term-returns-in_err-identified-in-Primitive t c = rw (group_identifier c.args.levels c.args.qualifiers (kinds c.args.self.now.rest.now) (cc)) (fails _ _ _ _ _ c.from_residual-in_err-identified-in-Primitive.ensures c.in_err-identified-in-Primitive.ensures)

@@ -1,11 +1,11 @@
-use Rattle.std.proofs.Common.{refl, sym, ◌∙◌}
+use Rattle.std.proofs.Common.{sym, ◌∙◌}
 use Rattle.filterlang.specs.Phrases.{kinds}
 use Rattle.syntax.specs.Trees.{tree_of}
 use Rattle.filterlang.specs.Reading.{joints, term_at}
 use Rattle.filterlang.proofs.Chains.{turn_shorter, chain_turn}
 use Rattle.filterlang.proofs.Shorter.{joints_shorter, term_shortens}
-use Rattle.filterlang.proofs.Turns.{logical_parenthesis, logical_start}
-use Rattle.filterlang.proofs.Closing.{closed_gives, group_gives}
+use Rattle.filterlang.proofs.Turns.{logical_not, logical_parenthesis}
+use Rattle.filterlang.proofs.Closing.{closed_gives, fails}
 use Rattle.filterlang.proofs.parser.Parser.+expr.Goals as goal
 
 pub expr-loop-joint-smaller : goal.expr-loop-joint-smaller
@@ -22,7 +22,14 @@ logical-returns-in_ok-expr-in-Parenthesis t c =
     rw (logical_parenthesis c.args.levels c.args.self.now.nearest (kinds c.args.self.now.cursor.rest.now) (cc), c.in_ok-levels-in-Parenthesis.ensures, c.in_ok-expr-in-Parenthesis.ensures)
     (closed_gives tree_of c.closed.result c.in_ok-expr-in-Parenthesis.expr _ _ _ c.closed.ensures)
 
-pub logical-returns-in_ok-expr-in-Group : goal.logical-returns-in_ok-expr-in-Group
-logical-returns-in_ok-expr-in-Group t c =
-    rw (logical_start c.args.levels c.args.self.now.nearest (kinds c.args.self.now.cursor.rest.now) (cc), c.in_ok-primitive-in-Primitive.ensures, c.in-Group.is, c.in_ok-levels-in-Group.ensures, c.in_ok-expr-in-Group.ensures)
-    (group_gives tree_of c.closed-in-Group.result c.in_ok-expr-in-Group.expr _ _ _ _ _ c.closed-in-Group.ensures refl)
+pub expr-returns-in_err-expr : goal.expr-returns-in_err-expr
+expr-returns-in_err-expr t c = fails _ _ _ _ _ c.from_residual.ensures c.in_err-expr.ensures
+
+pub logical-returns-in_err-levels-in-Not : goal.logical-returns-in_err-levels-in-Not
+logical-returns-in_err-levels-in-Not t c = rw (logical_not c.args.levels c.args.self.now.nearest (kinds c.args.self.now.cursor.rest.now) (cc)) (fails _ _ _ _ _ c.from_residual.ensures c.in_err-levels-in-Not.ensures)
+
+pub logical-returns-in_err-expr-in-Not : goal.logical-returns-in_err-expr-in-Not
+logical-returns-in_err-expr-in-Not t c = rw (logical_not c.args.levels c.args.self.now.nearest (kinds c.args.self.now.cursor.rest.now) (cc), c.in_ok-levels-in-Not.ensures) (fails _ _ _ _ _ c.from_residual-in_err-expr-in-Not.ensures c.in_err-expr-in-Not.ensures)
+
+pub logical-returns-in_err-levels-in-Parenthesis : goal.logical-returns-in_err-levels-in-Parenthesis
+logical-returns-in_err-levels-in-Parenthesis t c = rw (logical_parenthesis c.args.levels c.args.self.now.nearest (kinds c.args.self.now.cursor.rest.now) (cc)) (fails _ _ _ _ _ c.from_residual-in_err-levels-in-Parenthesis.ensures c.in_err-levels-in-Parenthesis.ensures)
