@@ -1,7 +1,7 @@
 //! What the two ends share, how they are made and what is left of them.
 
-ghost use Rattle.std.specs.Prelude.{◌≡◌, [], IfOk, IfErr, OnOk};
-ghost use Rattle.listener.specs.Buffers.{filled};
+ghost use Rattle.std.specs.Prelude.{◌≡◌, [], ◌∷◌, IfOk, IfErr, OnOk};
+ghost use Rattle.listener.specs.Buffers.{filled, RefusesBuffer};
 ghost use Rattle.listener.specs.Laws.{hold_of};
 ghost use Rattle.listener.specs.Listening.{InRange, RefusesOpen};
 ghost use Rattle.listener.specs.PlainList.{stored};
@@ -98,6 +98,17 @@ pub fn pair(
     pair_as(alloc, program, snap, capacity, Mode::Buffered)
 }
 
+/// The one slot of what is shared: a hold, which is empty.
+fn hold_slot(alloc: Global, capacity: usize) -> Result<Vec<Buffer>, OpenFault>
+    ensures ok { IfOk result (λ slots. slots.items ≡ filled capacity [] ∷ []) }
+    ensures only { IfErr result (RefusesBuffer capacity) }
+{
+    let hold = Buffer::new(alloc, capacity)?;
+    let mut slots = Vec::with_capacity(alloc, 1)?;
+    slots.push_reserved(hold);
+    Ok(slots)
+}
+
 /// Makes a feeder and a drain, and what they share: a filter program, at most so many bytes of a packet, so many bytes of
 /// records in each of the buffers, and when the store becomes the hold.
 ///
@@ -117,9 +128,7 @@ pub fn pair_as(
 {
     check_range(snap, capacity)?;
     let store = Buffer::new(alloc, capacity)?;
-    let hold = Buffer::new(alloc, capacity)?;
-    let mut slots = Vec::with_capacity(alloc, 1)?;
-    slots.push_reserved(hold);
+    let slots = hold_slot(alloc, capacity)?;
     match Table::new(alloc, &[0, 0, 0], slots, &Profile { capacity, mode }) {
         Ok((table, seat)) => Ok(parted(table, seat, store, program, snap, mode)),
         Err(Refused { slots: _ }) => Err(OpenFault::NoMemory),
