@@ -31,9 +31,3 @@ returns-else-takes t c = rw c.if-takes.ensures.kept (takes-none c.args.chain (tr
 
 pub returns-else-takes-2 : goal.returns-else-takes-2
 returns-else-takes-2 t c = rw c.if-takes-2.ensures.kept (takes-none c.args.chain (tree_of c.args.expr.now) c.args.self.now.members.items)
-
-pub returns-else-takes-3 : goal.returns-else-takes-3
-returns-else-takes-3 t c = rw c.if-takes-3.ensures.kept (takes-none c.args.chain (tree_of c.args.expr.now) c.args.self.now.members.items)
-
-pub returns-then-takes-3 : goal.returns-then-takes-3
-returns-then-takes-3 t c = c.if-takes-3.ensures.taken

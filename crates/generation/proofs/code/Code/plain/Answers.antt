@@ -12,12 +12,6 @@ returns-in-Ip c =
     (decides-by-same _ (is_type 0x0800) (λ p bytes. and-yes (is_type 0x0800 p))
     (decides-guarded w c.requires.ways (decides-always exits c.args.self.now (c.requires.ways.0.ip, c.requires.ways.1.ip)) c.behind_ip.ensures.test))
 
-pub returns-in-Arp : goal.returns-in-Arp
-returns-in-Arp c = rw c.in-Arp.is c.other_type.ensures
-
-pub returns-in-Rarp : goal.returns-in-Rarp
-returns-in-Rarp c = rw c.in-Rarp.is c.other_type-in-Rarp.ensures
-
 pub returns-in-Icmp : goal.returns-in-Icmp
 returns-in-Icmp c = rw c.in-Icmp.is c.ip_protocol.ensures
 
