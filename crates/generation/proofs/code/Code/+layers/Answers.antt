@@ -34,6 +34,3 @@ returns-in_ok-room-in-Accessor t c =
     let index = rw (c.narrowed.ensures, c.deref-in-Accessor.ensures, c.of_layer-fact.ensures) at c.in_ok-second-in-Accessor.ensures in
     let layer = rw c.of_layer-fact.ensures at c.rest_of.ensures in
     rw c.in-Accessor.is (decides-both c.requires index layer)
-
-pub returns-in-Negation : goal.returns-in-Negation
-returns-in-Negation t c = rw c.in-Negation.is (rw c.deref.ensures at c.layers.ensures)
