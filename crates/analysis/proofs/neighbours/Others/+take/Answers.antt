@@ -1,6 +1,6 @@
 use Rattle.std.proofs.Common.{None, Some}
 use Rattle.syntax.specs.Trees.{tree_of}
-use Rattle.analysis.proofs.Members.{map-option, takes-right, takes-negated}
+use Rattle.analysis.proofs.Members.{map-option, takes-none, takes-right, takes-negated}
 use Rattle.analysis.proofs.neighbours.Others.+take.Goals as goal
 
 pub returns-then-takes : goal.returns-then-takes
@@ -22,3 +22,12 @@ returns-then-takes-2 t c =
     (map-option c.take-then-takes-2.result left
     (λ others. takes-negated (tree_of parts.left.value) (tree_of parts.right.value) None _ _ _ right others)
     (λ w others. takes-negated (tree_of parts.left.value) (tree_of parts.right.value) (Some (tree_of w.now)) _ _ _ right others))
+
+pub returns-then-most-eq0 : goal.returns-then-most-eq0
+returns-then-most-eq0 t c = takes-none c.args.chain (tree_of c.args.expr.now) c.args.self.now.members.items
+
+pub returns-else-takes : goal.returns-else-takes
+returns-else-takes t c = rw c.if-takes.ensures.kept (takes-none c.args.chain (tree_of c.args.expr.now) c.args.self.now.members.items)
+
+pub returns-else-takes-2 : goal.returns-else-takes-2
+returns-else-takes-2 t c = rw c.if-takes-2.ensures.kept (takes-none c.args.chain (tree_of c.args.expr.now) c.args.self.now.members.items)

@@ -1,6 +1,7 @@
 use Rattle.std.proofs.Common.{arith, refl}
 use Rattle.std.proofs.lemmas.Result.{MatchResult-weaker}
-use Rattle.generation.proofs.Ends.{leaves-both, leaves-either, continues-more}
+use Rattle.syntax.specs.Trees.{tree_of}
+use Rattle.generation.proofs.Ends.{emits-link, leaves-both, leaves-either, continues-none, continues-more}
 use Rattle.generation.proofs.Leading.{renews-not, renews-all-later}
 use Rattle.generation.proofs.Narrowed.{behind-more, behind-renewed, behind-not, behind-passed, renews-none}
 use Rattle.generation.proofs.Taking.{map-option, emits-none, emits-whole}
@@ -51,3 +52,14 @@ right_end-returns t c =
           let done = rw (w.deref.ensures, w.swapped.ensures) at w.in_ok-inner-in-Not.ensures in
           rw (w.emitted-is, w.self-is, w.in-Not.is, w.swapped-ways.ensures) (behind-not done.0, renews-not done.1)
     ]
+
+pub last_link-returns-in-Some : goal.last_link-returns-in-Some
+last_link-returns-in-Some t c = rw c.in-Some.is at c.in_ok-listed.ensures
+
+pub last_link-returns : goal.last_link-returns
+last_link-returns t c =
+    let same = rw c.in_default.is at c.in_ok-listed.ensures in
+    emits-link c.args.known c.args.chain (rw (c.known_behind-known.ensures, same) at c.in_ok-emitted.ensures)
+
+pub expression-ends-init : goal.expression-ends-init
+expression-ends-init t c = continues-none c.args.known (tree_of c.args.expr.now) c.args.ways c.args.self.now c.requires.ways

@@ -7,7 +7,7 @@ use Rattle.generation.specs.declared.insns.Operand.TheVariants as operands
 use Rattle.semantics.specs.Meaning.{arithmetic_of, bytes_of, value}
 use Rattle.generation.specs.Insns.{plain_insn, calculation_insn}
 use Rattle.generation.specs.Parts.{constant_of, leaf_value}
-use Rattle.generation.proofs.Computing.{applies-one, computes-applied, computes-paired, computes-more, computes-same, computes-constant, constant-behind, index-known, pairs-right, pairs-left, pairs-kept, pairs-more, pairs-same, negate-effect, calculation-effect, leaf-valued, read-accessed}
+use Rattle.generation.proofs.Computing.{applies-one, computes-loaded, computes-applied, computes-paired, computes-more, computes-same, computes-constant, constant-behind, index-known, pairs-right, pairs-left, pairs-kept, pairs-more, pairs-same, negate-effect, calculation-effect, leaf-valued, read-accessed}
 use Rattle.generation.proofs.code.Code.+value.Goals as goal
 
 pub value-returns-in-Some : goal.value-returns-in-Some
@@ -37,6 +37,12 @@ pair-returns t c =
     MatchResult-weaker c.variable-3.result left
     (λ x done. pairs-kept (omega (arith, c.requires)) right done)
     (λ e full. omega (arith, full, right.extends.within))
+
+pub variable-returns-in_ok-room-in-Number : goal.variable-returns-in_ok-room-in-Number
+variable-returns-in_ok-room-in-Number t c = rw c.in-Number.is (computes-loaded (λ p. c.in-Number.n) c.args.cell c.load_leaf.ensures)
+
+pub variable-returns-in_ok-room-in-Length : goal.variable-returns-in_ok-room-in-Length
+variable-returns-in_ok-room-in-Length t c = rw c.in-Length.is (computes-loaded (λ p. p.wire) c.args.cell c.load_leaf-in-Length.ensures)
 
 pub variable-returns-in_ok-room-in-Negation : goal.variable-returns-in_ok-room-in-Negation
 variable-returns-in_ok-room-in-Negation t c =

@@ -1,4 +1,5 @@
 use Rattle.std.proofs.Common.{arith}
+use Rattle.std.proofs.lemmas.Result.{MatchResult-from_err}
 use Rattle.generation.specs.Listed.{among}
 use Rattle.generation.proofs.Deciding.{decides-kept, decides-later, decides-more}
 use Rattle.generation.proofs.Runs.{extends-both, exits-kept}
@@ -30,3 +31,27 @@ returns c =
     let inner = rw c.other_exits-of_others.ensures at c.in_ok-inner-2.ensures in
     let before = extends-both ip.extends again.0 in
     (decides-more _ (omega arith) (decides-kept ip (extends-both again.0 inner.extends)), decides-more _ (omega arith) (decides-later (ways.0.other, ways.1.other) before inner))
+
+pub returns-in_err-ip : goal.returns-in_err-ip
+returns-in_err-ip c =
+    MatchResult-from_err c.from_residual.result _ _ c.from_residual.ensures.0 (λ e. omega (arith, c.in_err-ip.ensures))
+
+pub returns-in_err-inner : goal.returns-in_err-inner
+returns-in_err-inner c =
+    MatchResult-from_err c.from_residual-in_err-inner.result _ _ c.from_residual-in_err-inner.ensures.0 (λ e. omega (arith, c.in_err-inner.ensures, c.in_ok-ip.ensures.extends.within))
+
+pub returns-in_err-last : goal.returns-in_err-last
+returns-in_err-last c =
+    MatchResult-from_err c.from_residual-in_err-last.result _ _ c.from_residual-in_err-last.ensures.0 (λ e. omega (arith, c.in_err-last.ensures))
+
+pub returns-in_err-ip-2 : goal.returns-in_err-ip-2
+returns-in_err-ip-2 c =
+    MatchResult-from_err c.from_residual-in_err-ip-2.result _ _ c.from_residual-in_err-ip-2.ensures.0 (λ e. omega (arith, c.in_err-ip-2.ensures, c.in_ok-last.ensures.0.within))
+
+pub returns-in_err-among_last_of_others : goal.returns-in_err-among_last_of_others
+returns-in_err-among_last_of_others c =
+    MatchResult-from_err c.from_residual-in_err-among_last_of_others.result _ _ c.from_residual-in_err-among_last_of_others.ensures.0 (λ e. omega (arith, c.in_err-among_last_of_others.ensures, c.in_ok-last.ensures.0.within, c.in_ok-ip-2.ensures.extends.within))
+
+pub returns-in_err-inner-2 : goal.returns-in_err-inner-2
+returns-in_err-inner-2 c =
+    MatchResult-from_err c.from_residual-in_err-inner-2.result _ _ c.from_residual-in_err-inner-2.ensures.0 (λ e. omega (arith, c.in_err-inner-2.ensures, c.in_ok-last.ensures.0.within, c.in_ok-ip-2.ensures.extends.within, c.in_ok-among_last_of_others.ensures.0.within))
