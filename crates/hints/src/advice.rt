@@ -138,13 +138,21 @@ fn of_word<'a>(before: &[u8], word: &'a [u8]) -> Advice<'a> {
     if let Some(written) = beside(WRITTEN.as_slice(), word) {
         return Advice::Written(written, word);
     }
+    match of_spelling(word) {
+        Some(advice) => advice,
+        None => of_name(before, word),
+    }
+}
+
+/// What helps at a word that differs from one of the language by its capital letters, or by one edit.
+fn of_spelling(word: &[u8]) -> Option<Advice<'static>> {
     if let Some(small) = in_small_letters(word) {
-        return Advice::small_letters(small);
+        return Some(Advice::small_letters(small));
     }
     if let Some(near) = nearest(word) {
-        return Advice::did_you_mean(near);
+        return Some(Advice::did_you_mean(near));
     }
-    of_name(before, word)
+    None
 }
 
 /// What helps at what may be a name, behind another word.

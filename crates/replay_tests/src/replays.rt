@@ -113,6 +113,47 @@ fn source_of(bytes: Vec<u8>) -> Counted<Tape> {
     })
 }
 
+/// Frames as they are captured from this second on. The device ends at a byte of the capture, or fails there.
+#[derive(Clone, Copy)]
+struct Recorded<'a> {
+    sec: u8,
+    frames: &'a [[u8; 38]],
+    end: usize,
+    fails: bool,
+}
+
+/// The whole capture of frames.
+fn in_full(sec: u8, frames: &[[u8; 38]]) -> Recorded<'_> {
+    Recorded {
+        sec,
+        frames,
+        end: usize::MAX,
+        fails: false,
+    }
+}
+
+/// The same up to a byte.
+fn up_to(end: usize, recorded: Recorded<'_>) -> Recorded<'_> {
+    Recorded { end, ..recorded }
+}
+
+/// The source of a capture.
+fn source_for(alloc: Global, recorded: Recorded<'_>) -> Result<Source, AllocError> {
+    let mut source = source_of(capture(alloc, recorded.sec, recorded.frames)?);
+    source.inner.end = recorded.end;
+    source.inner.fails = recorded.fails;
+    Ok(source)
+}
+
+/// The sources of captures.
+fn sources_for(alloc: Global, captures: &[Recorded<'_>]) -> Result<Vec<Source>, AllocError> {
+    let mut sources = Vec::new(alloc);
+    for recorded in captures {
+        sources.push(source_for(alloc, *recorded)?)?;
+    }
+    Ok(sources)
+}
+
 /// Takes bytes into memory while there is room, and fails then.
 #[derive(Drop)]
 struct Paper {

@@ -8,19 +8,25 @@ fn roomy(alloc: Global) -> Result<Task<Sink>, Fail> {
     Ok(task(keeping_all()?, 64, 1_024, sink_with(alloc, usize::MAX)))
 }
 
-/// An interface of these captures, with so many tasks.
-fn interface(
-    alloc: Global,
-    captures: Vec<Source>,
-    tasks: usize,
-) -> Result<Interface<Source, Sink>, Fail> {
+/// So many tasks that have room for all.
+fn roomy_tasks(alloc: Global, tasks: usize) -> Result<Vec<Task<Sink>>, Fail> {
     let mut made = Vec::new(alloc);
     for _ in 0..tasks {
         made.push(roomy(alloc)?)?;
     }
+    Ok(made)
+}
+
+/// An interface of these captures, with so many tasks.
+fn interface(
+    alloc: Global,
+    captures: &[Recorded<'_>],
+    tasks: usize,
+) -> Result<Interface<Source, Sink>, Fail> {
+    let captures = sources_for(alloc, captures)?;
     Ok(Interface {
         captures,
-        tasks: made,
+        tasks: roomy_tasks(alloc, tasks)?,
     })
 }
 
@@ -44,7 +50,7 @@ fn ends(
 /// Replays one interface with two tasks that have room for all of it.
 fn replayed(
     rt: &(impl Abort + AllocGlobal + Threads + Wait + Sync),
-    captures: Vec<Source>,
+    captures: &[Recorded<'_>],
 ) -> Result<InterfaceReport<Source, Sink>, Fail> {
     let report = replay_one(rt, interface(rt.alloc(), captures, 2)?)?;
     same(rt, report.listeners.len(), 2);
@@ -127,25 +133,26 @@ fn ends_clean_when_nothing_failed(rt: HostRuntime) -> Result<(), Fail> {
     Ok(())
 }
 
-/// A source of two frames, of TCP and of UDP, the first at this second.
-fn two_at(alloc: Global, sec: u8) -> Result<Source, AllocError> {
-    Ok(source_of(capture(alloc, sec, &[TCP_FRAME, UDP_FRAME])?))
-}
+const ONE: [[u8; 38]; 1] = [UDP_FRAME];
+
+const TWO: [[u8; 38]; 2] = [TCP_FRAME, UDP_FRAME];
+
+const THREE: [[u8; 38]; 3] = [TCP_FRAME, UDP_FRAME, TCP_FRAME];
 
 /// An interface of two captures of two frames each, at these seconds, with so many tasks.
 fn whole(alloc: Global, secs: [u8; 2], tasks: usize) -> Result<Interface<Source, Sink>, Fail> {
-    let captures = vec![in alloc; two_at(alloc, secs[0])?, two_at(alloc, secs[1])?]?;
-    interface(alloc, captures, tasks)
+    let captures = [in_full(secs[0], &TWO), in_full(secs[1], &TWO)];
+    interface(alloc, &captures, tasks)
 }
 
 /// An interface of three captures, the second without a header, with two tasks.
 fn headless(alloc: Global) -> Result<Interface<Source, Sink>, Fail> {
-    let captures = vec![in alloc;
-        two_at(alloc, 1)?,
-        source_of(Vec::new(alloc)),
-        two_at(alloc, 8)?,
-    ]?;
-    interface(alloc, captures, 2)
+    let captures = [
+        in_full(1, &TWO),
+        up_to(0, in_full(1, &[])),
+        in_full(8, &TWO),
+    ];
+    interface(alloc, &captures, 2)
 }
 
 /// Tests that the second capture of an interface ended it, and the one behind it came back unread.
@@ -180,21 +187,15 @@ fn a_refused_header_ends_its_interface_alone(rt: HostRuntime) -> Result<(), Fail
     Ok(())
 }
 
-/// Three captures, the second at seconds 2 to 4 and without its last byte.
-fn torn_behind_one(alloc: Global) -> Result<Vec<Source>, AllocError> {
-    let three = [TCP_FRAME, UDP_FRAME, TCP_FRAME];
-    let mut torn = source_of(capture(alloc, 2, &three)?);
-    torn.inner.end = 185;
-    Ok(vec![in alloc;
-        source_of(capture(alloc, 1, &[UDP_FRAME])?),
-        torn,
-        source_of(capture(alloc, 9, &three)?),
-    ]?)
-}
-
 #[test]
 fn a_torn_record_stands_behind_its_packets(rt: HostRuntime) -> Result<(), Fail> {
-    let report = replayed(&rt, torn_behind_one(rt.alloc())?)?;
+    // the second at seconds 2 to 4 and without its last byte
+    let captures = [
+        in_full(1, &ONE),
+        up_to(185, in_full(2, &THREE)),
+        in_full(9, &THREE),
+    ];
+    let report = replayed(&rt, &captures)?;
     let end = InterfaceEnd::Capture(1, Fault::TornRecord(2));
     let records = [(1, UDP_FRAME), (2, TCP_FRAME), (3, UDP_FRAME)];
     ends(&rt, &report, end, &records);
@@ -203,15 +204,14 @@ fn a_torn_record_stands_behind_its_packets(rt: HostRuntime) -> Result<(), Fail> 
 }
 
 /// Three captures, the second with a device that fails at this byte.
-fn failing_behind_one(alloc: Global, at_byte: usize) -> Result<Vec<Source>, AllocError> {
-    let mut failing = two_at(alloc, 2)?;
-    failing.inner.end = at_byte;
-    failing.inner.fails = true;
-    Ok(vec![in alloc;
-        source_of(capture(alloc, 1, &[UDP_FRAME])?),
-        failing,
-        two_at(alloc, 9)?,
-    ]?)
+fn failing_behind_one(at_byte: usize) -> [Recorded<'static>; 3] {
+    let failing = Recorded {
+        sec: 2,
+        frames: &TWO,
+        end: at_byte,
+        fails: true,
+    };
+    [in_full(1, &ONE), failing, in_full(9, &TWO)]
 }
 
 /// Tests that so many packets before the byte at which a device fails are written, and no packet behind it.
@@ -220,7 +220,7 @@ fn writes_before(
     at_byte: usize,
     packets: usize,
 ) -> Result<(), Fail> {
-    let report = replayed(rt, failing_behind_one(rt.alloc(), at_byte)?)?;
+    let report = replayed(rt, &failing_behind_one(at_byte))?;
     let end = InterfaceEnd::Capture(1, Fault::Device);
     let records = [(1, UDP_FRAME), (2, TCP_FRAME)];
     let records = records.get(..packets).unwrap_or(&[]);
@@ -241,9 +241,7 @@ fn packets_before_a_failed_source_are_written(rt: HostRuntime) -> Result<(), Fai
 
 /// An interface of one capture without its last byte, and no task.
 fn torn_unheard(alloc: Global) -> Result<Interface<Source, Sink>, Fail> {
-    let mut torn = two_at(alloc, 1)?;
-    torn.inner.end = 131;
-    interface(alloc, vec![in alloc; torn]?, 0)
+    interface(alloc, &[up_to(131, in_full(1, &TWO))], 0)
 }
 
 /// Tests that an interface with no task ended so.
@@ -266,7 +264,7 @@ fn captures_are_read_where_nobody_listens(rt: HostRuntime) -> Result<(), Fail> {
 
 #[test]
 fn without_captures_the_header_is_written(rt: HostRuntime) -> Result<(), Fail> {
-    let report = replayed(&rt, Vec::new(rt.alloc()))?;
+    let report = replayed(&rt, &[])?;
     ends(&rt, &report, InterfaceEnd::Clean, &[]);
     assert!(rt; report.sources.is_empty());
     Ok(())
@@ -281,11 +279,11 @@ fn without_interfaces_nothing_is_told(rt: HostRuntime) -> Result<(), Fail> {
 
 /// An interface of T, U and T, and a task whose sink has so much room.
 fn with_room(alloc: Global, room: usize) -> Result<Interface<Source, Sink>, Fail> {
-    let text = capture(alloc, 1, &[TCP_FRAME, UDP_FRAME, TCP_FRAME])?;
     let one = task(keeping_all()?, 64, 1_024, sink_with(alloc, room));
+    let tasks = vec![in alloc; one]?;
     Ok(Interface {
-        captures: vec![in alloc; source_of(text)]?,
-        tasks: vec![in alloc; one]?,
+        captures: sources_for(alloc, &[in_full(1, &THREE)])?,
+        tasks,
     })
 }
 

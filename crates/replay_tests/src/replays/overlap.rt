@@ -111,10 +111,13 @@ fn example_tasks(alloc: Global, mode: Mode, room: usize) -> Result<Vec<Task<Sink
 /// The interface of the example: T and U arrive, and then T, at a listener for TCP, whose sink has so much room, and one for
 /// all. Where they are Immediate, nothing is flushed.
 fn example(alloc: Global, mode: Mode, room: usize) -> Result<Vec<Interface<Source, Sink>>, Fail> {
-    let captures = vec![in alloc;
-        source_of(capture(alloc, 1, &[TCP_FRAME, UDP_FRAME])?),
-        source_of(capture(alloc, 3, &[TCP_FRAME])?),
-    ]?;
+    let captures = sources_for(
+        alloc,
+        &[
+            in_full(1, &[TCP_FRAME, UDP_FRAME]),
+            in_full(3, &[TCP_FRAME]),
+        ],
+    )?;
     let tasks = example_tasks(alloc, mode, room)?;
     Ok(vec![in alloc; Interface { captures, tasks }]?)
 }
@@ -216,9 +219,8 @@ impl<R: Clock> Gate for Meeting<'_, R> {
 
 /// An interface of one packet, at this second, to which nobody listens.
 fn unheard(alloc: Global, sec: u8) -> Result<Interface<Source, Sink>, AllocError> {
-    let text = capture(alloc, sec, &[TCP_FRAME])?;
     Ok(Interface {
-        captures: vec![in alloc; source_of(text)]?,
+        captures: sources_for(alloc, &[in_full(sec, &[TCP_FRAME])])?,
         tasks: Vec::new(alloc),
     })
 }
