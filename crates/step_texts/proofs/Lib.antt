@@ -5,3 +5,4 @@ pub mod Answering
 pub mod FirstBad
 pub mod Lefts
 pub mod Rejecting
+pub mod Putting

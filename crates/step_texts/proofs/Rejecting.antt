@@ -1,4 +1,4 @@
--- The line of an answer to a packet, and why it was rejected.
+-- The line of an answer, and why a packet was rejected.
 use Rattle.std.proofs.Common.{◌≡◌, ℕ, List, ◌∷◌, ◌++◌, codes, sym, ap, ◌∙◌, append_assoc}
 use Rattle.std.specs.Fmt.{decimal}
 use Rattle.lines.specs.Telling.{end_of_line}
@@ -6,7 +6,15 @@ use Rattle.playback.specs.declared.answer.Answered.{Answered}
 use Rattle.playback.specs.declared.playlist.Placed.{Placed}
 use Rattle.step_texts.specs.Reasons.{standing_before, reason, answer_line}
 use Rattle.step_texts.specs.Rejections.{rejection}
-use Rattle.step_texts.specs.Answers.{Left, first_arrived, arrived_line}
+use Rattle.step_texts.specs.Answers.{Left, first_line, next_line, first_arrived, arrived_line}
+
+-- the line of the next answer that a listener has left, which is seen as x
+pub next_told : (l : ℕ) (inside x : Left) (a : Answered) (later : List Answered) (old new : List ℕ) → inside ≡ x → inside.answers ≡ a ∷ later →
+    old ≡ codes "  listener " ++ decimal l ++ codes " " ++ reason (standing_before a x.held_since x.capacity) a.size a.answer →
+    new ≡ old ++ end_of_line → new ≡ next_line l x
+next_told l inside x a later old new seen cut first ends =
+    ends ∙ ap (λ (t : List ℕ). t ++ end_of_line) first
+    ∙ sym (ap (first_line l x.capacity x.held_since) (sym (ap (λ (y : Left). y.answers) seen) ∙ cut))
 
 -- the line of an answer to a packet: the reason, and what stands behind it
 arrived : (l : ℕ) (why behind old mid new : List ℕ) → old ≡ codes "  listener " ++ decimal l ++ codes " " ++ why → mid ≡ old ++ behind →

@@ -1,13 +1,13 @@
 -- Lines that say no step.
-use Rattle.std.proofs.Common.{◌≡◌, ◌≢◌, ℕ, List, [], ◌∷◌, ◌++◌, All, sym, ◌∙◌, arith, subst, Bool, true, false}
-use Rattle.std.specs.Prelude.{codes}
+use Rattle.std.proofs.Common.{◌≡◌, ◌≢◌, ℕ, List, [], ◌∷◌, ◌++◌, All, sym, ◌∙◌, arith, subst, Bool, true, false, Option, Some, None}
+use Rattle.std.specs.Prelude.{codes, IfSome, IfNone}
 use Rattle.std.specs.Bool.{Decides}
 use Rattle.std.specs.List.{AllByRecursion}
 use Rattle.std.proofs.lemmas.List.Elements.{All-same, All-cons}
 use Rattle.bpfvm.specs.Listing.{space, IsNumber}
 use Rattle.playback.specs.declared.step.Step.{Step}
 use Rattle.playback.specs.declared.step.Step.TheVariants.{Arrive, Flush, Read, Close}
-use Rattle.step_texts.specs.Script.{IsWordOf, IsStepLine}
+use Rattle.step_texts.specs.Script.{IsWordOf, IsNamed, NamesNone, IsStepLine}
 use Rattle.lines.proofs.Cuts.{NoSpace, not-lacking, cut-one}
 
 -- a line that says no step
@@ -45,6 +45,10 @@ module _ (line word digits : List ℕ) (cut : line ≡ word ++ space ∷ digits)
       let one = cut-one space word digits w is.0 none none' (sym cut ∙ is.1) in
       (one.0, subst (λ (t : List ℕ). IsNumber 4294967295 t l) (sym one.1) is.2)
 
+  -- a line that is cut behind this word
+  word-of : (w : List ℕ) (l : ℕ) → word ≡ w → IsNumber 4294967295 digits l → IsWordOf line w l
+  word-of w l same number = (digits, subst (λ (t : List ℕ). line ≡ t ++ space ∷ digits) same cut, number)
+
   -- with no number behind the word, there is no step
   pub NoStep-number : ((l : ℕ) → IsNumber 4294967295 digits l → ⊥) → NoStep line
   NoStep-number bad Arrive is = other is
@@ -53,11 +57,26 @@ module _ (line word digits : List ℕ) (cut : line ≡ word ++ space ∷ digits)
   NoStep-number bad (Close l) is = bad l (same-cut (codes "close") l close-word is).1
 
   -- nor with another word
-  pub NoStep-word : word ≢ codes "flush" → word ≢ codes "read" → word ≢ codes "close" → NoStep line
+  NoStep-word : word ≢ codes "flush" → word ≢ codes "read" → word ≢ codes "close" → NoStep line
   NoStep-word no-flush no-read no-close Arrive is = other is
   NoStep-word no-flush no-read no-close (Flush l) is = no-flush (same-cut (codes "flush") l flush-word is).0
   NoStep-word no-flush no-read no-close (Read l) is = no-read (same-cut (codes "read") l read-word is).0
   NoStep-word no-flush no-read no-close (Close l) is = no-close (same-cut (codes "close") l close-word is).0
+
+  -- and with a number the line says the step that the word names, or none
+  named : (l : ℕ) (step : Step) → IsNumber 4294967295 digits l → IsNamed word l step → IsStepLine line step
+  named l Arrive number is = absurd is
+  named l (Flush n) number (same, one) = word-of (codes "flush") n same (subst (IsNumber 4294967295 digits) (sym one) number)
+  named l (Read n) number (same, one) = word-of (codes "read") n same (subst (IsNumber 4294967295 digits) (sym one) number)
+  named l (Close n) number (same, one) = word-of (codes "close") n same (subst (IsNumber 4294967295 digits) (sym one) number)
+
+  pub named-some : (l : ℕ) (found : Option Step) → IsNumber 4294967295 digits l → IfSome found (IsNamed word l) → IfSome found (λ step. IsStepLine line step)
+  named-some l (Some step) number is = named l step number is
+  named-some l None number is = tt
+
+  pub named-none : (found : Option Step) → IfNone found (NamesNone word) → IfNone found (NoStep line)
+  named-none (Some step) none-is = tt
+  named-none None (no-flush, no-read, no-close) = NoStep-word no-flush no-read no-close
 
 -- what a test that failed says
 pub differs : (xs ys zs : List ℕ) (r : Bool) → Decides r (xs ≡ ys) → r ≡ false → ys ≡ zs → xs ≢ zs

@@ -1,5 +1,5 @@
 -- The file SCRIPT.
-use Rattle.std.specs.Prelude.{◌≡◌, ℕ, ◌∷◌, ◌++◌, List, codes}
+use Rattle.std.specs.Prelude.{◌≡◌, ◌≢◌, ℕ, ◌∷◌, ◌++◌, List, codes}
 use Rattle.bpfvm.specs.Listing.{space, IsNumber}
 use Rattle.playback.specs.declared.step.Step.{Step}
 use Rattle.playback.specs.declared.step.Step.TheVariants.{Arrive, Flush, Read, Close}
@@ -17,6 +17,17 @@ IsStepLine line Arrive = line ≡ codes "arrive"
 IsStepLine line (Flush l) = IsWordOf line (codes "flush") l
 IsStepLine line (Read l) = IsWordOf line (codes "read") l
 IsStepLine line (Close l) = IsWordOf line (codes "close") l
+
+-- the word of a step that names a listener
+abbrev pub IsNamed : List ℕ → ℕ → Step → Type 0
+IsNamed word l Arrive = ⊥
+IsNamed word l (Flush n) = (word ≡ codes "flush") × (n ≡ l)
+IsNamed word l (Read n) = (word ≡ codes "read") × (n ≡ l)
+IsNamed word l (Close n) = (word ≡ codes "close") × (n ≡ l)
+
+-- no step that names a listener has this word
+abbrev pub NamesNone : List ℕ → Type 0
+NamesNone word = (word ≢ codes "flush") × (word ≢ codes "read") × (word ≢ codes "close")
 
 -- why a script is not taken: the first bad line, or want of memory
 abbrev pub IsRefusedScript : List ℕ → LineFault → Type 0

@@ -3,12 +3,28 @@
 ghost use Rattle.std.specs.Prelude.{IfOk, IfErr, IfSome, IfNone};
 ghost use Rattle.playback.specs.declared.step.Step.{Step};
 ghost use Rattle.lines.specs.Files.{IsFileOf};
-ghost use Rattle.step_texts.specs.Script.{IsStepLine, IsRefusedScript};
+ghost use Rattle.step_texts.specs.Script.{IsNamed, NamesNone, IsStepLine, IsRefusedScript};
 
 use lines::LineFault;
 use lines::fields::{first_line, number, split_once};
 use playback::Step;
 use std::alloc::Global;
+
+/// The step that a word names, with its listener; nothing where it names none.
+fn step_named(word: &[u8], l: u32) -> Option<Step>
+    ensures some { IfSome result (IsNamed word.now l) }
+    ensures none { IfNone result (NamesNone word.now) }
+{
+    if word == b"flush".as_slice() {
+        Some(Step::Flush(l))
+    } else if word == b"read".as_slice() {
+        Some(Step::Read(l))
+    } else if word == b"close".as_slice() {
+        Some(Step::Close(l))
+    } else {
+        None
+    }
+}
 
 /// The step of a line, nothing where the line has not its form.
 fn step_of(line: &[u8]) -> Option<Step>
@@ -20,15 +36,7 @@ fn step_of(line: &[u8]) -> Option<Step>
     }
     let (word, l) = split_once(line, b' ')?;
     let l = number(l, u64::from(u32::MAX))? as u32;
-    if word == b"flush".as_slice() {
-        Some(Step::Flush(l))
-    } else if word == b"read".as_slice() {
-        Some(Step::Read(l))
-    } else if word == b"close".as_slice() {
-        Some(Step::Close(l))
-    } else {
-        None
-    }
+    step_named(word, l)
 }
 
 /// Reads the file SCRIPT, a step on each line: `arrive`, `flush L`, `read L` or `close L`.

@@ -1,5 +1,5 @@
 -- Packets that are answered one by one.
-use Rattle.std.proofs.Common.{◌≡◌, ℕ, suc, ◌+◌, ◌⊎◌, inl, inr, Bool, List, [], ◌∷◌, ◌++◌, length, length-append, filter, Option, refl, ap, sym, subst, ◌∙◌, append_assoc, arith}
+use Rattle.std.proofs.Common.{◌≡◌, ℕ, suc, ◌+◌, ◌^◌, ◌<◌, ◌≤◌, ◌⊎◌, inl, inr, Bool, List, [], ◌∷◌, ◌++◌, length, length-append, filter, Option, refl, ap, sym, subst, ◌∙◌, append_assoc, arith}
 use Rattle.std.proofs.lemmas.List.{append-nil, map-append}
 use Rattle.std.proofs.lemmas.List.Elements.{filter-append}
 use Rattle.std.proofs.KnownBytes.{Appends-trans, Appends-kept}
@@ -66,6 +66,31 @@ counts-by Abort answers p reason c are = record {
   no = are.no ∙ omega (arith, count-last is_no answers (answer p Abort reason));
   abort = ap (λ n. n + 1) are.abort ∙ sym (count-last is_abort answers (answer p Abort reason));
 }
+
+-- no count is above that of the packets
+pub counted-packets : (v : Verdict) (c : Counts) (before given : ℕ) → c.packets ≤ before → given ≡ before + 1 → (counted v c).packets ≤ given
+counted-packets Yes c before given few more = omega (arith, few, more)
+counted-packets No c before given few more = omega (arith, few, more)
+counted-packets Abort c before given few more = omega (arith, few, more)
+
+-- and there is room for one more
+pub room-for-one : (packets before given : ℕ) → packets ≤ before → (given ≡ before + 1) × (given < 2 ^ 64) → packets + 1 < 2 ^ 64
+room-for-one packets before given few more = omega (arith, few, more.0, more.1)
+
+pub counted-yes : (v : Verdict) (c : Counts) → c.yes ≤ c.packets → (counted v c).yes ≤ (counted v c).packets
+counted-yes Yes c few = omega (arith, few)
+counted-yes No c few = omega (arith, few)
+counted-yes Abort c few = omega (arith, few)
+
+pub counted-no : (v : Verdict) (c : Counts) → c.no ≤ c.packets → (counted v c).no ≤ (counted v c).packets
+counted-no Yes c few = omega (arith, few)
+counted-no No c few = omega (arith, few)
+counted-no Abort c few = omega (arith, few)
+
+pub counted-abort : (v : Verdict) (c : Counts) → c.abort ≤ c.packets → (counted v c).abort ≤ (counted v c).packets
+counted-abort Yes c few = omega (arith, few)
+counted-abort No c few = omega (arith, few)
+counted-abort Abort c few = omega (arith, few)
 
 -- ---- One packet more
 

@@ -1,6 +1,7 @@
 -- How the printing of a capture ends.
-use Rattle.std.proofs.Common.{◌≡◌, ℕ, ◌<◌, ◌⊎◌, inl, inr, Bool, true, false, List, [], ◌∷◌, ◌++◌, length, Option, Some, None, Result, Ok, Err, IfErr, refl, ap, sym, subst, arith}
+use Rattle.std.proofs.Common.{◌≡◌, ◌≢◌, ◌↔◌, ℕ, ◌+◌, ◌^◌, ◌<◌, ◌⊎◌, inl, inr, Bool, true, false, List, [], ◌∷◌, ◌++◌, length, Option, Some, None, Result, Ok, Err, IfErr, refl, ap, sym, subst, ◌∙◌, arith}
 use Rattle.std.specs.Prelude.{is_err}
+use Rattle.std.proofs.lemmas.Bool.{cases_eq}
 use Rattle.std.proofs.KnownBytes.{Appends-trans, Appends-kept}
 use Rattle.std.specs.Io.KnownBytes.{Appends, Consumes}
 use Rattle.std.specs.List.{AllByRecursion}
@@ -18,7 +19,7 @@ use Rattle.verdicts.specs.declared.each.Unprinted.TheVariants as unprinted
 use Rattle.verdicts.specs.declared.filter.Filter.{Filter}
 use Rattle.verdicts.specs.declared.one.Found.{Found}
 use Rattle.verdicts.specs.Answers.{Answer, IsAnswer, answer, answer_line}
-use Rattle.verdicts.specs.Explained.{is_yes, is_no, is_abort, count_of, AreCounts, counts_text, answer_lines, printed, packets_of, IsLineBroken, IsUnopened, PrintsLine, PrintsLines, PrintsAll, PrintsFound, PrintsMore, PrintsWhole, GoesTo, Finds}
+use Rattle.verdicts.specs.Explained.{is_yes, is_no, is_abort, count_of, AreCounts, counts_text, answer_lines, packets_of, IsLineBroken, IsUnopened, PrintsLine, PrintsLines, PrintsAll, PrintsFound, PrintsMore, PrintsWhole, GoesTo, Finds}
 
 -- the header was not read
 pub unopened : (from left : Option (List ℕ)) (fault : Fault) → WasRefused from fault ⊎ (fault ≡ Device) ⊎ (fault ≡ NoMemory) →
@@ -76,6 +77,25 @@ lines-and-counts f from left header old mid new c read (Ok x) (Err u) went (inr 
     let same : counts_text c.packets c.yes c.no c.abort ≡ counts_text (length answers) (count_of is_yes answers) (count_of is_no answers) (count_of is_abort answers) =
     rw (are.packets, are.yes, are.no, are.abort) refl in
     inr (answers, all, reads, TakesPart-then old mid new (answer_lines answers) _ lines (subst (TakesPart mid new) same taken))
+
+-- ---- One packet more
+
+-- where a source gave one more, it did not fail
+pub still-works : (a b start : ℕ) (result : Result Bool Fault) → (a ≢ b → result ≡ Err Device) → result ≡ Ok true → b ≡ start → a ≡ start
+still-works a b start result tells is before = elim (cases_eq a b) [
+  | inl same ↦ same ∙ before
+  | inr differs ↦ let clash : ◌≡◌ {A = Result Bool Fault} (Ok true) (Err Device) = sym is ∙ tells differs in absurd cc
+]
+
+-- and a reading that went well tells so
+pub works-on : {A : Type 0} (read : Result A Fault) (x : A) (a b : ℕ) → read ≡ Ok x → a ≡ b → (read ≡ Err Device) ↔ (a ≢ b)
+works-on {A} read x a b is same = (λ broke. let clash : ◌≡◌ {A = Result A Fault} (Ok x) (Err Device) = sym is ∙ broke in absurd cc, λ differs. absurd (differs same))
+
+-- one more was given, and no more than can be counted
+pub gave-more : {R : Type 0} (old new : Reading R) (result : Result Bool Fault) → Leaves old new result → result ≡ Ok true → (new.given ≡ old.given + 1) × (new.given < 2 ^ 64)
+gave-more old new (Ok true) (goes, one, fits) is = (one, fits)
+gave-more old new (Ok false) leaves is = absurd (cc)
+gave-more old new (Err fault) leaves is = absurd (cc)
 
 -- ---- One packet
 

@@ -1,6 +1,8 @@
 //! The line of a packet.
 
-ghost use Rattle.std.specs.Prelude.{◌≡◌, ◌++◌, ℕ, List, IfOk, OnOk, string_bytes, codes};
+ghost use Rattle.std.specs.Prelude.{◌≡◌, ◌++◌, ℕ, List, length, IfOk, OnOk, string_bytes, codes};
+ghost use Rattle.std.specs.Fmt.{decimal};
+ghost use Rattle.lines.specs.Time.{nine_digits};
 ghost use Rattle.filterlang.specs.Trees.{tree_of};
 ghost use Rattle.verdicts.specs.Answers.{answer, answer_line, ended_as, Decides, EndsRun, IsAnswer, PutsAnswer};
 ghost use Rattle.verdicts.specs.Printed.{packet_text, end_text};
@@ -12,22 +14,37 @@ use filtergen::Verdict;
 use filterlang::Expr;
 use lines::time::NineDigits;
 use savefile::PacketRef;
-use std::alloc::Global;
+use std::alloc::{AllocError, Global};
+
+/// Puts a packet's place and its time in place of what the line has.
+fn put_time(line: &mut String, place: u64, packet: &PacketRef<'_>) -> Result<(), AllocError>
+    ensures { OnOk result (string_bytes line.new ≡ codes "place " ++ decimal place ++ codes " time " ++ decimal packet.now.sec ++ codes "." ++ nine_digits packet.now.nanos) }
+{
+    line.clear();
+    write!(
+        line,
+        "place {place} time {}.{}",
+        packet.sec,
+        NineDigits(packet.nanos)
+    )
+}
+
+/// Appends how long a packet was on the wire, and how many bytes of it were captured.
+fn put_lengths(line: &mut String, packet: &PacketRef<'_>) -> Result<(), AllocError>
+    ensures { OnOk result (string_bytes line.new ≡ string_bytes line.old
+        ++ (codes " len " ++ decimal packet.now.len ++ codes " captured " ++ decimal (length packet.now.bytes) ++ codes " ")) }
+{
+    let captured = packet.bytes.len();
+    write!(line, " len {} captured {captured} ", packet.len)
+}
 
 /// Puts a packet's place, its time and its lengths in place of what the line has.
 #[tactic(auto, unfolding(crate::specs::Printed::packet_text))]
 fn put_packet(line: &mut String, place: u64, packet: &PacketRef<'_>) -> Result<(), NoMemory>
     ensures { OnOk result (string_bytes line.new ≡ packet_text place packet.now) }
 {
-    line.clear();
-    let captured = packet.bytes.len();
-    write!(
-        line,
-        "place {place} time {}.{}",
-        packet.sec,
-        NineDigits(packet.nanos)
-    )?;
-    write!(line, " len {} captured {captured} ", packet.len)?;
+    put_time(line, place, packet)?;
+    put_lengths(line, packet)?;
     Ok(())
 }
 
@@ -83,6 +100,21 @@ fn put_end(
     Ok(verdict)
 }
 
+/// Appends what a filter answers to a packet, and why.
+fn put_answer(
+    alloc: Global,
+    line: &mut String,
+    filter: &Filter,
+    packet: &PacketRef<'_>,
+) -> Result<Verdict, NoMemory>
+    ensures { IfOk result (PutsAnswer (string_bytes line.old) (string_bytes line.new) (IsAnswer filter.now) packet.now) }
+{
+    match &filter.expr {
+        Some(expr) => put_meaning(line, expr, packet),
+        None => put_end(alloc, line, &filter.program, packet),
+    }
+}
+
 /// Puts the line of a packet in place of what the line has: its place and time, what the filter answers, and why.
 pub(crate) fn put_line(
     alloc: Global,
@@ -95,10 +127,7 @@ pub(crate) fn put_line(
         × (string_bytes line.new ≡ answer_line place (answer packet.now verdict reason))) }
 {
     put_packet(line, place, packet)?;
-    let verdict = match &filter.expr {
-        Some(expr) => put_meaning(line, expr, packet)?,
-        None => put_end(alloc, line, &filter.program, packet)?,
-    };
-    write!(line, "\n")?;
+    let verdict = put_answer(alloc, line, filter, packet)?;
+    line.push('\n')?;
     Ok(verdict)
 }

@@ -1,6 +1,6 @@
-use Rattle.std.proofs.Common.{rules, ◌+◌, arith, ◌∙◌, ◌++◌, ◌∷◌, [], ap, length-append}
+use Rattle.std.proofs.Common.{rules, Ok, ◌+◌, arith, ◌∙◌, ◌++◌, ◌∷◌, [], ap, length-append}
 use Rattle.std.proofs.KnownBytes.{Consumes-trans}
-use Rattle.verdicts.proofs.Printing.{goes-to}
+use Rattle.verdicts.proofs.Printing.{goes-to, still-works}
 use Rattle.verdicts.proofs.one.go_to.Goals as goal
 
 pub loop-passed-preserved : goal.loop-passed-preserved
@@ -10,20 +10,20 @@ loop-passed-preserved g c = record {
       let p = c.advance.new.self.lent in (
         packets ++ p ∷ [],
         length-append packets (p ∷ []) ∙ ap (λ n. n + 1) many,
-        c.in-Ok-true.ensures.packet from header packets gives (cc),
+        c.in-Ok-true.ensures.packet from header packets gives (ap Ok c.in-Ok-true.field-0-test),
       );
   few = search rules;
   taken =
       let (before, took) = c.loop-passed.invariant.taken in
       let (further, goes) = c.in-Ok-true.ensures.taken in
       (before ++ further, Consumes-trans _ _ _ before further took goes);
-  source_works = search rules;
+  source_works = still-works _ _ _ c.advance.result c.advance.ensures.device.1 (c.in-Ok-true.is ∙ ap Ok c.in-Ok-true.field-0-test) c.loop-passed.invariant.source_works;
 }
 
 pub returns-in-Ok-false-clause-goes : goal.returns-in-Ok-false-clause-goes
 returns-in-Ok-false-clause-goes g c = λ from header given.
     let (packets, many, gives) = c.loop-passed.invariant.gives from header given in
-    (packets, omega (arith, many, c.loop-passed.invariant.few), c.in-Ok-false.ensures.end from header packets gives (cc))
+    (packets, omega (arith, many, c.loop-passed.invariant.few), c.in-Ok-false.ensures.end from header packets gives (ap Ok c.in-Ok-false.field-0-test))
 
 pub returns-in-Ok-false-clause-taken : goal.returns-in-Ok-false-clause-taken
 returns-in-Ok-false-clause-taken g c =

@@ -1,4 +1,4 @@
-use Rattle.std.proofs.Common.{◌≡◌, ℕ, List, ◌∷◌, subst, ◌∙◌, rules}
+use Rattle.std.proofs.Common.{◌≡◌, ℕ, List, ◌∷◌, subst, ◌∙◌}
 use Rattle.std.proofs.lemmas.Result.{err_from_is_err_and}
 use Rattle.lines.specs.Sending.{Takes}
 use Rattle.lines.proofs.Taking.{TakesPart-none}
@@ -25,7 +25,7 @@ pub returns : goal.returns
 unfolding lib.Utf8.encode
 returns g c =
     let inside = c.self.inside in
-    let cut : inside.answers.now ≡ c.in-Some.answered.now ∷ c.in-Some.field-0-1.now = search rules in
+    let cut : inside.answers.now ≡ c.in-Some.answered.now ∷ c.in-Some.field-0-1.now = c.in-Some.ensures.cases.0 in
     let line : c.as_bytes.result.now ≡ arrived_line c.args.placed.now c.args.l c.args.self.now =
     c.as_bytes.ensures.value ∙ next_arrived c.args.placed.now c.args.l (left inside.expr inside.capacity inside.held_since inside.answers.now) c.args.self.now _ _ _ _ _
     c.self.view_is cut c.in_ok-put_reason.ensures c.in_ok-put_rejection.ensures c.in_ok-push.ensures.bytes in

@@ -1,0 +1,10 @@
+-- What is put behind a line that was emptied.
+use Rattle.std.proofs.Common.{◌≡◌, ℕ, List, [], ◌++◌, Result, Ok, Err, OnOk, ap, append_assoc, ◌∙◌}
+
+pub in_place : {A E : Type 0} (r : Result A E) (empty new text whole : List ℕ) → empty ≡ [] → OnOk r (new ≡ empty ++ text) → text ≡ whole → OnOk r (new ≡ whole)
+in_place (Ok x) empty new text whole none put is = put ∙ ap (λ (t : List ℕ). t ++ text) none ∙ is
+in_place (Err e) empty new text whole none put is = tt
+
+-- nine pieces that are put by one call
+pub regrouped : (a b c d e f g h i : List ℕ) → a ++ (b ++ (c ++ (d ++ (e ++ (f ++ (g ++ (h ++ i))))))) ≡ a ++ b ++ c ++ d ++ e ++ f ++ g ++ h ++ i
+regrouped a b c d e f g h i = simp append_assoc
