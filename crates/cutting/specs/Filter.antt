@@ -59,12 +59,15 @@ abbrev pub program_text : Form → List Insn → List ℕ
 program_text forms.Listing program = listing_of program
 program_text forms.Image program = image_of program
 
--- Why a program is not printed: memory for its text was wanting, and nothing was taken; or the writer failed, which took a
--- beginning of it.
+-- Why a text is not printed: memory for it was wanting, and nothing was taken; or the writer failed, which took a beginning of it.
+abbrev pub IsUnprinted : Option (List ℕ) → Option (List ℕ) → List ℕ → PrintFault → Type 0
+IsUnprinted old new text (print.Expression fault) = ⊥
+IsUnprinted old new text print.NoMemory = Keeps old new
+IsUnprinted old new text (print.Output error) = TakesPart old new text
+
+-- why a program is not printed
 abbrev pub IsUnshown : Option (List ℕ) → Option (List ℕ) → Form → List Insn → PrintFault → Type 0
-IsUnshown old new form program (print.Expression fault) = ⊥
-IsUnshown old new form program print.NoMemory = Keeps old new
-IsUnshown old new form program (print.Output error) = TakesPart old new (program_text form program)
+IsUnshown old new form program fault = IsUnprinted old new (program_text form program) fault
 
 -- Why the listing of an expression's program is not printed: the expression has none, and nothing was taken; or it has one, which
 -- is not printed.

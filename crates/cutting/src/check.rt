@@ -5,7 +5,7 @@ ghost use Rattle.std.specs.Io.KnownBytes.{Appends};
 ghost use Rattle.filterlang.specs.Trees.{tree_of};
 ghost use Rattle.lines.specs.Telling.{end_of_line};
 ghost use Rattle.canonical.specs.Canonical.{canonical};
-ghost use Rattle.cutting.specs.Filter.{Prints, PrintsRead, IsPart, IsUnchecked, IsUnread, IsUnshown, program_text};
+ghost use Rattle.cutting.specs.Filter.{Prints, PrintsRead, IsPart, IsUnchecked, IsUnprinted, IsUnread, IsUnshown, program_text};
 
 use bpfvm::{NoMemory, Program, write_image, write_listing};
 use canonical::Canonical;
@@ -102,6 +102,17 @@ fn read_line(alloc: Global, expr: &Expr) -> Result<String, NoMemory>
     Ok(line)
 }
 
+/// Prints an expression on a line.
+fn print_read<O: Write>(alloc: Global, expr: &Expr, out: &mut O) -> Result<(), PrintFault>
+    ensures printed { OnOk result (Appends (O.contents out.old) (O.contents out.new) (canonical (tree_of expr.now) ++ end_of_line)) }
+    ensures fault { IfErr result (IsUnprinted (O.contents out.old) (O.contents out.new) (canonical (tree_of expr.now) ++ end_of_line)) }
+{
+    match read_line(alloc, expr) {
+        Ok(line) => print(line.as_bytes(), out),
+        Err(_) => Err(PrintFault::NoMemory),
+    }
+}
+
 /// Prints an expression as it was read, on one line: its canonical text, in which all that was inherited is written out. It need
 /// not compile.
 ///
@@ -111,12 +122,8 @@ pub fn show_read<O: Write>(alloc: Global, expr: &str, out: &mut O) -> Result<(),
     ensures printed { OnOk result (PrintsRead (O.contents out.old) (O.contents out.new) expr.now) }
     ensures fault { IfErr result (IsUnread (O.contents out.old) (O.contents out.new) expr.now) }
 {
-    let expr = match parse(alloc, expr) {
-        Ok(expr) => expr,
-        Err(fault) => return Err(PrintFault::Expression(ExpressionFault::Text(fault))),
-    };
-    match read_line(alloc, &expr) {
-        Ok(line) => print(line.as_bytes(), out),
-        Err(_) => Err(PrintFault::NoMemory),
+    match parse(alloc, expr) {
+        Ok(expr) => print_read(alloc, &expr, out),
+        Err(fault) => Err(PrintFault::Expression(ExpressionFault::Text(fault))),
     }
 }
