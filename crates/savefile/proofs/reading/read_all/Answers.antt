@@ -1,13 +1,12 @@
-use Rattle.std.proofs.Common.{inl, inr, Err, refl, sym, ap, subst, ◌∙◌, arith}
-use Rattle.std.proofs.lemmas.Result.{err_from_is_err_and}
+use Rattle.std.proofs.Common.{rules, ◌≡◌, inl, inr, refl, sym, subst, arith}
 use Rattle.savefile.specs.Savefile.{RefusesHeader}
 use Rattle.savefile.proofs.Headers.{one_fault, refused_is_none}
 use Rattle.savefile.proofs.reading.read_all.Goals as goal
 
 pub returns-in_err-_header-clause-refused : goal.returns-in_err-_header-clause-refused
 returns-in_err-_header-clause-refused c = λ fault r.
-    let p = err_from_is_err_and c.from_residual.result c.from_residual.ensures.1 in
-    p.1 ∙ ap Err (p.2 ∙ one_fault c.args.text.now c.in_err-_header.field-0.0 fault (λ i. omega (arith, c.type_inv.text i)) c.in_err-_header.ensures.err r)
+    let same : c.in_err-_header.field-0.0 ≡ fault = one_fault c.args.text.now c.in_err-_header.field-0.0 fault (λ i. omega (arith, c.type_inv.text i)) c.in_err-_header.ensures.err r in
+    search (rules, same)
 
 pub returns-in-Err-clause-refused : goal.returns-in-Err-clause-refused
 returns-in-Err-clause-refused c = λ fault r.
