@@ -1,8 +1,8 @@
 -- The steps of a reader.
-use Rattle.std.proofs.Common.{◌≡◌, ◌≢◌, ◌↔◌, ℕ, ◌+◌, ◌-◌, ◌*◌, ◌<◌, ◌≤◌, ◌⊎◌, inl, inr, Bool, true, false, cond, List, [], ◌++◌, length, take, drop, Option, Some, None, IfSome, Result, Err, nat_lt, nat_le, ◌==◌, refl, sym, ap, subst, ◌∙◌, append_assoc, arith, length-append}
+use Rattle.std.proofs.Common.{◌≡◌, ◌≢◌, ◌↔◌, ℕ, ◌+◌, ◌-◌, ◌*◌, ◌%◌, ◌^◌, ◌<◌, ◌≤◌, ◌⊎◌, inl, inr, Bool, true, false, cond, List, [], ◌++◌, length, take, drop, Option, Some, None, IfSome, Result, Err, nat_lt, nat_le, ◌==◌, refl, sym, ap, subst, ◌∙◌, append_assoc, arith, length-append, length-take}
 use Rattle.std.proofs.KnownBytes.{Consumes-trans}
-use Rattle.std.proofs.lemmas.Bool.{le-ltb, lt-leb, lt-ltb, ne_eqb}
-use Rattle.std.proofs.lemmas.List.{append-nil}
+use Rattle.std.proofs.lemmas.Bool.{eqb-true, le-ltb, lt-leb, lt-ltb, ne_eqb}
+use Rattle.std.proofs.lemmas.List.{append-nil, nil_from_length}
 use Rattle.std.specs.Io.KnownBytes.{IsAtEnd}
 use Rattle.savefile.specs.declared.header.Order.{Order}
 use Rattle.savefile.specs.declared.ahead.Ahead.{Ahead}
@@ -11,11 +11,12 @@ use Rattle.savefile.specs.declared.fault.Fault.TheVariants.{ShortHeader, NotSave
 use Rattle.savefile.specs.declared.header.Unit.{Unit as TimeUnit}
 use Rattle.savefile.specs.declared.record.RecordHeader.{RecordHeader}
 use Rattle.savefile.specs.declared.header.Header.{Header}
+use Rattle.savefile.specs.declared.packet.Packet.{Packet}
 use Rattle.savefile.specs.Ahead.{waiting_in, Grows}
 use Rattle.savefile.specs.Passing.{MeetsFault}
 use Rattle.savefile.specs.Reader.{Leaves, Reading}
 use Rattle.savefile.specs.RecordHeader.{IsRecordHeader}
-use Rattle.savefile.specs.Savefile.{captured, field, first_fault, fraction, nanos_in, packet, per_second, IsRecord, NoRecord}
+use Rattle.savefile.specs.Savefile.{captured, field, first_fault, fraction, nanos_in, packet, per_second, IsRecord, IsWritable, NoRecord}
 use Rattle.savefile.proofs.Pieces.{field-front, known_rest, length-slice_range}
 
 -- how many bytes wait
@@ -37,6 +38,12 @@ pub fault_stands : (order : Order) (unit : TimeUnit) (place : ℕ) (text waiting
 fault_stands order unit place text waiting left fault is enough h =
     let known = known_rest left (16 ≤ length waiting) enough in
     (known.0, known.1, subst (λ (t : List ℕ). first_fault order unit place (t ++ known.0) ≡ Some fault) is (h known.0 (subst (λ (t : List ℕ). (16 ≤ length t) ⊎ (known.0 ≡ [])) (sym is) known.2)))
+
+-- nothing is left where nothing waits after so much was wanted
+pub end_met : (text waiting : List ℕ) (left : Option (List ℕ)) → text ≡ waiting → (length text == 0) ≡ true → (16 ≤ length waiting) ⊎ IsAtEnd left → (waiting ≡ []) × IsAtEnd left
+end_met text waiting left is none enough =
+    let empty : length waiting ≡ 0 = sym (ap length is) ∙ eqb-true (length text) 0 none in
+    (nil_from_length waiting empty, elim enough [ inl many ↦ absurd (omega (arith, many, empty)) | inr end ↦ end ])
 
 -- ---- Faults of a text are no faults of a device
 
@@ -105,6 +112,10 @@ leaves_failed old new CountFull neither failed = absurd (neither.1 refl)
 pub no_device_failed : {T : Type 0} (result : Result T Fault) (fault : Fault) (old new : ℕ) → result ≡ Err fault → (fault ≡ Device → ⊥) → new ≡ old → (result ≡ Err Device) ↔ (new ≢ old)
 no_device_failed result fault old new is other same = (λ e. let device : fault ≡ Device = cc in absurd (other device), λ differs. absurd (differs same))
 
+-- an answer that is a fault of the device, where it failed
+pub device_failed : {T : Type 0} (result : Result T Fault) (fault : Fault) (old new : ℕ) → result ≡ Err fault → fault ≡ Device → new ≡ (old + 1) % 2 ^ 64 → (result ≡ Err Device) ↔ (new ≢ old)
+device_failed result fault old new is device counted = (λ _ same. omega (arith, counted, same), λ _. is ∙ ap Err device)
+
 -- ---- The header of a record
 
 -- it stands in a text whatever follows it
@@ -138,6 +149,28 @@ NoRecord-short order unit text h r short = λ p after s. let whole : 16 + captur
 -- and no record stands where there is no whole header
 pub NoRecord-no_header : (order : Order) (unit : TimeUnit) (text : List ℕ) → length text < 16 → NoRecord order unit text
 NoRecord-no_header order unit text short = λ p after s. let size : 16 ≤ length text = s.size in omega arith
+
+-- what it says may be written again
+pub header_writable : (order : Order) (unit : TimeUnit) (text lent : List ℕ) (h : RecordHeader) → IsRecordHeader order unit text h → lent ≡ take h.captured (drop 16 text)
+    → IsWritable (packet h.sec h.nanos h.len lent)
+header_writable order unit text lent h r is = record {
+  seconds = r.seconds_fit;
+  nanos = r.nanos_fit;
+  on_the_wire = r.length_fits;
+  bytes = let short : h.captured ≤ 262144 = r.short in omega (arith, short, ap length is, length-take h.captured (drop 16 text));
+}
+
+-- where a record waits whole the source is not asked for more
+pub not_asked : {R : Type 0} (order : Order) (unit : TimeUnit) (text : List ℕ) (h : RecordHeader) (old mid new : Ahead R) (p : Packet) (after : List ℕ)
+    → IsRecordHeader order unit text h → text ≡ waiting_in mid → (16 ≤ length (waiting_in old) → mid ≡ old) → (16 + h.captured ≤ length (waiting_in mid) → new ≡ mid)
+    → IsRecord order unit (waiting_in old) p after → new.source ≡ old.source
+not_asked {R = R} order unit text h old mid new p after r is first second s =
+    let same : mid ≡ old = first s.size in
+    let text_is : text ≡ waiting_in old = is ∙ ap waiting_in same in
+    let captured_is : captured order (waiting_in old) ≡ h.captured = subst (λ (t : List ℕ). captured order t ≡ h.captured) text_is r.captured_is in
+    let size : length (waiting_in mid) ≡ length (waiting_in old) = ap (λ (a : Ahead R). length (waiting_in a)) same in
+    let whole : 16 + captured order (waiting_in old) ≤ length (waiting_in old) = s.whole in
+    ap (λ (a : Ahead R). a.source) (second (omega (arith, captured_is, size, whole)) ∙ same)
 
 -- the record is torn
 pub torn_stands : (order : Order) (unit : TimeUnit) (place : ℕ) (text : List ℕ) (h : RecordHeader) → IsRecordHeader order unit text h → length text < 16 + h.captured

@@ -7,6 +7,7 @@ ghost use Rattle.savefile.specs.Device.{CountsFailure};
 use crate::device::{Broken, Source};
 use crate::record::{MOST_CAPTURED, RECORD_HEADER_LEN};
 use std::alloc::{AllocError, Global};
+use std::fmt::{self, Debug, Formatter};
 
 /// The most bytes that can be asked for: those of the longest record.
 pub(crate) const MOST_AHEAD: usize = RECORD_HEADER_LEN + MOST_CAPTURED as usize;
@@ -16,7 +17,7 @@ const MEMORY: usize = 1 << 19;
 
 /// A source, and memory that is taken once, into which it is read in large pieces. `memory[start..end]` was read and
 /// is still to be passed, and `memory[start - lent..start]` is lent until the source is read again.
-#[derive(Debug, Drop)]
+#[derive(Drop)]
 pub(crate) struct Ahead<R> {
     source: R,
     memory: Vec<u8>,
@@ -27,6 +28,16 @@ pub(crate) struct Ahead<R> {
     ghost ordered: { start ≤ end },
     ghost in_bounds: { end ≤ vec_len memory },
     ghost room: { 262160 ≤ vec_len memory },
+}
+
+/// Of the memory it shows how many bytes wait, and none of them.
+impl<R: Debug> Debug for Ahead<R> {
+    fn fmt<W: fmt::Write>(&self, f: &mut Formatter<W>) -> fmt::Result {
+        f.debug_struct("Ahead")
+            .field("source", &self.source)
+            .field("waiting", &(self.end - self.start))
+            .finish_non_exhaustive()
+    }
 }
 
 /// The memory, all zeros.

@@ -1,6 +1,7 @@
 //! Reading a whole savefile.
 
-ghost use Rattle.std.specs.Prelude.{◌≡◌, ◌⊎◌, All, IfOk, IfErr};
+ghost use Rattle.std.specs.Prelude.{◌≡◌, ◌⊎◌, ℕ, List, [], All, Some, IfOk, IfErr};
+ghost use Rattle.savefile.specs.Reader.{HasGiven};
 ghost use Rattle.savefile.specs.Savefile.{Holds, IsWritable, RefusesHeader};
 
 use crate::fault::Fault;
@@ -31,12 +32,26 @@ pub fn read_all(alloc: Global, text: &[u8]) -> Result<(Header, Vec<Packet>, Opti
         Err((_, fault)) => return Err(fault),
     };
     let header = reader.header();
+    let (packets, fault) = read_packets(alloc, &mut reader)?;
+    Ok((header, packets, fault))
+}
+
+/// Reads the packets that are left, in order, and the fault that ended them, if any.
+fn read_packets(
+    alloc: Global,
+    reader: &mut Reader<&[u8]>,
+) -> Result<(Vec<Packet>, Option<Fault>), Fault>
+    ensures holds { (text : List ℕ) (header : Header) → HasGiven (λ s. Some s.now) (Some text) header [] reader.old →
+        IfOk result (λ r. Holds text header.order header.unit header.snap r.0.items r.1) }
+    ensures writable { IfOk result (λ r. All IsWritable r.0.items) }
+    ensures only { IfErr result (λ fault. fault ≡ Fault.NoMemory) }
+{
     let mut packets = Vec::new(alloc);
     loop {
         match reader.advance() {
             Ok(true) => packets.push(reader.packet().to_packet(alloc)?)?,
-            Ok(false) => return Ok((header, packets, None)),
-            Err(fault) => return Ok((header, packets, Some(fault))),
+            Ok(false) => return Ok((packets, None)),
+            Err(fault) => return Ok((packets, Some(fault))),
         }
     }
 }
