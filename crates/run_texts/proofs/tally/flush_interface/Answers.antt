@@ -1,9 +1,15 @@
 use Rattle.std.proofs.Common.{◌≡◌, ◌<◌, length, refl, sym, subst, ◌∙◌, arith}
+use borrow.Author.Rules.{scaled_Fits}
 use Rattle.std.specs.List.{AllZip}
 use Rattle.std.proofs.lemmas.List.{with_items_is}
 use Rattle.run_texts.specs.Flushing.{IsFlushed}
 use Rattle.run_texts.proofs.Flushed.{changed_more, changed_all, length_changed}
 use Rattle.run_texts.proofs.tally.flush_interface.Goals as goal
+
+-- the offset of a listener fits, where all listeners have room
+pub offset_bounds-listener-items-listener-index : goal.offset_bounds-listener-items-listener-index
+offset_bounds-listener-items-listener-index g c =
+    scaled_Fits c.loop-listener.listener-index (length c.deref_mut-listener-items.result.now) _ c.loop-listener-test.true c.deref_mut-listener-items.type_inv.1
 
 pub loop-listener-preserved : goal.loop-listener-preserved
 loop-listener-preserved g c =
