@@ -1,10 +1,13 @@
-use Rattle.std.proofs.Common.{◌≡◌, ◌+◌, ◌<◌, ◌≤◌, suc, List, [], ◌∷◌, ◌++◌, get_or, length, arith, rules, sym, subst}
+use Rattle.std.proofs.Common.{◌≡◌, ◌+◌, ◌<◌, suc, [], ◌∷◌, ◌++◌, length, arith, rules, sym, subst}
 use Rattle.std.proofs.Math.ListN.{set}
 use Rattle.std.proofs.lemmas.List.{take_at}
 use Rattle.std.specs.List.{AllZip}
 use Rattle.splitting.specs.Standing.{HasTaken}
 use Rattle.splitting.proofs.Lists.{Half, half-all, half-at, half-more, half-none}
 use Rattle.splitting.proofs.part.give_all.Goals as goal
+
+pub give-requires-clause-writable : goal.give-requires-clause-writable
+give-requires-clause-writable g c = c.requires.writable
 
 pub give-requires-clause-so_far : goal.give-requires-clause-so_far
 give-requires-clause-so_far g c =
