@@ -1,4 +1,4 @@
-use Rattle.std.proofs.Common.{◌≡◌, ◌++◌, [], ◌∷◌, length, arith, refl, rules, subst}
+use Rattle.std.proofs.Common.{◌≡◌, ◌++◌, [], ◌∷◌, ◌∙◌, ap, length, arith, refl, subst, sym}
 use Rattle.splitting.specs.Reading.{ReadsSoFar}
 use Rattle.splitting.specs.Standing.{IsEndOf, HasTaken}
 use Rattle.splitting.specs.Writing.{IsWritten}
@@ -28,7 +28,7 @@ returns g c = λ first order unit parts o has.
     let opened = c.give_opened-source in
     let (packets, r, goes) = opened.ensures.reads first o in
     let given = goes order unit [] parts has in
-    let back : opened.result.0 ∷ [] ≡ c.push_reserved.new.self.items = search rules in
+    let back : opened.result.0 ∷ [] ≡ c.push_reserved.new.self.items = sym (c.push_reserved.ensures.items ∙ ap (λ xs. xs ++ opened.result.0 ∷ []) c.requires.sources.0) in
     let so = subst (λ ts. ReadsSoFar L B (first ∷ rest) ts (length ts) rest packets opened.result.1) back
     (first-read L B first opened.result.0 opened.new.self.read rest packets opened.result.1 r given.0) in
     let behind = c.give_captures-sources in
@@ -50,9 +50,9 @@ close_all-requires g c =
     let opened = c.give_opened-source in
     let (packets, r, goes) = opened.ensures.reads first o in
     let given = goes order unit [] parts has in
-    let back : opened.result.0 ∷ [] ≡ c.push_reserved.new.self.items = search rules in
+    let back : opened.result.0 ∷ [] ≡ c.push_reserved.new.self.items = sym (c.push_reserved.ensures.items ∙ ap (λ xs. xs ++ opened.result.0 ∷ []) c.requires.sources.0) in
     let so = subst (λ ts. ReadsSoFar L B (first ∷ rest) ts (length ts) rest packets opened.result.1) back
     (first-read L B first opened.result.0 opened.new.self.read rest packets opened.result.1 r given.0) in
     let (more, reads, now) = c.give_captures-sources.ensures.reads order unit packets parts (first ∷ rest) given so in
     let same : length parts ≡ length c.give_captures-sources.new.self.outlets.items = zip-length (HasTaken T F order unit (packets ++ more)) parts c.give_captures-sources.new.self.outlets.items now.2 in
-    record { room = (search rules, omega (arith, same, room)) }
+    record { room = (c.requires.ends, omega (arith, same, room)) }
