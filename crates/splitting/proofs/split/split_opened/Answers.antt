@@ -1,4 +1,4 @@
-use Rattle.std.proofs.Common.{◌≡◌, ◌++◌, [], ◌∷◌, ◌∙◌, ap, length, arith, refl, subst, sym}
+use Rattle.std.proofs.Common.{◌≡◌, ◌++◌, [], ◌∷◌, ◌∙◌, ap, length, length-append, arith, refl, subst, sym}
 use Rattle.splitting.specs.Reading.{ReadsSoFar}
 use Rattle.splitting.specs.Standing.{IsEndOf, HasTaken}
 use Rattle.splitting.specs.Writing.{IsWritten}
@@ -10,6 +10,16 @@ use Rattle.splitting.proofs.split.split_opened.Goals as goal
 
 pub give_opened-source-requires-clause-so_far : goal.give_opened-source-requires-clause-so_far
 give_opened-source-requires-clause-so_far g c = let (order, unit, parts, has, room) = c.requires.begun in (order, unit, [], parts, has)
+
+pub push_reserved-requires : goal.push_reserved-requires
+push_reserved-requires g c = omega (arith, c.args.sources.ok, ap length c.requires.sources.0, c.requires.sources.1)
+
+pub give_captures-sources-requires-clause-behind : goal.give_captures-sources-requires-clause-behind
+give_captures-sources-requires-clause-behind g c = omega (arith, ap length c.push_reserved.ensures.items, length-append c.args.sources.items (c.give_opened-source.result.0 ∷ []))
+
+pub give_captures-sources-requires-clause-room : goal.give_captures-sources-requires-clause-room
+give_captures-sources-requires-clause-room g c =
+    omega (arith, ap length c.push_reserved.ensures.items, length-append c.args.sources.items (c.give_opened-source.result.0 ∷ []), ap length c.requires.sources.0, c.requires.sources.1, c.push_reserved.ensures.capacity)
 
 pub give_captures-sources-requires-clause-so_far : goal.give_captures-sources-requires-clause-so_far
 give_captures-sources-requires-clause-so_far g c =
