@@ -1,4 +1,4 @@
-use Rattle.std.proofs.Common.{◌≡◌, ◌∙◌, refl, subst, sym}
+use Rattle.std.proofs.Common.{◌≡◌, ◌∙◌, refl, rules, subst, sym}
 use Rattle.std.proofs.KnownBytes.{Appends-nil}
 use Rattle.std.proofs.lemmas.Result.{err_from_is_err_and}
 use Rattle.std.specs.Io.KnownBytes.{Appends}
@@ -36,6 +36,6 @@ returns g c =
     let count = count_text c.args.part.now.tally in
     let text : c.as_bytes.result.now ≡ output = c.as_bytes.ensures.value in
     let second = c.as_bytes-2.ensures ∙ c.in_ok-put_count.ensures in
-    let whole = told-whole output c.args.part.now.tally c.args.part.now.written (sym c.is_err.ensures.value ∙ c.if-is_err.false) in
+    let whole = told-whole output c.args.part.now.tally c.args.part.now.written (search rules) in
     subst (Takes _ _ c.send-2.result) whole
     (Takes-then _ _ _ output count c.send-2.result (subst (Appends _ _) text c.in_ok-send.ensures) (subst (Takes _ _ c.send-2.result) second c.send-2.ensures))
