@@ -1,5 +1,5 @@
 -- How a split that came to its end was one.
-use Rattle.std.proofs.Common.{◌≡◌, ◌<◌, ◌≤◌, ℕ, get_or, zero, true, List, [], ◌∷◌, length, refl, sym, ap, ◌∙◌, subst, arith, Option, Result, Ok, Err, inr}
+use Rattle.std.proofs.Common.{◌≡◌, ◌<◌, ℕ, get_or, zero, true, List, [], ◌∷◌, length, refl, sym, ap, ◌∙◌, subst, arith, Option, Result, Ok, Err, inr}
 use Rattle.std.specs.List.{AllZip, remove}
 use Rattle.std.specs.declared.alloc.Global.{Global}
 use Rattle.std.specs.declared.vec.Vec.{Vec}

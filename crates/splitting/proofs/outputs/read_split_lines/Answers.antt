@@ -1,4 +1,4 @@
-use Rattle.std.proofs.Common.{◌≡◌, ◌≢◌, ◌+◌, ◌≤◌, [], length, rules, arith}
+use Rattle.std.proofs.Common.{◌≢◌, [], rules, arith}
 use Rattle.splitting.proofs.OwnOutputs.{formless_read, named_read, more_read}
 use Rattle.splitting.proofs.Planned.{wants-memory, wants-result}
 use Rattle.splitting.specs.Outputs.{AreSplitLines, IsRefusedLines}
