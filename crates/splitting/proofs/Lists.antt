@@ -1,5 +1,5 @@
 -- Lists that a loop makes of others, and lists that it changes item by item.
-use Rattle.std.proofs.Common.{◌≡◌, ◌<◌, ◌≤◌, ℕ, zero, suc, List, [], ◌∷◌, ◌++◌, get_or, length, sym, arith, subst}
+use Rattle.std.proofs.Common.{◌≡◌, ◌+◌, ◌<◌, ◌≤◌, ℕ, zero, suc, List, [], ◌∷◌, ◌++◌, get_or, length, length-append, sym, ap, ◌∙◌, arith, subst}
 use Rattle.std.proofs.Math.ListN.{set}
 use Rattle.std.proofs.lemmas.List.{append-nil, append_assoc}
 use Rattle.std.specs.List.{AllZip}
@@ -21,6 +21,24 @@ completes-next R all made made' x rest rest' y c taken given r =
 pub completed : {X Y : Type 0} (R : X → Y → Type 0) (all : List X) (made : List Y) (rest : List X) → Completes R all made rest → length rest ≡ 0 → AllZip R all made
 completed R all made [] c none = subst (λ ys. AllZip R all ys) (append-nil made) (c [] tt)
 completed R all made (x ∷ rest) c none = absurd (omega (arith, none))
+
+-- nothing was made so far
+pub completes-none : {X Y : Type 0} (R : X → Y → Type 0) (all : List X) (made : List Y) (rest : List X) → length made ≡ 0 → rest ≡ all → Completes R all made rest
+completes-none R all [] rest none same = λ more z. subst (λ xs. AllZip R xs more) same z
+completes-none R all (y ∷ ys) rest none same = absurd (omega (arith, none))
+
+-- what was made and what is left are as many as before
+pub as-many : {X Y : Type 0} (made made' : List Y) (x : X) (rest rest' : List X) (y : Y) (n : ℕ) → length made + length rest ≡ n → rest ≡ x ∷ rest' → made' ≡ made ++ y ∷ []
+    → length made' + length rest' ≡ n
+as-many made made' x rest rest' y n so taken given = omega (arith, so, ap length taken, ap length given, length-append made (y ∷ []))
+
+-- an item goes from what is left to what was taken
+pub goes-over : {X : Type 0} (taken taken' : List X) (x : X) (rest rest' all : List X) → taken ++ rest ≡ all → rest ≡ x ∷ rest' → taken' ≡ taken ++ x ∷ [] → taken' ++ rest' ≡ all
+goes-over taken taken' x rest rest' all so out given = ap (λ xs. xs ++ rest') given ∙ append_assoc taken (x ∷ []) rest' ∙ ap (λ xs. taken ++ xs) (sym out) ∙ so
+
+pub all-over : {X : Type 0} (taken rest all : List X) → taken ++ rest ≡ all → length rest ≡ 0 → taken ≡ all
+all-over taken [] all so none = sym (append-nil taken) ∙ so
+all-over taken (x ∷ rest) all so none = absurd (omega (arith, none))
 
 -- two lists that stand so through a third
 pub zip-through : {X Y Z : Type 0} (R : X → Y → Type 0) (S : Y → Z → Type 0) (T : X → Z → Type 0) → ((x : X) (y : Y) (z : Z) → R x y → S y z → T x z) →

@@ -1,12 +1,16 @@
 -- The programs of lines, one behind the other.
-use Rattle.std.proofs.Common.{◌≡◌, ℕ, suc, ◌+◌, ◌<◌, List, [], ◌∷◌, ◌++◌, get_or, length, take, refl, ap, subst, sym}
+use Rattle.std.proofs.Common.{◌≡◌, ℕ, suc, ◌+◌, ◌<◌, ◌≤◌, List, [], ◌∷◌, ◌++◌, get_or, length, take, refl, ap, subst, sym, Result, Ok, Err}
+use Rattle.std.specs.Prelude.{IfErr, IfOk}
+use Rattle.std.specs.Result.{IsErrAnd}
 use Rattle.std.specs.List.{AllZip}
-use Rattle.std.proofs.lemmas.List.{take_more}
+use Rattle.std.proofs.lemmas.List.{take_all, take_more}
 use Rattle.std.proofs.lemmas.Option.{slice_get-get_or}
 use Rattle.bpfvm.specs.declared.insn.Insn.{Insn}
 use Rattle.filtergen.specs.declared.expression.ExpressionFault.{ExpressionFault}
 use Rattle.filtergen.specs.Expressions.{IsUncompiled}
 use Rattle.splitting.specs.declared.outputs.SplitLine.{SplitLine}
+use Rattle.splitting.specs.declared.plan.PlanFault.{PlanFault}
+use Rattle.splitting.specs.declared.plan.PlanFault.TheVariants.{NoMemory}
 use Rattle.splitting.specs.Planning.{IsCompiled, IsFirstUncompiled}
 
 zip-push : {A B : Type 0} (R : A → B → Type 0) (xs : List A) (ys : List B) (x : A) (y : B) → AllZip R xs ys → R x y → AllZip R (xs ++ x ∷ []) (ys ++ y ∷ [])
@@ -37,3 +41,16 @@ first_uncompiled lines n d why programs inside earlier stands = record {
   programs = programs;
   earlier = earlier;
 }
+
+-- all lines have theirs
+pub all_zipped : {A B : Type 0} (R : A → B → Type 0) (xs : List A) (ys : List B) (n : ℕ) → length xs ≤ n → AllZip R (take n xs) ys → AllZip R xs ys
+all_zipped R xs ys n past each = subst (λ ts. AllZip R ts ys) (take_all n xs past) each
+
+-- where memory was wanting nothing is answered but that
+pub wants-result : {A : Type 0} (result : Result A PlanFault) (P : A → Type 0) → IsErrAnd result (λ f. f ≡ NoMemory) → IfOk result P
+wants-result (Ok x) P wants = absurd wants
+wants-result (Err f) P wants = tt
+
+pub wants-memory : {A : Type 0} (result : Result A PlanFault) (P : PlanFault → Type 0) → IsErrAnd result (λ f. f ≡ NoMemory) → P NoMemory → IfErr result P
+wants-memory (Ok x) P wants p = tt
+wants-memory (Err f) P wants p = subst P (sym wants) p

@@ -1,5 +1,5 @@
 -- How a split that came to its end was one.
-use Rattle.std.proofs.Common.{◌≡◌, ◌<◌, ◌≤◌, ℕ, get_or, zero, true, List, [], ◌∷◌, length, refl, sym, ap, subst, arith, Option, Result, Ok, Err, inr}
+use Rattle.std.proofs.Common.{◌≡◌, ◌<◌, ℕ, get_or, zero, true, List, [], ◌∷◌, length, refl, sym, ap, ◌∙◌, subst, arith, Option, Result, Ok, Err, inr}
 use Rattle.std.specs.List.{AllZip, remove}
 use Rattle.std.specs.declared.alloc.Global.{Global}
 use Rattle.std.specs.declared.vec.Vec.{Vec}
@@ -17,9 +17,12 @@ use Rattle.splitting.specs.Splitting.{Splits, WritesAll, passes_header}
 use Rattle.splitting.specs.Writing.{IsLeft, IsWritten}
 
 -- a list is its first item and what is left without it
-pub first-taken : {X : Type 0} (xs : List X) (x : X) → 0 < length xs → x ≡ get_or xs 0 x → xs ≡ x ∷ remove xs 0
+first-taken : {X : Type 0} (xs : List X) (x : X) → 0 < length xs → x ≡ get_or xs 0 x → xs ≡ x ∷ remove xs 0
 first-taken [] x some is = absurd (omega (arith, some))
 first-taken (y ∷ xs) x some is = ap (λ z. z ∷ xs) (sym is)
+
+pub first-removed : {X : Type 0} (xs rest : List X) (x : X) → 0 < length xs → x ≡ get_or xs 0 x → rest ≡ remove xs 0 → xs ≡ x ∷ rest
+first-removed xs rest x some is left = first-taken xs x some is ∙ ap (λ ys. x ∷ ys) (sym left)
 
 -- a list without an item is empty
 pub none-there : {X : Type 0} (xs : List X) → length xs ≡ 0 → xs ≡ []

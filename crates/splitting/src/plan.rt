@@ -23,22 +23,25 @@ pub enum PlanFault {
     NoMemory,
 }
 
+/// Writes why the expression of the n-th line, from 0, has no program.
+fn write_uncompiled<W: fmt::Write>(
+    f: &mut Formatter<W>,
+    n: usize,
+    fault: ExpressionFault,
+) -> fmt::Result {
+    match fault {
+        ExpressionFault::Text(filterlang::Fault::NoMemory)
+        | ExpressionFault::Tree(Refusal::NoMemory) => f.write_str("NoMemory"),
+        ExpressionFault::Text(fault) => write!(f, "Expression {n} {fault}"),
+        ExpressionFault::Tree(refusal) => write!(f, "Compile {n} {refusal}"),
+    }
+}
+
 impl Display for PlanFault {
     fn fmt<W: fmt::Write>(&self, f: &mut Formatter<W>) -> fmt::Result {
         match *self {
             PlanFault::Line(line) => write!(f, "Lines {line}"),
-            PlanFault::Expression(_, ExpressionFault::Text(filterlang::Fault::NoMemory)) => {
-                f.write_str("NoMemory")
-            }
-            PlanFault::Expression(_, ExpressionFault::Tree(Refusal::NoMemory)) => {
-                f.write_str("NoMemory")
-            }
-            PlanFault::Expression(n, ExpressionFault::Text(fault)) => {
-                write!(f, "Expression {n} {fault}")
-            }
-            PlanFault::Expression(n, ExpressionFault::Tree(refusal)) => {
-                write!(f, "Compile {n} {refusal}")
-            }
+            PlanFault::Expression(n, fault) => write_uncompiled(f, n, fault),
             PlanFault::NoMemory => f.write_str("NoMemory"),
         }
     }

@@ -1,6 +1,25 @@
-use Rattle.std.proofs.Common.{◌≡◌, ◌≢◌, ◌+◌, ◌≤◌, [], length, rules, arith}
+use Rattle.std.proofs.Common.{◌≢◌, [], rules, arith}
 use Rattle.splitting.proofs.OwnOutputs.{formless_read, named_read, more_read}
+use Rattle.splitting.proofs.Planned.{wants-memory, wants-result}
+use Rattle.splitting.specs.Outputs.{AreSplitLines, IsRefusedLines}
 use Rattle.splitting.proofs.outputs.read_split_lines.Goals as goal
+
+pub returns-in_err-insert-clause-ok : goal.returns-in_err-insert-clause-ok
+returns-in_err-insert-clause-ok c = wants-result c.from_residual.result (λ lines. AreSplitLines c.args.text.now lines.items) c.from_residual.ensures.1
+
+pub returns-in_err-insert-clause-fault : goal.returns-in_err-insert-clause-fault
+returns-in_err-insert-clause-fault c = wants-memory c.from_residual.result (IsRefusedLines c.args.text.now) c.from_residual.ensures.1 tt
+
+pub returns-in_err-push-clause-ok : goal.returns-in_err-push-clause-ok
+returns-in_err-push-clause-ok c = wants-result c.from_residual-in_err-push.result (λ lines. AreSplitLines c.args.text.now lines.items) c.from_residual-in_err-push.ensures.1
+
+pub returns-in_err-push-clause-fault : goal.returns-in_err-push-clause-fault
+returns-in_err-push-clause-fault c = wants-memory c.from_residual-in_err-push.result (IsRefusedLines c.args.text.now) c.from_residual-in_err-push.ensures.1 tt
+
+pub loop-rest-smaller : goal.loop-rest-smaller
+loop-rest-smaller c =
+    let rest : c.loop-rest.rest.now ≢ [] = search rules in
+    omega (arith, c.first_line.ensures.shorter rest)
 
 pub returns-in_default-clause-fault : goal.returns-in_default-clause-fault
 returns-in_default-clause-fault c =

@@ -1,10 +1,13 @@
-use Rattle.std.proofs.Common.{◌≡◌, ◌+◌, ◌<◌, ◌≤◌, suc, List, [], ◌∷◌, ◌++◌, get_or, length, arith, rules, sym, subst}
+use Rattle.std.proofs.Common.{◌≡◌, ◌+◌, ◌<◌, suc, [], ◌∷◌, ◌++◌, ap, length, arith, sym, subst}
 use Rattle.std.proofs.Math.ListN.{set}
 use Rattle.std.proofs.lemmas.List.{take_at}
 use Rattle.std.specs.List.{AllZip}
 use Rattle.splitting.specs.Standing.{HasTaken}
 use Rattle.splitting.proofs.Lists.{Half, half-all, half-at, half-more, half-none}
 use Rattle.splitting.proofs.part.give_all.Goals as goal
+
+pub give-requires-clause-writable : goal.give-requires-clause-writable
+give-requires-clause-writable g c = c.requires.writable
 
 pub give-requires-clause-so_far : goal.give-requires-clause-so_far
 give-requires-clause-so_far g c =
@@ -19,7 +22,7 @@ give-requires-clause-so_far g c =
 
 pub loop-outlet-init : goal.loop-outlet-init
 loop-outlet-init g c = λ order unit packets parts each.
-    subst (λ os. Half (HasTaken g.W.Sink.taken g.W.Sink.failures order unit packets) (HasTaken g.W.Sink.taken g.W.Sink.failures order unit (packets ++ c.args.packet.now ∷ [])) parts os 0) (search rules)
+    subst (λ os. Half (HasTaken g.W.Sink.taken g.W.Sink.failures order unit packets) (HasTaken g.W.Sink.taken g.W.Sink.failures order unit (packets ++ c.args.packet.now ∷ [])) parts os 0) (sym c.deref_mut-outlet-items.ensures.value)
     (half-none (HasTaken g.W.Sink.taken g.W.Sink.failures order unit packets) (HasTaken g.W.Sink.taken g.W.Sink.failures order unit (packets ++ c.args.packet.now ∷ [])) parts c.args.outlets.now.items each)
 
 pub loop-outlet-preserved : goal.loop-outlet-preserved
@@ -37,6 +40,6 @@ loop-outlet-preserved g c = λ order unit packets parts each.
 
 pub returns : goal.returns
 returns g c = λ order unit packets parts each.
-    subst (λ os. AllZip (HasTaken g.W.Sink.taken g.W.Sink.failures order unit (packets ++ c.args.packet.now ∷ [])) parts os) (sym (take_at c.loop-outlet.outlet-items _ _ (search rules)))
+    subst (λ os. AllZip (HasTaken g.W.Sink.taken g.W.Sink.failures order unit (packets ++ c.args.packet.now ∷ [])) parts os) (sym (take_at c.loop-outlet.outlet-items _ _ (omega (arith, c.loop-outlet.auto.outlet-items, ap length c.deref_mut-outlet-items.ensures.value, c.args.outlets.now.ok))))
     (half-all (HasTaken g.W.Sink.taken g.W.Sink.failures order unit packets) (HasTaken g.W.Sink.taken g.W.Sink.failures order unit (packets ++ c.args.packet.now ∷ [])) parts c.loop-outlet.outlet-items _
     (c.loop-outlet.invariant order unit packets parts each) (omega (arith, c.loop-outlet-test.false, c.deref_mut-outlet-items.ensures.len)))

@@ -1,4 +1,4 @@
-use Rattle.std.proofs.Common.{◌≡◌, ◌++◌, [], ◌∷◌, length, arith, refl, rules, subst}
+use Rattle.std.proofs.Common.{◌≡◌, ◌++◌, [], ◌∷◌, ◌∙◌, ap, length, length-append, arith, refl, subst, sym}
 use Rattle.splitting.specs.Reading.{ReadsSoFar}
 use Rattle.splitting.specs.Standing.{IsEndOf, HasTaken}
 use Rattle.splitting.specs.Writing.{IsWritten}
@@ -10,6 +10,16 @@ use Rattle.splitting.proofs.split.split_opened.Goals as goal
 
 pub give_opened-source-requires-clause-so_far : goal.give_opened-source-requires-clause-so_far
 give_opened-source-requires-clause-so_far g c = let (order, unit, parts, has, room) = c.requires.begun in (order, unit, [], parts, has)
+
+pub push_reserved-requires : goal.push_reserved-requires
+push_reserved-requires g c = omega (arith, c.args.sources.ok, ap length c.requires.sources.0, c.requires.sources.1)
+
+pub give_captures-sources-requires-clause-behind : goal.give_captures-sources-requires-clause-behind
+give_captures-sources-requires-clause-behind g c = omega (arith, ap length c.push_reserved.ensures.items, length-append c.args.sources.items (c.give_opened-source.result.0 ∷ []))
+
+pub give_captures-sources-requires-clause-room : goal.give_captures-sources-requires-clause-room
+give_captures-sources-requires-clause-room g c =
+    omega (arith, ap length c.push_reserved.ensures.items, length-append c.args.sources.items (c.give_opened-source.result.0 ∷ []), ap length c.requires.sources.0, c.requires.sources.1, c.push_reserved.ensures.capacity)
 
 pub give_captures-sources-requires-clause-so_far : goal.give_captures-sources-requires-clause-so_far
 give_captures-sources-requires-clause-so_far g c =
@@ -28,7 +38,7 @@ returns g c = λ first order unit parts o has.
     let opened = c.give_opened-source in
     let (packets, r, goes) = opened.ensures.reads first o in
     let given = goes order unit [] parts has in
-    let back : opened.result.0 ∷ [] ≡ c.push_reserved.new.self.items = search rules in
+    let back : opened.result.0 ∷ [] ≡ c.push_reserved.new.self.items = sym (c.push_reserved.ensures.items ∙ ap (λ xs. xs ++ opened.result.0 ∷ []) c.requires.sources.0) in
     let so = subst (λ ts. ReadsSoFar L B (first ∷ rest) ts (length ts) rest packets opened.result.1) back
     (first-read L B first opened.result.0 opened.new.self.read rest packets opened.result.1 r given.0) in
     let behind = c.give_captures-sources in
@@ -50,9 +60,9 @@ close_all-requires g c =
     let opened = c.give_opened-source in
     let (packets, r, goes) = opened.ensures.reads first o in
     let given = goes order unit [] parts has in
-    let back : opened.result.0 ∷ [] ≡ c.push_reserved.new.self.items = search rules in
+    let back : opened.result.0 ∷ [] ≡ c.push_reserved.new.self.items = sym (c.push_reserved.ensures.items ∙ ap (λ xs. xs ++ opened.result.0 ∷ []) c.requires.sources.0) in
     let so = subst (λ ts. ReadsSoFar L B (first ∷ rest) ts (length ts) rest packets opened.result.1) back
     (first-read L B first opened.result.0 opened.new.self.read rest packets opened.result.1 r given.0) in
     let (more, reads, now) = c.give_captures-sources.ensures.reads order unit packets parts (first ∷ rest) given so in
     let same : length parts ≡ length c.give_captures-sources.new.self.outlets.items = zip-length (HasTaken T F order unit (packets ++ more)) parts c.give_captures-sources.new.self.outlets.items now.2 in
-    record { room = (search rules, omega (arith, same, room)) }
+    record { room = (c.requires.ends, omega (arith, same, room)) }

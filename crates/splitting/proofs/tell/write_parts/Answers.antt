@@ -1,7 +1,18 @@
+use Rattle.std.proofs.KnownBytes.{Appends-nil}
+use Rattle.std.proofs.lemmas.List.{take_all}
 use Rattle.std.proofs.lemmas.Result.{err_from_is_err_and}
 use Rattle.lines.proofs.Taking.{TakesPart-numbered, Appends-numbered}
 use Rattle.splitting.specs.Printed.{line_text}
 use Rattle.splitting.proofs.tell.write_parts.Goals as goal
+
+pub loop-n-init : goal.loop-n-init
+loop-n-init g c = Appends-nil (g.O.Write.contents c.args.out.now)
+
+pub offset_bounds-parts-n : goal.offset_bounds-parts-n
+offset_bounds-parts-n g c = c.loop-n.auto.n-end
+
+pub bounds-parts-n : goal.bounds-parts-n
+bounds-parts-n g c = c.loop-n-test.true
 
 pub returns-in_err-write_part : goal.returns-in_err-write_part
 returns-in_err-write_part g c =
@@ -13,3 +24,6 @@ pub loop-n-preserved : goal.loop-n-preserved
 loop-n-preserved g c =
     Appends-numbered (line_text c.args.lines.now) c.args.parts.now c.loop-n.n c.index-parts-n.result _ _ _ c.loop-n-test.true c.index-parts-n.is c.loop-n.invariant
     (rw c.output_at.ensures at c.in_ok-write_part.ensures)
+
+pub returns : goal.returns
+returns g c = rw (take_all c.loop-n.n c.args.parts.now c.loop-n-test.false) at c.loop-n.invariant
