@@ -242,7 +242,8 @@ class Copy:
         try:
             words = [self.room / "build", "--check", self.crate]
             how = {"stdin": subprocess.DEVNULL, "stdout": subprocess.PIPE, "stderr": subprocess.STDOUT, "errors": "replace"}
-            return subprocess.run(words, cwd=folder, **how).stdout
+            # What goes on in a next line stands further in.
+            return re.sub(r"\n  (?=\S)", " ", subprocess.run(words, cwd=folder, **how).stdout)
         finally:
             for path, text in were.items():
                 (folder / path).write_text(text)

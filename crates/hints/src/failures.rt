@@ -60,10 +60,18 @@ pub fn hint_input<R, E: TakesHints>(source: &NotedInput<R>, fault: Fault, err: &
     }
 }
 
-/// Hints on one of several captures, which was not read to its end.
-pub fn hint_source<R, E: TakesHints>(path: &str, source: &NotedInput<R>, fault: Fault, err: &mut E)
+/// Hints on the n-th of several captures, from 0, which was not read to its end.
+pub fn hint_source<R, E: TakesHints>(
+    paths: &[&str],
+    sources: &[NotedInput<R>],
+    n: usize,
+    fault: Fault,
+    err: &mut E,
+)
     ensures quiet { E.takes_hints err.old ≡ false → err.new ≡ err.old }
 {
-    give_hint(format_args!("{}:", Path(path)), err);
-    hint_input(source, fault, err)
+    if let (Some(path), Some(source)) = (paths.get(n), sources.get(n)) {
+        give_hint(format_args!("{}:", Path(*path)), err);
+        hint_input(source, fault, err);
+    }
 }

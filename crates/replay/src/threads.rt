@@ -22,10 +22,10 @@ use std::thread::{PromisedHandle, Scope, Threads};
 use tasks::RunFault;
 
 /// A thread that reads a listener.
-type Reader = PromisedHandle<Option<ReadEnd>, ReadsOut>;
+type ReadingThread = PromisedHandle<Option<ReadEnd>, ReadsOut>;
 
 /// A thread that writes a savefile.
-type Writer<W> = PromisedHandle<Option<WriteEnd<W>>, WritesOut<W>>;
+type WritingThread<W> = PromisedHandle<Option<WriteEnd<W>>, WritesOut<W>>;
 
 /// Starts the reading thread of a task.
 fn start_reader<'s, 'a: 's, E, G: Gate + Sync + 's, R: Threads + Wait + Sync + 's>(
@@ -38,7 +38,7 @@ fn start_reader<'s, 'a: 's, E, G: Gate + Sync + 's, R: Threads + Wait + Sync + '
     full: Producer<Buffer>,
     empty: Consumer<Buffer>,
     listener_id: ListenerId,
-) -> Result<Reader, RunFault>
+) -> Result<ReadingThread, RunFault>
     requires pair { drain.pair ≡ link.now }
     requires new { (drain.takes ≡ []) × (sent full ≡ []) }
     ensures reads { IfOk result (λ reader. (reader.promise.drain.value ≡ drain) × (reader.promise.full.value ≡ full)) }
@@ -67,7 +67,7 @@ fn start_writer<'s, 'a: 's, E, W: Sink + Send + Drop + 's, R: Threads + Wait + S
     full: Consumer<Buffer>,
     empty: Producer<Buffer>,
     rest: Consumer<Buffer>,
-) -> Result<Writer<W>, RunFault>
+) -> Result<WritingThread<W>, RunFault>
     requires { (received full ≡ []) × (received rest ≡ []) }
     ensures output { IfOk result (λ writer. writer.promise.output.value ≡ output) }
     ensures rings { IfOk result (λ writer. (writer.promise.full.value ≡ full) × (writer.promise.rest.value ≡ rest)) }

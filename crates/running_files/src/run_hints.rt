@@ -30,14 +30,14 @@ pub(crate) fn hint_plan<E: TakesHints>(
         }
         PlanFault::Compile(_, refusal) => hint_refusal(refusal, err),
         PlanFault::Expression(n, fault) => {
-            hint_expression(alloc, listeners, interfaces, n, fault, err);
+            hint_line_expression(alloc, listeners, interfaces, n, fault, err);
         }
         _ => {}
     }
 }
 
 /// Hints on the expression of a line of LISTENERS that is refused.
-fn hint_expression<E: TakesHints>(
+fn hint_line_expression<E: TakesHints>(
     alloc: Global,
     listeners: &[u8],
     interfaces: usize,
@@ -120,11 +120,8 @@ fn hint_capture<R, E: TakesHints>(
     end: InterfaceEnd,
     err: &mut E,
 ) {
-    let InterfaceEnd::Capture(n, fault) = end else {
-        return;
-    };
-    if let (Some(path), Some(source)) = (paths.get(n as usize), sources.get(n as usize)) {
-        hint_source(*path, source, fault, err);
+    if let InterfaceEnd::Capture(n, fault) = end {
+        hint_source(paths, sources, n as usize, fault, err);
     }
 }
 

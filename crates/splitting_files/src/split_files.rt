@@ -138,13 +138,13 @@ fn accepted<'p, E: TakesHints>(alloc: Global, lines: &'p [u8], err: &mut E) -> R
 fn hint_lines<E: TakesHints>(alloc: Global, lines: &[u8], fault: PlanFault, err: &mut E) {
     match fault {
         PlanFault::Line(line) => hint_bad_line(lines, line, LINES, err),
-        PlanFault::Expression(n, fault) => hint_refused(alloc, lines, n, fault, err),
+        PlanFault::Expression(n, fault) => hint_line_expression(alloc, lines, n, fault, err),
         PlanFault::NoMemory => {}
     }
 }
 
 /// Hints on the expression of a line of LINES that is refused.
-fn hint_refused<E: TakesHints>(
+fn hint_line_expression<E: TakesHints>(
     alloc: Global,
     lines: &[u8],
     n: usize,
@@ -178,11 +178,8 @@ fn hint_capture<R, E: TakesHints>(
     end: Result<(), Stop>,
     err: &mut E,
 ) {
-    let Err(Stop::AtHeader(n, fault) | Stop::AtRecord(n, fault)) = end else {
-        return;
-    };
-    if let (Some(path), Some(source)) = (inputs.get(n), sources.get(n)) {
-        hint_source(*path, source, fault, err);
+    if let Err(Stop::AtHeader(n, fault) | Stop::AtRecord(n, fault)) = end {
+        hint_source(inputs, sources, n, fault, err);
     }
 }
 

@@ -6,7 +6,7 @@ use clap::{Command, Error};
 use std::alloc::{AllocError, Global};
 
 /// The same subcommand with one argument more.
-fn with<'a>(
+fn with_argument<'a>(
     alloc: Global,
     command: Command<'a>,
     argument: Argument,
@@ -24,7 +24,7 @@ pub(crate) fn subcommand<'a>(
 ) -> Result<Command<'a>, AllocError> {
     let mut command = Command::new(alloc, name).about(about).after_help(examples);
     for argument in arguments {
-        command = with(alloc, command, *argument)?;
+        command = with_argument(alloc, command, *argument)?;
     }
     Ok(command)
 }
