@@ -18,6 +18,9 @@ case $1 in version) cat "$KIT/version" ;; doc) echo "$KIT/START-HERE.md" ;; esac
 RATTLE = """#!/bin/sh
 for last; do :; done
 echo "$1 $3" >>"$KIT/calls"
+echo "$*" >>"$KIT/words"
+echo "+ $3" >>"$KIT/spans"
+trap 'echo "- $3" >>"$KIT/spans"' EXIT
 does() { [ -e "$KIT/$1" ] && [ "$(cat "$KIT/$1")" = "$2" ]; }
 does fails "$3" && { echo 'src/lib.rt:1:1: error: not proved: too little'; exit 1; }
 does dies "$3" && { rm "$KIT/dies"; kill -9 $$; }
@@ -46,8 +49,8 @@ class Source:
         self.scene, self.folder, self.kit = scene, scene.folder / "source", scene.folder / "kit"
         for line in CRATES.splitlines()[1:]:
             name = line.partition(":")[0]
-            (self.folder / "crates" / name / "src").mkdir(parents=True)
-            (self.folder / "crates" / name / "src" / ("main.rt" if name == "bpftap" else "lib.rt")).write_text(f"// {name}\n")
+            self.src(name).mkdir(parents=True)
+            (self.src(name) / ("main.rt" if name == "bpftap" else "lib.rt")).write_text(f"// {name}\n")
         (self.folder / "crates.txt").write_text(CRATES)
         for name in ["build", "bpftap"]:
             shutil.copy(ROOT / name, self.folder)
@@ -65,12 +68,26 @@ class Source:
         done = subprocess.run([self.folder / program, *words], capture_output=True, **how)
         return Seen(done.stdout, done.stderr, done.returncode)
 
+    def noted(self, name="calls"):
+        """What was noted since it was asked last: of each call its crate, all its words, or its beginning and its end."""
+        file = self.kit / name
+        lines = file.read_text().split("\n")[:-1] if file.exists() else []
+        file.unlink(missing_ok=True)
+        return lines
+
     def calls(self):
         """The crates that were built or checked since it was asked last."""
-        noted = self.kit / "calls"
-        calls = noted.read_text().split("\n")[:-1] if noted.exists() else []
-        noted.unlink(missing_ok=True)
-        return [call.removeprefix("build ") for call in calls]
+        return [call.removeprefix("build ") for call in self.noted()]
+
+    def src(self, crate):
+        return self.folder / "crates" / crate / "src"
+
+    def program(self):
+        return self.folder / "crates" / "bpftap" / "out" / "bpftap"
+
+
+def on_one_processor():
+    os.sched_setaffinity(0, {min(os.sched_getaffinity(0))})
 
 
 @case
@@ -92,11 +109,11 @@ def crates_are_proved_once_and_the_lowest_first(scene):
 def minutes_are_told_before(scene):
     """How long it takes, by what is left: a long crate is the end of a chain of three, whatever the processors are; two short ones take no while."""
     source = Source(scene)
-    (source.folder / "crates" / "low" / "src" / "lib.rt").write_text("// low\n" * 20000)
+    (source.src("low") / "lib.rt").write_text("// low\n" * 20000)
     first, second = source.run().err.decode().splitlines()[:2]
     scene.check(first, "that takes some 21 to 38 minutes, and 2 GB of disk" in first or "21 to 39 minutes" in first, True)
     scene.check(second, "1 of 4 crates (0 min so far, some 21 to 3" in second and " in all)" in second, True)
-    (source.folder / "crates" / "middle" / "src" / "lib.rt").write_text("// another\n")
+    (source.src("middle") / "lib.rt").write_text("// another\n")
     told = source.run().err.decode().splitlines()[0]
     scene.check(told, "minutes" in told, False)
 
@@ -137,7 +154,7 @@ def what_is_proved_is_kept(scene):
     source.run()
     source.calls()
     scene.check("a second call", (source.run(), source.calls()), (Seen(b"", b"", 0), []))
-    (source.folder / "crates" / "other" / "src" / "lib.rt").write_text("// another\n")
+    (source.src("other") / "lib.rt").write_text("// another\n")
     source.run()
     scene.check("behind an edit", source.calls(), ["other", "bpftap"])
     (source.folder / "crates" / "low" / "proofs").mkdir()
@@ -173,6 +190,16 @@ def a_crate_that_is_not_proved_is_told(scene):
 
 
 @case
+def a_program_that_is_not_linked_is_told(scene):
+    """The build ends with what the linker said."""
+    source = Source(scene)
+    (source.kit / "bin" / "rattle-link").write_text("#!/bin/sh\necho no space left >&2\nexit 1\n")
+    seen = source.run()
+    told = b"bpftap: building: no space left\nbpftap: building: the build failed at bpftap: it is not linked; out/build/bpftap.log has all that was said\n"
+    scene.check("told, and the status", (seen.err.endswith(told), seen.status), (True, 1))
+
+
+@case
 def what_runs_beside_a_failure_is_kept(scene):
     """Behind a crate that is not proved none is begun, and one that runs beside it is proved to its end and kept. On one processor
     none runs beside it."""
@@ -184,6 +211,7 @@ def what_runs_beside_a_failure_is_kept(scene):
     (source.kit / "takes").write_text("other")
     seen = source.run()
     scene.check("calls, and the status", (sorted(source.calls()), seen.status), (["middle", *beside], 1))
+    scene.check("counted", b"other is proved, 1 of 3 crates" in seen.err, bool(beside))
     (source.kit / "fails").unlink()
     source.run()
     scene.check("what was left", sorted(source.calls()), sorted({"bpftap", "middle", "other"} - {*beside}))
@@ -200,6 +228,19 @@ def a_killed_check_is_tried_again(scene):
 
 
 @case
+def behind_a_kill_nothing_runs_beside(scene):
+    """What was killed is tried again when all others have ended."""
+    source = Source(scene)
+    (source.kit / "dies").write_text("other")
+    (source.kit / "takes").write_text("middle")
+    source.run()
+    spans = source.noted("spans")
+    again = len(spans) - spans[::-1].index("+ other")
+    scene.check("ended before", "- middle" in spans[:again], True)
+    scene.check("beside it", spans[again], "- other")
+
+
+@case
 def an_edit_meanwhile_is_not_kept(scene):
     """A crate whose source changes while it is proved is told and not kept: the next call proves it."""
     source = Source(scene)
@@ -212,6 +253,89 @@ def an_edit_meanwhile_is_not_kept(scene):
     scene.check("the next call", ("middle" in (calls := source.calls()), calls[-1]), (True, "bpftap"))
 
 
+@case
+def an_edit_before_is_not_proved(scene):
+    """A crate whose source changes before its turn is told, and its proof is not begun."""
+    source = Source(scene)
+    script = (source.kit / "bin" / "rattle").read_text()
+    (source.kit / "bin" / "rattle").write_text(script + '[ "$3" = low ] && echo "// edited" >>../bpftap/src/main.rt\n:\n')
+    seen = source.run()
+    scene.check("told, and the status", (b"bpftap was edited meanwhile" in seen.err, seen.status), (True, 1))
+    scene.check("calls", sorted(source.calls()), ["low", "middle", "other"])
+
+
+@case
+def what_an_editor_keeps_is_no_source(scene):
+    """Hidden files and copies beside the sources have nothing proved again, also by the launcher."""
+    source = Source(scene)
+    source.run()
+    source.calls()
+    program = source.program()
+    os.utime(program, (time.time() + 5,) * 2)
+    for name in [".lib.rt.swp", ".#lib.rt", "#lib.rt#", "lib.rt~", ".hidden.rt"]:
+        (source.src("low") / name).write_text("kept\n")
+        os.utime(source.src("low") / name, (time.time() + 10,) * 2)
+    was = program.stat().st_mtime_ns
+    scene.check("by the launcher", (source.run(program="bpftap").err, program.stat().st_mtime_ns, source.calls()), (b"", was, []))
+    scene.check("by the build", (source.run(), source.calls()), (Seen(b"", b"", 0), []))
+
+
+@case
+def the_longest_chain_goes_first(scene):
+    """On one processor the longer of two crates is proved first. The last crate, with nothing beside it, gets all processors, four at most."""
+    source = Source(scene)
+    (source.src("other") / "lib.rt").write_text("// other\n" * 50)
+    source.run(preexec_fn=on_one_processor)
+    scene.check("the longer one first", source.calls(), ["low", "other", "middle", "bpftap"])
+    (source.src("bpftap") / "main.rt").write_text("// another\n")
+    source.noted("words")
+    lanes = min(4, int(source.run("--lanes").out))
+    source.run()
+    scene.check("jobs", [words.partition(" --jobs ")[2].split()[0] for words in source.noted("words")], [str(lanes)])
+
+
+@case
+def what_crates_stand_on_is_seen(scene):
+    """Behind an edit of crates.txt a crate that stands on another one is proved again, by the launcher too."""
+    source = Source(scene)
+    source.run()
+    source.calls()
+    (source.folder / "crates.txt").write_text(CRATES.replace("other: low", "other: low thiserror"))
+    scene.check("status", source.run(program="bpftap").status, 7)
+    scene.check("calls", source.calls(), ["other", "bpftap"])
+
+
+@case
+def crates_of_tests_are_no_part_of_the_program(scene):
+    """Behind an edit of a crate of tests the launcher calls the program as it is."""
+    source = Source(scene)
+    source.run()
+    program = source.program()
+    was = program.stat().st_mtime_ns
+    source.src("low_tests").mkdir(parents=True)
+    (source.src("low_tests") / "lib.rt").write_text("// tests\n")
+    os.utime(source.src("low_tests") / "lib.rt", (time.time() + 10,) * 2)
+    scene.check("called", (source.run(program="bpftap").err, program.stat().st_mtime_ns), (b"", was))
+
+
+@case
+def the_program_is_as_old_as_its_build(scene):
+    """What is edited while the program is built is newer than it: it is older than the first crate that was proved for it."""
+    source = Source(scene)
+    source.run()
+    scene.check("older", source.program().stat().st_mtime_ns < (source.folder / "out" / "build" / "low.key").stat().st_mtime_ns, True)
+
+
+@case
+def a_long_proof_is_told_each_minute(scene):
+    """Here each third of a second, by a script that differs in that number."""
+    source = Source(scene)
+    script = (ROOT / "build").read_text()
+    (source.folder / "build").write_text(script.replace("told >= 60", "told >= 0.3"))
+    (source.kit / "takes").write_text("low")
+    scene.check("told", b"bpftap: building: still at low (0 min so far)\n" in source.run().err, True)
+
+
 def ends(process):
     """Whether a process is gone, or goes before long."""
     for _ in range(100):
@@ -221,14 +345,15 @@ def ends(process):
     return False
 
 
-def waits(source, program, ignored=None):
-    """A build that waits at its last crate, in a session of its own, with a signal that is ignored as under nohup, and no other one,
-    whatever these tests themselves run under."""
+def waits(source, program, ignored=None, crate="bpftap"):
+    """A build on one processor that waits at a crate, in a session of its own, with a signal that is ignored as under nohup, and no
+    other one, whatever these tests themselves run under."""
     def handle():
+        on_one_processor()
         for number in (signal.SIGINT, signal.SIGTERM, signal.SIGHUP):
             signal.signal(number, signal.SIG_IGN if number == ignored else signal.SIG_DFL)
 
-    (source.kit / "waits").write_text("bpftap")
+    (source.kit / "waits").write_text(crate)
     process = subprocess.Popen(
         [source.folder / program], env=source.environment(), stdin=subprocess.DEVNULL, stderr=subprocess.PIPE, start_new_session=True,
         preexec_fn=handle)
@@ -264,6 +389,39 @@ def an_interrupted_build_goes_on(scene):
         scene.check(f"the next call behind {number.name}", (source.run().status, source.calls()), (0, ["bpftap"]))
         shutil.rmtree(source.folder)
         shutil.rmtree(source.kit)
+
+
+@case
+def a_build_broken_off_keeps_nothing_above(scene):
+    """Where a library was gone and the build was broken off behind it, all that stands on it is proved again."""
+    source = Source(scene)
+    source.run()
+    shutil.rmtree(source.folder / "out" / "build" / "low.rlib")
+    process, check = waits(source, "build", crate="middle")
+    os.killpg(process.pid, signal.SIGTERM)
+    process.communicate(timeout=LIMIT)
+    (source.kit / "waits").unlink()
+    source.calls()
+    source.run()
+    scene.check("the next call", sorted(source.calls()), ["bpftap", "middle", "other"])
+
+
+@case
+def a_check_that_outlives_its_build_keeps_others_out(scene):
+    """Where a build is killed its check goes on, and the next build begins when that has ended."""
+    source = Source(scene)
+    process, check = waits(source, "build")
+    process.kill()
+    process.communicate(timeout=LIMIT)
+    (source.kit / "waits").unlink()
+    source.calls()
+    second = subprocess.Popen([source.folder / "build"], env=source.environment(), stdin=subprocess.DEVNULL, stderr=subprocess.PIPE)
+    time.sleep(0.5)
+    scene.check("waits", (second.poll(), source.calls()), (None, []))
+    os.kill(int(check), signal.SIGTERM)
+    told = second.communicate(timeout=LIMIT)[1].splitlines()
+    scene.check("told", told[0], b"bpftap: building: waiting for another build in this folder")
+    scene.check("and then", (second.returncode, source.calls()), (0, ["bpftap"]))
 
 
 @case
@@ -309,10 +467,10 @@ def the_launcher_runs_the_program(scene):
     scene.check("built and called", (first.out, first.status, b"4 of 4 crates" in first.err), (line, 7, True))
     scene.check("called again", source.run("a b", "-c", program="bpftap"), Seen(line, b"", 7))
     source.calls()
-    (source.folder / "crates" / "middle" / "src" / "lib.rt").write_text("// newer\n")
+    (source.src("middle") / "lib.rt").write_text("// newer\n")
     source.run(program="bpftap")
     scene.check("built again", source.calls(), ["middle", "bpftap"])
-    program = source.folder / "crates" / "bpftap" / "out" / "bpftap"
+    program = source.program()
     program.write_text("#!/bin/sh\necho another one\n")
     os.utime(program, (0, 0))
     scene.check("another program in its place", (source.run(program="bpftap").out, source.calls()), (f"here: {scene.folder}, words: \n".encode(), []))
@@ -325,6 +483,7 @@ def one_crate_is_checked(scene):
     seen = source.run("--check", "middle", "--only", "middle::f")
     scene.check("printed, and the status", (b"--progress --only middle::f --jobs" in seen.out, seen.status), (True, 0))
     scene.check("calls", source.calls(), ["low", "check middle"])
+    scene.check("jobs that are given", source.run("--check", "middle", "--jobs", "3").out.count(b"--jobs"), 1)
 
 
 @case
@@ -347,9 +506,14 @@ def wrong_words_are_refused(scene):
     source = Source(scene)
     scene.check("no such crate", source.run("none"), Seen(b"", b"bpftap: crates.txt has no crate none\n", 1))
     seen = source.run("-x")
-    scene.check("no such option", (seen.out, b"./build NAME.." in seen.err, seen.status), (b"", True, 2))
+    scene.check("no such option", (seen.out, seen.err.splitlines()[-1], seen.status), (b"", b"./build: error: unrecognized arguments: -x", 2))
+    for words in [("--check",), ("--test",), ("--test", "low", "middle"), ("low", "--check", "low"), ("--lanes", "low")]:
+        seen = source.run(*words)
+        scene.check(f"words {words}", (seen.out, b"./build: error: " in seen.err, seen.status), (b"", True, 2))
     seen = source.run("--help")
     scene.check("help", (b"./build NAME.." in seen.out, seen.err, seen.status), (True, b"", 0))
     seen = source.run(env={"PATH": "/usr/bin:/bin"})
     scene.check("no toolchain", seen, Seen(b"", b"bpftap: the toolchain's command 'rt' is not on the PATH\n", 1))
+    (source.kit / "bin" / "rt").write_text("#!/bin/sh\nexit 3\n")
+    scene.check("a broken toolchain", source.run(), Seen(b"", b"bpftap: the toolchain's command 'rt version' failed\n", 1))
     scene.check("calls", source.calls(), [])

@@ -101,6 +101,13 @@ REFUSED = [
     ("", "arrive\narrive\r\n", [b""], "Script 2"),
     (b"32 64\n32 64 \xff\n", "", [b""], "Listeners 2"),
     ("32 64 tcp", b"read \xff", [b""], "Script 1"),
+    # Each way in which a line has not its form
+    *(("", script, [b""], f"Script {line}") for script, line in [
+        ("arrives\n", 1), ("arrive\narrive \n", 2), ("arrive\r\n", 1), ("\n", 1), ("read\n", 1), ("read  0\n", 1), ("read +0\n", 1),
+        ("close 4294967296\n", 1), ("flush 0 \n", 1)]),
+    *((listeners, "", [b""], f"Listeners {line}") for listeners, line in [
+        ("262145 96\n", 1), ("32 64\n32 \n", 2), ("32 64 tcp\n\n", 2), ("32  64\n", 1), ("32 18446744073709551616\n", 1), ("32 64I\n", 1),
+        ("32 i\n", 1), ("-1 64\n", 1)]),
     # Too many listeners, whatever else is wrong, and as many as may be
     ("32 64\n" * 64 + "32 64", "arrive", [HEADER], "TooMany"),
     ("32 64\n" * 64 + "32 64", "read 65", [HEADER], "TooMany"),
