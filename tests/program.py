@@ -7,8 +7,8 @@
 
   BPFTAP=bpftap tests/program.py    tests another program in place of the repository's own: a path, or a word of the PATH
 
-The last line is `N passed, M failed`; the status is 1 where something failed. Each case runs in a folder of its own, and as many
-side by side as there are processors, 4 at most.
+The last line is `N passed, M failed`; the status is 1 where something failed. What wants a tool that is not here is not tried, and
+that is told. Each case runs in a folder of its own, and as many side by side as there are processors, 4 at most.
 """
 import argparse
 import concurrent.futures
@@ -48,26 +48,27 @@ LANES = min(4, len(os.sched_getaffinity(0)))
 
 
 def run_case(name, number, folder):
-    """Runs a case of a group in a folder of its own. How much passed, and a line of each failure; a case that breaks off is one."""
+    """Runs a case of a group in a folder of its own. How much passed, a line of each failure, of which a case that breaks off is one, and
+    why something was not tried."""
     folder.mkdir(parents=True)
     scene = Scene(folder)
     try:
         CASES[name][number](scene)
     except Exception:
         scene.failures.append(traceback.format_exc().rstrip())
-    return scene.passed, scene.failures
+    return scene.passed, scene.failures, scene.untried
 
 
 def run_groups(groups):
-    """Runs groups, each case in a temporary folder, and prints what failed. How much passed, and how much did not."""
+    """Runs groups, each case in a temporary folder, and prints what failed or was not tried. How much passed, and how much did not."""
     passed = failed = 0
     with tempfile.TemporaryDirectory() as top, concurrent.futures.ProcessPoolExecutor(LANES) as pool:
         started = [
             (name, one.__name__, pool.submit(run_case, name, number, pathlib.Path(top) / name / one.__name__))
             for name in groups for number, one in enumerate(CASES[name])]
         for name, case, done in started:
-            good, failures = done.result()
-            for line in failures:
+            good, failures, untried = done.result()
+            for line in [*failures, *(f"not tried: {why}" for why in dict.fromkeys(untried))]:
                 print(f"{name}, {case}: {line}")
             passed += good
             failed += len(failures)

@@ -96,12 +96,23 @@ class Seen:
 
 
 class Scene:
-    """The folder that a case runs in, and what was found there: how much as wanted, and lines of what was not."""
+    """The folder that a case runs in, and what was found there: how much as wanted, lines of what was not, and of what was not tried."""
 
     def __init__(self, folder):
         self.folder = folder
         self.passed = 0
         self.failures = []
+        self.untried = []
+
+    def has(self, *tools):
+        """Whether these tools are on the PATH; if not, it is told that something is not tried."""
+        missing = [tool for tool in tools if not shutil.which(tool)]
+        if missing:
+            self.leave(f"{', '.join(missing)} can't be found")
+        return not missing
+
+    def leave(self, why):
+        self.untried.append(why)
 
     def check(self, what, seen, wanted):
         if seen == wanted:

@@ -2,7 +2,6 @@
 import os
 import pty
 import select
-import shutil
 import subprocess
 import time
 
@@ -115,6 +114,6 @@ def a_terminal_completes(scene):
 def their_shells_read_them(scene):
     """Each of bash, fish and zsh that is there finds no fault in its file."""
     for shell, name in [("bash", "bpftap.bash"), ("fish", "bpftap.fish"), ("zsh", "_bpftap")]:
-        if shutil.which(shell):
+        if scene.has(shell):
             done = subprocess.run([shell, "-n", str(FOLDER / name)], capture_output=True, timeout=LIMIT)
             scene.check(f"{shell} -n {name}", (done.stdout, done.stderr, done.returncode), (b"", b"", 0))

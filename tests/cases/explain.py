@@ -1,5 +1,4 @@
 """`bpftap explain`, `check -x` and `cut -c`: what decided of each packet, one packet in full, and counts."""
-import shutil
 import subprocess
 
 from .common import ALL, ARP_RECORD, HEADER, IP, IP_RECORD, TCP_RECORD, TORN, UDP_RECORD, VETH, WHOLE, case, told
@@ -78,7 +77,7 @@ def the_counts_are_those_of_cut(scene):
 @case
 def a_listing_of_tcpdump_is_explained(scene):
     """A program of tcpdump accepts the packets that the expression accepts here, and is printed as tcpdump prints it."""
-    if shutil.which("tcpdump") is None:
+    if not scene.has("tcpdump"):
         return
     for expr in ("udp port 53 or arp", "tcp[13] & 2 != 0"):
         numbers, names = (

@@ -185,16 +185,17 @@ def pages_are_well_formed(scene):
     for page in PAGES:
         found = [name for name in re.findall(r"^\.Sh (.*)$", page.read_text(), re.M) if name in SECTIONS]
         scene.check(f"sections of {page.name}", found, SECTIONS)
-        scene.check(f"complaints of {page.name}", complaints(page), [])
+        scene.check(f"complaints of {page.name}", complaints(scene, page), [])
 
 
-def complaints(page):
+def complaints(scene, page):
     """What is wrong with a page. That a page which it names is not installed here is no fault of it."""
     if shutil.which("mandoc"):
         words = ["mandoc", "-Tlint", str(page)]
     elif shutil.which("man"):
         words = ["man", "--warnings", "-l", "-Tutf8", "-Z", str(page)]
     else:
+        scene.leave("there is neither mandoc nor man")
         return []
     done = subprocess.run(words, stdin=subprocess.DEVNULL, capture_output=True, text=True, timeout=LIMIT)
     lines = (done.stdout if words[0] == "mandoc" else done.stderr).splitlines()

@@ -83,8 +83,7 @@ def refusals(folder, words, which):
 def sweep(scene, commands, which):
     """For each of some commands its runs, several commands at a time."""
     if not can_trace():
-        print("memory: a case is not tried, since strace can't trace here")
-        return
+        return scene.leave("strace can't trace here")
     with concurrent.futures.ThreadPoolExecutor(4) as pool:
         started = [pool.submit(refusals, scene.folder / str(number), words, which) for number, words in enumerate(commands)]
         for words, one in zip(commands, started):

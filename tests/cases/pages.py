@@ -1,7 +1,6 @@
 """The pages: their commands behind a `$` print what stands below them, and their links lead somewhere."""
 import os
 import re
-import shutil
 import subprocess
 
 from .common import LIMIT, PROGRAM, ROOT, case
@@ -63,7 +62,7 @@ def program_and_pages_name_one_logic(scene):
     scene.check(f"a logic in {said}", logic is not None, True)
     for name in ["README.md", "docs/PROMISES.md"]:
         scene.check(f"{logic[1]} in {name}", f"in the {logic[1]}," in (ROOT / name).read_text(), True)
-    if shutil.which("rt"):
+    if scene.has("rt"):
         kit = subprocess.run(["rt", "version"], stdout=subprocess.PIPE, text=True, timeout=LIMIT)
         scene.check("the toolchain's", kit.stdout.partition(" ")[2].strip(), logic[1])
 

@@ -353,7 +353,7 @@ def threads_that_wait_are_woken(scene):
     milliseconds alone, so it is the calls of the system that show it, where `strace` is there. On a processor that others
     use a thread may find something to do before it waits, so it is tried five times at most."""
     if shutil.which("strace") is None or subprocess.run(["strace", "-o", os.devnull, "true"], capture_output=True).returncode != 0:
-        return
+        return scene.leave("strace can't trace here")
     scene.start({"listeners.txt": "0 1 0 1048576 2 out.pcap\n"})
     os.mkfifo(scene.folder / "fifo")
     for _ in range(5):
@@ -406,7 +406,7 @@ def unread(pipe):
 def each_thread_is_refused_in_turn(scene):
     """Where a thread of a run is refused, that alone is told, nothing is read of IN, and there is no OUT; else all is written."""
     if os.geteuid() != 0:
-        return
+        return scene.leave("only root can limit a user's threads")
     program = PROGRAM if PROGRAM != str(ROOT / "bpftap") else ROOT / "crates" / "bpftap" / "out" / "bpftap"
     shutil.copy(program, scene.folder / "bpftap")
     for folder in [scene.folder, scene.folder.parent]:
