@@ -232,7 +232,7 @@ def handover_program(folder):
 
 
 def replay_program(folder):
-    below = ["savefile", "bpfvm", "listener", "handover", "tasks", "replay"]
+    below = ["savefile", "bpfvm", "listener", "handover", "replay_types", "replay"]
     return built(folder, "replay", below, {"main.txt": "src/main.rt"})
 
 

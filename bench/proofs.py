@@ -36,7 +36,7 @@ def checked(build, name, folder):
     """Checks a crate from nothing, and keeps in this folder what is checked."""
     with build.locked() as lock:
         crate, kit, below = build.above_built(name, lock)
-    words = [*crate.words(kit, below), *(["--test"] if name.endswith("_tests") else [])]
+    words = [*crate.words(kit, below), *(["--test"] if name.startswith("test_") else [])]
     done = subprocess.run(kit.rattle("check", *words, "--incremental", folder, "--jobs", "1"),
                           cwd=crate.folder, stdout=subprocess.PIPE, stderr=subprocess.STDOUT, text=True)
     if done.returncode:

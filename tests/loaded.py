@@ -1,7 +1,7 @@
 #!/usr/bin/env python3
 """Runs the tests of threads again and again under load: beside a busy loop on each processor, all of it under `nice`.
 
-  tests/loaded.py [ROUNDS]          20 rounds of each test of listener_tests, replay_tests and thread_tests
+  tests/loaded.py [ROUNDS]          20 rounds of each test of test_listener, test_replay and test_thread
   tests/loaded.py --built [ROUNDS]  the same of those that `./test` has built
 
 Without --built they are proved and built first, over what `./build` keeps. The last line is `N passed, M failed`.
@@ -15,7 +15,7 @@ import subprocess
 import sys
 
 ROOT = pathlib.Path(__file__).resolve().parent.parent
-CRATES = ["listener_tests", "replay_tests", "thread_tests"]
+CRATES = ["test_listener", "test_replay", "test_thread"]
 LIMIT = 120
 
 

@@ -312,9 +312,9 @@ def crates_of_tests_are_no_part_of_the_program(scene):
     source.run()
     program = source.program()
     was = program.stat().st_mtime_ns
-    source.src("low_tests").mkdir(parents=True)
-    (source.src("low_tests") / "lib.rt").write_text("// tests\n")
-    os.utime(source.src("low_tests") / "lib.rt", (time.time() + 10,) * 2)
+    source.src("test_low").mkdir(parents=True)
+    (source.src("test_low") / "lib.rt").write_text("// tests\n")
+    os.utime(source.src("test_low") / "lib.rt", (time.time() + 10,) * 2)
     scene.check("called", (source.run(program="bpftap").err, program.stat().st_mtime_ns), (b"", was))
 
 

@@ -279,7 +279,7 @@ def the_page_has_the_faults_of_the_sources(scene):
     """Each name of a fault in the sources stands on the page, but for those that no command tells."""
     named = {word for row in rows() for word in row.line.split()}
     for path in sorted((ROOT / "crates").glob("*/src/*.rt")):
-        if "_tests" not in str(path):
+        if "/crates/test_" not in str(path):
             names = set(re.findall(r'#\[error\("([A-Z]\w+)', path.read_text()))
             scene.check(f"faults of {path.relative_to(ROOT)}", names - named - UNTOLD, set())
 

@@ -112,7 +112,7 @@ def public_items_stand_on_their_pages(scene):
     """Each public item of each library is named on the library's page."""
     for lib in sorted(ROOT.glob("crates/*/src/lib.rt")):
         crate = lib.parent.parent
-        if crate.name.endswith("_tests"):
+        if crate.name.startswith("test_") and crate.name != "test_fixtures":
             continue
         named = set(re.findall(r"\w+", (crate / "README.md").read_text()))
         scene.check(f"items of {crate.name} that its page has not", sorted(set(public_items(crate)) - named), [])
@@ -123,7 +123,7 @@ def contributors_are_told_each_group(scene):
     """CONTRIBUTING names each group of cases and each crate of tests."""
     told = set(re.findall(r"`(\w+)`", (ROOT / "CONTRIBUTING.md").read_text()))
     groups = {page.stem for page in (ROOT / "tests" / "cases").glob("*.py")} - {"__init__", "common"}
-    tests = {page.name for page in ROOT.glob("crates/*_tests")}
+    tests = {page.name for page in ROOT.glob("crates/test_*")}
     scene.check("groups and crates that it has not", sorted((groups | tests) - told), [])
 
 

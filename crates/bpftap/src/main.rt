@@ -3,12 +3,12 @@
 
 mod program;
 
-use hints::ErrorStream;
-use lines::telling::tell_words;
+use cli_args::command_line::asks_hints;
+use cli_report::ErrorStream;
+use cli_text::telling::tell_words;
 use std::io::IsTerminal;
 use std::process::ExitCode;
 use std::{env, io};
-use words::command_line::asks_hints;
 
 /// The words that the program was called with.
 fn words(rt: &HostRuntime) -> io::Result<Vec<String>> {

@@ -4,23 +4,23 @@ ghost use Rattle.std.specs.Prelude.{◌≤◌};
 
 use clap::Error;
 use clap::error::ErrorKind;
-use commands::check_files::check_files;
-use commands::cut_files::cut_files;
-use commands::explain_files::explain_files;
-use files::late::hold_stream;
-use hints::TakesHints;
-use hints::quotes::hint_unquoted;
-use running_files::run_files::{NamesFiles, run_files};
-use splitting_files::split_files::split_files;
+use cli_args::command_line::{Request, read_words};
+use cli_args::telling::tell_words_fault;
+use cli_cut::check_files::check_files;
+use cli_cut::cut_files::cut_files;
+use cli_explain::explain_files::explain_files;
+use cli_files::late::hold_stream;
+use cli_filter_hints::quotes::hint_unquoted;
+use cli_report::TakesHints;
+use cli_run::run_files::{NamesFiles, run_files};
+use cli_split::split_files::split_files;
+use cli_steps::steps_files::steps_files;
 use std::alloc::Global;
 use std::convert::AsStr;
 use std::fs::Files;
 use std::io::Write;
 use std::sync::Wait;
 use std::thread::Threads;
-use stepping_files::steps_files::steps_files;
-use words::command_line::{Request, read_words};
-use words::telling::tell_words_fault;
 
 /// Runs the command that the words ask for, the program's name first. What was asked for goes to `out`, faults go to
 /// `err`, and the exit status comes back.

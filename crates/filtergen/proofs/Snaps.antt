@@ -1,11 +1,11 @@
 -- What a refusal says of a tree.
 use Rattle.std.proofs.Common.{◌≡◌, ℕ, zero, suc, ◌<◌, ◌⊎◌, inl, inr, refl, arith}
 use Rattle.std.proofs.lemmas.Bool.{cases_lt}
-use Rattle.syntax.specs.Trees.{Tree}
-use Rattle.analysis.specs.Weights.{need, weight}
-use Rattle.generation.specs.Compiling.{Fits, IsBadSnap, IsRightSnap}
-use Rattle.generation.specs.declared.refusal.Refusal.{Refusal}
-use Rattle.generation.specs.declared.refusal.Refusal.TheVariants.{TooLong, TooDeep, BadSnap, NoMemory}
+use Rattle.filter_tree.specs.Trees.{Tree}
+use Rattle.filtergen_facts.specs.Weights.{need, weight}
+use Rattle.filtergen.specs.Compiling.{Fits, IsBadSnap, IsRightSnap}
+use Rattle.filtergen_facts.specs.declared.refusal.Refusal.{Refusal}
+use Rattle.filtergen_facts.specs.declared.refusal.Refusal.TheVariants.{TooLong, TooDeep, BadSnap, NoMemory}
 
 -- a snapshot length is out of range or right
 pub bad_or_right : (snap : ℕ) → IsBadSnap snap ⊎ IsRightSnap snap

@@ -2,15 +2,15 @@
 
 ghost use Rattle.std.specs.Prelude.{◌≡◌, ◌<◌, ◌≤◌, ◌↔◌, length, IfOk, IfErr, IsErr, IsErrOf, IsOkUnless};
 ghost use Rattle.filterlang.specs.Texts.{ReadsAs};
-ghost use Rattle.syntax.specs.Trees.{Tree};
-ghost use Rattle.analysis.specs.Weights.{need};
-ghost use Rattle.generation.specs.Compiling.{Fits, IsBadSnap};
-ghost use Rattle.trimming.specs.Reaching.{IsAllReached};
+ghost use Rattle.filter_tree.specs.Trees.{Tree};
+ghost use Rattle.filtergen_facts.specs.Weights.{need};
+ghost use Rattle.filtergen.specs.Compiling.{Fits, IsBadSnap};
+ghost use Rattle.filtergen_trim.specs.Reaching.{IsAllReached};
 ghost use Rattle.filtergen.specs.Expressions.{IsProgramOf, IsUncompiled};
 
+use crate::{Refusal, compile};
 use bpfvm::Program;
 use filterlang::{Fault, parse};
-use generation::{Refusal, compile};
 use std::alloc::Global;
 use thiserror::Error;
 

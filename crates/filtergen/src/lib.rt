@@ -6,9 +6,20 @@
 //! [`compile_text`] reads the text too, and takes memory for its tree.
 #![tactic(auto)]
 
+mod among;
+mod arithmetic;
+mod behind;
+mod code;
+mod compiler;
 mod expression;
+mod insns;
+mod listed;
+mod primitives;
+mod relations;
+mod values;
+mod ways;
 
-pub use analysis::{MAX_NEED, MAX_WEIGHT, need, weight};
+pub use compiler::{MAX_SNAP, compile};
 pub use expression::{ExpressionFault, compile_text};
-pub use generation::{MAX_SNAP, Refusal, compile};
-pub use semantics::{Verdict, evaluate, value_of};
+pub use filter_meaning::{Verdict, evaluate, value_of};
+pub use filtergen_facts::{MAX_NEED, MAX_WEIGHT, Refusal, need, weight};

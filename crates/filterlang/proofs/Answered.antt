@@ -5,11 +5,11 @@ use Rattle.filterlang.specs.declared.fault.Fault.{Fault}
 use Rattle.filterlang.specs.declared.fault.Fault.TheVariants as faults
 use Rattle.filterlang.specs.declared.lexer.TheConstants.{MAX_TEXT}
 use Rattle.filterlang.specs.declared.token.Token.{Token}
-use Rattle.syntax.specs.declared.tree.Expr.{Expr}
+use Rattle.filter_tree.specs.declared.tree.Expr.{Expr}
 use Rattle.filterlang.specs.Tokens.{Lexes}
 use Rattle.std.proofs.lemmas.Option.{same_Some}
 use Rattle.filterlang.specs.Phrases.{kinds}
-use Rattle.syntax.specs.Trees.{Tree, tree_of}
+use Rattle.filter_tree.specs.Trees.{Tree, tree_of}
 use Rattle.filterlang.specs.Readers.{Gives}
 use Rattle.filterlang.specs.Reading.{text_at}
 use Rattle.filterlang.specs.Texts.{is_misreading, ReadsAs, IsRefusalOf, HasNoTree}

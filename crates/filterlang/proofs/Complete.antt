@@ -6,14 +6,14 @@ use Rattle.filterlang.specs.declared.token.Kind.{Kind}
 use Rattle.filterlang.specs.declared.token.Kind.TheVariants as kind
 use Rattle.filterlang.specs.declared.token.Joint.{Joint}
 use Rattle.filterlang.specs.declared.token.Joint.TheVariants.{And, Or}
-use Rattle.syntax.specs.declared.tree.Primitive.{Primitive}
+use Rattle.filter_tree.specs.declared.tree.Primitive.{Primitive}
 use Rattle.filterlang.specs.declared.phrases.qualifiers.Qualifiers.{Qualifiers}
 use Rattle.filterlang.specs.declared.phrases.qualifiers.Identifier.{Identifier}
 use Rattle.filterlang.specs.declared.parser.Start.{Start}
 use Rattle.filterlang.specs.declared.parser.Start.TheVariants as starts
 use Rattle.filterlang.specs.Phrases.{identifier_at}
 use Rattle.filterlang.specs.Qualifiers.{identified}
-use Rattle.syntax.specs.Trees.{Tree, test, relation}
+use Rattle.filter_tree.specs.Trees.{Tree, test, relation}
 use Rattle.filterlang.specs.Grammar.{begins_relation, Group, group_one, group_and, group_or, GroupTerm, group_not, group_open, group_id, Expression, expr_one, expr_and, expr_or, Term, term_not, term_open, term_prim, term_group, term_relation, Reads, reads_nothing, reads_expr}
 use Rattle.filterlang.specs.Readers.{◌>>=◌, Reader, nothing, chain, closed}
 use Rattle.filterlang.specs.ValueReading.{relation_at}

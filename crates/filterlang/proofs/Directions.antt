@@ -4,7 +4,7 @@ use Rattle.filterlang.specs.declared.token.Kind.{Kind}
 use Rattle.filterlang.specs.declared.token.Kind.TheVariants as kind
 use Rattle.filterlang.specs.declared.token.Joint.{Joint}
 use Rattle.filterlang.specs.declared.token.Side.{Side}
-use Rattle.syntax.specs.declared.tree.Direction.{Direction}
+use Rattle.filter_tree.specs.declared.tree.Direction.{Direction}
 use Rattle.filterlang.specs.Phrases.{joined, longest, one_side, direction_at}
 use Rattle.filterlang.specs.Readers.{◌>>=◌}
 use Rattle.filterlang.specs.Reading.{side_at, joined_at}

@@ -7,12 +7,12 @@ use Rattle.filterlang.specs.declared.token.TypeWord.TheVariants as types
 use Rattle.filterlang.specs.declared.token.Side.TheVariants as side
 use Rattle.filterlang.specs.declared.token.Parts.TheVariants.{Four}
 use Rattle.filterlang.specs.declared.token.Joint.TheVariants.{And, Or}
-use Rattle.syntax.specs.declared.tree.Primitive.TheVariants as primitives
-use Rattle.syntax.specs.declared.tree.Transport.TheVariants as transports
-use Rattle.syntax.specs.declared.tree.Direction.TheVariants.{Dst, SrcOrDst}
-use Rattle.syntax.specs.declared.tree.Comparison.TheVariants.{Equal}
-use Rattle.syntax.specs.declared.tree.Operator.TheVariants.{BitAnd, BitXor}
-use Rattle.syntax.specs.Trees.{test, relation, number, binary, negation, both, either}
+use Rattle.filter_tree.specs.declared.tree.Primitive.TheVariants as primitives
+use Rattle.filter_tree.specs.declared.tree.Transport.TheVariants as transports
+use Rattle.filter_tree.specs.declared.tree.Direction.TheVariants.{Dst, SrcOrDst}
+use Rattle.filter_tree.specs.declared.tree.Comparison.TheVariants.{Equal}
+use Rattle.filter_tree.specs.declared.tree.Operator.TheVariants.{BitAnd, BitXor}
+use Rattle.filter_tree.specs.Trees.{test, relation, number, binary, negation, both, either}
 use Rattle.filterlang.specs.Values.{Arith, arith_number, arith_tighter, arith_binary}
 use Rattle.filterlang.specs.Grammar.{Reads, reads_expr, expr_one, expr_and, expr_or, term_not, term_prim, term_group, term_relation, group_one, group_or, group_not, group_id, prim_phrase, prim_inherited}
 

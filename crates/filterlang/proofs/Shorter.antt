@@ -5,13 +5,13 @@ use Rattle.filterlang.specs.declared.token.Kind.{Kind}
 use Rattle.filterlang.specs.declared.token.Kind.TheVariants as kind
 use Rattle.filterlang.specs.declared.token.Parts.{Parts}
 use Rattle.filterlang.specs.declared.token.Side.{Side}
-use Rattle.syntax.specs.declared.tree.Operator.TheVariants.{Divide, Minus}
-use Rattle.syntax.specs.declared.tree.Direction.{Direction}
-use Rattle.syntax.specs.declared.tree.Primitive.{Primitive}
+use Rattle.filter_tree.specs.declared.tree.Operator.TheVariants.{Divide, Minus}
+use Rattle.filter_tree.specs.declared.tree.Direction.{Direction}
+use Rattle.filter_tree.specs.declared.tree.Primitive.{Primitive}
 use Rattle.filterlang.specs.declared.phrases.qualifiers.Phrase.{Phrase}
 use Rattle.filterlang.specs.declared.phrases.qualifiers.Qualifiers.{Qualifiers}
 use Rattle.filterlang.specs.Phrases.{protocol_at, type_at, longest, joined, direction_at, phrase_at, dotted_at, identifier_at}
-use Rattle.syntax.specs.Trees.{Tree}
+use Rattle.filter_tree.specs.Trees.{Tree}
 use Rattle.filterlang.specs.Grammar.{only_protocol, Prim, prim_plain, prim_broadcast, prim_ether_broadcast, prim_multicast, prim_ether_multicast, prim_ip_multicast, prim_less, prim_greater, prim_portrange, prim_phrase, prim_inherited, Group, group_one, group_and, group_or, GroupTerm, group_not, group_open, group_id, Expression, expr_one, expr_and, expr_or, Term, term_not, term_open, term_prim, term_group, term_relation}
 use Rattle.filterlang.specs.Reading.{group_term_at, joints, term_at}
 use Rattle.filterlang.specs.declared.phrases.qualifiers.Identifier.{Identifier}

@@ -11,7 +11,7 @@ use Rattle.filterlang.specs.declared.parser.Start.{Start}
 use Rattle.filterlang.specs.declared.parser.Start.TheVariants as starts
 use Rattle.filterlang.specs.Phrases.{identifier_at}
 use Rattle.filterlang.specs.Qualifiers.{identified}
-use Rattle.syntax.specs.Trees.{Tree, test, negation}
+use Rattle.filter_tree.specs.Trees.{Tree, test, negation}
 use Rattle.filterlang.specs.Grammar.{begins_relation, Group, group_one, group_and, group_or, GroupTerm, group_not, group_open, group_id, Expression, expr_one, expr_and, expr_or, Term, term_not, term_open, term_prim, term_group, term_relation, Reads, reads_nothing, reads_expr}
 use Rattle.filterlang.specs.Readers.{◌>>=◌, nothing, closed}
 use Rattle.filterlang.specs.ValueReading.{relation_at}

@@ -4,18 +4,18 @@ use Rattle.std.specs.Prelude.{min, max, IfSome, is_none, unwrap_or, if◌then◌
 use Rattle.std.proofs.lemmas.Option.{none-some}
 use Rattle.filterlang.specs.declared.token.Kind.{Kind}
 use Rattle.filterlang.specs.declared.token.Kind.TheVariants as kind
-use Rattle.syntax.specs.declared.tree.EthernetAddress.{EthernetAddress}
+use Rattle.filter_tree.specs.declared.tree.EthernetAddress.{EthernetAddress}
 use Rattle.filterlang.specs.declared.token.Protocol.{Protocol}
 use Rattle.filterlang.specs.declared.token.Protocol.TheVariants as protocols
 use Rattle.filterlang.specs.declared.token.TypeWord.{TypeWord}
-use Rattle.syntax.specs.declared.tree.Operator.TheVariants.{Minus}
+use Rattle.filter_tree.specs.declared.tree.Operator.TheVariants.{Minus}
 use Rattle.filterlang.specs.declared.token.Parts.{Parts}
-use Rattle.syntax.specs.declared.tree.Direction.{Direction}
-use Rattle.syntax.specs.declared.tree.Direction.TheVariants.{SrcOrDst}
-use Rattle.syntax.specs.declared.tree.Transport.{Transport}
-use Rattle.syntax.specs.declared.tree.Plain.{Plain}
-use Rattle.syntax.specs.declared.tree.Primitive.{Primitive}
-use Rattle.syntax.specs.declared.tree.Primitive.TheVariants as primitives
+use Rattle.filter_tree.specs.declared.tree.Direction.{Direction}
+use Rattle.filter_tree.specs.declared.tree.Direction.TheVariants.{SrcOrDst}
+use Rattle.filter_tree.specs.declared.tree.Transport.{Transport}
+use Rattle.filter_tree.specs.declared.tree.Plain.{Plain}
+use Rattle.filter_tree.specs.declared.tree.Primitive.{Primitive}
+use Rattle.filter_tree.specs.declared.tree.Primitive.TheVariants as primitives
 use Rattle.filterlang.specs.declared.phrases.qualifiers.Phrase.{Phrase}
 use Rattle.filterlang.specs.declared.phrases.qualifiers.Qualifiers.{Qualifiers}
 use Rattle.filterlang.specs.declared.phrases.qualifiers.Identifier.{Identifier}

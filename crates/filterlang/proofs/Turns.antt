@@ -7,7 +7,7 @@ use Rattle.filterlang.specs.declared.lookahead.Beginning.TheVariants as beginnin
 use Rattle.filterlang.specs.declared.phrases.qualifiers.Qualifiers.{Qualifiers}
 use Rattle.filterlang.specs.declared.parser.Start.{Start}
 use Rattle.filterlang.specs.declared.parser.Start.TheVariants as starts
-use Rattle.syntax.specs.Trees.{test}
+use Rattle.filter_tree.specs.Trees.{test}
 use Rattle.filterlang.specs.Grammar.{begins_relation}
 use Rattle.filterlang.specs.Readers.{◌>>=◌, nothing, deeper, closed}
 use Rattle.filterlang.specs.ValueReading.{relation_at}

@@ -4,11 +4,11 @@ use Rattle.std.specs.Prelude.{if◌then◌else◌}
 use Rattle.std.proofs.lemmas.Bool.{eq-eqb, ne_eqb}
 use Rattle.filterlang.specs.declared.token.Kind.{Kind}
 use Rattle.filterlang.specs.declared.token.Kind.TheVariants as kind
-use Rattle.syntax.specs.declared.tree.Comparison.{Comparison}
-use Rattle.syntax.specs.declared.tree.Operator.{Operator}
-use Rattle.syntax.specs.declared.tree.Operator.TheVariants.{Minus}
-use Rattle.syntax.specs.declared.tree.Size.{Size}
-use Rattle.syntax.specs.Trees.{Amount, number, wire_length, relation, binary, accessor}
+use Rattle.filter_tree.specs.declared.tree.Comparison.{Comparison}
+use Rattle.filter_tree.specs.declared.tree.Operator.{Operator}
+use Rattle.filter_tree.specs.declared.tree.Operator.TheVariants.{Minus}
+use Rattle.filter_tree.specs.declared.tree.Size.{Size}
+use Rattle.filter_tree.specs.Trees.{Amount, number, wire_length, relation, binary, accessor}
 use Rattle.filterlang.specs.Operators.{precedence_of, loosest, is_barred}
 use Rattle.filterlang.specs.Values.{Arith, arith_number, arith_named, arith_length, arith_minus, arith_open, arith_byte, arith_bytes, arith_tighter, arith_binary}
 use Rattle.filterlang.specs.Readers.{◌>>=◌, chain, closed}

@@ -3,8 +3,8 @@ use Rattle.std.proofs.Common.{ℕ, Bool, true, false, ◌<◌, ◌≤◌, List, 
 use Rattle.std.specs.Prelude.{◌==◌, IfSome, if◌then◌else◌}
 use Rattle.filterlang.specs.declared.token.Kind.{Kind}
 use Rattle.filterlang.specs.declared.token.Kind.TheVariants as kind
-use Rattle.syntax.specs.declared.tree.Operator.{Operator}
-use Rattle.syntax.specs.Trees.{Amount}
+use Rattle.filter_tree.specs.declared.tree.Operator.{Operator}
+use Rattle.filter_tree.specs.Trees.{Amount}
 use Rattle.filterlang.specs.Operators.{precedence_of}
 use Rattle.filterlang.specs.Values.{Arith, arith_number, arith_named, arith_length, arith_minus, arith_open, arith_byte, arith_bytes, arith_tighter, arith_binary}
 use Rattle.filterlang.specs.ValueReading.{operators, arith_at}

@@ -5,13 +5,13 @@ use Rattle.std.proofs.lemmas.Bool.{eqb-true}
 use Rattle.std.proofs.lemmas.Option.{same_Some}
 use Rattle.filterlang.specs.declared.token.Kind.{Kind}
 use Rattle.filterlang.specs.declared.token.Kind.TheVariants as kind
-use Rattle.syntax.specs.declared.tree.Comparison.{Comparison}
-use Rattle.syntax.specs.declared.tree.Operator.{Operator}
-use Rattle.syntax.specs.declared.tree.Operator.TheVariants.{Minus}
+use Rattle.filter_tree.specs.declared.tree.Comparison.{Comparison}
+use Rattle.filter_tree.specs.declared.tree.Operator.{Operator}
+use Rattle.filter_tree.specs.declared.tree.Operator.TheVariants.{Minus}
 use Rattle.filterlang.specs.declared.token.Protocol.{Protocol}
-use Rattle.syntax.specs.declared.tree.Layer.{Layer}
-use Rattle.syntax.specs.declared.tree.Size.{Size}
-use Rattle.syntax.specs.Trees.{Tree, Amount, relation, minus, binary, accessor}
+use Rattle.filter_tree.specs.declared.tree.Layer.{Layer}
+use Rattle.filter_tree.specs.declared.tree.Size.{Size}
+use Rattle.filter_tree.specs.Trees.{Tree, Amount, relation, minus, binary, accessor}
 use Rattle.filterlang.specs.Operators.{precedence_of, loosest, is_barred, layer_of, size_of}
 use Rattle.filterlang.specs.Values.{Arith, arith_number, arith_named, arith_length, arith_minus, arith_open, arith_byte, arith_bytes, arith_tighter, arith_binary}
 use Rattle.filterlang.specs.Readers.{◌>>=◌, nothing, chain, closed}

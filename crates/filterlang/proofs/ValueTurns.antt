@@ -2,10 +2,10 @@
 use Rattle.std.proofs.Common.{◌≡◌, ℕ, zero, suc, List, ◌∷◌, length, Option, Some, None, refl, sym, ap, subst, ◌<◌, ◌-◌, arith}
 use Rattle.filterlang.specs.declared.token.Kind.{Kind}
 use Rattle.filterlang.specs.declared.token.Kind.TheVariants as kind
-use Rattle.syntax.specs.declared.tree.Operator.TheVariants.{Minus}
-use Rattle.syntax.specs.declared.tree.Layer.{Layer}
+use Rattle.filter_tree.specs.declared.tree.Operator.TheVariants.{Minus}
+use Rattle.filter_tree.specs.declared.tree.Layer.{Layer}
 use Rattle.filterlang.specs.declared.lookahead.Opening.TheVariants as openings
-use Rattle.syntax.specs.Trees.{Amount}
+use Rattle.filter_tree.specs.Trees.{Amount}
 use Rattle.filterlang.specs.Operators.{loosest, layer_of}
 use Rattle.filterlang.specs.Readers.{◌>>=◌, nothing, chain, chained, closed, deeper}
 use Rattle.filterlang.specs.ValueReading.{operators, opening, leaf_at, bracketed, negative, arith_by, factor_at, arith_at, accessor_at}

@@ -9,7 +9,7 @@ use Rattle.filterlang.specs.Types.{Kind, Comparison, Protocol, And, Or, Minus, P
 use Rattle.filterlang.specs.Types.kind
 use Rattle.filterlang.specs.Types.protocols
 use Rattle.filterlang.specs.Types.primitives
-use Rattle.syntax.specs.Trees.{Tree, Amount, everything, test, relation, negation, both, either}
+use Rattle.filter_tree.specs.Trees.{Tree, Amount, everything, test, relation, negation, both, either}
 use Rattle.filterlang.specs.Phrases.{phrase_at, identifier_at}
 use Rattle.filterlang.specs.Operators.{loosest}
 use Rattle.filterlang.specs.Values.{Arith}

@@ -6,7 +6,7 @@ pub mod Finding
 pub mod Qualifiers
 pub mod Phrases
 pub mod Primitives
-pub use Rattle.syntax.specs.Trees
+pub use Rattle.filter_tree.specs.Trees
 pub mod Operators
 pub mod Values
 pub mod Grammar

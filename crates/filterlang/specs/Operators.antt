@@ -5,7 +5,7 @@ use Rattle.filterlang.specs.Types.operator
 use Rattle.filterlang.specs.Types.protocols
 use Rattle.filterlang.specs.Types.layers
 use Rattle.filterlang.specs.Types.sizes
-use Rattle.syntax.specs.Trees.{Amount, number}
+use Rattle.filter_tree.specs.Trees.{Amount, number}
 
 -- How loosely an operator binds, in C's order: of two the one with the lesser number takes its sides first.
 abbrev pub precedence_of : Operator → ℕ

@@ -12,7 +12,7 @@ use Rattle.filterlang.specs.Types.starts
 use Rattle.filterlang.specs.Phrases.{joined, phrase_at, identifier_at}
 use Rattle.filterlang.specs.Primitives.{plain_of, stands_alone}
 use Rattle.filterlang.specs.Qualifiers.{qualifiers_of, identified, transport_of, port_of}
-use Rattle.syntax.specs.Trees.{Tree, everything, test, negation, both, either}
+use Rattle.filter_tree.specs.Trees.{Tree, everything, test, negation, both, either}
 use Rattle.filterlang.specs.Grammar.{begins_relation, is_written}
 use Rattle.filterlang.specs.Readers.{◌>>=◌, Reader, nothing, Joining, chained, closed, deeper, bare_number_at}
 use Rattle.filterlang.specs.ValueReading.{relation_at}

@@ -4,7 +4,7 @@ use Rattle.filterlang.specs.Types.{Fault, Token, MAX_TEXT}
 use Rattle.filterlang.specs.Types.faults
 use Rattle.filterlang.specs.Tokens.{Lexes, IsFaultOf}
 use Rattle.filterlang.specs.Phrases.{kinds}
-use Rattle.syntax.specs.Trees.{Tree}
+use Rattle.filter_tree.specs.Trees.{Tree}
 use Rattle.filterlang.specs.Grammar.{Reads}
 
 -- a text reads as a tree where its tokens do

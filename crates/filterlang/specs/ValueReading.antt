@@ -4,7 +4,7 @@ use Rattle.std.specs.Prelude.{ℕ, zero, suc, ◌==◌, if◌then◌else◌, Lis
 use Rattle.filterlang.specs.Types.{Kind, Operator, Minus, Comparison, Layer, Size, One, Opening}
 use Rattle.filterlang.specs.Types.kind
 use Rattle.filterlang.specs.Types.openings
-use Rattle.syntax.specs.Trees.{Tree, Amount, number, wire_length, minus, binary, accessor, relation}
+use Rattle.filter_tree.specs.Trees.{Tree, Amount, number, wire_length, minus, binary, accessor, relation}
 use Rattle.filterlang.specs.Operators.{precedence_of, loosest, is_barred, layer_of, size_of}
 use Rattle.filterlang.specs.Readers.{◌>>=◌, Reader, nothing, Joining, chained, closed, deeper, bare_number_at}
 

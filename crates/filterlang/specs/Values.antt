@@ -6,7 +6,7 @@
 use Rattle.std.specs.Prelude.{◌≡◌, ℕ, suc, false, List, ◌∷◌, Some}
 use Rattle.filterlang.specs.Types.{Kind, Protocol, Operator, Minus, Layer, Size, One}
 use Rattle.filterlang.specs.Types.kind
-use Rattle.syntax.specs.Trees.{Amount, number, wire_length, minus, binary, accessor}
+use Rattle.filter_tree.specs.Trees.{Amount, number, wire_length, minus, binary, accessor}
 use Rattle.filterlang.specs.Operators.{precedence_of, loosest, is_barred, layer_of, size_of}
 
 pub data Arith : ℕ → ℕ → List Kind → Amount → List Kind → Type 0 where

@@ -14,7 +14,7 @@ use crate::phrases::qualifiers::{
 };
 use crate::phrases::{bare_number_at, begins_identifier, close_at, identifier_at, minus_at, next};
 use crate::token::{Kind, Token};
-use syntax::{Direction, Primitive};
+use filter_tree::{Direction, Primitive};
 
 /// The tokens of a text that are still to be read.
 #[derive(Drop)]

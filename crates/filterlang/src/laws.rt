@@ -8,7 +8,7 @@ ghost use Rattle.filterlang.specs.declared.token.Token.{Token};
 ghost use Rattle.filterlang.specs.declared.lexer.Cause.{Cause};
 ghost use Rattle.filterlang.specs.Words.{words, signs, stands, stands_whole, standing, whole_word};
 ghost use Rattle.filterlang.specs.Tokens.{Lexes, Stuck};
-ghost use Rattle.syntax.specs.Trees.{Tree};
+ghost use Rattle.filter_tree.specs.Trees.{Tree};
 ghost use Rattle.filterlang.specs.Grammar.{Reads};
 
 /// A text has one list of tokens at most.

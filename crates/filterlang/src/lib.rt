@@ -14,10 +14,10 @@ mod tree;
 mod values;
 
 pub use fault::Fault;
-pub use lexer::{Cause, MAX_TEXT, lex};
-pub use parser::parse;
-pub use syntax::{
+pub use filter_tree::{
     Comparison, Direction, EthernetAddress, Expr, Layer, Network, Operator, Plain, Primitive, Size,
     Transport, Value,
 };
+pub use lexer::{Cause, MAX_TEXT, lex};
+pub use parser::parse;
 pub use token::{Joint, Kind, Parts, Protocol, Side, Span, Token, TypeWord};

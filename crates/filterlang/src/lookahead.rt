@@ -8,7 +8,7 @@ ghost use Rattle.filterlang.specs.ValueReading.{opening};
 
 use crate::phrases::next;
 use crate::token::{Kind, Token};
-use syntax::Operator;
+use filter_tree::Operator;
 
 /// What the first token of a term says of it, where it is no relation.
 #[derive(Clone, Copy)]

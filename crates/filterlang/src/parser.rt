@@ -3,7 +3,7 @@
 ghost use Rattle.std.specs.Prelude.{◌≡◌, ◌≤◌, ◌<◌, ◌↔◌, ◌⊎◌, ℕ, length, None, IfOk, IfErr, IsErrOf, IsOkUnless};
 ghost use Rattle.filterlang.specs.Phrases.{kinds};
 ghost use Rattle.filterlang.specs.Tokens.{fault_at, Stuck};
-ghost use Rattle.syntax.specs.Trees.{Tree, tree_of};
+ghost use Rattle.filter_tree.specs.Trees.{Tree, tree_of};
 ghost use Rattle.filterlang.specs.Readers.{Gives};
 ghost use Rattle.filterlang.specs.Reading.{start_at, phrased_at, qualified_at, inherited_at, started_at, logical_at, term_at, expr_at, text_at};
 ghost use Rattle.filterlang.specs.Texts.{ReadsAs, IsRefusalOf};
@@ -21,8 +21,8 @@ use crate::phrases::qualifiers::{Phrase, Qualifiers, qualifiers_of};
 use crate::phrases::{is_written, joint_at, phrase_at, range_at};
 use crate::token::Token;
 use crate::tree::{joined_by, negated};
+use filter_tree::{Expr, Primitive};
 use std::alloc::Global;
-use syntax::{Expr, Primitive};
 
 /// The most signs of a text that may be open within one another: `(` and `[`, and `not` and a unary `-` until the
 /// operand is complete.

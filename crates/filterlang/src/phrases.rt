@@ -14,7 +14,7 @@ pub(crate) mod qualifiers;
 
 use crate::phrases::qualifiers::{Identifier, Phrase};
 use crate::token::{Joint, Kind, Parts, Protocol, Side, Token, TypeWord};
-use syntax::{Direction, Operator};
+use filter_tree::{Direction, Operator};
 
 /// What the next token is, and what follows it.
 pub(crate) fn next(tokens: &[Token]) -> Option<(Kind, &[Token])>

@@ -1,6 +1,6 @@
 //! The tokens of the language.
 
-use syntax::{Comparison, EthernetAddress, Operator};
+use filter_tree::{Comparison, EthernetAddress, Operator};
 
 /// A protocol word.
 #[derive(Clone, Copy, Debug, PartialEq, Eq)]

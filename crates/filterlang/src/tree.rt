@@ -1,14 +1,14 @@
 //! The nodes of trees that join others.
 
 ghost use Rattle.std.specs.Prelude.{Some, box_value};
-ghost use Rattle.syntax.specs.Trees.{tree_of, negation};
+ghost use Rattle.filter_tree.specs.Trees.{tree_of, negation};
 ghost use Rattle.filterlang.specs.Readers.{Gives};
 ghost use Rattle.filterlang.specs.Reading.{joined_by};
 
 use crate::fault::Fault;
 use crate::token::Joint;
+use filter_tree::Expr;
 use std::alloc::Global;
-use syntax::Expr;
 
 /// The expression that negates another.
 pub(crate) fn negated(alloc: Global, expr: Expr) -> Result<Expr, Fault>

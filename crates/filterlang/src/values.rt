@@ -3,7 +3,7 @@
 ghost use Rattle.std.specs.Prelude.{◌≡◌, option_map, Some, true};
 ghost use Rattle.std.specs.Result.{result_ok};
 ghost use Rattle.filterlang.specs.Phrases.{kinds};
-ghost use Rattle.syntax.specs.Trees.{tree_of, amount_of, minus};
+ghost use Rattle.filter_tree.specs.Trees.{tree_of, amount_of, minus};
 ghost use Rattle.filterlang.specs.Texts.{is_misreading};
 ghost use Rattle.filterlang.specs.Readers.{Gives};
 ghost use Rattle.filterlang.specs.ValueReading.{comparison_at, close_bracket_at, leaf_at, layer_at, size_at, factor_at, arith_at, relation_at, accessor_at};
@@ -16,8 +16,8 @@ use crate::lookahead::{Opening, bracket_follows, look_into};
 use crate::phrases::{bare_number_at, next};
 use crate::token::{Kind, Token};
 use crate::values::operators::{LOOSEST, layer_of, operated, operator_at, size_of};
+use filter_tree::{Comparison, Expr, Layer, Size, Value};
 use std::alloc::Global;
-use syntax::{Comparison, Expr, Layer, Size, Value};
 
 /// The comparison at the front and what follows, or the place where there is none.
 fn comparison_at(tokens: &[Token]) -> Result<(Comparison, &[Token]), &[Token]>

@@ -11,8 +11,8 @@ use Rattle.savefile.specs.Savefile.{IsWritable, RefusesHeader}
 use Rattle.savefile.specs.declared.fault.Fault.{Fault}
 use Rattle.savefile.specs.declared.fault.Fault.TheVariants as fault
 use Rattle.savefile.specs.declared.packet.Packet.{Packet}
-use Rattle.tasks.specs.declared.report.InterfaceEnd.{InterfaceEnd}
-use Rattle.tasks.specs.declared.report.InterfaceEnd.TheVariants.{Capture}
+use Rattle.replay_types.specs.declared.report.InterfaceEnd.{InterfaceEnd}
+use Rattle.replay_types.specs.declared.report.InterfaceEnd.TheVariants.{Capture}
 use Rattle.replay.specs.Captures.{arrivals_from, ComesBack, IsStopped}
 
 arrivals-more : (capture place : ℕ) (ps : List Packet) (p : Packet) → arrivals_from capture place (ps ++ p ∷ []) ≡ arrivals_from capture place ps ++ arrival capture (place + length ps) p ∷ []

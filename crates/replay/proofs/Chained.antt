@@ -14,9 +14,9 @@ use Rattle.replay.specs.declared.laid.Laid.{Laid}
 use Rattle.replay.specs.declared.crew.Stage.{Stage}
 use Rattle.replay.specs.declared.ready.Ready.{Ready}
 use Rattle.replay.specs.declared.ready.Running.{Running}
-use Rattle.tasks.specs.declared.report.InterfaceReport.{InterfaceReport}
-use Rattle.tasks.specs.declared.task.Interface.{Interface}
-use Rattle.tasks.specs.declared.task.Task.{Task}
+use Rattle.replay_types.specs.declared.report.InterfaceReport.{InterfaceReport}
+use Rattle.replay_types.specs.declared.task.Interface.{Interface}
+use Rattle.replay_types.specs.declared.task.Task.{Task}
 
 -- the threads of an interface work for the pairs of its links
 pub still-paired : {R W : Type 0} (links : List (Vec TableId Global)) (laid : List (Laid R W)) (ready : List (Ready R W)) (running : List (Running R W))

@@ -4,8 +4,8 @@ use Rattle.std.proofs.lemmas.List.{append-nil, append_assoc}
 use Rattle.listener.specs.Messages.{Arrival}
 use Rattle.savefile.specs.declared.packet.Packet.{Packet}
 use Rattle.replay.specs.Captures.{GivesPlaylist, GivesPackets, arrivals_from}
-use Rattle.tasks.specs.declared.report.InterfaceEnd.{InterfaceEnd}
-use Rattle.tasks.specs.declared.report.InterfaceEnd.TheVariants.{Clean}
+use Rattle.replay_types.specs.declared.report.InterfaceEnd.{InterfaceEnd}
+use Rattle.replay_types.specs.declared.report.InterfaceEnd.TheVariants.{Clean}
 
 module _ {S : Type 0} (left : S → Option (List ℕ)) (broken : S → ℕ) where
   -- Some captures were read, and `n` is the number of the next. Where none has ended the playlist, what the rest brings makes it

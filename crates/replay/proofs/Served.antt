@@ -18,8 +18,8 @@ use Rattle.replay.specs.Replayed.{IsServed}
 use Rattle.replay.specs.Reports.{IsReported}
 use Rattle.replay.specs.declared.crew.Crew.{Crew}
 use Rattle.replay.specs.declared.ending.Ending.{Ending}
-use Rattle.tasks.specs.declared.report.ListenerReport.{ListenerReport}
-use Rattle.tasks.specs.declared.task.Task.{Task}
+use Rattle.replay_types.specs.declared.report.ListenerReport.{ListenerReport}
+use Rattle.replay_types.specs.declared.task.Task.{Task}
 use Rattle.replay.specs.Writing.{IsTimely}
 use Rattle.replay.proofs.Asked.{count-asked}
 use Rattle.replay.proofs.Timely.{asked-timely}

@@ -19,9 +19,9 @@ use Rattle.replay.specs.Reading.{messages_of}
 use Rattle.replay.specs.Reports.{BreaksBehind, IsFull, IsReported, WroteSoFar, kept_for, packet_of}
 use Rattle.replay.specs.Tasks.{output_of}
 use Rattle.replay.specs.Writing.{Writes, as_written}
-use Rattle.tasks.specs.declared.report.ListenerReport.{ListenerReport}
-use Rattle.tasks.specs.declared.report.TaskEnd.TheVariants.{Clean, Write, Unfinished}
-use Rattle.tasks.specs.declared.task.Task.{Task}
+use Rattle.replay_types.specs.declared.report.ListenerReport.{ListenerReport}
+use Rattle.replay_types.specs.declared.report.TaskEnd.TheVariants.{Clean, Write, Unfinished}
+use Rattle.replay_types.specs.declared.task.Task.{Task}
 use Rattle.replay.specs.declared.writing.Written.{Written}
 use Rattle.replay.proofs.Batches.{joins_buffers}
 

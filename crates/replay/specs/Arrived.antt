@@ -6,7 +6,7 @@ use Rattle.savefile.specs.declared.packet.Packet.{Packet}
 use Rattle.replay.specs.Captures.{EndsSo, arrivals_from}
 use Rattle.replay.specs.Lines.{Line, HasArrived}
 use Rattle.replay.specs.declared.player.Player.{Player}
-use Rattle.tasks.specs.declared.report.InterfaceEnd.{InterfaceEnd}
+use Rattle.replay_types.specs.declared.report.InterfaceEnd.{InterfaceEnd}
 
 -- Packets of a capture arrived at the listeners, each writable, numbered from 0; and that is how it ended.
 pub record HasGivenPackets (start : Option (List ℕ)) (broke : Type 0) (capture : ℕ) (old new : Player) (end : Option InterfaceEnd) : Type 0 where

@@ -7,8 +7,8 @@ use Rattle.savefile.specs.declared.fault.Fault.{Fault}
 use Rattle.savefile.specs.declared.fault.Fault.TheVariants as fault
 use Rattle.savefile.specs.declared.header.Header.{Header}
 use Rattle.savefile.specs.declared.packet.Packet.{Packet}
-use Rattle.tasks.specs.declared.report.InterfaceEnd.{InterfaceEnd}
-use Rattle.tasks.specs.declared.report.InterfaceEnd.TheVariants.{Clean, Capture, CountFull}
+use Rattle.replay_types.specs.declared.report.InterfaceEnd.{InterfaceEnd}
+use Rattle.replay_types.specs.declared.report.InterfaceEnd.TheVariants.{Clean, Capture, CountFull}
 
 -- the packets of a capture as they arrive, of which the first has this place
 abbrev pub arrivals_from : ℕ → ℕ → List Packet → List Arrival

@@ -14,7 +14,7 @@ use Rattle.replay.specs.declared.crew.Crew.{Crew}
 use Rattle.replay.specs.declared.crew.Done.{Done}
 use Rattle.replay.specs.declared.crew.Stage.{Stage}
 use Rattle.replay.specs.declared.reading.Stop.TheVariants.{Ended}
-use Rattle.tasks.specs.declared.task.Task.{Task}
+use Rattle.replay_types.specs.declared.task.Task.{Task}
 
 -- The drain came back. Where the ring's end was handed over, what was pushed is what was read; and what was popped of it, and
 -- then of the ring of the rest, is written.

@@ -3,7 +3,7 @@ use Rattle.std.specs.Prelude.{ℕ, ◌+◌, ◌%◌, Bool, List, [], ◌∷◌, 
 use Rattle.listener.specs.Messages.{Arrival, kept_by}
 use Rattle.listener.specs.PlainList.{Request, Arrive, Flush}
 use Rattle.bpfvm.specs.declared.insn.Insn.{Insn}
-use Rattle.tasks.specs.declared.task.Task.{Task}
+use Rattle.replay_types.specs.declared.task.Task.{Task}
 
 -- What a listener is asked by: its filter, the snapshot length, and after how many arrivals it is flushed.
 pub record Asking : Type 0 where

@@ -7,11 +7,11 @@ use Rattle.handover.specs.Rule.{profile_of}
 use Rattle.replay.specs.Captures.{GivesPlaylist}
 use Rattle.replay.specs.Playing.{asked, asking_of}
 use Rattle.replay.specs.Reports.{IsReported}
-use Rattle.tasks.specs.declared.report.InterfaceReport.{InterfaceReport}
-use Rattle.tasks.specs.declared.report.ListenerReport.{ListenerReport}
-use Rattle.tasks.specs.declared.report.TaskEnd.TheVariants.{Clean}
-use Rattle.tasks.specs.declared.task.Interface.{Interface}
-use Rattle.tasks.specs.declared.task.Task.{Task}
+use Rattle.replay_types.specs.declared.report.InterfaceReport.{InterfaceReport}
+use Rattle.replay_types.specs.declared.report.ListenerReport.{ListenerReport}
+use Rattle.replay_types.specs.declared.report.TaskEnd.TheVariants.{Clean}
+use Rattle.replay_types.specs.declared.task.Interface.{Interface}
+use Rattle.replay_types.specs.declared.task.Task.{Task}
 
 -- A task's feeder was asked for the playlist and the flushes that are due; its calls and the drain's reads make the history that
 -- the report tells. They are those of the report's past, which a settled pair alone gives, and which has the task's capacity and

@@ -13,9 +13,9 @@ use Rattle.handover.specs.Rule.{last, profile_of, terms_of}
 use Rattle.handover.specs.Settling.{kept_of_history}
 use Rattle.handover.specs.declared.calls.Feed.{Feed}
 use Rattle.handover.specs.declared.calls.Take.{Take}
-use Rattle.tasks.specs.declared.report.ListenerReport.{ListenerReport}
-use Rattle.tasks.specs.declared.report.TaskEnd.TheVariants.{Clean, Write, Unfinished}
-use Rattle.tasks.specs.declared.task.Task.{Task}
+use Rattle.replay_types.specs.declared.report.ListenerReport.{ListenerReport}
+use Rattle.replay_types.specs.declared.report.TaskEnd.TheVariants.{Clean, Write, Unfinished}
+use Rattle.replay_types.specs.declared.task.Task.{Task}
 
 -- the messages that the listener kept
 abbrev pub kept_for : {W : Type 0} → Task W → List Feed → List Take → List Message

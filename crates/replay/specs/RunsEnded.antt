@@ -9,8 +9,8 @@ use Rattle.replay.specs.Captures.{GivesPlaylist}
 use Rattle.replay.specs.Crews.{crew_pair, crew_task}
 use Rattle.replay.specs.Replayed.{IsServed}
 use Rattle.replay.specs.declared.ready.Running.{Running}
-use Rattle.tasks.specs.declared.report.InterfaceReport.{InterfaceReport}
-use Rattle.tasks.specs.declared.report.ListenerReport.{ListenerReport}
+use Rattle.replay_types.specs.declared.report.InterfaceReport.{InterfaceReport}
+use Rattle.replay_types.specs.declared.report.ListenerReport.{ListenerReport}
 
 -- the links of its tasks' pairs
 abbrev pub HasItsPairs : {S W : Type 0} → Vec TableId Global → Running S W → Type 0

@@ -5,7 +5,7 @@ use Rattle.std.specs.declared.vec.Vec.{Vec}
 use Rattle.atomic_table.specs.Seated.{TableId}
 use Rattle.replay.specs.Crews.{stage_pair, stage_task}
 use Rattle.replay.specs.declared.laid.Laid.{Laid}
-use Rattle.tasks.specs.declared.task.Interface.{Interface}
+use Rattle.replay_types.specs.declared.task.Interface.{Interface}
 
 -- the links of its tasks' pairs
 abbrev pub HasLinks : {R W : Type 0} → Vec TableId Global → Laid R W → Type 0

@@ -5,7 +5,7 @@ use Rattle.handover.specs.Rule.{profile_of}
 use Rattle.replay.specs.Lines.{Line}
 use Rattle.replay.specs.Playing.{asking_of}
 use Rattle.replay.specs.Rings.{Ring}
-use Rattle.tasks.specs.declared.task.Task.{Task}
+use Rattle.replay_types.specs.declared.task.Task.{Task}
 use Rattle.replay.specs.declared.writing.Output.{Output}
 
 -- the savefile that its packets are written to

@@ -9,11 +9,11 @@ use crate::writer::{WriteEnd, WritesOut};
 use crate::writing::Output;
 use handover::Drain;
 use listener::Buffer;
+use replay_types::Task;
 use rtrb::{Consumer, Producer};
 use savefile::Sink;
 use std::snapshot::Snapshot;
 use std::thread::PromisedHandle;
-use tasks::Task;
 
 /// All that the two threads of a task are given.
 #[derive(Drop)]

@@ -6,7 +6,7 @@ ghost use Rattle.replay.specs.Crews.{crew_line, crew_pair, crew_task, stage_line
 ghost use Rattle.replay.specs.Lines.{entry_line, line_of};
 ghost use Rattle.replay.specs.Runs.{IsReadyFor, IsRunningOf};
 ghost use Rattle.replay.specs.Setups.{HasLinks};
-ghost use Rattle.tasks.specs.declared.fault.RunFault.TheVariants.{NoStart};
+ghost use Rattle.replay_types.specs.declared.fault.RunFault.TheVariants.{NoStart};
 
 use crate::crew::{Crew, Stage};
 use crate::gate::Gate;
@@ -19,12 +19,12 @@ use crate::reading::ListenerId;
 use crate::ready::{Ready, Running};
 use crate::room::Room;
 use crate::threads::start;
+use replay_types::RunFault;
 use savefile::{Sink, Source};
 use std::alloc::Global;
 use std::snapshot::Snapshot;
 use std::sync::Wait;
 use std::thread::{PromisedHandle, Scope, Threads};
-use tasks::RunFault;
 
 /// Each feeder beside its link.
 fn join_links<'a>(

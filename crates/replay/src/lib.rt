@@ -24,8 +24,8 @@ mod writer;
 mod writing;
 
 pub use gate::{Gate, Open};
-pub use running::run;
-pub use tasks::{
+pub use replay_types::{
     Interface, InterfaceEnd, InterfaceReport, ListenerReport, MOST_CAPTURES, MOST_INTERFACES,
     MOST_SPARES, MOST_TASKS, RunFault, Task, TaskEnd,
 };
+pub use running::run;

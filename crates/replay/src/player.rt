@@ -15,9 +15,9 @@ use crate::gate::Gate;
 use crate::inlet::Inlet;
 use crate::link::TaskLink;
 use listener::Fed;
+use replay_types::InterfaceEnd;
 use savefile::{PacketRef, Reader, Source};
 use std::alloc::Global;
-use tasks::InterfaceEnd;
 
 /// The most packets that arrive at an interface.
 const MOST_ARRIVALS: u64 = u64::MAX - 1;

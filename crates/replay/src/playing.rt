@@ -12,12 +12,12 @@ use crate::gate::Gate;
 use crate::inlet::{Entry, Inlet};
 use crate::launch::Launch;
 use crate::player::Player;
+use replay_types::InterfaceEnd;
 use savefile::Source;
 use std::alloc::Global;
 use std::snapshot::Snapshot;
 use std::sync::Wait;
 use std::thread::Promise;
-use tasks::InterfaceEnd;
 
 /// What the replaying thread of an interface is given.
 #[derive(Drop)]

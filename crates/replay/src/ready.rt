@@ -10,10 +10,10 @@ use crate::inlet::{Entry, Inlet};
 use crate::link::TaskLink;
 use crate::playing::{PlayEnd, PlaysOut};
 use crate::room::Room;
+use replay_types::ListenerReport;
 use savefile::{Sink, Source};
 use std::snapshot::Snapshot;
 use std::thread::PromisedHandle;
-use tasks::ListenerReport;
 
 /// An interface that is ready to be replayed.
 #[derive(Drop)]

@@ -13,7 +13,7 @@ ghost use Rattle.replay.specs.Reports.{IsReported};
 ghost use Rattle.replay.specs.Rings.{ring_of};
 ghost use Rattle.replay.specs.RunsEnded.{HasItsPairs, IsReportOf, past_pair};
 ghost use Rattle.replay.specs.Writing.{IsTimely};
-ghost use Rattle.tasks.specs.declared.fault.RunFault.TheVariants.{NoStart};
+ghost use Rattle.replay_types.specs.declared.fault.RunFault.TheVariants.{NoStart};
 
 use crate::crew::Crew;
 use crate::ending::Ending;
@@ -22,9 +22,9 @@ use crate::playing::PlayEnd;
 use crate::ready::Running;
 use crate::settling::settled;
 use crate::threads::finish;
+use replay_types::{InterfaceReport, ListenerReport, RunFault};
 use savefile::{Sink, Source};
 use std::thread::Threads;
-use tasks::{InterfaceReport, ListenerReport, RunFault};
 
 /// Waits for the threads of a task, and settles it.
 fn report_task<W: Sink + Drop, R: Threads>(

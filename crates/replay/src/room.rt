@@ -2,13 +2,13 @@
 
 ghost use Rattle.std.specs.Prelude.{◌≡◌, ◌≤◌, [], vec_capacity, IfErr, IfOk};
 ghost use Rattle.replay.specs.Rooms.{HasRoom};
-ghost use Rattle.tasks.specs.declared.fault.RunFault.TheVariants.{NoStart};
+ghost use Rattle.replay_types.specs.declared.fault.RunFault.TheVariants.{NoStart};
 
 use crate::crew::Crew;
 use crate::ending::Ending;
+use replay_types::{ListenerReport, RunFault};
 use savefile::Sink;
 use std::alloc::Global;
-use tasks::{ListenerReport, RunFault};
 
 /// Room for what the threads of an interface hand back.
 #[derive(Drop)]

@@ -2,12 +2,12 @@
 
 ghost use Rattle.std.specs.Prelude.{◌≡◌, ◌≤◌, List, [], length, IfErr, IfOk, OnOk, vec_capacity};
 ghost use Rattle.std.specs.List.{AllZip};
-ghost use Rattle.tasks.specs.Refusals.{IsFirst, NoneStands};
+ghost use Rattle.replay_types.specs.Refusals.{IsFirst, NoneStands};
 ghost use Rattle.replay.specs.Replayed.{IsReplayed};
 ghost use Rattle.replay.specs.Runs.{IsRunningOf};
 ghost use Rattle.replay.specs.Setups.{HasLinks, IsLaidFor};
-ghost use Rattle.tasks.specs.declared.fault.RunFault.TheVariants.{NoStart};
-ghost use Rattle.tasks.specs.declared.task.Interface.{Interface};
+ghost use Rattle.replay_types.specs.declared.fault.RunFault.TheVariants.{NoStart};
+ghost use Rattle.replay_types.specs.declared.task.Interface.{Interface};
 
 use crate::gate::Gate;
 use crate::interface::{launch_all, link_all};
@@ -17,12 +17,12 @@ use crate::ready::{Ready, Running};
 use crate::reporting::report_all;
 use crate::room::two_lists;
 use crate::setup::lay_all;
+use replay_types::{Interface, InterfaceReport, RunFault, check_all};
 use savefile::{Sink, Source};
 use std::alloc::Global;
 use std::sync::Wait;
 use std::thread;
 use std::thread::Threads;
-use tasks::{Interface, InterfaceReport, RunFault, check_all};
 
 /// Starts the threads of all interfaces, and waits until all have ended.
 fn in_threads<

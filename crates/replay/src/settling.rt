@@ -23,9 +23,9 @@ use crate::writer::WriteEnd;
 use crate::writing::Written;
 use handover::{Past, Settled, settle};
 use listener::{Buffer, Counts};
+use replay_types::{ListenerReport, TaskEnd};
 use rtrb::{Consumer, Finished, Producer};
 use savefile::Sink;
-use tasks::{ListenerReport, TaskEnd};
 
 /// How many buffers a writer thread left in its rings: of what was read, and of the rest.
 #[derive(Clone, Copy)]

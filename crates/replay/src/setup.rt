@@ -5,10 +5,10 @@ ghost use Rattle.std.specs.List.{AllZip};
 ghost use Rattle.rtrb.specs.Ring.{known_free, received, sent, IsPair};
 ghost use Rattle.replay.specs.Crews.{stage_line, stage_pair, stage_task};
 ghost use Rattle.replay.specs.Lines.{entry_line};
-ghost use Rattle.tasks.specs.Refusals.{IsInBounds};
+ghost use Rattle.replay_types.specs.Refusals.{IsInBounds};
 ghost use Rattle.replay.specs.Rings.{ring_of};
 ghost use Rattle.replay.specs.Setups.{HasLinks, IsLaidFor};
-ghost use Rattle.tasks.specs.declared.fault.RunFault.TheVariants.{NoStart};
+ghost use Rattle.replay_types.specs.declared.fault.RunFault.TheVariants.{NoStart};
 
 use crate::crew::Stage;
 use crate::inlet::Entry;
@@ -18,11 +18,11 @@ use crate::room::{room_for, two_lists};
 use crate::writing::Output;
 use handover::pair_as;
 use listener::Buffer;
+use replay_types::{Interface, RunFault, Task};
 use rtrb::{Consumer, Producer, RingBuffer};
 use savefile::Sink;
 use std::alloc::Global;
 use std::snapshot::Snapshot;
-use tasks::{Interface, RunFault, Task};
 
 /// What is made for a task: what its two ends share, its feeder, and what its threads are given.
 #[derive(Drop)]

@@ -3,7 +3,7 @@
 ghost use Rattle.std.specs.Prelude.{◌≡◌, [], IfOk, IfErr, IfSome};
 ghost use Rattle.rtrb.specs.Ring.{received, sent, SameConsumer};
 ghost use Rattle.replay.specs.Crews.{IsDone, crew_line, crew_pair, stage_line};
-ghost use Rattle.tasks.specs.declared.fault.RunFault.TheVariants.{NoStart};
+ghost use Rattle.replay_types.specs.declared.fault.RunFault.TheVariants.{NoStart};
 
 use crate::crew::{Crew, Done, Stage};
 use crate::gate::Gate;
@@ -14,12 +14,12 @@ use crate::writer::{WriteEnd, WritesOut, write_out};
 use crate::writing::Output;
 use handover::Drain;
 use listener::Buffer;
+use replay_types::RunFault;
 use rtrb::{Consumer, Producer};
 use savefile::Sink;
 use std::snapshot::Snapshot;
 use std::sync::Wait;
 use std::thread::{PromisedHandle, Scope, Threads};
-use tasks::RunFault;
 
 /// A thread that reads a listener.
 type ReadingThread = PromisedHandle<Option<ReadEnd>, ReadsOut>;

@@ -10,28 +10,28 @@ use Rattle.filtergen.specs.Compiling.{StandsFor}
 use Rattle.listener.specs.Messages.{Arrival, cut_to, kept_by}
 use Rattle.listener.specs.PlainList.{Request}
 use Rattle.listener.specs.Laws.{AnswersAreLegal, RunsAreKept, KeptFits}
-use Rattle.playback.specs.declared.playlist.Placed.{Placed}
-use Rattle.playback.specs.declared.report.Report.{Report}
-use Rattle.playback.specs.declared.step.Step.{Step}
-use Rattle.playback.specs.declared.answer.Answered.{Answered}
+use Rattle.tap_steps.specs.declared.playlist.Placed.{Placed}
+use Rattle.tap_steps.specs.declared.report.Report.{Report}
+use Rattle.tap_steps.specs.declared.step.Step.{Step}
+use Rattle.tap_steps.specs.declared.answer.Answered.{Answered}
 use Rattle.savefile.specs.declared.fault.Fault.{Fault as Misread}
-use Rattle.playback.specs.Answers.{AreLegal}
+use Rattle.tap_steps.specs.Answers.{AreLegal}
 use Rattle.tap.specs.Answers.{Traces}
 use Rattle.tap.specs.Filters.{kept_by_tree, FiltersAs}
-use Rattle.playback.specs.Reports.{terms_of, Reports}
+use Rattle.tap_steps.specs.Reports.{terms_of, Reports}
 use Rattle.tap.specs.Headline.{Replays}
-use Rattle.playback.specs.OwnSteps.{own, arrival_of}
-use Rattle.playback.specs.Watching.{AllPackets, CountsFit, Watch, Tells, IsFollowed, played}
-use Rattle.playback.specs.declared.filters.Filter.{Filter}
-use Rattle.playback.specs.declared.filters.Filter.TheVariants.{Text, Program}
+use Rattle.tap_steps.specs.OwnSteps.{own, arrival_of}
+use Rattle.tap_steps.specs.Watching.{AllPackets, CountsFit, Watch, Tells, IsFollowed, played}
+use Rattle.tap_steps.specs.declared.filters.Filter.{Filter}
+use Rattle.tap_steps.specs.declared.filters.Filter.TheVariants.{Text, Program}
 use Rattle.tap.specs.Opening.{ProgramOf, Opened, ComesTo}
-use Rattle.playback.proofs.Owns.{goes, played_own}
-use Rattle.playback.proofs.OwnReports.{came_to, reports_by, legal_by, own_alike, zip_at, length_played}
-use Rattle.playback.proofs.Counting.{zip_length}
+use Rattle.tap_steps.proofs.Owns.{goes, played_own}
+use Rattle.tap_steps.proofs.OwnReports.{came_to, reports_by, legal_by, own_alike, zip_at, length_played}
+use Rattle.tap_steps.proofs.Counting.{zip_length}
 use Rattle.tap.specs.Refusals.{ListenersAreRight, RefusesListener, RefusesOne}
 use Rattle.tap.specs.declared.fault.Fault.{Fault}
 use Rattle.tap.specs.declared.fault.Fault.TheVariants as faults
-use Rattle.playback.specs.declared.filters.Spec.{Spec}
+use Rattle.tap_steps.specs.declared.filters.Spec.{Spec}
 use Rattle.std.specs.List.{AllZip, slice_get}
 
 -- ---- An expression stands for its program

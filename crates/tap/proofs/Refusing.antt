@@ -6,14 +6,14 @@ use Rattle.filterlang.specs.declared.fault.Fault.{Fault as Misread}
 use Rattle.filterlang.specs.declared.fault.Fault.TheVariants as misread
 use Rattle.filterlang.specs.Trees.{Tree}
 use Rattle.filterlang.specs.Texts.{ReadsAs, IsRefusalOf}
-use Rattle.generation.specs.declared.refusal.Refusal.{Refusal}
-use Rattle.generation.specs.declared.refusal.Refusal.TheVariants.{TooLong, TooDeep, BadSnap, NoMemory}
+use Rattle.filtergen_facts.specs.declared.refusal.Refusal.{Refusal}
+use Rattle.filtergen_facts.specs.declared.refusal.Refusal.TheVariants.{TooLong, TooDeep, BadSnap, NoMemory}
 use Rattle.filtergen.specs.Weights.{need, weight}
 use Rattle.filtergen.specs.Compiling.{IsBadSnap}
 use Rattle.tap.specs.declared.fault.Fault.{Fault}
 use Rattle.tap.specs.declared.fault.Fault.TheVariants.{Expression, Compile}
 use Rattle.tap.specs.declared.fault.Fault.TheVariants as faults
-use Rattle.playback.specs.declared.filters.Filter.TheVariants.{Text}
+use Rattle.tap_steps.specs.declared.filters.Filter.TheVariants.{Text}
 use Rattle.tap.specs.Refusals.{IsExpression, RefusesFilter}
 
 -- a text that is no expression

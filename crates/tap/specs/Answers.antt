@@ -4,14 +4,14 @@ use Rattle.std.specs.List.{slice_get}
 use Rattle.savefile.specs.declared.fault.Fault.{Fault}
 use Rattle.listener.specs.declared.message.Message.{Message}
 use Rattle.listener.specs.Messages.{Arrival}
-use Rattle.playback.specs.declared.answer.Answered.{Answered}
-use Rattle.playback.specs.declared.playlist.Placed.{Placed}
-use Rattle.playback.specs.declared.step.Step.{Step}
-use Rattle.playback.specs.declared.filters.Spec.{Spec}
-use Rattle.playback.specs.Answers.{AreLegal}
-use Rattle.playback.specs.OwnSteps.{own}
-use Rattle.playback.specs.Playlist.{IsPlaylist}
-use Rattle.playback.specs.Reports.{terms_of}
+use Rattle.tap_steps.specs.declared.answer.Answered.{Answered}
+use Rattle.tap_steps.specs.declared.playlist.Placed.{Placed}
+use Rattle.tap_steps.specs.declared.step.Step.{Step}
+use Rattle.tap_steps.specs.declared.filters.Spec.{Spec}
+use Rattle.tap_steps.specs.Answers.{AreLegal}
+use Rattle.tap_steps.specs.OwnSteps.{own}
+use Rattle.tap_steps.specs.Playlist.{IsPlaylist}
+use Rattle.tap_steps.specs.Reports.{terms_of}
 use Rattle.tap.specs.Filters.{FiltersAs}
 
 -- For each listener there are the legal answers to its own steps over the playlist.

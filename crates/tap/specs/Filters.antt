@@ -5,8 +5,8 @@ use Rattle.filterlang.specs.Texts.{ReadsAs}
 use Rattle.filtergen.specs.Meaning.{packet_of, accepts}
 use Rattle.listener.specs.declared.message.Message.{Message}
 use Rattle.listener.specs.Messages.{Arrival, cut_to, kept_by}
-use Rattle.playback.specs.declared.filters.Filter.{Filter}
-use Rattle.playback.specs.declared.filters.Filter.TheVariants.{Text, Program}
+use Rattle.tap_steps.specs.declared.filters.Filter.{Filter}
+use Rattle.tap_steps.specs.declared.filters.Filter.TheVariants.{Text, Program}
 
 -- What an expression keeps of an arrival, as its tree means it: the packet cut to the snapshot length where the
 -- expression accepts it, else nothing.

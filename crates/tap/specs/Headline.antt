@@ -4,13 +4,13 @@ use Rattle.std.specs.List.{slice_get}
 use Rattle.savefile.specs.declared.fault.Fault.{Fault}
 use Rattle.listener.specs.declared.message.Message.{Message}
 use Rattle.listener.specs.Messages.{Arrival}
-use Rattle.playback.specs.declared.playlist.Placed.{Placed}
-use Rattle.playback.specs.declared.report.Report.{Report}
-use Rattle.playback.specs.declared.step.Step.{Step}
-use Rattle.playback.specs.declared.filters.Spec.{Spec}
-use Rattle.playback.specs.OwnSteps.{own}
-use Rattle.playback.specs.Playlist.{IsPlaylist}
-use Rattle.playback.specs.Reports.{Reports, terms_of}
+use Rattle.tap_steps.specs.declared.playlist.Placed.{Placed}
+use Rattle.tap_steps.specs.declared.report.Report.{Report}
+use Rattle.tap_steps.specs.declared.step.Step.{Step}
+use Rattle.tap_steps.specs.declared.filters.Spec.{Spec}
+use Rattle.tap_steps.specs.OwnSteps.{own}
+use Rattle.tap_steps.specs.Playlist.{IsPlaylist}
+use Rattle.tap_steps.specs.Reports.{Reports, terms_of}
 use Rattle.tap.specs.Filters.{FiltersAs}
 
 -- For each listener there is a report of its own steps over this playlist, which is that of the captures.

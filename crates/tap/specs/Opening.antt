@@ -7,14 +7,14 @@ use Rattle.filterlang.specs.Trees.{Tree}
 use Rattle.filtergen.specs.Compiling.{StandsFor}
 use Rattle.listener.specs.Listening.{listening, InRange}
 use Rattle.listener.specs.PlainList.{empty}
-use Rattle.playback.specs.declared.filters.Spec.{Spec}
-use Rattle.playback.specs.declared.filters.Filter.{Filter}
-use Rattle.playback.specs.declared.filters.Filter.TheVariants.{Text, Program}
-use Rattle.playback.specs.declared.playlist.Placed.{Placed}
-use Rattle.playback.specs.declared.step.Step.{Step}
-use Rattle.playback.specs.Playlist.{IsPlaylist}
-use Rattle.playback.specs.Reports.{terms_of}
-use Rattle.playback.specs.Watching.{Watch, watch, no_answers, played, AllPackets}
+use Rattle.tap_steps.specs.declared.filters.Spec.{Spec}
+use Rattle.tap_steps.specs.declared.filters.Filter.{Filter}
+use Rattle.tap_steps.specs.declared.filters.Filter.TheVariants.{Text, Program}
+use Rattle.tap_steps.specs.declared.playlist.Placed.{Placed}
+use Rattle.tap_steps.specs.declared.step.Step.{Step}
+use Rattle.tap_steps.specs.Playlist.{IsPlaylist}
+use Rattle.tap_steps.specs.Reports.{terms_of}
+use Rattle.tap_steps.specs.Watching.{Watch, watch, no_answers, played, AllPackets}
 use Rattle.tap.specs.Filters.{ReadsOnlyAs}
 use Rattle.tap.specs.Refusals.{FilterIsRight}
 

@@ -4,21 +4,21 @@ use Rattle.filterlang.specs.declared.fault.Fault.TheVariants as misread
 use Rattle.filterlang.specs.declared.lexer.TheConstants.{MAX_TEXT}
 use Rattle.filterlang.specs.Trees.{Tree}
 use Rattle.filterlang.specs.Texts.{ReadsAs, IsRefusalOf}
-use Rattle.generation.specs.declared.refusal.Refusal.TheVariants as uncompiled
+use Rattle.filtergen_facts.specs.declared.refusal.Refusal.TheVariants as uncompiled
 use Rattle.filtergen.specs.Weights.{need, weight}
 use Rattle.filtergen.specs.Compiling.{IsBadSnap}
 use Rattle.listener.specs.declared.fault.OpenFault.TheVariants as unopened
 use Rattle.listener.specs.Listening.{RefusesOpen, InRange}
 use Rattle.tap.specs.declared.fault.Fault.{Fault}
 use Rattle.tap.specs.declared.fault.Fault.TheVariants.{TooMany, NoListener, Capture, Expression, Compile, Open, NoMemory}
-use Rattle.playback.specs.declared.filters.Spec.{Spec}
-use Rattle.playback.specs.declared.filters.Filter.{Filter}
-use Rattle.playback.specs.declared.filters.Filter.TheVariants.{Text, Program}
-use Rattle.playback.specs.declared.step.Step.{Step}
-use Rattle.playback.specs.declared.fault.PlaylistFault.{PlaylistFault}
-use Rattle.playback.specs.declared.fault.PlaylistFault.TheVariants as unlisted
-use Rattle.playback.specs.OwnSteps.{AllName, FirstMissing}
-use Rattle.playback.specs.Playlist.{NoHeaderIsRefused, RefusesCapture}
+use Rattle.tap_steps.specs.declared.filters.Spec.{Spec}
+use Rattle.tap_steps.specs.declared.filters.Filter.{Filter}
+use Rattle.tap_steps.specs.declared.filters.Filter.TheVariants.{Text, Program}
+use Rattle.tap_steps.specs.declared.step.Step.{Step}
+use Rattle.tap_steps.specs.declared.fault.PlaylistFault.{PlaylistFault}
+use Rattle.tap_steps.specs.declared.fault.PlaylistFault.TheVariants as unlisted
+use Rattle.tap_steps.specs.OwnSteps.{AllName, FirstMissing}
+use Rattle.tap_steps.specs.Playlist.{NoHeaderIsRefused, RefusesCapture}
 
 -- ---- The limits
 

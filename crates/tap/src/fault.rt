@@ -6,8 +6,8 @@ ghost use Rattle.tap.specs.declared.fault.Fault.TheVariants.{NoMemory};
 
 use filtergen::Refusal;
 use listener::OpenFault;
-use playback::PlaylistFault;
 use std::alloc::{AllocError, AllocFailed};
+use tap_steps::PlaylistFault;
 use thiserror::Error;
 
 /// Why a replay gives no report: the first that stands, in this order, and of `Expression`, `Compile` and `Open` the first

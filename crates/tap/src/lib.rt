@@ -14,7 +14,7 @@ mod open;
 mod run;
 
 pub use fault::Fault;
-pub use playback::{
+pub use run::{replay, trace};
+pub use tap_steps::{
     Answer, Answered, Filter, MOST_CAPTURES, MOST_LISTENERS, Placed, Report, Spec, Step, Trace,
 };
-pub use run::{replay, trace};

@@ -11,8 +11,8 @@ use crate::fault::Fault;
 use bpfvm::Program;
 use filtergen::{Refusal, compile};
 use listener::{Listener, OpenFault};
-use playback::{Filter, Spec, Watched};
 use std::alloc::Global;
+use tap_steps::{Filter, Spec, Watched};
 
 /// Why the text of the l-th listener is no expression.
 fn misread(l: u32, fault: filterlang::Fault) -> Fault

@@ -6,15 +6,15 @@ ghost use Rattle.tap.specs.Headline.{Replays};
 ghost use Rattle.tap.specs.Refusals.{IsFirst, NoneStands};
 ghost use Rattle.tap.specs.Opening.{ComesTo};
 ghost use Rattle.tap.specs.declared.fault.Fault.TheVariants.{NoMemory};
-ghost use Rattle.playback.specs.declared.playlist.Placed.{Placed};
+ghost use Rattle.tap_steps.specs.declared.playlist.Placed.{Placed};
 
 use crate::fault::Fault;
 use crate::open::open_all;
-use playback::{
+use std::alloc::Global;
+use tap_steps::{
     MOST_CAPTURES, MOST_LISTENERS, Playlist, Report, Spec, Step, Trace, Watched, first_missing,
     play, read_playlist, report_all, trace_all,
 };
-use std::alloc::Global;
 
 /// What a replay came to.
 #[derive(Drop)]

@@ -6,7 +6,7 @@ ghost use Rattle.filterlang.specs.Numbers.{is_in_run, numeral, octet, octets, at
 ghost use Rattle.filterlang.specs.Finding.{IsLengthWithin};
 
 use crate::token::{Kind, Parts};
-use syntax::EthernetAddress;
+use filter_tree::EthernetAddress;
 
 /// The most bytes of an Ethernet address.
 const MAX_ETHERNET: usize = 17;

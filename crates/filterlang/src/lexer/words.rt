@@ -5,7 +5,7 @@ ghost use Rattle.filterlang.specs.Words.{words, names, signs, stands, stands_who
 ghost use Rattle.filterlang.specs.Finding.{IsLengthWithin, first_of};
 
 use crate::token::{Joint, Kind, Protocol, Side, TypeWord};
-use syntax::{Comparison, Operator};
+use filter_tree::{Comparison, Operator};
 
 /// The words of pcap-filter(7), the hyphenated ones first: of two that stand at a place the first is meant.
 pub(crate) const WORDS: [(&[u8], Kind); 38] = [

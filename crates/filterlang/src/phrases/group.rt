@@ -1,7 +1,7 @@
 //! The identifiers of a group, which stand under one phrase.
 
 ghost use Rattle.filterlang.specs.Phrases.{kinds};
-ghost use Rattle.syntax.specs.Trees.{tree_of};
+ghost use Rattle.filter_tree.specs.Trees.{tree_of};
 ghost use Rattle.filterlang.specs.Readers.{Gives};
 ghost use Rattle.filterlang.specs.Reading.{group_at, group_term_at};
 
@@ -11,8 +11,8 @@ use crate::lookahead::{Beginning, look_ahead};
 use crate::phrases::joint_at;
 use crate::phrases::qualifiers::Qualifiers;
 use crate::tree::{joined_by, negated};
+use filter_tree::Expr;
 use std::alloc::Global;
-use syntax::Expr;
 
 impl<'a> Cursor<'a> {
     /// Identifiers under one phrase, joined by `and` and `or`.

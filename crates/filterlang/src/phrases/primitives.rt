@@ -9,7 +9,7 @@ ghost use Rattle.filterlang.specs.Reading.{plain_at, unqualified_at, broadcast_a
 use crate::phrases::qualifiers::Phrase;
 use crate::phrases::{bare_number_at, begins_identifier, next};
 use crate::token::{Kind, Protocol, Token};
-use syntax::{Plain, Primitive};
+use filter_tree::{Plain, Primitive};
 
 /// A protocol word that is a primitive of its own.
 pub(crate) fn plain_of(protocol: Protocol) -> Option<Plain>

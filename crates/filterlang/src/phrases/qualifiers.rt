@@ -6,7 +6,7 @@ ghost use Rattle.filterlang.specs.Qualifiers.{network_of, transport_of, qualifie
 ghost use Rattle.filterlang.specs.declared.phrases.qualifiers.Qualifiers.TheVariants.{Net, IpProto, EtherProto};
 
 use crate::token::{Parts, Protocol, TypeWord};
-use syntax::{Direction, EthernetAddress, Network, Primitive, Transport};
+use filter_tree::{Direction, EthernetAddress, Network, Primitive, Transport};
 
 /// The qualifiers before an identifier, as they are written.
 #[derive(Clone, Copy)]

@@ -2,7 +2,7 @@
 
 ghost use Rattle.std.specs.Prelude.{◌≡◌, option_map, box_value};
 ghost use Rattle.filterlang.specs.Phrases.{kinds};
-ghost use Rattle.syntax.specs.Trees.{amount_of};
+ghost use Rattle.filter_tree.specs.Trees.{amount_of};
 ghost use Rattle.filterlang.specs.Operators.{precedence_of, divides, is_zero, layer_of, size_of};
 ghost use Rattle.filterlang.specs.Readers.{Gives};
 ghost use Rattle.filterlang.specs.ValueReading.{operator_at, operated};
@@ -10,8 +10,8 @@ ghost use Rattle.filterlang.specs.ValueReading.{operator_at, operated};
 use crate::fault::Fault;
 use crate::phrases::next;
 use crate::token::{Kind, Protocol, Token};
+use filter_tree::{Layer, Operator, Size, Value};
 use std::alloc::Global;
-use syntax::{Layer, Operator, Size, Value};
 
 /// The precedence of the operators that bind most loosely.
 pub(crate) const LOOSEST: usize = 6;

@@ -1,7 +1,7 @@
 use Rattle.std.proofs.Common.{sym, ap, ◌∙◌, subst}
 use Rattle.handover.specs.Rule.{profile_of}
 use Rattle.replay.specs.Reports.{IsReported}
-use Rattle.tasks.specs.declared.task.Task.{Task}
+use Rattle.replay_types.specs.declared.task.Task.{Task}
 use Rattle.replay.proofs.Rings.{ring_of_same}
 use Rattle.replay.proofs.reporting.report_task.Goals as goal
 

@@ -1,6 +1,6 @@
 use Rattle.std.proofs.Common.{All, length, ap, arith, rules, subst}
 use Rattle.std.proofs.lemmas.List.Elements.{All-head, All-rest}
-use Rattle.tasks.specs.Refusals.{IsInBounds}
+use Rattle.replay_types.specs.Refusals.{IsInBounds}
 use Rattle.replay.specs.Setups.{HasLinks, IsLaidFor}
 use Rattle.replay.proofs.Lists.{completed, completes-next, grown, zip-pushed}
 use Rattle.replay.proofs.setup.lay_all.Goals as goal

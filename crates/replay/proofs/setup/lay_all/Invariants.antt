@@ -1,6 +1,6 @@
 use Rattle.std.proofs.Common.{◌≡◌, ◌+◌, ◌≤◌, All, length, vec_capacity}
 use Rattle.std.specs.List.{AllZip}
-use Rattle.tasks.specs.Refusals.{IsInBounds}
+use Rattle.replay_types.specs.Refusals.{IsInBounds}
 use Rattle.replay.specs.Setups.{HasLinks, IsLaidFor}
 use Rattle.replay.proofs.Lists.{Completes}
 use Rattle.replay.proofs.setup.lay_all.Given as goal

@@ -4,7 +4,7 @@ use Rattle.std.proofs.lemmas.List.{take_more}
 use Rattle.std.proofs.lemmas.Option.{slice_get_read}
 use Rattle.std.proofs.lemmas.Result.{err_from_is_err_and}
 use Rattle.tap.specs.Opening.{Opened}
-use Rattle.playback.proofs.Counting.{zip_push}
+use Rattle.tap_steps.proofs.Counting.{zip_push}
 use Rattle.tap.proofs.Headline.{stand_opened, refuses_one}
 use Rattle.tap.proofs.open.open_all.Goals as goal
 

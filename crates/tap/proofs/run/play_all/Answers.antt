@@ -1,9 +1,9 @@
 use Rattle.std.proofs.Common.{All, inl, inr, sym, ap, ◌∙◌, subst, arith}
 use Rattle.std.proofs.lemmas.List.{length-map}
-use Rattle.playback.specs.OwnSteps.{Names}
+use Rattle.tap_steps.specs.OwnSteps.{Names}
 use Rattle.tap.specs.Opening.{Opened}
-use Rattle.playback.specs.Watching.{played}
-use Rattle.playback.proofs.Counting.{zip_length}
+use Rattle.tap_steps.specs.Watching.{played}
+use Rattle.tap_steps.proofs.Counting.{zip_length}
 use Rattle.tap.proofs.Headline.{fit_opened, stand_opened}
 use Rattle.tap.proofs.run.play_all.Goals as goal
 

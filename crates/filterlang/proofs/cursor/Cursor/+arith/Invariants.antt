@@ -1,6 +1,6 @@
 use Rattle.std.proofs.Common.{◌≡◌, ◌+◌, ◌*◌, length}
 use Rattle.filterlang.specs.Phrases.{kinds}
-use Rattle.syntax.specs.Trees.{amount_of}
+use Rattle.filter_tree.specs.Trees.{amount_of}
 use Rattle.filterlang.specs.Readers.{chain}
 use Rattle.filterlang.specs.ValueReading.{operators, arith_at}
 use Rattle.filterlang.proofs.cursor.Cursor.+arith.Given as goal

@@ -1,6 +1,6 @@
 use Rattle.std.proofs.Common.{◌≡◌, ◌+◌, ◌*◌, length}
 use Rattle.filterlang.specs.Phrases.{kinds}
-use Rattle.syntax.specs.Trees.{tree_of}
+use Rattle.filter_tree.specs.Trees.{tree_of}
 use Rattle.filterlang.specs.Readers.{chain}
 use Rattle.filterlang.specs.Reading.{joints, group_at, group_term_at}
 use Rattle.filterlang.proofs.cursor.Cursor.+group.Given as goal

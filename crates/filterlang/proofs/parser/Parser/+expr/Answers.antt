@@ -1,6 +1,6 @@
 use Rattle.std.proofs.Common.{sym, ◌∙◌}
 use Rattle.filterlang.specs.Phrases.{kinds}
-use Rattle.syntax.specs.Trees.{tree_of}
+use Rattle.filter_tree.specs.Trees.{tree_of}
 use Rattle.filterlang.specs.Reading.{joints, term_at}
 use Rattle.filterlang.proofs.Chains.{turn_shorter, chain_turn}
 use Rattle.filterlang.proofs.Shorter.{joints_shorter, term_shortens}

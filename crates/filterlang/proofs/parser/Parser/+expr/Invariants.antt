@@ -1,6 +1,6 @@
 use Rattle.std.proofs.Common.{◌≡◌, ◌+◌, ◌*◌, length}
 use Rattle.filterlang.specs.Phrases.{kinds}
-use Rattle.syntax.specs.Trees.{tree_of}
+use Rattle.filter_tree.specs.Trees.{tree_of}
 use Rattle.filterlang.specs.Readers.{chain}
 use Rattle.filterlang.specs.Reading.{joints, expr_at, term_at}
 use Rattle.filterlang.proofs.parser.Parser.+expr.Given as goal

@@ -1,5 +1,5 @@
 use Rattle.std.proofs.Common.{refl}
-use Rattle.syntax.specs.Trees.{tree_of}
+use Rattle.filter_tree.specs.Trees.{tree_of}
 use Rattle.filterlang.proofs.Closing.{group_gives}
 use Rattle.filterlang.proofs.parser.Parser.started.Goals as goal
 

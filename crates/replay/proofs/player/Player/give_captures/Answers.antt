@@ -2,7 +2,7 @@ use Rattle.std.proofs.Common.{◌++◌, sym, rules, subst, length}
 use Rattle.std.proofs.lemmas.List.Elements.{All-append}
 use Rattle.replay.specs.Captures.{GivesPlaylist, arrivals_from}
 use Rattle.replay.specs.Lines.{HasArrived}
-use Rattle.tasks.specs.declared.report.InterfaceEnd.{InterfaceEnd}
+use Rattle.replay_types.specs.declared.report.InterfaceEnd.{InterfaceEnd}
 use Rattle.replay.specs.Writing.{IsTimely}
 use Rattle.replay.proofs.Played.{loop-read, loop-unread, plays-all}
 use Rattle.replay.proofs.Timely.{writable-timely}

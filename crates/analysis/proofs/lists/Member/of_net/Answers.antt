@@ -1,8 +1,0 @@
-use Rattle.analysis.specs.Lists.{no_bytes}
-use Rattle.analysis.proofs.Members.{net-member, weighed-net}
-use Rattle.analysis.proofs.lists.Member.of_net.Goals as goal
-
-pub returns-in-Some : goal.returns-in-Some
-returns-in-Some c =
-    rw (c.net_form.ensures, c.in-Some.ensures)
-    (record { same = λ p. net-member c.args.network c.args.direction c.args.address c.args.mask 0 no_bytes p; weighs = weighed-net c.args.network })

@@ -1,0 +1,79 @@
+//! The words of `bpftap check`, by `clap`.
+
+use crate::arguments::Argument;
+use crate::subcommand::subcommand;
+use clap::{ArgMatches, Command};
+use cli_text::fields::snapshot_length;
+use std::alloc::{AllocError, Global};
+
+/// What one call of `bpftap check` asks for.
+#[derive(Clone, Copy)]
+pub struct CheckWords<'a> {
+    /// The expression, where no listing is given.
+    pub expr: Option<&'a str>,
+    /// The path of the listing, where `-f` is given.
+    pub listing: Option<&'a str>,
+    /// The snapshot length of an expression's program, 1 to [`cli_text::MAX_SNAP`].
+    pub snap: u32,
+    /// Whether the program is printed by the names of its instructions.
+    pub named: bool,
+    /// Whether the expression is printed as it was read, and no program.
+    pub read: bool,
+}
+
+const CHECK_EXAMPLES: &str = "Examples:
+  bpftap check 'tcp dst port 80 or 443'
+  bpftap check -d 'tcp dst port 80 or 443'    the same program, for a person to read
+  bpftap check -x 'tcp dst port 80 or 443'    what was read: tcp dst port 80 or tcp dst port 443
+  tcpdump -y EN10MB -ddd 'udp port 53' | bpftap check -d -f /dev/stdin
+  bpftap check 'tcp and 80'       prints bpftap: NoQualifier 8
+  bpftap check ''                 the empty expression accepts every packet
+
+What is printed is a line with the number of instructions, and a line code jt jf k for each:
+tcpdump -ddd prints the same form, and cut -f reads it. With -d it is a line for each
+instruction by its name, as tcpdump -d prints it. With -x it is the expression as it was read, on
+one line, also where its program is too long. -s is for an expression alone. An expression that
+begins with - is written in parentheses. The number behind a fault's name is the byte of the
+expression that it stands at, from 0; docs/LANGUAGE.md has the language.
+
+Exit status: 0 the program is printed; 1 the expression or listing is refused or the program is
+too long, wrong words, or want of memory; 3 a file or standard output failed.";
+
+static ARGUMENTS: [Argument; 5] = [
+    Argument::Flag(
+        "named",
+        'd',
+        "Print instructions by their names, as tcpdump -d does",
+    ),
+    Argument::Read,
+    Argument::DefaultSnap,
+    Argument::Text(
+        "listing",
+        'f',
+        "LISTING",
+        "Print the program of this file, which is in the form of tcpdump -ddd",
+    ),
+    Argument::Word,
+];
+
+/// The subcommand.
+pub fn check_command<'a>(alloc: Global) -> Result<Command<'a>, AllocError> {
+    subcommand(
+        alloc,
+        "check",
+        "Print the program of a filter expression, or tell what is wrong with it",
+        CHECK_EXAMPLES,
+        &ARGUMENTS,
+    )
+}
+
+/// The words that were found, nothing where one is missing or the snapshot length is none.
+pub fn check_words<'a>(matches: &ArgMatches<'a>) -> Option<CheckWords<'a>> {
+    Some(CheckWords {
+        expr: matches.get_str("EXPR"),
+        listing: matches.get_str("listing"),
+        snap: snapshot_length(matches.get_str("snap")?.as_bytes())?,
+        named: matches.get_flag("named"),
+        read: matches.get_flag("read"),
+    })
+}

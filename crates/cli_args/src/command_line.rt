@@ -1,0 +1,302 @@
+//! The words of the command line, by `clap`.
+use crate::arguments::Argument;
+use crate::check::{CheckWords, check_command, check_words};
+use crate::explain::{ExplainWords, bad_explain_words, explain_command, explain_words};
+use crate::run::{RunWords, run_command, run_words};
+use crate::split::{SplitWords, split_command, split_words};
+use crate::steps::{StepsWords, steps_command, steps_words};
+use crate::subcommand::{bad_value, subcommand};
+use clap::error::ErrorKind;
+use clap::{Arg, ArgAction, ArgMatches, Command, Error};
+use cli_text::fields::snapshot_length;
+use savefile::{Order, Unit};
+use std::alloc::{AllocError, Global};
+use std::convert::AsStr;
+
+/// What one call of `bpftap cut` asks for.
+#[derive(Clone, Copy)]
+pub struct CutWords<'a> {
+    /// The snapshot length, 1 to [`cli_text::MAX_SNAP`].
+    pub snap: u32,
+    /// The path of the listing, where `-f` is given.
+    pub listing: Option<&'a str>,
+    /// The expression, where `-e` is given.
+    pub expr: Option<&'a str>,
+    pub order: Order,
+    pub unit: Unit,
+    /// Whether the packets are counted on standard error.
+    pub counted: bool,
+    /// The path of the capture that is read.
+    pub input: &'a str,
+    /// The path of the capture that is written.
+    pub output: &'a str,
+}
+
+/// What the words ask for.
+#[derive(Drop)]
+pub enum Request<'a> {
+    Check(CheckWords<'a>),
+    Explain(ExplainWords<'a>),
+    Cut(CutWords<'a>),
+    Steps(StepsWords<'a>),
+    Run(RunWords<'a>),
+    Split(SplitWords<'a>),
+}
+
+/// What the program calls itself, and in which logic it was proved, as `rt version` names it. Kits share one.
+const VERSION: &str = "0.1.0, proved in the logic dac8208d650f15bf";
+
+const ABOUT: &str =
+    "Filters captures offline, and replays them to listeners that keep and drop packets";
+
+const EXAMPLES: &str = "Examples:
+  bpftap check 'tcp dst port 80 or 443'
+  bpftap explain -e 'tcp dst port 80 or 443' examples/veth.pcap
+  bpftap cut -s 0 -e 'udp port 5353' examples/veth.pcap dns.pcap
+  bpftap cut -s 0 -f examples/ip.bpf examples/veth.pcap ip.pcap
+  bpftap split examples/split/lines.txt examples/veth.pcap
+  bpftap steps -v examples/steps/listeners.txt examples/steps/script.txt examples/veth.pcap
+  bpftap run examples/run/listeners.txt examples/veth.pcap
+
+Exit status: 0 clean; 1 wrong words, a refused expression, file or listing, or want of memory;
+2 a torn or bad record, after the packets before it; 3 a file or device failed.";
+
+const CUT_EXAMPLES: &str = "Examples:
+  bpftap cut -s 0 -e 'udp port 5353' examples/veth.pcap dns.pcap
+  bpftap cut -s 0 -f examples/ip.bpf examples/veth.pcap ip.pcap
+  bpftap cut -s 64 examples/veth.pcap headers.pcap     the first 64 bytes of every packet
+
+-e and -f exclude each other. An expression that begins with - is written in parentheses.
+
+Exit status: 0 clean; 1 wrong words, a refused expression, file or listing, or want of memory;
+2 a torn or bad record, after the packets before it; 3 a file or device failed.";
+
+/// The subcommands, in the order of the help.
+static SUBCOMMANDS: [&str; 6] = ["check", "explain", "cut", "split", "steps", "run"];
+
+/// The option that asks for hints, without its dashes.
+const HINTS: &str = "hints";
+
+/// Whether the words, the program's name first, ask for hints: by `--hints` before the subcommand.
+pub fn asks_hints<S: AsStr>(words: &[S]) -> bool {
+    match words.get(1) {
+        Some(word) => word.as_str().strip_prefix("--") == Some(HINTS),
+        None => false,
+    }
+}
+
+static CUT: [Argument; 8] = [
+    Argument::Snap,
+    Argument::Listing,
+    Argument::Text(
+        "expr",
+        'e',
+        "EXPR",
+        "Filter expression of pcap-filter(7), as one word; without -e and -f every packet is taken",
+    ),
+    Argument::Order,
+    Argument::Unit,
+    Argument::Flag(
+        "counted",
+        'c',
+        "Tell on standard error how many of how many packets were written",
+    ),
+    Argument::Path(
+        "IN",
+        "Capture to read: a classic savefile of Ethernet frames",
+    ),
+    Argument::Path(
+        "OUT",
+        "Capture to write; made once the filter and the header of IN are accepted",
+    ),
+];
+
+fn cut_command<'a>(alloc: Global) -> Result<Command<'a>, AllocError> {
+    subcommand(
+        alloc,
+        "cut",
+        "Write each packet of IN that the filter accepts, cut, to OUT",
+        CUT_EXAMPLES,
+        &CUT,
+    )
+}
+
+fn hints_arg<'a>(alloc: Global) -> Arg<'a> {
+    Arg::new(alloc, "hints")
+        .long(HINTS)
+        .action(ArgAction::SetTrue)
+        .help("Say below a fault what helps to mend it, as where it is told on a terminal")
+}
+
+/// The program without its subcommands.
+fn bare_program<'a>(alloc: Global) -> Command<'a> {
+    Command::new(alloc, "bpftap")
+        .version(VERSION)
+        .about(ABOUT)
+        .after_help(EXAMPLES)
+        .subcommand_required(true)
+        .arg_required_else_help(true)
+}
+
+/// The subcommand of this name.
+fn subcommand_of<'a>(alloc: Global, name: &str) -> Result<Command<'a>, AllocError> {
+    match name {
+        "check" => check_command(alloc),
+        "explain" => explain_command(alloc),
+        "cut" => cut_command(alloc),
+        "split" => split_command(alloc),
+        "steps" => steps_command(alloc),
+        _ => run_command(alloc),
+    }
+}
+
+fn program<'a>(alloc: Global) -> Result<Command<'a>, AllocError> {
+    let mut program = bare_program(alloc).arg(hints_arg(alloc))?;
+    for name in SUBCOMMANDS.iter() {
+        let subcommand = subcommand_of(alloc, *name)?;
+        program = program.subcommand(subcommand)?;
+    }
+    Ok(program)
+}
+
+pub(crate) fn order_of(matches: &ArgMatches<'_>) -> Order {
+    match matches.get_str("order") {
+        Some("big") => Order::Big,
+        _ => Order::Little,
+    }
+}
+
+pub(crate) fn unit_of(matches: &ArgMatches<'_>) -> Unit {
+    match matches.get_str("unit") {
+        Some("nano") => Unit::Nano,
+        _ => Unit::Micro,
+    }
+}
+
+/// What the words of a subcommand of one capture, or of none, ask for; nothing where one is missing or wrong.
+fn single_request_of<'a>(name: &str, words: &ArgMatches<'a>) -> Option<Request<'a>> {
+    match name {
+        "check" => Some(Request::Check(check_words(words)?)),
+        "explain" => Some(Request::Explain(explain_words(words)?)),
+        "cut" => Some(Request::Cut(cut_words(words)?)),
+        _ => None,
+    }
+}
+
+/// What the words of `steps` ask for; nothing where one is missing.
+fn steps_request_of<'a>(
+    alloc: Global,
+    words: &ArgMatches<'a>,
+) -> Result<Option<Request<'a>>, AllocError> {
+    Ok(steps_words(alloc, words)?.map(Request::Steps))
+}
+
+/// The same of `run`.
+fn run_request_of<'a>(
+    alloc: Global,
+    words: &ArgMatches<'a>,
+) -> Result<Option<Request<'a>>, AllocError> {
+    Ok(run_words(alloc, words)?.map(Request::Run))
+}
+
+/// The same of `split`.
+fn split_request_of<'a>(
+    alloc: Global,
+    words: &ArgMatches<'a>,
+) -> Result<Option<Request<'a>>, AllocError> {
+    Ok(split_words(alloc, words)?.map(Request::Split))
+}
+
+/// What the words of a subcommand ask for; nothing where one is missing or wrong.
+fn request_of<'a>(
+    alloc: Global,
+    name: &str,
+    words: &ArgMatches<'a>,
+) -> Result<Option<Request<'a>>, AllocError> {
+    match name {
+        "steps" => steps_request_of(alloc, words),
+        "run" => run_request_of(alloc, words),
+        "split" => split_request_of(alloc, words),
+        _ => Ok(single_request_of(name, words)),
+    }
+}
+
+/// What is wrong with words of a subcommand that `clap` took: of `cut` and `check` the snapshot length, of `explain` that or the
+/// place; of the others a word is missing, which `clap` has told.
+fn bad_words(
+    alloc: Global,
+    name: &str,
+    words: &ArgMatches<'_>,
+    program: &mut Command<'_>,
+) -> Result<Error, AllocError> {
+    match name {
+        "check" | "cut" => bad_snap(alloc, name),
+        "explain" => bad_explain_words(alloc, words),
+        _ => program.error(ErrorKind::MissingRequiredArgument, "a word is wanted"),
+    }
+}
+
+/// What words of a subcommand that `clap` took ask for, or what is wrong with them.
+fn asked_of<'a>(
+    alloc: Global,
+    name: &str,
+    words: &ArgMatches<'a>,
+    program: &mut Command<'_>,
+) -> Result<Request<'a>, Error> {
+    match request_of(alloc, name, words)? {
+        Some(request) => Ok(request),
+        None => Err(bad_words(alloc, name, words, program)?),
+    }
+}
+
+/// What the words ask for, by this program.
+fn read_by<'a, S: AsStr>(
+    alloc: Global,
+    program: &mut Command<'a>,
+    words: &'a [S],
+) -> Result<Request<'a>, Error> {
+    let matches = program.try_get_matches_from_mut(words)?;
+    asked_by(alloc, &matches, program)
+}
+
+/// What words that `clap` took ask for.
+fn asked_by<'a>(
+    alloc: Global,
+    matches: &ArgMatches<'a>,
+    program: &mut Command<'_>,
+) -> Result<Request<'a>, Error> {
+    match matches.subcommand() {
+        Some((name, words)) => asked_of(alloc, name, words, program),
+        None => Err(program.error(ErrorKind::MissingSubcommand, "a subcommand is wanted")?),
+    }
+}
+
+/// What the words ask for, the program's name first; or `clap`'s error, which for a call for help has the help.
+pub fn read_words<'a, S: AsStr>(alloc: Global, words: &'a [S]) -> Result<Request<'a>, Error> {
+    let mut program = program(alloc)?;
+    read_by(alloc, &mut program, words)
+}
+
+/// What a snapshot length is.
+const SNAP_WANTED: &str = "-s takes a number from 0 to 262144";
+
+/// The error of a snapshot length that is not digits alone, with the usage of its subcommand.
+fn bad_snap(alloc: Global, name: &str) -> Result<Error, AllocError> {
+    match name {
+        "check" => bad_value(check_command(alloc), "bpftap check", SNAP_WANTED),
+        _ => bad_value(cut_command(alloc), "bpftap cut", SNAP_WANTED),
+    }
+}
+
+fn cut_words<'a>(matches: &ArgMatches<'a>) -> Option<CutWords<'a>> {
+    Some(CutWords {
+        snap: snapshot_length(matches.get_str("snap")?.as_bytes())?,
+        listing: matches.get_str("listing"),
+        expr: matches.get_str("expr"),
+        order: order_of(matches),
+        unit: unit_of(matches),
+        counted: matches.get_flag("counted"),
+        input: matches.get_str("IN")?,
+        output: matches.get_str("OUT")?,
+    })
+}

@@ -1,0 +1,117 @@
+//! The words of `bpftap explain`, by `clap`.
+
+use crate::arguments::Argument;
+use crate::subcommand::{bad_value, subcommand};
+use clap::{ArgGroup, ArgMatches, Command, Error};
+use cli_text::fields::snapshot_length;
+use std::alloc::{AllocError, Global};
+
+/// What one call of `bpftap explain` asks for.
+#[derive(Clone, Copy)]
+pub struct ExplainWords<'a> {
+    /// The snapshot length of an expression's program, 1 to [`cli_text::MAX_SNAP`].
+    pub snap: u32,
+    /// The expression, where `-e` is given.
+    pub expr: Option<&'a str>,
+    /// The path of the listing, where `-f` is given.
+    pub listing: Option<&'a str>,
+    /// The place of the packet that is told in full, where `-p` is given.
+    pub place: Option<u64>,
+    /// The path of the capture.
+    pub input: &'a str,
+}
+
+const EXPLAIN_EXAMPLES: &str = "Examples:
+  bpftap explain -e 'tcp dst port 80 or 443' examples/veth.pcap
+  bpftap explain -p 2 -e 'tcp dst port 80 or 443' examples/veth.pcap
+  tcpdump -y EN10MB -ddd 'udp port 53' | bpftap explain -f /dev/stdin examples/veth.pcap
+
+For each packet a line is printed with its place, time and lengths; Yes, No or Abort; and the
+primitive or relation that decided, behind not where it stands under one. Abort: a byte past the
+captured ones was wanted, or a divisor was 0, and no not turns that. For a listing it is the number
+that the program returned, and the place and name of the instruction where its run ended; -s is for
+an expression alone. At the end stand the counts. With -p that packet is told in full: how the
+expression was read, what each primitive looked at, and the program's run. Places count from 0
+here; tcpdump and Wireshark count packets from 1.
+
+Exit status: 0 clean; 1 wrong words, a refused expression, file or listing, no packet at PLACE, or
+want of memory; 2 a torn or bad record, after the packets before it; 3 a file or device failed.";
+
+/// A filter is wanted: an expression, a listing, or both.
+fn filter_group<'a>(alloc: Global) -> Result<ArgGroup<'a>, AllocError> {
+    ArgGroup::new(alloc, "filter")
+        .required(true)
+        .multiple(true)
+        .arg("expr")?
+        .arg("listing")
+}
+
+static ARGUMENTS: [Argument; 5] = [
+    Argument::DefaultSnap,
+    Argument::Text(
+        "expr",
+        'e',
+        "EXPR",
+        "Filter expression of pcap-filter(7), as one word; it may be empty",
+    ),
+    Argument::Listing,
+    Argument::Number(
+        "place",
+        'p',
+        "PLACE",
+        "Tell this packet alone, counted from 0, in full",
+    ),
+    Argument::Path(
+        "IN",
+        "Capture to read: a classic savefile of Ethernet frames",
+    ),
+];
+
+/// The subcommand, of which no filter is wanted.
+fn bare_command<'a>(alloc: Global) -> Result<Command<'a>, AllocError> {
+    subcommand(
+        alloc,
+        "explain",
+        "Tell of each packet of IN whether the filter accepts it, and what decided",
+        EXPLAIN_EXAMPLES,
+        &ARGUMENTS,
+    )
+}
+
+/// The subcommand.
+pub fn explain_command<'a>(alloc: Global) -> Result<Command<'a>, AllocError> {
+    let filter = filter_group(alloc)?;
+    bare_command(alloc)?.group(filter)
+}
+
+/// The place of a packet, where one is given; nothing inside where it is no number.
+fn place_of(matches: &ArgMatches<'_>) -> Option<Option<u64>> {
+    match matches.get_str("place") {
+        Some(text) => Some(Some(cli_text::fields::number(text.as_bytes(), u64::MAX)?)),
+        None => Some(None),
+    }
+}
+
+/// The words that were found, nothing where one is missing, or where the snapshot length or the place is none.
+pub fn explain_words<'a>(matches: &ArgMatches<'a>) -> Option<ExplainWords<'a>> {
+    Some(ExplainWords {
+        snap: snapshot_length(matches.get_str("snap")?.as_bytes())?,
+        expr: matches.get_str("expr"),
+        listing: matches.get_str("listing"),
+        place: place_of(matches)?,
+        input: matches.get_str("IN")?,
+    })
+}
+
+/// What a snapshot length or a place has to be that was found to be none.
+fn wanted(matches: &ArgMatches<'_>) -> &'static str {
+    match place_of(matches) {
+        Some(_) => "-s takes a number from 0 to 262144",
+        None => "-p takes a number from 0 to 18446744073709551615",
+    }
+}
+
+/// The error of a snapshot length or a place that is not digits alone.
+pub fn bad_explain_words(alloc: Global, matches: &ArgMatches<'_>) -> Result<Error, AllocError> {
+    bad_value(explain_command(alloc), "bpftap explain", wanted(matches))
+}

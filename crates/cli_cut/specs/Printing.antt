@@ -1,0 +1,59 @@
+-- What `bpftap check` prints.
+use Rattle.std.specs.Prelude.{ℕ, List, ◌++◌, Option}
+use Rattle.std.specs.Io.KnownBytes.{Appends, Keeps}
+use Rattle.bpfvm.specs.declared.insn.Insn.{Insn}
+use Rattle.bpfvm.specs.Listing.{listing_of}
+use Rattle.bpfvm.specs.Images.{image_of}
+use Rattle.filterlang.specs.Texts.{ReadsAs, IsRefusalOf}
+use Rattle.filterlang.specs.Trees.{Tree}
+use Rattle.filter_print.specs.Canonical.{canonical}
+use Rattle.filtergen.specs.declared.expression.ExpressionFault.TheVariants as faults
+use Rattle.filtergen.specs.Expressions.{IsProgramOf, IsUncompiled}
+use Rattle.cli_text.specs.Sending.{TakesPart}
+use Rattle.cli_text.specs.Telling.{end_of_line}
+use Rattle.cli_cut.specs.declared.check.Form.{Form}
+use Rattle.cli_cut.specs.declared.check.Form.TheVariants as forms
+use Rattle.cli_cut.specs.declared.check.PrintFault.{PrintFault}
+use Rattle.cli_cut.specs.declared.check.PrintFault.TheVariants as print
+
+-- what is printed of an expression: the listing of its program at the largest snapshot length
+abbrev pub Prints : Option (List ℕ) → Option (List ℕ) → List ℕ → Type 0
+Prints old new text = (program : List Insn) × IsProgramOf text 262144 program × Appends old new (listing_of program)
+
+-- what is printed of an expression as it was read: the canonical text of the tree that it reads as, on a line
+abbrev pub PrintsRead : Option (List ℕ) → Option (List ℕ) → List ℕ → Type 0
+PrintsRead old new text = (tree : Tree) × ReadsAs text tree × Appends old new (canonical tree ++ end_of_line)
+
+-- Why an expression is not printed so: it reads as no tree, and nothing was taken; or it reads as one, but memory for its text
+-- was wanting, or the writer failed, which took a beginning of it.
+abbrev pub IsUnread : Option (List ℕ) → Option (List ℕ) → List ℕ → PrintFault → Type 0
+IsUnread old new text (print.Expression (faults.Text fault)) = IsRefusalOf text fault × Keeps old new
+IsUnread old new text (print.Expression (faults.Tree refusal)) = ⊥
+IsUnread old new text print.NoMemory = (tree : Tree) × ReadsAs text tree × Keeps old new
+IsUnread old new text (print.Output error) = (tree : Tree) × ReadsAs text tree × TakesPart old new (canonical tree ++ end_of_line)
+
+-- a program as numbers, or by the names of its instructions
+abbrev pub program_text : Form → List Insn → List ℕ
+program_text forms.Listing program = listing_of program
+program_text forms.Image program = image_of program
+
+-- Why a text is not printed: memory for it was wanting, and nothing was taken; or the writer failed, which took a beginning of it.
+abbrev pub IsUnprinted : Option (List ℕ) → Option (List ℕ) → List ℕ → PrintFault → Type 0
+IsUnprinted old new text (print.Expression fault) = ⊥
+IsUnprinted old new text print.NoMemory = Keeps old new
+IsUnprinted old new text (print.Output error) = TakesPart old new text
+
+-- why a program is not printed
+abbrev pub IsUnshown : Option (List ℕ) → Option (List ℕ) → Form → List Insn → PrintFault → Type 0
+IsUnshown old new form program fault = IsUnprinted old new (program_text form program) fault
+
+-- Why the listing of an expression's program is not printed: the expression has none, and nothing was taken; or it has one, which
+-- is not printed.
+abbrev pub IsUnchecked : Option (List ℕ) → Option (List ℕ) → List ℕ → PrintFault → Type 0
+IsUnchecked old new text (print.Expression fault) = IsUncompiled text 262144 fault × Keeps old new
+IsUnchecked old new text fault = (program : List Insn) × IsProgramOf text 262144 program × IsUnshown old new forms.Listing program fault
+
+-- the writer failed, and took a beginning of a text
+abbrev pub IsPart : Option (List ℕ) → Option (List ℕ) → List ℕ → PrintFault → Type 0
+IsPart old new text (print.Output error) = TakesPart old new text
+IsPart old new text fault = ⊥

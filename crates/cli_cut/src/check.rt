@@ -1,0 +1,129 @@
+//! A filter expression that is looked at: the functions under `bpftap check`.
+
+ghost use Rattle.std.specs.Prelude.{◌≡◌, ◌++◌, IfOk, OnOk, IfErr, string_bytes};
+ghost use Rattle.std.specs.Io.KnownBytes.{Appends};
+ghost use Rattle.filterlang.specs.Trees.{tree_of};
+ghost use Rattle.cli_text.specs.Telling.{end_of_line};
+ghost use Rattle.filter_print.specs.Canonical.{canonical};
+ghost use Rattle.cli_cut.specs.Printing.{Prints, PrintsRead, IsPart, IsUnchecked, IsUnprinted, IsUnread, IsUnshown, program_text};
+
+use bpfvm::{NoMemory, Program, write_image, write_listing};
+use cli_text::MAX_SNAP;
+use cli_text::sending::send;
+use filter_print::Canonical;
+use filtergen::{ExpressionFault, compile_text};
+use filterlang::{Expr, parse};
+use std::alloc::Global;
+use std::io;
+use std::io::Write;
+use thiserror::Error;
+
+/// Why a program is not printed.
+#[derive(Debug, Drop, Error)]
+pub enum PrintFault {
+    /// The expression has no program, and nothing is printed.
+    #[error("{0}")]
+    Expression(ExpressionFault),
+    /// Memory is wanting for the text, and nothing is printed.
+    #[error("NoMemory")]
+    NoMemory,
+    /// The writer failed, and a beginning of the text was printed.
+    #[error("{0}")]
+    Output(io::Error),
+}
+
+/// Prints the listing of an expression's program at the largest snapshot length, 262,144.
+///
+/// The fault is the one that stands: [`PrintFault::Expression`] of a text which is no expression, or is too deep or too long to
+/// compile; of an expression it may also be `NoMemory`. Where there is a program, [`PrintFault::NoMemory`] where memory for its
+/// listing was refused, and [`PrintFault::Output`] where `out` fails, which then took a beginning of the listing and no more.
+pub fn check<O: Write>(alloc: Global, expr: &str, out: &mut O) -> Result<(), PrintFault>
+    ensures printed { OnOk result (Prints (O.contents out.old) (O.contents out.new) expr.now) }
+    ensures fault { IfErr result (IsUnchecked (O.contents out.old) (O.contents out.new) expr.now) }
+{
+    match compile_text(alloc, expr, MAX_SNAP) {
+        Ok(program) => show(alloc, &program, Form::Listing, out),
+        Err(fault) => Err(PrintFault::Expression(fault)),
+    }
+}
+
+/// How a program is printed.
+#[derive(Clone, Copy, Debug, PartialEq, Eq)]
+pub enum Form {
+    /// As numbers, for a program to read: what `tcpdump -ddd` prints.
+    Listing,
+    /// By the names of its instructions, for a person: what `tcpdump -d` prints.
+    Image,
+}
+
+fn text_of(alloc: Global, program: &Program, form: Form) -> Result<Vec<u8>, NoMemory>
+    ensures { IfOk result (λ text. text.items ≡ program_text form program.now) }
+{
+    match form {
+        Form::Listing => write_listing(alloc, program),
+        Form::Image => write_image(alloc, program),
+    }
+}
+
+/// Prints a text. The fault is [`PrintFault::Output`], and then a beginning of it was printed.
+fn print<O: Write>(text: &[u8], out: &mut O) -> Result<(), PrintFault>
+    ensures printed { OnOk result (Appends (O.contents out.old) (O.contents out.new) text.now) }
+    ensures fault { IfErr result (IsPart (O.contents out.old) (O.contents out.new) text.now) }
+{
+    match send(text, out) {
+        Ok(()) => Ok(()),
+        Err(error) => Err(PrintFault::Output(error)),
+    }
+}
+
+/// Prints a program in one of two forms. The fault is [`PrintFault::NoMemory`], and then nothing was printed, or
+/// [`PrintFault::Output`]: `out` failed, and took a beginning of the text and no more.
+pub fn show<O: Write>(
+    alloc: Global,
+    program: &Program,
+    form: Form,
+    out: &mut O,
+) -> Result<(), PrintFault>
+    ensures printed { OnOk result (Appends (O.contents out.old) (O.contents out.new) (program_text form program.now)) }
+    ensures fault { IfErr result (IsUnshown (O.contents out.old) (O.contents out.new) form program.now) }
+{
+    match text_of(alloc, program, form) {
+        Ok(text) => print(text.as_slice(), out),
+        Err(_) => Err(PrintFault::NoMemory),
+    }
+}
+
+/// The line of an expression as it was read.
+fn read_line(alloc: Global, expr: &Expr) -> Result<String, NoMemory>
+    ensures { IfOk result (λ line. string_bytes line ≡ canonical (tree_of expr.now) ++ end_of_line) }
+{
+    let mut line = String::new(alloc);
+    writeln!(line, "{}", Canonical(expr))?;
+    Ok(line)
+}
+
+/// Prints an expression on a line.
+fn print_read<O: Write>(alloc: Global, expr: &Expr, out: &mut O) -> Result<(), PrintFault>
+    ensures printed { OnOk result (Appends (O.contents out.old) (O.contents out.new) (canonical (tree_of expr.now) ++ end_of_line)) }
+    ensures fault { IfErr result (IsUnprinted (O.contents out.old) (O.contents out.new) (canonical (tree_of expr.now) ++ end_of_line)) }
+{
+    match read_line(alloc, expr) {
+        Ok(line) => print(line.as_bytes(), out),
+        Err(_) => Err(PrintFault::NoMemory),
+    }
+}
+
+/// Prints an expression as it was read, on one line: its canonical text, in which all that was inherited is written out. It need
+/// not compile.
+///
+/// The fault is that of a text which is no expression; or [`PrintFault::NoMemory`], and then nothing was printed; or
+/// [`PrintFault::Output`]: `out` failed, and took a beginning of the line and no more.
+pub fn show_read<O: Write>(alloc: Global, expr: &str, out: &mut O) -> Result<(), PrintFault>
+    ensures printed { OnOk result (PrintsRead (O.contents out.old) (O.contents out.new) expr.now) }
+    ensures fault { IfErr result (IsUnread (O.contents out.old) (O.contents out.new) expr.now) }
+{
+    match parse(alloc, expr) {
+        Ok(expr) => print_read(alloc, &expr, out),
+        Err(fault) => Err(PrintFault::Expression(ExpressionFault::Text(fault))),
+    }
+}

@@ -1,0 +1,131 @@
+-- Packets that are answered one by one.
+use Rattle.std.proofs.Common.{◌≡◌, ℕ, suc, ◌+◌, ◌^◌, ◌<◌, ◌≤◌, ◌⊎◌, inl, inr, Bool, List, [], ◌∷◌, ◌++◌, length, length-append, filter, Option, refl, ap, sym, subst, ◌∙◌, append_assoc, arith}
+use Rattle.std.proofs.lemmas.List.{append-nil, map-append}
+use Rattle.std.proofs.lemmas.List.Elements.{filter-append}
+use Rattle.std.proofs.KnownBytes.{Appends-trans, Appends-kept}
+use Rattle.std.specs.Io.KnownBytes.{Appends}
+use Rattle.std.specs.List.{AllByRecursion}
+use Rattle.savefile.specs.declared.packet.Packet.{Packet}
+use Rattle.filter_meaning.specs.declared.verdict.Verdict.{Verdict}
+use Rattle.filter_meaning.specs.declared.verdict.Verdict.TheVariants.{Yes, No, Abort}
+use Rattle.cli_text.specs.Sending.{TakesPart}
+use Rattle.cli_text.specs.Texts.{numbered}
+use Rattle.cli_text.proofs.Taking.{TakesPart-then}
+use Rattle.cli_explain.specs.declared.each.Counts.{Counts}
+use Rattle.cli_explain.specs.declared.each.Unprinted.{Unprinted}
+use Rattle.cli_explain.specs.declared.each.Unprinted.TheVariants.{NoMemory, Output}
+use Rattle.cli_explain.specs.declared.filter.Filter.{Filter}
+use Rattle.cli_explain.specs.Answers.{Answer, answer, IsAnswer, answer_line}
+use Rattle.cli_explain.specs.Explained.{is_yes, is_no, is_abort, count_of, counted, AreCounts, answer_lines, packets_of, PrintsLine, IsLineBroken}
+
+-- one more of them
+all-more : {X : Type 0} (P : X → Type 0) (xs : List X) (x : X) → AllByRecursion P xs → P x → AllByRecursion P (xs ++ x ∷ [])
+all-more P [] x all one = (one, tt)
+all-more P (y ∷ xs) x (first, all) one = (first, all-more P xs x all one)
+
+numbered-last : {X : Type 0} (f : ℕ → X → List ℕ) (n : ℕ) (xs : List X) (x : X) → numbered f n (xs ++ x ∷ []) ≡ numbered f n xs ++ f (n + length xs) x
+numbered-last f n [] x =
+    let same : n + 0 ≡ n = omega arith in
+    rw same (append-nil (f n x))
+numbered-last f n (y ∷ xs) x =
+    let same : suc n + length xs ≡ n + suc (length xs) = omega arith in
+    ap (λ (t : List ℕ). f n y ++ t) (numbered-last f (suc n) xs x ∙ ap (λ k. numbered f (suc n) xs ++ f k x) same)
+    ∙ sym (append_assoc (f n y) (numbered f (suc n) xs) (f (n + suc (length xs)) x))
+
+lines-last : (answers : List Answer) (a : Answer) (place : ℕ) → place ≡ length answers → answer_lines (answers ++ a ∷ []) ≡ answer_lines answers ++ answer_line place a
+lines-last answers a place here =
+    let same : 0 + length answers ≡ place = omega (arith, here) in
+    numbered-last answer_line 0 answers a ∙ ap (λ k. answer_lines answers ++ answer_line k a) same
+
+pub packets-last : (answers : List Answer) (a : Answer) → packets_of (answers ++ a ∷ []) ≡ packets_of answers ++ a.packet ∷ []
+packets-last answers a = map-append (λ (b : Answer). b.packet) answers (a ∷ [])
+
+-- ---- The counts
+
+count-last : (is : Verdict → Bool) (answers : List Answer) (a : Answer) → count_of is (answers ++ a ∷ []) ≡ count_of is answers + count_of is (a ∷ [])
+count-last is answers a =
+    ap length (filter-append (λ (b : Answer). is b.verdict) answers (a ∷ []))
+    ∙ length-append (filter (λ (b : Answer). is b.verdict) answers) (filter (λ (b : Answer). is b.verdict) (a ∷ []))
+
+counts-by : (v : Verdict) (answers : List Answer) (p : Packet) (reason : List ℕ) (c : Counts) → AreCounts c answers → AreCounts (counted v c) (answers ++ answer p v reason ∷ [])
+counts-by Yes answers p reason c are = record {
+  packets = ap (λ n. n + 1) are.packets ∙ sym (length-append answers (answer p Yes reason ∷ []));
+  yes = ap (λ n. n + 1) are.yes ∙ sym (count-last is_yes answers (answer p Yes reason));
+  no = are.no ∙ omega (arith, count-last is_no answers (answer p Yes reason));
+  abort = are.abort ∙ omega (arith, count-last is_abort answers (answer p Yes reason));
+}
+counts-by No answers p reason c are = record {
+  packets = ap (λ n. n + 1) are.packets ∙ sym (length-append answers (answer p No reason ∷ []));
+  yes = are.yes ∙ omega (arith, count-last is_yes answers (answer p No reason));
+  no = ap (λ n. n + 1) are.no ∙ sym (count-last is_no answers (answer p No reason));
+  abort = are.abort ∙ omega (arith, count-last is_abort answers (answer p No reason));
+}
+counts-by Abort answers p reason c are = record {
+  packets = ap (λ n. n + 1) are.packets ∙ sym (length-append answers (answer p Abort reason ∷ []));
+  yes = are.yes ∙ omega (arith, count-last is_yes answers (answer p Abort reason));
+  no = are.no ∙ omega (arith, count-last is_no answers (answer p Abort reason));
+  abort = ap (λ n. n + 1) are.abort ∙ sym (count-last is_abort answers (answer p Abort reason));
+}
+
+-- no count is above that of the packets
+pub counted-packets : (v : Verdict) (c : Counts) (before given : ℕ) → c.packets ≤ before → given ≡ before + 1 → (counted v c).packets ≤ given
+counted-packets Yes c before given few more = omega (arith, few, more)
+counted-packets No c before given few more = omega (arith, few, more)
+counted-packets Abort c before given few more = omega (arith, few, more)
+
+-- and there is room for one more
+pub room-for-one : (packets before given : ℕ) → packets ≤ before → (given ≡ before + 1) × (given < 2 ^ 64) → packets + 1 < 2 ^ 64
+room-for-one packets before given few more = omega (arith, few, more.0, more.1)
+
+pub counted-yes : (v : Verdict) (c : Counts) → c.yes ≤ c.packets → (counted v c).yes ≤ (counted v c).packets
+counted-yes Yes c few = omega (arith, few)
+counted-yes No c few = omega (arith, few)
+counted-yes Abort c few = omega (arith, few)
+
+pub counted-no : (v : Verdict) (c : Counts) → c.no ≤ c.packets → (counted v c).no ≤ (counted v c).packets
+counted-no Yes c few = omega (arith, few)
+counted-no No c few = omega (arith, few)
+counted-no Abort c few = omega (arith, few)
+
+pub counted-abort : (v : Verdict) (c : Counts) → c.abort ≤ c.packets → (counted v c).abort ≤ (counted v c).packets
+counted-abort Yes c few = omega (arith, few)
+counted-abort No c few = omega (arith, few)
+counted-abort Abort c few = omega (arith, few)
+
+-- ---- One packet more
+
+-- it is answered, printed and counted
+pub goes-on : (f : Filter) (old mid new : Option (List ℕ)) (answers : List Answer) (c after : Counts) (p : Packet) (v : Verdict) →
+    AllByRecursion (IsAnswer f) answers → Appends old mid (answer_lines answers) → AreCounts c answers →
+    PrintsLine f c.packets p mid new v → after ≡ counted v c →
+    (a : Answer) × (a.packet ≡ p) × AllByRecursion (IsAnswer f) (answers ++ a ∷ [])
+    × Appends old new (answer_lines (answers ++ a ∷ [])) × AreCounts after (answers ++ a ∷ [])
+goes-on f old mid new answers c after p v all lines are (reason, is, line) more =
+    let a = answer p v reason in (
+      a,
+      refl,
+      all-more (IsAnswer f) answers a all is,
+      subst (Appends old new) (sym (lines-last answers a c.packets are.packets)) (Appends-trans old mid new (answer_lines answers) (answer_line c.packets a) lines line),
+      subst (λ (k : Counts). AreCounts k (answers ++ a ∷ [])) (sym more) (counts-by v answers p reason c are),
+    )
+
+-- or its line is not printed, or a beginning of it alone
+pub breaks-off : (f : Filter) (old mid new : Option (List ℕ)) (answers : List Answer) (c : Counts) (p : Packet) (unprinted : Unprinted) →
+    AllByRecursion (IsAnswer f) answers → Appends old mid (answer_lines answers) → AreCounts c answers →
+    IsLineBroken f c.packets p mid new unprinted →
+    (told : List Answer) × AllByRecursion (IsAnswer f) told × ((packets_of told ≡ packets_of answers) ⊎ (packets_of told ≡ packets_of answers ++ p ∷ []))
+    × TakesPart old new (answer_lines told)
+breaks-off f old mid new answers c p NoMemory all lines are kept =
+    let taken = Appends-kept old mid new (answer_lines answers) lines kept in (
+      answers,
+      all,
+      inl refl,
+      record { part = answer_lines answers; begins = ([], sym (append-nil (answer_lines answers))); appends = taken },
+    )
+breaks-off f old mid new answers c p (Output error) all lines are (v, reason, is, part) =
+    let a = answer p v reason in (
+      answers ++ a ∷ [],
+      all-more (IsAnswer f) answers a all is,
+      inr (packets-last answers a),
+      subst (TakesPart old new) (sym (lines-last answers a c.packets are.packets)) (TakesPart-then old mid new (answer_lines answers) (answer_line c.packets a) lines part),
+    )

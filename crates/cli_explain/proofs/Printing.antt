@@ -1,0 +1,141 @@
+-- How the printing of a capture ends.
+use Rattle.std.proofs.Common.{◌≡◌, ◌≢◌, ◌↔◌, ℕ, ◌+◌, ◌^◌, ◌<◌, ◌⊎◌, inl, inr, Bool, true, false, List, [], ◌∷◌, ◌++◌, length, Option, Some, None, Result, Ok, Err, IfErr, refl, ap, sym, subst, ◌∙◌, arith}
+use Rattle.std.specs.Prelude.{is_err}
+use Rattle.std.proofs.lemmas.Bool.{cases_eq}
+use Rattle.std.proofs.KnownBytes.{Appends-trans, Appends-kept}
+use Rattle.std.specs.Io.KnownBytes.{Appends, Consumes}
+use Rattle.std.specs.List.{AllByRecursion}
+use Rattle.savefile.specs.declared.fault.Fault.{Fault}
+use Rattle.savefile.specs.declared.fault.Fault.TheVariants.{Device, NoMemory}
+use Rattle.savefile.specs.declared.header.Header.{Header}
+use Rattle.savefile.specs.declared.packet.Packet.{Packet}
+use Rattle.savefile.specs.Reader.{HasGiven, IsCause, Leaves, Lends, Reading, WasBegun, WasRead, WasRefused}
+use Rattle.filter_meaning.specs.declared.verdict.Verdict.{Verdict}
+use Rattle.cli_text.specs.Sending.{Takes, TakesPart}
+use Rattle.cli_text.proofs.Taking.{TakesPart-more, TakesPart-then}
+use Rattle.cli_explain.specs.declared.each.Counts.{Counts}
+use Rattle.cli_explain.specs.declared.each.Unprinted.{Unprinted}
+use Rattle.cli_explain.specs.declared.each.Unprinted.TheVariants as unprinted
+use Rattle.cli_explain.specs.declared.filter.Filter.{Filter}
+use Rattle.cli_explain.specs.declared.one.Found.{Found}
+use Rattle.cli_explain.specs.Answers.{Answer, IsAnswer, answer, answer_line}
+use Rattle.cli_explain.specs.Explained.{is_yes, is_no, is_abort, count_of, AreCounts, counts_text, answer_lines, packets_of, IsLineBroken, IsUnopened, PrintsLine, PrintsLines, PrintsAll, PrintsFound, PrintsMore, PrintsWhole, GoesTo, Finds}
+
+-- the header was not read
+pub unopened : (from left : Option (List ℕ)) (fault : Fault) → WasRefused from fault ⊎ (fault ≡ Device) ⊎ (fault ≡ NoMemory) →
+    (bytes : List ℕ) × Consumes from left bytes × (fault ≡ Device → length bytes < 24) → IsUnopened from left fault
+unopened from left fault (inl refused) given = inl refused
+unopened from left fault (inr (inl device)) (bytes, gave, short) = inr (inl (device, bytes, gave, short device))
+unopened from left fault (inr (inr wanting)) given = inr (inr wanting)
+
+-- it broke off
+pub broken-off : {A : Type 0} (f : Filter) (from left : Option (List ℕ)) (header : Header) (old new : Option (List ℕ)) (c : Counts) (read : Result A Fault) (done : Result A Unprinted) (x : A) (u : Unprinted) (told : List Answer) →
+    read ≡ Ok x → done ≡ Err u → AllByRecursion (IsAnswer f) told → WasBegun from header (packets_of told) → TakesPart old new (answer_lines told) →
+    PrintsLines f from left header old new c read done
+broken-off f from left header old new c read done x u told reads stops all begun part =
+    rw (reads, stops) (inl (told, all, begun, refl, refl, part))
+
+-- the capture was read to its end
+pub read-whole : {A : Type 0} (f : Filter) (from left : Option (List ℕ)) (header : Header) (old new : Option (List ℕ)) (c : Counts) (read : Result A Fault) (done : Result A Unprinted) (x y : A) (answers : List Answer) →
+    read ≡ Ok x → done ≡ Ok y → AllByRecursion (IsAnswer f) answers → WasRead from header (packets_of answers) None →
+    Appends old new (answer_lines answers) → AreCounts c answers →
+    PrintsLines f from left header old new c read done
+read-whole f from left header old new c read done x y answers reads prints all was lines are =
+    rw (reads, prints) (inr (answers, all, inl (None, was, refl), refl, lines, are))
+
+-- or not so far
+pub read-part : {A : Type 0} (f : Filter) (from left : Option (List ℕ)) (header : Header) (old new : Option (List ℕ)) (c : Counts) (read : Result A Fault) (done : Result A Unprinted) (fault : Fault) (y : A) (answers : List Answer) →
+    read ≡ Err fault → done ≡ Ok y → AllByRecursion (IsAnswer f) answers →
+    Appends old new (answer_lines answers) → AreCounts c answers → WasBegun from header (packets_of answers) → IsCause from left header (packets_of answers) fault →
+    PrintsLines f from left header old new c read done
+read-part f from left header old new c read done fault y answers reads prints all lines are begun (inl was) =
+    rw (reads, prints) (inr (answers, all, inl (Some fault, was, refl), refl, lines, are))
+read-part f from left header old new c read done fault y answers reads prints all lines are begun (inr (inl (device, taken))) =
+    rw (reads, prints) (inr (answers, all, inr (begun, inl (ap Err device, taken)), refl, lines, are))
+read-part f from left header old new c read done fault y answers reads prints all lines are begun (inr (inr (full, many))) =
+    rw (reads, prints) (inr (answers, all, inr (begun, inr (ap Err full, many)), refl, lines, are))
+
+-- where the lines broke off, no counts are printed
+pub lines-alone : {A : Type 0} (f : Filter) (from left : Option (List ℕ)) (header : Header) (old new : Option (List ℕ)) (c : Counts) (read : Result A Fault) (done : Result A Unprinted) →
+    is_err done ≡ true → PrintsLines f from left header old new c read done → PrintsAll f from left header old new c read done
+lines-alone f from left header old new c read (Ok x) failed lines = absurd (cc)
+lines-alone f from left header old new c read (Err u) failed (inl broke) = inl broke
+lines-alone f from left header old new c read (Err u) failed (inr (answers, all, reads, ok, lines, are)) = absurd (cc)
+
+-- the lines, and then the counts
+pub lines-and-counts : {A : Type 0} (f : Filter) (from left : Option (List ℕ)) (header : Header) (old mid new : Option (List ℕ)) (c : Counts) (read : Result A Fault) (done told : Result A Unprinted) →
+    is_err done ≡ false → PrintsLines f from left header old mid c read done → Takes mid new told (counts_text c.packets c.yes c.no c.abort) →
+    PrintsAll f from left header old new c read told
+lines-and-counts f from left header old mid new c read (Err u) told went lines taken = absurd (cc)
+lines-and-counts f from left header old mid new c read (Ok x) told went (inl (answers, all, begun, ok, err, part)) taken = absurd (cc)
+lines-and-counts f from left header old mid new c read (Ok x) (Ok y) went (inr (answers, all, reads, ok, lines, are)) taken =
+    let same : counts_text c.packets c.yes c.no c.abort ≡ counts_text (length answers) (count_of is_yes answers) (count_of is_no answers) (count_of is_abort answers) =
+    rw (are.packets, are.yes, are.no, are.abort) refl in
+    let more = Appends-trans old mid new (answer_lines answers) _ lines (subst (Appends mid new) same taken) in
+    inr (answers, all, reads, (more, are))
+lines-and-counts f from left header old mid new c read (Ok x) (Err u) went (inr (answers, all, reads, ok, lines, are)) taken =
+    let same : counts_text c.packets c.yes c.no c.abort ≡ counts_text (length answers) (count_of is_yes answers) (count_of is_no answers) (count_of is_abort answers) =
+    rw (are.packets, are.yes, are.no, are.abort) refl in
+    inr (answers, all, reads, TakesPart-then old mid new (answer_lines answers) _ lines (subst (TakesPart mid new) same taken))
+
+-- ---- One packet more
+
+-- where a source gave one more, it did not fail
+pub still-works : (a b start : ℕ) (result : Result Bool Fault) → (a ≢ b → result ≡ Err Device) → result ≡ Ok true → b ≡ start → a ≡ start
+still-works a b start result tells is before = elim (cases_eq a b) [
+  | inl same ↦ same ∙ before
+  | inr differs ↦ let clash : ◌≡◌ {A = Result Bool Fault} (Ok true) (Err Device) = sym is ∙ tells differs in absurd cc
+]
+
+-- and a reading that went well tells so
+pub works-on : {A : Type 0} (read : Result A Fault) (x : A) (a b : ℕ) → read ≡ Ok x → a ≡ b → (read ≡ Err Device) ↔ (a ≢ b)
+works-on {A} read x a b is same = (λ broke. let clash : ◌≡◌ {A = Result A Fault} (Ok x) (Err Device) = sym is ∙ broke in absurd cc, λ differs. absurd (differs same))
+
+-- one more was given, and no more than can be counted
+pub gave-more : {R : Type 0} (old new : Reading R) (result : Result Bool Fault) → Leaves old new result → result ≡ Ok true → (new.given ≡ old.given + 1) × (new.given < 2 ^ 64)
+gave-more old new (Ok true) (goes, one, fits) is = (one, fits)
+gave-more old new (Ok false) leaves is = absurd (cc)
+gave-more old new (Err fault) leaves is = absurd (cc)
+
+-- ---- One packet
+
+-- a reader goes on to the next packet, which is the one at the place
+pub goes-to : {R : Type 0} (left : R → Option (List ℕ)) (from : Option (List ℕ)) (header : Header) (place : ℕ) (packets : List Packet) (r : Reading R) (result : Result Bool Fault) →
+    length packets ≡ place → (result ≡ Ok true → HasGiven left from header (packets ++ r.lent ∷ []) r) →
+    (result ≡ Ok false → WasRead from header packets None) → IfErr result (IsCause from (left r.source) header packets) →
+    GoesTo left from header place r result
+goes-to left from header place packets r (Ok true) here packet end cause = (packets, here, packet refl)
+goes-to left from header place packets r (Ok false) here packet end cause = (packets, omega (arith, here), end refl)
+goes-to left from header place packets r (Err fault) here packet end cause = (packets, omega (arith, here), cause)
+
+-- what a reader does that went on, it lends
+pub lends-it : {R : Type 0} (old new : Reading R) (result : Result Bool Fault) → Leaves old new result → result ≡ Ok true → Lends new
+lends-it old new (Ok true) (goes, one, fits) is = (goes, omega (arith, one))
+lends-it old new (Ok false) leaves is = absurd (cc)
+lends-it old new (Err fault) leaves is = absurd (cc)
+
+-- so one packet is found, or none
+pub finds-it : {R : Type 0} (left : R → Option (List ℕ)) (from : R) (f : Filter) (place : ℕ) (old new : Option (List ℕ)) (header : Header) (r : Reading R) (e : Found R) (read : Result Bool Fault) →
+    ((packets : List Packet) → HasGiven left (left from) header packets r → WasBegun (left from) header packets) →
+    e.source ≡ r.source → e.read ≡ read → GoesTo left (left from) header place r read → PrintsFound f place r.lent old new read e.printed →
+    Finds left from f place old new e
+finds-it left from f place old new header r e (Ok true) begins same is (before, here, gives) prints =
+    inr (inl (header, before, r.lent, begins (before ++ r.lent ∷ []) gives, here, is, prints))
+finds-it left from f place old new header r e (Ok false) begins same is (packets, few, was) (kept, ok) =
+    inr (inr (header, packets, few, ok, kept, inl (was, is)))
+finds-it left from f place old new header r e (Err fault) begins same is (packets, few, cause) (kept, ok) =
+    inr (inr (header, packets, few, ok, kept, inr (fault, subst (λ s. IsCause (left from) (left s) header packets fault) (sym same) cause, is)))
+
+-- a packet's line, and then more
+pub prints-whole : {A : Type 0} (f : Filter) (place : ℕ) (p : Packet) (old mid new : Option (List ℕ)) (v : Verdict) (result : Result A Unprinted) →
+    PrintsLine f place p old mid v → PrintsMore mid new result → PrintsWhole f place p old new result
+prints-whole f place p old mid new v (Ok x) (reason, is, line) (text, taken) = (v, reason, is, text, Appends-trans old mid new _ text line taken)
+prints-whole f place p old mid new v (Err unprinted.NoMemory) (reason, is, line) kept = inr (v, (reason, is, Appends-kept old mid new _ line kept))
+prints-whole f place p old mid new v (Err (unprinted.Output error)) (reason, is, line) (text, part) = (v, reason, is, text, TakesPart-then old mid new _ text line part)
+
+-- or its line broke off
+pub broken-line : {A : Type 0} (f : Filter) (place : ℕ) (p : Packet) (old new : Option (List ℕ)) (result : Result A Unprinted) (u : Unprinted) →
+    result ≡ Err u → IsLineBroken f place p old new u → PrintsWhole f place p old new result
+broken-line f place p old new result unprinted.NoMemory is kept = rw is (inl kept)
+broken-line f place p old new result (unprinted.Output error) is (verdict, reason, answers, part) =
+    rw is (verdict, reason, answers, [], TakesPart-more old new (answer_line place (answer p verdict reason)) [] part)

@@ -1,0 +1,104 @@
+use Rattle.std.proofs.Common.{arith, Ok, ◌≤◌, ◌∙◌, ◌++◌, ◌∷◌, [], inl, inr, sym, ap, subst, refl, List}
+use Rattle.std.proofs.KnownBytes.{Appends-nil, Consumes-nil, Consumes-trans}
+use Rattle.savefile.specs.declared.packet.Packet.{Packet}
+use Rattle.savefile.specs.Reader.{HasGiven, WasBegun}
+use Rattle.cli_explain.specs.declared.each.Counts.{Counts}
+use Rattle.cli_explain.specs.Explained.{packets_of, AreCounts}
+use Rattle.cli_explain.proofs.Printing.{broken-off, read-whole, read-part, still-works, works-on, gave-more}
+use Rattle.cli_explain.proofs.Answered.{goes-on, breaks-off, packets-last, room-for-one, counted-packets, counted-yes, counted-no, counted-abort}
+use Rattle.cli_explain.proofs.each.print_lines.Goals as goal
+
+pub loop-reader-init : goal.loop-reader-init
+loop-reader-init g c = record {
+  prints = λ from header given. ([], given, tt, Appends-nil _, record { packets = refl; yes = refl; no = refl; abort = refl });
+  packets = omega arith;
+  yes = omega arith;
+  no = omega arith;
+  abort = omega arith;
+  taken = ([], Consumes-nil _);
+  source_works = refl;
+}
+
+pub loop-reader-preserved : goal.loop-reader-preserved
+loop-reader-preserved g c = record {
+  prints = λ from header given.
+      let (answers, gives, all, lines, are) = c.loop-reader.invariant.prints from header given in
+      let p = c.advance.new.self.lent in
+      let (a, of, more, printed, counted) = goes-on c.args.filter.now _ _ _ answers c.loop-reader.counts c.count.new.self c.packet.result c.in-Ok.verdict all lines are c.in-Ok.ensures.ok c.count.ensures in (
+        answers ++ a ∷ [],
+        subst (λ (ps : List Packet). HasGiven g.R.Source.left from header ps c.advance.new.self)
+            (sym (packets-last answers a ∙ ap (λ (q : Packet). packets_of answers ++ q ∷ []) (of ∙ c.packet.ensures)))
+            (c.in-Ok-true.ensures.packet from header (packets_of answers) gives (ap Ok c.in-Ok-true.field-0-test)),
+        more,
+        printed,
+        counted,
+      );
+  packets = subst (λ (k : Counts). k.packets ≤ c.advance.new.self.given) (sym c.count.ensures)
+      (counted-packets c.in-Ok.verdict c.loop-reader.counts _ _ c.loop-reader.invariant.packets (gave-more _ _ _ c.advance.ensures.leaves (c.in-Ok-true.is ∙ ap Ok c.in-Ok-true.field-0-test)).0);
+  yes = subst (λ (k : Counts). k.yes ≤ k.packets) (sym c.count.ensures) (counted-yes c.in-Ok.verdict c.loop-reader.counts c.loop-reader.invariant.yes);
+  no = subst (λ (k : Counts). k.no ≤ k.packets) (sym c.count.ensures) (counted-no c.in-Ok.verdict c.loop-reader.counts c.loop-reader.invariant.no);
+  abort = subst (λ (k : Counts). k.abort ≤ k.packets) (sym c.count.ensures) (counted-abort c.in-Ok.verdict c.loop-reader.counts c.loop-reader.invariant.abort);
+  taken =
+      let (before, took) = c.loop-reader.invariant.taken in
+      let (further, goes) = c.in-Ok-true.ensures.taken in
+      (before ++ further, Consumes-trans _ _ _ before further took goes);
+  source_works = still-works _ _ _ c.advance.result c.advance.ensures.device.1 (c.in-Ok-true.is ∙ ap Ok c.in-Ok-true.field-0-test) c.loop-reader.invariant.source_works;
+}
+
+pub count-requires-clause-room : goal.count-requires-clause-room
+count-requires-clause-room g c =
+    room-for-one _ _ _ c.loop-reader.invariant.packets (gave-more _ _ _ c.advance.ensures.leaves (c.in-Ok-true.is ∙ ap Ok c.in-Ok-true.field-0-test))
+
+pub returns-in-Err-print_line-clause-source_broke : goal.returns-in-Err-print_line-clause-source_broke
+returns-in-Err-print_line-clause-source_broke g c =
+    works-on _ _ _ _ c.outcome.ensures.read
+    (still-works _ _ _ c.advance.result c.advance.ensures.device.1 (c.in-Ok-true.is ∙ ap Ok c.in-Ok-true.field-0-test) c.loop-reader.invariant.source_works)
+
+pub returns-in-Err-print_line-clause-taken : goal.returns-in-Err-print_line-clause-taken
+returns-in-Err-print_line-clause-taken g c =
+    let (before, took) = c.loop-reader.invariant.taken in
+    let (further, goes) = c.in-Ok-true.ensures.taken in
+    (before ++ further, Consumes-trans _ _ _ before further took goes)
+
+pub returns-in-Ok-false-clause-taken : goal.returns-in-Ok-false-clause-taken
+returns-in-Ok-false-clause-taken g c =
+    let (before, took) = c.loop-reader.invariant.taken in
+    let (further, goes) = c.in-Ok-false.ensures.taken in
+    (before ++ further, Consumes-trans _ _ _ before further took goes)
+
+pub returns-in-Err-clause-taken : goal.returns-in-Err-clause-taken
+returns-in-Err-clause-taken g c =
+    let (before, took) = c.loop-reader.invariant.taken in
+    let (further, goes) = c.in-Err.ensures.taken in
+    (before ++ further, Consumes-trans _ _ _ before further took goes)
+
+pub returns-in-Err-print_line-clause-prints : goal.returns-in-Err-print_line-clause-prints
+returns-in-Err-print_line-clause-prints g c = λ from header given.
+    let (answers, gives, all, lines, are) = c.loop-reader.invariant.prints from header given in
+    let p = c.advance.new.self.lent in
+    let f = c.args.filter.now in
+    let begun = c.in-Ok-true.ensures.so_far from header (packets_of answers) gives in
+    let further = c.given_so_far.ensures from header (packets_of answers ++ p ∷ []) (c.in-Ok-true.ensures.packet from header (packets_of answers) gives (ap Ok c.in-Ok-true.field-0-test)) in
+    let (told, every, which, part) = breaks-off f _ _ _ answers c.loop-reader.counts c.packet.result c.in-Err-print_line.unprinted all lines are c.in-Err-print_line.ensures.fault in
+    broken-off f from _ header _ _ _ _ _ _ _ told c.outcome.ensures.read c.outcome.ensures.printed every
+    (elim which [
+      | inl same ↦ subst (WasBegun from header) (sym same) begun
+      | inr more ↦ subst (WasBegun from header) (sym (more ∙ ap (λ (q : Packet). packets_of answers ++ q ∷ []) c.packet.ensures)) further
+    ])
+    part
+
+pub returns-in-Ok-false-clause-prints : goal.returns-in-Ok-false-clause-prints
+returns-in-Ok-false-clause-prints g c = λ from header given.
+    let (answers, gives, all, lines, are) = c.loop-reader.invariant.prints from header given in
+    let told = c.outcome-in-Ok-false.ensures in
+    read-whole c.args.filter.now from _ header _ _ _ _ _ _ _ answers told.read told.printed all
+    (c.in-Ok-false.ensures.end from header (packets_of answers) gives (ap Ok c.in-Ok-false.field-0-test)) lines
+    (subst (λ (k : Counts). AreCounts k answers) (sym told.counts) are)
+
+pub returns-in-Err-clause-prints : goal.returns-in-Err-clause-prints
+returns-in-Err-clause-prints g c = λ from header given.
+    let (answers, gives, all, lines, are) = c.loop-reader.invariant.prints from header given in
+    let told = c.outcome-in-Err.ensures in
+    read-part c.args.filter.now from _ header _ _ _ _ _ _ _ answers told.read told.printed all lines
+    (subst (λ (k : Counts). AreCounts k answers) (sym told.counts) are)
+    (c.in-Err.ensures.so_far from header (packets_of answers) gives) (c.in-Err.ensures.cause from header (packets_of answers) gives)

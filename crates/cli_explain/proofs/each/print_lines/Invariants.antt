@@ -1,0 +1,26 @@
+use Rattle.std.proofs.Common.{◌≡◌, ℕ, ◌-◌, ◌^◌, ◌≤◌, List, [], Option}
+use Rattle.std.specs.List.{AllByRecursion}
+use Rattle.std.specs.Io.KnownBytes.{Appends, Consumes}
+use Rattle.savefile.specs.declared.header.Header.{Header}
+use Rattle.savefile.specs.Reader.{HasGiven}
+use Rattle.cli_explain.specs.Answers.{Answer, IsAnswer}
+use Rattle.cli_explain.specs.Explained.{answer_lines, packets_of, AreCounts}
+use Rattle.cli_explain.proofs.each.print_lines.Given as goal
+
+-- the packets that were read so far were answered, printed and counted, and the source did not fail
+abbrev pub invariant-loop-reader : goal.invariant-loop-reader
+invariant-loop-reader g l =
+    record {
+      prints : (from : Option (List ℕ)) (header : Header) → HasGiven g.R.Source.left from header [] l.fn.reader →
+          (answers : List Answer) × HasGiven g.R.Source.left from header (packets_of answers) l.reader × AllByRecursion (IsAnswer l.filter) answers
+          × Appends (g.O.Write.contents l.fn.out) (g.O.Write.contents l.out) (answer_lines answers) × AreCounts l.counts answers;
+      packets : l.counts.packets ≤ l.reader.given;
+      yes : l.counts.yes ≤ l.counts.packets;
+      no : l.counts.no ≤ l.counts.packets;
+      abort : l.counts.abort ≤ l.counts.packets;
+      taken : (bytes : List ℕ) × Consumes (g.R.Source.left l.fn.reader.source) (g.R.Source.left l.reader.source) bytes;
+      source_works : g.R.Source.failures l.reader.source ≡ g.R.Source.failures l.fn.reader.source;
+    }
+
+abbrev pub decreases-loop-reader : goal.decreases-loop-reader
+decreases-loop-reader g l = 2 ^ 64 - l.reader.given

@@ -1,0 +1,68 @@
+-- What a filter answers to packets.
+use Rattle.std.specs.Prelude.{◌≡◌, ℕ, ◌==◌, false, List, [], ◌∷◌, ◌++◌, Option, Some, None, slice_get, if◌then◌else◌, codes}
+use Rattle.savefile.specs.declared.packet.Packet.{Packet}
+use Rattle.bpfvm.specs.declared.insn.Insn.{Insn}
+use Rattle.bpfvm.specs.declared.tracing.Executed.{Executed}
+use Rattle.bpfvm.specs.Machine.{beginning}
+use Rattle.bpfvm.specs.Traces.{Runs}
+use Rattle.filter_tree.specs.declared.tree.Expr.{Expr}
+use Rattle.filterlang.specs.Trees.{Tree, tree_of}
+use Rattle.filter_meaning.specs.declared.verdict.Verdict.{Verdict}
+use Rattle.filter_meaning.specs.declared.verdict.Verdict.TheVariants.{Yes, No, Abort}
+use Rattle.filtergen.specs.Meaning.{Packet as Frame, packet_of, meaning}
+use Rattle.filter_explain.specs.Asking.{questions}
+use Rattle.filter_explain.specs.Deciding.{verdict_text, last_text}
+use Rattle.cli_text.specs.Telling.{end_of_line}
+use Rattle.cli_explain.specs.declared.filter.Filter.{Filter}
+use Rattle.cli_explain.specs.Printed.{packet_text, end_text}
+
+-- A packet, what a filter answers to it, and what is told of the reason.
+pub record Answer : Type 0 where
+  pub packet : Packet
+  pub verdict : Verdict
+  pub reason : List ℕ
+
+abbrev pub answer : Packet → Verdict → List ℕ → Answer
+answer p verdict reason = record { packet = p; verdict = verdict; reason = reason }
+
+-- a packet as an expression is asked of it
+abbrev pub frame_of : Packet → Frame
+frame_of p = packet_of p.bytes p.len
+
+-- Of an expression: its meaning; told is the primitive or relation that decides, which is the last one of those that are asked.
+pub record Decides (tree : Tree) (a : Answer) : Type 0 where
+  pub answers : a.verdict ≡ meaning tree (frame_of a.packet)
+  pub told : a.reason ≡ last_text (questions false tree (frame_of a.packet))
+
+-- What the answer of a run counts as whose last instruction has this code: the returns have the codes 6 and 22, and a run that
+-- ends elsewhere is an Abort.
+abbrev pub ended_as : ℕ → ℕ → Verdict
+ended_as code n = if code == 6 then (if n == 0 then No else Yes) else if code == 22 then (if n == 0 then No else Yes) else Abort
+
+-- Of a program: the end of its run; told is the number that it answers, and its last instruction with its place.
+pub record EndsRun (program : List Insn) (a : Answer) : Type 0 where
+  pub before : List Executed
+  pub last : Executed
+  pub number : ℕ
+  pub runs : Runs program a.packet.bytes a.packet.len beginning (before ++ last ∷ []) number
+  pub insn : Insn
+  pub here : slice_get program last.place ≡ Some insn
+  pub answers : a.verdict ≡ ended_as insn.code number
+  pub told : a.reason ≡ end_text number last.place insn
+
+abbrev pub IsAnswerOf : Option Expr → List Insn → Answer → Type 0
+IsAnswerOf (Some expr) program a = Decides (tree_of expr) a
+IsAnswerOf None program a = EndsRun program a
+
+-- what a filter answers
+abbrev pub IsAnswer : Filter → Answer → Type 0
+IsAnswer filter a = IsAnswerOf filter.expr filter.program a
+
+-- the line of a packet at a place
+abbrev pub answer_line : ℕ → Answer → List ℕ
+answer_line place a = packet_text place a.packet ++ (verdict_text a.verdict ++ codes " ") ++ a.reason ++ end_of_line
+
+-- behind what stood in a line, a verdict and its reason were put
+abbrev pub PutsAnswer : List ℕ → List ℕ → (Answer → Type 0) → Packet → Verdict → Type 0
+PutsAnswer old new Is p verdict =
+    (reason : List ℕ) × Is (answer p verdict reason) × (new ≡ old ++ (verdict_text verdict ++ codes " ") ++ reason)

@@ -1,0 +1,190 @@
+-- What is printed of a capture, and how that ends.
+use Rattle.std.specs.Prelude.{◌≡◌, ℕ, ◌-◌, ◌+◌, ◌^◌, ◌<◌, ◌≤◌, ◌⊎◌, Bool, true, false, List, [], ◌∷◌, ◌++◌, length, map, filter, Option, Some, None, Result, Ok, Err, IsOk, IsErr, IsErrOf, MatchResult, codes}
+use Rattle.std.specs.Fmt.{decimal}
+use Rattle.std.specs.List.{AllByRecursion}
+use Rattle.std.specs.Io.KnownBytes.{Appends, Consumes, Keeps}
+use Rattle.savefile.specs.declared.fault.Fault.{Fault}
+use Rattle.savefile.specs.declared.fault.Fault.TheVariants.{CountFull, Device, NoMemory}
+use Rattle.savefile.specs.declared.header.Header.{Header}
+use Rattle.savefile.specs.declared.packet.Packet.{Packet}
+use Rattle.savefile.specs.Reader.{HasGiven, IsCause, Reading, WasBegun, WasRead, WasRefused, WasTaken}
+use Rattle.filter_meaning.specs.declared.verdict.Verdict.{Verdict}
+use Rattle.filter_meaning.specs.declared.verdict.Verdict.TheVariants.{Yes, No, Abort}
+use Rattle.cli_text.specs.Sending.{TakesPart}
+use Rattle.cli_text.specs.Telling.{end_of_line}
+use Rattle.cli_text.specs.Texts.{numbered}
+use Rattle.cli_explain.specs.declared.each.Counts.{Counts}
+use Rattle.cli_explain.specs.declared.each.Explained.{Explained}
+use Rattle.cli_explain.specs.declared.each.Unprinted.{Unprinted}
+use Rattle.cli_explain.specs.declared.each.Unprinted.TheVariants as unprinted
+use Rattle.cli_explain.specs.declared.one.Found.{Found}
+use Rattle.cli_explain.specs.declared.filter.Filter.{Filter}
+use Rattle.cli_explain.specs.Answers.{Answer, answer, IsAnswer, answer_line}
+
+-- ---- The counts
+
+abbrev pub is_yes : Verdict → Bool
+is_yes Yes = true
+is_yes No = false
+is_yes Abort = false
+
+abbrev pub is_no : Verdict → Bool
+is_no Yes = false
+is_no No = true
+is_no Abort = false
+
+abbrev pub is_abort : Verdict → Bool
+is_abort Yes = false
+is_abort No = false
+is_abort Abort = true
+
+-- how many answers are of a kind
+abbrev pub count_of : (Verdict → Bool) → List Answer → ℕ
+count_of is answers = length (filter (λ a. is a.verdict) answers)
+
+-- how many packets were answered, and how many of them Yes, No and Abort
+pub record AreCounts (counts : Counts) (answers : List Answer) : Type 0 where
+  pub packets : counts.packets ≡ length answers
+  pub yes : counts.yes ≡ count_of is_yes answers
+  pub no : counts.no ≡ count_of is_no answers
+  pub abort : counts.abort ≡ count_of is_abort answers
+
+-- one packet more was answered so
+abbrev pub counted : Verdict → Counts → Counts
+counted Yes c = record { packets = c.packets + 1; yes = c.yes + 1; no = c.no; abort = c.abort }
+counted No c = record { packets = c.packets + 1; yes = c.yes; no = c.no + 1; abort = c.abort }
+counted Abort c = record { packets = c.packets + 1; yes = c.yes; no = c.no; abort = c.abort + 1 }
+
+-- `N packets: Y Yes, N No, A Abort`
+unfoldable pub counts_text : (packets accepted rejected aborted : ℕ) → List ℕ
+counts_text packets accepted rejected aborted = decimal packets ++ codes " packets: " ++ decimal accepted ++ codes " Yes, " ++ decimal rejected
+    ++ codes " No, " ++ decimal aborted ++ codes " Abort" ++ end_of_line
+
+-- ---- What is printed
+
+-- the line of each packet, numbered from 0
+abbrev pub answer_lines : List Answer → List ℕ
+answer_lines answers = numbered answer_line 0 answers
+
+-- the lines of the packets, and that of the counts
+abbrev pub printed : List Answer → List ℕ
+printed answers = answer_lines answers
+    ++ counts_text (length answers) (count_of is_yes answers) (count_of is_no answers) (count_of is_abort answers)
+
+-- all was printed and counted, or a beginning of it was printed
+abbrev pub Prints : {A : Type 0} → Option (List ℕ) → Option (List ℕ) → List Answer → Counts → Result A Unprinted → Type 0
+Prints old new answers counts done =
+    MatchResult done (λ _. Appends old new (printed answers) × AreCounts counts answers) (λ _. TakesPart old new (printed answers))
+
+-- ---- What was read
+
+-- the packets that were answered
+abbrev pub packets_of : List Answer → List Packet
+packets_of answers = map (λ a. a.packet) answers
+
+-- how the reading of a capture with this fault or none ends
+abbrev pub IsEnd : {A : Type 0} → Option Fault → Result A Fault → Type 0
+IsEnd None read = IsOk read
+IsEnd (Some fault) read = IsErrOf read fault
+
+-- Up to which packets a capture was read, and how that ended. It was read to its end, or to its first torn or bad record; or the
+-- source broke, and what it had given stops behind these packets; or no more can be counted.
+abbrev pub ReadsTo : {A : Type 0} → Option (List ℕ) → Option (List ℕ) → Header → List Packet → Result A Fault → Type 0
+ReadsTo from left header packets read =
+    ((fault : Option Fault) × WasRead from header packets fault × IsEnd fault read)
+    ⊎ (WasBegun from header packets
+    × ((IsErrOf read Device × WasTaken from left header packets)
+    ⊎ (IsErrOf read CountFull × (length packets ≡ 2 ^ 64 - 1))))
+
+-- Why no header was read: it is refused, or memory was wanting, or the source broke before it had given the 24 bytes of one.
+abbrev pub IsUnopened : Option (List ℕ) → Option (List ℕ) → Fault → Type 0
+IsUnopened from left fault =
+    WasRefused from fault
+    ⊎ ((fault ≡ Device) × (given : List ℕ) × Consumes from left given × (length given < 24))
+    ⊎ (fault ≡ NoMemory)
+
+-- ---- A capture
+
+-- The printing broke off at a line: a beginning of the lines of packets that the capture begins with was printed, and no counts.
+abbrev pub BreaksOff : {A : Type 0} → Filter → Option (List ℕ) → Header → Option (List ℕ) → Option (List ℕ) → Result A Fault → Result A Unprinted → Type 0
+BreaksOff filter from header old new read done =
+    (answers : List Answer) × AllByRecursion (IsAnswer filter) answers × WasBegun from header (packets_of answers)
+    × IsOk read × IsErr done × TakesPart old new (answer_lines answers)
+
+-- the lines of the packets of a reader were printed and counted
+abbrev pub PrintsLines : {A : Type 0} → Filter → Option (List ℕ) → Option (List ℕ) → Header → Option (List ℕ) → Option (List ℕ) → Counts → Result A Fault → Result A Unprinted → Type 0
+PrintsLines filter from left header old new counts read done =
+    BreaksOff filter from header old new read done
+    ⊎ ((answers : List Answer) × AllByRecursion (IsAnswer filter) answers × ReadsTo from left header (packets_of answers) read
+    × IsOk done × Appends old new (answer_lines answers) × AreCounts counts answers)
+
+-- and then the counts
+abbrev pub PrintsAll : {A : Type 0} → Filter → Option (List ℕ) → Option (List ℕ) → Header → Option (List ℕ) → Option (List ℕ) → Counts → Result A Fault → Result A Unprinted → Type 0
+PrintsAll filter from left header old new counts read done =
+    BreaksOff filter from header old new read done
+    ⊎ ((answers : List Answer) × AllByRecursion (IsAnswer filter) answers × ReadsTo from left header (packets_of answers) read
+    × Prints old new answers counts done)
+
+-- The header was not read, and nothing was printed; or the packets up to some end were answered, and that was printed.
+abbrev pub Explains : {R : Type 0} → (R → Option (List ℕ)) → R → Filter → Option (List ℕ) → Option (List ℕ) → Explained R → Type 0
+Explains left from filter old new e =
+    ((fault : Fault) × IsUnopened (left from) (left e.source) fault × IsErrOf e.read fault × IsOk e.printed × Keeps old new × AreCounts e.counts [])
+    ⊎ ((header : Header) × PrintsAll filter (left from) (left e.source) header old new e.counts e.read e.printed)
+
+-- ---- A line
+
+-- the line of a packet was printed, whose answer is told
+abbrev pub PrintsLine : Filter → ℕ → Packet → Option (List ℕ) → Option (List ℕ) → Verdict → Type 0
+PrintsLine filter place p old new verdict =
+    (reason : List ℕ) × IsAnswer filter (answer p verdict reason) × Appends old new (answer_line place (answer p verdict reason))
+
+-- or why it was not, or a beginning of it alone
+abbrev pub IsLineBroken : Filter → ℕ → Packet → Option (List ℕ) → Option (List ℕ) → Unprinted → Type 0
+IsLineBroken filter place p old new unprinted.NoMemory = Keeps old new
+IsLineBroken filter place p old new (unprinted.Output error) =
+    (verdict : Verdict) × (reason : List ℕ) × IsAnswer filter (answer p verdict reason) × TakesPart old new (answer_line place (answer p verdict reason))
+
+-- ---- One packet
+
+-- what stands behind the line of a packet was printed; or memory for it was wanting, or the writer failed
+abbrev pub PrintsMore : {A : Type 0} → Option (List ℕ) → Option (List ℕ) → Result A Unprinted → Type 0
+PrintsMore old new (Ok done) = (text : List ℕ) × Appends old new text
+PrintsMore old new (Err unprinted.NoMemory) = Keeps old new
+PrintsMore old new (Err (unprinted.Output error)) = (text : List ℕ) × TakesPart old new text
+
+-- The line of a packet was printed, and more behind it. Where memory was wanting that line alone was, or nothing; and where the
+-- writer failed a beginning of the line, or that line and what stands behind it.
+abbrev pub PrintsWhole : {A : Type 0} → Filter → ℕ → Packet → Option (List ℕ) → Option (List ℕ) → Result A Unprinted → Type 0
+PrintsWhole filter place p old new (Ok done) =
+    (verdict : Verdict) × (reason : List ℕ) × IsAnswer filter (answer p verdict reason)
+    × (more : List ℕ) × Appends old new (answer_line place (answer p verdict reason) ++ more)
+PrintsWhole filter place p old new (Err unprinted.NoMemory) =
+    Keeps old new ⊎ ((verdict : Verdict) × PrintsLine filter place p old new verdict)
+PrintsWhole filter place p old new (Err (unprinted.Output error)) =
+    (verdict : Verdict) × (reason : List ℕ) × IsAnswer filter (answer p verdict reason)
+    × (more : List ℕ) × TakesPart old new (answer_line place (answer p verdict reason) ++ more)
+
+-- what is printed where the packet is found, and nothing else
+abbrev pub PrintsFound : {A : Type 0} → Filter → ℕ → Packet → Option (List ℕ) → Option (List ℕ) → Result Bool Fault → Result A Unprinted → Type 0
+PrintsFound filter place p old new (Ok true) done = PrintsWhole filter place p old new done
+PrintsFound filter place p old new (Ok false) done = Keeps old new × IsOk done
+PrintsFound filter place p old new (Err fault) done = Keeps old new × IsOk done
+
+-- where a reader goes on to the packet at a place
+abbrev pub GoesTo : {R : Type 0} → (R → Option (List ℕ)) → Option (List ℕ) → Header → ℕ → Reading R → Result Bool Fault → Type 0
+GoesTo left from header place r (Ok true) =
+    (before : List Packet) × (length before ≡ place) × HasGiven left from header (before ++ r.lent ∷ []) r
+GoesTo left from header place r (Ok false) =
+    (packets : List Packet) × (length packets ≤ place) × WasRead from header packets None
+GoesTo left from header place r (Err fault) =
+    (packets : List Packet) × (length packets ≤ place) × IsCause from (left r.source) header packets fault
+
+-- The header was not read; or the capture has a packet at this place, and that was printed; or it has not, or can't be read so far.
+abbrev pub Finds : {R : Type 0} → (R → Option (List ℕ)) → R → Filter → ℕ → Option (List ℕ) → Option (List ℕ) → Found R → Type 0
+Finds left from filter place old new f =
+    ((fault : Fault) × IsUnopened (left from) (left f.source) fault × IsErrOf f.read fault × IsOk f.printed × Keeps old new)
+    ⊎ ((header : Header) × (before : List Packet) × (p : Packet) × WasBegun (left from) header (before ++ p ∷ [])
+    × (length before ≡ place) × (f.read ≡ Ok true) × PrintsWhole filter place p old new f.printed)
+    ⊎ ((header : Header) × (packets : List Packet) × (length packets ≤ place) × IsOk f.printed × Keeps old new
+    × ((WasRead (left from) header packets None × (f.read ≡ Ok false))
+    ⊎ ((fault : Fault) × IsCause (left from) (left f.source) header packets fault × (f.read ≡ Err fault))))

@@ -1,0 +1,253 @@
+//! A line for each packet of a capture: the function under `bpftap explain`.
+
+ghost use Rattle.std.specs.Prelude.{◌≡◌, ◌≢◌, ◌↔◌, ◌<◌, ◌≤◌, ◌+◌, ◌^◌, ℕ, List, Option, [], Err, IfOk, IfErr, OnOk, string_bytes};
+ghost use Rattle.std.specs.Io.KnownBytes.{Consumes};
+ghost use Rattle.savefile.specs.declared.header.Header.{Header};
+ghost use Rattle.savefile.specs.Reader.{HasGiven};
+ghost use Rattle.cli_text.specs.Sending.{Takes};
+ghost use Rattle.cli_explain.specs.declared.each.Unprinted.TheVariants.{NoMemory, Output};
+ghost use Rattle.cli_explain.specs.Explained.{Explains, PrintsAll, PrintsLines, PrintsLine, IsLineBroken, counts_text, counted};
+
+use crate::filter::Filter;
+use crate::line::put_line;
+use bpfvm::NoMemory;
+use cli_text::sending::send;
+use filtergen::Verdict;
+use savefile::laws::given_so_far;
+use savefile::{Fault, PacketRef, Reader, Source};
+use std::alloc::Global;
+use std::io;
+use std::io::Write;
+
+/// How many packets a filter was asked, and how many of these it answered Yes, No and Abort.
+#[derive(Clone, Copy, Debug, PartialEq, Eq)]
+pub struct Counts {
+    pub packets: u64,
+    pub yes: u64,
+    pub no: u64,
+    pub abort: u64,
+}
+
+/// Why what was to be printed is not, or not all of it.
+#[derive(Debug, Drop)]
+pub enum Unprinted {
+    /// Memory was refused.
+    NoMemory,
+    /// The writer failed.
+    Output(io::Error),
+}
+
+impl From<NoMemory> for Unprinted {
+    ghost from_gives = { λ _ e. e ≡ NoMemory };
+
+    fn from(_refused: NoMemory) -> Unprinted {
+        Unprinted::NoMemory
+    }
+}
+
+impl From<io::Error> for Unprinted {
+    ghost from_gives = { λ error e. e ≡ Output error };
+
+    fn from(error: io::Error) -> Unprinted {
+        Unprinted::Output(error)
+    }
+}
+
+/// What explaining a capture came to.
+#[derive(Debug, Drop)]
+pub struct Explained<R> {
+    pub source: R,
+    /// Of the packets whose lines were printed, where all was printed.
+    pub counts: Counts,
+    /// The fault that ended the capture, if one did.
+    pub read: Result<(), Fault>,
+    /// Whether all was printed.
+    pub printed: Result<(), Unprinted>,
+}
+
+impl Counts {
+    /// Of no packets.
+    pub const NONE: Counts = Counts {
+        packets: 0,
+        yes: 0,
+        no: 0,
+        abort: 0,
+    };
+
+    /// Counts one packet more.
+    fn count(&mut self, verdict: Verdict)
+        requires room { self.now.packets + 1 < 2 ^ 64 }
+        requires yes { self.now.yes ≤ self.now.packets }
+        requires no { self.now.no ≤ self.now.packets }
+        requires abort { self.now.abort ≤ self.now.packets }
+        ensures { self.new ≡ counted verdict self.old }
+    {
+        self.packets += 1;
+        match verdict {
+            Verdict::Yes => self.yes += 1,
+            Verdict::No => self.no += 1,
+            Verdict::Abort => self.abort += 1,
+        }
+    }
+}
+
+/// Prints a line for each packet of a capture, and then one with the counts.
+///
+/// `place 2 time 1600000000.000000000 len 98 captured 98 Yes tcp port 8080`: the packet's place in the capture, from 0, when it
+/// was captured, its length on the wire and how many bytes of it were captured; what the filter answers; and the primitive or
+/// relation that decides, behind `not` where an odd number of these stand over it. An Abort has its cause. A program answers Yes
+/// where it returns a number other than 0, No where it returns 0, and Abort where its run ends at a byte that was not captured
+/// or a division by 0; behind that stand the number, and the place and name of the instruction where the run ended. The last
+/// line is `253 packets: 67 Yes, 186 No, 0 Abort`.
+///
+/// Each line is sent before the next packet is read, in memory that does not grow with the capture. `read` has the header's fault,
+/// and then nothing is printed, or that of the first torn or bad record, behind the line of the counts. It is
+/// [`Fault::Device`] exactly where the source failed. Where `printed` has a fault, `out` took a beginning of the text; and where that
+/// broke off at a line, none of the counts.
+pub fn explain_each<R: Source, O: Write>(
+    alloc: Global,
+    from: R,
+    filter: &Filter,
+    out: &mut O,
+) -> Explained<R>
+    // What was answered, what was printed, and how that ended.
+    ensures explains { Explains R.left from filter.now (O.contents out.old) (O.contents out.new) result }
+
+    // The next bytes of the source are taken, and its fault is told exactly where it failed.
+    ensures gave { (given : List ℕ) × Consumes (R.left from) (R.left result.source) given }
+    ensures source_broke { (result.read ≡ Err Fault.Device) ↔ (R.failures result.source ≢ R.failures from) }
+{
+    let mut reader = match Reader::open(alloc, from) {
+        Ok(reader) => reader,
+        Err((source, fault)) => {
+            return Explained {
+                source,
+                counts: Counts::NONE,
+                read: Err(fault),
+                printed: Ok(()),
+            };
+        }
+    };
+    let ended = print_all(alloc, &mut reader, filter, out);
+    Explained {
+        source: reader.close(),
+        counts: ended.counts,
+        read: ended.read,
+        printed: ended.printed,
+    }
+}
+
+/// What printing came to, of a reader that its caller has.
+fn outcome(counts: Counts, read: Result<(), Fault>, printed: Result<(), Unprinted>) -> Explained<()>
+    ensures counts { result.counts ≡ counts }
+    ensures read { result.read ≡ read }
+    ensures printed { result.printed ≡ printed }
+{
+    Explained {
+        source: (),
+        counts,
+        read,
+        printed,
+    }
+}
+
+/// Prints the line of each packet, and the counts.
+fn print_all<R: Source, O: Write>(
+    alloc: Global,
+    reader: &mut Reader<R>,
+    filter: &Filter,
+    out: &mut O,
+) -> Explained<()>
+    ensures prints { (from : Option (List ℕ)) (header : Header) → HasGiven R.left from header [] reader.old →
+        PrintsAll filter.now from (R.left reader.new.source) header (O.contents out.old) (O.contents out.new) result.counts result.read result.printed }
+    ensures taken { (bytes : List ℕ) × Consumes (R.left reader.old.source) (R.left reader.new.source) bytes }
+    ensures source_broke { (result.read ≡ Err Fault.Device) ↔ (R.failures reader.new.source ≢ R.failures reader.old.source) }
+{
+    let mut line = String::new(alloc);
+    let ended = print_lines(alloc, reader, filter, &mut line, out);
+    if ended.printed.is_err() {
+        return ended;
+    }
+    let printed = print_counts(ended.counts, &mut line, out);
+    Explained {
+        source: (),
+        counts: ended.counts,
+        read: ended.read,
+        printed,
+    }
+}
+
+/// Prints the line of each packet.
+fn print_lines<R: Source, O: Write>(
+    alloc: Global,
+    reader: &mut Reader<R>,
+    filter: &Filter,
+    line: &mut String,
+    out: &mut O,
+) -> Explained<()>
+    ensures prints { (from : Option (List ℕ)) (header : Header) → HasGiven R.left from header [] reader.old →
+        PrintsLines filter.now from (R.left reader.new.source) header (O.contents out.old) (O.contents out.new) result.counts result.read result.printed }
+    ensures taken { (bytes : List ℕ) × Consumes (R.left reader.old.source) (R.left reader.new.source) bytes }
+    ensures source_broke { (result.read ≡ Err Fault.Device) ↔ (R.failures reader.new.source ≢ R.failures reader.old.source) }
+{
+    let mut counts = Counts::NONE;
+    loop {
+        match reader.advance() {
+            Ok(true) => {
+                // Where the printing breaks off, what was read so far begins what the capture holds.
+                given_so_far(reader);
+                match print_line(alloc, filter, counts.packets, &reader.packet(), line, out) {
+                    Ok(verdict) => counts.count(verdict),
+                    Err(unprinted) => return outcome(counts, Ok(()), Err(unprinted)),
+                }
+            }
+            Ok(false) => return outcome(counts, Ok(()), Ok(())),
+            Err(fault) => return outcome(counts, Err(fault), Ok(())),
+        }
+    }
+}
+
+/// Prints the line of a packet.
+pub(crate) fn print_line<O: Write>(
+    alloc: Global,
+    filter: &Filter,
+    place: u64,
+    packet: &PacketRef<'_>,
+    line: &mut String,
+    out: &mut O,
+) -> Result<Verdict, Unprinted>
+    ensures ok { IfOk result (PrintsLine filter.now place packet.now (O.contents out.old) (O.contents out.new)) }
+    ensures fault { IfErr result (IsLineBroken filter.now place packet.now (O.contents out.old) (O.contents out.new)) }
+{
+    let verdict = put_line(alloc, line, filter, place, packet)?;
+    send(line.as_bytes(), out)?;
+    Ok(verdict)
+}
+
+/// Prints the counts, and all that the writer has gathered.
+fn print_counts<O: Write>(counts: Counts, line: &mut String, out: &mut O) -> Result<(), Unprinted>
+    ensures { Takes (O.contents out.old) (O.contents out.new) result (counts_text counts.packets counts.yes counts.no counts.abort) }
+{
+    put_counts(line, counts)?;
+    send_last(line.as_bytes(), out)?;
+    Ok(())
+}
+
+/// Sends a text, and all that the writer has gathered.
+pub(crate) fn send_last<O: Write>(text: &[u8], out: &mut O) -> io::Result<()>
+    ensures { Takes (O.contents out.old) (O.contents out.new) result text.now }
+{
+    send(text, out)?;
+    out.flush()
+}
+
+/// Puts the line of the counts in place of what the line has.
+#[tactic(auto, unfolding(crate::specs::Explained::counts_text))]
+fn put_counts(line: &mut String, counts: Counts) -> Result<(), NoMemory>
+    ensures { OnOk result (string_bytes line.new ≡ counts_text counts.packets counts.yes counts.no counts.abort) }
+{
+    line.clear();
+    write!(line, "{} packets: {} Yes, ", counts.packets, counts.yes)?;
+    write!(line, "{} No, {} Abort\n", counts.no, counts.abort)?;
+    Ok(())
+}

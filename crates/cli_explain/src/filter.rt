@@ -1,0 +1,50 @@
+//! The filter that is explained.
+
+ghost use Rattle.std.specs.Prelude.{◌≡◌, None, IfOk, IfErr};
+ghost use Rattle.filtergen.specs.Expressions.{IsUncompiled};
+ghost use Rattle.cli_explain.specs.Filter.{IsOfExpression};
+
+use bpfvm::Program;
+use filtergen::{ExpressionFault, compile};
+use filterlang::{Expr, parse};
+use std::alloc::Global;
+
+/// A filter that packets are asked: an expression with its program, or a program alone.
+#[derive(Drop)]
+pub struct Filter {
+    /// The expression, where it is one.
+    pub(crate) expr: Option<Expr>,
+    pub(crate) program: Program,
+}
+
+/// The filter of an expression, whose program answers the snapshot length, 1 to 262,144, where the expression accepts a packet.
+///
+/// The fault is that of a text which is no expression, or which is too deep or too long to compile, or of a snapshot length
+/// out of range; or `NoMemory`.
+pub fn of_expression(alloc: Global, text: &str, snap: u32) -> Result<Filter, ExpressionFault>
+    ensures filter { IfOk result (IsOfExpression text.now snap) }
+    ensures fault { IfErr result (IsUncompiled text.now snap) }
+{
+    let expr = match parse(alloc, text) {
+        Ok(expr) => expr,
+        Err(fault) => return Err(ExpressionFault::Text(fault)),
+    };
+    match compile(&expr, snap) {
+        Ok(program) => Ok(Filter {
+            expr: Some(expr),
+            program,
+        }),
+        Err(refusal) => Err(ExpressionFault::Tree(refusal)),
+    }
+}
+
+/// The filter that a program is, as that of a listing.
+pub fn of_program(program: Program) -> Filter
+    ensures expr { result.expr ≡ None }
+    ensures program { result.program ≡ program }
+{
+    Filter {
+        expr: None,
+        program,
+    }
+}

@@ -1,0 +1,133 @@
+//! The line of a packet.
+
+ghost use Rattle.std.specs.Prelude.{◌≡◌, ◌++◌, ℕ, List, length, IfOk, OnOk, string_bytes, codes};
+ghost use Rattle.std.specs.Fmt.{decimal};
+ghost use Rattle.cli_text.specs.Time.{nine_digits};
+ghost use Rattle.filterlang.specs.Trees.{tree_of};
+ghost use Rattle.cli_explain.specs.Answers.{answer, answer_line, ended_as, Decides, EndsRun, IsAnswer, PutsAnswer};
+ghost use Rattle.cli_explain.specs.Printed.{packet_text, end_text};
+
+use crate::filter::Filter;
+use bpfvm::{Brief, Insn, NoMemory, Program, code, trace};
+use cli_text::time::NineDigits;
+use filter_explain::{put_decision, put_verdict};
+use filtergen::Verdict;
+use filterlang::Expr;
+use savefile::PacketRef;
+use std::alloc::{AllocError, Global};
+
+/// Puts a packet's place and its time in place of what the line has.
+fn put_time(line: &mut String, place: u64, packet: &PacketRef<'_>) -> Result<(), AllocError>
+    ensures { OnOk result (string_bytes line.new ≡ codes "place " ++ decimal place ++ codes " time " ++ decimal packet.now.sec ++ codes "." ++ nine_digits packet.now.nanos) }
+{
+    line.clear();
+    write!(
+        line,
+        "place {place} time {}.{}",
+        packet.sec,
+        NineDigits(packet.nanos)
+    )
+}
+
+/// Appends how long a packet was on the wire, and how many bytes of it were captured.
+fn put_lengths(line: &mut String, packet: &PacketRef<'_>) -> Result<(), AllocError>
+    ensures { OnOk result (string_bytes line.new ≡ string_bytes line.old
+        ++ (codes " len " ++ decimal packet.now.len ++ codes " captured " ++ decimal (length packet.now.bytes) ++ codes " ")) }
+{
+    let captured = packet.bytes.len();
+    write!(line, " len {} captured {captured} ", packet.len)
+}
+
+/// Puts a packet's place, its time and its lengths in place of what the line has.
+#[tactic(auto, unfolding(crate::specs::Printed::packet_text))]
+fn put_packet(line: &mut String, place: u64, packet: &PacketRef<'_>) -> Result<(), NoMemory>
+    ensures { OnOk result (string_bytes line.new ≡ packet_text place packet.now) }
+{
+    put_time(line, place, packet)?;
+    put_lengths(line, packet)?;
+    Ok(())
+}
+
+/// Appends what an expression answers to a packet, and what decides.
+fn put_meaning(line: &mut String, expr: &Expr, packet: &PacketRef<'_>) -> Result<Verdict, NoMemory>
+    ensures { IfOk result (PutsAnswer (string_bytes line.old) (string_bytes line.new) (Decides (tree_of expr.now)) packet.now) }
+{
+    Ok(put_decision(line, expr, packet.bytes, packet.len)?)
+}
+
+/// What an answer of a program counts as whose last instruction has this code: a run that no return ended is an Abort.
+fn ended_as(code: u16, answer: u32) -> Verdict
+    ensures { result ≡ ended_as code answer }
+{
+    if code != code::RET_K && code != code::RET_A {
+        Verdict::Abort
+    } else if answer == 0 {
+        Verdict::No
+    } else {
+        Verdict::Yes
+    }
+}
+
+/// Appends the number that a program answers, the place where its run ended, and the instruction there.
+#[tactic(auto, unfolding(crate::specs::Printed::end_text))]
+fn put_number(line: &mut String, number: u32, place: usize, insn: &Insn) -> Result<(), NoMemory>
+    ensures { OnOk result (string_bytes line.new ≡ string_bytes line.old ++ end_text number place insn.now) }
+{
+    write!(line, "{number} at {place}: {}", Brief(insn))?;
+    Ok(())
+}
+
+/// Appends what a program answers to a packet, where its run ended, and the instruction there.
+fn put_end(
+    alloc: Global,
+    line: &mut String,
+    program: &Program,
+    packet: &PacketRef<'_>,
+) -> Result<Verdict, NoMemory>
+    ensures { IfOk result (PutsAnswer (string_bytes line.old) (string_bytes line.new) (EndsRun program.now) packet.now) }
+{
+    let run = trace(alloc, program, packet.bytes, packet.len)?;
+    // Each run executes an instruction of the program, so there is a last one.
+    let Some((last, _)) = run.executed.as_slice().split_last() else {
+        return Err(NoMemory);
+    };
+    let Some(insn) = program.insns().get(last.place) else {
+        return Err(NoMemory);
+    };
+    let verdict = ended_as(insn.code, run.answer);
+    put_verdict(line, verdict)?;
+    put_number(line, run.answer, last.place, insn)?;
+    Ok(verdict)
+}
+
+/// Appends what a filter answers to a packet, and why.
+fn put_answer(
+    alloc: Global,
+    line: &mut String,
+    filter: &Filter,
+    packet: &PacketRef<'_>,
+) -> Result<Verdict, NoMemory>
+    ensures { IfOk result (PutsAnswer (string_bytes line.old) (string_bytes line.new) (IsAnswer filter.now) packet.now) }
+{
+    match &filter.expr {
+        Some(expr) => put_meaning(line, expr, packet),
+        None => put_end(alloc, line, &filter.program, packet),
+    }
+}
+
+/// Puts the line of a packet in place of what the line has: its place and time, what the filter answers, and why.
+pub(crate) fn put_line(
+    alloc: Global,
+    line: &mut String,
+    filter: &Filter,
+    place: u64,
+    packet: &PacketRef<'_>,
+) -> Result<Verdict, NoMemory>
+    ensures { IfOk result (λ verdict. (reason : List ℕ) × IsAnswer filter.now (answer packet.now verdict reason)
+        × (string_bytes line.new ≡ answer_line place (answer packet.now verdict reason))) }
+{
+    put_packet(line, place, packet)?;
+    let verdict = put_answer(alloc, line, filter, packet)?;
+    line.push('\n')?;
+    Ok(verdict)
+}

@@ -1,0 +1,135 @@
+//! One packet of a capture in full: the function under `bpftap explain -p`.
+
+ghost use Rattle.std.specs.Prelude.{◌≡◌, ◌≢◌, ◌↔◌, ℕ, List, Option, [], Ok, Err, true};
+ghost use Rattle.std.specs.Io.KnownBytes.{Consumes};
+ghost use Rattle.savefile.specs.declared.header.Header.{Header};
+ghost use Rattle.savefile.specs.Reader.{HasGiven, Lends};
+ghost use Rattle.cli_explain.specs.Explained.{Finds, GoesTo, PrintsFound, PrintsMore, PrintsWhole};
+
+use crate::each::{Unprinted, print_line, send_last};
+use crate::filter::Filter;
+use crate::whole::whole_text;
+use savefile::laws::given_so_far;
+use savefile::{Fault, PacketRef, Reader, Source};
+use std::alloc::Global;
+use std::io::Write;
+
+/// What explaining one packet came to.
+#[derive(Debug, Drop)]
+pub struct Found<R> {
+    pub source: R,
+    /// Whether the capture has a packet at that place, or why it could not be read so far.
+    pub read: Result<bool, Fault>,
+    /// Whether all was printed.
+    pub printed: Result<(), Unprinted>,
+}
+
+/// Prints all of the packet at a place of a capture, from 0: its line as [`explain_each`](crate::each::explain_each) has it; of an
+/// expression how it was read, and each primitive and relation with its own answer and the bytes that it looked at, or that it was
+/// not asked; and the run of the program, by the names of its instructions, with the registers behind each.
+///
+/// `read` is `Ok(false)` where the capture has no packet at that place; or it has the fault that stands before it, as that of the
+/// header, or of a torn or bad record. Then nothing is printed. Where `printed` is `NoMemory`, `out` took that line alone or nothing,
+/// and where it is `Output` a beginning of the line, or the line and what stands behind it.
+pub fn explain_one<R: Source, O: Write>(
+    alloc: Global,
+    from: R,
+    filter: &Filter,
+    place: u64,
+    out: &mut O,
+) -> Found<R>
+    // Whether there is such a packet, and what was printed of it.
+    ensures finds { Finds R.left from filter.now place (O.contents out.old) (O.contents out.new) result }
+
+    // The next bytes of the source are taken, and its fault is told exactly where it failed.
+    ensures gave { (given : List ℕ) × Consumes (R.left from) (R.left result.source) given }
+    ensures source_broke { (result.read ≡ Err Fault.Device) ↔ (R.failures result.source ≢ R.failures from) }
+{
+    let mut reader = match Reader::open(alloc, from) {
+        Ok(reader) => reader,
+        Err((source, fault)) => {
+            return Found {
+                source,
+                read: Err(fault),
+                printed: Ok(()),
+            };
+        }
+    };
+    let read = go_to(&mut reader, place);
+    // What was read so far begins what the capture holds.
+    given_so_far(&reader);
+    let printed = print_found(alloc, filter, place, read, &reader, out);
+    Found {
+        source: reader.close(),
+        read,
+        printed,
+    }
+}
+
+/// Goes on to the packet at a place.
+fn go_to<R: Source>(reader: &mut Reader<R>, place: u64) -> Result<bool, Fault>
+    ensures goes { (from : Option (List ℕ)) (header : Header) → HasGiven R.left from header [] reader.old →
+        GoesTo R.left from header place reader.new result }
+    ensures lends { result ≡ Ok true → Lends reader.new }
+    ensures taken { (bytes : List ℕ) × Consumes (R.left reader.old.source) (R.left reader.new.source) bytes }
+    ensures source_broke { (result ≡ Err Fault.Device) ↔ (R.failures reader.new.source ≢ R.failures reader.old.source) }
+{
+    let mut passed = 0;
+    while passed < place {
+        match reader.advance() {
+            Ok(true) => passed += 1,
+            Ok(false) => return Ok(false),
+            Err(fault) => return Err(fault),
+        }
+    }
+    reader.advance()
+}
+
+/// Prints the packet that a reader went on to, where it did.
+fn print_found<R: Source, O: Write>(
+    alloc: Global,
+    filter: &Filter,
+    place: u64,
+    read: Result<bool, Fault>,
+    reader: &Reader<R>,
+    out: &mut O,
+) -> Result<(), Unprinted>
+    requires { read ≡ Ok true → Lends reader.now }
+    ensures { PrintsFound filter.now place reader.now.lent (O.contents out.old) (O.contents out.new) read result }
+{
+    match read {
+        Ok(true) => print_whole(alloc, filter, place, &reader.packet(), out),
+        Ok(false) => Ok(()),
+        Err(_) => Ok(()),
+    }
+}
+
+/// Prints a packet's line, and then all that is told of it.
+fn print_whole<O: Write>(
+    alloc: Global,
+    filter: &Filter,
+    place: u64,
+    packet: &PacketRef<'_>,
+    out: &mut O,
+) -> Result<(), Unprinted>
+    ensures { PrintsWhole filter.now place packet.now (O.contents out.old) (O.contents out.new) result }
+{
+    let mut line = String::new(alloc);
+    print_line(alloc, filter, place, packet, &mut line, out)?;
+    print_rest(alloc, filter, place, packet, out)
+}
+
+/// Prints what is told of a packet behind its line.
+fn print_rest<O: Write>(
+    alloc: Global,
+    filter: &Filter,
+    place: u64,
+    packet: &PacketRef<'_>,
+    out: &mut O,
+) -> Result<(), Unprinted>
+    ensures { PrintsMore (O.contents out.old) (O.contents out.new) result }
+{
+    let text = whole_text(alloc, filter, place, packet)?;
+    send_last(text.as_bytes(), out)?;
+    Ok(())
+}

@@ -1,0 +1,276 @@
+//! All that is told of one packet.
+
+use crate::filter::Filter;
+use crate::looking::{Looked, looked_at};
+use bpfvm::{Executed, Insn, NoMemory, Placed, Program, Traced, code, trace};
+use filter_explain::{Asked, decide, put_cause, put_part, verdict_text};
+use filter_print::Canonical;
+use filtergen::Verdict;
+use filterlang::Expr;
+use savefile::PacketRef;
+use std::alloc::{AllocError, Global};
+
+/// How wide an instruction is written.
+const NAME: usize = 48;
+
+/// Appends bytes that were looked at.
+fn put_bytes(
+    text: &mut String,
+    offset: usize,
+    size: usize,
+    number: Option<u64>,
+) -> Result<(), AllocError> {
+    if size == 1 {
+        write!(text, "           ether[{offset}] ")?;
+    } else {
+        write!(text, "           ether[{offset}:{size}] ")?;
+    }
+    match number {
+        Some(number) => write!(text, "= {number:#x}\n"),
+        None => text.push_str("is not captured\n"),
+    }
+}
+
+/// Appends what was looked at.
+fn put_looked(text: &mut String, looked: &[Looked]) -> Result<(), AllocError> {
+    for one in looked {
+        match *one {
+            Looked::Length(length) => write!(text, "           len = {length}\n")?,
+            Looked::Bytes {
+                offset,
+                size,
+                number,
+            } => put_bytes(text, offset, size, number)?,
+        }
+    }
+    Ok(())
+}
+
+/// Appends a primitive or a relation that was asked, and its own answer.
+fn put_answer(text: &mut String, asked: Asked<'_>) -> Result<(), AllocError> {
+    write!(text, "{:<11}", verdict_text(asked.verdict))?;
+    put_part(text, asked.part, false)?;
+    put_cause(text, asked.cause)?;
+    text.push('\n')
+}
+
+/// Appends a primitive or a relation that is asked, its own answer, and what it looks at.
+fn put_asked(
+    alloc: Global,
+    text: &mut String,
+    part: &Expr,
+    packet: &PacketRef<'_>,
+) -> Result<Verdict, NoMemory> {
+    let asked = decide(part, packet.bytes, packet.len);
+    put_answer(text, asked)?;
+    let looked = looked_at(alloc, part, packet.bytes, packet.len)?;
+    put_looked(text, looked.as_slice())?;
+    Ok(asked.verdict)
+}
+
+/// Appends a primitive or a relation that is not asked.
+fn put_unasked(text: &mut String, part: &Expr) -> Result<(), AllocError> {
+    text.push_str("not asked  ")?;
+    put_part(text, part, false)?;
+    text.push('\n')
+}
+
+/// What `not` makes of an answer.
+fn opposite(answer: Verdict) -> Verdict {
+    match answer {
+        Verdict::Yes => Verdict::No,
+        Verdict::No => Verdict::Yes,
+        Verdict::Abort => Verdict::Abort,
+    }
+}
+
+/// What two parts answer, of which the second is asked behind this answer of the first.
+fn joined(first: Verdict, goes_on: Verdict, second: Verdict) -> Verdict {
+    if first == goes_on { second } else { first }
+}
+
+/// Appends a primitive or a relation, and answers what it answers, where it is asked.
+fn put_one_part(
+    alloc: Global,
+    text: &mut String,
+    part: &Expr,
+    is_asked: bool,
+    packet: &PacketRef<'_>,
+) -> Result<Verdict, NoMemory> {
+    if is_asked {
+        return put_asked(alloc, text, part, packet);
+    }
+    put_unasked(text, part)?;
+    Ok(Verdict::No)
+}
+
+/// Appends the primitives and relations of an expression from left to right, and answers what it answers. Those that are not
+/// asked are named so.
+fn put_parts(
+    alloc: Global,
+    text: &mut String,
+    expr: &Expr,
+    is_asked: bool,
+    packet: &PacketRef<'_>,
+) -> Result<Verdict, NoMemory> {
+    let (left, goes_on, right) = match expr {
+        Expr::Not(operand) => {
+            return Ok(opposite(put_parts(alloc, text, operand, is_asked, packet)?));
+        }
+        Expr::And(left, right) => (left, Verdict::Yes, right),
+        Expr::Or(left, right) => (left, Verdict::No, right),
+        _ => return put_one_part(alloc, text, expr, is_asked, packet),
+    };
+    let first = put_parts(alloc, text, left, is_asked, packet)?;
+    let is_next_asked = is_asked && first == goes_on;
+    let second = put_parts(alloc, text, right, is_next_asked, packet)?;
+    Ok(joined(first, goes_on, second))
+}
+
+/// Appends how an expression was read, and its primitives and relations.
+fn put_expression(
+    alloc: Global,
+    text: &mut String,
+    expr: &Expr,
+    packet: &PacketRef<'_>,
+) -> Result<(), NoMemory> {
+    write!(text, "\nexpression: {}\n\n", Canonical(expr))?;
+    put_parts(alloc, text, expr, true, packet)?;
+    Ok(())
+}
+
+/// Appends an instruction by its name, with blanks for tabs.
+fn put_name(alloc: Global, text: &mut String, place: u32, insn: &Insn) -> Result<(), NoMemory> {
+    let line = format!(in alloc; "{}", Placed { place, insn })?;
+    for character in line.as_str().chars() {
+        text.push(if character == '\t' { ' ' } else { character })?;
+    }
+    Ok(())
+}
+
+/// Appends so many blanks.
+fn put_blanks(text: &mut String, count: usize) -> Result<(), NoMemory> {
+    for _ in 0..count {
+        text.push(' ')?;
+    }
+    Ok(())
+}
+
+/// Appends the instruction at a place of a program by its name, in a column.
+fn put_insn(
+    alloc: Global,
+    text: &mut String,
+    program: &Program,
+    place: usize,
+) -> Result<(), NoMemory> {
+    let start = text.len();
+    if let (Some(insn), Ok(place)) = (program.insns().get(place), u32::try_from(place)) {
+        put_name(alloc, text, place, insn)?;
+    }
+    let width = text.len().saturating_sub(start);
+    put_blanks(text, NAME.saturating_sub(width))
+}
+
+/// Appends what the registers hold behind an instruction, and what it stored.
+fn put_registers(text: &mut String, executed: &Executed) -> Result<(), AllocError> {
+    let (accumulator, index) = (executed.accumulator, executed.index);
+    write!(text, " A {accumulator:#x} X {index:#x}")?;
+    match executed.stored {
+        Some(stored) => write!(text, " M[{}] {:#x}\n", stored.cell, stored.value),
+        None => text.push('\n'),
+    }
+}
+
+/// Appends the instructions that were executed, and the registers behind each.
+fn put_executed(
+    alloc: Global,
+    text: &mut String,
+    program: &Program,
+    executed: &[Executed],
+) -> Result<(), NoMemory> {
+    for step in executed {
+        put_insn(alloc, text, program, step.place)?;
+        put_registers(text, step)?;
+    }
+    Ok(())
+}
+
+/// Appends why a run ended whose last instruction is no return: that was not carried out.
+fn put_broken_off(
+    text: &mut String,
+    program: &Program,
+    executed: &[Executed],
+) -> Result<(), AllocError> {
+    let Some(last) = executed.last() else {
+        return Ok(());
+    };
+    match program.insns().get(last.place) {
+        Some(insn) => put_cause_of_end(text, insn.code),
+        None => Ok(()),
+    }
+}
+
+/// Appends why an instruction of this code was not carried out, unless it is a return.
+fn put_cause_of_end(text: &mut String, code: u16) -> Result<(), AllocError> {
+    text.push_str(match code {
+        code::RET_K | code::RET_A => "",
+        code::DIV_X | code::MOD_X => "the last instruction was not carried out: its divisor is 0\n",
+        _ => "the last instruction was not carried out: a byte that it loads is not captured\n",
+    })
+}
+
+/// Appends a run of a program, and what it answers.
+fn put_traced(
+    alloc: Global,
+    text: &mut String,
+    program: &Program,
+    run: &Traced,
+) -> Result<(), NoMemory> {
+    text.push_str("\nprogram, with the registers behind each instruction:\n")?;
+    put_executed(alloc, text, program, run.executed.as_slice())?;
+    put_broken_off(text, program, run.executed.as_slice())?;
+    write!(text, "answer {}\n", run.answer)?;
+    Ok(())
+}
+
+/// Appends the run of the program.
+fn put_run(
+    alloc: Global,
+    text: &mut String,
+    program: &Program,
+    packet: &PacketRef<'_>,
+) -> Result<(), NoMemory> {
+    let run = trace(alloc, program, packet.bytes, packet.len)?;
+    put_traced(alloc, text, program, &run)
+}
+
+/// Appends all that is told of a packet behind its line.
+fn put_whole(
+    alloc: Global,
+    text: &mut String,
+    filter: &Filter,
+    place: u64,
+    packet: &PacketRef<'_>,
+) -> Result<(), NoMemory> {
+    let shown = u128::from(place) + 1;
+    write!(
+        text,
+        "places count from 0; tcpdump and Wireshark count packets from 1, and this is packet {shown} there\n"
+    )?;
+    if let Some(expr) = &filter.expr {
+        put_expression(alloc, text, expr, packet)?;
+    }
+    put_run(alloc, text, &filter.program, packet)
+}
+
+/// All that is told of a packet behind its line.
+pub(crate) fn whole_text(
+    alloc: Global,
+    filter: &Filter,
+    place: u64,
+    packet: &PacketRef<'_>,
+) -> Result<String, NoMemory> {
+    let mut text = String::new(alloc);
+    put_whole(alloc, &mut text, filter, place, packet)?;
+    Ok(text)
+}

@@ -1,0 +1,25 @@
+//! The capture that a command reads.
+
+ghost use Rattle.std.specs.Prelude.{◌≤◌, IfErr};
+
+use crate::reading::tell_io;
+use crate::retried::Retried;
+use cli_report::noted::NotedInput;
+use cli_report::{Noted, TakesHints};
+use savefile::Counted;
+use std::fs;
+use std::fs::Files;
+
+/// Opens the capture at a path, or tells why that can't be opened.
+pub fn open_input<R: Files, E: TakesHints>(
+    rt: &R,
+    path: &str,
+    err: &mut E,
+) -> Result<NotedInput<Retried<R::File>>, u8>
+    ensures { IfErr result (λ status. status ≤ 3) }
+{
+    match fs::open(rt, path) {
+        Ok(input) => Ok(Counted::new(Noted::new(Retried::new(input)))),
+        Err(error) => Err(tell_io(&error, path, err)),
+    }
+}

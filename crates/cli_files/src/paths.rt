@@ -1,0 +1,276 @@
+//! Which paths are one file. It is looked at before a file is opened for writing, so that nothing that is read is lost and no
+//! two captures go into one file.
+
+ghost use Rattle.std.specs.Prelude.{◌≤◌, IfErr};
+
+use crate::reading::tell_io;
+use cli_report::TakesHints;
+use cli_text::telling::{Path, REFUSED, tell_fault};
+use savefile::Fault;
+use std::alloc::{AllocError, AllocFailed, Global};
+use std::collections::BTreeSet;
+use std::fs::{Files, Metadata};
+use std::io::ErrorKind;
+use std::os::unix::fs::{FileTypeExt, MetadataExt};
+use std::{fs, io};
+
+/// The names of what the program prints and tells on.
+pub const STANDARD_OUTPUT: &str = "/dev/stdout";
+
+const STANDARD_ERROR: &str = "/dev/stderr";
+
+/// The system follows no more symbolic links than these.
+const MOST_LINKS: usize = 40;
+
+/// The system's error where a folder may not be entered.
+const NO_ACCESS: i32 = 13;
+
+/// What tells a file or a folder from each other one of the system.
+#[derive(Clone, Copy, Debug, PartialEq, Eq, PartialOrd, Ord)]
+pub struct FileId {
+    pub device: u64,
+    pub inode: u64,
+}
+
+/// Where a path leads.
+#[derive(Debug, Drop, PartialEq, Eq, PartialOrd, Ord)]
+pub enum Target {
+    /// A regular file or a fifo that is there.
+    File(FileId),
+    /// A file that is not there yet: the folder that it would be made in, and its name.
+    New(FileId, String),
+}
+
+/// Why the files of a command are refused.
+#[derive(Drop)]
+enum PathFault<'a> {
+    /// This path and another one are one file.
+    Same(&'a str),
+    /// The system does not tell where this path leads.
+    Untold(&'a str, io::Error),
+    NoMemory,
+}
+
+impl From<AllocError> for PathFault<'_> {
+    fn from(_e: AllocError) -> Self {
+        PathFault::NoMemory
+    }
+}
+
+impl<T: Drop> From<AllocFailed<T>> for PathFault<'_> {
+    fn from(_e: AllocFailed<T>) -> Self {
+        PathFault::NoMemory
+    }
+}
+
+fn id_of(metadata: &Metadata) -> FileId {
+    FileId {
+        device: metadata.dev(),
+        inode: metadata.ino(),
+    }
+}
+
+/// Whether an error says that there is no way to where a path leads: then nothing can be opened or made there either.
+fn is_no_way(error: &io::Error) -> bool {
+    match error.kind() {
+        ErrorKind::NotFound
+        | ErrorKind::NotADirectory
+        | ErrorKind::FilesystemLoop
+        | ErrorKind::InvalidFilename
+        | ErrorKind::InvalidInput => true,
+        _ => error.raw_os_error() == Some(NO_ACCESS),
+    }
+}
+
+/// What stands at a path, its symbolic links followed; nothing where there is no way to it.
+fn standing<R: Files>(rt: &R, path: &str) -> io::Result<Option<Metadata>> {
+    match fs::metadata(rt, path) {
+        Ok(metadata) => Ok(Some(metadata)),
+        Err(error) if is_no_way(&error) => Ok(None),
+        Err(error) => Err(error),
+    }
+}
+
+/// The folder that a path leads through last, and the name in it.
+fn folder_and_name(path: &str) -> (&str, &str) {
+    match path.rsplit_once('/') {
+        Some(("", name)) => ("/", name),
+        Some((folder, name)) => (folder, name),
+        None => (".", path),
+    }
+}
+
+/// Where the symbolic link at a path leads; nothing where none stands there.
+fn link_target<R: Files + AllocGlobal>(rt: &R, path: &str) -> io::Result<Option<String>> {
+    match fs::symlink_metadata(rt, path) {
+        Ok(metadata) if metadata.is_symlink() => {}
+        Ok(_) => return Ok(None),
+        Err(error) if is_no_way(&error) => return Ok(None),
+        Err(error) => return Err(error),
+    }
+    let target = fs::read_link(rt, path)?;
+    if target.is_absolute() {
+        Ok(Some(String::from_str(rt.alloc(), target.as_str())?))
+    } else {
+        let (folder, _) = folder_and_name(path);
+        Ok(Some(format!(in rt.alloc(); "{folder}/{}", target.as_str())?))
+    }
+}
+
+/// Where a file would be made by a path at which none stands: a symbolic link at its end is followed.
+fn new_file<R: Files + AllocGlobal>(rt: &R, path: &str) -> io::Result<Option<Target>> {
+    let mut path = String::from_str(rt.alloc(), path)?;
+    for _ in 0..MOST_LINKS {
+        match link_target(rt, path.as_str())? {
+            Some(target) => path = target,
+            None => return in_folder(rt, path.as_str()),
+        }
+    }
+    Err(io::Error::from(ErrorKind::FilesystemLoop))
+}
+
+/// The target that a new file would be. None can be made in a folder that is not there, nor without a name.
+fn in_folder<R: Files + AllocGlobal>(rt: &R, path: &str) -> io::Result<Option<Target>> {
+    let (folder, name) = folder_and_name(path);
+    match standing(rt, folder)? {
+        Some(metadata) if metadata.is_dir() && !name.is_empty() => {
+            let name = String::from_str(rt.alloc(), name)?;
+            Ok(Some(Target::New(id_of(&metadata), name)))
+        }
+        _ => Ok(None),
+    }
+}
+
+/// Where a path leads; nothing where no file stands or can be made, and at a device or a folder, which lose nothing. An error
+/// says that the system does not tell.
+pub fn target_of<R: Files + AllocGlobal>(rt: &R, path: &str) -> io::Result<Option<Target>> {
+    match standing(rt, path)? {
+        Some(metadata) => {
+            let is_lost = metadata.is_file() || metadata.file_type().is_fifo();
+            Ok(is_lost.then_some(Target::File(id_of(&metadata))))
+        }
+        None => new_file(rt, path),
+    }
+}
+
+/// The same, with the path in the error.
+fn told_target<'a, R: Files + AllocGlobal>(
+    rt: &R,
+    path: &'a str,
+) -> Result<Option<Target>, PathFault<'a>> {
+    match target_of(rt, path) {
+        Ok(target) => Ok(target),
+        Err(error) => Err(PathFault::Untold(path, error)),
+    }
+}
+
+/// The regular file that standard error goes to. What is told in a pipe loses nothing of what goes there too.
+fn told_file<R: Files>(rt: &R) -> Result<Option<Target>, PathFault<'static>> {
+    match standing(rt, STANDARD_ERROR) {
+        Ok(Some(metadata)) if metadata.is_file() => Ok(Some(Target::File(id_of(&metadata)))),
+        Ok(_) => Ok(None),
+        Err(error) => Err(PathFault::Untold(STANDARD_ERROR, error)),
+    }
+}
+
+/// The files of a command that no further one may be.
+#[derive(Drop)]
+struct Taken<'a> {
+    texts: BTreeSet<&'a str>,
+    targets: BTreeSet<Target>,
+}
+
+impl<'a> Taken<'a> {
+    fn new(alloc: Global) -> Taken<'a> {
+        Taken {
+            texts: BTreeSet::new(alloc),
+            targets: BTreeSet::new(alloc),
+        }
+    }
+
+    /// Takes files that are read, which may be one, but none of them the one that is printed to; then that one, and the one that
+    /// faults are told to.
+    fn add_read<R: Files + AllocGlobal>(
+        &mut self,
+        rt: &R,
+        standard_output: Option<&'a str>,
+        paths: &[&'a str],
+    ) -> Result<(), PathFault<'a>> {
+        let standard_output = match standard_output {
+            Some(path) => told_target(rt, path)?,
+            None => None,
+        };
+        for path in paths {
+            self.texts.insert(*path)?;
+            let target = told_target(rt, *path)?;
+            if target.is_some() && target == standard_output {
+                return Err(PathFault::Same(*path));
+            }
+            self.add(target)?;
+        }
+        self.add(standard_output)?;
+        self.add(told_file(rt)?)?;
+        Ok(())
+    }
+
+    /// Takes files that are written, each of them another one than all before.
+    fn add_written<'b, R: Files + AllocGlobal>(
+        &mut self,
+        rt: &R,
+        paths: &[&'b str],
+    ) -> Result<(), PathFault<'b>> {
+        for path in paths {
+            let target = told_target(rt, *path)?;
+            if self.texts.contains(*path) || !self.add(target)? {
+                return Err(PathFault::Same(*path));
+            }
+        }
+        Ok(())
+    }
+
+    /// Takes a target, and answers whether it was not taken yet.
+    fn add(&mut self, target: Option<Target>) -> Result<bool, AllocFailed<Target>> {
+        match target {
+            Some(target) => self.targets.insert(target),
+            None => Ok(true),
+        }
+    }
+}
+
+/// Tells why files are refused, and answers the exit status.
+fn tell_path<E: TakesHints>(fault: &PathFault<'_>, err: &mut E) -> u8
+    ensures { result ≤ 3 }
+{
+    match fault {
+        PathFault::Same(path) => {
+            tell_fault(format_args!("SameFile {}", Path(*path)), REFUSED, err)
+        }
+        PathFault::Untold(path, error) => tell_io(error, path, err),
+        PathFault::NoMemory => tell_fault(Fault::NoMemory, REFUSED, err),
+    }
+}
+
+/// Looks that no file that is written is one that is read, the file of an earlier path that is written, or the one that is
+/// printed to or that standard error goes to; and that none that is read is the one that is printed to. Else that is told, with
+/// the exit status.
+///
+/// Two paths are one file where they lead to one regular file or fifo, or to one new file; one that is read and one that is
+/// written also where they have the same text. `standard_output` is its path, where the command prints there.
+pub fn all_apart<R: Files + AllocGlobal, E: TakesHints>(
+    rt: &R,
+    standard_output: Option<&str>,
+    read: &[&str],
+    written: &[&str],
+    err: &mut E,
+) -> Result<(), u8>
+    ensures { IfErr result (λ status. status ≤ 3) }
+{
+    let mut taken = Taken::new(rt.alloc());
+    if let Err(fault) = taken.add_read(rt, standard_output, read) {
+        return Err(tell_path(&fault, err));
+    }
+    match taken.add_written(rt, written) {
+        Ok(()) => Ok(()),
+        Err(fault) => Err(tell_path(&fault, err)),
+    }
+}

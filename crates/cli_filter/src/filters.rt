@@ -1,0 +1,84 @@
+//! The filters of the commands, each of a listing's file or of an expression, and what is told where there is none.
+
+ghost use Rattle.std.specs.Prelude.{◌≡◌, ◌≤◌, false, Ok, IfErr, IfOk, IsErr};
+
+use crate::program::{FilterFault, filter};
+use crate::tell::tell_filter;
+use bpfvm::{ListingFault, Program};
+use cli_files::reading::read_file;
+use cli_filter_hints::expressions::{hint_refusal, hint_text_fault};
+use cli_report::TakesHints;
+use cli_report::files::{LISTING, hint_bad_line};
+use cli_text::telling::REFUSED;
+use filtergen::ExpressionFault;
+use std::fs::Files;
+
+/// Hints on an expression that has no program.
+pub fn hint_expression<E: TakesHints>(text: &str, fault: ExpressionFault, err: &mut E)
+    ensures quiet { E.takes_hints err.old ≡ false → err.new ≡ err.old }
+{
+    match fault {
+        ExpressionFault::Text(fault) => hint_text_fault(text, fault, err),
+        ExpressionFault::Tree(refusal) => hint_refusal(refusal, err),
+    }
+}
+
+fn hint_filter<E: TakesHints>(
+    listing: Option<&[u8]>,
+    expr: Option<&str>,
+    fault: FilterFault,
+    err: &mut E,
+) {
+    match fault {
+        FilterFault::Expression(fault) => hint_expression(expr.unwrap_or(""), fault, err),
+        FilterFault::Listing(ListingFault::BadLine(line)) => {
+            hint_bad_line(listing.unwrap_or(&[]), line, LISTING, err);
+        }
+        _ => {}
+    }
+}
+
+/// Tells why there is no filter of a listing or an expression, if there is none, and answers the exit status then.
+pub fn told_filter<E: TakesHints>(
+    listing: Option<&[u8]>,
+    expr: Option<&str>,
+    found: Result<Program, FilterFault>,
+    err: &mut E,
+) -> Result<Program, u8>
+    ensures found { IfOk result (λ program. found ≡ Ok program) }
+    ensures refused { IfErr result (λ status. (status ≡ REFUSED) × IsErr found) }
+{
+    match found {
+        Ok(program) => Ok(program),
+        Err(fault) => {
+            let told = tell_filter(Err(fault), err);
+            hint_filter(listing, expr, fault, err);
+            told
+        }
+    }
+}
+
+/// The program of a listing's file.
+pub fn program_of_file<R: Files + AllocGlobal, E: TakesHints>(
+    rt: &R,
+    path: &str,
+    err: &mut E,
+) -> Result<Program, u8>
+    ensures { IfErr result (λ status. status ≤ 3) }
+{
+    let listing = read_file(rt, path, err)?;
+    let listing = Some(listing.as_slice());
+    told_filter(listing, None, filter(rt.alloc(), listing, None, 0), err)
+}
+
+/// The program of an expression; without one every packet is taken.
+pub fn program_of_expression<R: AllocGlobal, E: TakesHints>(
+    rt: &R,
+    expr: Option<&str>,
+    snap: u32,
+    err: &mut E,
+) -> Result<Program, u8>
+    ensures { IfErr result (λ status. status ≤ 3) }
+{
+    told_filter(None, expr, filter(rt.alloc(), None, expr, snap), err)
+}

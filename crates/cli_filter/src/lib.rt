@@ -1,0 +1,10 @@
+//! The filter that a command is given: an expression or the listing of a file, and what is printed where it is refused.
+#![tactic(auto)]
+
+mod filters;
+mod program;
+mod tell;
+
+pub use filters::{hint_expression, program_of_expression, program_of_file, told_filter};
+pub use program::{FilterFault, filter};
+pub use tell::tell_filter;

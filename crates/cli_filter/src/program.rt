@@ -1,0 +1,52 @@
+//! The filter of a command.
+
+ghost use Rattle.std.specs.Prelude.{IfOk, IfErr, option_copied};
+ghost use Rattle.cli_filter.specs.Filter.{IsFilter, IsNoFilter};
+
+use bpfvm::{ListingFault, Program, read_listing};
+use cli_text::meant;
+use filtergen::{ExpressionFault, compile_text};
+use std::alloc::Global;
+use thiserror::Error;
+
+/// Why a command has no filter. It is told by the fault's own name.
+#[derive(Clone, Copy, Debug, PartialEq, Eq, Error)]
+pub enum FilterFault {
+    /// Both a listing and an expression are given.
+    #[error("FilterTwice")]
+    Twice,
+    /// The text is no listing of a valid program.
+    #[error("{0}")]
+    Listing(ListingFault),
+    /// The expression has no program.
+    #[error("{0}")]
+    Expression(ExpressionFault),
+}
+
+/// The filter that a listing is, or that stands for an expression: it answers the snapshot length where the expression
+/// accepts a packet. Without either it is that of the empty expression, which accepts every packet.
+///
+/// The fault is the one that stands: [`FilterFault::Twice`] where both are given; the fault of a text that is no listing of
+/// a valid program; or that of an expression which is refused, or too deep or too long to compile, or of a snapshot length
+/// above 262,144. Of an expression it may also be `NoMemory`.
+pub fn filter(
+    alloc: Global,
+    listing: Option<&[u8]>,
+    expr: Option<&str>,
+    snap: u32,
+) -> Result<Program, FilterFault>
+    ensures found { IfOk result (IsFilter (option_copied listing.entry) (option_copied expr.entry) snap) }
+    ensures fault { IfErr result (IsNoFilter (option_copied listing.entry) (option_copied expr.entry) snap) }
+{
+    match (listing, expr) {
+        (Some(_), Some(_)) => Err(FilterFault::Twice),
+        (Some(text), None) => match read_listing(text) {
+            Ok(program) => Ok(program),
+            Err(fault) => Err(FilterFault::Listing(fault)),
+        },
+        (None, expr) => match compile_text(alloc, expr.unwrap_or(""), meant(snap)) {
+            Ok(program) => Ok(program),
+            Err(fault) => Err(FilterFault::Expression(fault)),
+        },
+    }
+}

@@ -1,0 +1,22 @@
+//! Why there is no filter, as it is told.
+
+ghost use Rattle.std.specs.Prelude.{◌≡◌, Ok, IfOk, IfErr, IsErr};
+
+use crate::program::FilterFault;
+use bpfvm::Program;
+use cli_text::telling::{REFUSED, tell_fault};
+use std::io::Write;
+
+/// Tells why there is no filter, if there is none, and answers the exit status then.
+pub fn tell_filter<E: Write>(
+    found: Result<Program, FilterFault>,
+    err: &mut E,
+) -> Result<Program, u8>
+    ensures found { IfOk result (λ program. found ≡ Ok program) }
+    ensures refused { IfErr result (λ status. (status ≡ REFUSED) × IsErr found) }
+{
+    match found {
+        Ok(program) => Ok(program),
+        Err(fault) => Err(tell_fault(fault, REFUSED, err)),
+    }
+}

@@ -1,0 +1,78 @@
+//! The part of an expression round a place in it, and a caret under the place.
+
+ghost use Rattle.std.specs.Prelude.{◌≤◌, ◌+◌, length};
+
+use cli_report::shown::visible;
+use std::fmt;
+use std::fmt::{Display, Formatter};
+
+/// At most so many bytes of a text are shown before a place, and as many behind it.
+const AROUND: usize = 36;
+
+/// What stands where a text goes on before or behind the part that is shown.
+const CUT: &str = "..";
+
+/// The part of a text that is shown: bytes `start` to `end`, and a place among them or at their end.
+#[derive(Clone, Copy)]
+pub(crate) struct Excerpt<'a> {
+    text: &'a str,
+    start: usize,
+    place: usize,
+    end: usize,
+    ghost before: { start ≤ place },
+    ghost behind: { place ≤ end },
+}
+
+impl<'a> Excerpt<'a> {
+    /// The part of a text round a place; round its end for a place that lies behind.
+    pub(crate) fn new(text: &'a str, place: usize) -> Excerpt<'a>
+        ensures before { result.place ≤ result.start + AROUND }
+        ensures behind { result.end ≤ result.place + AROUND }
+        ensures within { result.end ≤ length text.now }
+    {
+        let place = place.min(text.len());
+        Excerpt {
+            text,
+            start: place.saturating_sub(AROUND),
+            place,
+            end: text.len().min(place.saturating_add(AROUND)),
+        }
+    }
+}
+
+/// The text, a character in a column: every character before the place that a fault names is ASCII, since tokens are.
+impl Display for Excerpt<'_> {
+    fn fmt<W: fmt::Write>(&self, f: &mut Formatter<W>) -> fmt::Result {
+        if self.start > 0 {
+            f.write_str(CUT)?;
+        }
+        for (at, character) in self.text.char_indices() {
+            if self.start <= at && at < self.end {
+                f.write_char(visible(character))?;
+            }
+        }
+        if self.end < self.text.len() {
+            f.write_str(CUT)?;
+        }
+        Ok(())
+    }
+}
+
+/// A caret below the place of an excerpt.
+#[derive(Clone, Copy)]
+pub(crate) struct Caret<'a>(pub Excerpt<'a>);
+
+/// A blank for each character that the excerpt shows before its place, and then the caret.
+impl Display for Caret<'_> {
+    fn fmt<W: fmt::Write>(&self, f: &mut Formatter<W>) -> fmt::Result {
+        if self.0.start > 0 {
+            f.write_str("  ")?;
+        }
+        for (at, _character) in self.0.text.char_indices() {
+            if self.0.start <= at && at < self.0.place {
+                f.write_char(' ')?;
+            }
+        }
+        f.write_char('^')
+    }
+}

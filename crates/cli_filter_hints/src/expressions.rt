@@ -1,0 +1,78 @@
+//! Hints on the faults of expressions.
+
+ghost use Rattle.std.specs.Prelude.{◌≡◌, false};
+
+use crate::advice::advice_on;
+use crate::excerpt::{Caret, Excerpt};
+use cli_report::stream::{TakesHints, give_hint};
+use filtergen_facts::Refusal;
+use filterlang::Fault;
+
+/// The byte that a fault stands at.
+fn place_of(fault: Fault) -> Option<usize> {
+    match fault {
+        Fault::BadByte(place)
+        | Fault::BadWord(place)
+        | Fault::BadNumber(place)
+        | Fault::Syntax(place)
+        | Fault::NoQualifier(place)
+        | Fault::BadQualifier(place)
+        | Fault::BadIdentifier(place)
+        | Fault::NetBits(place)
+        | Fault::OutOfRange(place)
+        | Fault::DivideByZero(place)
+        | Fault::TooNested(place) => Some(place),
+        Fault::TextTooLong | Fault::NoMemory => None,
+    }
+}
+
+/// Hints on an expression that is refused: the part of it round the fault's place, with a caret under the place, and a sentence
+/// that helps. Where the fault has no place the sentence stands alone, and of want of memory nothing is said.
+pub fn hint_text_fault<E: TakesHints>(text: &str, fault: Fault, err: &mut E)
+    ensures quiet { E.takes_hints err.old ≡ false → err.new ≡ err.old }
+{
+    if let Some(place) = place_of(fault) {
+        let excerpt = Excerpt::new(text, place);
+        give_hint(excerpt, err);
+        give_hint(Caret(excerpt), err);
+    }
+    if let Some(advice) = advice_on(text.as_bytes(), fault) {
+        give_hint(advice, err);
+    }
+}
+
+/// Hints on an expression whose program is too long: the ways out.
+pub fn hint_too_long<E: TakesHints>(err: &mut E)
+    ensures quiet { E.takes_hints err.old ≡ false → err.new ≡ err.old }
+{
+    give_hint(
+        "its program may have more than 512 instructions: cut it into parts, with a `bpftap cut` for each,",
+        err,
+    );
+    give_hint(
+        "or let libpcap make a listing, if it finds a shorter one, for -f in place of the expression:",
+        err,
+    );
+    give_hint("tcpdump -ddd -s 262144 -y EN10MB EXPR > filter.bpf", err)
+}
+
+/// A hint on an expression with a relation that is too deep.
+pub fn hint_too_deep<E: TakesHints>(err: &mut E)
+    ensures quiet { E.takes_hints err.old ≡ false → err.new ≡ err.old }
+{
+    give_hint(
+        "write long sums from the left, `a + b + c`, not `a + (b + c)`: a relation has 16 words of memory",
+        err,
+    )
+}
+
+/// Hints on a tree that has no program.
+pub fn hint_refusal<E: TakesHints>(refusal: Refusal, err: &mut E)
+    ensures quiet { E.takes_hints err.old ≡ false → err.new ≡ err.old }
+{
+    match refusal {
+        Refusal::TooLong => hint_too_long(err),
+        Refusal::TooDeep => hint_too_deep(err),
+        _ => {}
+    }
+}

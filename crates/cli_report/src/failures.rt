@@ -1,0 +1,77 @@
+//! Hints on what noted readers and writers failed in.
+
+ghost use Rattle.std.specs.Prelude.{◌≡◌, false};
+
+use crate::captures::hint_capture_fault;
+use crate::files::hint_reason;
+use crate::noted::{Noted, NotedInput};
+use crate::stream::{TakesHints, give_hint};
+use cli_text::telling::Path;
+use savefile::Fault;
+use std::io;
+use std::io::ErrorKind;
+
+/// Hints on a device that failed.
+pub fn hint_failure<T, E: TakesHints>(noted: &Noted<T>, err: &mut E)
+    ensures quiet { E.takes_hints err.old ≡ false → err.new ≡ err.old }
+{
+    if let Some(error) = noted.failure() {
+        hint_reason(&error, err);
+    }
+}
+
+/// Hints on why standard output failed. Where nobody reads it any more, nothing was told either.
+pub fn hint_unprinted<E: TakesHints>(error: &io::Error, err: &mut E)
+    ensures quiet { E.takes_hints err.old ≡ false → err.new ≡ err.old }
+{
+    if error.kind() != ErrorKind::BrokenPipe {
+        hint_reason(error, err);
+    }
+}
+
+/// Hints on standard output that failed, if it did.
+pub fn hint_output<T, E: TakesHints>(noted: &Noted<T>, err: &mut E)
+    ensures quiet { E.takes_hints err.old ≡ false → err.new ≡ err.old }
+{
+    if let Some(error) = noted.failure() {
+        hint_unprinted(&error, err);
+    }
+}
+
+/// Hints on standard output that failed, if it did, where other files are told of too.
+pub fn hint_printed<T, E: TakesHints>(noted: &Noted<T>, err: &mut E)
+    ensures quiet { E.takes_hints err.old ≡ false → err.new ≡ err.old }
+{
+    if let Some(error) = noted.failure() {
+        if error.kind() != ErrorKind::BrokenPipe {
+            give_hint("standard output:", err);
+            hint_reason(&error, err);
+        }
+    }
+}
+
+/// Hints on a capture that was not read to its end.
+pub fn hint_input<R, E: TakesHints>(source: &NotedInput<R>, fault: Fault, err: &mut E)
+    ensures quiet { E.takes_hints err.old ≡ false → err.new ≡ err.old }
+{
+    match fault {
+        Fault::Device => hint_failure(&source.inner, err),
+        _ => hint_capture_fault(source.inner.first(), fault, err),
+    }
+}
+
+/// Hints on the n-th of several captures, from 0, which was not read to its end.
+pub fn hint_source<R, E: TakesHints>(
+    paths: &[&str],
+    sources: &[NotedInput<R>],
+    n: usize,
+    fault: Fault,
+    err: &mut E,
+)
+    ensures quiet { E.takes_hints err.old ≡ false → err.new ≡ err.old }
+{
+    if let (Some(path), Some(source)) = (paths.get(n), sources.get(n)) {
+        give_hint(format_args!("{}:", Path(*path)), err);
+        hint_input(source, fault, err);
+    }
+}

@@ -1,0 +1,99 @@
+//! Hints on files, and on the lines of LINES, LISTENERS, SCRIPT and LISTING.
+
+ghost use Rattle.std.specs.Prelude.{◌≡◌, false};
+ghost use Rattle.listener.specs.Messages.{size};
+
+use crate::shown::Shown;
+use crate::stream::{TakesHints, give_hint};
+use cli_text::fields::first_line;
+use std::io;
+
+/// The form of a line of LINES, and what else it wants.
+pub const LINES: &str = "SNAP OUT EXPRESSION, with SNAP up to 262144 and an OUT of its own";
+
+/// The form of a line of LISTENERS of `bpftap steps`, and what else it wants.
+pub const LISTENERS_OF_STEPS: &str = "SNAP CAPACITY EXPRESSION, with SNAP up to 262144";
+
+/// The form of a line of LISTENERS of `bpftap run`, and what else it wants.
+pub const LISTENERS_OF_RUN: &str =
+    "INTERFACE FLUSH SNAP CAPACITY SPARES OUT EXPRESSION, with captures of INTERFACE, SNAP up to 262144 and an OUT of its own";
+
+/// The form of a line of SCRIPT.
+pub const SCRIPT: &str = "`arrive`, `flush L`, `read L` or `close L`";
+
+/// The form of a line of LISTING.
+pub const LISTING: &str = "CODE JT JF K, four numbers, behind a first line with how many there are";
+
+/// Why a file could not be opened, read, made or written, as the system says it.
+pub fn hint_reason<E: TakesHints>(error: &io::Error, err: &mut E)
+    ensures quiet { E.takes_hints err.old ≡ false → err.new ≡ err.old }
+{
+    give_hint(*error, err)
+}
+
+/// A line of a text, counted from 1, without the byte 10 at its end; nothing where there are fewer lines.
+fn line_at(text: &[u8], number: usize) -> &[u8] {
+    let mut rest = text;
+    for _ in 1..number {
+        (_, rest) = first_line(rest);
+    }
+    let (line, _) = first_line(rest);
+    line
+}
+
+/// Hints on a line that has not its form: the line itself, and the form.
+pub fn hint_bad_line<E: TakesHints>(text: &[u8], number: usize, form: &str, err: &mut E)
+    ensures quiet { E.takes_hints err.old ≡ false → err.new ≡ err.old }
+{
+    let line = line_at(text, number);
+    if line.is_empty() {
+        give_hint(format_args!("line {number} is empty"), err);
+    } else {
+        give_hint(format_args!("line {number} is: {}", Shown(line)), err);
+    }
+    if line.ends_with(b"\r") {
+        give_hint(
+            "it ends in a carriage return: take that away, as by tr -d '\\r'",
+            err,
+        );
+    }
+    give_hint(format_args!("its form is: {form}"), err)
+}
+
+/// Hints on a step of SCRIPT, counted from 0, that names a listener that there is not.
+pub fn hint_no_listener<E: TakesHints>(script: &[u8], step: usize, listeners: usize, err: &mut E)
+    ensures quiet { E.takes_hints err.old ≡ false → err.new ≡ err.old }
+{
+    let number = step.saturating_add(1);
+    give_hint(
+        format_args!(
+            "line {number} of SCRIPT is: {}",
+            Shown(line_at(script, number))
+        ),
+        err,
+    );
+    give_hint(
+        format_args!("LISTENERS has {listeners} lines, and its listeners are counted from 0"),
+        err,
+    )
+}
+
+/// The bytes of a record that keeps so many of a packet, the least capacity with this snapshot length.
+fn least_capacity(snap: u32) -> u64
+    ensures { result ≡ size snap }
+{
+    32 + u64::from(snap).div_ceil(8) * 8
+}
+
+/// A hint on a capacity that is out of its range: the least and the most with this snapshot length.
+pub fn hint_capacity<E: TakesHints>(snap: u32, capacity: usize, err: &mut E)
+    ensures quiet { E.takes_hints err.old ≡ false → err.new ≡ err.old }
+{
+    let least = least_capacity(snap);
+    give_hint(
+        format_args!(
+            "with SNAP {snap} the CAPACITY is {least} to 1048576 bytes, and not {capacity}"
+        ),
+        err,
+    )
+}

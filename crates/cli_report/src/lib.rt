@@ -1,0 +1,13 @@
+//! Hints on failures of files, streams and captures: what stands below the line of a fault and helps to fix it, each a line that is
+//! indented by two blanks. No filter is known here.
+#![tactic(auto)]
+
+pub mod captures;
+pub mod failures;
+pub mod files;
+pub mod noted;
+pub mod shown;
+pub mod stream;
+
+pub use noted::Noted;
+pub use stream::{ErrorStream, TakesHints};

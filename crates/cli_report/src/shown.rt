@@ -1,0 +1,54 @@
+//! Texts of files and of the command line, as they are shown.
+
+ghost use Rattle.std.specs.Prelude.{◌≡◌, false};
+ghost use Rattle.std.specs.Char.{is_control};
+
+use std::fmt::{Display, Formatter};
+use std::{fmt, str};
+
+/// At most so many characters of a text are shown.
+const MOST: usize = 60;
+
+/// What stands for a character on a terminal, in one column as a rule: a blank for a tab or the end of a line, and `?` for each
+/// other control character, so that no text of a file or of the command line controls the terminal.
+pub fn visible(character: char) -> char
+    ensures { is_control result ≡ false }
+{
+    match character {
+        '\t' | '\n' | '\r' => ' ',
+        _ if character.is_control() => '?',
+        _ => character,
+    }
+}
+
+/// The first 60 characters of a text. Of bytes that are not UTF-8 each that is not ASCII is shown as `?`.
+#[derive(Clone, Copy)]
+pub struct Shown<'a>(pub &'a [u8]);
+
+impl Display for Shown<'_> {
+    fn fmt<W: fmt::Write>(&self, f: &mut Formatter<W>) -> fmt::Result {
+        match str::from_utf8(self.0) {
+            Ok(text) => write_text(text, f),
+            Err(_) => write_bytes(self.0, f),
+        }
+    }
+}
+
+fn write_text<W: fmt::Write>(text: &str, f: &mut Formatter<W>) -> fmt::Result {
+    for character in text.chars().take(MOST) {
+        f.write_char(visible(character))?;
+    }
+    Ok(())
+}
+
+fn write_bytes<W: fmt::Write>(bytes: &[u8], f: &mut Formatter<W>) -> fmt::Result {
+    for byte in bytes.iter().take(MOST) {
+        let character = if byte.is_ascii() {
+            char::from(*byte)
+        } else {
+            '?'
+        };
+        f.write_char(visible(character))?;
+    }
+    Ok(())
+}

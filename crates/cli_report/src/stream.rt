@@ -1,0 +1,94 @@
+//! Standard error that may take hints, and the line of a hint.
+
+ghost use Rattle.std.specs.Prelude.{◌≡◌, Bool, true, false, OnOk, OnErr, IfOk, IfSome};
+ghost use Rattle.cli_text.specs.Sending.{Takes};
+ghost use Rattle.cli_report.specs.Hints.{hint_line};
+
+use cli_text::Line;
+use cli_text::sending::send;
+use std::fmt::Display;
+use std::io;
+use std::io::Write;
+
+/// What faults are told to, with whether hints are wanted below their lines.
+pub trait TakesHints: Write {
+    /// Whether hints are wanted.
+    ghost takes_hints: { Self → Bool };
+
+    /// Whether hints are wanted.
+    fn takes_hints(&self) -> bool
+        ensures { result ≡ takes_hints self.now };
+}
+
+/// A writer that faults are told to.
+#[derive(Debug, Drop)]
+pub struct ErrorStream<W> {
+    inner: W,
+    takes_hints: bool,
+}
+
+impl<W> ErrorStream<W> {
+    /// Hints are wanted where standard error is a terminal, or where they are asked for.
+    pub fn new(inner: W, takes_hints: bool) -> ErrorStream<W>
+        ensures { result.takes_hints ≡ takes_hints }
+    {
+        ErrorStream { inner, takes_hints }
+    }
+}
+
+impl<W: Write> Write for ErrorStream<W> {
+    ghost contents = { λ stream. W.contents stream.inner };
+
+    fn write(&mut self, from: &[u8]) -> io::Result<usize> {
+        self.inner.write(from)
+    }
+
+    fn flush(&mut self) -> io::Result<()> {
+        self.inner.flush()
+    }
+}
+
+impl<W: Write> TakesHints for ErrorStream<W> {
+    ghost takes_hints = { λ stream. stream.takes_hints };
+
+    fn takes_hints(&self) -> bool {
+        self.takes_hints
+    }
+}
+
+/// Memory takes the lines of faults alone.
+impl TakesHints for Vec<u8> {
+    ghost takes_hints = { λ _. false };
+
+    fn takes_hints(&self) -> bool {
+        false
+    }
+}
+
+/// The line of a hint, where it has at most 512 bytes.
+fn line_of<D: Display + Drop>(hint: D) -> io::Result<Line>
+    ensures { IfOk result (λ line. IfSome (D.output hint) (λ text. line ≡ hint_line text)) }
+{
+    let mut line = Line::new();
+    writeln!(line, "  {hint}")?;
+    Ok(line)
+}
+
+/// Writes a hint in a line of its own, in one piece. A line of more than 512 bytes is not written.
+fn write_line<D: Display + Drop, W: Write>(hint: D, out: &mut W) -> io::Result<()>
+    ensures { IfSome (D.output hint) (λ text. Takes (W.contents out.old) (W.contents out.new) result (hint_line text)) }
+{
+    let line = line_of(hint)?;
+    send(line.as_bytes(), out)
+}
+
+/// Gives a hint in a line of its own, indented by two blanks, where hints are wanted. One that standard error does not take, or
+/// that has more than 509 bytes, is left out.
+pub fn give_hint<D: Display + Drop, E: TakesHints>(hint: D, err: &mut E)
+    // Where none are wanted nothing is written.
+    ensures quiet { E.takes_hints err.old ≡ false → err.new ≡ err.old }
+{
+    if err.takes_hints() {
+        let _ = write_line(hint, err);
+    }
+}

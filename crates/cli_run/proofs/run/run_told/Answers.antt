@@ -1,0 +1,69 @@
+use Rattle.std.proofs.Common.{◌≡◌, inl, inr, ap, length, ◌∙◌, rules}
+use Rattle.std.proofs.KnownBytes.{Keeps-refl}
+use Rattle.cli_run.proofs.Ran.{places_there, their_listeners, length_made, length_places}
+use Rattle.cli_run.proofs.run.run_told.Goals as goal
+
+pub returns-in-Err-clause-runs : goal.returns-in-Err-clause-runs
+returns-in-Err-clause-runs g c =
+    let many : c.len.result ≡ length c.args.captures.items = search rules in
+    inl (record {
+      fault = c.in-Err.fault;
+      stands = rw many at c.in-Err.ensures.fault;
+      refuses = record {
+        nothing = Keeps-refl _;
+        tells = c.refuse.ensures.tells;
+        refused = c.refuse.ensures.status;
+        none = c.new.ensures.items;
+      };
+    })
+
+pub end_run-requires-clause-there : goal.end_run-requires-clause-there
+end_run-requires-clause-there g c =
+    let many : c.len.result ≡ length c.args.captures.items = search rules in
+    let replayed = c.in-Ok-replay_made.ensures.replayed in
+    places_there _ _ _ _ c.in-Ok.plan.lines.items c.in-Ok.plan.programs.items c.args.captures.items replayed.0 _ replayed.3 _ c.in-Ok-replay_made.ensures.places
+    (rw many at c.in-Ok.ensures.there)
+
+pub end_run-requires-clause-counts : goal.end_run-requires-clause-counts
+end_run-requires-clause-counts g c =
+    let replayed = c.in-Ok-replay_made.ensures.replayed in
+    their_listeners _ _ _ _ c.in-Ok.plan.lines.items c.in-Ok.plan.programs.items c.args.captures.items replayed.0 _ replayed.3 _ c.in-Ok-replay_made.ensures.places
+    c.in-Ok.ensures.all (length_made _ _ _ _ replayed.1 replayed.2)
+
+pub returns-in-Ok-replay_made-clause-runs : goal.returns-in-Ok-replay_made-clause-runs
+returns-in-Ok-replay_made-clause-runs g c =
+    let many : c.len.result ≡ length c.args.captures.items = search rules in
+    let replayed = c.in-Ok-replay_made.ensures.replayed in
+    inr (inr (record {
+      lines = c.in-Ok.plan.lines.items;
+      asked = rw many at c.in-Ok.ensures.lines;
+      programs = c.in-Ok.plan.programs.items;
+      compiled = c.in-Ok.ensures.programs;
+      sinks = replayed.0;
+      last = replayed.1;
+      made = replayed.2;
+      reports = c.in-Ok-replay_made.replayed.reports.items;
+      replayed = replayed.3;
+      tells = c.end_run.ensures.tells;
+      all_back = c.end_run.ensures.all ∙ ap length c.in-Ok-replay_made.ensures.places ∙ length_places c.in-Ok.plan.lines.items;
+      in_order = rw c.in-Ok-replay_made.ensures.places at c.end_run.ensures.back;
+    }))
+
+pub returns-in-Err-replay_made-clause-runs : goal.returns-in-Err-replay_made-clause-runs
+returns-in-Err-replay_made-clause-runs g c =
+    let many : c.len.result ≡ length c.args.captures.items = search rules in
+    inr (inl (record {
+      lines = c.in-Ok.plan.lines.items;
+      asked = rw many at c.in-Ok.ensures.lines;
+      programs = c.in-Ok.plan.programs.items;
+      compiled = c.in-Ok.ensures.programs;
+      sinks = c.in-Err-replay_made.ensures.fault.0;
+      fault = c.in-Err-replay_made.fault;
+      stands = c.in-Err-replay_made.ensures.fault.1;
+      refuses = record {
+        nothing = Keeps-refl _;
+        tells = c.refuse-in-Err-replay_made.ensures.tells;
+        refused = c.refuse-in-Err-replay_made.ensures.status;
+        none = c.new-in-Err-replay_made.ensures.items;
+      };
+    }))

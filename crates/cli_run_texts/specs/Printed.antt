@@ -1,0 +1,43 @@
+-- The text that is printed of a replay, and the lines that are told of it.
+use Rattle.std.specs.Prelude.{ℕ, List, [], ◌++◌, codes}
+use Rattle.std.specs.Fmt.{decimal}
+use Rattle.replay_types.specs.declared.report.InterfaceEnd.{InterfaceEnd}
+use Rattle.replay_types.specs.declared.report.InterfaceEnd.TheVariants as interface
+use Rattle.replay_types.specs.declared.report.InterfaceReport.{InterfaceReport}
+use Rattle.replay_types.specs.declared.report.ListenerReport.{ListenerReport}
+use Rattle.replay_types.specs.declared.report.TaskEnd.{TaskEnd}
+use Rattle.replay_types.specs.declared.report.TaskEnd.TheVariants as task
+use Rattle.cli_text.specs.Telling.{end_of_line, told_line, capture_fault_text}
+use Rattle.cli_text.specs.Texts.{numbered}
+
+-- how the writing of a listener's packets ended
+abbrev pub end_text : TaskEnd → List ℕ
+end_text task.Clean = codes "Clean"
+end_text (task.Write bytes) = codes "Write " ++ decimal bytes
+end_text task.Unfinished = codes "Unfinished"
+
+-- `interface I listener L received R matched M dropped D written N END`
+abbrev pub listener_line : {W : Type 0} → ℕ → ℕ → ListenerReport W → List ℕ
+listener_line i l report = codes "interface " ++ decimal i ++ codes " listener " ++ decimal l
+    ++ codes " received " ++ decimal report.received ++ codes " matched " ++ decimal report.matched
+    ++ codes " dropped " ++ decimal report.dropped ++ codes " written " ++ decimal report.written
+    ++ codes " " ++ end_text report.end ++ end_of_line
+
+-- the lines of an interface's listeners, numbered from 0
+abbrev pub interface_lines : {R W : Type 0} → ℕ → InterfaceReport R W → List ℕ
+interface_lines i report = numbered (listener_line i) 0 report.listeners.items
+
+-- those of all interfaces, numbered from 0
+abbrev pub printed_replay : {R W : Type 0} → List (InterfaceReport R W) → List ℕ
+printed_replay reports = numbered interface_lines 0 reports
+
+-- the line that is told of an interface that did not end clean
+abbrev pub interface_told : ℕ → InterfaceEnd → List ℕ
+interface_told i interface.Clean = []
+interface_told i (interface.Capture n fault) =
+    told_line (codes "Interface " ++ decimal i ++ codes " Capture " ++ decimal n ++ codes " " ++ capture_fault_text fault)
+interface_told i interface.CountFull = told_line (codes "Interface " ++ decimal i ++ codes " CountFull")
+
+-- the lines that are told of all interfaces
+abbrev pub told_replay : {R W : Type 0} → List (InterfaceReport R W) → List ℕ
+told_replay reports = numbered (λ i report. interface_told i report.end) 0 reports

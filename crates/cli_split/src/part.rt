@@ -1,0 +1,169 @@
+//! The parts of a split: what each asks for, and what it came to.
+
+ghost use Rattle.std.specs.Prelude.{◌≡◌, ◌<◌, ◌≤◌, ◌+◌, ◌^◌, ◌++◌, ◌∷◌, List, [], length, vec_capacity};
+ghost use Rattle.std.specs.List.{AllZip};
+ghost use Rattle.savefile.specs.Savefile.{IsWritable};
+ghost use Rattle.savefile.specs.declared.header.Order.{Order};
+ghost use Rattle.savefile.specs.declared.header.Unit.{Unit};
+ghost use Rattle.savefile.specs.declared.packet.Packet.{Packet};
+ghost use Rattle.cli_split.specs.Standing.{IsEndOf, IsGiven, HasTaken};
+ghost use Rattle.cli_split.specs.Writing.{IsLeft};
+ghost use Rattle.cli_split.specs.declared.part.Part.{Part};
+
+use bpfvm::Program;
+use cli_text::meant;
+use pcap_cut::cut::{Tally, put_accepted};
+use savefile::laws::growing_text;
+use savefile::{Fault, Order, PacketRef, Sink, Unit, Writer};
+
+/// A capture that is to be written.
+#[derive(Drop)]
+pub struct Part<W> {
+    /// The filter: a packet is accepted where its answer is not 0.
+    pub program: Program,
+    /// At most so many bytes are kept of a packet, and 0 stands for 262,144; the written header has this number too.
+    pub snap: u32,
+    /// What the capture is written to.
+    pub sink: W,
+}
+
+/// What became of a part.
+#[derive(Debug, Drop)]
+pub struct PartEnd<W> {
+    pub sink: W,
+    /// How many bytes the sink took in this call.
+    pub sent: u64,
+    /// How many packets were read of all captures, and how many of these the part's program accepts, where all was written.
+    pub tally: Tally,
+    /// Whether all was written, or why it was not.
+    pub written: Result<(), Fault>,
+}
+
+/// A part that is written.
+#[derive(Drop)]
+pub(crate) struct Outlet<W> {
+    program: Program,
+    snap: u32,
+    writer: Writer<W>,
+    tally: Tally,
+    written: Result<(), Fault>,
+}
+
+/// Begins a part: its header is written.
+fn begin<W: Sink>(part: Part<W>, order: Order, unit: Unit) -> Outlet<W>
+    ensures { HasTaken W.taken W.failures order unit [] part result }
+{
+    let Part {
+        program,
+        snap,
+        sink,
+    } = part;
+    let snap = meant(snap);
+    let (writer, written) = Writer::open(sink, order, unit, snap);
+    Outlet {
+        program,
+        snap,
+        writer,
+        tally: Tally::NONE,
+        written,
+    }
+}
+
+/// Begins all parts.
+pub(crate) fn begin_all<W: Sink + Drop>(
+    parts: Vec<Part<W>>,
+    order: Order,
+    unit: Unit,
+    outlets: &mut Vec<Outlet<W>>,
+)
+    requires room { (length outlets.old.items ≡ 0) × (length parts.items ≤ vec_capacity outlets.old) }
+    ensures { AllZip (HasTaken W.taken W.failures order unit []) parts.items outlets.new.items }
+{
+    for part in parts {
+        outlets.push_reserved(begin(part, order, unit));
+    }
+}
+
+/// Gives a packet to a part, unless that has failed.
+fn give<W: Sink>(outlet: &mut Outlet<W>, packet: &PacketRef<'_>)
+    requires writable { IsWritable packet.now }
+    requires so_far { (order : Order) × (unit : Unit) × (packets : List Packet) × (part : Part W)
+        × HasTaken W.taken W.failures order unit packets part outlet.old × (length packets + 1 < 2 ^ 64) }
+    ensures { IsGiven W.taken W.failures packet.now outlet.old outlet.new }
+{
+    // What a failed part has written begins the text of more packets too.
+    growing_text();
+    if outlet.written.is_err() {
+        return;
+    }
+    outlet.written = put_accepted(
+        &mut outlet.writer,
+        packet,
+        &outlet.program,
+        outlet.snap,
+        &mut outlet.tally,
+    );
+}
+
+/// Gives a packet to each part.
+pub(crate) fn give_all<W: Sink>(outlets: &mut Vec<Outlet<W>>, packet: &PacketRef<'_>)
+    requires writable { IsWritable packet.now }
+    requires so_far { (order : Order) × (unit : Unit) × (packets : List Packet) × (parts : List (Part W))
+        × AllZip (HasTaken W.taken W.failures order unit packets) parts outlets.old.items × (length packets + 1 < 2 ^ 64) }
+    ensures { (order : Order) (unit : Unit) (packets : List Packet) (parts : List (Part W)) →
+        AllZip (HasTaken W.taken W.failures order unit packets) parts outlets.old.items →
+        AllZip (HasTaken W.taken W.failures order unit (packets ++ packet.now ∷ [])) parts outlets.new.items }
+{
+    for outlet in outlets.iter_mut() {
+        give(outlet, packet);
+    }
+}
+
+/// Ends a part.
+fn close<W: Sink>(outlet: Outlet<W>) -> PartEnd<W>
+    ensures { IsEndOf W.taken W.failures outlet result }
+{
+    let Outlet {
+        program: _,
+        snap: _,
+        writer,
+        tally,
+        written,
+    } = outlet;
+    let (sink, sent) = writer.close();
+    PartEnd {
+        sink,
+        sent,
+        tally,
+        written,
+    }
+}
+
+/// Ends all parts.
+pub(crate) fn close_all<W: Sink + Drop>(
+    outlets: Vec<Outlet<W>>,
+    mut ends: Vec<PartEnd<W>>,
+) -> Vec<PartEnd<W>>
+    requires room { (length ends.items ≡ 0) × (length outlets.items ≤ vec_capacity ends) }
+    ensures { AllZip (IsEndOf W.taken W.failures) outlets.items result.items }
+{
+    for outlet in outlets {
+        ends.push_reserved(close(outlet));
+    }
+    ends
+}
+
+/// The ends of parts that were not begun.
+pub(crate) fn leave_all<W: Sink + Drop>(parts: Vec<Part<W>>, ends: &mut Vec<PartEnd<W>>)
+    requires room { (length ends.old.items ≡ 0) × (length parts.items ≤ vec_capacity ends.old) }
+    ensures { AllZip IsLeft parts.items ends.new.items }
+{
+    for part in parts {
+        ends.push_reserved(PartEnd {
+            sink: part.sink,
+            sent: 0,
+            tally: Tally::NONE,
+            written: Ok(()),
+        });
+    }
+}

@@ -1,0 +1,285 @@
+//! Captures that are split: the function under `bpftap split`.
+
+ghost use Rattle.std.specs.Prelude.{◌≡◌, ◌≢◌, ◌↔◌, ◌≤◌, ◌<◌, ◌+◌, ◌∷◌, ◌++◌, ℕ, List, [], Option, Err, IfOk, OnErr, OnOk, length, true, vec_capacity};
+ghost use Rattle.std.specs.Io.KnownBytes.{Consumes};
+ghost use Rattle.std.specs.List.{AllZip};
+ghost use Rattle.savefile.specs.declared.header.Header.{Header};
+ghost use Rattle.savefile.specs.declared.header.Order.{Order};
+ghost use Rattle.savefile.specs.declared.header.Unit.{Unit};
+ghost use Rattle.savefile.specs.declared.packet.Packet.{Packet};
+ghost use Rattle.savefile.specs.Reader.{HasGiven};
+ghost use Rattle.cli_split.specs.Reading.{GaveSo, HasOpened, ReadsOne, ReadsAll, ReadsSoFar, end_of};
+ghost use Rattle.cli_split.specs.Splitting.{Splits, passes_header};
+ghost use Rattle.cli_split.specs.Standing.{GoesOn, HasParts, HasSplit};
+ghost use Rattle.cli_split.specs.declared.part.Part.{Part};
+
+use crate::part::{Outlet, Part, PartEnd, begin_all, close_all, give_all, leave_all};
+use savefile::laws::given_so_far;
+use savefile::{Fault, Order, Reader, Sink, Source, Unit};
+use std::alloc::{AllocError, Global};
+
+/// Why a capture, by its number from 0, was not read to its end.
+#[derive(Clone, Copy, Debug, PartialEq, Eq)]
+pub enum Stop {
+    /// Its header could not be read.
+    AtHeader(usize, Fault),
+    /// It could not be read further.
+    AtRecord(usize, Fault),
+}
+
+/// What a split gives back.
+#[derive(Debug, Drop)]
+pub struct SplitEnd<R, W> {
+    /// The sources of the captures, in order. Those behind the capture that ended the reading are as they were.
+    pub sources: Vec<R>,
+    /// What became of each part, in order.
+    pub parts: Vec<PartEnd<W>>,
+    /// Whether all captures were read to their ends, or what ended the reading.
+    pub end: Result<(), Stop>,
+}
+
+/// How the n-th capture ended, whose header was read.
+fn end_of(n: usize, given: Result<(), Fault>) -> Result<(), Stop>
+    ensures { result ≡ end_of n given }
+{
+    match given {
+        Ok(()) => Ok(()),
+        Err(fault) => Err(Stop::AtRecord(n, fault)),
+    }
+}
+
+/// How far the parts were written.
+#[derive(Drop)]
+struct Splitter<W> {
+    outlets: Vec<Outlet<W>>,
+    /// How many packets were read of all captures.
+    read: u64,
+}
+
+impl<W: Sink> Splitter<W> {
+    /// Gives the packets of a capture to all parts, each before the next one is read.
+    fn give_packets<R: Source>(&mut self, reader: &mut Reader<R>) -> Result<(), Fault>
+        requires begun { (start : Option (List ℕ)) × (header : Header) × HasGiven R.left start header [] reader.old }
+        requires so_far { HasParts W.taken W.failures self.old }
+        ensures gives { (start : Option (List ℕ)) (header : Header) → HasGiven R.left start header [] reader.old →
+            (packets : List Packet) × GaveSo start (R.left reader.new.source) header self.new.read packets result
+            × GoesOn W.taken W.failures packets self.old self.new }
+        ensures taken { (bytes : List ℕ) × Consumes (R.left reader.old.source) (R.left reader.new.source) bytes }
+        ensures broke { (result ≡ Err Fault.Device) ↔ (R.failures reader.new.source ≢ R.failures reader.old.source) }
+    {
+        loop {
+            if self.read == u64::MAX {
+                // What was read so far begins what the capture holds.
+                given_so_far(reader);
+                return Err(Fault::CountFull);
+            }
+            match reader.advance() {
+                Ok(true) => {
+                    give_all(&mut self.outlets, &reader.packet());
+                    self.read += 1;
+                }
+                Ok(false) => return Ok(()),
+                Err(fault) => return Err(fault),
+            }
+        }
+    }
+
+    /// The same of the n-th capture, whose header was read. Its source comes back.
+    fn give_opened<R: Source>(&mut self, n: usize, mut reader: Reader<R>) -> (R, Result<(), Stop>)
+        requires opened { (from : R) × HasOpened R.left R.failures from reader }
+        requires so_far { HasParts W.taken W.failures self.old }
+        ensures reads { (from : R) → HasOpened R.left R.failures from reader →
+            (packets : List Packet) × ReadsOne R.left R.failures from result.0 self.new.read n packets result.1
+            × GoesOn W.taken W.failures packets self.old self.new }
+        ensures begun { passes_header result.1 ≡ true }
+    {
+        let given = self.give_packets(&mut reader);
+        (reader.close(), end_of(n, given))
+    }
+
+    /// The same of the n-th capture, where none before has ended the reading.
+    fn give_capture<R: Source>(
+        &mut self,
+        alloc: Global,
+        n: usize,
+        source: R,
+        end: Result<(), Stop>,
+    ) -> (R, Result<(), Stop>)
+        requires so_far { HasParts W.taken W.failures self.old }
+        ensures reads { OnOk end ((packets : List Packet) × ReadsOne R.left R.failures source result.0 self.new.read n packets result.1
+            × GoesOn W.taken W.failures packets self.old self.new) }
+        ensures unread { OnErr end ((result.0 ≡ source) × (result.1 ≡ end) × (self.new ≡ self.old)) }
+    {
+        if end.is_err() {
+            return (source, end);
+        }
+        match Reader::open(alloc, source) {
+            Ok(reader) => self.give_opened(n, reader),
+            Err((source, fault)) => (source, Err(Stop::AtHeader(n, fault))),
+        }
+    }
+
+    /// The same of further captures, in order. The number of each is how many sources came back before.
+    fn give_captures<R: Source + Drop>(
+        &mut self,
+        alloc: Global,
+        captures: Vec<R>,
+        mut sources: Vec<R>,
+        first: Result<(), Stop>,
+    ) -> (Vec<R>, Result<(), Stop>)
+        requires so_far { HasParts W.taken W.failures self.old }
+        requires behind { 0 < length sources.items }
+        requires room { length sources.items + length captures.items ≤ vec_capacity sources }
+        ensures reads { (order : Order) (unit : Unit) (packets : List Packet) (parts : List (Part W)) (all : List R) →
+            HasSplit W.taken W.failures order unit packets parts self.old →
+            ReadsSoFar R.left R.failures all sources.items (length sources.items) captures.items packets first →
+            (more : List Packet) × ReadsAll R.left R.failures (length (packets ++ more)) 0 all result.0.items (packets ++ more) result.1
+            × HasSplit W.taken W.failures order unit (packets ++ more) parts self.new }
+        ensures begun { passes_header first ≡ true → passes_header result.1 ≡ true }
+    {
+        let mut end = first;
+        for source in captures {
+            let (source, ended) = self.give_capture(alloc, sources.len(), source, end);
+            sources.push_reserved(source);
+            end = ended;
+        }
+        (sources, end)
+    }
+}
+
+/// The sources of captures that are not read, behind those that were.
+fn leave_captures<R: Drop>(captures: Vec<R>, mut sources: Vec<R>) -> Vec<R>
+    requires { length sources.items + length captures.items ≤ vec_capacity sources }
+    ensures { result.items ≡ sources.items ++ captures.items }
+{
+    for source in captures {
+        sources.push_reserved(source);
+    }
+    sources
+}
+
+/// The room for what a split writes and gives back.
+#[derive(Drop)]
+struct Room<R, W> {
+    sources: Vec<R>,
+    outlets: Vec<Outlet<W>>,
+    ends: Vec<PartEnd<W>>,
+}
+
+/// The room for so many captures and parts.
+fn room_for<R: Drop, W: Drop>(
+    alloc: Global,
+    captures: usize,
+    parts: usize,
+) -> Result<Room<R, W>, AllocError>
+    ensures sources { IfOk result (λ room. (room.sources.items ≡ []) × (captures ≤ vec_capacity room.sources)) }
+    ensures outlets { IfOk result (λ room. (length room.outlets.items ≡ 0) × (parts ≤ vec_capacity room.outlets)) }
+    ensures ends { IfOk result (λ room. (length room.ends.items ≡ 0) × (parts ≤ vec_capacity room.ends)) }
+{
+    Ok(Room {
+        sources: Vec::with_capacity(alloc, captures)?,
+        outlets: Vec::with_capacity(alloc, parts)?,
+        ends: Vec::with_capacity(alloc, parts)?,
+    })
+}
+
+/// Splits the first capture, whose header was read, and the others.
+fn split_opened<R: Source + Drop, W: Sink + Drop>(
+    alloc: Global,
+    reader: Reader<R>,
+    others: Vec<R>,
+    mut splitter: Splitter<W>,
+    mut sources: Vec<R>,
+    ends: Vec<PartEnd<W>>,
+) -> SplitEnd<R, W>
+    requires opened { (first : R) × HasOpened R.left R.failures first reader }
+    requires begun { (order : Order) × (unit : Unit) × (parts : List (Part W)) × HasSplit W.taken W.failures order unit [] parts splitter
+        × (length parts ≤ vec_capacity ends) }
+    requires sources { (sources.items ≡ []) × (length others.items + 1 ≤ vec_capacity sources) }
+    requires ends { length ends.items ≡ 0 }
+    ensures { (first : R) (order : Order) (unit : Unit) (parts : List (Part W)) → HasOpened R.left R.failures first reader →
+        HasSplit W.taken W.failures order unit [] parts splitter →
+        Splits R.left R.failures W.taken W.failures (first ∷ others.items) parts order unit result }
+{
+    let (source, end) = splitter.give_opened(0, reader);
+    sources.push_reserved(source);
+    let (sources, end) = splitter.give_captures(alloc, others, sources, end);
+    SplitEnd {
+        sources,
+        parts: close_all(splitter.outlets, ends),
+        end,
+    }
+}
+
+/// Splits the first capture and the others.
+fn split_first<R: Source + Drop, W: Sink + Drop>(
+    alloc: Global,
+    first: R,
+    others: Vec<R>,
+    parts: Vec<Part<W>>,
+    order: Order,
+    unit: Unit,
+    room: Room<R, W>,
+) -> SplitEnd<R, W>
+    requires sources { (room.sources.items ≡ []) × (length others.items + 1 ≤ vec_capacity room.sources) }
+    requires outlets { (length room.outlets.items ≡ 0) × (length parts.items ≤ vec_capacity room.outlets) }
+    requires ends { (length room.ends.items ≡ 0) × (length parts.items ≤ vec_capacity room.ends) }
+    ensures { Splits R.left R.failures W.taken W.failures (first ∷ others.items) parts.items order unit result }
+{
+    let Room {
+        mut sources,
+        mut outlets,
+        mut ends,
+    } = room;
+    match Reader::open(alloc, first) {
+        Ok(reader) => {
+            begin_all(parts, order, unit, &mut outlets);
+            let splitter = Splitter { outlets, read: 0 };
+            split_opened(alloc, reader, others, splitter, sources, ends)
+        }
+        Err((source, fault)) => {
+            sources.push_reserved(source);
+            leave_all(parts, &mut ends);
+            SplitEnd {
+                sources: leave_captures(others, sources),
+                parts: ends,
+                end: Err(Stop::AtHeader(0, fault)),
+            }
+        }
+    }
+}
+
+/// Writes captures of the packets of others, in one pass: each part has those that its program accepts, cut, as a capture of its own,
+/// of exactly the bytes that [`cut`](pcap_cut::cut::cut) would write of all captures one behind the other.
+///
+/// Each capture is read once, packet by packet, up to the first fault: its own header's, a torn or bad record, or its source's. The
+/// fault ends the reading, and what was read before it is written. They may differ in their byte order and in their unit of time: the
+/// parts are written in those given. The parts are begun once the header of the first capture was read: where that fails, or where
+/// there is no capture, all sinks are as they were.
+///
+/// A part whose sink fails ends there, with a beginning of its text and [`Fault::Device`], and so does one whose text has 2^64 bytes
+/// or more, with [`Fault::CountFull`]; the others go on. `NoMemory` for a capture's reader is told as a fault of its header; behind
+/// 2^64 - 1 packets no more is read, with [`Fault::CountFull`].
+///
+/// The error comes where memory is wanting before anything is read or written. Memory does not grow with the captures.
+pub fn split<R: Source + Drop, W: Sink + Drop>(
+    alloc: Global,
+    mut captures: Vec<R>,
+    parts: Vec<Part<W>>,
+    order: Order,
+    unit: Unit,
+) -> Result<SplitEnd<R, W>, AllocError>
+    ensures { IfOk result (λ end. Splits R.left R.failures W.taken W.failures captures.items parts.items order unit end) }
+{
+    let mut room = room_for(alloc, captures.len(), parts.len())?;
+    if captures.is_empty() {
+        leave_all(parts, &mut room.ends);
+        return Ok(SplitEnd {
+            sources: room.sources,
+            parts: room.ends,
+            end: Ok(()),
+        });
+    }
+    let first = captures.remove(0);
+    Ok(split_first(alloc, first, captures, parts, order, unit, room))
+}

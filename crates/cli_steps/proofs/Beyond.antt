@@ -1,0 +1,43 @@
+-- More listeners than are kept of LISTENERS.
+use Rattle.std.proofs.Common.{◌≡◌, ℕ, ◌<◌, ◌≤◌, ◌⊎◌, inl, inr, Bool, List, length, take, subst, arith, length-take, take_all}
+use Rattle.std.proofs.lemmas.Bool.{cases_lt}
+use Rattle.tap.specs.declared.fault.Fault.{Fault}
+use Rattle.tap.specs.declared.fault.Fault.TheVariants.{TooMany, NoListener, Capture, Expression, Compile, Open, NoMemory}
+use Rattle.tap_steps.specs.declared.filters.Spec.{Spec}
+use Rattle.tap_steps.specs.declared.step.Step.{Step}
+use Rattle.tap.specs.Refusals.{AreTooMany, IsFirst}
+use Rattle.cli_text.specs.declared.telling.Ended.{Ended}
+use Rattle.cli_text.specs.Sending.{Streams}
+use Rattle.cli_steps.specs.Playing.{Plays}
+
+-- the first fault that stands is told by so many listeners as are kept
+first-of-all : (captures : List (List ℕ)) (all : List Spec) (steps : List Step) (fault : Fault) → 64 < length all → IsFirst captures (take 65 all) steps fault → IsFirst captures all steps fault
+first-of-all captures all steps fault many first =
+    let kept : AreTooMany captures (take 65 all) = inl (omega (arith, many, length-take 65 all)) in
+    by_fault fault kept first
+  where
+    by_fault : (fault : Fault) → AreTooMany captures (take 65 all) → IsFirst captures (take 65 all) steps fault → IsFirst captures all steps fault
+    by_fault TooMany kept is = inl many
+    by_fault (NoListener place) kept is = absurd (is.0 kept)
+    by_fault (Capture n fault) kept is = absurd (is.0 kept)
+    by_fault (Expression l fault) kept is = absurd (is.0 kept)
+    by_fault (Compile l fault) kept is = absurd (is.0 kept)
+    by_fault (Open l fault) kept is = absurd (is.0 kept)
+    by_fault NoMemory kept is = tt
+
+-- what plays the listeners that are kept plays all that were asked for
+pub plays-all : (explained : Bool) (captures : List (List ℕ)) (all kept : List Spec) (steps : List Step) (old new : Streams) (ended : Ended)
+    → kept ≡ take 65 all → Plays explained captures kept steps old new ended → Plays explained captures all steps old new ended
+plays-all explained captures all kept steps old new ended is plays =
+    by_number (cases_lt 64 (length all)) (subst (λ (specs : List Spec). Plays explained captures specs steps old new ended) is plays)
+  where
+    by_number : (64 < length all) ⊎ (length all ≤ 64) → Plays explained captures (take 65 all) steps old new ended → Plays explained captures all steps old new ended
+    by_number (inr few) plays = subst (λ (specs : List Spec). Plays explained captures specs steps old new ended) (take_all 65 all (omega (arith, few))) plays
+    by_number (inl many) (inl reported) = absurd (reported.none_stands.number (inl (omega (arith, many, length-take 65 all))))
+    by_number (inl many) (inr refused) = inr (record {
+      fault = refused.fault;
+      first = first-of-all captures all steps refused.fault many refused.first;
+      nothing = refused.nothing;
+      tells = refused.tells;
+      refused = refused.refused;
+    })

@@ -1,0 +1,3 @@
+pub mod Beyond
+pub mod Ending
+mod Told

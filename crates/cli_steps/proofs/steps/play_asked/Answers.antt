@@ -1,0 +1,11 @@
+use Rattle.std.proofs.Common.{inl, []}
+use Rattle.cli_steps.proofs.Ending.{unexplained, Reported-of}
+use Rattle.cli_steps.proofs.steps.play_asked.Goals as goal
+
+pub returns-in-Ok : goal.returns-in-Ok
+returns-in-Ok g c =
+    let stands = rw c.as_slice.ensures.value at (rw c.as_slice-2.ensures.value at c.in-Ok.ensures.stands) in
+    let replays = rw c.as_slice.ensures.value at (rw c.as_slice-2.ensures.value at c.in-Ok.ensures.tells) in
+    let taken = rw c.as_slice-in-Ok.ensures.value at c.print_reports-printed.ensures in
+    inl (Reported-of c.args.explained _ _ _ _ _ c.end.result c.in-Ok.reports.items c.in-Ok.record_fault replays.0 c.print_reports-printed.result [] stands replays.1
+    (unexplained c.args.explained _ _ _ _ _ c.if-explained.false) taken c.end.ensures.tells c.end.ensures.greatest)

@@ -1,0 +1,24 @@
+use Rattle.std.proofs.Common.{false, inl, inr, refl}
+use Rattle.std.proofs.KnownBytes.{Keeps-refl}
+use Rattle.cli_steps.proofs.Beyond.{plays-all}
+use Rattle.cli_steps.proofs.steps.steps_told.Goals as goal
+
+pub returns-in-Ok : goal.returns-in-Ok
+returns-in-Ok g c =
+    let asked = c.in-Ok.ensures.listeners in
+    inl (record {
+      specs = asked.all;
+      steps = c.in-Ok.asked.steps.items;
+      of_listeners = asked.asked;
+      of_script = c.in-Ok.ensures.script;
+      plays = plays-all false _ asked.all _ _ _ _ _ asked.first c.play_asked.ensures;
+    })
+
+pub returns-in-Err : goal.returns-in-Err
+returns-in-Err g c = inr (record {
+  fault = c.in-Err.fault;
+  refused = c.in-Err.ensures.fault;
+  nothing = Keeps-refl _;
+  tells = c.tell_line.ensures;
+  one = refl;
+})

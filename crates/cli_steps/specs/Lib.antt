@@ -1,0 +1,4 @@
+pub mod Faults
+pub mod Playing
+pub mod Stepping
+pub mod Telling

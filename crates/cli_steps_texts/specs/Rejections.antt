@@ -1,0 +1,24 @@
+-- Why an expression rejects a packet.
+use Rattle.std.specs.Prelude.{ℕ, Bool, true, false, List, [], ◌++◌, Option, Some, None, if◌then◌else◌, codes}
+use Rattle.filter_tree.specs.declared.tree.Expr.{Expr}
+use Rattle.filter_tree.specs.Trees.{tree_of}
+use Rattle.filter_meaning.specs.Meaning.{packet_of}
+use Rattle.filter_explain.specs.Deciding.{decision_text}
+use Rattle.listener.specs.declared.answer.Fed.TheVariants.{Passed}
+use Rattle.tap_steps.specs.declared.answer.Answer.{Answer}
+use Rattle.tap_steps.specs.declared.answer.Answer.TheVariants.{Arrived}
+use Rattle.tap_steps.specs.declared.playlist.Placed.{Placed}
+
+-- `: VERDICT PART`: of a filter that is an expression
+abbrev pub decision_of : Placed → Option Expr → List ℕ
+decision_of p None = []
+decision_of p (Some expr) = codes ": " ++ decision_text (tree_of expr) (packet_of p.packet.bytes p.packet.len)
+
+-- the answer tells that the filter rejects the packet
+abbrev pub rejects : Answer → Bool
+rejects (Arrived Passed) = true
+rejects other = false
+
+-- what stands behind the answer to this packet: why it was rejected
+abbrev pub rejection : Placed → Option Expr → Answer → List ℕ
+rejection p expr answer = if rejects answer then decision_of p expr else []

@@ -1,0 +1,154 @@
+//! What the program tells on standard error, and the exit statuses.
+
+ghost use Rattle.std.specs.Prelude.{◌≡◌, ◌≤◌, ◌⊎◌, OnOk, OnErr, IfOk, IfSome};
+ghost use Rattle.cli_text.specs.Sending.{Takes};
+ghost use Rattle.cli_text.specs.Telling.{fault_status, is_unread, output_line, print_status_of, told_line};
+
+use crate::line::Line;
+use crate::sending::send;
+use savefile::Fault;
+use std::fmt::{Display, Formatter};
+use std::io::{ErrorKind, Write};
+use std::{fmt, io};
+
+/// The exit status of wrong words, a refusal and want of memory.
+pub const REFUSED: u8 = 1;
+
+/// The exit status of a torn or bad record, after the packets before it.
+pub const BAD_RECORD: u8 = 2;
+
+/// The exit status of a failed device.
+pub const DEVICE: u8 = 3;
+
+/// What a command came to.
+#[derive(Debug, Drop)]
+pub struct Ended {
+    /// The exit status.
+    pub status: u8,
+    /// Whether standard error took what was told.
+    pub told: io::Result<()>,
+}
+
+/// The line of a fault, where it has at most 512 bytes.
+fn line_of<D: Display + Drop>(fault: D) -> io::Result<Line>
+    ensures { IfOk result (λ line. IfSome (D.output fault) (λ text. line ≡ told_line text)) }
+{
+    let mut line = Line::new();
+    writeln!(line, "bpftap: {fault}")?;
+    Ok(line)
+}
+
+/// Tells a fault in a line of its own, which goes out in one piece. Where standard error fails it took a beginning of the line.
+/// A line of more than 512 bytes is not told.
+pub fn tell_line<E: Write, D: Display + Drop>(fault: D, err: &mut E) -> io::Result<()>
+    ensures { IfSome (D.output fault) (λ text. Takes (E.contents err.old) (E.contents err.new) result (told_line text)) }
+{
+    let line = line_of(fault)?;
+    send(line.as_bytes(), err)
+}
+
+/// Tells a fault in a line of its own, whatever its length, and gives the status back. Where standard error itself fails, the
+/// status is all that is left to tell.
+pub fn tell_fault<E: Write, D: Display + Drop>(fault: D, status: u8, err: &mut E) -> u8
+    ensures { result ≡ status }
+{
+    let _ = match line_of(&fault) {
+        Ok(line) => send(line.as_bytes(), err),
+        Err(_) => writeln!(err, "bpftap: {fault}"),
+    };
+    status
+}
+
+/// Tells why the words of the command line could not be taken.
+pub fn tell_words<E: Write>(error: io::Error, err: &mut E) -> u8
+    ensures { result ≡ REFUSED }
+{
+    match error.kind() {
+        ErrorKind::OutOfMemory => tell_fault(Fault::NoMemory, REFUSED, err),
+        ErrorKind::InvalidData => tell_fault(
+            "a word of the command line is not UTF-8",
+            REFUSED,
+            err,
+        ),
+        _ => tell_fault(error, REFUSED, err),
+    }
+}
+
+/// A path in a line of its own: control characters are written as in a Rust string, `\n` or `\u{1b}`.
+#[derive(Clone, Copy)]
+pub struct Path<'a>(pub &'a str);
+
+impl Display for Path<'_> {
+    fn fmt<W: fmt::Write>(&self, f: &mut Formatter<W>) -> fmt::Result {
+        for character in self.0.chars() {
+            if character.is_control() {
+                write!(f, "{}", character.escape_default())?;
+            } else {
+                f.write_char(character)?;
+            }
+        }
+        Ok(())
+    }
+}
+
+/// Tells that the file or device of a path failed.
+pub fn tell_device<E: Write>(path: &str, err: &mut E) -> u8
+    ensures { result ≡ DEVICE }
+{
+    tell_fault(format_args!("Device {}", Path(path)), DEVICE, err)
+}
+
+/// Tells that standard output failed, if it did, and answers the exit status. Where nobody reads what is printed any more, as
+/// behind `| head`, there is nobody to tell it to either.
+pub fn tell_written<E: Write>(written: io::Result<()>, err: &mut E) -> u8
+    ensures clean { OnOk written (result ≡ 0) }
+    ensures failed { OnErr written (result ≡ DEVICE) }
+    ensures status { (result ≡ 0) ⊎ (result ≡ REFUSED) ⊎ (result ≡ DEVICE) }
+    ensures bound { result ≤ 3 }
+{
+    match written {
+        Ok(()) => 0,
+        Err(error) if error.kind() == ErrorKind::BrokenPipe => DEVICE,
+        Err(_) => tell_device("standard output", err),
+    }
+}
+
+/// The exit status of a fault.
+pub fn fault_status(fault: Fault) -> u8
+    ensures { result ≡ fault_status fault }
+{
+    match fault {
+        Fault::Device => DEVICE,
+        Fault::TornRecord(_) | Fault::BadFraction(_) | Fault::TooLong(_) => BAD_RECORD,
+        _ => REFUSED,
+    }
+}
+
+/// The exit status of printing.
+pub fn print_status(printed: &io::Result<()>) -> u8
+    ensures { result ≡ print_status_of printed.now }
+{
+    match printed {
+        Ok(()) => 0,
+        Err(_) => DEVICE,
+    }
+}
+
+/// Whether it is that nobody reads what is printed any more, as behind `| head`.
+fn is_unread(kind: ErrorKind) -> bool
+    ensures { result ≡ is_unread kind }
+{
+    matches!(kind, ErrorKind::BrokenPipe)
+}
+
+/// Tells that standard output failed, if it did, in a line `bpftap: Device standard output`. Where nobody reads what is printed any
+/// more, there is nobody to tell it to either.
+pub fn tell_output<E: Write>(printed: &io::Result<()>, err: &mut E) -> io::Result<()>
+    ensures { Takes (E.contents err.old) (E.contents err.new) result (output_line printed.now) }
+{
+    match printed {
+        Ok(()) => Ok(()),
+        Err(error) if is_unread(error.kind()) => Ok(()),
+        Err(_) => tell_line("Device standard output", err),
+    }
+}

@@ -1,3 +1,0 @@
-pub mod Captured
-pub mod Deciding
-pub mod Aborting

@@ -1,8 +1,0 @@
-use Rattle.explaining.proofs.Aborting.{primitives-have-causes, relations-have-causes}
-use Rattle.explaining.proofs.laws.aborts_have_causes.Goals as goal
-
-pub returns-clause-primitives : goal.returns-clause-primitives
-returns-clause-primitives c = primitives-have-causes
-
-pub returns-clause-relations : goal.returns-clause-relations
-returns-clause-relations c = relations-have-causes

@@ -1,9 +1,0 @@
-use Rattle.std.proofs.Common.{ap, sym, ◌∙◌, Some, arith}
-use Rattle.explaining.proofs.Captured.{number-none, number-byte}
-use Rattle.explaining.proofs.missing.byte_at.Goals as goal
-
-pub returns-then-packet-offset : goal.returns-then-packet-offset
-returns-then-packet-offset c = sym (number-none c.args.packet.now c.args.offset 1 c.if-packet-offset.true)
-
-pub returns : goal.returns
-returns c = ap (λ n. Some n) c.from.ensures ∙ sym (number-byte c.args.packet.now c.args.offset (omega arith))

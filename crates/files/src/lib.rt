@@ -1,8 +1,0 @@
-//! Files as a command uses them: opened and made when they are needed first, each once, and none in the place of another.
-#![tactic(auto)]
-
-pub mod late;
-pub mod paths;
-pub mod piped;
-pub mod reading;
-pub mod retried;

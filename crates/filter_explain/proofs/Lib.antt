@@ -1,0 +1,4 @@
+pub mod Captured
+pub mod Deciding
+pub mod Aborting
+mod Telling

@@ -1,0 +1,4 @@
+pub mod Causes
+pub mod Asking
+pub mod Laws
+pub mod Deciding

@@ -1,0 +1,94 @@
+//! The primitive or relation that decides.
+
+ghost use Rattle.std.specs.Prelude.{◌≡◌, false};
+ghost use Rattle.filter_tree.specs.Trees.{tree_of};
+ghost use Rattle.filter_meaning.specs.Meaning.{packet_of, meaning};
+ghost use Rattle.filter_explain.specs.Asking.{question_of, question, questions, turned, IsLast};
+
+use crate::asking::{Asked, cause_of, opposite};
+use filter_meaning::{Verdict, evaluate};
+use filter_tree::Expr;
+
+impl Asked<'_> {
+    /// Its answer, turned where it is negated: of the one that decides, what the whole expression answers.
+    pub fn turned(&self) -> Verdict
+        ensures { result ≡ turned self.now.negated self.now.verdict }
+    {
+        if self.negated {
+            opposite(self.verdict)
+        } else {
+            self.verdict
+        }
+    }
+}
+
+/// A part of an expression that decides of a packet, and what the part of the expression answers in which it stands.
+#[derive(Clone, Copy)]
+struct Decided<'a> {
+    asked: Asked<'a>,
+    verdict: Verdict,
+}
+
+/// A primitive or a relation decides of itself.
+fn decide_part<'a>(part: &'a Expr, negated: bool, packet: &[u8], wire: u32) -> Decided<'a>
+    ensures asked { question_of result.asked ≡ question negated (tree_of part.now) (packet_of packet.now wire) }
+    ensures verdict { result.verdict ≡ meaning (tree_of part.now) (packet_of packet.now wire) }
+{
+    let verdict = evaluate(part, packet, wire);
+    let cause = cause_of(part, verdict, packet, wire);
+    let asked = Asked {
+        part,
+        negated,
+        verdict,
+        cause,
+    };
+    Decided { asked, verdict }
+}
+
+/// Asks the parts of an expression up to the one that decides.
+fn decide_in<'a>(expr: &'a Expr, negated: bool, packet: &[u8], wire: u32) -> Decided<'a>
+    ensures last { IsLast (question_of result.asked) (questions negated (tree_of expr.now) (packet_of packet.now wire)) }
+    ensures verdict { result.verdict ≡ meaning (tree_of expr.now) (packet_of packet.now wire) }
+    ensures decides { turned negated result.verdict ≡ turned result.asked.negated result.asked.verdict }
+{
+    match expr {
+        Expr::Everything => decide_part(expr, negated, packet, wire),
+        Expr::Test(_) => decide_part(expr, negated, packet, wire),
+        Expr::Relation(_, _, _) => decide_part(expr, negated, packet, wire),
+        Expr::Not(operand) => {
+            let decided = decide_in(operand, !negated, packet, wire);
+            Decided {
+                asked: decided.asked,
+                verdict: opposite(decided.verdict),
+            }
+        }
+        Expr::And(left, right) => {
+            let decided = decide_in(left, negated, packet, wire);
+            match decided.verdict {
+                Verdict::Yes => decide_in(right, negated, packet, wire),
+                Verdict::No => decided,
+                Verdict::Abort => decided,
+            }
+        }
+        Expr::Or(left, right) => {
+            let decided = decide_in(left, negated, packet, wire);
+            match decided.verdict {
+                Verdict::Yes => decided,
+                Verdict::No => decide_in(right, negated, packet, wire),
+                Verdict::Abort => decided,
+            }
+        }
+    }
+}
+
+/// The primitive or relation of an expression that decides of a packet: the last one of those that
+/// [`explain`](crate::explain) tells. It takes no memory.
+///
+/// `packet` is the captured bytes, and `wire` the packet's length on the wire. What [`Asked::turned`] answers of it is what
+/// [`evaluate`](filtergen::evaluate) answers of the whole expression.
+pub fn decide<'a>(expr: &'a Expr, packet: &[u8], wire: u32) -> Asked<'a>
+    ensures last { IsLast (question_of result) (questions false (tree_of expr.now) (packet_of packet.now wire)) }
+    ensures decides { meaning (tree_of expr.now) (packet_of packet.now wire) ≡ turned result.negated result.verdict }
+{
+    decide_in(expr, false, packet, wire).asked
+}

@@ -1,0 +1,15 @@
+//! Why an expression accepts or rejects a packet: which of its primitives and relations were asked, what each answered, and
+//! why one aborted.
+#![tactic(auto)]
+
+mod asking;
+mod cause;
+mod decided;
+pub mod laws;
+mod missing;
+mod text;
+
+pub use asking::{Asked, explain};
+pub use cause::Cause;
+pub use decided::decide;
+pub use text::{put_cause, put_decision, put_part, put_verdict, verdict_text};

@@ -1,0 +1,3 @@
+pub use Rattle.filter_tree.specs.Trees
+pub mod Meaning
+pub mod Sides

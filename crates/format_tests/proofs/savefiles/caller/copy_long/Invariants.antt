@@ -1,5 +1,0 @@
-use Rattle.std.proofs.Common.{◌-◌, ◌^◌}
-use Rattle.format_tests.proofs.savefiles.caller.copy_long.Given as goal
-
-abbrev pub decreases-loop-writer : goal.decreases-loop-writer
-decreases-loop-writer g l = 2 ^ 64 - l.reader.given

@@ -1,6 +1,0 @@
-use Rattle.std.proofs.Common.{◌≡◌, []}
-use Rattle.listener.specs.Buffers.{filled}
-use Rattle.listener_tests.proofs.pairs.threads.read_all.Given as goal
-
-abbrev pub invariant-loop : goal.invariant-loop
-invariant-loop l = (l.drain.pair ≡ l.initial.drain.pair) × (l.spare ≡ filled l.drain.profile.capacity [])

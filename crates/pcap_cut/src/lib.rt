@@ -1,0 +1,4 @@
+//! A capture cut by a filter: what `bpftap cut` and `bpftap split` write.
+#![tactic(auto)]
+
+pub mod cut;

@@ -1,6 +1,0 @@
-use Rattle.std.specs.List.{AllZip}
-use Rattle.playback.specs.Watching.{Tells}
-use Rattle.playback.proofs.reporting.report_all.Given as goal
-
-abbrev pub invariant-loop-one : goal.invariant-loop-one
-invariant-loop-one l = AllZip Tells l.yielded l.reports.items

@@ -1,9 +1,0 @@
-use Rattle.std.proofs.Common.{refl, ◌∙◌}
-use Rattle.listener.specs.PlainList.{closed}
-use Rattle.playback.proofs.Stepping.{step_told}
-use Rattle.playback.proofs.watched.Watched.close.Goals as goal
-
-pub returns : goal.returns
-returns c =
-    rw (← c.self.view_is) (step_told c.answers.ensures.is_right c.self.inside.listener c.close.new.self _ _ _ _ closed _ refl refl
-    _ _ _ _ (c.of-before.ensures.closed ∙ c.self.invariant.1) c.of-before.ensures.load c.of-before.ensures.held (λ _ _. refl) c.answered.ensures c.close.ensures c.in_ok-follow.ensures)

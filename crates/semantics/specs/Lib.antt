@@ -1,3 +1,0 @@
-pub use Rattle.syntax.specs.Trees
-pub mod Meaning
-pub mod Sides

@@ -1,4 +1,0 @@
-//! `bpftap split`, over files.
-#![tactic(auto)]
-
-pub mod split_files;

@@ -1,0 +1,13 @@
+//! What holds of the definitions of both ways of replaying: in threads and step by step.
+#![tactic(auto)]
+
+ghost use Rattle.tap_laws.specs.Laws.{GiveOnePlaylist};
+
+use savefile::Source;
+
+/// Threads give the playlist that steps do: where the sources tell their bytes, and the captures end for what stands in
+/// them, what arrived at an interface is the playlist of the captures, with the same record fault. This does nothing: its contract is
+/// the law.
+pub fn one_playlist<S: Source>(_source: &S)
+    ensures { GiveOnePlaylist S.left S.failures }
+{}

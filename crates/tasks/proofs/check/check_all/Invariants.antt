@@ -1,6 +1,0 @@
-use Rattle.std.proofs.Common.{All, take}
-use Rattle.tasks.specs.Refusals.{AreFew, InterfaceIsRight}
-use Rattle.tasks.proofs.check.check_all.Given as goal
-
-abbrev pub invariant-loop-i : goal.invariant-loop-i
-invariant-loop-i g l = AreFew l.interfaces × All InterfaceIsRight (take l.i l.interfaces)

@@ -1,6 +1,0 @@
-use Rattle.std.proofs.Common.{All, take}
-use Rattle.tasks.specs.Refusals.{TaskIsRight}
-use Rattle.tasks.proofs.check.check_tasks.Given as goal
-
-abbrev pub invariant-loop-k : goal.invariant-loop-k
-invariant-loop-k g l = All TaskIsRight (take l.k l.tasks)

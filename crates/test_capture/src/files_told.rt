@@ -1,0 +1,47 @@
+//! What is told of files that can't be read, and of words that are refused.
+
+use crate::same::same;
+use clap::Error;
+use cli_args::telling::tell_words_fault;
+use cli_files::reading::tell_io;
+use std::alloc::AllocError;
+use std::io;
+use std::io::ErrorKind;
+use std::process::Abort;
+
+/// What is told of a path that can't be read, and the status.
+fn is_told(rt: &(impl Abort + AllocGlobal), kind: ErrorKind, path: &str, line: &str, status: u8) {
+    let mut err: Vec<u8> = Vec::new(rt.alloc());
+    let found = tell_io(&io::Error::from(kind), path, &mut err);
+    same(rt, (err.as_slice(), found), (line.as_bytes(), status));
+}
+
+#[test]
+fn want_of_memory_is_told_by_its_name(rt: HostRuntime) {
+    is_told(
+        &rt,
+        ErrorKind::OutOfMemory,
+        "in.pcap",
+        "bpftap: NoMemory\n",
+        1,
+    );
+}
+
+#[test]
+fn want_of_memory_for_the_words_is_told_by_its_name(rt: HostRuntime) {
+    let mut out: Vec<u8> = Vec::new(rt.alloc());
+    let mut err: Vec<u8> = Vec::new(rt.alloc());
+    let status = tell_words_fault(&Error::from(AllocError), &mut out, &mut err);
+    same(
+        &rt,
+        (err.as_slice(), status),
+        (b"bpftap: NoMemory\n".as_slice(), 1),
+    );
+    assert!(rt; out.is_empty());
+}
+
+#[test]
+fn control_characters_of_a_path_are_escaped(rt: HostRuntime) {
+    let line = "bpftap: Device a\\n\\u{1b}[1mé b\n";
+    is_told(&rt, ErrorKind::NotFound, "a\n\u{1b}[1mé b", line, 3);
+}

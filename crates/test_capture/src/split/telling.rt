@@ -1,0 +1,149 @@
+//! What is printed and told of a split.
+
+use crate::same::same;
+use cli_split::outputs::read_split_lines;
+use cli_split::part::PartEnd;
+use cli_split::split::{SplitEnd, Stop};
+use cli_split::tell::tell_split;
+use pcap_cut::cut::Tally;
+use savefile::Fault;
+use std::alloc::Global;
+use std::io::Write;
+use std::process::Abort;
+use test_fixtures::devices::BreakingWriter;
+
+const LINES: &[u8] = b"0 a.pcap\n0 b.pcap tcp\n";
+
+/// How a split of two parts ended, of nine packets; of which these were not written whole.
+fn end_of(
+    rt: &(impl Abort + AllocGlobal),
+    written: [Result<(), Fault>; 2],
+    end: Result<(), Stop>,
+) -> SplitEnd<(), ()> {
+    let mut parts = Vec::new(rt.alloc());
+    for (n, written) in written.into_iter().enumerate() {
+        let tally = Tally {
+            read: 9,
+            written: n as u64,
+        };
+        parts
+            .push(PartEnd {
+                sink: (),
+                sent: 24,
+                tally,
+                written,
+            })
+            .expect(rt, "memory");
+    }
+    SplitEnd {
+        sources: Vec::new(rt.alloc()),
+        parts,
+        end,
+    }
+}
+
+/// What is told of an end, the status, and what is printed into a writer.
+fn told<O: Write>(
+    rt: &(impl Abort + AllocGlobal),
+    end: SplitEnd<(), ()>,
+    out: &mut O,
+) -> (u8, Vec<u8>) {
+    let alloc: Global = rt.alloc();
+    let mut err = Vec::new(alloc);
+    let lines = read_split_lines(alloc, LINES).expect(rt, "each line has its form");
+    let status = tell_split(lines.as_slice(), &end, out, &mut err);
+    (status, err)
+}
+
+/// How the parts were written, how the reading ended, and what is printed and told, with the status.
+type Case = (
+    [Result<(), Fault>; 2],
+    Result<(), Stop>,
+    &'static str,
+    &'static str,
+    u8,
+);
+
+const BOTH: &str = "a.pcap 0 of 9\nb.pcap 1 of 9\n";
+
+static CASES: [Case; 8] = [
+    ([Ok(()), Ok(())], Ok(()), BOTH, "", 0),
+    (
+        [Err(Fault::Device), Ok(())],
+        Ok(()),
+        "b.pcap 1 of 9\n",
+        "bpftap: Device a.pcap\n",
+        3,
+    ),
+    (
+        [Err(Fault::Device), Err(Fault::Device)],
+        Err(Stop::AtRecord(2, Fault::TornRecord(7))),
+        "",
+        "bpftap: Device a.pcap\nbpftap: Device b.pcap\nbpftap: Capture 2 TornRecord 7\n",
+        3,
+    ),
+    (
+        [Ok(()), Err(Fault::CountFull)],
+        Ok(()),
+        "a.pcap 0 of 9\n",
+        "bpftap: CountFull\n",
+        1,
+    ),
+    (
+        [Ok(()), Ok(())],
+        Err(Stop::AtRecord(0, Fault::TooLong(9))),
+        BOTH,
+        "bpftap: Capture 0 TooLong 9\n",
+        2,
+    ),
+    (
+        [Ok(()), Ok(())],
+        Err(Stop::AtRecord(1, Fault::Device)),
+        BOTH,
+        "bpftap: Capture 1 Device\n",
+        3,
+    ),
+    (
+        [Ok(()), Ok(())],
+        Err(Stop::AtHeader(1, Fault::Version)),
+        BOTH,
+        "bpftap: Capture 1 Version\n",
+        1,
+    ),
+    // Nothing was begun.
+    (
+        [Ok(()), Ok(())],
+        Err(Stop::AtHeader(0, Fault::NotSavefile)),
+        "",
+        "bpftap: Capture 0 NotSavefile\n",
+        1,
+    ),
+];
+
+/// A case is printed and told so.
+fn is_told(rt: &(impl Abort + AllocGlobal), case: Case) {
+    let (written, end, printed, err, status) = case;
+    let mut out = Vec::new(rt.alloc());
+    let (found, told) = told(rt, end_of(rt, written, end), &mut out);
+    same(rt, out.as_slice(), printed.as_bytes());
+    same(rt, (told.as_slice(), found), (err.as_bytes(), status));
+}
+
+#[test]
+fn whole_parts_are_printed_and_the_others_told(rt: HostRuntime) {
+    for case in CASES.iter() {
+        is_told(&rt, *case);
+    }
+}
+
+#[test]
+fn standard_output_that_fails_is_told_first(rt: HostRuntime) {
+    let taken = Vec::new(rt.alloc());
+    let mut out = BreakingWriter { taken, room: 10 };
+    let stop = Err(Stop::AtRecord(0, Fault::TooLong(9)));
+    let end = end_of(&rt, [Ok(()), Ok(())], stop);
+    let (status, err) = told(&rt, end, &mut out);
+    same(&rt, out.taken.as_slice(), b"a.pcap 0 o".as_slice());
+    let wanted = b"bpftap: Device standard output\nbpftap: Capture 0 TooLong 9\n";
+    same(&rt, (err.as_slice(), status), (wanted.as_slice(), 3));
+}

@@ -1,0 +1,78 @@
+//! How lines go out, and what is told of words that cannot be taken.
+
+use crate::same::same;
+use cli_cut::check::check;
+use cli_cut::tell::tell_print;
+use cli_text::telling::{REFUSED, tell_device, tell_fault, tell_words};
+use std::io;
+use std::io::{ErrorKind, Write};
+use std::process::Abort;
+
+/// A writer that has room for so many bytes, then breaks, and counts its calls.
+#[derive(Drop)]
+struct Counting {
+    room: usize,
+    calls: usize,
+}
+
+impl Write for Counting {
+    fn write(&mut self, buf: &[u8]) -> io::Result<usize> {
+        self.calls = self.calls.saturating_add(1);
+        let n = self.room.min(buf.len());
+        if n == 0 {
+            return Err(io::Error::from(ErrorKind::Other));
+        }
+        self.room -= n;
+        Ok(n)
+    }
+
+    fn flush(&mut self) -> io::Result<()> {
+        Ok(())
+    }
+}
+
+/// A writer of so much room leaves the status, and nothing is printed.
+fn leaves_the_status(rt: &(impl Abort + AllocGlobal), room: usize) {
+    let mut out: Vec<u8> = Vec::new(rt.alloc());
+    let mut err = Counting { room, calls: 0 };
+    let checked = check(rt.alloc(), "tcp and 80", &mut out);
+    same(
+        rt,
+        (room, tell_print(checked, &mut err), out.len()),
+        (room, 1, 0),
+    );
+}
+
+#[test]
+fn a_line_that_is_not_taken_leaves_the_status(rt: HostRuntime) {
+    for room in [0, 3, 21] {
+        leaves_the_status(&rt, room);
+    }
+}
+
+/// Three lines go out in three writes, of which the last tells a path.
+fn go_out(rt: &impl Abort, path: &str) {
+    let mut err = Counting {
+        room: 1024,
+        calls: 0,
+    };
+    same(rt, tell_fault("TornRecord 1", 2, &mut err), 2);
+    same(rt, tell_device("in.pcap", &mut err), 3);
+    same(rt, tell_device(path, &mut err), 3);
+    same(rt, err.calls, 3);
+}
+
+#[test]
+fn a_line_goes_out_in_one_write(rt: HostRuntime) {
+    // The longest line of which this holds has 512 bytes.
+    let path = "x".repeat(rt.alloc(), 496).expect(&rt, "memory");
+    go_out(&rt, path.as_str());
+}
+
+#[test]
+fn words_that_cannot_be_taken_are_told(rt: HostRuntime) {
+    let mut err: Vec<u8> = Vec::new(rt.alloc());
+    let refused = io::Error::from(ErrorKind::OutOfMemory);
+    same(&rt, tell_words(refused, &mut err), REFUSED);
+    same(&rt, err.as_slice(), b"bpftap: NoMemory\n".as_slice());
+}

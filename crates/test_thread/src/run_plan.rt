@@ -1,0 +1,171 @@
+//! `bpftap run`: when a packet can be read, and what is printed of ends that no capture brings about.
+
+use crate::same::same;
+use bpfvm::read_listing;
+use cli_run::run::run;
+use cli_run_texts::faults::RunFaultText;
+use cli_run_texts::reports::tell_run;
+use handover::{Past, pair, settle};
+use listener::OpenFault;
+use replay::{InterfaceEnd, InterfaceReport, ListenerReport, RunFault, TaskEnd};
+use savefile::Counted;
+use std::io::{Read, Write};
+use std::process::Abort;
+use std::sync::Wait;
+use std::sync::atomic::AtomicU64;
+use std::sync::atomic::Ordering::SeqCst;
+use std::thread::Threads;
+use std::time::{Clock, Duration};
+use std::{io, thread};
+use test_fixtures::captures::{HEADER, TCP, concat};
+
+/// How many turns of a millisecond something is waited for.
+const MOST_TURNS: u32 = 20_000;
+
+/// Gives a capture, and ends once as many bytes were written, or it waited in vain.
+#[derive(Drop)]
+struct Patient<'a, R> {
+    rt: &'a R,
+    left: &'a [u8],
+    written: &'a AtomicU64,
+    wanted: u64,
+}
+
+impl<R: Clock> Read for Patient<'_, R> {
+    fn read(&mut self, to: &mut [u8]) -> io::Result<usize> {
+        let n = self.left.len().min(to.len());
+        let (given, rest) = self.left.split_at(n);
+        to[..n].copy_from_slice(given);
+        self.left = rest;
+        for _ in 0..MOST_TURNS {
+            if n > 0 || self.written.load(SeqCst) >= self.wanted {
+                return Ok(n);
+            }
+            thread::sleep(self.rt, Duration::from_millis(1));
+        }
+        Err(io::Error::from(io::ErrorKind::TimedOut))
+    }
+}
+
+/// Takes everything, and counts the bytes.
+#[derive(Drop)]
+struct Counting<'a> {
+    written: &'a AtomicU64,
+}
+
+impl Write for Counting<'_> {
+    fn write(&mut self, from: &[u8]) -> io::Result<usize> {
+        self.written.fetch_add(from.len() as u64, SeqCst);
+        Ok(from.len())
+    }
+
+    fn flush(&mut self) -> io::Result<()> {
+        Ok(())
+    }
+}
+
+/// One interface of one source, which gives a capture of one packet and does not end before that is written.
+fn one_patient<'a, T: Abort + AllocGlobal>(
+    rt: &'a T,
+    text: &'a [u8],
+    written: &'a AtomicU64,
+) -> Vec<Vec<Counted<Patient<'a, T>>>> {
+    let mut sources = Vec::new(rt.alloc());
+    let source = Patient {
+        rt,
+        left: text,
+        written,
+        wanted: 78,
+    };
+    sources.push(Counted::new(source)).expect(rt, "memory");
+    let mut captures = Vec::new(rt.alloc());
+    captures.push(sources).expect(rt, "memory");
+    captures
+}
+
+/// Replays a packet whose capture does not end before the packet is written, and answers the exit status.
+fn status_of(
+    rt: &(impl Abort + AllocGlobal + Clock + Threads + Wait + Sync),
+    listeners: &[u8],
+) -> u8 {
+    let alloc = rt.alloc();
+    let written = AtomicU64::new(0);
+    let text = concat(alloc, &[HEADER, TCP]).expect(rt, "memory");
+    let captures = one_patient(rt, text.as_slice(), &written);
+    let make = |_: &str| Counted::new(Counting { written: &written });
+    let mut out: Vec<u8> = Vec::new(alloc);
+    let mut err: Vec<u8> = Vec::new(alloc);
+    let (status, _) = run(rt, alloc, listeners, captures, make, &mut out, &mut err);
+    status
+}
+
+#[test]
+fn a_flush_and_the_letter_let_a_packet_be_read_at_once(rt: HostRuntime) {
+    same(&rt, status_of(&rt, b"0 1 64 4096 2 a"), 0);
+    same(&rt, status_of(&rt, b"0 0 64 4096i 2 a"), 0);
+}
+
+/// The past of a pair that was settled before anything arrived.
+pub(crate) fn nothing_done(rt: &(impl Abort + AllocGlobal)) -> Past {
+    let rejecting = read_listing(b"1\n6 0 0 0\n").expect(rt, "a program");
+    let (link, feeder, drain) = pair(rt.alloc(), rejecting, 96, 4096).expect(rt, "a pair");
+    let (feed_end, _rest) = feeder.end(&link);
+    let drain_end = drain.close(&link);
+    settle(link, feed_end, drain_end).past
+}
+
+/// A listener whose drain was not ended.
+fn unfinished(rt: &(impl Abort + AllocGlobal)) -> ListenerReport<()> {
+    ListenerReport {
+        sink: (),
+        sent: 24,
+        received: 4,
+        matched: 3,
+        dropped: 1,
+        written: 2,
+        end: TaskEnd::Unfinished,
+        past: nothing_done(rt),
+    }
+}
+
+/// An interface of one such listener, whose packets were too many to count.
+fn uncounted(rt: &(impl Abort + AllocGlobal)) -> Vec<InterfaceReport<u8, ()>> {
+    let mut listeners = Vec::new(rt.alloc());
+    listeners.push(unfinished(rt)).expect(rt, "memory");
+    let report = InterfaceReport {
+        end: InterfaceEnd::CountFull,
+        sources: Vec::new(rt.alloc()),
+        listeners,
+    };
+    let mut reports = Vec::new(rt.alloc());
+    reports.push(report).expect(rt, "memory");
+    reports
+}
+
+#[test]
+fn an_end_that_is_not_reached_is_told(rt: HostRuntime) {
+    let reports = uncounted(&rt);
+    let mut out: Vec<u8> = Vec::new(rt.alloc());
+    let mut err: Vec<u8> = Vec::new(rt.alloc());
+    let status = tell_run(reports.as_slice(), &mut out, &mut err);
+    let line = b"interface 0 listener 0 received 4 matched 3 dropped 1 written 2 Unfinished\n";
+    same(&rt, (out.as_slice(), status), (line.as_slice(), 1));
+    let fault = b"bpftap: Interface 0 CountFull\n";
+    same(&rt, err.as_slice(), fault.as_slice());
+}
+
+/// A refusal is told by its own text.
+fn is_its_own(rt: &(impl Abort + AllocGlobal), fault: RunFault) {
+    let told = format!(in rt.alloc(); "{}", RunFaultText(fault)).expect(rt, "memory");
+    let own = format!(in rt.alloc(); "{fault}").expect(rt, "memory");
+    same(rt, told.as_str(), own.as_str());
+}
+
+#[test]
+fn refusals_are_told_by_their_own_texts(rt: HostRuntime) {
+    is_its_own(&rt, RunFault::TooMany);
+    is_its_own(&rt, RunFault::Open(1, 23, OpenFault::BadSnap));
+    is_its_own(&rt, RunFault::Open(4, 0, OpenFault::BadCapacity));
+    is_its_own(&rt, RunFault::Open(0, 5, OpenFault::NoMemory));
+    is_its_own(&rt, RunFault::NoStart);
+}
