@@ -1,6 +1,6 @@
 //! The capture that a command reads.
 
-ghost use Rattle.std.specs.Prelude.{◌≤◌, IfErr};
+ghost use Rattle.std.specs.Prelude.{IfErr};
 
 use crate::reading::tell_io;
 use crate::retried::Retried;
@@ -15,8 +15,7 @@ pub fn open_input<R: Files, E: TakesHints>(
     rt: &R,
     path: &str,
     err: &mut E,
-) -> Result<NotedInput<Retried<R::File>>, u8>
-    ensures { IfErr result (λ status. status ≤ 3) }
+) -> Result<NotedInput<Retried<R::File>>, Status>
 {
     match fs::open(rt, path) {
         Ok(input) => Ok(Counted::new(Noted::new(Retried::new(input)))),

@@ -1,21 +1,21 @@
 //! What is told of files that can't be read.
 
-ghost use Rattle.std.specs.Prelude.{◌≤◌, IfErr};
+ghost use Rattle.std.specs.Prelude.{IfErr};
 
 use cli_report::TakesHints;
 use cli_report::files::hint_reason;
-use cli_text::telling::{REFUSED, tell_device, tell_fault};
+use cli_text::Status;
+use cli_text::telling::{tell_device, tell_fault};
 use savefile::Fault;
 use std::fs::Files;
 use std::io::ErrorKind;
 use std::{fs, io};
 
 /// Tells that a file could not be opened or read, or that memory was refused.
-pub fn tell_io<E: TakesHints>(error: &io::Error, path: &str, err: &mut E) -> u8
-    ensures { result ≤ 3 }
+pub fn tell_io<E: TakesHints>(error: &io::Error, path: &str, err: &mut E) -> Status
 {
     if error.kind() == ErrorKind::OutOfMemory {
-        tell_fault(Fault::NoMemory, REFUSED, err)
+        tell_fault(Fault::NoMemory, Status::Refused, err)
     } else {
         let status = tell_device(path, err);
         hint_reason(error, err);
@@ -28,8 +28,7 @@ pub fn read_file<R: Files + AllocGlobal, E: TakesHints>(
     rt: &R,
     path: &str,
     err: &mut E,
-) -> Result<Vec<u8>, u8>
-    ensures { IfErr result (λ status. status ≤ 3) }
+) -> Result<Vec<u8>, Status>
 {
     match fs::read(rt, path) {
         Ok(text) => Ok(text),

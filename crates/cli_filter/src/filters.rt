@@ -1,6 +1,6 @@
 //! The filters of the commands, each of a listing's file or of an expression, and what is told where there is none.
 
-ghost use Rattle.std.specs.Prelude.{◌≡◌, ◌≤◌, false, Ok, IfErr, IfOk, IsErr};
+ghost use Rattle.std.specs.Prelude.{◌≡◌, false, Ok, IfErr, IfOk, IsErr};
 
 use crate::program::{FilterFault, filter};
 use crate::tell::tell_filter;
@@ -9,7 +9,7 @@ use cli_files::reading::read_file;
 use cli_filter_hints::expressions::{hint_refusal, hint_text_fault};
 use cli_report::TakesHints;
 use cli_report::files::{LISTING, hint_bad_line};
-use cli_text::telling::REFUSED;
+use cli_text::Status;
 use filtergen::ExpressionFault;
 use std::fs::Files;
 
@@ -44,9 +44,9 @@ pub fn told_filter<E: TakesHints>(
     expr: Option<&str>,
     found: Result<Program, FilterFault>,
     err: &mut E,
-) -> Result<Program, u8>
+) -> Result<Program, Status>
     ensures found { IfOk result (λ program. found ≡ Ok program) }
-    ensures refused { IfErr result (λ status. (status ≡ REFUSED) × IsErr found) }
+    ensures refused { IfErr result (λ status. (status ≡ Refused) × IsErr found) }
 {
     match found {
         Ok(program) => Ok(program),
@@ -63,8 +63,7 @@ pub fn program_of_file<R: Files + AllocGlobal, E: TakesHints>(
     rt: &R,
     path: &str,
     err: &mut E,
-) -> Result<Program, u8>
-    ensures { IfErr result (λ status. status ≤ 3) }
+) -> Result<Program, Status>
 {
     let listing = read_file(rt, path, err)?;
     let listing = Some(listing.as_slice());
@@ -77,8 +76,7 @@ pub fn program_of_expression<R: AllocGlobal, E: TakesHints>(
     expr: Option<&str>,
     snap: u32,
     err: &mut E,
-) -> Result<Program, u8>
-    ensures { IfErr result (λ status. status ≤ 3) }
+) -> Result<Program, Status>
 {
     told_filter(None, expr, filter(rt.alloc(), None, expr, snap), err)
 }

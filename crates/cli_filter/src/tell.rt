@@ -4,19 +4,20 @@ ghost use Rattle.std.specs.Prelude.{◌≡◌, Ok, IfOk, IfErr, IsErr};
 
 use crate::program::FilterFault;
 use bpfvm::Program;
-use cli_text::telling::{REFUSED, tell_fault};
+use cli_text::Status;
+use cli_text::telling::tell_fault;
 use std::io::Write;
 
 /// Tells why there is no filter, if there is none, and answers the exit status then.
 pub fn tell_filter<E: Write>(
     found: Result<Program, FilterFault>,
     err: &mut E,
-) -> Result<Program, u8>
+) -> Result<Program, Status>
     ensures found { IfOk result (λ program. found ≡ Ok program) }
-    ensures refused { IfErr result (λ status. (status ≡ REFUSED) × IsErr found) }
+    ensures refused { IfErr result (λ status. (status ≡ Refused) × IsErr found) }
 {
     match found {
         Ok(program) => Ok(program),
-        Err(fault) => Err(tell_fault(fault, REFUSED, err)),
+        Err(fault) => Err(tell_fault(fault, Status::Refused, err)),
     }
 }

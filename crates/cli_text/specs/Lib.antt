@@ -1,4 +1,5 @@
 pub mod Snapshot
+pub mod Status
 pub mod Telling
 pub mod Sending
 pub mod Files

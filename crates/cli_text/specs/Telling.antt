@@ -9,15 +9,17 @@ use Rattle.savefile.specs.declared.fault.Fault.{Fault}
 use Rattle.savefile.specs.declared.fault.Fault.TheVariants.{TornRecord, BadFraction, TooLong, Device}
 use Rattle.savefile.specs.declared.fault.Fault.TheVariants as capture
 use Rattle.cli_text.specs.declared.fault.LineFault.{LineFault}
+use Rattle.cli_text.specs.declared.status.Status.{Status}
+use Rattle.cli_text.specs.declared.status.Status.TheVariants.{Clean, Refused, Damaged, Failed}
 use Rattle.cli_text.specs.declared.fault.LineFault.TheVariants.{Listeners, Script, NoMemory}
 
--- 3 where a device failed, 2 for a torn or bad record, and 1 for every other fault
-abbrev pub fault_status : Fault → ℕ
-fault_status Device = 3
-fault_status (TornRecord place) = 2
-fault_status (BadFraction place) = 2
-fault_status (TooLong place) = 2
-fault_status other = 1
+-- the exit status of a capture's fault
+abbrev pub fault_status : Fault → Status
+fault_status Device = Failed
+fault_status (TornRecord place) = Damaged
+fault_status (BadFraction place) = Damaged
+fault_status (TooLong place) = Damaged
+fault_status other = Refused
 
 -- a line feed
 abbrev pub end_of_line : List ℕ
@@ -57,7 +59,7 @@ abbrev pub output_line : {A : Type 0} → Result A Error → List ℕ
 output_line (Ok done) = []
 output_line (Err error) = if is_unread (error_kind error) then [] else told_line (codes "Device standard output")
 
--- the exit status of printing: 3 where the writer failed
-abbrev pub print_status_of : {A E : Type 0} → Result A E → ℕ
-print_status_of (Ok done) = 0
-print_status_of (Err fault) = 3
+-- the exit status of printing
+abbrev pub print_status_of : {A E : Type 0} → Result A E → Status
+print_status_of (Ok done) = Clean
+print_status_of (Err fault) = Failed

@@ -8,6 +8,7 @@ pub mod fields;
 pub mod line;
 pub mod sending;
 pub mod snapshot;
+pub mod status;
 pub mod telling;
 pub mod time;
 
@@ -15,3 +16,4 @@ pub use capture_fault::CaptureFaultText;
 pub use fault::LineFault;
 pub use line::Line;
 pub use snapshot::{MAX_SNAP, meant};
+pub use status::Status;

@@ -1,31 +1,24 @@
-//! What the program tells on standard error, and the exit statuses.
+//! What the program reports on standard error, and the exit status that goes with it.
 
-ghost use Rattle.std.specs.Prelude.{◌≡◌, ◌≤◌, ◌⊎◌, OnOk, OnErr, IfOk, IfSome};
+ghost use Rattle.std.specs.Prelude.{◌≡◌, IfOk, IfSome};
 ghost use Rattle.cli_text.specs.Sending.{Takes};
+ghost use Rattle.cli_text.specs.declared.status.Status.TheVariants.{Failed, Refused};
 ghost use Rattle.cli_text.specs.Telling.{fault_status, is_unread, output_line, print_status_of, told_line};
 
 use crate::line::Line;
 use crate::sending::send;
+use crate::status::Status;
 use savefile::Fault;
 use std::fmt::{Display, Formatter};
 use std::io::{ErrorKind, Write};
 use std::{fmt, io};
 
-/// The exit status of wrong words, a refusal and want of memory.
-pub const REFUSED: u8 = 1;
-
-/// The exit status of a torn or bad record, after the packets before it.
-pub const BAD_RECORD: u8 = 2;
-
-/// The exit status of a failed device.
-pub const DEVICE: u8 = 3;
-
 /// What a command came to.
 #[derive(Debug, Drop)]
-pub struct Ended {
+pub struct Outcome {
     /// The exit status.
-    pub status: u8,
-    /// Whether standard error took what was told.
+    pub status: Status,
+    /// Whether standard error took what was reported.
     pub told: io::Result<()>,
 }
 
@@ -49,7 +42,7 @@ pub fn tell_line<E: Write, D: Display + Drop>(fault: D, err: &mut E) -> io::Resu
 
 /// Tells a fault in a line of its own, whatever its length, and gives the status back. Where standard error itself fails, the
 /// status is all that is left to tell.
-pub fn tell_fault<E: Write, D: Display + Drop>(fault: D, status: u8, err: &mut E) -> u8
+pub fn tell_fault<E: Write, D: Display + Drop>(fault: D, status: Status, err: &mut E) -> Status
     ensures { result ≡ status }
 {
     let _ = match line_of(&fault) {
@@ -60,17 +53,17 @@ pub fn tell_fault<E: Write, D: Display + Drop>(fault: D, status: u8, err: &mut E
 }
 
 /// Tells why the words of the command line could not be taken.
-pub fn tell_words<E: Write>(error: io::Error, err: &mut E) -> u8
-    ensures { result ≡ REFUSED }
+pub fn tell_words<E: Write>(error: io::Error, err: &mut E) -> Status
+    ensures { result ≡ Refused }
 {
     match error.kind() {
-        ErrorKind::OutOfMemory => tell_fault(Fault::NoMemory, REFUSED, err),
+        ErrorKind::OutOfMemory => tell_fault(Fault::NoMemory, Status::Refused, err),
         ErrorKind::InvalidData => tell_fault(
             "a word of the command line is not UTF-8",
-            REFUSED,
+            Status::Refused,
             err,
         ),
-        _ => tell_fault(error, REFUSED, err),
+        _ => tell_fault(error, Status::Refused, err),
     }
 }
 
@@ -92,45 +85,42 @@ impl Display for Path<'_> {
 }
 
 /// Tells that the file or device of a path failed.
-pub fn tell_device<E: Write>(path: &str, err: &mut E) -> u8
-    ensures { result ≡ DEVICE }
+pub fn tell_device<E: Write>(path: &str, err: &mut E) -> Status
+    ensures { result ≡ Failed }
 {
-    tell_fault(format_args!("Device {}", Path(path)), DEVICE, err)
+    tell_fault(format_args!("Device {}", Path(path)), Status::Failed, err)
 }
 
 /// Tells that standard output failed, if it did, and answers the exit status. Where nobody reads what is printed any more, as
 /// behind `| head`, there is nobody to tell it to either.
-pub fn tell_written<E: Write>(written: io::Result<()>, err: &mut E) -> u8
-    ensures clean { OnOk written (result ≡ 0) }
-    ensures failed { OnErr written (result ≡ DEVICE) }
-    ensures status { (result ≡ 0) ⊎ (result ≡ REFUSED) ⊎ (result ≡ DEVICE) }
-    ensures bound { result ≤ 3 }
+pub fn tell_written<E: Write>(written: io::Result<()>, err: &mut E) -> Status
+    ensures { result ≡ print_status_of written }
 {
     match written {
-        Ok(()) => 0,
-        Err(error) if error.kind() == ErrorKind::BrokenPipe => DEVICE,
+        Ok(()) => Status::Clean,
+        Err(error) if error.kind() == ErrorKind::BrokenPipe => Status::Failed,
         Err(_) => tell_device("standard output", err),
     }
 }
 
 /// The exit status of a fault.
-pub fn fault_status(fault: Fault) -> u8
+pub fn fault_status(fault: Fault) -> Status
     ensures { result ≡ fault_status fault }
 {
     match fault {
-        Fault::Device => DEVICE,
-        Fault::TornRecord(_) | Fault::BadFraction(_) | Fault::TooLong(_) => BAD_RECORD,
-        _ => REFUSED,
+        Fault::Device => Status::Failed,
+        Fault::TornRecord(_) | Fault::BadFraction(_) | Fault::TooLong(_) => Status::Damaged,
+        _ => Status::Refused,
     }
 }
 
 /// The exit status of printing.
-pub fn print_status(printed: &io::Result<()>) -> u8
+pub fn print_status(printed: &io::Result<()>) -> Status
     ensures { result ≡ print_status_of printed.now }
 {
     match printed {
-        Ok(()) => 0,
-        Err(_) => DEVICE,
+        Ok(()) => Status::Clean,
+        Err(_) => Status::Failed,
     }
 }
 

@@ -1,0 +1,20 @@
+-- Exit statuses.
+use Rattle.std.specs.Prelude.{ℕ}
+use Rattle.cli_text.specs.declared.status.Status.{Status}
+use Rattle.cli_text.specs.declared.status.Status.TheVariants.{Clean, Refused, Damaged, Failed}
+
+-- the number that a process ends with
+abbrev pub code : Status → ℕ
+code Clean = 0
+code Refused = 1
+code Damaged = 2
+code Failed = 3
+
+-- where several statuses apply, the greatest does
+abbrev pub greater : Status → Status → Status
+greater Failed other = Failed
+greater Damaged Failed = Failed
+greater Damaged other = Damaged
+greater Refused Clean = Refused
+greater Refused other = other
+greater Clean other = other
