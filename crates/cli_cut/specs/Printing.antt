@@ -11,10 +11,10 @@ use Rattle.filtergen.specs.declared.expression.ExpressionFault.TheVariants as fa
 use Rattle.filtergen.specs.Expressions.{IsProgramOf, IsUncompiled}
 use Rattle.cli_text.specs.Sending.{TakesPart}
 use Rattle.cli_text.specs.Telling.{end_of_line}
-use Rattle.cli_cut.specs.declared.check.Form.{Form}
-use Rattle.cli_cut.specs.declared.check.Form.TheVariants as forms
-use Rattle.cli_cut.specs.declared.check.PrintFault.{PrintFault}
-use Rattle.cli_cut.specs.declared.check.PrintFault.TheVariants as print
+use Rattle.cli_cut.specs.declared.print.Form.{Form}
+use Rattle.cli_cut.specs.declared.print.Form.TheVariants as forms
+use Rattle.cli_cut.specs.declared.print.PrintFault.{PrintFault}
+use Rattle.cli_cut.specs.declared.print.PrintFault.TheVariants as print
 
 -- what is printed of an expression: the listing of its program at the largest snapshot length
 abbrev pub Prints : Option (List ℕ) → Option (List ℕ) → List ℕ → Type 0

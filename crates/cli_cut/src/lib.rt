@@ -1,7 +1,9 @@
 //! `bpftap cut` and `bpftap check`.
 #![tactic(auto)]
 
-pub mod check;
-pub mod check_files;
-pub mod cut_files;
-pub mod tell;
+pub mod command;
+mod hints;
+mod paths;
+mod plan;
+pub mod print;
+pub mod report;

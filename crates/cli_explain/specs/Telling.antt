@@ -1,22 +1,25 @@
 -- The exit statuses.
-use Rattle.std.specs.Prelude.{ℕ, Bool, true, false, Result, Ok, Err}
+use Rattle.std.specs.Prelude.{Bool, true, false, Result, Ok, Err}
 use Rattle.savefile.specs.declared.fault.Fault.{Fault}
+use Rattle.cli_text.specs.declared.status.Status.{Status}
+use Rattle.cli_text.specs.declared.status.Status.TheVariants.{Clean, Refused, Failed}
 use Rattle.cli_text.specs.Telling.{fault_status}
 use Rattle.cli_explain.specs.declared.each.Unprinted.{Unprinted}
 use Rattle.cli_explain.specs.declared.each.Unprinted.TheVariants.{NoMemory, Output}
 
--- 3 where the writer failed, 1 where memory was wanting
-abbrev pub printed_status : {A : Type 0} → Result A Unprinted → ℕ
-printed_status (Ok done) = 0
-printed_status (Err NoMemory) = 1
-printed_status (Err (Output error)) = 3
+-- of what was printed
+abbrev pub printed_status : {A : Type 0} → Result A Unprinted → Status
+printed_status (Ok done) = Clean
+printed_status (Err NoMemory) = Refused
+printed_status (Err (Output error)) = Failed
 
-abbrev pub read_status : {A : Type 0} → Result A Fault → ℕ
-read_status (Ok done) = 0
+-- of what was read
+abbrev pub read_status : {A : Type 0} → Result A Fault → Status
+read_status (Ok done) = Clean
 read_status (Err fault) = fault_status fault
 
--- 1 where the capture has no packet at the place
-abbrev pub found_status : Result Bool Fault → ℕ
-found_status (Ok true) = 0
-found_status (Ok false) = 1
+-- of the packet that was looked for: the capture may have none at its place
+abbrev pub found_status : Result Bool Fault → Status
+found_status (Ok true) = Clean
+found_status (Ok false) = Refused
 found_status (Err fault) = fault_status fault

@@ -1,11 +1,10 @@
 //! The capture that a command reads.
 
-ghost use Rattle.std.specs.Prelude.{IfErr};
-
 use crate::reading::tell_io;
 use crate::retried::Retried;
 use cli_report::noted::NotedInput;
 use cli_report::{Noted, TakesHints};
+use cli_text::Status;
 use savefile::Counted;
 use std::fs;
 use std::fs::Files;
@@ -15,8 +14,7 @@ pub fn open_input<R: Files, E: TakesHints>(
     rt: &R,
     path: &str,
     err: &mut E,
-) -> Result<NotedInput<Retried<R::File>>, Status>
-{
+) -> Result<NotedInput<Retried<R::File>>, Status> {
     match fs::open(rt, path) {
         Ok(input) => Ok(Counted::new(Noted::new(Retried::new(input)))),
         Err(error) => Err(tell_io(&error, path, err)),

@@ -1,8 +1,6 @@
 //! Which paths are one file. It is looked at before a file is opened for writing, so that nothing that is read is lost and no
 //! two captures go into one file.
 
-ghost use Rattle.std.specs.Prelude.{IfErr};
-
 use crate::reading::tell_io;
 use cli_report::TakesHints;
 use cli_text::Status;
@@ -239,11 +237,14 @@ impl<'a> Taken<'a> {
 }
 
 /// Tells why files are refused, and answers the exit status.
-fn tell_path<E: TakesHints>(fault: &PathFault<'_>, err: &mut E) -> Status
-{
+fn tell_path<E: TakesHints>(fault: &PathFault<'_>, err: &mut E) -> Status {
     match fault {
         PathFault::Same(path) => {
-            tell_fault(format_args!("SameFile {}", Path(*path)), Status::Refused, err)
+            tell_fault(
+                format_args!("SameFile {}", Path(*path)),
+                Status::Refused,
+                err,
+            )
         }
         PathFault::Untold(path, error) => tell_io(error, path, err),
         PathFault::NoMemory => tell_fault(Fault::NoMemory, Status::Refused, err),
@@ -262,8 +263,7 @@ pub fn all_apart<R: Files + AllocGlobal, E: TakesHints>(
     read: &[&str],
     written: &[&str],
     err: &mut E,
-) -> Result<(), Status>
-{
+) -> Result<(), Status> {
     let mut taken = Taken::new(rt.alloc());
     if let Err(fault) = taken.add_read(rt, standard_output, read) {
         return Err(tell_path(&fault, err));

@@ -1,7 +1,5 @@
 //! What is told of files that can't be read.
 
-ghost use Rattle.std.specs.Prelude.{IfErr};
-
 use cli_report::TakesHints;
 use cli_report::files::hint_reason;
 use cli_text::Status;
@@ -12,8 +10,7 @@ use std::io::ErrorKind;
 use std::{fs, io};
 
 /// Tells that a file could not be opened or read, or that memory was refused.
-pub fn tell_io<E: TakesHints>(error: &io::Error, path: &str, err: &mut E) -> Status
-{
+pub fn tell_io<E: TakesHints>(error: &io::Error, path: &str, err: &mut E) -> Status {
     if error.kind() == ErrorKind::OutOfMemory {
         tell_fault(Fault::NoMemory, Status::Refused, err)
     } else {
@@ -28,8 +25,7 @@ pub fn read_file<R: Files + AllocGlobal, E: TakesHints>(
     rt: &R,
     path: &str,
     err: &mut E,
-) -> Result<Vec<u8>, Status>
-{
+) -> Result<Vec<u8>, Status> {
     match fs::read(rt, path) {
         Ok(text) => Ok(text),
         Err(error) => Err(tell_io(&error, path, err)),

@@ -1,6 +1,7 @@
 //! The filters of the commands, each of a listing's file or of an expression, and what is told where there is none.
 
 ghost use Rattle.std.specs.Prelude.{◌≡◌, false, Ok, IfErr, IfOk, IsErr};
+ghost use Rattle.cli_text.specs.declared.status.Status.TheVariants.{Refused};
 
 use crate::program::{FilterFault, filter};
 use crate::tell::tell_filter;
@@ -63,8 +64,7 @@ pub fn program_of_file<R: Files + AllocGlobal, E: TakesHints>(
     rt: &R,
     path: &str,
     err: &mut E,
-) -> Result<Program, Status>
-{
+) -> Result<Program, Status> {
     let listing = read_file(rt, path, err)?;
     let listing = Some(listing.as_slice());
     told_filter(listing, None, filter(rt.alloc(), listing, None, 0), err)
@@ -76,7 +76,6 @@ pub fn program_of_expression<R: AllocGlobal, E: TakesHints>(
     expr: Option<&str>,
     snap: u32,
     err: &mut E,
-) -> Result<Program, Status>
-{
+) -> Result<Program, Status> {
     told_filter(None, expr, filter(rt.alloc(), None, expr, snap), err)
 }

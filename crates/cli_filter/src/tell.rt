@@ -1,6 +1,7 @@
 //! Why there is no filter, as it is told.
 
 ghost use Rattle.std.specs.Prelude.{◌≡◌, Ok, IfOk, IfErr, IsErr};
+ghost use Rattle.cli_text.specs.declared.status.Status.TheVariants.{Refused};
 
 use crate::program::FilterFault;
 use bpfvm::Program;

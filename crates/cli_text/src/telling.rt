@@ -91,15 +91,15 @@ pub fn tell_device<E: Write>(path: &str, err: &mut E) -> Status
     tell_fault(format_args!("Device {}", Path(path)), Status::Failed, err)
 }
 
-/// Tells that standard output failed, if it did, and answers the exit status. Where nobody reads what is printed any more, as
-/// behind `| head`, there is nobody to tell it to either.
-pub fn tell_written<E: Write>(written: io::Result<()>, err: &mut E) -> Status
-    ensures { result ≡ print_status_of written }
+/// Reports that standard output failed, and answers the exit status. If nobody reads what is printed any more, as after `| head`,
+/// nothing is reported.
+pub fn report_unwritten<E: Write>(error: &io::Error, err: &mut E) -> Status
+    ensures { result ≡ Failed }
 {
-    match written {
-        Ok(()) => Status::Clean,
-        Err(error) if error.kind() == ErrorKind::BrokenPipe => Status::Failed,
-        Err(_) => tell_device("standard output", err),
+    if is_unread(error.kind()) {
+        Status::Failed
+    } else {
+        tell_device("standard output", err)
     }
 }
 
@@ -111,6 +111,16 @@ pub fn fault_status(fault: Fault) -> Status
         Fault::Device => Status::Failed,
         Fault::TornRecord(_) | Fault::BadFraction(_) | Fault::TooLong(_) => Status::Damaged,
         _ => Status::Refused,
+    }
+}
+
+/// Reports the fault of the capture at a path: a failed device by the path, any other one by its name. It answers the exit status.
+pub fn report_at<E: Write>(fault: Fault, path: &str, err: &mut E) -> Status
+    ensures { result ≡ fault_status fault }
+{
+    match fault {
+        Fault::Device => tell_device(path, err),
+        _ => tell_fault(fault, fault_status(fault), err),
     }
 }
 

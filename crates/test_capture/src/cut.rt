@@ -3,7 +3,7 @@
 use crate::same::{same, same_in};
 use crate::split::text_of;
 use bpfvm::Program;
-use cli_cut::tell::tell;
+use cli_cut::report::tell;
 use cli_filter::filter;
 use pcap_cut::cut::{CutEnd, End, Tally, cut};
 use savefile::{Counted, Fault, Order, Unit};

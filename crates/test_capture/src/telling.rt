@@ -1,8 +1,8 @@
 //! How lines go out, and what is told of words that cannot be taken.
 
 use crate::same::same;
-use cli_cut::check::check;
-use cli_cut::tell::tell_print;
+use cli_cut::print::check;
+use cli_cut::report::tell_print;
 use cli_text::telling::{REFUSED, tell_device, tell_fault, tell_words};
 use std::io;
 use std::io::{ErrorKind, Write};

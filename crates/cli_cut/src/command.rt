@@ -1,0 +1,148 @@
+//! `bpftap cut` and `bpftap check`, over files.
+
+use crate::hints::{hint_cut, hint_print};
+use crate::paths::{late_output, open_apart};
+use crate::plan::{read_filter, read_program};
+use crate::print::{Form, PrintFault, check, show, show_read};
+use crate::report::{report_count, report_cut, report_print};
+use bpfvm::Program;
+use cli_args::check::CheckWords;
+use cli_args::command_line::CutWords;
+use cli_files::late::LateFile;
+use cli_files::retried::Retried;
+use cli_report::TakesHints;
+use cli_report::noted::{NotedInput, NotedOutput};
+use cli_text::{MAX_SNAP, Status};
+use pcap_cut::cut::{CutEnd, End, cut};
+use savefile::{Counted, Fault};
+use std::alloc::Global;
+use std::fs::Files;
+use std::io::{Read, Write};
+
+/// What a cut needs: its filter, IN, and OUT.
+struct Job<I, O> {
+    program: Program,
+    input: I,
+    output: O,
+}
+
+/// The job of a cut over files.
+type FileJob<'r, 'p, R> = Job<
+    NotedInput<Retried<<R as Files>::File>>,
+    NotedOutput<LateFile<'r, 'p, R>>,
+>;
+
+/// Accepts the filter, compares the paths, and opens IN, in this order.
+fn prepare<'r, 'p, R: Files + AllocGlobal, E: TakesHints>(
+    rt: &'r R,
+    words: &CutWords<'p>,
+    err: &mut E,
+) -> Result<FileJob<'r, 'p, R>, Status> {
+    let program = read_filter(rt, words, err)?;
+    let input = open_apart(rt, words, err)?;
+    let output = late_output(rt, words.output, err)?;
+    Ok(Job {
+        program,
+        input,
+        output,
+    })
+}
+
+/// Empties the buffer in front of OUT. What fails only now is a fault of OUT too, and goes before a torn record.
+fn flush<R, W: Write>(mut end: CutEnd<R, Counted<W>>) -> CutEnd<R, Counted<W>> {
+    if end.sink.inner.flush().is_err() {
+        end.end = End::Output(Fault::Device);
+    }
+    end
+}
+
+/// Cuts IN, and reports how that ended.
+fn cut_and_report<R: Read + Drop, W: Write + Drop, E: TakesHints>(
+    alloc: Global,
+    words: &CutWords<'_>,
+    job: Job<NotedInput<R>, NotedOutput<W>>,
+    err: &mut E,
+) -> Status {
+    let Job {
+        program,
+        input,
+        output,
+    } = job;
+    let end = cut(
+        alloc,
+        input,
+        &program,
+        words.snap,
+        words.order,
+        words.unit,
+        output,
+    );
+    let end = flush(end);
+    let status = report_cut(&end, words.input, words.output, err);
+    if words.counted {
+        let _ = report_count(&end, err);
+    }
+    hint_cut(&end, err);
+    status
+}
+
+/// `bpftap cut`: the filter is accepted, and the paths are compared, before IN is opened. OUT is made at its first write.
+pub fn cut_command<R: Files + AllocGlobal, E: TakesHints>(
+    rt: &R,
+    words: &CutWords<'_>,
+    err: &mut E,
+) -> Status {
+    match prepare(rt, words, err) {
+        Ok(job) => cut_and_report(rt.alloc(), words, job, err),
+        Err(status) => status,
+    }
+}
+
+/// Prints a program in the form that is asked for.
+fn print_program<R: Files + AllocGlobal, O: Write, E: TakesHints>(
+    rt: &R,
+    words: &CheckWords<'_>,
+    out: &mut O,
+    err: &mut E,
+) -> Result<Result<(), PrintFault>, Status> {
+    let form = if words.named {
+        Form::Image
+    } else {
+        Form::Listing
+    };
+    let program = read_program(rt, words, err)?;
+    Ok(show(rt.alloc(), &program, form, out))
+}
+
+/// Prints what is asked for: the expression as it was read, its listing, or a program in some form.
+fn print<R: Files + AllocGlobal, O: Write, E: TakesHints>(
+    rt: &R,
+    words: &CheckWords<'_>,
+    out: &mut O,
+    err: &mut E,
+) -> Result<Result<(), PrintFault>, Status> {
+    match (words.expr, words.read) {
+        (Some(expr), true) => Ok(show_read(rt.alloc(), expr, out)),
+        (Some(expr), false) if !words.named && words.snap == MAX_SNAP => {
+            Ok(check(rt.alloc(), expr, out))
+        }
+        _ => print_program(rt, words, out, err),
+    }
+}
+
+/// `bpftap check`: prints the program of an expression or of a listing's file, or the expression as it was read.
+pub fn check_command<R: Files + AllocGlobal, O: Write, E: TakesHints>(
+    rt: &R,
+    words: &CheckWords<'_>,
+    out: &mut O,
+    err: &mut E,
+) -> Status {
+    match print(rt, words, out, err) {
+        Ok(printed) => {
+            let status = report_print(&printed, err);
+            hint_print(words.expr.unwrap_or(""), &printed, err);
+            status
+        }
+        Err(status) => status,
+    }
+}

@@ -1,0 +1,30 @@
+//! Hints on a cut or a print that failed.
+
+use crate::print::PrintFault;
+use cli_filter::hint_expression;
+use cli_report::TakesHints;
+use cli_report::failures::{hint_failure, hint_input, hint_unprinted};
+use cli_report::noted::{NotedInput, NotedOutput};
+use pcap_cut::cut::{CutEnd, End};
+use std::io::Write;
+
+/// Hints on how a cut ended.
+pub(crate) fn hint_cut<R, W: Write + Drop, E: TakesHints>(
+    end: &CutEnd<NotedInput<R>, NotedOutput<W>>,
+    err: &mut E,
+) {
+    match end.end {
+        End::Clean => {}
+        End::Input(fault) => hint_input(&end.source, fault, err),
+        End::Output(_) => hint_failure(end.sink.inner.get_ref(), err),
+    }
+}
+
+/// Hints on why the program of an expression was not printed.
+pub(crate) fn hint_print<E: TakesHints>(expr: &str, printed: &Result<(), PrintFault>, err: &mut E) {
+    match printed {
+        Err(PrintFault::Expression(fault)) => hint_expression(expr, *fault, err),
+        Err(PrintFault::Output(error)) => hint_unprinted(error, err),
+        _ => {}
+    }
+}

@@ -1,0 +1,42 @@
+//! The files of a cut.
+
+use cli_args::command_line::CutWords;
+use cli_files::late::LateFile;
+use cli_files::opening::open_input;
+use cli_files::paths::all_apart;
+use cli_files::reading::tell_io;
+use cli_files::retried::Retried;
+use cli_report::noted::{NotedInput, NotedOutput};
+use cli_report::{Noted, TakesHints};
+use cli_text::Status;
+use savefile::Counted;
+use std::fs::Files;
+use std::io::BufWriter;
+
+/// How many bytes of output are gathered before they are written.
+const OUTPUT_BUFFER: usize = 1 << 18;
+
+/// Opens IN, once no file can be lost: OUT is neither of the files that are read, nor the one that standard error goes to.
+pub(crate) fn open_apart<R: Files + AllocGlobal, E: TakesHints>(
+    rt: &R,
+    words: &CutWords<'_>,
+    err: &mut E,
+) -> Result<NotedInput<Retried<R::File>>, Status> {
+    let listing = words.listing.unwrap_or(words.input);
+    let read = [listing, words.input];
+    all_apart(rt, None, &read, &[words.output], err)?;
+    open_input(rt, words.input, err)
+}
+
+/// OUT, which is made at its first write.
+pub(crate) fn late_output<'r, 'p, R: Files + AllocGlobal, E: TakesHints>(
+    rt: &'r R,
+    path: &'p str,
+    err: &mut E,
+) -> Result<NotedOutput<LateFile<'r, 'p, R>>, Status> {
+    let late = Noted::new(LateFile::new(rt, path));
+    match BufWriter::with_capacity(rt.alloc(), OUTPUT_BUFFER, late) {
+        Ok(output) => Ok(Counted::new(output)),
+        Err(error) => Err(tell_io(&error, path, err)),
+    }
+}

@@ -1,0 +1,86 @@
+//! How a cut or a print ended, as it is reported, and its exit status.
+
+ghost use Rattle.std.specs.Prelude.{◌≡◌, IfOk};
+ghost use Rattle.cli_text.specs.Sending.{Takes};
+ghost use Rattle.cli_text.specs.Status.{code};
+ghost use Rattle.cli_cut.specs.Telling.{count_told, is_counted, print_status, status_of, tally_line};
+
+use crate::print::PrintFault;
+use cli_text::sending::send;
+use cli_text::telling::{fault_status, report_at, report_unwritten, tell_fault};
+use cli_text::{Line, Status};
+use pcap_cut::cut::{CutEnd, End, Tally};
+use savefile::Fault;
+use std::io;
+use std::io::Write;
+
+/// Reports how a cut from one path to another ended, and answers the exit status.
+pub fn report_cut<R, W, E: Write>(end: &CutEnd<R, W>, from: &str, to: &str, err: &mut E) -> Status
+    ensures { result ≡ status_of end.now.end }
+{
+    match end.end {
+        End::Clean => Status::Clean,
+        End::Input(fault) => report_at(fault, from, err),
+        End::Output(fault) => report_at(fault, to, err),
+    }
+}
+
+/// [`report_cut`], with the exit status as a number.
+pub fn tell<R, W, E: Write>(end: &CutEnd<R, W>, from: &str, to: &str, err: &mut E) -> u8
+    ensures { result ≡ code (status_of end.now.end) }
+{
+    report_cut(end, from, to, err).code()
+}
+
+/// Whether what OUT has is known by packets: the capture was read to its end or to a torn or bad record, and all was written.
+fn is_counted(end: End) -> bool
+    ensures { result ≡ is_counted end }
+{
+    match end {
+        End::Clean => true,
+        End::Input(fault) => fault_status(fault) == Status::Damaged,
+        End::Output(_) => false,
+    }
+}
+
+/// The line of a tally.
+#[tactic(auto, unfolding(crate::specs::Telling::tally_line))]
+fn tally_line(tally: Tally) -> io::Result<Line>
+    ensures { IfOk result (λ line. line ≡ tally_line tally) }
+{
+    let mut line = Line::new();
+    writeln!(line, "{} of {} packets", tally.written, tally.read)?;
+    Ok(line)
+}
+
+/// Reports a tally.
+fn report_tally<E: Write>(tally: Tally, err: &mut E) -> io::Result<()>
+    ensures { Takes (E.contents err.old) (E.contents err.new) result (tally_line tally) }
+{
+    let line = tally_line(tally)?;
+    send(line.as_bytes(), err)
+}
+
+/// Reports how many packets were written of how many, where the capture was read to its end or to a torn or bad record, and all
+/// was written: a line `67 of 253 packets`. Else nothing is reported. The fault is that of standard error, which took a beginning of
+/// the line.
+pub fn report_count<R, W, E: Write>(end: &CutEnd<R, W>, err: &mut E) -> io::Result<()>
+    ensures { Takes (E.contents err.old) (E.contents err.new) result (count_told end.now.end end.now.tally) }
+{
+    if is_counted(end.end) {
+        report_tally(end.tally, err)
+    } else {
+        Ok(())
+    }
+}
+
+/// Reports why a program was not printed, if it was not, and answers the exit status.
+pub fn report_print<E: Write>(printed: &Result<(), PrintFault>, err: &mut E) -> Status
+    ensures { result ≡ print_status printed.now }
+{
+    match printed {
+        Ok(()) => Status::Clean,
+        Err(PrintFault::Output(error)) => report_unwritten(error, err),
+        Err(fault) => tell_fault(fault, Status::Refused, err),
+    }
+}
