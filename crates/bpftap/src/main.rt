@@ -25,5 +25,5 @@ fn main(rt: HostRuntime) -> ExitCode {
         }
         Err(error) => tell_words(error, &mut err),
     };
-    ExitCode::from(status)
+    ExitCode::from(status.code())
 }
