@@ -2,8 +2,9 @@
 
 use crate::same::same;
 use cli_cut::print::check;
-use cli_cut::report::tell_print;
-use cli_text::telling::{REFUSED, tell_device, tell_fault, tell_words};
+use cli_cut::report::report_print;
+use cli_text::Status;
+use cli_text::telling::{tell_device, tell_fault, tell_words};
 use std::io;
 use std::io::{ErrorKind, Write};
 use std::process::Abort;
@@ -38,8 +39,8 @@ fn leaves_the_status(rt: &(impl Abort + AllocGlobal), room: usize) {
     let checked = check(rt.alloc(), "tcp and 80", &mut out);
     same(
         rt,
-        (room, tell_print(checked, &mut err), out.len()),
-        (room, 1, 0),
+        (room, report_print(&checked, &mut err), out.len()),
+        (room, Status::Refused, 0),
     );
 }
 
@@ -56,9 +57,13 @@ fn go_out(rt: &impl Abort, path: &str) {
         room: 1024,
         calls: 0,
     };
-    same(rt, tell_fault("TornRecord 1", 2, &mut err), 2);
-    same(rt, tell_device("in.pcap", &mut err), 3);
-    same(rt, tell_device(path, &mut err), 3);
+    same(
+        rt,
+        tell_fault("TornRecord 1", Status::Damaged, &mut err),
+        Status::Damaged,
+    );
+    same(rt, tell_device("in.pcap", &mut err), Status::Failed);
+    same(rt, tell_device(path, &mut err), Status::Failed);
     same(rt, err.calls, 3);
 }
 
@@ -73,6 +78,6 @@ fn a_line_goes_out_in_one_write(rt: HostRuntime) {
 fn words_that_cannot_be_taken_are_told(rt: HostRuntime) {
     let mut err: Vec<u8> = Vec::new(rt.alloc());
     let refused = io::Error::from(ErrorKind::OutOfMemory);
-    same(&rt, tell_words(refused, &mut err), REFUSED);
+    same(&rt, tell_words(refused, &mut err), Status::Refused);
     same(&rt, err.as_slice(), b"bpftap: NoMemory\n".as_slice());
 }
