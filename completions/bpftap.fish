@@ -14,37 +14,37 @@ complete -c bpftap -n __fish_use_subcommand -a help -d 'Print help of a command'
 
 complete -c bpftap -n '__fish_seen_subcommand_from help' -a 'check explain cut split steps run'
 
-complete -c bpftap -n '__fish_seen_subcommand_from check' -s d -d 'Print instructions by their names'
-complete -c bpftap -n '__fish_seen_subcommand_from check' -s x -d 'Print the expression as it was read'
-complete -c bpftap -n '__fish_seen_subcommand_from check' -s s -x -d 'Snapshot length that the program answers'
-complete -c bpftap -n '__fish_seen_subcommand_from check' -s f -r -F -d 'Filter program'
-complete -c bpftap -n '__fish_seen_subcommand_from check' -s h -l help -d 'Print help'
+complete -c bpftap -n '__fish_seen_subcommand_from check; and not __fish_seen_subcommand_from help' -s d -d 'Print instructions by their names'
+complete -c bpftap -n '__fish_seen_subcommand_from check; and not __fish_seen_subcommand_from help' -s x -d 'Print the expression as it was read'
+complete -c bpftap -n '__fish_seen_subcommand_from check; and not __fish_seen_subcommand_from help' -s s -x -d 'Snapshot length that the program answers'
+complete -c bpftap -n '__fish_seen_subcommand_from check; and not __fish_seen_subcommand_from help' -s f -r -F -d 'Filter program'
+complete -c bpftap -n '__fish_seen_subcommand_from check; and not __fish_seen_subcommand_from help' -s h -l help -d 'Print help'
 
-complete -c bpftap -n '__fish_seen_subcommand_from explain' -F
-complete -c bpftap -n '__fish_seen_subcommand_from explain' -s s -x -d 'Snapshot length that the program answers'
-complete -c bpftap -n '__fish_seen_subcommand_from explain' -s e -x -d 'Filter expression'
-complete -c bpftap -n '__fish_seen_subcommand_from explain' -s f -r -F -d 'Filter program'
-complete -c bpftap -n '__fish_seen_subcommand_from explain' -s p -x -d 'Tell this packet alone, in full'
-complete -c bpftap -n '__fish_seen_subcommand_from explain' -s h -l help -d 'Print help'
+complete -c bpftap -n '__fish_seen_subcommand_from explain; and not __fish_seen_subcommand_from help' -F
+complete -c bpftap -n '__fish_seen_subcommand_from explain; and not __fish_seen_subcommand_from help' -s s -x -d 'Snapshot length that the program answers'
+complete -c bpftap -n '__fish_seen_subcommand_from explain; and not __fish_seen_subcommand_from help' -s e -x -d 'Filter expression'
+complete -c bpftap -n '__fish_seen_subcommand_from explain; and not __fish_seen_subcommand_from help' -s f -r -F -d 'Filter program'
+complete -c bpftap -n '__fish_seen_subcommand_from explain; and not __fish_seen_subcommand_from help' -s p -x -d 'Tell this packet alone, in full'
+complete -c bpftap -n '__fish_seen_subcommand_from explain; and not __fish_seen_subcommand_from help' -s h -l help -d 'Print help'
 
-complete -c bpftap -n '__fish_seen_subcommand_from cut' -F
-complete -c bpftap -n '__fish_seen_subcommand_from cut' -s s -x -d 'Keep at most so many bytes of a packet; 0 means 262144'
-complete -c bpftap -n '__fish_seen_subcommand_from cut' -s e -x -d 'Filter expression'
-complete -c bpftap -n '__fish_seen_subcommand_from cut' -s f -r -F -d 'Filter program'
-complete -c bpftap -n '__fish_seen_subcommand_from cut' -s o -x -a 'little big' -d 'Byte order of OUT'
-complete -c bpftap -n '__fish_seen_subcommand_from cut' -s u -x -a 'micro nano' -d 'Unit of the time stamps of OUT'
-complete -c bpftap -n '__fish_seen_subcommand_from cut' -s c -d 'Tell how many packets were written'
-complete -c bpftap -n '__fish_seen_subcommand_from cut' -s h -l help -d 'Print help'
+complete -c bpftap -n '__fish_seen_subcommand_from cut; and not __fish_seen_subcommand_from help' -F
+complete -c bpftap -n '__fish_seen_subcommand_from cut; and not __fish_seen_subcommand_from help' -s s -x -d 'Keep at most so many bytes of a packet; 0 means 262144'
+complete -c bpftap -n '__fish_seen_subcommand_from cut; and not __fish_seen_subcommand_from help' -s e -x -d 'Filter expression'
+complete -c bpftap -n '__fish_seen_subcommand_from cut; and not __fish_seen_subcommand_from help' -s f -r -F -d 'Filter program'
+complete -c bpftap -n '__fish_seen_subcommand_from cut; and not __fish_seen_subcommand_from help' -s o -x -a 'little big' -d 'Byte order of OUT'
+complete -c bpftap -n '__fish_seen_subcommand_from cut; and not __fish_seen_subcommand_from help' -s u -x -a 'micro nano' -d 'Unit of the time stamps of OUT'
+complete -c bpftap -n '__fish_seen_subcommand_from cut; and not __fish_seen_subcommand_from help' -s c -d 'Tell how many packets were written'
+complete -c bpftap -n '__fish_seen_subcommand_from cut; and not __fish_seen_subcommand_from help' -s h -l help -d 'Print help'
 
-complete -c bpftap -n '__fish_seen_subcommand_from split' -F
-complete -c bpftap -n '__fish_seen_subcommand_from split' -s o -x -a 'little big' -d 'Byte order of each OUT'
-complete -c bpftap -n '__fish_seen_subcommand_from split' -s u -x -a 'micro nano' -d 'Unit of the time stamps of each OUT'
-complete -c bpftap -n '__fish_seen_subcommand_from split' -s h -l help -d 'Print help'
+complete -c bpftap -n '__fish_seen_subcommand_from split; and not __fish_seen_subcommand_from help' -F
+complete -c bpftap -n '__fish_seen_subcommand_from split; and not __fish_seen_subcommand_from help' -s o -x -a 'little big' -d 'Byte order of each OUT'
+complete -c bpftap -n '__fish_seen_subcommand_from split; and not __fish_seen_subcommand_from help' -s u -x -a 'micro nano' -d 'Unit of the time stamps of each OUT'
+complete -c bpftap -n '__fish_seen_subcommand_from split; and not __fish_seen_subcommand_from help' -s h -l help -d 'Print help'
 
-complete -c bpftap -n '__fish_seen_subcommand_from steps' -F
-complete -c bpftap -n '__fish_seen_subcommand_from steps' -s v -d 'Print the answers first, and why'
-complete -c bpftap -n '__fish_seen_subcommand_from steps' -s p -r -F -d 'Draw what each step found'
-complete -c bpftap -n '__fish_seen_subcommand_from steps' -s h -l help -d 'Print help'
+complete -c bpftap -n '__fish_seen_subcommand_from steps; and not __fish_seen_subcommand_from help' -F
+complete -c bpftap -n '__fish_seen_subcommand_from steps; and not __fish_seen_subcommand_from help' -s v -d 'Print the answers first, and why'
+complete -c bpftap -n '__fish_seen_subcommand_from steps; and not __fish_seen_subcommand_from help' -s p -r -F -d 'Draw what each step found'
+complete -c bpftap -n '__fish_seen_subcommand_from steps; and not __fish_seen_subcommand_from help' -s h -l help -d 'Print help'
 
-complete -c bpftap -n '__fish_seen_subcommand_from run' -F
-complete -c bpftap -n '__fish_seen_subcommand_from run' -s h -l help -d 'Print help'
+complete -c bpftap -n '__fish_seen_subcommand_from run; and not __fish_seen_subcommand_from help' -F
+complete -c bpftap -n '__fish_seen_subcommand_from run; and not __fish_seen_subcommand_from help' -s h -l help -d 'Print help'

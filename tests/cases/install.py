@@ -67,6 +67,19 @@ def files_are_put_under_the_prefix(scene):
 
 
 @case
+def zsh_is_pointed_to_its_completions(scene):
+    """If there is a zsh, `install` says which folder its fpath needs, but not for a prefix of the system's."""
+    source, shells = source_in(scene), scene.folder / "shells"
+    shells.mkdir()
+    (shells / "zsh").write_text("#!/bin/sh\n")
+    (shells / "zsh").chmod(0o755)
+    prefix = scene.folder / "own"
+    seen = install(scene, source, str(prefix), path=f"{shells}:{prefix}/bin:/usr/bin:/bin")
+    reported = f"install: for zsh, put fpath+=({prefix}/share/zsh/site-functions) before compinit in ~/.zshrc\n"
+    scene.check("reported", (seen.err, seen.status), (reported.encode(), 0))
+
+
+@case
 def files_are_put_again(scene):
     """A second call, with a prefix that is not absolute, replaces what stands there, a link too; nothing is told where the PATH has it."""
     source = source_in(scene)

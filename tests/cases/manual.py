@@ -127,7 +127,7 @@ def options_offered(shell, command):
     if shell == "bash":
         return offered(*([command] if command else []), "-")
     if shell == "fish":
-        place = f"'__fish_seen_subcommand_from {command}'" if command else "__fish_use_subcommand"
+        place = f"'__fish_seen_subcommand_from {command}; and not __fish_seen_subcommand_from help'" if command else "__fish_use_subcommand"
         lines = (ROOT / "completions" / "bpftap.fish").read_text().splitlines()
         of_place = "\n".join(line for line in lines if f"-n {place} " in line)
         return [f"-{name}" for name in re.findall(r" -s (\w)", of_place)] + [
