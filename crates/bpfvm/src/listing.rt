@@ -93,7 +93,7 @@ struct Listed {
 
 /// Appends an instruction where there is room for it.
 fn keep(kept: &mut ArrayVec<Insn, MAX_INSNS>, insn: Insn)
-    ensures { (insns : List Insn) → kept.old.items ≡ take 512 insns → kept.new.items ≡ take 512 (insns ++ insn ∷ []) }
+    ensures { (insns : List Insn) → kept.old.items ≡ take MAX_INSNS insns → kept.new.items ≡ take MAX_INSNS (insns ++ insn ∷ []) }
 {
     if !kept.is_full() {
         kept.push(insn);
@@ -103,7 +103,7 @@ fn keep(kept: &mut ArrayVec<Insn, MAX_INSNS>, insn: Insn)
 /// Reads further lines. Where one is no instruction, the error is how many stand before it.
 fn read_lines(text: &[u8]) -> Result<Listed, usize>
     ensures ok { IfOk result (λ listed. (insns : List Insn) × AreLines (further_lines text.now) insns
-        × (listed.count ≡ length insns) × (listed.insns.items ≡ take 512 insns)) }
+        × (listed.count ≡ length insns) × (listed.insns.items ≡ take MAX_INSNS insns)) }
     ensures bad { IfErr result (StopsAfter (further_lines text.now)) }
     ensures small { IfErr result (λ good. good ≤ length text.now) }
 {

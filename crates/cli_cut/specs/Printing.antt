@@ -4,6 +4,7 @@ use Rattle.std.specs.Io.KnownBytes.{Appends, Keeps}
 use Rattle.bpfvm.specs.declared.insn.Insn.{Insn}
 use Rattle.bpfvm.specs.Listing.{listing_of}
 use Rattle.bpfvm.specs.Images.{image_of}
+use Rattle.savefile.specs.declared.record.TheConstants.{MAX_SNAP}
 use Rattle.filterlang.specs.Texts.{ReadsAs, IsRefusalOf}
 use Rattle.filterlang.specs.Trees.{Tree}
 use Rattle.filter_print.specs.Canonical.{canonical}
@@ -18,7 +19,7 @@ use Rattle.cli_cut.specs.declared.print.PrintFault.TheVariants as print
 
 -- what is printed of an expression: the listing of its program at the largest snapshot length
 abbrev pub Prints : Option (List ℕ) → Option (List ℕ) → List ℕ → Type 0
-Prints old new text = (program : List Insn) × IsProgramOf text 262144 program × Appends old new (listing_of program)
+Prints old new text = (program : List Insn) × IsProgramOf text MAX_SNAP program × Appends old new (listing_of program)
 
 -- what is printed of an expression as it was read: the canonical text of the tree that it reads as, on a line
 abbrev pub PrintsRead : Option (List ℕ) → Option (List ℕ) → List ℕ → Type 0
@@ -50,8 +51,8 @@ IsUnshown old new form program fault = IsUnprinted old new (program_text form pr
 -- Why the listing of an expression's program is not printed: the expression has none, and nothing was taken; or it has one, which
 -- is not printed.
 abbrev pub IsUnchecked : Option (List ℕ) → Option (List ℕ) → List ℕ → PrintFault → Type 0
-IsUnchecked old new text (print.Expression fault) = IsUncompiled text 262144 fault × Keeps old new
-IsUnchecked old new text fault = (program : List Insn) × IsProgramOf text 262144 program × IsUnshown old new forms.Listing program fault
+IsUnchecked old new text (print.Expression fault) = IsUncompiled text MAX_SNAP fault × Keeps old new
+IsUnchecked old new text fault = (program : List Insn) × IsProgramOf text MAX_SNAP program × IsUnshown old new forms.Listing program fault
 
 -- the writer failed, and took a beginning of a text
 abbrev pub IsPart : Option (List ℕ) → Option (List ℕ) → List ℕ → PrintFault → Type 0

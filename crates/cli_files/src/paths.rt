@@ -19,7 +19,7 @@ pub const STANDARD_OUTPUT: &str = "/dev/stdout";
 const STANDARD_ERROR: &str = "/dev/stderr";
 
 /// The system follows no more symbolic links than these.
-const MOST_LINKS: usize = 40;
+const MAX_LINKS: usize = 40;
 
 /// The system's error where a folder may not be entered.
 const NO_ACCESS: i32 = 13;
@@ -119,7 +119,7 @@ fn link_target<R: Files + AllocGlobal>(rt: &R, path: &str) -> io::Result<Option<
 /// Where a file would be made by a path at which none stands: a symbolic link at its end is followed.
 fn new_file<R: Files + AllocGlobal>(rt: &R, path: &str) -> io::Result<Option<Target>> {
     let mut path = String::from_str(rt.alloc(), path)?;
-    for _ in 0..MOST_LINKS {
+    for _ in 0..MAX_LINKS {
         match link_target(rt, path.as_str())? {
             Some(target) => path = target,
             None => return in_folder(rt, path.as_str()),

@@ -12,7 +12,7 @@ use cli_run_texts::tally::Output;
 use cli_text::LineFault;
 use filterlang::Fault;
 use listener::OpenFault;
-use replay_types::{InterfaceEnd, InterfaceReport, ListenerReport, MOST_SPARES, RunFault, TaskEnd};
+use replay_types::{InterfaceEnd, InterfaceReport, ListenerReport, MAX_SPARES, RunFault, TaskEnd};
 use std::alloc::Global;
 use std::io::Write;
 
@@ -72,9 +72,9 @@ pub(crate) fn hint_unopened<E: TakesHints>(
         .filter(|line| line.interface == interface as usize)
         .nth(listener as usize);
     if let Some(line) = found {
-        if line.spares < 1 || line.spares > MOST_SPARES {
+        if line.spares < 1 || line.spares > MAX_SPARES {
             give_hint(
-                format_args!("SPARES is 1 to {MOST_SPARES}, and not {}", line.spares),
+                format_args!("SPARES is 1 to {MAX_SPARES}, and not {}", line.spares),
                 err,
             );
         } else {

@@ -6,13 +6,13 @@ ghost use Rattle.cli_run_texts.specs.Listeners.{AreFields, IsRunLine, AreRunLine
 use cli_text::LineFault;
 use cli_text::fields::{capacity_and_mode, first_line, number, snapshot_length, split_once};
 use listener::Mode;
-use replay_types::{MOST_INTERFACES, MOST_TASKS};
+use replay_types::{MAX_INTERFACES, MAX_TASKS};
 use std::alloc::Global;
 use std::collections::BTreeSet;
 use std::str;
 
 /// The most lines that a replay takes: so many interfaces, each with so many listeners.
-pub const MOST_LINES: usize = MOST_INTERFACES * MOST_TASKS;
+pub const MAX_LINES: usize = MAX_INTERFACES * MAX_TASKS;
 
 /// The listener that a line asks for.
 #[derive(Clone, Copy, Debug)]
@@ -112,7 +112,7 @@ fn line_of(line: &[u8], interfaces: usize) -> Option<RunLine<'_>>
 /// of the line; where it is empty the space before it may be missing. Both are UTF-8.
 ///
 /// The listeners are those of the lines, in order; or else [`LineFault::Listeners`] names the first line, from 1, that has not this
-/// form, or has the OUT of an earlier line. [`LineFault::NoMemory`] alone may come besides. Of the lines beyond [`MOST_LINES`]
+/// form, or has the OUT of an earlier line. [`LineFault::NoMemory`] alone may come besides. Of the lines beyond [`MAX_LINES`]
 /// one is kept, so that their number is seen to be too large, and of each further one its OUT.
 pub fn read_run_lines(
     alloc: Global,
@@ -135,7 +135,7 @@ pub fn read_run_lines(
         if !outputs.insert(asked.output)? {
             return Err(LineFault::Listeners(number));
         }
-        if lines.len() <= MOST_LINES {
+        if lines.len() <= MAX_LINES {
             lines.push(asked)?;
         }
         rest = after;

@@ -19,7 +19,7 @@ use savefile::Fault;
 use std::alloc::{AllocError, Global};
 use std::fs::Files;
 use std::io::{BufWriter, Write};
-use tap::MOST_CAPTURES;
+use tap::MAX_CAPTURES;
 
 /// How many bytes of output are gathered before they are written.
 const OUTPUT_BUFFER: usize = 1 << 16;
@@ -61,7 +61,7 @@ fn looked_at<R: Files + AllocGlobal, E: TakesHints>(
 ) -> Result<(), u8>
     ensures { IfErr result (λ status. status ≤ 3) }
 {
-    if words.inputs.len() > MOST_CAPTURES {
+    if words.inputs.len() > MAX_CAPTURES {
         let _ = tell_line(FaultText(tap::Fault::TooMany), err);
         return Err(REFUSED);
     }

@@ -8,7 +8,7 @@ use cli_text::LineFault;
 use cli_text::fields::{capacity_and_mode, first_line, snapshot_length, split_once};
 use std::alloc::{AllocError, Global};
 use std::str;
-use tap_steps::{Filter, MOST_LISTENERS, Spec};
+use tap_steps::{Filter, MAX_LISTENERS, Spec};
 
 /// What stands before the first space, between it and the second, and behind that.
 fn fields(line: &[u8]) -> Option<(&[u8], &[u8], &[u8])>
@@ -48,12 +48,12 @@ fn spec_of(alloc: Global, line: &[u8]) -> Result<Option<Spec>, AllocError>
 }
 
 /// How many listeners are kept at most: one more than a replay takes, so that it is seen that there are too many.
-pub const MOST_KEPT: usize = MOST_LISTENERS + 1;
+pub const MAX_KEPT: usize = MAX_LISTENERS + 1;
 
 /// Reads the file LISTENERS, a listener on each line: `SNAP CAPACITY EXPRESSION`.
 ///
 /// CAPACITY may have an `i` behind its digits, for the mode Immediate. Where EXPRESSION is empty the space before it may be
-/// missing. The listeners are those of the lines, in order, but at most [`MOST_KEPT`], 65: of each further line nothing is kept,
+/// missing. The listeners are those of the lines, in order, but at most [`MAX_KEPT`], 65: of each further line nothing is kept,
 /// it is looked at alone. Or else [`LineFault::Listeners`] names the first line, from 1, that has not this form.
 pub fn read_listeners(alloc: Global, text: &[u8]) -> Result<Vec<Spec>, LineFault>
     ensures ok { IfOk result (λ specs. AreFirstOf text.now specs.items) }
@@ -68,7 +68,7 @@ pub fn read_listeners(alloc: Global, text: &[u8]) -> Result<Vec<Spec>, LineFault
         let Some(spec) = spec_of(alloc, line)? else {
             return Err(LineFault::Listeners(number));
         };
-        if specs.len() < MOST_KEPT {
+        if specs.len() < MAX_KEPT {
             specs.push(spec)?;
         }
         rest = after;

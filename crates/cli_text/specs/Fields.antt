@@ -3,15 +3,16 @@ use Rattle.std.specs.Prelude.{◌≡◌, ◌≢◌, ℕ, ◌-◌, ◌^◌, List,
 use Rattle.bpfvm.specs.Listing.{space, IsNumber}
 use Rattle.listener.specs.declared.mode.Mode.{Mode}
 use Rattle.listener.specs.declared.mode.Mode.TheVariants.{Buffered, Immediate}
+use Rattle.savefile.specs.declared.record.TheConstants.{MAX_SNAP}
 use Rattle.cli_text.specs.Snapshot.{meant}
 
 -- a text without a space
 abbrev pub IsWord : List ℕ → Type 0
 IsWord text = All (λ byte. byte ≢ space) text
 
--- a decimal number up to 262,144, where 0 stands for the largest
+-- a decimal number up to MAX_SNAP, where 0 stands for the largest
 abbrev pub IsSnap : List ℕ → ℕ → Type 0
-IsSnap text snap = (n : ℕ) × IsNumber 262144 text n × (snap ≡ meant n)
+IsSnap text snap = (n : ℕ) × IsNumber MAX_SNAP text n × (snap ≡ meant n)
 
 -- a decimal number, and behind it an `i` for the mode Immediate
 abbrev pub IsCapacity : List ℕ → ℕ → Mode → Type 0

@@ -3,8 +3,7 @@
 ghost use Rattle.std.specs.Prelude.{◌≡◌};
 ghost use Rattle.cli_text.specs.Snapshot.{meant};
 
-/// The largest snapshot length, in bytes, which 0 stands for; libpcap's MAXIMUM_SNAPLEN.
-pub const MAX_SNAP: u32 = 262_144;
+pub use savefile::MAX_SNAP;
 
 /// The snapshot length that is meant: 0 stands for the largest.
 pub fn meant(snap: u32) -> u32

@@ -7,19 +7,20 @@ pub use Rattle.filtergen_facts.specs.Weights.{value_weight, weight, value_need, 
 use Rattle.filter_meaning.specs.Meaning.{Packet, HasBytes, accepts}
 use Rattle.filtergen_facts.specs.declared.refusal.Refusal.{Refusal}
 use Rattle.filtergen_facts.specs.declared.refusal.Refusal.TheVariants.{TooLong, TooDeep, BadSnap, NoMemory}
+use Rattle.savefile.specs.declared.record.TheConstants.{MAX_SNAP}
 
 -- on every packet the program answers snap exactly where the tree accepts it, and else 0
 abbrev pub StandsFor : List Insn → Tree → ℕ → Type 0
 StandsFor program t snap =
     (p : Packet) → HasBytes p → verdict program p.captured p.wire ≡ (if accepts t p then snap else 0)
 
--- a snapshot length is from 1 to 262,144
+-- a snapshot length is from 1 to MAX_SNAP
 abbrev pub IsBadSnap : ℕ → Type 0
-IsBadSnap snap = (snap ≡ 0) ⊎ (262144 < snap)
+IsBadSnap snap = (snap ≡ 0) ⊎ (MAX_SNAP < snap)
 
 -- and else it is right
 abbrev pub IsRightSnap : ℕ → Type 0
-IsRightSnap snap = (0 < snap) × (snap ≤ 262144)
+IsRightSnap snap = (0 < snap) × (snap ≤ MAX_SNAP)
 
 -- Why a tree is refused: the first that stands of a snapshot length out of range, more than the 16 cells of the scratch
 -- memory, and too great a weight.

@@ -4,6 +4,7 @@ use Rattle.bpfvm.specs.declared.insn.Insn.{Insn}
 use Rattle.bpfvm.specs.Codes.{Register, Comparison, Equal, Greater, GreaterOrEqual, AnyBit}
 use Rattle.bpfvm.specs.Validity.{fault_of}
 use Rattle.bpfvm.specs.Machine.{Registers, with_value, Goes, effect, answer, holds}
+use Rattle.filtergen_trim.specs.declared.unreached.TheConstants.{MAX_CODE}
 use Rattle.filtergen.specs.declared.code.Exits.{Exits}
 use Rattle.filtergen.specs.declared.code.Full.{Full}
 use Rattle.filtergen.specs.declared.insns.Jump.{Jump}
@@ -133,7 +134,7 @@ pub record Decides (most : ℕ) (test : Test) (exits : Exits) (entry : ℕ) (old
 
 -- a call is refused only where its code has no room
 abbrev pub OrFull : {X : Type 0} → ℕ → List Insn → Result X Full → (X → Type 0) → Type 0
-OrFull cost old result P = MatchResult result P (λ _. 552 < length old + cost)
+OrFull cost old result P = MatchResult result P (λ _. MAX_CODE < length old + cost)
 
 -- the answer of the run from the front on
 abbrev pub front : List Insn → Packet → Registers → ℕ

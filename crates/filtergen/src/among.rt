@@ -1,6 +1,7 @@
 //! Tests of whether a number is one of many. Code is written from its end: what is tested last comes first here.
 
 ghost use Rattle.std.specs.Prelude.{◌≡◌, ℕ, ◌+◌, ◌-◌, ◌*◌, ◌<◌, ◌≤◌, length, take, drop, bit_and, option_map};
+ghost use Rattle.filtergen_trim.specs.declared.unreached.TheConstants.{MAX_CODE};
 ghost use Rattle.bpfvm.specs.Machine.{Registers};
 ghost use Rattle.filter_meaning.specs.Meaning.{Packet, HasBytes, check, word, or_test, by_direction, has_port, bytes_of, accessed};
 ghost use Rattle.filtergen_facts.specs.Lists.{any_of, direction_of, in_span, has_tail};
@@ -69,7 +70,7 @@ impl Code {
 
     /// Loads the number at a spot.
     fn load_spot(&mut self, spot: Spot)
-        requires room { length self.old + 2 ≤ 552 }
+        requires room { length self.old + 2 ≤ MAX_CODE }
         ensures { LoadsSpot spot self.old self.new }
     {
         match spot {

@@ -3,6 +3,7 @@
 
 ghost use Rattle.std.specs.Prelude.{◌≡◌, ◌+◌, ◌≤◌, ◌⊎◌, true, Some, None, length, max};
 ghost use Rattle.std.specs.Bool.{OnTrue};
+ghost use Rattle.filtergen_trim.specs.declared.unreached.TheConstants.{MAX_CODE};
 ghost use Rattle.filter_tree.specs.declared.tree.Network.TheVariants as networks;
 ghost use Rattle.filter_tree.specs.Trees.{amount_of};
 ghost use Rattle.filtergen_facts.specs.Weights.{value_weight, value_need};
@@ -33,7 +34,7 @@ fn may_be_ip(network: Option<Network>) -> bool
 impl Code {
     /// IPv4, unless that is known, and behind it the test at a place, which is for a packet of IPv4.
     pub fn behind_ip_unless(&mut self, known: Known, inner: usize, ways: Ways) -> Way
-        requires room { length self.old + 4 ≤ 552 }
+        requires room { length self.old + 4 ≤ MAX_CODE }
         requires inner { IsPlace self.old inner }
         requires other { IsPlace self.old ways.no.other }
         ensures { GuardsIp known inner ways result self.old self.new }
@@ -55,7 +56,7 @@ impl Code {
     ) -> Way
         requires known { has_protocol known (protocol_number transport) ≡ true }
         requires asked { (asked ≡ None) ⊎ (asked ≡ Some transport) }
-        requires room { length self.old + 4 ≤ 552 }
+        requires room { length self.old + 4 ≤ MAX_CODE }
         requires first_fragment { IsPlace self.old first_fragment }
         requires ip { IsPlace self.old ways.no.ip }
         ensures { GuardsKnown known asked transport first_fragment ways result self.old self.new }
@@ -87,7 +88,7 @@ impl Code {
     ) -> Way
         requires known { has_protocol known (protocol_number transport) ≡ true }
         requires asked { (asked ≡ None) ⊎ (asked ≡ Some transport) }
-        requires room { length self.old + 19 ≤ 552 }
+        requires room { length self.old + 19 ≤ MAX_CODE }
         requires ways { AreWays self.old ways }
         ensures { DecidesBehind known 19 (has_any_ports asked direction low high) ways result self.old self.new }
     {
@@ -108,7 +109,7 @@ impl Code {
     ) -> Way
         requires known { has_type known 0x0800 ≡ true }
         requires network { (network ≡ None) ⊎ (network ≡ Some networks.Ip) }
-        requires room { length self.old + 10 ≤ 552 }
+        requires room { length self.old + 10 ≤ MAX_CODE }
         requires ways { AreWays self.old ways }
         ensures { DecidesBehind known 10 (in_any_net network direction address mask) ways result self.old self.new }
     {
@@ -118,7 +119,7 @@ impl Code {
 
     /// IPv4 with this protocol number.
     fn number_behind(&mut self, known: Known, number: u32, ways: Ways) -> Way
-        requires room { length self.old + 8 ≤ 552 }
+        requires room { length self.old + 8 ≤ MAX_CODE }
         requires ways { AreWays self.old ways }
         ensures { DecidesBehind known 8 (is_protocol number) ways result self.old self.new }
     {
@@ -134,7 +135,7 @@ impl Code {
 
     /// A protocol word.
     fn plain_behind(&mut self, known: Known, word: Plain, ways: Ways) -> Way
-        requires room { length self.old + plain_cost word ≤ 552 }
+        requires room { length self.old + plain_cost word ≤ MAX_CODE }
         requires ways { AreWays self.old ways }
         ensures { DecidesBehind known (plain_cost word) (plain_test word) ways result self.old self.new }
     {
@@ -194,7 +195,7 @@ impl Code {
 
     /// What is left of a primitive.
     pub fn primitive_behind(&mut self, known: Known, primitive: Primitive, ways: Ways) -> Way
-        requires room { length self.old + cost primitive ≤ 552 }
+        requires room { length self.old + cost primitive ≤ MAX_CODE }
         requires ways { AreWays self.old ways }
         ensures { DecidesBehind known (cost primitive) (primitive_test primitive) ways result self.old self.new }
     {

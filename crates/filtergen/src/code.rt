@@ -2,6 +2,7 @@
 
 ghost use Rattle.std.specs.Prelude.{◌≡◌, ℕ, ◌+◌, ◌-◌, ◌<◌, ◌≤◌, List, [], ◌∷◌, length, Some, None, reverse, bit_and, MatchResult, IfOk, IsErr, slice_get};
 ghost use Rattle.std.specs.Bool.{OnTrue};
+ghost use Rattle.bpfvm.specs.declared.program.TheConstants.{MAX_INSNS};
 ghost use Rattle.bpfvm.specs.declared.insn.Insn.{Insn};
 ghost use Rattle.bpfvm.specs.Validity.{fault_of};
 ghost use Rattle.bpfvm.specs.Machine.{holds, verdict};
@@ -79,7 +80,7 @@ impl Code {
     /// How many instructions there are, and so the place of the first one.
     pub fn len(&self) -> usize
         ensures value { result ≡ length self.now }
-        ensures within { result ≤ 552 }
+        ensures within { result ≤ MAX_CODE }
     {
         self.insns.len()
     }
@@ -87,7 +88,7 @@ impl Code {
     /// Whether there is room for so many more instructions.
     pub fn room(&self, more: usize) -> Result<(), Full>
         requires { more ≤ 40 }
-        ensures { MatchResult result (λ _. length self.now + more ≤ 552) (λ _. 552 < length self.now + more) }
+        ensures { MatchResult result (λ _. length self.now + more ≤ MAX_CODE) (λ _. MAX_CODE < length self.now + more) }
     {
         if self.len() + more <= MAX_CODE {
             Ok(())
@@ -98,7 +99,7 @@ impl Code {
 
     /// Puts an instruction in front.
     pub fn push(&mut self, insn: Insn)
-        requires room { length self.old < 552 }
+        requires room { length self.old < MAX_CODE }
         requires sound { fault_of (length self.old + 1) 0 insn ≡ None }
         ensures { self.new ≡ insn ∷ self.old }
     {
@@ -107,7 +108,7 @@ impl Code {
 
     /// Puts an instruction in front that is sound wherever it stands.
     pub fn put(&mut self, code: u16, k: u32)
-        requires room { length self.old < 552 }
+        requires room { length self.old < MAX_CODE }
         requires sound { fault_of 1 0 (plain_insn code k) ≡ None }
         ensures { self.new ≡ plain_insn code k ∷ self.old }
     {
@@ -130,7 +131,7 @@ impl Code {
     /// The place, or where it is farther than reach one that goes on as it does: that of an equal return in reach, or else of an
     /// instruction that is put in front.
     pub fn near(&mut self, place: usize, reach: usize) -> usize
-        requires room { length self.old < 552 }
+        requires room { length self.old < MAX_CODE }
         requires place { IsPlace self.old place }
         ensures { Nears place reach result self.old self.new }
     {
@@ -146,7 +147,7 @@ impl Code {
 
     /// Goes to an exit by a comparison of the accumulator.
     pub fn branch(&mut self, jump: Jump, operand: Operand, exits: Exits)
-        requires room { length self.old + 3 ≤ 552 }
+        requires room { length self.old + 3 ≤ MAX_CODE }
         requires exits { AreExits self.old exits }
         ensures { Chooses 3 (condition jump operand) exits self.old self.new }
     {
@@ -165,7 +166,7 @@ impl Code {
 
     /// Goes to an exit by whether the accumulator is from low to high.
     pub fn branch_within(&mut self, low: u32, high: u32, exits: Exits)
-        requires room { length self.old + 6 ≤ 552 }
+        requires room { length self.old + 6 ≤ MAX_CODE }
         requires exits { AreExits self.old exits }
         ensures { Chooses 6 (λ r. within low high r.accumulator) exits self.old self.new }
     {
@@ -288,7 +289,7 @@ impl Code {
     /// Goes to an exit by a comparison of a number of the packet. An exit that begins with the same load is passed: the
     /// number is still in the accumulator.
     pub fn test(&mut self, field: Field, jump: Jump, value: u32, exits: Exits) -> usize
-        requires room { length self.old + 4 ≤ 552 }
+        requires room { length self.old + 4 ≤ MAX_CODE }
         requires exits { AreExits self.old exits }
         ensures { Decides 4 (λ p. check (λ n. holds (comparison_of jump) n value) (field_of field p)) exits result
             self.old self.new }
@@ -302,7 +303,7 @@ impl Code {
 
     /// Goes to an exit by whether the bits of a number under a mask are these.
     pub fn masked_test(&mut self, field: Field, mask: u32, bits: u32, exits: Exits) -> usize
-        requires room { length self.old + 5 ≤ 552 }
+        requires room { length self.old + 5 ≤ MAX_CODE }
         requires exits { AreExits self.old exits }
         ensures { Decides 5 (λ p. check (λ n. holds (comparison_of Jump.Equal) (bit_and n mask) bits) (field_of field p)) exits
             result self.old self.new }
@@ -317,7 +318,7 @@ impl Code {
     pub fn into_program(mut self) -> Result<Program, Full>
         ensures same { IfOk result (λ program. (packet : List ℕ) (wire : ℕ) → verdict program packet wire ≡ verdict self packet wire) }
         ensures reached { IfOk result IsAllReached }
-        ensures full { IsErr result → 512 < length self }
+        ensures full { IsErr result → MAX_INSNS < length self }
     {
         self.insns.reverse();
         let reached = without_unreached(self.insns.as_slice());

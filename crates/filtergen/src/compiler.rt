@@ -1,6 +1,7 @@
 //! Expressions to programs.
 
 ghost use Rattle.std.specs.Prelude.{◌≡◌, ◌≢◌, ◌↔◌, ◌⊎◌, ℕ, ◌+◌, ◌<◌, ◌≤◌, All, length, Some, None, Err, IfOk, IsErr, MatchOption};
+ghost use Rattle.bpfvm.specs.declared.program.TheConstants.{MAX_INSNS};
 ghost use Rattle.filter_tree.specs.Trees.{tree_of};
 ghost use Rattle.filter_meaning.specs.Meaning.{primitive_test, meaning};
 ghost use Rattle.filtergen_facts.specs.Weights.{weight, need};
@@ -21,9 +22,7 @@ use filter_tree::{Expr, Primitive};
 use filtergen_facts::{
     Chain, Form, Group, Known, MAX_NEED, Member, Neighbours, Others, Refusal, need,
 };
-
-/// The largest snapshot length.
-pub const MAX_SNAP: u32 = 262_144;
+use savefile::MAX_SNAP;
 
 /// The code of an expression.
 #[derive(Clone, Copy)]
@@ -211,7 +210,7 @@ impl Code {
     ) -> Result<Emitted, Full>
         requires first { IsMember first }
         requires others { All IsMember others.old.members.items }
-        requires room { length others.old.members.items < 512 }
+        requires room { length others.old.members.items < MAX_INSNS }
         requires ways { AreWays self.old ways }
         ensures { OrFull (weighed first.kind.form 1 + members_weight others.old.members.items) self.old result (λ emitted.
             EmitsMembers known first others.old.members.items ways emitted.ways emitted.entry self.old self.new) }
@@ -405,7 +404,7 @@ pub fn compile(expr: &Expr, snap: u32) -> Result<Program, Refusal>
     ensures program { IfOk result (λ program. StandsFor program (tree_of expr.now) snap) }
     ensures reached { IfOk result IsAllReached }
     ensures bad_snap { (result ≡ Err Refusal.BadSnap) ↔ IsBadSnap snap }
-    ensures too_deep { (result ≡ Err Refusal.TooDeep) ↔ ((0 < snap) × (snap ≤ 262144) × (16 < need (tree_of expr.now))) }
+    ensures too_deep { (result ≡ Err Refusal.TooDeep) ↔ ((0 < snap) × (snap ≤ MAX_SNAP) × (16 < need (tree_of expr.now))) }
     ensures too_long { result ≡ Err Refusal.TooLong → 500 < weight (tree_of expr.now) }
     ensures no_memory { result ≢ Err Refusal.NoMemory }
 {

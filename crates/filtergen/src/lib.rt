@@ -19,7 +19,8 @@ mod relations;
 mod values;
 mod ways;
 
-pub use compiler::{MAX_SNAP, compile};
+pub use compiler::compile;
 pub use expression::{ExpressionFault, compile_text};
 pub use filter_meaning::{Verdict, evaluate, value_of};
 pub use filtergen_facts::{MAX_NEED, MAX_WEIGHT, Refusal, need, weight};
+pub use savefile::MAX_SNAP;

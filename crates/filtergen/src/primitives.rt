@@ -1,6 +1,7 @@
 //! The primitives. Code is written from its end: of two tests that follow each other, the second one comes first here.
 
 ghost use Rattle.std.specs.Prelude.{◌≡◌, ◌≢◌, ℕ, ◌+◌, ◌≤◌, ◌==◌, true, if◌then◌else◌, None, length};
+ghost use Rattle.filtergen_trim.specs.declared.unreached.TheConstants.{MAX_CODE};
 ghost use Rattle.filter_tree.specs.declared.tree.Primitive.TheVariants.{IpMulticast, Less};
 ghost use Rattle.filter_meaning.specs.Meaning.{check, byte, and_test, is_type, is_protocol, plain_test, by_direction, has_address, in_net, in_any_net, is_address, within, has_port, has_any_ports, protocol_number, primitive_test};
 ghost use Rattle.filtergen.specs.Insns.{plain_insn};
@@ -71,7 +72,7 @@ pub(crate) fn cost(primitive: Primitive) -> usize
 impl Code {
     /// The Ethernet type.
     pub fn ether_type(&mut self, number: u32, exits: Exits) -> usize
-        requires room { length self.old + 4 ≤ 552 }
+        requires room { length self.old + 4 ≤ MAX_CODE }
         requires exits { AreExits self.old exits }
         ensures { Decides 4 (is_type number) exits result self.old self.new }
     {
@@ -80,7 +81,7 @@ impl Code {
 
     /// The protocol number of IPv4.
     pub fn protocol_number(&mut self, number: u32, exits: Exits) -> usize
-        requires room { length self.old + 4 ≤ 552 }
+        requires room { length self.old + 4 ≤ MAX_CODE }
         requires exits { AreExits self.old exits }
         ensures { Decides 4 (λ p. check (λ b. b == number) (byte 23 p)) exits result self.old self.new }
     {
@@ -89,7 +90,7 @@ impl Code {
 
     /// IPv4, and behind it the test at a place, which is for a packet of IPv4; one of another type goes on at the other place.
     pub fn behind_ip(&mut self, inner: usize, other: usize) -> Way
-        requires room { length self.old + 4 ≤ 552 }
+        requires room { length self.old + 4 ≤ MAX_CODE }
         requires inner { IsPlace self.old inner }
         requires other { IsPlace self.old other }
         ensures test { Decides 4 (is_type 0x0800) (record { yes = inner; no = other }) result.any self.old self.new }
@@ -109,7 +110,7 @@ impl Code {
 
     /// Whether the packet is of another type than IPv4, which goes on at the other place. One of IPv4 goes on by its way.
     pub fn apart_from_ip(&mut self, of_ip: Way, other: usize) -> Way
-        requires room { length self.old + 4 ≤ 552 }
+        requires room { length self.old + 4 ≤ MAX_CODE }
         requires of_ip { IsPlace self.old of_ip.ip }
         requires other { IsPlace self.old other }
         ensures test { Decides 4 (is_type 0x0800) (record { yes = of_ip.ip; no = other }) result.any self.old self.new }
@@ -133,7 +134,7 @@ impl Code {
     /// An Ethernet type that is not that of IPv4. Where IPv4 goes on elsewhere than other types do, it is asked for first.
     fn other_type(&mut self, number: u32, ways: Ways) -> Way
         requires number { number ≢ 0x0800 }
-        requires room { length self.old + 8 ≤ 552 }
+        requires room { length self.old + 8 ≤ MAX_CODE }
         requires ways { AreWays self.old ways }
         ensures { DecidesBy 8 (is_type number) ways result self.old self.new }
     {
@@ -151,7 +152,7 @@ impl Code {
 
     /// An Ethernet type.
     fn type_of_any(&mut self, number: u32, ways: Ways) -> Way
-        requires room { length self.old + 8 ≤ 552 }
+        requires room { length self.old + 8 ≤ MAX_CODE }
         requires ways { AreWays self.old ways }
         ensures { DecidesBy 8 (is_type number) ways result self.old self.new }
     {
@@ -164,7 +165,7 @@ impl Code {
 
     /// IPv4 with this protocol number.
     pub fn ip_protocol(&mut self, number: u32, ways: Ways) -> Way
-        requires room { length self.old + 8 ≤ 552 }
+        requires room { length self.old + 8 ≤ MAX_CODE }
         requires ways { AreWays self.old ways }
         ensures { DecidesBy 8 (is_protocol number) ways result self.old self.new }
     {
@@ -174,7 +175,7 @@ impl Code {
 
     /// No later fragment of IPv4.
     pub fn unfragmented(&mut self, exits: Exits) -> usize
-        requires room { length self.old + 4 ≤ 552 }
+        requires room { length self.old + 4 ≤ MAX_CODE }
         requires exits { AreExits self.old exits }
         ensures { Decides 4 is_unfragmented exits result self.old self.new }
     {
@@ -183,7 +184,7 @@ impl Code {
 
     /// Whether the number that was loaded is the protocol number of TCP or UDP.
     fn branch_tcp_or_udp(&mut self, exits: Exits)
-        requires room { length self.old + 6 ≤ 552 }
+        requires room { length self.old + 6 ≤ MAX_CODE }
         requires exits { AreExits self.old exits }
         ensures { Chooses 6 (λ r. if r.accumulator == 6 then true else r.accumulator == 17) exits self.old self.new }
     {
@@ -198,7 +199,7 @@ impl Code {
 
     /// The protocol number of TCP or UDP: two comparisons of one byte. An exit that begins with the same load is passed.
     pub fn tcp_or_udp_number(&mut self, exits: Exits) -> usize
-        requires room { length self.old + 7 ≤ 552 }
+        requires room { length self.old + 7 ≤ MAX_CODE }
         requires exits { AreExits self.old exits }
         ensures { Decides 7 has_tcp_or_udp_number exits result self.old self.new }
     {
@@ -212,7 +213,7 @@ impl Code {
     /// A protocol number of IPv4 that has ports: three comparisons of one byte. An exit that begins with the same load is
     /// passed.
     fn port_number(&mut self, exits: Exits) -> usize
-        requires room { length self.old + 10 ≤ 552 }
+        requires room { length self.old + 10 ≤ MAX_CODE }
         requires exits { AreExits self.old exits }
         ensures { Decides 10 has_port_number exits result self.old self.new }
     {
@@ -228,7 +229,7 @@ impl Code {
     /// A port from low to high, so many bytes behind the header whose length the index register has.
     fn port(&mut self, offset: u32, low: u32, high: u32, exits: Exits) -> usize
         requires offset { offset ≤ 2 }
-        requires room { length self.old + 7 ≤ 552 }
+        requires room { length self.old + 7 ≤ MAX_CODE }
         requires exits { AreExits self.old exits }
         ensures { ChoosesBehind 6 (plain_insn 0x48 (14 + offset)) (λ r. within low high r.accumulator) exits result
             self.old self.new }
@@ -240,7 +241,7 @@ impl Code {
 
     /// The ports that a direction chooses. Those behind the header share its length in the index register.
     fn directed_ports(&mut self, direction: Direction, low: u32, high: u32, exits: Exits) -> usize
-        requires room { length self.old + 14 ≤ 552 }
+        requires room { length self.old + 14 ≤ MAX_CODE }
         requires exits { AreExits self.old exits }
         ensures test { Follows same_index 14
             (λ r. by_direction direction (port_behind r.index low high 0) (port_behind r.index low high 2)) exits result
@@ -286,7 +287,7 @@ impl Code {
         high: u32,
         exits: Exits,
     ) -> usize
-        requires room { length self.old + 15 ≤ 552 }
+        requires room { length self.old + 15 ≤ MAX_CODE }
         requires exits { AreExits self.old exits }
         ensures { Decides 15 (by_direction direction (has_port low high 0) (has_port low high 2)) exits result
             self.old self.new }
@@ -300,7 +301,7 @@ impl Code {
 
     /// The protocol number of IPv4 that is asked for. `None` is any that has ports.
     fn transport_number(&mut self, asked: Option<Transport>, exits: Exits) -> usize
-        requires room { length self.old + 10 ≤ 552 }
+        requires room { length self.old + 10 ≤ MAX_CODE }
         requires exits { AreExits self.old exits }
         ensures { Decides 10 (number_of asked) exits result self.old self.new }
     {
@@ -318,7 +319,7 @@ impl Code {
         first_fragment: usize,
         ways: Ways,
     ) -> Way
-        requires room { length self.old + 18 ≤ 552 }
+        requires room { length self.old + 18 ≤ MAX_CODE }
         requires first_fragment { IsPlace self.old first_fragment }
         requires ip { IsPlace self.old ways.no.ip }
         requires other { IsPlace self.old ways.no.other }
@@ -347,7 +348,7 @@ impl Code {
         high: u32,
         ways: Ways,
     ) -> Way
-        requires room { length self.old + 33 ≤ 552 }
+        requires room { length self.old + 33 ≤ MAX_CODE }
         requires ways { AreWays self.old ways }
         ensures { DecidesBy 33 (has_any_ports asked direction low high) ways result self.old self.new }
     {
@@ -358,7 +359,7 @@ impl Code {
 
     /// The bits of an IPv4 address under a mask. A mask of ones takes no instruction.
     fn address(&mut self, offset: u32, address: u32, mask: u32, exits: Exits) -> usize
-        requires room { length self.old + 5 ≤ 552 }
+        requires room { length self.old + 5 ≤ MAX_CODE }
         requires exits { AreExits self.old exits }
         ensures { Decides 5 (has_address address mask offset) exits result self.old self.new }
     {
@@ -372,7 +373,7 @@ impl Code {
     /// Six bytes that are an Ethernet address. The last four are tested first, so that a missing byte is met in any case.
     fn ethernet(&mut self, offset: u32, address: EthernetAddress, exits: Exits) -> usize
         requires offset { offset ≤ 40 }
-        requires room { length self.old + 8 ≤ 552 }
+        requires room { length self.old + 8 ≤ MAX_CODE }
         requires exits { AreExits self.old exits }
         ensures { Decides 8 (is_address address.octets offset) exits result self.old self.new }
     {
@@ -390,7 +391,7 @@ impl Code {
     /// The test of one side.
     fn side(&mut self, side: Side, exits: Exits) -> usize
         requires offset { side_offset side ≤ 40 }
-        requires room { length self.old + side_cost side ≤ 552 }
+        requires room { length self.old + side_cost side ≤ MAX_CODE }
         requires exits { AreExits self.old exits }
         ensures { Decides (side_cost side) (side_test side) exits result self.old self.new }
     {
@@ -414,7 +415,7 @@ impl Code {
     ) -> usize
         requires source { side_offset source ≤ 40 }
         requires destination { side_offset destination ≤ 40 }
-        requires room { length self.old + (side_cost destination + side_cost source) ≤ 552 }
+        requires room { length self.old + (side_cost destination + side_cost source) ≤ MAX_CODE }
         requires exits { AreExits self.old exits }
         ensures { Decides (side_cost destination + side_cost source)
             (by_direction direction (side_test source) (side_test destination)) exits result self.old self.new }
@@ -456,7 +457,7 @@ impl Code {
     ) -> usize
         requires source { offsets.0 ≤ 40 }
         requires destination { offsets.1 ≤ 40 }
-        requires room { length self.old + 10 ≤ 552 }
+        requires room { length self.old + 10 ≤ MAX_CODE }
         requires exits { AreExits self.old exits }
         ensures { Decides 10
             (by_direction direction (has_address address mask offsets.0) (has_address address mask offsets.1)) exits result
@@ -486,7 +487,7 @@ impl Code {
         mask: u32,
         ways: Ways,
     ) -> Way
-        requires room { length self.old + 14 ≤ 552 }
+        requires room { length self.old + 14 ≤ MAX_CODE }
         requires ways { AreWays self.old ways }
         ensures { DecidesBy 14 (and_test (is_type number)
             (by_direction direction (has_address address mask 28) (has_address address mask 38))) ways result
@@ -512,7 +513,7 @@ impl Code {
         mask: u32,
         ways: Ways,
     ) -> Way
-        requires room { length self.old + 14 ≤ 552 }
+        requires room { length self.old + 14 ≤ MAX_CODE }
         requires ways { AreWays self.old ways }
         ensures { DecidesBy 14 (in_net network direction address mask) ways result self.old self.new }
     {
@@ -528,7 +529,7 @@ impl Code {
 
     /// A host or a net of any protocol: three comparisons of one type. ARP and RARP have their addresses at the same places.
     fn any_net(&mut self, direction: Direction, address: u32, mask: u32, ways: Ways) -> Way
-        requires room { length self.old + 30 ≤ 552 }
+        requires room { length self.old + 30 ≤ MAX_CODE }
         requires ways { AreWays self.old ways }
         ensures { DecidesBy 30 (in_any_net None direction address mask) ways result self.old self.new }
     {
@@ -565,7 +566,7 @@ impl Code {
     /// A protocol word.
     #[tactic(auto, using(crate::proofs::Leading::decides_any))]
     pub fn plain(&mut self, word: Plain, ways: Ways) -> Way
-        requires room { length self.old + plain_cost word ≤ 552 }
+        requires room { length self.old + plain_cost word ≤ MAX_CODE }
         requires ways { AreWays self.old ways }
         ensures { DecidesBy (plain_cost word) (plain_test word) ways result self.old self.new }
     {
@@ -582,7 +583,7 @@ impl Code {
 
     /// An Ethernet host.
     fn ether_host(&mut self, direction: Direction, address: EthernetAddress, exits: Exits) -> usize
-        requires room { length self.old + 16 ≤ 552 }
+        requires room { length self.old + 16 ≤ MAX_CODE }
         requires exits { AreExits self.old exits }
         ensures { Decides 16 (by_direction direction (is_address address.octets 6) (is_address address.octets 0)) exits
             result self.old self.new }
@@ -594,7 +595,7 @@ impl Code {
 
     /// A multicast address of IPv4, from 224.0.0.0 on.
     fn ip_multicast(&mut self, ways: Ways) -> Way
-        requires room { length self.old + 8 ≤ 552 }
+        requires room { length self.old + 8 ≤ MAX_CODE }
         requires ways { AreWays self.old ways }
         ensures { DecidesBy 8 (primitive_test IpMulticast) ways result self.old self.new }
     {
@@ -604,7 +605,7 @@ impl Code {
 
     /// A wire length of at most so many bytes.
     fn less(&mut self, bytes: u32, exits: Exits) -> usize
-        requires room { length self.old + 4 ≤ 552 }
+        requires room { length self.old + 4 ≤ MAX_CODE }
         requires exits { AreExits self.old exits }
         ensures { Decides 4 (primitive_test (Less bytes)) exits result self.old self.new }
     {
@@ -614,7 +615,7 @@ impl Code {
     /// A primitive.
     #[tactic(auto, using(crate::proofs::Leading::decides_any))]
     pub fn primitive(&mut self, primitive: Primitive, ways: Ways) -> Way
-        requires room { length self.old + cost primitive ≤ 552 }
+        requires room { length self.old + cost primitive ≤ MAX_CODE }
         requires ways { AreWays self.old ways }
         ensures { DecidesBy (cost primitive) (primitive_test primitive) ways result self.old self.new }
     {

@@ -1,6 +1,7 @@
 //! Relations. Code is written from its end: of two tests that follow each other, the second one comes first here.
 
 ghost use Rattle.std.specs.Prelude.{◌≡◌, ◌+◌, ◌≤◌, length, max, bit_and, option_map, Some, IfSome};
+ghost use Rattle.filtergen_trim.specs.declared.unreached.TheConstants.{MAX_CODE};
 ghost use Rattle.filter_tree.specs.Trees.{amount_of};
 ghost use Rattle.filter_tree.specs.declared.tree.Comparison.TheVariants.{NotEqual};
 ghost use Rattle.filter_meaning.specs.Meaning.{Packet, value, compared, check, check_both};
@@ -39,7 +40,7 @@ fn masked(amount: &Value) -> Option<(&Value, u32)>
 impl Code {
     /// What is left of a test of the Ethernet type.
     fn rest_of_type(&mut self, known: Known, number: u32, exits: Exits) -> usize
-        requires room { length self.old + 4 ≤ 552 }
+        requires room { length self.old + 4 ≤ MAX_CODE }
         requires exits { AreExits self.old exits }
         ensures { Decides 4 (rest_of_type known number) exits result self.old self.new }
     {
@@ -51,7 +52,7 @@ impl Code {
 
     /// What is left of a test of IPv4 with this protocol number.
     fn rest_of_protocol(&mut self, known: Known, number: u32, exits: Exits) -> usize
-        requires room { length self.old + 8 ≤ 552 }
+        requires room { length self.old + 8 ≤ MAX_CODE }
         requires exits { AreExits self.old exits }
         ensures { Decides 8 (rest_of_protocol known number) exits result self.old self.new }
     {
@@ -68,7 +69,7 @@ impl Code {
 
     /// What is left of a test of the same, and of no later fragment.
     fn rest_of_first_fragment(&mut self, known: Known, number: u32, exits: Exits) -> usize
-        requires room { length self.old + 12 ≤ 552 }
+        requires room { length self.old + 12 ≤ MAX_CODE }
         requires exits { AreExits self.old exits }
         ensures { Decides 12 (rest_of_first_fragment known number) exits result self.old self.new }
     {
@@ -85,7 +86,7 @@ impl Code {
 
     /// What is left of a test, behind what is known.
     pub fn rest_of(&mut self, known: Known, fact: Known, exits: Exits) -> usize
-        requires room { length self.old + 12 ≤ 552 }
+        requires room { length self.old + 12 ≤ MAX_CODE }
         requires exits { AreExits self.old exits }
         ensures { Decides 12 (rest_of known fact) exits result self.old self.new }
     {
@@ -134,7 +135,7 @@ impl Code {
 
     /// Compares the accumulator with an operand.
     fn compare_with(&mut self, comparison: Comparison, operand: Operand, exits: Exits)
-        requires room { length self.old + 3 ≤ 552 }
+        requires room { length self.old + 3 ≤ MAX_CODE }
         requires exits { AreExits self.old exits }
         ensures { Chooses 3 (λ r. compared comparison r.accumulator (value_of operand r)) exits self.old self.new }
     {
@@ -150,7 +151,7 @@ impl Code {
 
     /// Compares a number of the packet with a constant. An exit that begins with the same load is passed.
     fn compare_field(&mut self, comparison: Comparison, field: Field, n: u32, exits: Exits) -> usize
-        requires room { length self.old + 4 ≤ 552 }
+        requires room { length self.old + 4 ≤ MAX_CODE }
         requires exits { AreExits self.old exits }
         ensures { Decides 4 (λ p. check (λ m. compared comparison m n) (field_of field p)) exits result self.old self.new }
     {

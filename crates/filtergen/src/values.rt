@@ -2,6 +2,7 @@
 
 ghost use Rattle.std.specs.Prelude.{◌≡◌, ℕ, ◌+◌, ◌<◌, ◌≤◌, ◌^◌, ◌∷◌, length, max, None, Some, IfSome};
 ghost use Rattle.std.specs.Bool.{OnTrue};
+ghost use Rattle.filtergen_trim.specs.declared.unreached.TheConstants.{MAX_CODE};
 ghost use Rattle.bpfvm.specs.Codes.{Accumulator, Index};
 ghost use Rattle.filter_tree.specs.Trees.{amount_of};
 ghost use Rattle.filter_meaning.specs.Meaning.{Packet, bytes_of, value};
@@ -134,7 +135,7 @@ impl Code {
     /// Loads a leaf into the accumulator.
     #[tactic(auto, unfolding(bpfvm::specs::Validity::fault_of, bpfvm::specs::Codes::operation_of))]
     fn load_leaf(&mut self, leaf: Leaf)
-        requires { length self.old < 552 }
+        requires { length self.old < MAX_CODE }
         ensures { Loads Accumulator (leaf_value leaf) self.old self.new }
     {
         match leaf {
@@ -146,7 +147,7 @@ impl Code {
     /// Loads a leaf into the index register.
     #[tactic(auto, unfolding(bpfvm::specs::Validity::fault_of, bpfvm::specs::Codes::operation_of))]
     fn index_leaf(&mut self, leaf: Leaf)
-        requires { length self.old < 552 }
+        requires { length self.old < MAX_CODE }
         ensures { Loads Index (leaf_value leaf) self.old self.new }
     {
         match leaf {
@@ -158,7 +159,7 @@ impl Code {
     /// Calculates with the accumulator and an operand.
     #[tactic(auto, using(crate::proofs::Growing::calculation_sound))]
     fn calculate(&mut self, operator: Operator, operand: Operand)
-        requires room { length self.old < 552 }
+        requires room { length self.old < MAX_CODE }
         requires operand { MayBeOperand operator operand }
         ensures { self.new ≡ calculation_insn operator operand ∷ self.old }
     {
@@ -168,7 +169,7 @@ impl Code {
     /// Reads bytes so many behind the accumulator.
     #[tactic(auto, unfolding(bpfvm::specs::Validity::fault_of, bpfvm::specs::Codes::operation_of))]
     fn indirect(&mut self, size: Size, offset: u32)
-        requires { length self.old + 2 ≤ 552 }
+        requires { length self.old + 2 ≤ MAX_CODE }
         ensures { self.new ≡ plain_insn 0x07 0 ∷ plain_insn (indirect_code size) offset ∷ self.old }
     {
         self.put(indirect_code(size), offset);
@@ -178,7 +179,7 @@ impl Code {
     /// Reads the bytes of an accessor, where the accumulator has its index.
     #[tactic(auto, unfolding(bpfvm::specs::Validity::fault_of, bpfvm::specs::Codes::operation_of))]
     fn access(&mut self, base: Base, size: Size)
-        requires { length self.old + 4 ≤ 552 }
+        requires { length self.old + 4 ≤ MAX_CODE }
         ensures { Applies 4 (read_from base (bytes_of size)) self.old self.new }
     {
         match base {
@@ -195,7 +196,7 @@ impl Code {
     /// Reads the bytes of an accessor, where its index is a number and no sum can wrap.
     #[tactic(auto, unfolding(bpfvm::specs::Validity::fault_of, bpfvm::specs::Codes::operation_of))]
     pub fn access_at(&mut self, base: Base, size: Size, index: u32)
-        requires room { length self.old + 2 ≤ 552 }
+        requires room { length self.old + 2 ≤ MAX_CODE }
         requires near { farthest base + index < 2 ^ 32 }
         ensures { (cell : ℕ) → Computes 2 (λ p. read_from base (bytes_of size) p index) cell self.old self.new }
     {

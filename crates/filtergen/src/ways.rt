@@ -2,6 +2,7 @@
 
 ghost use Rattle.std.specs.Prelude.{◌≡◌, ◌+◌, ◌≤◌, ◌⊎◌, length, None};
 ghost use Rattle.std.specs.Bool.{OnTrue};
+ghost use Rattle.filtergen_trim.specs.declared.unreached.TheConstants.{MAX_CODE};
 ghost use Rattle.filtergen.specs.Emission.{IsPlace, Extends};
 ghost use Rattle.filtergen.specs.Ways.{IsWay, AreWays, way_by, AreOther, past_way, Renews, RenewsBoth};
 
@@ -164,7 +165,7 @@ impl Code {
     /// The way, or one that leads on as it does, where a jump in front would not reach it: a jump goes in front of the place
     /// for any packet, which then also serves for the others that are too far.
     fn renew_one(&mut self, way: Way) -> Way
-        requires room { length self.old + 1 ≤ 552 }
+        requires room { length self.old + 1 ≤ MAX_CODE }
         requires way { IsWay self.old way }
         ensures extends { Extends 1 self.old self.new }
         ensures renews { Renews way result self.old self.new }
@@ -182,7 +183,7 @@ impl Code {
     /// The ways, or others that lead on as they do, where a jump in front would not reach them. All tests that come in front
     /// share these, so that a long chain takes few jumps more.
     pub fn renew(&mut self, ways: Ways) -> Ways
-        requires room { length self.old + 2 ≤ 552 }
+        requires room { length self.old + 2 ≤ MAX_CODE }
         requires ways { AreWays self.old ways }
         ensures extends { Extends 2 self.old self.new }
         ensures renews { RenewsBoth ways result self.old self.new }

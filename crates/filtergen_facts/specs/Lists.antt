@@ -1,6 +1,7 @@
 -- Lists: links of a chain of `or`, or negations in a chain of `and`, that differ in their numbers alone, wherever in it they stand.
 use Rattle.std.specs.Prelude.{◌≡◌, ℕ, ◌+◌, ◌*◌, ◌/◌, ◌%◌, ◌^◌, ◌≤◌, ◌<◌, ◌==◌, ◌&&◌, List, [], ◌∷◌, All, Contains, length, ◌⊎◌, Option, Some, None, MatchOption, bit_and}
 use Rattle.std.specs.List.{AllZip}
+use Rattle.bpfvm.specs.declared.program.TheConstants.{MAX_INSNS}
 use Rattle.filter_tree.specs.Trees.{Tree}
 use Rattle.filter_tree.specs.Trees as trees
 use Rattle.filter_tree.specs.declared.tree.Layer.TheVariants as layers
@@ -272,7 +273,7 @@ pub record EndsIn (chain : Chain) (t u : Tree) (left : Option Tree) (first : Mem
   pub weighs : left_weight left + (weighed first.kind.form 1 + members_weight others) ≤ weight t + weight u
   pub smaller : left_size left ≤ size t
   pub needs : left_need left ≤ need t
-  pub room : length others < 512
+  pub room : length others < MAX_INSNS
 
 -- a member alone is the primitive that is told of its kind
 abbrev pub IsAlone : Kind → Option Primitive → List Span → Type 0

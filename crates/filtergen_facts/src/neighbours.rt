@@ -14,7 +14,7 @@ use filter_tree::{Expr, Primitive};
 const LOOK_LEFT: u32 = 8;
 
 /// How many kinds the links of a list have at most, but for the first one. Members of each take room on the stack.
-const MOST_KINDS: usize = 8;
+const MAX_KINDS: usize = 8;
 
 /// Links at the right end of a chain. Behind the first of them, and behind what stands to the left of it, the others may be asked
 /// kind by kind: none of them aborts, or where those of one kind do, all of the others are No.
@@ -96,7 +96,7 @@ fn is_included(member: Member, kind: Kind, spans: &[Span]) -> bool
 }
 
 /// Whether a kind is one of these, which it becomes where there is room.
-fn is_counted(kinds: &mut ArrayVec<Kind, MOST_KINDS>, kind: Kind) -> bool {
+fn is_counted(kinds: &mut ArrayVec<Kind, MAX_KINDS>, kind: Kind) -> bool {
     for own in kinds.as_slice() {
         if kind.is(*own) {
             return true;
@@ -133,7 +133,7 @@ fn links(
     chain: Chain,
     expr: &Expr,
     kind: Kind,
-    kinds: &mut ArrayVec<Kind, MOST_KINDS>,
+    kinds: &mut ArrayVec<Kind, MAX_KINDS>,
     found: usize,
 ) -> usize {
     if found >= MAX_INSNS - 1 {
@@ -295,7 +295,7 @@ impl Others {
     /// Those of the kind of a member that is asked before them, with that one. They leave the others, without those that hold only where
     /// one of the kind does.
     fn alike(&mut self, first: Member) -> Group
-        requires room { length self.old.members.items < 512 }
+        requires room { length self.old.members.items < MAX_INSNS }
         ensures kind { result.kind ≡ first.kind }
         ensures primitive { result.primitive ≡ first.primitive }
         ensures groups { Groups first self.old.members.items first.kind result.spans.items self.new.members.items }
@@ -315,7 +315,7 @@ impl Others {
     /// The same, and where all of the others ask TCP for what those of the kind ask UDP for, or the other way round, they are in it.
     #[inline(never)]
     pub fn group_of(&mut self, first: Member) -> Group
-        requires room { length self.old.members.items < 512 }
+        requires room { length self.old.members.items < MAX_INSNS }
         ensures kind { (result.kind ≡ first.kind) ⊎ (result.kind ≡ of_tcp_or_udp first.kind) }
         ensures primitive { result.primitive ≡ first.primitive }
         ensures groups { Groups first self.old.members.items result.kind result.spans.items self.new.members.items }
@@ -335,7 +335,7 @@ impl Others {
     pub fn pop(&mut self) -> Option<Member>
         ensures items { self.old.members.items ≡ self.new.members.items ++ option_to_list result }
         ensures none { IfNone result (self.old.members.items ≡ []) }
-        ensures room { length self.new.members.items < 512 }
+        ensures room { length self.new.members.items < MAX_INSNS }
     {
         if self.members.len() == 0 {
             return None;

@@ -118,7 +118,7 @@ fn moved(insn: Insn, behind: &[bool]) -> Insn
 /// The instructions at the marked places.
 fn marked_insns(insns: &[Insn], marks: &[bool]) -> ArrayVec<Insn, MAX_CODE>
     requires code { IsSoundCode insns.now }
-    requires most { length insns.now ≤ 552 }
+    requires most { length insns.now ≤ MAX_CODE }
     requires room { length insns.now ≤ length marks.now }
     requires marks { Marks insns.now marks.now }
     ensures { result.items ≡ trimmed marks.now insns.now }
@@ -138,7 +138,7 @@ fn marked_insns(insns: &[Insn], marks: &[bool]) -> ArrayVec<Insn, MAX_CODE>
 /// Code is what would be a program, were there 512 instructions at most; here there may be [`MAX_CODE`].
 pub fn without_unreached(insns: &[Insn]) -> ArrayVec<Insn, MAX_CODE>
     requires code { IsSoundCode insns.now }
-    requires most { length insns.now ≤ 552 }
+    requires most { length insns.now ≤ MAX_CODE }
     ensures code { IsSoundCode result.items }
     ensures shorter { length result.items ≤ length insns.now }
     ensures same { (packet : List ℕ) (wire : ℕ) → verdict result.items packet wire ≡ verdict insns.now packet wire }

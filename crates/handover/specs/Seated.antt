@@ -1,5 +1,6 @@
 -- What holds of the two ends' seats between their calls. Only private contracts use these words.
 use Rattle.std.specs.Prelude.{◌≡◌, ℕ, ◌≤◌, Bool, true, false, List, [], ◌∷◌, ◌++◌, length, None}
+use Rattle.savefile.specs.declared.record.TheConstants.{MAX_SNAP}
 use Rattle.listener.specs.declared.message.Message.{Message}
 use Rattle.listener.specs.Messages.{Arrival, cut_to, size_of}
 use Rattle.listener.specs.Buffers.{Filled, filled}
@@ -33,7 +34,7 @@ pub record Offers (m : Sat) (b : Filled) (x : Message) (a : Arrival) (kept : ℕ
   pub feeder : IsFeeder m b false
   pub message : x ≡ cut_to kept a
   pub captured : kept ≤ length a.packet.bytes
-  pub writable : kept ≤ 262144
+  pub writable : kept ≤ MAX_SNAP
   pub small : size_of x ≤ m.0.profile.capacity
 
 -- The seat went on by one call and these steps, and this is the store behind it.

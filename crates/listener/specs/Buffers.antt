@@ -1,5 +1,7 @@
 -- Buffers as contracts see them.
 use Rattle.std.specs.Prelude.{ℕ, ◌<◌, ◌≤◌, ◌⊎◌, List, [], ◌∷◌, ◌++◌, length}
+use Rattle.savefile.specs.declared.record.TheConstants.{MAX_SNAP}
+use Rattle.listener.specs.declared.buffer.TheConstants.{MAX_CAPACITY}
 use Rattle.listener.specs.declared.fault.OpenFault.{OpenFault}
 use Rattle.listener.specs.declared.fault.OpenFault.TheVariants.{BadSnap, BadCapacity, NoMemory}
 use Rattle.listener.specs.declared.message.Message.{Message}
@@ -19,7 +21,7 @@ with_message b m = filled b.capacity (b.messages ++ m ∷ [])
 
 -- a message's data is as long as a savefile's record may have it
 abbrev pub FitsSavefileRecord : Message → Type 0
-FitsSavefileRecord m = length m.bytes ≤ 262144
+FitsSavefileRecord m = length m.bytes ≤ MAX_SNAP
 
 -- the message that a record shows
 abbrev pub message_in : Record → Message
@@ -28,5 +30,5 @@ message_in r = record { capture = r.capture; place = r.place; sec = r.sec; nanos
 -- why a buffer isn't made; want of memory, only where its capacity is in range
 abbrev pub RefusesBuffer : ℕ → OpenFault → Type 0
 RefusesBuffer capacity BadSnap = ⊥
-RefusesBuffer capacity BadCapacity = (capacity < 40) ⊎ (1048576 < capacity)
-RefusesBuffer capacity NoMemory = (40 ≤ capacity) × (capacity ≤ 1048576)
+RefusesBuffer capacity BadCapacity = (capacity < 40) ⊎ (MAX_CAPACITY < capacity)
+RefusesBuffer capacity NoMemory = (40 ≤ capacity) × (capacity ≤ MAX_CAPACITY)

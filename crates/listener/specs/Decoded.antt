@@ -3,6 +3,8 @@
 use Rattle.std.specs.Prelude.{◌≡◌, ℕ, zero, suc, ◌^◌, ◌<◌, ◌≤◌, List, [], ◌∷◌, length, take, drop, Vec, vec_capacity, ◌==◌, if◌then◌else◌}
 use Rattle.std.specs.List.{AllByRecursion}
 use Rattle.byteorder.specs.Endian.{little_number}
+use Rattle.savefile.specs.declared.record.TheConstants.{MAX_SNAP}
+use Rattle.listener.specs.declared.buffer.TheConstants.{MAX_CAPACITY}
 use Rattle.listener.specs.declared.message.Message.{Message}
 use Rattle.listener.specs.Messages.{size}
 use Rattle.listener.specs.RecordBytes.{records_text}
@@ -39,7 +41,7 @@ messages_in text = messages_of (length text) text
 pub record IsStored (m : Message) : Type 0 where
   pub sec : m.sec < 2 ^ 32
   pub nanos : m.nanos < 2 ^ 32
-  pub kept : length m.bytes ≤ 262144
+  pub kept : length m.bytes ≤ MAX_SNAP
   pub len : m.len < 2 ^ 32
   pub place : m.place < 2 ^ 64
   pub capture : m.capture < 2 ^ 32
@@ -57,6 +59,6 @@ RoundTrip = (ms : List Message) → AllByRecursion IsStored ms → messages_in (
 pub record IsBuffer {Z : Type 0} (bytes : Vec ℕ Z) (capacity count : ℕ) : Type 0 where
   pub reserved : capacity ≤ vec_capacity bytes
   pub within : length bytes.items ≤ capacity
-  pub most : capacity ≤ 1048576
+  pub most : capacity ≤ MAX_CAPACITY
   pub records : AreRecords bytes.items
   pub counted : count ≡ length (messages_in bytes.items)

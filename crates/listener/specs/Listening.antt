@@ -1,6 +1,8 @@
 -- A listener as contracts see it.
 use Rattle.std.specs.Prelude.{◌≡◌, ℕ, ◌<◌, ◌≤◌, ◌⊎◌, List, Option}
 use Rattle.bpfvm.specs.declared.insn.Insn.{Insn}
+use Rattle.savefile.specs.declared.record.TheConstants.{MAX_SNAP}
+use Rattle.listener.specs.declared.buffer.TheConstants.{MAX_CAPACITY}
 use Rattle.listener.specs.declared.fault.OpenFault.{OpenFault}
 use Rattle.listener.specs.declared.fault.OpenFault.TheVariants.{BadSnap, BadCapacity, NoMemory}
 use Rattle.listener.specs.declared.message.Message.{Message}
@@ -31,12 +33,12 @@ pub record TakesStep (old : Listening) (e : Event) (new : Listening) : Type 0 wh
 -- what a listener may be asked for
 pub record InRange (snap capacity : ℕ) : Type 0 where
   pub least : 1 ≤ snap
-  pub most : snap ≤ 262144
+  pub most : snap ≤ MAX_SNAP
   pub room : size snap ≤ capacity
-  pub largest : capacity ≤ 1048576
+  pub largest : capacity ≤ MAX_CAPACITY
 
 -- why a listener isn't opened; want of memory, only where nothing else refuses it
 abbrev pub RefusesOpen : ℕ → ℕ → OpenFault → Type 0
-RefusesOpen snap capacity BadSnap = (snap < 1) ⊎ (262144 < snap)
-RefusesOpen snap capacity BadCapacity = (1 ≤ snap) × (snap ≤ 262144) × ((capacity < size snap) ⊎ (1048576 < capacity))
+RefusesOpen snap capacity BadSnap = (snap < 1) ⊎ (MAX_SNAP < snap)
+RefusesOpen snap capacity BadCapacity = (1 ≤ snap) × (snap ≤ MAX_SNAP) × ((capacity < size snap) ⊎ (MAX_CAPACITY < capacity))
 RefusesOpen snap capacity NoMemory = InRange snap capacity

@@ -2,6 +2,7 @@
 
 ghost use Rattle.std.specs.Prelude.{◌≡◌, ◌↔◌, false, ◌+◌, ◌^◌, ◌<◌, ◌≤◌, [], ◌++◌, length, All, vec_len, vec_capacity, IfOk, IfErr, OnOk, IsTrue};
 ghost use Rattle.std.specs.Bool.{OnTrue};
+ghost use Rattle.savefile.specs.declared.record.TheConstants.{MAX_SNAP};
 ghost use Rattle.savefile.specs.Filling.{Fills};
 ghost use Rattle.byteorder.specs.Endian.{little_bytes};
 ghost use Rattle.listener.specs.Buffers.{filled, with_message, FitsSavefileRecord, RefusesBuffer};
@@ -24,7 +25,7 @@ const ZEROS: [u8; 8] = [0; 8];
 /// The least and the most bytes of a buffer.
 const LEAST_CAPACITY: usize = 40;
 
-pub(crate) const MOST_CAPACITY: usize = 1_048_576;
+pub(crate) const MAX_CAPACITY: usize = 1_048_576;
 
 /// The bytes of the record of so many bytes of data.
 pub(crate) fn size(kept: u32) -> usize
@@ -106,10 +107,10 @@ impl Buffer {
     /// [`OpenFault::BadCapacity`] comes exactly where the capacity is out of that range.
     pub fn new(alloc: Global, capacity: usize) -> Result<Buffer, OpenFault>
         ensures ok { IfOk result (λ buffer. buffer ≡ filled capacity []) }
-        ensures in_range { OnOk result ((40 ≤ capacity) × (capacity ≤ 1048576)) }
+        ensures in_range { OnOk result ((40 ≤ capacity) × (capacity ≤ MAX_CAPACITY)) }
         ensures only { IfErr result (RefusesBuffer capacity) }
     {
-        if capacity < LEAST_CAPACITY || capacity > MOST_CAPACITY {
+        if capacity < LEAST_CAPACITY || capacity > MAX_CAPACITY {
             return Err(OpenFault::BadCapacity);
         }
         Ok(Buffer {
@@ -179,7 +180,7 @@ impl Buffer {
     /// `kept` is at most the number of bytes that were captured of the packet, and at most 262,144.
     pub fn put(&mut self, capture: u32, place: u64, packet: &PacketRef<'_>, kept: u32) -> bool
         requires captured { kept ≤ length packet.now.bytes }
-        requires writable { kept ≤ 262144 }
+        requires writable { kept ≤ MAX_SNAP }
         ensures fits { IsTrue result ↔ (room self.old.messages + size kept ≤ self.old.capacity) }
         ensures stored { OnTrue result (self.new ≡ with_message self.old (cut_to kept (arrival capture place packet.now))) }
         ensures unchanged { result ≡ false → self.new ≡ self.old }

@@ -10,18 +10,15 @@ ghost use Rattle.listener.specs.declared.fault.OpenFault.TheVariants.{NoMemory};
 ghost use Rattle.listener.specs.declared.mode.Mode.TheVariants.{Buffered, Immediate};
 
 use crate::answer::{Counts, Fed, Read};
-use crate::buffer::{Buffer, MOST_CAPACITY, size};
+use crate::buffer::{Buffer, MAX_CAPACITY, size};
 use crate::fault::OpenFault;
 use crate::filter::kept_of;
 use crate::mode::Mode;
 use bpfvm::Program;
-use savefile::PacketRef;
+use savefile::{MAX_SNAP, PacketRef};
 use std::alloc::Global;
 use std::marker::Model;
 use std::mem;
-
-/// The largest snapshot length.
-const MOST_SNAP: u32 = 262_144;
 
 /// A listener of a tap: a filter program, and the packets that it accepted, in a store and a hold.
 ///
@@ -62,10 +59,10 @@ pub fn check_range(snap: u32, capacity: usize) -> Result<(), OpenFault>
     ensures only { IfErr result (RefusesOpen snap capacity) }
     ensures no_memory { IfErr result (λ fault. fault ≢ NoMemory) }
 {
-    if snap < 1 || snap > MOST_SNAP {
+    if snap < 1 || snap > MAX_SNAP {
         return Err(OpenFault::BadSnap);
     }
-    if capacity < size(snap) || capacity > MOST_CAPACITY {
+    if capacity < size(snap) || capacity > MAX_CAPACITY {
         return Err(OpenFault::BadCapacity);
     }
     Ok(())

@@ -25,7 +25,7 @@ mod writing;
 
 pub use gate::{Gate, Open};
 pub use replay_types::{
-    Interface, InterfaceEnd, InterfaceReport, ListenerReport, MOST_CAPTURES, MOST_INTERFACES,
-    MOST_SPARES, MOST_TASKS, RunFault, Task, TaskEnd,
+    Interface, InterfaceEnd, InterfaceReport, ListenerReport, MAX_CAPTURES, MAX_INTERFACES,
+    MAX_SPARES, MAX_TASKS, RunFault, Task, TaskEnd,
 };
 pub use running::run;

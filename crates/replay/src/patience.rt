@@ -12,7 +12,7 @@ const TURNS: u32 = 32;
 /// lost, as that by a thread which was never started.
 const FIRST_MILLIS: u64 = 1;
 
-const MOST_MILLIS: u64 = 64;
+const MAX_MILLIS: u64 = 64;
 
 /// How long a thread waits that finds nothing to do: longer each time.
 #[derive(Clone, Copy)]
@@ -43,6 +43,6 @@ impl Patience {
             return;
         }
         parker.park_timeout(rt, Duration::from_millis(self.millis));
-        self.millis = self.millis.saturating_mul(2).min(MOST_MILLIS);
+        self.millis = self.millis.saturating_mul(2).min(MAX_MILLIS);
     }
 }

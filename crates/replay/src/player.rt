@@ -20,7 +20,7 @@ use savefile::{PacketRef, Reader, Source};
 use std::alloc::Global;
 
 /// The most packets that arrive at an interface.
-const MOST_ARRIVALS: u64 = u64::MAX - 1;
+const MAX_ARRIVALS: u64 = u64::MAX - 1;
 
 /// The feeders of an interface, and how many packets arrived there.
 #[derive(Drop)]
@@ -133,7 +133,7 @@ impl Player<'_> {
                 Ok(false) => return None,
                 Err(fault) => return Some(InterfaceEnd::Capture(capture, fault)),
             }
-            if self.arrived == MOST_ARRIVALS {
+            if self.arrived == MAX_ARRIVALS {
                 return Some(InterfaceEnd::CountFull);
             }
             self.arrive(gate, capture, place, &reader.packet());

@@ -11,7 +11,7 @@ use savefile::laws::{growing_text, packets_take_room};
 use savefile::{Order, Sink, Unit, Writer};
 
 /// The most nanoseconds of a time. Packets of a capture have no more.
-const MOST_NANOS: u32 = 999_999_999;
+const MAX_NANOS: u32 = 999_999_999;
 
 /// The savefile that a task's packets are written to.
 #[derive(Drop)]
@@ -66,7 +66,7 @@ impl<W: Sink> Written<W> {
         if !self.works {
             return;
         }
-        let nanos = message.nanos.min(MOST_NANOS);
+        let nanos = message.nanos.min(MAX_NANOS);
         match self
             .writer
             .put(message.sec, nanos, message.len, message.bytes)

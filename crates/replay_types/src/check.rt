@@ -9,26 +9,26 @@ use crate::task::{Interface, Task};
 use listener::{OpenFault, check_range};
 
 /// The most interfaces of a replay.
-pub const MOST_INTERFACES: usize = 16;
+pub const MAX_INTERFACES: usize = 16;
 
 /// The most tasks of an interface.
-pub const MOST_TASKS: usize = 64;
+pub const MAX_TASKS: usize = 64;
 
 /// The most captures of an interface.
-pub const MOST_CAPTURES: usize = 65_536;
+pub const MAX_CAPTURES: usize = 65_536;
 
 /// The most buffers that go round between the two threads of a listener.
-pub const MOST_SPARES: usize = 64;
+pub const MAX_SPARES: usize = 64;
 
 /// Tests that there are not too many of anything.
 fn are_few<R, W>(interfaces: &[Interface<R, W>]) -> bool
     ensures { IsTrue result ↔ AreFew interfaces.now }
 {
-    if interfaces.len() > MOST_INTERFACES {
+    if interfaces.len() > MAX_INTERFACES {
         return false;
     }
     for interface in interfaces {
-        if interface.tasks.len() > MOST_TASKS || interface.captures.len() > MOST_CAPTURES {
+        if interface.tasks.len() > MAX_TASKS || interface.captures.len() > MAX_CAPTURES {
             return false;
         }
     }
@@ -41,7 +41,7 @@ fn check_task<W>(task: &Task<W>) -> Result<(), OpenFault>
     ensures refuses { IfErr result (RefusesTask task.now) }
 {
     check_range(task.snap, task.capacity)?;
-    if task.spares < 1 || task.spares > MOST_SPARES {
+    if task.spares < 1 || task.spares > MAX_SPARES {
         return Err(OpenFault::BadCapacity);
     }
     Ok(())

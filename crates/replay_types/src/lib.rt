@@ -6,7 +6,7 @@ mod fault;
 mod report;
 mod task;
 
-pub use check::{MOST_CAPTURES, MOST_INTERFACES, MOST_SPARES, MOST_TASKS, check_all};
+pub use check::{MAX_CAPTURES, MAX_INTERFACES, MAX_SPARES, MAX_TASKS, check_all};
 pub use fault::RunFault;
 pub use report::{InterfaceEnd, InterfaceReport, ListenerReport, TaskEnd};
 pub use task::{Interface, Task};

@@ -3,6 +3,7 @@ use Rattle.std.specs.Prelude.{◌≡◌, ℕ, ◌*◌, ◌^◌, ◌<◌, ◌≤�
 use Rattle.savefile.specs.declared.header.Order.{Order}
 use Rattle.savefile.specs.declared.header.Unit.{Unit as TimeUnit}
 use Rattle.savefile.specs.declared.record.RecordHeader.{RecordHeader}
+use Rattle.savefile.specs.declared.record.TheConstants.{MAX_SNAP}
 use Rattle.savefile.specs.Savefile.{captured, field, fraction, nanos_in, per_second}
 
 -- A text begins with the header of a record, whose numbers may be written again.
@@ -12,7 +13,7 @@ pub record IsRecordHeader (order : Order) (unit : TimeUnit) (text : List ℕ) (h
   pub below_a_second : fraction order text < per_second unit
   pub nanos : fraction order text * nanos_in unit ≡ header.nanos
   pub captured_is : captured order text ≡ header.captured
-  pub short : header.captured ≤ 262144
+  pub short : header.captured ≤ MAX_SNAP
   pub on_the_wire : field order text 12 4 ≡ header.len
   pub seconds_fit : header.sec < 2 ^ 32
   pub nanos_fit : header.nanos < 1000000000

@@ -9,6 +9,7 @@ use Rattle.savefile.specs.declared.header.Order.TheVariants.{Little, Big}
 use Rattle.savefile.specs.declared.header.Unit.{Unit as TimeUnit}
 use Rattle.savefile.specs.declared.header.Unit.TheVariants.{Micro, Nano}
 use Rattle.savefile.specs.declared.packet.Packet.{Packet}
+use Rattle.savefile.specs.declared.record.TheConstants.{MAX_SNAP}
 
 -- a packet of these parts
 abbrev pub packet : ℕ → ℕ → ℕ → List ℕ → Packet
@@ -77,7 +78,7 @@ pub record IsRecord (order : Order) (unit : TimeUnit) (text : List ℕ) (p : Pac
   pub seconds : field order text 0 4 ≡ p.sec
   pub below_a_second : fraction order text < per_second unit
   pub nanos : fraction order text * nanos_in unit ≡ p.nanos
-  pub short : captured order text ≤ 262144
+  pub short : captured order text ≤ MAX_SNAP
   pub on_the_wire : field order text 12 4 ≡ p.len
   pub whole : 16 + captured order text ≤ length text
   pub bytes : take (captured order text) (drop 16 text) ≡ p.bytes
@@ -106,7 +107,7 @@ first_fault order unit place rest =
     if length rest == 0 then None
     else if nat_lt (length rest) 16 then Some (TornRecord place)
     else if nat_le (per_second unit) (fraction order rest) then Some (BadFraction place)
-    else if nat_lt 262144 (captured order rest) then Some (TooLong place)
+    else if nat_lt MAX_SNAP (captured order rest) then Some (TooLong place)
     else if nat_lt (length rest) (16 + captured order rest) then Some (TornRecord place)
     else None
 
@@ -171,7 +172,7 @@ pub record IsWritable (p : Packet) : Type 0 where
   pub seconds : p.sec < 2 ^ 32
   pub nanos : p.nanos < 1000000000
   pub on_the_wire : p.len < 2 ^ 32
-  pub bytes : length p.bytes ≤ 262144
+  pub bytes : length p.bytes ≤ MAX_SNAP
 
 -- the packet as it is read again: in microseconds the nanoseconds are rounded down to a multiple of 1,000
 abbrev pub in_units : TimeUnit → Packet → Packet

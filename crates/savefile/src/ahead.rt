@@ -2,15 +2,16 @@
 
 ghost use Rattle.std.specs.Prelude.{◌≡◌, ◌+◌, ◌-◌, ◌<◌, ◌≤◌, ◌⊎◌, [], vec_len, length, take, drop, OnOk, OnErr, IfOk, IfErr};
 ghost use Rattle.std.specs.Io.KnownBytes.{Keeps, Consumes, IsAtEnd};
+ghost use Rattle.savefile.specs.declared.ahead.TheConstants.{MAX_AHEAD};
 ghost use Rattle.savefile.specs.Device.{CountsFailure};
 
 use crate::device::{Broken, Source};
-use crate::record::{MOST_CAPTURED, RECORD_HEADER_LEN};
+use crate::record::{MAX_SNAP, RECORD_HEADER_LEN};
 use std::alloc::{AllocError, Global};
 use std::fmt::{self, Debug, Formatter};
 
 /// The most bytes that can be asked for: those of the longest record.
-pub(crate) const MOST_AHEAD: usize = RECORD_HEADER_LEN + MOST_CAPTURED as usize;
+pub(crate) const MAX_AHEAD: usize = RECORD_HEADER_LEN + MAX_SNAP as usize;
 
 /// How many bytes the memory has: room for the longest record, and for large reads.
 const MEMORY: usize = 1 << 19;
@@ -27,7 +28,7 @@ pub(crate) struct Ahead<R> {
     ghost lent_lies_before: { lent ≤ start },
     ghost ordered: { start ≤ end },
     ghost in_bounds: { end ≤ vec_len memory },
-    ghost room: { 262160 ≤ vec_len memory },
+    ghost room: { MAX_AHEAD ≤ vec_len memory },
 }
 
 /// Of the memory it shows how many bytes wait, and none of them.
@@ -158,7 +159,7 @@ impl<R: Source> Ahead<R> {
         ensures grows { Grows R.left self.old self.new }
         ensures count { IfOk result (λ n. self.new.end - self.new.start ≡ self.old.end - self.old.start + n) }
         ensures stays { OnErr result (self.new.end - self.new.start ≡ self.old.end - self.old.start) }
-        ensures end { IfOk result (λ n. n ≡ 0 → self.old.end - self.old.start < 262160 → IsAtEnd (R.left self.new.source)) }
+        ensures end { IfOk result (λ n. n ≡ 0 → self.old.end - self.old.start < MAX_AHEAD → IsAtEnd (R.left self.new.source)) }
         ensures failures { CountsFailure (R.failures self.old.source) (R.failures self.new.source) result }
     {
         self.to_front();
@@ -171,7 +172,7 @@ impl<R: Source> Ahead<R> {
     #[cold]
     #[inline(never)]
     fn fill_slowly(&mut self, want: usize) -> Result<(), Broken>
-        requires { want ≤ 262160 }
+        requires { want ≤ MAX_AHEAD }
         ensures grows { Grows R.left self.old self.new }
         ensures enough { OnOk result ((want ≤ length (waiting_in self.new)) ⊎ IsAtEnd (R.left self.new.source)) }
         ensures short { OnErr result (length (waiting_in self.new) < want) }
@@ -188,7 +189,7 @@ impl<R: Source> Ahead<R> {
     /// Reads until so many bytes wait, or the input ends. The source is asked only where they do not.
     #[inline]
     pub(crate) fn fill(&mut self, want: usize) -> Result<(), Broken>
-        requires { want ≤ 262160 }
+        requires { want ≤ MAX_AHEAD }
         ensures grows { Grows R.left self.old self.new }
         ensures enough { OnOk result ((want ≤ length (waiting_in self.new)) ⊎ IsAtEnd (R.left self.new.source)) }
         ensures short { OnErr result (length (waiting_in self.new) < want) }

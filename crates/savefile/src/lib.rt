@@ -33,5 +33,5 @@ pub use header::{Header, Order, Unit, header_of};
 pub use packet::{Data, Packet, PacketRef};
 pub use reader::Reader;
 pub use reading::read_all;
-pub use record::MOST_CAPTURED;
+pub use record::MAX_SNAP;
 pub use writing::Writer;

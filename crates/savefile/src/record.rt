@@ -20,8 +20,8 @@ pub(crate) struct RecordHeader {
 /// The bytes of a record's header.
 pub(crate) const RECORD_HEADER_LEN: usize = 16;
 
-/// The most bytes of a packet that a record may have, read or written: a bar of this project.
-pub const MOST_CAPTURED: u32 = 262_144;
+/// The most bytes that are captured of a packet, so that a record may have, read or written: libpcap's `MAXIMUM_SNAPLEN`.
+pub const MAX_SNAP: u32 = 262_144;
 
 impl RecordHeader {
     /// That of no packet.
@@ -70,7 +70,7 @@ impl RecordHeader {
             return Err(Fault::BadFraction(place));
         }
         let captured = B::read_u32(&text[8..]);
-        if captured > MOST_CAPTURED {
+        if captured > MAX_SNAP {
             return Err(Fault::TooLong(place));
         }
         self.sec = B::read_u32(text);

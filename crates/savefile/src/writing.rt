@@ -2,6 +2,7 @@
 
 ghost use Rattle.std.specs.Prelude.{◌≡◌, ◌≢◌, ℕ, List, [], ◌∷◌, ◌++◌, Option, true, false, ◌+◌, ◌^◌, ◌<◌, ◌≤◌, ◌↔◌, ◌⊎◌, length, IfErr, OnOk, OnErr};
 ghost use Rattle.std.specs.Io.KnownBytes.{Keeps};
+ghost use Rattle.savefile.specs.declared.record.TheConstants.{MAX_SNAP};
 ghost use Rattle.savefile.specs.declared.packet.Packet.{Packet};
 ghost use Rattle.savefile.specs.Device.{CountsFailure};
 ghost use Rattle.savefile.specs.Filling.{Fills};
@@ -206,7 +207,7 @@ impl<W: Sink> Writer<W> {
 
     /// Writes one packet: its time, its length on the wire, and the bytes that were captured of it.
     ///
-    /// `nanos` is below 1,000,000,000, and `bytes` has at most [`MOST_CAPTURED`](crate::MOST_CAPTURED) bytes, 262,144.
+    /// `nanos` is below 1,000,000,000, and `bytes` has at most [`MAX_SNAP`](crate::MAX_SNAP) bytes.
     /// With microseconds the nanoseconds are divided by 1,000 and the rest is dropped.
     /// [`Fault::Device`] comes exactly where the sink failed in this call; from then on the writer has
     /// failed, and every `put` answers [`Fault::Failed`] and does nothing. [`Fault::CountFull`] comes
@@ -215,7 +216,7 @@ impl<W: Sink> Writer<W> {
     #[inline(always)]
     pub fn put(&mut self, sec: u32, nanos: u32, len: u32, bytes: &[u8]) -> Result<(), Fault>
         requires nanos { nanos < 1000000000 }
-        requires size { length bytes.now ≤ 262144 }
+        requires size { length bytes.now ≤ MAX_SNAP }
 
         // After Ok, what was written before and now this packet; after Device, a beginning of that, and not the whole.
         ensures ok { (start : Option (List ℕ)) (order : Order) (unit : Unit) (snap : ℕ) (packets : List Packet) →

@@ -12,8 +12,8 @@ use crate::fault::Fault;
 use crate::open::open_all;
 use std::alloc::Global;
 use tap_steps::{
-    MOST_CAPTURES, MOST_LISTENERS, Playlist, Report, Spec, Step, Trace, Watched, first_missing,
-    play, read_playlist, report_all, trace_all,
+    MAX_CAPTURES, MAX_LISTENERS, Playlist, Report, Spec, Step, Trace, Watched, first_missing, play,
+    read_playlist, report_all, trace_all,
 };
 
 /// What a replay came to.
@@ -35,7 +35,7 @@ fn play_all(
     ensures stands { OnOk result (NoneStands (map (λ c. c.now) captures.now) specs.now steps.now) }
     ensures first { IfErr result (IsFirst (map (λ c. c.now) captures.now) specs.now steps.now) }
 {
-    if specs.len() > MOST_LISTENERS || captures.len() > MOST_CAPTURES {
+    if specs.len() > MAX_LISTENERS || captures.len() > MAX_CAPTURES {
         return Err(Fault::TooMany);
     }
     if let Some(place) = first_missing(steps, specs.len()) {
@@ -60,7 +60,7 @@ fn play_all(
 /// fault are the second part of what is answered.
 ///
 /// The faults are looked for in this order, and the first that stands is answered: [`Fault::TooMany`] where there are
-/// over [`MOST_LISTENERS`] listeners or over [`MOST_CAPTURES`] captures; [`Fault::NoListener`] with the first step that
+/// over [`MAX_LISTENERS`] listeners or over [`MAX_CAPTURES`] captures; [`Fault::NoListener`] with the first step that
 /// names a listener that there is not; [`Fault::Capture`] with the first capture whose header is refused; then listener
 /// by listener [`Fault::Expression`], [`Fault::Compile`] and [`Fault::Open`]. [`Fault::NoMemory`] can come at any point.
 /// A fault gives no report.

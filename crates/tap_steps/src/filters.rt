@@ -24,4 +24,4 @@ pub struct Spec {
 }
 
 /// The most listeners of a replay.
-pub const MOST_LISTENERS: usize = 64;
+pub const MAX_LISTENERS: usize = 64;

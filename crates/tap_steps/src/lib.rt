@@ -17,9 +17,9 @@ mod watched;
 
 pub use answer::{Answer, Answered};
 pub use fault::PlaylistFault;
-pub use filters::{Filter, MOST_LISTENERS, Spec};
+pub use filters::{Filter, MAX_LISTENERS, Spec};
 pub use playing::{first_missing, play};
-pub use playlist::{MOST_CAPTURES, Placed, Playlist, read_playlist};
+pub use playlist::{MAX_CAPTURES, Placed, Playlist, read_playlist};
 pub use report::{Report, Trace};
 pub use reporting::{report_all, trace_all};
 pub use step::Step;

@@ -4,7 +4,7 @@ use filterlang::{MAX_TEXT, lex, parse};
 use std::process::Abort;
 
 /// How many times `||ip` has room behind a word.
-const MOST_JOINED: usize = 2047;
+const MAX_JOINED: usize = 2047;
 
 // A text has tokens, and is an expression.
 fn is_read(rt: &(impl Abort + AllocGlobal), text: &str) {
@@ -26,7 +26,7 @@ fn a_text_of_each_length_is_read(rt: HostRuntime) {
 fn read_each_chain(rt: &(impl Abort + AllocGlobal), first: &str) {
     let mut text = String::new(rt.alloc());
     text.push_str(first).expect(rt, "memory");
-    for _ in 0..MOST_JOINED + 1 {
+    for _ in 0..MAX_JOINED + 1 {
         is_read(rt, text.as_str());
         text.push_str("||ip").expect(rt, "memory");
     }

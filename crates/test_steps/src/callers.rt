@@ -13,7 +13,7 @@ use std::io::Write;
 use std::process::Abort;
 use tap::{Filter, Spec, Step, trace};
 use tap_picture::write_picture;
-use tap_steps::{MOST_CAPTURES, PlaylistFault, read_playlist};
+use tap_steps::{MAX_CAPTURES, PlaylistFault, read_playlist};
 use test_fixtures::captures::{HEADER, TCP, UDP, concat};
 
 /// The port of a line `NAME PORT`.
@@ -41,7 +41,7 @@ fn print_ports<O: Write>(text: &[u8], out: &mut O) -> io::Result<()> {
 
 /// How many packets captures have for steps, nothing where the captures are too many.
 fn packets(alloc: Global, captures: &[&[u8]]) -> Result<Option<usize>, PlaylistFault> {
-    if captures.len() > MOST_CAPTURES {
+    if captures.len() > MAX_CAPTURES {
         return Ok(None);
     }
     let playlist = read_playlist(alloc, captures)?;

@@ -20,7 +20,7 @@ use std::{io, thread};
 use test_fixtures::captures::{HEADER, TCP, concat};
 
 /// How many turns of a millisecond something is waited for.
-const MOST_TURNS: u32 = 20_000;
+const MAX_TURNS: u32 = 20_000;
 
 /// Gives a capture, and ends once as many bytes were written, or it waited in vain.
 #[derive(Drop)]
@@ -37,7 +37,7 @@ impl<R: Clock> Read for Patient<'_, R> {
         let (given, rest) = self.left.split_at(n);
         to[..n].copy_from_slice(given);
         self.left = rest;
-        for _ in 0..MOST_TURNS {
+        for _ in 0..MAX_TURNS {
             if n > 0 || self.written.load(SeqCst) >= self.wanted {
                 return Ok(n);
             }

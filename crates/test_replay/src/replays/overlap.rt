@@ -11,7 +11,7 @@ use std::time::{Clock, Duration};
 const ACCEPTED: [[u64; 3]; 2] = [[0, 1, 1], [0, 1, 2]];
 
 /// How many turns of a millisecond something is waited for.
-const MOST_TURNS: u32 = 20_000;
+const MAX_TURNS: u32 = 20_000;
 
 /// Holds each arrival until the listeners that count have read all that they accepted before it, and each listener's first
 /// read until arrival 1 is held.
@@ -66,7 +66,7 @@ impl<'a, R: Clock> Lockstep<'a, R> {
 impl<R: Clock> Gate for Lockstep<'_, R> {
     fn before_arrive(&self, _interface: u32, n: u64) {
         self.entered.fetch_add(1, SeqCst);
-        for _ in 0..MOST_TURNS {
+        for _ in 0..MAX_TURNS {
             if self.is_read(n) || !self.waits_on() {
                 return;
             }
@@ -77,7 +77,7 @@ impl<R: Clock> Gate for Lockstep<'_, R> {
     fn after_arrive(&self, _interface: u32, _n: u64) {}
 
     fn before_read(&self, _interface: u32, _listener: u32) {
-        for _ in 0..MOST_TURNS {
+        for _ in 0..MAX_TURNS {
             if self.entered.load(SeqCst) >= 2 || !self.waits_on() {
                 return;
             }
@@ -201,7 +201,7 @@ struct Meeting<'a, R> {
 impl<R: Clock> Gate for Meeting<'_, R> {
     fn before_arrive(&self, _interface: u32, _n: u64) {
         self.entered.fetch_add(1, SeqCst);
-        for _ in 0..MOST_TURNS {
+        for _ in 0..MAX_TURNS {
             if self.entered.load(SeqCst) >= 2 {
                 self.met.fetch_add(1, SeqCst);
                 return;

@@ -8,7 +8,7 @@ use std::thread;
 use std::time::{Clock, Duration};
 
 /// How many turns of a millisecond something is waited for.
-const MOST_TURNS: u32 = 20_000;
+const MAX_TURNS: u32 = 20_000;
 
 /// How many buffers go round.
 const SPARES: usize = 16;
@@ -26,7 +26,7 @@ struct Patient<'a, R> {
 impl<R: Clock> Write for Patient<'_, R> {
     fn write(&mut self, from: &[u8]) -> io::Result<usize> {
         self.writes = self.writes.wrapping_add(1);
-        for _ in 0..MOST_TURNS {
+        for _ in 0..MAX_TURNS {
             if self.writes != 2 || self.read.load(SeqCst) >= SPARES as u64 {
                 break;
             }

@@ -12,7 +12,7 @@ use std::time::{Clock, Duration};
 const PACKETS: u8 = 10;
 
 /// How many turns of a millisecond something is waited for.
-const MOST_TURNS: u32 = 20_000;
+const MAX_TURNS: u32 = 20_000;
 
 /// Holds each read until all packets were given to the listeners.
 #[derive(Drop)]
@@ -31,7 +31,7 @@ impl<R: Clock> Gate for Slow<'_, R> {
     }
 
     fn before_read(&self, _interface: u32, _listener: u32) {
-        for _ in 0..MOST_TURNS {
+        for _ in 0..MAX_TURNS {
             if self.is_given.load(SeqCst) {
                 return;
             }

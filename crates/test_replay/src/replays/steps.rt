@@ -11,7 +11,7 @@ use std::time::{Clock, Duration};
 const ACCEPTED: [[[u64; 4]; 2]; 2] = [[[0, 1, 1, 2], [0, 1, 2, 3]], [[0, 0, 1, 1], [0, 1, 2, 2]]];
 
 /// How many turns of a millisecond something is waited for.
-const MOST_TURNS: u32 = 20_000;
+const MAX_TURNS: u32 = 20_000;
 
 /// What was told of an interface.
 #[derive(Drop)]
@@ -118,7 +118,7 @@ impl<R: Clock> Gate for Watch<'_, R> {
             return;
         };
         self.expects(told.arrived.fetch_add(1, SeqCst) == n);
-        for _ in 0..MOST_TURNS {
+        for _ in 0..MAX_TURNS {
             if self.is_read(interface, n.wrapping_add(1)) {
                 return;
             }
