@@ -1,3 +1,11 @@
-pub mod Beyond
-pub mod Ending
+mod Words
+mod Fielded
+mod Keeping
+mod FirstBad
+mod Answering
+mod Cursors
+mod Rejecting
+mod Putting
+mod Beyond
+mod Ending
 mod Told

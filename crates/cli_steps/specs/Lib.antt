@@ -1,3 +1,10 @@
+pub mod Listeners
+pub mod Script
+pub mod Laws
+pub mod Reasons
+pub mod Rejections
+pub mod Answers
+pub mod Printed
 pub mod Faults
 pub mod Playing
 pub mod Stepping

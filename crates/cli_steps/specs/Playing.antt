@@ -1,5 +1,5 @@
--- What is printed and told of steps that are played, and the exit status.
-use Rattle.std.specs.Prelude.{◌≡◌, ℕ, zero, suc, ◌⊎◌, max, Bool, true, false, List, [], ◌++◌, Option, Some, None, codes}
+-- What is printed and reported of steps that are played, and the exit status.
+use Rattle.std.specs.Prelude.{◌≡◌, ℕ, ◌⊎◌, Bool, true, false, List, [], ◌++◌, Option, Some, None, Result, Ok, Err, map, codes}
 use Rattle.std.specs.Io.KnownBytes.{Appends, Keeps}
 use Rattle.savefile.specs.declared.fault.Fault.{Fault as RecordFault}
 use Rattle.tap.specs.declared.fault.Fault.{Fault}
@@ -9,66 +9,113 @@ use Rattle.tap_steps.specs.declared.filters.Spec.{Spec}
 use Rattle.tap_steps.specs.declared.step.Step.{Step}
 use Rattle.tap_steps.specs.declared.playlist.Placed.{Placed}
 use Rattle.tap_steps.specs.declared.report.Report.{Report}
+use Rattle.tap_steps.specs.declared.report.Trace.{Trace}
 use Rattle.tap.specs.Answers.{Traces}
+use Rattle.tap.specs.Filters.{AreExpressionsOf}
 use Rattle.tap.specs.Headline.{Replays}
 use Rattle.tap.specs.Refusals.{IsFirst, NoneStands}
-use Rattle.cli_text.specs.declared.telling.Ended.{Ended}
+use Rattle.cli_text.specs.declared.status.Status.{Status}
+use Rattle.cli_text.specs.declared.status.Status.TheVariants as status
+use Rattle.cli_text.specs.declared.telling.Outcome.{Outcome}
+use Rattle.cli_text.specs.Status.{greater}
 use Rattle.cli_text.specs.Sending.{Takes, TakesPart, Streams}
 use Rattle.cli_text.specs.Telling.{told_line}
-use Rattle.cli_steps_texts.specs.Answers.{ArePrintedAnswers}
+use Rattle.cli_steps.specs.declared.steps.Detail.{Detail}
+use Rattle.cli_steps.specs.declared.steps.Detail.TheVariants as detail
+use Rattle.cli_steps.specs.declared.steps.Replayed.{Replayed}
+use Rattle.cli_steps.specs.Answers.{cursors_of, answers_from, ArePrintedAnswers}
 use Rattle.cli_steps.specs.Faults.{fault_text}
-use Rattle.cli_steps_texts.specs.Printed.{printed_reports}
+use Rattle.cli_steps.specs.Printed.{printed_reports}
 
--- How the printing of a text ended, as a status: 0 where the writer took the text, 3 where it failed, and took a beginning of it.
-abbrev pub IsPrintStatus : Option (List ℕ) → Option (List ℕ) → List ℕ → ℕ → Type 0
-IsPrintStatus old new text print_status = ((print_status ≡ 0) × Appends old new text) ⊎ ((print_status ≡ 3) × TakesPart old new text)
+-- How the printing of a text ended, as a status: the writer took the text, or it failed, and took a prefix of it.
+abbrev pub IsPrintStatus : Option (List ℕ) → Option (List ℕ) → List ℕ → Status → Type 0
+IsPrintStatus old new text print_status = ((print_status ≡ status.Clean) × Appends old new text) ⊎ ((print_status ≡ status.Failed) × TakesPart old new text)
 
 -- the status of a capture that ended with a record fault
-abbrev pub record_fault_status : Option (ℕ × RecordFault) → ℕ
-record_fault_status None = 0
-record_fault_status (Some record_fault) = 2
+abbrev pub record_fault_status : Option (ℕ × RecordFault) → Status
+record_fault_status None = status.Clean
+record_fault_status (Some record_fault) = status.Damaged
 
 -- the line of standard output that failed
-abbrev pub failed_output_line : ℕ → List ℕ
-failed_output_line zero = []
-failed_output_line (suc status) = told_line (codes "Device standard output")
+abbrev pub failed_output_line : Status → List ℕ
+failed_output_line status.Clean = []
+failed_output_line other = told_line (codes "Device standard output")
 
 -- the line of a capture that ended with a record fault
 abbrev pub record_fault_line : Option (ℕ × RecordFault) → List ℕ
 record_fault_line None = []
 record_fault_line (Some record_fault) = told_line (fault_text (Capture record_fault.0 record_fault.1))
 
--- What is printed before the reports: where answers are explained, the legal answers of all listeners over this playlist, each with
--- its reason, and else nothing.
+-- What is printed before the reports: if answers are explained, the legal answers of all listeners over this playlist, each with its
+-- reason, and else nothing.
 abbrev pub IsAnswersText : Bool → List (List ℕ) → List Spec → List Step → List Placed → Option (ℕ × RecordFault) → List ℕ → Type 0
 IsAnswersText true captures specs steps playlist record_fault text =
     (answers : List (List Answered)) × Traces captures specs steps playlist record_fault answers
     × ArePrintedAnswers specs steps playlist answers text
 IsAnswersText false captures specs steps playlist record_fault text = text ≡ []
 
--- A replay gave reports, and no fault stands against it. They were printed, behind the answers where these are explained; a
--- capture's record fault was told; the status is the greatest that stands.
-pub record Reported (explained : Bool) (captures : List (List ℕ)) (specs : List Spec) (steps : List Step) (old new : Streams) (ended : Ended) : Type 0 where
-  pub reports : List Report
-  pub record_fault : Option (ℕ × RecordFault)
+-- A replay gave these reports, and this record fault of a capture, and no fault applies. The reports were printed, after the answers
+-- if these are explained; the record fault was reported; the status is the greatest that applies.
+pub record Reported (explained : Bool) (captures : List (List ℕ)) (specs : List Spec) (steps : List Step) (old new : Streams) (outcome : Outcome)
+    (reports : List Report) (record_fault : Option (ℕ × RecordFault)) : Type 0 where
   pub playlist : List Placed
   pub replays : Replays captures specs steps playlist record_fault reports
   pub none_stands : NoneStands captures specs steps
   pub answers_text : List ℕ
   pub explains : IsAnswersText explained captures specs steps playlist record_fault answers_text
-  pub print_status : ℕ
+  pub print_status : Status
   pub prints : IsPrintStatus old.out new.out (answers_text ++ printed_reports reports) print_status
-  pub tells : Takes old.err new.err ended.told (failed_output_line print_status ++ record_fault_line record_fault)
-  pub greatest : ended.status ≡ max print_status (record_fault_status record_fault)
+  pub tells : Takes old.err new.err outcome.told (failed_output_line print_status ++ record_fault_line record_fault)
+  pub greatest : outcome.status ≡ greater print_status (record_fault_status record_fault)
 
--- There is no replay: the first fault that stands was told, and nothing was printed.
-pub record Refused (captures : List (List ℕ)) (specs : List Spec) (steps : List Step) (old new : Streams) (ended : Ended) : Type 0 where
-  pub fault : Fault
+-- There is no replay: this fault, the first that applies, was reported, and nothing was printed.
+pub record Refused (captures : List (List ℕ)) (specs : List Spec) (steps : List Step) (old new : Streams) (outcome : Outcome) (fault : Fault) : Type 0 where
   pub first : IsFirst captures specs steps fault
   pub nothing : Keeps old.out new.out
-  pub tells : Takes old.err new.err ended.told (told_line (fault_text fault))
-  pub refused : ended.status ≡ 1
+  pub tells : Takes old.err new.err outcome.told (told_line (fault_text fault))
+  pub refused : outcome.status ≡ status.Refused
 
-abbrev pub Plays : Bool → List (List ℕ) → List Spec → List Step → Streams → Streams → Ended → Type 0
-Plays explained captures specs steps old new ended =
-    Reported explained captures specs steps old new ended ⊎ Refused captures specs steps old new ended
+abbrev pub Plays : Bool → List (List ℕ) → List Spec → List Step → Streams → Streams → Outcome → Type 0
+Plays explained captures specs steps old new outcome =
+    ((reports : List Report) × (record_fault : Option (ℕ × RecordFault)) × Reported explained captures specs steps old new outcome reports record_fault)
+    ⊎ ((fault : Fault) × Refused captures specs steps old new outcome fault)
+
+-- ---- What is handed on
+
+-- the answers are printed
+abbrev pub is_explained : Detail → Bool
+is_explained detail.Answers = true
+is_explained other = false
+
+-- the trace is handed on
+abbrev pub is_traced : Detail → Bool
+is_traced detail.Reports = false
+is_traced other = true
+
+-- what is printed of a trace before its reports
+abbrev pub trace_text : Bool → List Spec → List Step → Trace → List ℕ
+trace_text true specs steps trace =
+    answers_from 1 steps trace.playlist.items (cursors_of specs trace.expressions.items (map (λ a. a.items) trace.answers.items))
+trace_text false specs steps trace = []
+
+-- This is the trace of a replay that gave these reports and this record fault: its answers are the legal ones over its playlist, and
+-- its expressions those that the filters read as.
+pub record IsTraceOf (captures : List (List ℕ)) (specs : List Spec) (steps : List Step) (reports : List Report) (record_fault : Option (ℕ × RecordFault)) (trace : Trace) : Type 0 where
+  pub same_reports : trace.reports.items ≡ reports
+  pub same_fault : trace.record_fault ≡ record_fault
+  pub replays : Replays captures specs steps trace.playlist.items record_fault reports
+  pub answers : Traces captures specs steps trace.playlist.items record_fault (map (λ a. a.items) trace.answers.items)
+  pub expressions : AreExpressionsOf specs trace.expressions.items
+
+-- what is handed on of a replay: its trace, if it was wanted
+abbrev pub HandsOn : Bool → List (List ℕ) → List Spec → List Step → List Report → Option (ℕ × RecordFault) → Option Trace → Type 0
+HandsOn false captures specs steps reports record_fault trace = trace ≡ None
+HandsOn true captures specs steps reports record_fault None = ⊥
+HandsOn true captures specs steps reports record_fault (Some trace) = IsTraceOf captures specs steps reports record_fault trace
+
+-- what was played, and what is handed on of it: the record fault or the fault that was reported, and the trace that was printed
+abbrev pub PlaysAs : Bool → Bool → List (List ℕ) → List Spec → List Step → Streams → Streams → Outcome → Result Replayed Fault → Type 0
+PlaysAs explained traced captures specs steps old new outcome (Ok replayed) =
+    (reports : List Report) × Reported explained captures specs steps old new outcome reports replayed.record_fault
+    × HandsOn traced captures specs steps reports replayed.record_fault replayed.trace
+PlaysAs explained traced captures specs steps old new outcome (Err fault) = Refused captures specs steps old new outcome fault

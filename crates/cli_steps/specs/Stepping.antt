@@ -6,11 +6,13 @@ use Rattle.tap_steps.specs.declared.step.Step.{Step}
 use Rattle.cli_text.specs.declared.fault.LineFault.{LineFault}
 use Rattle.cli_text.specs.declared.fault.LineFault.TheVariants.{Listeners, Script, NoMemory}
 use Rattle.cli_text.specs.Files.{IsFileOf, IsFirstBad}
-use Rattle.cli_text.specs.declared.telling.Ended.{Ended}
+use Rattle.cli_text.specs.declared.status.Status.TheVariants as status
+use Rattle.cli_text.specs.declared.telling.Outcome.{Outcome}
+use Rattle.cli_text.specs.Status.{code}
 use Rattle.cli_text.specs.Sending.{Takes, Streams}
 use Rattle.cli_text.specs.Telling.{told_line, line_fault_text}
-use Rattle.cli_steps_texts.specs.Listeners.{IsListenerLine}
-use Rattle.cli_steps_texts.specs.Script.{IsStepLine}
+use Rattle.cli_steps.specs.Listeners.{IsListenerLine}
+use Rattle.cli_steps.specs.Script.{IsStepLine}
 use Rattle.cli_steps.specs.Playing.{Plays}
 
 -- Why the files are not taken: the first bad line, one of LISTENERS before one of SCRIPT, or want of memory.
@@ -20,24 +22,24 @@ IsRefusedFiles listeners script (Script n) = ((specs : List Spec) × IsFileOf Is
 IsRefusedFiles listeners script NoMemory = Unit {0}
 
 -- The files say listeners and steps, and these were played.
-pub record Played (listeners script : List ℕ) (captures : List (List ℕ)) (old new : Streams) (ended : Ended) : Type 0 where
+pub record Played (listeners script : List ℕ) (captures : List (List ℕ)) (old new : Streams) (outcome : Outcome) : Type 0 where
   pub specs : List Spec
   pub steps : List Step
   pub of_listeners : IsFileOf IsListenerLine listeners specs
   pub of_script : IsFileOf IsStepLine script steps
-  pub plays : Plays false captures specs steps old new ended
+  pub plays : Plays false captures specs steps old new outcome
 
 -- The files are refused: the fault of their lines was told, and nothing was printed.
-pub record Unread (listeners script : List ℕ) (old new : Streams) (ended : Ended) : Type 0 where
+pub record Unread (listeners script : List ℕ) (old new : Streams) (outcome : Outcome) : Type 0 where
   pub fault : LineFault
   pub refused : IsRefusedFiles listeners script fault
   pub nothing : Keeps old.out new.out
-  pub tells : Takes old.err new.err ended.told (told_line (line_fault_text fault))
-  pub one : ended.status ≡ 1
+  pub tells : Takes old.err new.err outcome.told (told_line (line_fault_text fault))
+  pub one : outcome.status ≡ status.Refused
 
-abbrev pub Steps : List ℕ → List ℕ → List (List ℕ) → Streams → Streams → Ended → Type 0
-Steps listeners script captures old new ended = Played listeners script captures old new ended ⊎ Unread listeners script old new ended
+abbrev pub Steps : List ℕ → List ℕ → List (List ℕ) → Streams → Streams → Outcome → Type 0
+Steps listeners script captures old new outcome = Played listeners script captures old new outcome ⊎ Unread listeners script old new outcome
 
--- the same, of which the status alone is known
+-- the same, of which only the exit status is known, as a number
 abbrev pub StepsTo : List ℕ → List ℕ → List (List ℕ) → Streams → Streams → ℕ → Type 0
-StepsTo listeners script captures old new status = (ended : Ended) × Steps listeners script captures old new ended × (status ≡ ended.status)
+StepsTo listeners script captures old new number = (outcome : Outcome) × Steps listeners script captures old new outcome × (number ≡ code outcome.status)

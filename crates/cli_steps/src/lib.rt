@@ -1,8 +1,17 @@
 //! `bpftap steps`: listeners that are played a script over captures.
 #![tactic(auto)]
 
+pub mod answers;
+pub mod command;
 pub mod faults;
-mod picture_files;
-mod step_hints;
+mod hints;
+pub mod laws;
+pub mod listeners;
+mod paths;
+mod picture;
+pub mod plan;
+pub mod reasons;
+pub mod rejections;
+pub mod report;
+pub mod script;
 pub mod steps;
-pub mod steps_files;

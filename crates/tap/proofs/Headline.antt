@@ -1,5 +1,5 @@
 -- A listener's report is that of its own steps.
-use Rattle.std.proofs.Common.{◌≡◌, ℕ, ◌<◌, ◌^◌, Bool, true, false, cond, List, [], ◌∷◌, Option, Some, length, take, min, refl, ap, ◌∙◌, subst, arith, ◌⊎◌, inl, inr, option_map}
+use Rattle.std.proofs.Common.{◌≡◌, ℕ, ◌<◌, ◌^◌, Bool, true, false, cond, List, [], ◌∷◌, ◌++◌, Option, Some, length, take, min, refl, sym, ap, ◌∙◌, subst, arith, ◌⊎◌, inl, inr, option_map}
 use Rattle.std.proofs.lemmas.Bool.{lt-ltb}
 use Rattle.bpfvm.specs.declared.insn.Insn.{Insn}
 use Rattle.bpfvm.specs.Machine.{verdict}
@@ -27,7 +27,7 @@ use Rattle.tap_steps.specs.declared.filters.Filter.TheVariants.{Text, Program}
 use Rattle.tap.specs.Opening.{ProgramOf, Opened, ComesTo}
 use Rattle.tap_steps.proofs.Owns.{goes, played_own}
 use Rattle.tap_steps.proofs.OwnReports.{came_to, reports_by, legal_by, own_alike, zip_at, length_played}
-use Rattle.tap_steps.proofs.Counting.{zip_length}
+use Rattle.tap_steps.proofs.Counting.{zip_length, zip_push}
 use Rattle.tap.specs.Refusals.{ListenersAreRight, RefusesListener, RefusesOne}
 use Rattle.tap.specs.declared.fault.Fault.{Fault}
 use Rattle.tap.specs.declared.fault.Fault.TheVariants as faults
@@ -129,6 +129,11 @@ pub stand_opened : (traced : Bool) (specs : List Spec) (ws : List Watch) → All
 stand_opened traced [] ws z = tt
 stand_opened traced (spec ∷ specs) [] z = absurd z
 stand_opened traced (spec ∷ specs) (w ∷ ws) z = ((z.0.stands, z.0.range), stand_opened traced specs ws z.1)
+
+-- with one more of each, all fit together
+pub zip_more : {A B : Type 0} (R : A → B → Type 0) (xs grown : List A) (ys : List B) (x : A) (y : B) (more : List B) → AllZip R xs ys → R x y → grown ≡ xs ++ x ∷ [] → more ≡ ys ++ y ∷ [] → AllZip R grown more
+zip_more R xs grown ys x y more before one is adds =
+    subst (λ (zs : List _). AllZip R zs more) (sym is) (subst (AllZip R (xs ++ x ∷ [])) (sym adds) (zip_push R xs ys x y before one))
 
 -- no count can pass where listeners begin
 pub fit_opened : (traced : Bool) (n : ℕ) (specs : List Spec) (ws : List Watch) → n < 2 ^ 64 → AllZip (Opened traced) specs ws → CountsFit n ws

@@ -2,6 +2,7 @@
 
 ghost use Rattle.std.specs.Prelude.{List, map, IfOk, IfErr, OnOk};
 ghost use Rattle.tap.specs.Answers.{Traces};
+ghost use Rattle.tap.specs.Filters.{AreExpressionsOf};
 ghost use Rattle.tap.specs.Headline.{Replays};
 ghost use Rattle.tap.specs.Refusals.{IsFirst, NoneStands};
 ghost use Rattle.tap.specs.Opening.{ComesTo};
@@ -10,6 +11,7 @@ ghost use Rattle.tap_steps.specs.declared.playlist.Placed.{Placed};
 
 use crate::fault::Fault;
 use crate::open::open_all;
+use filterlang::Expr;
 use std::alloc::Global;
 use tap_steps::{
     MAX_CAPTURES, MAX_LISTENERS, Playlist, Report, Spec, Step, Trace, Watched, first_missing, play,
@@ -21,6 +23,7 @@ use tap_steps::{
 struct Outcome {
     playlist: Playlist,
     watched: Vec<Watched>,
+    expressions: Vec<Option<Expr>>,
 }
 
 /// Plays steps over the packets of captures.
@@ -32,6 +35,7 @@ fn play_all(
     traced: bool,
 ) -> Result<Outcome, Fault>
     ensures ok { IfOk result (λ o. ComesTo traced (map (λ c. c.now) captures.now) specs.now steps.now o.playlist.arrivals.items o.playlist.record_fault o.watched.items) }
+    ensures expressions { IfOk result (λ o. AreExpressionsOf specs.now o.expressions.items) }
     ensures stands { OnOk result (NoneStands (map (λ c. c.now) captures.now) specs.now steps.now) }
     ensures first { IfErr result (IsFirst (map (λ c. c.now) captures.now) specs.now steps.now) }
 {
@@ -42,9 +46,13 @@ fn play_all(
         return Err(Fault::NoListener(place));
     }
     let playlist = read_playlist(alloc, captures)?;
-    let mut watched = open_all(alloc, specs, traced)?;
+    let (mut watched, expressions) = open_all(alloc, specs, traced)?;
     play(alloc, &mut watched, steps, playlist.arrivals.as_slice())?;
-    Ok(Outcome { playlist, watched })
+    Ok(Outcome {
+        playlist,
+        watched,
+        expressions,
+    })
 }
 
 /// Replays captures to listeners, step by step, and reports what each listener came to.
@@ -79,14 +87,17 @@ pub fn replay(
     listener::laws::answers();
     listener::laws::looking_back();
     listener::laws::fitting();
-    let Outcome { playlist, watched } = play_all(alloc, captures, specs, steps, false)?;
+    let Outcome {
+        playlist,
+        watched,
+        ..
+    } = play_all(alloc, captures, specs, steps, false)?;
     let reports = report_all(alloc, watched)?;
     Ok((reports, playlist.record_fault))
 }
 
-/// Replays captures by the same headline as [`replay`], and with the first fault that stands, and also tells the packets that
-/// arrived, what each listener answered to each of its steps, and before it whether it was closed, the load of its store and the
-/// number of held messages.
+/// Replays captures as [`replay`] does, with the same faults, and also returns the packets that arrived, what each listener
+/// answered to each of its steps, with how it stood before it, and each listener's expression.
 ///
 /// Each step has one right answer, that of the plain list, and this is the one told. The answers take memory for each step, so
 /// that [`Fault::NoMemory`] can come where [`replay`] gives reports, or tells another fault.
@@ -100,6 +111,8 @@ pub fn trace(
     ensures tells { IfOk result (λ r. Replays (map (λ c. c.now) captures.now) specs.now steps.now r.playlist.items r.record_fault r.reports.items) }
     // The answers, over the same playlist.
     ensures answers { IfOk result (λ r. Traces (map (λ c. c.now) captures.now) specs.now steps.now r.playlist.items r.record_fault (map (λ a. a.items) r.answers.items)) }
+    // The expressions, each of which its listener's filter reads as.
+    ensures expressions { IfOk result (λ r. AreExpressionsOf specs.now r.expressions.items) }
     // No fault stands where there are reports, and each fault is the first that stands.
     ensures stands { OnOk result (NoneStands (map (λ c. c.now) captures.now) specs.now steps.now) }
     ensures first { IfErr result (IsFirst (map (λ c. c.now) captures.now) specs.now steps.now) }
@@ -107,11 +120,16 @@ pub fn trace(
     listener::laws::answers();
     listener::laws::looking_back();
     listener::laws::fitting();
-    let Outcome { playlist, watched } = play_all(alloc, captures, specs, steps, true)?;
+    let Outcome {
+        playlist,
+        watched,
+        expressions,
+    } = play_all(alloc, captures, specs, steps, true)?;
     let (reports, answers) = trace_all(alloc, watched)?;
     Ok(Trace {
         reports,
         answers,
+        expressions,
         playlist: playlist.arrivals,
         record_fault: playlist.record_fault,
     })

@@ -2,6 +2,7 @@
 
 use crate::answer::Answered;
 use crate::playlist::Placed;
+use filter_tree::Expr;
 use listener::Message;
 
 /// What a replay tells of one listener.
@@ -27,6 +28,8 @@ pub struct Trace {
     /// For each listener its answers to its own steps, in order. These are each arrival that took a packet, and the
     /// flushes, reads and closes that name the listener.
     pub answers: Vec<Vec<Answered>>,
+    /// For each listener the expression that its filter reads as. A program has none.
+    pub expressions: Vec<Option<Expr>>,
     /// The packets of the captures, in order: the first arrival takes the first, and so on.
     pub playlist: Vec<Placed>,
     /// The first capture that ended with a record fault, and that fault.

@@ -1,8 +1,8 @@
-//! The callers that the pages of `cli_text`, `tap_steps`, `cli_steps_texts`, `cli_steps` and `tap_picture` show, crates/NAME/README.md.
+//! The callers that the pages of `cli_text`, `tap_steps`, `cli_steps` and `tap_picture` show, crates/NAME/README.md.
 
 use crate::same::same;
+use cli_steps::script::read_script;
 use cli_steps::steps::steps;
-use cli_steps_texts::script::read_script;
 use cli_text::fields::{first_line, number, split_once};
 use cli_text::sending::send;
 use cli_text::{Line, LineFault};

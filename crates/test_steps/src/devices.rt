@@ -1,7 +1,8 @@
 //! `bpftap steps` into an output that takes all and sends nothing on.
 
 use crate::same::same;
-use cli_steps::steps::{Asked, play_asked, read_asked};
+use cli_steps::plan::{StepsPlan, read_plan};
+use cli_steps::steps::{Detail, play_plan};
 use std::io;
 use std::io::{ErrorKind, Write};
 use std::process::Abort;
@@ -25,20 +26,25 @@ impl Write for Unflushed {
 }
 
 /// What `steps` prints is a device fault where it is not sent on, and was taken.
-fn is_a_fault(rt: &(impl Abort + AllocGlobal), asked: &Asked, header: &[u8], explained: bool) {
+fn is_a_fault(rt: &(impl Abort + AllocGlobal), plan: &StepsPlan, header: &[u8], detail: Detail) {
     let taken = Vec::new(rt.alloc());
     let mut out = Unflushed { taken };
     let mut err: Vec<u8> = Vec::new(rt.alloc());
-    let ended = play_asked(rt.alloc(), asked, &[header], explained, &mut out, &mut err);
+    let (outcome, _) = play_plan(rt.alloc(), plan, &[header], detail, &mut out, &mut err);
     let line = b"bpftap: Device standard output\n";
-    same(rt, (err.as_slice(), ended.status), (line.as_slice(), 3));
+    same(
+        rt,
+        (err.as_slice(), outcome.status.code()),
+        (line.as_slice(), 3),
+    );
     assert!(rt; out.taken.ends_with(b"held\n"));
 }
 
 #[test]
 fn reports_that_are_not_sent_on_are_a_device_fault(rt: HostRuntime) {
     let header = bytes_of(rt.alloc(), HEADER).expect(&rt, "memory");
-    let asked = read_asked(rt.alloc(), b"32 64", b"arrive").expect(&rt, "both are read");
-    is_a_fault(&rt, &asked, header.as_slice(), false);
-    is_a_fault(&rt, &asked, header.as_slice(), true);
+    let plan = read_plan(rt.alloc(), b"32 64", b"arrive").expect(&rt, "both are read");
+    is_a_fault(&rt, &plan, header.as_slice(), Detail::Reports);
+    is_a_fault(&rt, &plan, header.as_slice(), Detail::Trace);
+    is_a_fault(&rt, &plan, header.as_slice(), Detail::Answers);
 }

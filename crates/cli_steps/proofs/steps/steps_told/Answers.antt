@@ -1,6 +1,7 @@
 use Rattle.std.proofs.Common.{false, inl, inr, refl}
 use Rattle.std.proofs.KnownBytes.{Keeps-refl}
 use Rattle.cli_steps.proofs.Beyond.{plays-all}
+use Rattle.cli_steps.proofs.Ending.{plays-of}
 use Rattle.cli_steps.proofs.steps.steps_told.Goals as goal
 
 pub returns-in-Ok : goal.returns-in-Ok
@@ -8,10 +9,10 @@ returns-in-Ok g c =
     let asked = c.in-Ok.ensures.listeners in
     inl (record {
       specs = asked.all;
-      steps = c.in-Ok.asked.steps.items;
+      steps = c.in-Ok.plan.steps.items;
       of_listeners = asked.asked;
       of_script = c.in-Ok.ensures.script;
-      plays = plays-all false _ asked.all _ _ _ _ _ asked.first c.play_asked.ensures;
+      plays = plays-all false _ asked.all _ _ _ _ _ asked.first (plays-of false false _ _ _ _ _ _ _ c.play_plan.ensures);
     })
 
 pub returns-in-Err : goal.returns-in-Err

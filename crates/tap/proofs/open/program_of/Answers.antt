@@ -1,7 +1,9 @@
-use Rattle.std.proofs.Common.{◌≡◌, inr, refl, sym, subst, ◌⊎◌}
+use Rattle.std.proofs.Common.{◌≡◌, ℕ, List, Some, inr, refl, sym, subst, ◌⊎◌}
 use Rattle.filterlang.specs.Trees.{Tree, tree_of}
 use Rattle.filterlang.specs.Texts.{ReadsAs, IsRefusalOf}
 use Rattle.tap.specs.declared.fault.Fault.TheVariants.{NoMemory, Compile}
+use Rattle.tap_steps.specs.declared.filters.Filter.{Filter}
+use Rattle.tap.specs.Filters.{IsReadAs}
 use Rattle.tap.specs.Refusals.{FilterIsRight, RefusesFilter}
 use Rattle.tap.specs.Opening.{ProgramOf}
 use Rattle.tap.proofs.Refusing.{misread_refuses, not_deep, refuses_compile, is_expression}
@@ -10,6 +12,7 @@ use Rattle.tap.proofs.open.program_of.Goals as goal
 pub returns-in-Err : goal.returns-in-Err
 returns-in-Err c = record {
   ok = tt;
+  expr = tt;
   stands = tt;
   err = subst (λ f. (c.misread.result ≡ NoMemory) ⊎ RefusesFilter c.args.l f c.args.spec.now.snap c.misread.result) (sym c.in-Text.is)
       (misread_refuses c.args.l c.args.spec.now.snap c.in-Text.text c.in-Err.fault _ (subst (λ t. IsRefusalOf t c.in-Err.fault) c.as_str.ensures.value c.in-Err.ensures.refused) c.misread.ensures);
@@ -25,6 +28,11 @@ returns-in-Ok-compile-clause-ok c =
       c.in-Ok-compile.ensures.program,
     )
 
+pub returns-in-Ok-compile-clause-expr : goal.returns-in-Ok-compile-clause-expr
+returns-in-Ok-compile-clause-expr c =
+    subst (λ (f : Filter). IsReadAs f (Some c.in-Ok.expr)) (sym c.in-Text.is)
+    (subst (λ (t : List ℕ). ReadsAs t (tree_of c.in-Ok.expr)) c.as_str.ensures.value c.in-Ok.ensures.reads)
+
 pub returns-in-Ok-compile-clause-stands : goal.returns-in-Ok-compile-clause-stands
 returns-in-Ok-compile-clause-stands c =
     subst (λ f. FilterIsRight f c.args.spec.now.snap) (sym c.in-Text.is) (
@@ -36,6 +44,7 @@ returns-in-Ok-compile-clause-stands c =
 pub returns : goal.returns
 returns c = record {
   ok = tt;
+  expr = tt;
   stands = tt;
   err = inr (subst (λ f. RefusesFilter c.args.l f c.args.spec.now.snap (Compile c.args.l c.in-Err-compile.refusal)) (sym c.in-Text.is)
       (refuses_compile c.args.l c.args.spec.now.snap c.in-Text.text

@@ -1,0 +1,10 @@
+use Rattle.std.proofs.Common.{suc, drop}
+use Rattle.cli_steps.specs.Answers.{answers_from}
+use Rattle.cli_steps.proofs.Answering.{IsSoFar}
+use Rattle.cli_steps.proofs.answers.write_answers.Given as goal
+
+-- the steps before were written, and these are left
+abbrev pub invariant-loop-n : goal.invariant-loop-n
+invariant-loop-n g l =
+    IsSoFar (g.O.Write.contents l.fn.out) (g.O.Write.contents l.out) (answers_from 1 l.steps l.playlist l.fn.all.items)
+    (answers_from (suc l.n) (drop l.n l.steps) l.packets l.all.items)

@@ -1,0 +1,23 @@
+use Rattle.std.proofs.Common.{◌∙◌, subst}
+use Rattle.std.proofs.lemmas.Result.{err_from_is_err_and}
+use Rattle.std.specs.Io.KnownBytes.{Appends}
+use Rattle.cli_steps.specs.Printed.{batch_line, message_lines}
+use Rattle.cli_text.specs.Sending.{TakesPart}
+use Rattle.cli_text.proofs.Taking.{TakesPart-more, TakesPart-none, Takes-then}
+use Rattle.cli_steps.proofs.report.write_batch.Goals as goal
+
+pub returns-in_err-put_batch : goal.returns-in_err-put_batch
+returns-in_err-put_batch g c =
+    let p = err_from_is_err_and c.from_residual.result c.from_residual.ensures.1 in
+    rw p.1 (TakesPart-none _ _)
+
+pub returns-in_err-send : goal.returns-in_err-send
+returns-in_err-send g c =
+    let p = err_from_is_err_and c.from_residual-in_err-send.result c.from_residual-in_err-send.ensures.1 in
+    let text = c.as_bytes.ensures ∙ c.in_ok-put_batch.ensures in
+    rw p.1 (TakesPart-more _ _ (batch_line c.args.b) (message_lines c.args.batch.now) (subst (TakesPart _ _) text c.in_err-send.ensures))
+
+pub returns : goal.returns
+returns g c =
+    let text = c.as_bytes.ensures ∙ c.in_ok-put_batch.ensures in
+    Takes-then _ _ _ (batch_line c.args.b) (message_lines c.args.batch.now) _ (subst (Appends _ _) text c.in_ok-send.ensures) c.write_messages.ensures

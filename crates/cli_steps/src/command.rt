@@ -1,0 +1,200 @@
+//! `bpftap steps`, over files.
+
+ghost use Rattle.std.specs.Prelude.{◌≡◌, false, map};
+ghost use Rattle.cli_steps.specs.Playing.{is_explained, is_traced};
+ghost use Rattle.cli_steps.specs.Telling.{IsStillTold, TellsPlayed};
+
+use crate::faults::FaultText;
+use crate::hints::{hint_line, hint_replay};
+use crate::paths::{check_paths, read_captures};
+use crate::picture::draw;
+use crate::plan::{StepsPlan, read_plan};
+use crate::steps::{Detail, Replayed, play_plan};
+use cli_args::steps::StepsWords;
+use cli_files::piped::Piped;
+use cli_files::reading::read_file;
+use cli_report::failures::hint_output;
+use cli_report::{Noted, TakesHints};
+use cli_text::Status;
+use cli_text::sending::send;
+use cli_text::telling::{Outcome, tell_fault, tell_line};
+use savefile::Fault;
+use std::alloc::{AllocError, Global};
+use std::fs::Files;
+use std::io::{BufWriter, Write};
+
+/// How many bytes of output are gathered before they are written.
+const OUTPUT_BUFFER: usize = 1 << 16;
+
+/// How many bytes of memory a report has from the start, so that it can be made when memory is refused.
+const REPORT: usize = 256;
+
+/// What is reported of standard output that failed.
+const OUTPUT_FAILED: &[u8] = b"bpftap: Device standard output\n";
+
+/// What is still reported if standard output is a pipe that nobody reads any more: not that this failed.
+fn omit_unread_output(report: &[u8], is_unread: bool) -> &[u8]
+    ensures still { IsStillTold report.now result.now }
+    ensures read { is_unread ≡ false → result.now ≡ report.now }
+{
+    match report.strip_prefix(OUTPUT_FAILED) {
+        Some(rest) if is_unread => rest,
+        _ => report,
+    }
+}
+
+/// Plays a plan, and prints by pieces. That nobody reads what is printed any more is not reported.
+///
+/// If no hints are wanted, standard error took what [`play_plan`] reports, but for that.
+pub fn play<O: Write, E: TakesHints>(
+    alloc: Global,
+    plan: &StepsPlan,
+    captures: &[&[u8]],
+    detail: Detail,
+    out: &mut O,
+    err: &mut E,
+) -> (Outcome, Result<Replayed, tap::Fault>)
+    ensures { E.takes_hints err.old ≡ false → TellsPlayed (is_explained detail) (is_traced detail)
+        (map (λ c. c.now) captures.now) plan.now.specs.items plan.now.steps.items (E.contents err.old) (E.contents err.new) result.0 result.1 }
+{
+    let hinted = err.takes_hints();
+    let mut noted = Noted::new(Piped::new(out));
+    let (Ok(mut report), Ok(mut printed)) = (
+        Vec::with_capacity(alloc, REPORT),
+        BufWriter::with_capacity(alloc, OUTPUT_BUFFER, &mut noted),
+    ) else {
+        let outcome = Outcome {
+            status: Status::Refused,
+            told: tell_line(FaultText(tap::Fault::NoMemory), err),
+        };
+        return (outcome, Err(tap::Fault::NoMemory));
+    };
+    let (outcome, replayed) = play_plan(alloc, plan, captures, detail, &mut printed, &mut report);
+    drop(printed);
+    let sent = send(
+        omit_unread_output(report.as_slice(), noted.get_ref().is_unread()),
+        err,
+    );
+    if hinted {
+        hint_output(&noted, err);
+    }
+    let outcome = Outcome {
+        status: outcome.status,
+        told: outcome.told.and(sent),
+    };
+    (outcome, replayed)
+}
+
+/// Reads the plan, and reports the first bad line. `Err` is the exit status then.
+fn read_lines<E: TakesHints>(
+    alloc: Global,
+    listeners: &[u8],
+    script: &[u8],
+    err: &mut E,
+) -> Result<StepsPlan, Status> {
+    match read_plan(alloc, listeners, script) {
+        Ok(plan) => Ok(plan),
+        Err(fault) => {
+            let _ = tell_line(fault, err);
+            hint_line(listeners, script, fault, err);
+            Err(Status::Refused)
+        }
+    }
+}
+
+fn borrow_all(alloc: Global, texts: &[Vec<u8>]) -> Result<Vec<&[u8]>, AllocError> {
+    texts.iter().map(|text| text.as_slice()).collect(alloc)
+}
+
+/// What is wanted of the replay: its answers with `-v`, and its trace with `-p`.
+fn detail_of(words: &StepsWords<'_>) -> Detail {
+    match words.picture {
+        _ if words.explained => Detail::Answers,
+        Some(_) => Detail::Trace,
+        None => Detail::Reports,
+    }
+}
+
+/// Draws the picture of a replay, if it is wanted, and returns the exit status.
+fn draw_wanted<R: Files + AllocGlobal, E: TakesHints>(
+    rt: &R,
+    words: &StepsWords<'_>,
+    plan: &StepsPlan,
+    replayed: Result<Replayed, tap::Fault>,
+    err: &mut E,
+) -> Status {
+    match (words.picture, replayed) {
+        (
+            Some(path),
+            Ok(
+                Replayed {
+                    trace: Some(trace),
+                    ..
+                },
+            ),
+        ) => draw(rt, plan, &trace, path, err),
+        _ => Status::Clean,
+    }
+}
+
+/// What a replay needs: its plan, with the text of SCRIPT for hints, and the texts of the captures.
+#[derive(Drop)]
+struct Job {
+    plan: StepsPlan,
+    script: Vec<u8>,
+    texts: Vec<Vec<u8>>,
+}
+
+/// Reads LISTENERS and SCRIPT, checks the paths, and reads the captures, in this order.
+fn prepare<R: Files + AllocGlobal, E: TakesHints>(
+    rt: &R,
+    words: &StepsWords<'_>,
+    err: &mut E,
+) -> Result<Job, Status> {
+    let listeners = read_file(rt, words.listeners, err)?;
+    let script = read_file(rt, words.script, err)?;
+    let plan = read_lines(rt.alloc(), listeners.as_slice(), script.as_slice(), err)?;
+    check_paths(rt, words, err)?;
+    let texts = read_captures(rt, words.inputs.as_slice(), err)?;
+    Ok(Job {
+        plan,
+        script,
+        texts,
+    })
+}
+
+/// Plays the plan over the captures, reports how that ended, and draws the picture.
+fn play_and_report<R: Files + AllocGlobal, O: Write, E: TakesHints>(
+    rt: &R,
+    words: &StepsWords<'_>,
+    job: &Job,
+    out: &mut O,
+    err: &mut E,
+) -> Status {
+    let Job {
+        plan,
+        script,
+        texts,
+    } = job;
+    let Ok(captures) = borrow_all(rt.alloc(), texts.as_slice()) else {
+        return tell_fault(Fault::NoMemory, Status::Refused, err);
+    };
+    let captures = captures.as_slice();
+    let (outcome, replayed) = play(rt.alloc(), plan, captures, detail_of(words), out, err);
+    hint_replay(script.as_slice(), plan, captures, &replayed, err);
+    let drawn = draw_wanted(rt, words, plan, replayed, err);
+    outcome.status.max(drawn)
+}
+
+/// `bpftap steps`: LISTENERS and SCRIPT are read, and the paths are compared, before a capture is read. The script is played once.
+pub fn steps_command<R: Files + AllocGlobal, O: Write, E: TakesHints>(
+    rt: &R,
+    words: &StepsWords<'_>,
+    out: &mut O,
+    err: &mut E,
+) -> Status {
+    match prepare(rt, words, err) {
+        Ok(job) => play_and_report(rt, words, &job, out, err),
+        Err(status) => status,
+    }
+}

@@ -1,0 +1,53 @@
+//! The files of `bpftap steps`: which are compared, and the captures.
+
+use crate::faults::FaultText;
+use cli_args::steps::StepsWords;
+use cli_files::paths::{STANDARD_OUTPUT, all_apart};
+use cli_files::reading::read_file;
+use cli_report::TakesHints;
+use cli_text::Status;
+use cli_text::telling::tell_fault;
+use savefile::Fault;
+use std::alloc::{AllocError, Global};
+use std::fs::Files;
+use tap::MAX_CAPTURES;
+
+/// All paths that are read.
+fn read_paths<'a>(alloc: Global, words: &StepsWords<'a>) -> Result<Vec<&'a str>, AllocError> {
+    let mut paths = Vec::from_slice(alloc, &[words.listeners, words.script])?;
+    paths.extend_from_slice(words.inputs.as_slice())?;
+    Ok(paths)
+}
+
+/// Checks the paths before a capture is read. There may not be too many captures, and no file that is read may be the one that the
+/// reports are printed to, or the one that the picture is drawn to. `Err` is the exit status of a fault that was reported.
+pub fn check_paths<R: Files + AllocGlobal, E: TakesHints>(
+    rt: &R,
+    words: &StepsWords<'_>,
+    err: &mut E,
+) -> Result<(), Status> {
+    if words.inputs.len() > MAX_CAPTURES {
+        return Err(tell_fault(FaultText(tap::Fault::TooMany), Status::Refused, err));
+    }
+    let Ok(read) = read_paths(rt.alloc(), words) else {
+        return Err(tell_fault(Fault::NoMemory, Status::Refused, err));
+    };
+    let picture = words.picture.as_slice();
+    all_apart(rt, Some(STANDARD_OUTPUT), read.as_slice(), picture, err)
+}
+
+/// Reads all captures. `Err` is the exit status of a fault that was reported.
+pub fn read_captures<R: Files + AllocGlobal, E: TakesHints>(
+    rt: &R,
+    paths: &[&str],
+    err: &mut E,
+) -> Result<Vec<Vec<u8>>, Status> {
+    let mut texts = Vec::new(rt.alloc());
+    for path in paths {
+        let text = read_file(rt, path, err)?;
+        if texts.push(text).is_err() {
+            return Err(tell_fault(Fault::NoMemory, Status::Refused, err));
+        }
+    }
+    Ok(texts)
+}

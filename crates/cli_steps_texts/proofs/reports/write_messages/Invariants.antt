@@ -1,7 +1,0 @@
-use Rattle.std.proofs.Common.{take}
-use Rattle.std.specs.Io.KnownBytes.{Appends}
-use Rattle.cli_steps_texts.specs.Printed.{message_lines}
-use Rattle.cli_steps_texts.proofs.reports.write_messages.Given as goal
-
-abbrev pub invariant-loop-message : goal.invariant-loop-message
-invariant-loop-message g l = Appends (g.O.Write.contents l.fn.out) (g.O.Write.contents l.out) (message_lines (take l.message-index l.messages))
