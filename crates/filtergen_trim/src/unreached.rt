@@ -12,6 +12,9 @@ use bpfvm::{Insn, code};
 /// The most instructions that code has before those that nothing reaches are taken out: 40 more than a program.
 pub const MAX_CODE: usize = 552;
 
+// Clauses and definitions name the constant: it is this number.
+const _: () = prove!(MAX_CODE == 552);
+
 /// Where a run goes on behind an instruction.
 #[derive(Clone, Copy)]
 enum Onward {

@@ -21,6 +21,9 @@ use std::alloc::Global;
 /// The most bytes that a text may have.
 pub const MAX_TEXT: usize = 8192;
 
+// Clauses and definitions name the constant: it is this number.
+const _: () = prove!(MAX_TEXT == 8192);
+
 /// Why no token begins at a place of a text.
 #[derive(Clone, Copy, Debug, PartialEq, Eq)]
 pub enum Cause {

@@ -1,7 +1,7 @@
 -- Buffers as contracts see them.
 use Rattle.std.specs.Prelude.{ℕ, ◌<◌, ◌≤◌, ◌⊎◌, List, [], ◌∷◌, ◌++◌, length}
 use Rattle.savefile.specs.declared.record.TheConstants.{MAX_SNAP}
-use Rattle.listener.specs.declared.buffer.TheConstants.{MAX_CAPACITY}
+use Rattle.listener.specs.declared.buffer.TheConstants.{MAX_CAPACITY, MIN_CAPACITY}
 use Rattle.listener.specs.declared.fault.OpenFault.{OpenFault}
 use Rattle.listener.specs.declared.fault.OpenFault.TheVariants.{BadSnap, BadCapacity, NoMemory}
 use Rattle.listener.specs.declared.message.Message.{Message}
@@ -30,5 +30,5 @@ message_in r = record { capture = r.capture; place = r.place; sec = r.sec; nanos
 -- why a buffer isn't made; want of memory, only where its capacity is in range
 abbrev pub RefusesBuffer : ℕ → OpenFault → Type 0
 RefusesBuffer capacity BadSnap = ⊥
-RefusesBuffer capacity BadCapacity = (capacity < 40) ⊎ (MAX_CAPACITY < capacity)
+RefusesBuffer capacity BadCapacity = (capacity < MIN_CAPACITY) ⊎ (MAX_CAPACITY < capacity)
 RefusesBuffer capacity NoMemory = (40 ≤ capacity) × (capacity ≤ MAX_CAPACITY)

@@ -22,10 +22,16 @@ const FIELDS_LEN: usize = 32;
 /// Zero bytes, as many as a padding has at most.
 const ZEROS: [u8; 8] = [0; 8];
 
-/// The least and the most bytes of a buffer.
-const LEAST_CAPACITY: usize = 40;
+/// The fewest bytes that a buffer may have: room for the record of one byte.
+pub const MIN_CAPACITY: usize = 40;
 
-pub(crate) const MAX_CAPACITY: usize = 1_048_576;
+/// The most bytes that a buffer may have.
+pub const MAX_CAPACITY: usize = 1_048_576;
+
+// Clauses and definitions name the constants: they are these numbers.
+const _: () = prove!(MIN_CAPACITY == 40);
+
+const _: () = prove!(MAX_CAPACITY == 1_048_576);
 
 /// The bytes of the record of so many bytes of data.
 pub(crate) fn size(kept: u32) -> usize
@@ -107,10 +113,10 @@ impl Buffer {
     /// [`OpenFault::BadCapacity`] comes exactly where the capacity is out of that range.
     pub fn new(alloc: Global, capacity: usize) -> Result<Buffer, OpenFault>
         ensures ok { IfOk result (λ buffer. buffer ≡ filled capacity []) }
-        ensures in_range { OnOk result ((40 ≤ capacity) × (capacity ≤ MAX_CAPACITY)) }
+        ensures in_range { OnOk result ((MIN_CAPACITY ≤ capacity) × (capacity ≤ MAX_CAPACITY)) }
         ensures only { IfErr result (RefusesBuffer capacity) }
     {
-        if capacity < LEAST_CAPACITY || capacity > MAX_CAPACITY {
+        if capacity < MIN_CAPACITY || capacity > MAX_CAPACITY {
             return Err(OpenFault::BadCapacity);
         }
         Ok(Buffer {

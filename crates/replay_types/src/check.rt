@@ -20,6 +20,15 @@ pub const MAX_CAPTURES: usize = 65_536;
 /// The most buffers that go round between the two threads of a listener.
 pub const MAX_SPARES: usize = 64;
 
+// The contracts have the numbers.
+const _: () = prove!(MAX_INTERFACES == 16);
+
+const _: () = prove!(MAX_TASKS == 64);
+
+const _: () = prove!(MAX_CAPTURES == 65_536);
+
+const _: () = prove!(MAX_SPARES == 64);
+
 /// Tests that there are not too many of anything.
 fn are_few<R, W>(interfaces: &[Interface<R, W>]) -> bool
     ensures { IsTrue result ↔ AreFew interfaces.now }

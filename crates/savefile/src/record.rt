@@ -23,6 +23,9 @@ pub(crate) const RECORD_HEADER_LEN: usize = 16;
 /// The most bytes that are captured of a packet, so that a record may have, read or written: libpcap's `MAXIMUM_SNAPLEN`.
 pub const MAX_SNAP: u32 = 262_144;
 
+// Clauses and definitions name the constant: it is this number.
+const _: () = prove!(MAX_SNAP == 262_144);
+
 impl RecordHeader {
     /// That of no packet.
     pub(crate) const EMPTY: RecordHeader = RecordHeader {

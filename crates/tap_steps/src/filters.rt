@@ -25,3 +25,6 @@ pub struct Spec {
 
 /// The most listeners of a replay.
 pub const MAX_LISTENERS: usize = 64;
+
+// Clauses and definitions name the constant: it is this number.
+const _: () = prove!(MAX_LISTENERS == 64);

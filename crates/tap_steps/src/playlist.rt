@@ -108,6 +108,9 @@ fn look_at_header(n: u32, text: &[u8]) -> Result<(), PlaylistFault>
 /// The most captures of a replay.
 pub const MAX_CAPTURES: usize = 65_536;
 
+// Clauses and definitions name the constant: it is this number.
+const _: () = prove!(MAX_CAPTURES == 65_536);
+
 /// Reads all captures. Those behind one with a record fault give no packets, but their headers count.
 pub fn read_playlist(alloc: Global, captures: &[&[u8]]) -> Result<Playlist, PlaylistFault>
     requires { length captures.now ≤ 65536 }
