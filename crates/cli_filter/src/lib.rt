@@ -1,7 +1,11 @@
-//! The filter that a command is given: an expression or the listing of a file, and what is printed where it is refused.
+//! The filter that a command is given: an expression or the listing of a file, and what is printed where it is refused; and the plan
+//! of a file of lines, each with a filter.
 #![tactic(auto)]
 
 mod filters;
+pub mod plan;
+pub mod plan_files;
+pub mod plan_hints;
 mod program;
 mod tell;
 

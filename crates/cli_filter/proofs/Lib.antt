@@ -1,0 +1,4 @@
+pub mod Outputs
+pub mod Planned
+pub mod Fields
+pub mod Kept

@@ -1,0 +1,94 @@
+-- The plan of a file of lines, each of which names a capture to write, by its OUT, and a filter. `Is` says what a line says; `output`,
+-- `expression` and `snap` are what that has of OUT, of the filter and of the snapshot length.
+use Rattle.std.specs.Prelude.{◌≡◌, ◌≢◌, ℕ, ◌+◌, ◌⊎◌, List, [], ◌∷◌, ◌++◌, length, take, Any, AllPairs, Some, codes, slice_get}
+use Rattle.std.specs.Fmt.{decimal}
+use Rattle.std.specs.List.{AllZip}
+use Rattle.std.specs.Str.{IsUtf8}
+use Rattle.bpfvm.specs.Listing.{space, further_lines}
+use Rattle.bpfvm.specs.declared.insn.Insn.{Insn}
+use Rattle.filterlang.specs.declared.fault.Fault.TheVariants as misread
+use Rattle.filtergen_facts.specs.declared.refusal.Refusal.TheVariants as uncompiled
+use Rattle.filtergen.specs.declared.expression.ExpressionFault.{ExpressionFault}
+use Rattle.filtergen.specs.declared.expression.ExpressionFault.TheVariants.{Text, Tree}
+use Rattle.filtergen.specs.Expressions.{IsProgramOf, IsUncompiled}
+use Rattle.cli_filter_hints.specs.Faults.{expression_fault_text, compile_fault_text}
+use Rattle.cli_text.specs.Fields.{IsWord}
+use Rattle.cli_text.specs.Files.{Say, IsFileOf}
+use Rattle.cli_filter.specs.declared.plan.PlanFault.{PlanFault}
+use Rattle.cli_filter.specs.declared.plan.PlanFault.TheVariants.{Line, Expression, NoMemory}
+
+-- the end of a line is OUT, a space and EXPRESSION; if EXPRESSION is empty the space before it may be missing
+abbrev pub AreCut : List ℕ → List ℕ → List ℕ → Type 0
+AreCut rest output expression = (rest ≡ output ++ space ∷ expression) ⊎ ((rest ≡ output) × (expression ≡ []))
+
+-- OUT has a byte and no space; both are UTF-8
+pub record AreLastFields (rest output expression : List ℕ) : Type 0 where
+  pub cut : AreCut rest output expression
+  pub one_output : IsWord output
+  pub named : output ≢ []
+  pub output_text : IsUtf8 output
+  pub expression_text : IsUtf8 expression
+
+-- no two have the same OUT
+abbrev pub HaveOwnOutputs : {X : Type 0} → (X → List ℕ) → List X → Type 0
+HaveOwnOutputs output asked = AllPairs (λ earlier later. output earlier ≢ output later) asked
+
+-- Each line of a text says something, with an OUT of its own; the first of these, `most` at most, are kept.
+abbrev pub AreLines : {X : Type 0} → (List ℕ → X → Type 0) → (X → List ℕ) → ℕ → List ℕ → List X → Type 0
+AreLines {X} Is output most text kept = (asked : List X) × IsFileOf Is text asked × HaveOwnOutputs output asked × (kept ≡ take most asked)
+
+-- the n-th line of a text, from 1, is the first that lacks the form, or has the OUT of an earlier line
+pub record IsFirstBadLine {X : Type 0} (Is : List ℕ → X → Type 0) (output : X → List ℕ) (text : List ℕ) (n : ℕ) : Type 0 where
+  pub before : List (List ℕ)
+  pub line : List ℕ
+  pub behind : List (List ℕ)
+  pub lines : further_lines text ≡ before ++ line ∷ behind
+  pub said : List X
+  pub good : Say Is before said
+  pub own : HaveOwnOutputs output said
+  pub bad : (asked : X) → Is line asked → Any (λ earlier. output earlier ≡ output asked) said
+  pub place : n ≡ length before + 1
+
+-- why the lines are refused: the first bad line, or out of memory
+abbrev pub AreNoLines : {X : Type 0} → (List ℕ → X → Type 0) → (X → List ℕ) → List ℕ → PlanFault → Type 0
+AreNoLines Is output text (Line n) = IsFirstBadLine Is output text n
+AreNoLines Is output text (Expression n why) = ⊥
+AreNoLines Is output text NoMemory = Unit {0}
+
+-- the program stands for a line's expression at its snapshot length
+abbrev pub IsCompiled : {X : Type 0} → (X → List ℕ) → (X → ℕ) → X → List Insn → Type 0
+IsCompiled expression snap asked program = IsProgramOf (expression asked) (snap asked) program
+
+-- the n-th of these lines, from 0, is the first whose expression has no program, for this cause
+pub record IsFirstUncompiled {X : Type 0} (expression : X → List ℕ) (snap : X → ℕ) (lines : List X) (n : ℕ) (why : ExpressionFault) : Type 0 where
+  pub asked : X
+  pub at : slice_get lines n ≡ Some asked
+  pub applies : IsUncompiled (expression asked) (snap asked) why
+  pub programs : List (List Insn)
+  pub earlier : AllZip (IsCompiled expression snap) (take n lines) programs
+
+-- why there are no programs: the first expression that has none, or out of memory
+abbrev pub AreUncompiled : {X : Type 0} → (X → List ℕ) → (X → ℕ) → List X → PlanFault → Type 0
+AreUncompiled expression snap lines (Line n) = ⊥
+AreUncompiled expression snap lines (Expression n why) = IsFirstUncompiled expression snap lines n why
+AreUncompiled expression snap lines NoMemory = Unit {0}
+
+-- why there is no plan: the first bad line; else the first expression that has no program; or out of memory
+abbrev pub IsRefusedPlan : {X : Type 0} → (List ℕ → X → Type 0) → (X → List ℕ) → (X → List ℕ) → (X → ℕ) → ℕ → List ℕ → PlanFault → Type 0
+IsRefusedPlan Is output expression snap most text (Line n) = IsFirstBadLine Is output text n
+IsRefusedPlan {X} Is output expression snap most text (Expression n why) =
+    (lines : List X) × AreLines Is output most text lines × IsFirstUncompiled expression snap lines n why
+IsRefusedPlan Is output expression snap most text NoMemory = Unit {0}
+
+-- how the fault of the n-th line's expression is printed; out of memory has no place
+abbrev pub uncompiled_text : ℕ → ExpressionFault → List ℕ
+uncompiled_text n (Text misread.NoMemory) = codes "NoMemory"
+uncompiled_text n (Tree uncompiled.NoMemory) = codes "NoMemory"
+uncompiled_text n (Text fault) = codes "Expression " ++ decimal n ++ codes " " ++ expression_fault_text fault
+uncompiled_text n (Tree refusal) = codes "Compile " ++ decimal n ++ codes " " ++ compile_fault_text refusal
+
+-- how a fault is printed; that of a line begins with the name of the file
+abbrev pub plan_fault_text : List ℕ → PlanFault → List ℕ
+plan_fault_text file (Line n) = file ++ codes " " ++ decimal n
+plan_fault_text file (Expression n why) = uncompiled_text n why
+plan_fault_text file NoMemory = codes "NoMemory"

@@ -1,0 +1,40 @@
+//! The files that a plan writes.
+
+ghost use Rattle.std.specs.Prelude.{◌≡◌, IfOk, length, vec_len};
+
+use crate::plan::PlanLine;
+use cli_files::paths::{STANDARD_OUTPUT, all_apart};
+use cli_report::TakesHints;
+use cli_text::Status;
+use cli_text::telling::tell_fault;
+use savefile::Fault;
+use std::alloc::{AllocError, Global};
+use std::fs::Files;
+
+/// Refuses, with a line on `err`, a plan by which something would be lost: an OUT is a file that is read, the file of another OUT,
+/// or the one that lines are printed to.
+pub fn check_outputs<'a, R: Files + AllocGlobal, L: PlanLine<'a>, E: TakesHints>(
+    rt: &R,
+    read: &[&str],
+    lines: &[L],
+    err: &mut E,
+) -> Result<(), Status> {
+    let Ok(outputs) = outputs_of(rt.alloc(), lines) else {
+        return Err(tell_fault(Fault::NoMemory, Status::Refused, err));
+    };
+    all_apart(rt, Some(STANDARD_OUTPUT), read, outputs.as_slice(), err)
+}
+
+/// The OUT of each line.
+pub fn outputs_of<'a, L: PlanLine<'a>>(
+    alloc: Global,
+    lines: &[L],
+) -> Result<Vec<&'a str>, AllocError>
+    ensures { IfOk result (λ outputs. vec_len outputs ≡ length lines.now) }
+{
+    let mut outputs = Vec::with_capacity(alloc, lines.len())?;
+    for line in lines {
+        outputs.push(line.output())?;
+    }
+    Ok(outputs)
+}

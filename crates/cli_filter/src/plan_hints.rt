@@ -1,0 +1,28 @@
+//! Hints on a plan that is refused, below the line of its fault.
+
+use crate::filters::hint_expression;
+use crate::plan::{PlanFault, PlanLine, read_lines};
+use cli_report::TakesHints;
+use cli_report::files::hint_bad_line;
+use std::alloc::Global;
+
+/// Hints on the line or the expression that is refused. `form` is the form of a line.
+pub fn hint_plan<'a, L: PlanLine<'a>, E: TakesHints>(
+    alloc: Global,
+    text: &'a [u8],
+    terms: L::Terms,
+    form: &str,
+    fault: PlanFault,
+    err: &mut E,
+) {
+    match fault {
+        PlanFault::Line(line) => hint_bad_line(text, line, form, err),
+        PlanFault::Expression(n, fault) => {
+            let lines: Result<Vec<L>, PlanFault> = read_lines(alloc, text, terms, usize::MAX);
+            if let Some(line) = lines.as_ref().ok().and_then(|lines| lines.get(n)) {
+                hint_expression(line.expression(), fault, err);
+            }
+        }
+        PlanFault::NoMemory => {}
+    }
+}
