@@ -1,0 +1,48 @@
+//! The captures that a command reads and writes, each behind what a hint asks of it, and none of them opened before it is needed.
+
+use crate::late::LateInput;
+use cli_report::noted::NotedInput;
+use cli_report::{Noted, TakesHints};
+use cli_text::Status;
+use cli_text::telling::tell_fault;
+use savefile::{Counted, Fault};
+use std::alloc::{AllocError, Global};
+use std::fs::Files;
+use std::io;
+use std::io::{BufWriter, Write};
+
+/// How many bytes are gathered before they are written.
+const OUTPUT_BUFFER: usize = 1 << 16;
+
+/// A capture that is opened at its first read.
+pub type Input<'r, 'p, R> = NotedInput<LateInput<'r, 'p, R>>;
+
+/// The captures at these paths, none of them opened.
+pub fn inputs<'r, 'p, R: Files>(
+    rt: &'r R,
+    alloc: Global,
+    paths: &[&'p str],
+) -> Result<Vec<Input<'r, 'p, R>>, AllocError> {
+    let mut inputs = Vec::with_capacity(alloc, paths.len())?;
+    for path in paths {
+        inputs.push(Counted::new(Noted::new(LateInput::new(rt, *path))))?;
+    }
+    Ok(inputs)
+}
+
+/// A capture that is written, with a buffer in front of it.
+pub fn buffered<W: Write + Drop>(alloc: Global, inner: W) -> io::Result<Counted<BufWriter<W>>> {
+    Ok(Counted::new(BufWriter::with_capacity(alloc, OUTPUT_BUFFER, inner)?))
+}
+
+/// Standard output with a buffer in front of it; or reports that memory ran out.
+pub fn buffered_output<W: Write + Drop, E: TakesHints>(
+    alloc: Global,
+    out: W,
+    err: &mut E,
+) -> Result<BufWriter<Noted<W>>, Status> {
+    match BufWriter::with_capacity(alloc, OUTPUT_BUFFER, Noted::new(out)) {
+        Ok(out) => Ok(out),
+        Err(_) => Err(tell_fault(Fault::NoMemory, Status::Refused, err)),
+    }
+}
