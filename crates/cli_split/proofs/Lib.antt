@@ -2,9 +2,6 @@ pub mod Lists
 pub mod Standings
 pub mod Readings
 pub mod Steps
-pub mod Fielded
-pub mod OwnOutputs
 pub mod Planned
 pub mod Splits
-pub mod Folds
 pub mod Printing

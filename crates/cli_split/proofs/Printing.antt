@@ -5,7 +5,7 @@ use Rattle.std.specs.Result.{is_err}
 use Rattle.savefile.specs.declared.fault.Fault.{Fault}
 use Rattle.pcap_cut.specs.declared.cut.Tally.{Tally}
 use Rattle.cli_text.specs.Texts.{numbered}
-use Rattle.cli_split.specs.declared.outputs.SplitLine.{SplitLine}
+use Rattle.cli_split.specs.declared.plan.SplitLine.{SplitLine}
 use Rattle.cli_split.specs.declared.split.SplitEnd.{SplitEnd}
 use Rattle.cli_split.specs.Printed.{count_text, line_text, printed_split, told_part}
 use Rattle.cli_split.specs.Splitting.{passes_header}

@@ -2,7 +2,6 @@ pub mod Writing
 pub mod Standing
 pub mod Reading
 pub mod Splitting
-pub mod Outputs
-pub mod Planning
+pub mod Lines
 pub mod Printed
 pub mod Statuses

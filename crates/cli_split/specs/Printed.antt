@@ -1,12 +1,12 @@
 -- The text that is printed of a split.
-use Rattle.std.specs.Prelude.{ℕ, Bool, List, [], ◌++◌, Option, Some, None, Result, Ok, Err, codes, slice_get, if◌then◌else◌}
+use Rattle.std.specs.Prelude.{ℕ, List, [], ◌++◌, Option, Some, None, Result, Ok, Err, codes, slice_get, if◌then◌else◌}
 use Rattle.std.specs.Fmt.{decimal}
 use Rattle.savefile.specs.declared.fault.Fault.{Fault}
 use Rattle.pcap_cut.specs.declared.cut.Tally.{Tally}
 use Rattle.cli_text.specs.Telling.{end_of_line}
 use Rattle.cli_text.specs.Texts.{numbered}
 use Rattle.cli_split.specs.declared.part.PartEnd.{PartEnd}
-use Rattle.cli_split.specs.declared.outputs.SplitLine.{SplitLine}
+use Rattle.cli_split.specs.declared.plan.SplitLine.{SplitLine}
 use Rattle.cli_split.specs.declared.split.SplitEnd.{SplitEnd}
 use Rattle.cli_split.specs.Splitting.{passes_header}
 

@@ -1,9 +1,10 @@
 //! `bpftap split`: captures that are split by several filters in one pass.
 #![tactic(auto)]
 
-pub mod outputs;
+pub mod command;
+mod hints;
 pub mod part;
+mod paths;
 pub mod plan;
+pub mod report;
 pub mod split;
-pub mod split_files;
-pub mod tell;

@@ -1,4 +1,4 @@
-//! The parts of a split: what each asks for, and what it came to.
+//! The parts of a split: what each asks for, and how it ended.
 
 ghost use Rattle.std.specs.Prelude.{◌≡◌, ◌<◌, ◌≤◌, ◌+◌, ◌^◌, ◌++◌, ◌∷◌, List, [], length, vec_capacity};
 ghost use Rattle.std.specs.List.{AllZip};
@@ -19,21 +19,21 @@ use savefile::{Fault, Order, PacketRef, Sink, Unit, Writer};
 /// A capture that is to be written.
 #[derive(Drop)]
 pub struct Part<W> {
-    /// The filter: a packet is accepted where its answer is not 0.
+    /// The filter: it accepts a packet if its answer is not 0.
     pub program: Program,
-    /// At most so many bytes are kept of a packet, and 0 stands for 262,144; the written header has this number too.
+    /// How many bytes of a packet are kept at most; 0 stands for 262,144. The written header has this number too.
     pub snap: u32,
     /// What the capture is written to.
     pub sink: W,
 }
 
-/// What became of a part.
+/// How a part ended.
 #[derive(Debug, Drop)]
 pub struct PartEnd<W> {
     pub sink: W,
     /// How many bytes the sink took in this call.
     pub sent: u64,
-    /// How many packets were read of all captures, and how many of these the part's program accepts, where all was written.
+    /// How many packets were read of all captures, and how many of these the part's program accepts, if all was written.
     pub tally: Tally,
     /// Whether all was written, or why it was not.
     pub written: Result<(), Fault>,

@@ -1,103 +1,85 @@
-//! What LINES asks for: its lines, and the program of each line's expression.
+//! What LINES of `bpftap split` asks for: the captures to write, and the program of each line's expression.
 
-ghost use Rattle.std.specs.Prelude.{◌≡◌, IfErr, IfOk, length};
+ghost use Rattle.std.specs.Prelude.{◌≡◌, IfErr, IfOk, codes, length};
 ghost use Rattle.std.specs.List.{AllZip};
-ghost use Rattle.cli_split.specs.Outputs.{AreSplitLines};
-ghost use Rattle.cli_split.specs.Planning.{AreUncompiled, IsCompiled, IsRefusedPlan};
-ghost use Rattle.cli_split.specs.declared.plan.PlanFault.TheVariants.{NoMemory};
+ghost use Rattle.cli_split.specs.Lines.{AreSplitLines, IsCompiled, IsRefusedPlan, IsSplitLine};
 
-use crate::outputs::{SplitLine, read_split_lines};
-use bpfvm::Program;
-use filtergen::{ExpressionFault, Refusal, compile_text};
-use std::alloc::{AllocError, AllocFailed, Global};
-use std::fmt;
-use std::fmt::{Display, Formatter};
+use cli_filter::plan;
+use cli_filter::plan::{Plan, PlanFault, PlanFaultText, PlanLine, output_and_expression};
+use cli_text::fields::{snapshot_length, split_once};
+use std::alloc::Global;
 
-/// Why captures are not split as LINES asks.
-#[derive(Clone, Copy, Debug, PartialEq, Eq)]
-pub enum PlanFault {
-    /// This line, from 1, has not its form, or has the OUT of an earlier line.
-    Line(usize),
-    /// The expression of this line, from 0, has no program.
-    Expression(usize, ExpressionFault),
-    NoMemory,
+/// The capture that a line asks for.
+#[derive(Clone, Copy, Debug)]
+pub struct SplitLine<'a> {
+    /// How many bytes of a packet are kept at most.
+    pub snap: u32,
+    /// OUT: the path of the capture to write.
+    pub output: &'a str,
+    /// The filter.
+    pub expression: &'a str,
 }
 
-/// Writes why the expression of the n-th line, from 0, has no program.
-fn write_uncompiled<W: fmt::Write>(
-    f: &mut Formatter<W>,
-    n: usize,
-    fault: ExpressionFault,
-) -> fmt::Result {
-    match fault {
-        ExpressionFault::Text(filterlang::Fault::NoMemory)
-        | ExpressionFault::Tree(Refusal::NoMemory) => f.write_str("NoMemory"),
-        ExpressionFault::Text(fault) => write!(f, "Expression {n} {fault}"),
-        ExpressionFault::Tree(refusal) => write!(f, "Compile {n} {refusal}"),
+impl<'a> PlanLine<'a> for SplitLine<'a> {
+    type Terms = ();
+
+    ghost says = { λ _ line asked. IsSplitLine line asked };
+
+    ghost output_of = { λ asked. asked.output.now };
+
+    ghost expression_of = { λ asked. asked.expression.now };
+
+    ghost snap_of = { λ asked. asked.snap };
+
+    /// `SNAP OUT EXPRESSION`: SNAP is decimal, at most 262,144, and 0 stands for that.
+    fn read(line: &'a [u8], _terms: ()) -> Option<SplitLine<'a>> {
+        let (snap, rest) = split_once(line, b' ')?;
+        let snap = snapshot_length(snap)?;
+        let (output, expression) = output_and_expression(rest)?;
+        Some(SplitLine {
+            snap,
+            output,
+            expression,
+        })
+    }
+
+    fn output(&self) -> &'a str {
+        self.output
+    }
+
+    fn expression(&self) -> &'a str {
+        self.expression
+    }
+
+    fn snap(&self) -> u32 {
+        self.snap
     }
 }
 
-impl Display for PlanFault {
-    fn fmt<W: fmt::Write>(&self, f: &mut Formatter<W>) -> fmt::Result {
-        match *self {
-            PlanFault::Line(line) => write!(f, "Lines {line}"),
-            PlanFault::Expression(n, fault) => write_uncompiled(f, n, fault),
-            PlanFault::NoMemory => f.write_str("NoMemory"),
-        }
-    }
-}
-
-impl From<AllocError> for PlanFault {
-    ghost from_gives = { λ _ e. e ≡ NoMemory };
-
-    fn from(_e: AllocError) -> PlanFault {
-        PlanFault::NoMemory
-    }
-}
-
-impl<T: Drop> From<AllocFailed<T>> for PlanFault {
-    ghost from_gives = { λ _ e. e ≡ NoMemory };
-
-    fn from(_e: AllocFailed<T>) -> PlanFault {
-        PlanFault::NoMemory
-    }
-}
-
-/// What LINES asks for.
-#[derive(Drop)]
-pub struct Plan<'a> {
-    pub lines: Vec<SplitLine<'a>>,
-    /// The filter of each line.
-    pub programs: Vec<Program>,
-}
-
-/// The program of each line, or the fault of the first expression that has none.
-fn compile_all(alloc: Global, lines: &[SplitLine<'_>]) -> Result<Vec<Program>, PlanFault>
-    ensures programs { IfOk result (λ programs. AllZip IsCompiled lines.now programs.items) }
-    ensures fault { IfErr result (λ fault. AreUncompiled lines.now fault) }
+/// The fault of LINES, as it is printed.
+pub fn fault_text(fault: PlanFault) -> PlanFaultText
+    ensures file { result.file.now ≡ codes "Lines" }
+    ensures fault { result.fault ≡ fault }
 {
-    let mut programs = Vec::with_capacity(alloc, lines.len())?;
-    for (n, line) in lines.iter().enumerate() {
-        match compile_text(alloc, line.expression, line.snap) {
-            Ok(program) => programs.push(program)?,
-            Err(fault) => return Err(PlanFault::Expression(n, fault)),
-        }
+    PlanFaultText {
+        file: "Lines",
+        fault,
     }
-    Ok(programs)
 }
 
-/// Reads LINES, and compiles the expressions once all lines have their form, each for its snapshot length.
+/// Reads LINES, a capture on each line: `SNAP OUT EXPRESSION`; and compiles the expressions, each for its snapshot length.
 ///
-/// The fault is the first bad line's, from 1; else that of the first expression that has no program, with its line, from 0.
-/// [`PlanFault::NoMemory`] alone may come besides.
-pub fn read_plan(alloc: Global, text: &[u8]) -> Result<Plan<'_>, PlanFault>
+/// SNAP is decimal, at most 262,144. OUT has a byte at least and no space, and no other line has it. EXPRESSION is the rest of the
+/// line; if it is empty, the space before it may be missing. Both are UTF-8.
+///
+/// [`PlanFault::Line`] names the first line, from 1, that lacks this form; else [`PlanFault::Expression`] the first line, from 0, whose
+/// expression has no program. [`PlanFault::NoMemory`] says that memory ran out.
+pub fn read_plan(alloc: Global, text: &[u8]) -> Result<Plan<SplitLine<'_>>, PlanFault>
     ensures lines { IfOk result (λ plan. AreSplitLines text.now plan.lines.items) }
     ensures programs { IfOk result (λ plan. AllZip IsCompiled plan.lines.items plan.programs.items) }
     ensures fault { IfErr result (λ fault. IsRefusedPlan text.now fault) }
     // What a split of the plan wants.
     ensures all { IfOk result (λ plan. length plan.programs.items ≡ length plan.lines.items) }
 {
-    let lines = read_split_lines(alloc, text)?;
-    let programs = compile_all(alloc, lines.as_slice())?;
-    Ok(Plan { lines, programs })
+    plan::read_plan(alloc, text, (), usize::MAX)
 }

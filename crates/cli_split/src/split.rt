@@ -27,12 +27,12 @@ pub enum Stop {
     AtRecord(usize, Fault),
 }
 
-/// What a split gives back.
+/// What a split returns.
 #[derive(Debug, Drop)]
 pub struct SplitEnd<R, W> {
-    /// The sources of the captures, in order. Those behind the capture that ended the reading are as they were.
+    /// The sources of the captures, in order. Those after the capture that ended the reading are as they were.
     pub sources: Vec<R>,
-    /// What became of each part, in order.
+    /// How each part ended, in order.
     pub parts: Vec<PartEnd<W>>,
     /// Whether all captures were read to their ends, or what ended the reading.
     pub end: Result<(), Stop>,
@@ -84,7 +84,7 @@ impl<W: Sink> Splitter<W> {
         }
     }
 
-    /// The same of the n-th capture, whose header was read. Its source comes back.
+    /// Gives the packets of the n-th capture, whose header was read, and returns its source.
     fn give_opened<R: Source>(&mut self, n: usize, mut reader: Reader<R>) -> (R, Result<(), Stop>)
         requires opened { (from : R) × HasOpened R.left R.failures from reader }
         requires so_far { HasParts W.taken W.failures self.old }
@@ -97,7 +97,7 @@ impl<W: Sink> Splitter<W> {
         (reader.close(), end_of(n, given))
     }
 
-    /// The same of the n-th capture, where none before has ended the reading.
+    /// Gives the packets of the n-th capture, if none before ended the reading.
     fn give_capture<R: Source>(
         &mut self,
         alloc: Global,
@@ -119,7 +119,7 @@ impl<W: Sink> Splitter<W> {
         }
     }
 
-    /// The same of further captures, in order. The number of each is how many sources came back before.
+    /// Gives the packets of further captures, in order. The number of each is how many sources came back before.
     fn give_captures<R: Source + Drop>(
         &mut self,
         alloc: Global,
@@ -147,7 +147,7 @@ impl<W: Sink> Splitter<W> {
     }
 }
 
-/// The sources of captures that are not read, behind those that were.
+/// The sources of captures that are not read, after those that were.
 fn leave_captures<R: Drop>(captures: Vec<R>, mut sources: Vec<R>) -> Vec<R>
     requires { length sources.items + length captures.items ≤ vec_capacity sources }
     ensures { result.items ≡ sources.items ++ captures.items }
@@ -158,7 +158,7 @@ fn leave_captures<R: Drop>(captures: Vec<R>, mut sources: Vec<R>) -> Vec<R>
     sources
 }
 
-/// The room for what a split writes and gives back.
+/// The room for what a split writes and returns.
 #[derive(Drop)]
 struct Room<R, W> {
     sources: Vec<R>,
@@ -166,7 +166,7 @@ struct Room<R, W> {
     ends: Vec<PartEnd<W>>,
 }
 
-/// The room for so many captures and parts.
+/// Reserves room for these numbers of captures and parts.
 fn room_for<R: Drop, W: Drop>(
     alloc: Global,
     captures: usize,
@@ -249,19 +249,19 @@ fn split_first<R: Source + Drop, W: Sink + Drop>(
     }
 }
 
-/// Writes captures of the packets of others, in one pass: each part has those that its program accepts, cut, as a capture of its own,
-/// of exactly the bytes that [`cut`](pcap_cut::cut::cut) would write of all captures one behind the other.
+/// Writes captures of the packets of others, in one pass. Each part gets the packets that its program accepts, cut, as a capture of its
+/// own: exactly the bytes that [`cut`](pcap_cut::cut::cut) would write of all captures, one after the other.
 ///
 /// Each capture is read once, packet by packet, up to the first fault: its own header's, a torn or bad record, or its source's. The
-/// fault ends the reading, and what was read before it is written. They may differ in their byte order and in their unit of time: the
-/// parts are written in those given. The parts are begun once the header of the first capture was read: where that fails, or where
-/// there is no capture, all sinks are as they were.
+/// fault ends the reading, and what was read before it is written. The captures may differ in byte order and in unit of time: the parts
+/// are written in those given. The parts are begun once the header of the first capture was read. If that fails, or if there is no
+/// capture, all sinks are as they were.
 ///
-/// A part whose sink fails ends there, with a beginning of its text and [`Fault::Device`], and so does one whose text has 2^64 bytes
-/// or more, with [`Fault::CountFull`]; the others go on. `NoMemory` for a capture's reader is told as a fault of its header; behind
+/// A part whose sink fails ends there, with a prefix of its text and [`Fault::Device`]; so does one whose text has 2^64 bytes or more,
+/// with [`Fault::CountFull`]. The others go on. If memory runs out for a capture's reader, that is `NoMemory`, a fault of its header. After
 /// 2^64 - 1 packets no more is read, with [`Fault::CountFull`].
 ///
-/// The error comes where memory is wanting before anything is read or written. Memory does not grow with the captures.
+/// The error is that memory runs out before anything is read or written. Memory does not grow with the captures.
 pub fn split<R: Source + Drop, W: Sink + Drop>(
     alloc: Global,
     mut captures: Vec<R>,

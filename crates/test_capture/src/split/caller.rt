@@ -3,11 +3,12 @@
 use crate::same::same;
 use crate::split::{item, text_of};
 use bpfvm::Program;
-use cli_split::outputs::SplitLine;
+use cli_filter::plan::Plan;
 use cli_split::part::{Part, PartEnd};
-use cli_split::plan::{Plan, read_plan};
+use cli_split::plan::{SplitLine, read_plan};
+use cli_split::report::report_split;
 use cli_split::split::split;
-use cli_split::tell::tell_split;
+use cli_text::Status;
 use savefile::{Counted, Order, Unit};
 use std::alloc::Global;
 use std::process::Abort;
@@ -58,8 +59,8 @@ fn split_texts(
     let captures = Vec::from_slice(alloc, texts).expect(rt, "memory");
     let end = split(alloc, captures, parts, Order::Little, Unit::Micro).expect(rt, "memory");
     let (mut out, mut err) = (Vec::new(alloc), Vec::new(alloc));
-    let status = tell_split(lines.as_slice(), &end, &mut out, &mut err);
-    assert_eq!(rt; status, 0);
+    let status = report_split(lines.as_slice(), &end, &mut out, &mut err);
+    assert_eq!(rt; status, Status::Clean);
     (out, written_of(rt, end.parts))
 }
 

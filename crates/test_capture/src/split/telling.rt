@@ -1,10 +1,11 @@
 //! What is printed and told of a split.
 
 use crate::same::same;
-use cli_split::outputs::read_split_lines;
 use cli_split::part::PartEnd;
+use cli_split::plan::read_plan;
+use cli_split::report::report_split;
 use cli_split::split::{SplitEnd, Stop};
-use cli_split::tell::tell_split;
+use cli_text::Status;
 use pcap_cut::cut::Tally;
 use savefile::Fault;
 use std::alloc::Global;
@@ -47,11 +48,11 @@ fn told<O: Write>(
     rt: &(impl Abort + AllocGlobal),
     end: SplitEnd<(), ()>,
     out: &mut O,
-) -> (u8, Vec<u8>) {
+) -> (Status, Vec<u8>) {
     let alloc: Global = rt.alloc();
     let mut err = Vec::new(alloc);
-    let lines = read_split_lines(alloc, LINES).expect(rt, "each line has its form");
-    let status = tell_split(lines.as_slice(), &end, out, &mut err);
+    let plan = read_plan(alloc, LINES).expect(rt, "each line has its form");
+    let status = report_split(plan.lines.as_slice(), &end, out, &mut err);
     (status, err)
 }
 
@@ -61,54 +62,54 @@ type Case = (
     Result<(), Stop>,
     &'static str,
     &'static str,
-    u8,
+    Status,
 );
 
 const BOTH: &str = "a.pcap 0 of 9\nb.pcap 1 of 9\n";
 
 static CASES: [Case; 8] = [
-    ([Ok(()), Ok(())], Ok(()), BOTH, "", 0),
+    ([Ok(()), Ok(())], Ok(()), BOTH, "", Status::Clean),
     (
         [Err(Fault::Device), Ok(())],
         Ok(()),
         "b.pcap 1 of 9\n",
         "bpftap: Device a.pcap\n",
-        3,
+        Status::Failed,
     ),
     (
         [Err(Fault::Device), Err(Fault::Device)],
         Err(Stop::AtRecord(2, Fault::TornRecord(7))),
         "",
         "bpftap: Device a.pcap\nbpftap: Device b.pcap\nbpftap: Capture 2 TornRecord 7\n",
-        3,
+        Status::Failed,
     ),
     (
         [Ok(()), Err(Fault::CountFull)],
         Ok(()),
         "a.pcap 0 of 9\n",
         "bpftap: CountFull\n",
-        1,
+        Status::Refused,
     ),
     (
         [Ok(()), Ok(())],
         Err(Stop::AtRecord(0, Fault::TooLong(9))),
         BOTH,
         "bpftap: Capture 0 TooLong 9\n",
-        2,
+        Status::Damaged,
     ),
     (
         [Ok(()), Ok(())],
         Err(Stop::AtRecord(1, Fault::Device)),
         BOTH,
         "bpftap: Capture 1 Device\n",
-        3,
+        Status::Failed,
     ),
     (
         [Ok(()), Ok(())],
         Err(Stop::AtHeader(1, Fault::Version)),
         BOTH,
         "bpftap: Capture 1 Version\n",
-        1,
+        Status::Refused,
     ),
     // Nothing was begun.
     (
@@ -116,7 +117,7 @@ static CASES: [Case; 8] = [
         Err(Stop::AtHeader(0, Fault::NotSavefile)),
         "",
         "bpftap: Capture 0 NotSavefile\n",
-        1,
+        Status::Refused,
     ),
 ];
 
@@ -145,5 +146,9 @@ fn standard_output_that_fails_is_told_first(rt: HostRuntime) {
     let (status, err) = told(&rt, end, &mut out);
     same(&rt, out.taken.as_slice(), b"a.pcap 0 o".as_slice());
     let wanted = b"bpftap: Device standard output\nbpftap: Capture 0 TooLong 9\n";
-    same(&rt, (err.as_slice(), status), (wanted.as_slice(), 3));
+    same(
+        &rt,
+        (err.as_slice(), status),
+        (wanted.as_slice(), Status::Failed),
+    );
 }

@@ -3,7 +3,7 @@ use Rattle.cli_split.specs.Reading.{ReadsSoFar}
 use Rattle.cli_split.specs.Standing.{IsEndOf, HasTaken}
 use Rattle.cli_split.specs.Writing.{IsWritten}
 use Rattle.cli_split.proofs.Lists.{zip-through}
-use Rattle.cli_split.proofs.Planned.{zip-length}
+use Rattle.cli_filter.proofs.Planned.{zip-length}
 use Rattle.cli_split.proofs.Readings.{first-read}
 use Rattle.cli_split.proofs.Splits.{read-first}
 use Rattle.cli_split.proofs.split.split_opened.Goals as goal

@@ -1,4 +1,4 @@
-use Rattle.std.proofs.Common.{◌≡◌, ◌+◌, ◌<◌, ◌^◌, ℕ, [], ◌∷◌, ◌++◌, List, ap, sym, refl, ◌∙◌, arith, rules, subst, Ok, Err, inl, inr, length, length-append}
+use Rattle.std.proofs.Common.{◌≡◌, [], ◌∷◌, ◌++◌, List, ap, sym, refl, ◌∙◌, arith, subst, Ok, Err, inl, inr, length-append}
 use Rattle.std.proofs.lemmas.List.{append-nil, append_assoc}
 use Rattle.std.proofs.KnownBytes.{Consumes-nil}
 use Rattle.std.specs.List.{AllZip}

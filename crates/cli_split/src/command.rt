@@ -1,0 +1,119 @@
+//! `bpftap split`, over files.
+
+use crate::hints::hint_split;
+use crate::part::{Part, PartEnd};
+use crate::paths::{SplitOutput, check_paths, parts};
+use crate::plan::{SplitLine, fault_text, read_plan};
+use crate::report::report_split;
+use crate::split::{SplitEnd, split};
+use bpfvm::Program;
+use cli_args::split::SplitWords;
+use cli_files::captures::{Input, buffered_output, inputs};
+use cli_files::reading::read_file;
+use cli_filter::plan::Plan;
+use cli_filter::plan_hints::hint_plan;
+use cli_report::TakesHints;
+use cli_report::failures::hint_printed;
+use cli_report::files::LINES;
+use cli_text::Status;
+use cli_text::telling::tell_fault;
+use savefile::{Counted, Fault, Order, Source, Unit};
+use std::alloc::Global;
+use std::fs::Files;
+use std::io;
+use std::io::Write;
+
+/// What LINES asks for; or reports why it is refused.
+fn plan_of<'p, E: TakesHints>(
+    alloc: Global,
+    text: &'p [u8],
+    err: &mut E,
+) -> Result<Plan<SplitLine<'p>>, Status> {
+    match read_plan(alloc, text) {
+        Ok(plan) => Ok(plan),
+        Err(fault) => {
+            let status = tell_fault(fault_text(fault), Status::Refused, err);
+            hint_plan::<SplitLine<'_>, E>(alloc, text, (), LINES, fault, err);
+            Err(status)
+        }
+    }
+}
+
+/// Empties the buffers in front of all OUTs. What fails only now is a fault of its OUT too.
+fn flush_all<W: Write>(parts: &mut [PartEnd<Counted<W>>]) {
+    for part in parts {
+        if part.sink.inner.flush().is_err() {
+            part.written = Err(Fault::Device);
+        }
+    }
+}
+
+/// Splits captures, and empties the buffers in front of their OUTs.
+fn split_flushed<R: Source + Drop, W: Write + Drop>(
+    alloc: Global,
+    captures: Vec<R>,
+    parts: Vec<Part<Counted<W>>>,
+    order: Order,
+    unit: Unit,
+) -> io::Result<SplitEnd<R, Counted<W>>> {
+    let mut end = split(alloc, captures, parts, order, unit)?;
+    flush_all(end.parts.as_mut_slice());
+    Ok(end)
+}
+
+/// Splits the captures as the lines ask. An OUT is made at its first write.
+fn split_lines<'r, 'p, R: Files>(
+    rt: &'r R,
+    alloc: Global,
+    words: &SplitWords<'p>,
+    lines: &[SplitLine<'p>],
+    programs: Vec<Program>,
+) -> io::Result<SplitEnd<Input<'r, 'p, R>, SplitOutput<'r, 'p, R>>> {
+    let parts = parts(rt, alloc, lines, programs)?;
+    let captures = inputs(rt, alloc, words.inputs.as_slice())?;
+    split_flushed(alloc, captures, parts, words.order, words.unit)
+}
+
+/// Splits the captures as the plan says, and prints how many packets each part has.
+fn split_plan<R: Files + AllocGlobal, O: Write, E: TakesHints>(
+    rt: &R,
+    words: &SplitWords<'_>,
+    plan: Plan<SplitLine<'_>>,
+    out: &mut O,
+    err: &mut E,
+) -> Result<Status, Status> {
+    let Plan { lines, programs } = plan;
+    let mut out = buffered_output(rt.alloc(), &mut *out, err)?;
+    let Ok(end) = split_lines(rt, rt.alloc(), words, lines.as_slice(), programs) else {
+        return Err(tell_fault(Fault::NoMemory, Status::Refused, err));
+    };
+    let status = report_split(lines.as_slice(), &end, &mut out, err);
+    hint_split(words.inputs.as_slice(), lines.as_slice(), &end, err);
+    hint_printed(out.get_ref(), err);
+    Ok(status)
+}
+
+/// Reads LINES, compares the paths, and splits.
+fn split_files<R: Files + AllocGlobal, O: Write, E: TakesHints>(
+    rt: &R,
+    words: &SplitWords<'_>,
+    out: &mut O,
+    err: &mut E,
+) -> Result<Status, Status> {
+    let text = read_file(rt, words.lines, err)?;
+    let plan = plan_of(rt.alloc(), text.as_slice(), err)?;
+    check_paths(rt, words, plan.lines.as_slice(), err)?;
+    split_plan(rt, words, plan, out, err)
+}
+
+/// `bpftap split`: LINES is accepted and the paths are compared before a capture is opened.
+pub fn split_command<R: Files + AllocGlobal, O: Write, E: TakesHints>(
+    rt: &R,
+    words: &SplitWords<'_>,
+    out: &mut O,
+    err: &mut E,
+) -> Status {
+    match split_files(rt, words, out, err) {
+        Ok(status) | Err(status) => status,
+    }
+}

@@ -1,0 +1,38 @@
+//! Hints on how `bpftap split` ended, below the lines of its faults.
+
+use crate::part::PartEnd;
+use crate::plan::SplitLine;
+use crate::split::{SplitEnd, Stop};
+use cli_report::TakesHints;
+use cli_report::failures::{hint_failure, hint_source};
+use cli_report::noted::{NotedInput, NotedOutput};
+use cli_report::stream::give_hint;
+use cli_text::telling::Path;
+use std::io::Write;
+
+/// Hints on a capture that was not written.
+fn hint_part<W: Write + Drop, E: TakesHints>(
+    line: &SplitLine<'_>,
+    part: &PartEnd<NotedOutput<W>>,
+    err: &mut E,
+) {
+    if part.written.is_err() {
+        give_hint(format_args!("{}:", Path(line.output)), err);
+        hint_failure(part.sink.inner.get_ref(), err);
+    }
+}
+
+/// Hints on the captures that were not written, and on the one that ended the reading.
+pub(crate) fn hint_split<R, W: Write + Drop, E: TakesHints>(
+    inputs: &[&str],
+    lines: &[SplitLine<'_>],
+    end: &SplitEnd<NotedInput<R>, NotedOutput<W>>,
+    err: &mut E,
+) {
+    for (line, part) in lines.iter().zip(end.parts.iter()) {
+        hint_part(line, part, err);
+    }
+    if let Err(Stop::AtHeader(n, fault) | Stop::AtRecord(n, fault)) = end.end {
+        hint_source(inputs, end.sources.as_slice(), n, fault, err);
+    }
+}

@@ -1,0 +1,152 @@
+//! What `bpftap split` prints of each OUT, what it reports, and its exit status.
+
+ghost use Rattle.std.specs.Prelude.{◌≡◌, OnOk, slice_get};
+ghost use Rattle.cli_text.specs.Sending.{Takes};
+ghost use Rattle.cli_text.specs.Texts.{numbered};
+ghost use Rattle.cli_split.specs.Printed.{count_text, line_text, output_of, part_line, printed_split};
+ghost use Rattle.cli_split.specs.Splitting.{passes_header};
+ghost use Rattle.cli_split.specs.Statuses.{ReportsSplit, parts_status, split_status, stop_status, written_status};
+
+use crate::part::PartEnd;
+use crate::plan::SplitLine;
+use crate::split::{SplitEnd, Stop};
+use cli_text::sending::send;
+use cli_text::telling::{fault_status, print_status, tell_device, tell_fault, tell_output};
+use cli_text::{CaptureFaultText, Line, Status};
+use pcap_cut::cut::Tally;
+use savefile::Fault;
+use std::io;
+use std::io::Write;
+
+/// Puts how many of how many packets were written, and the end of the line, in place of what the line has.
+fn put_count(line: &mut Line, tally: Tally) -> io::Result<()>
+    ensures { OnOk result (line.new ≡ count_text tally) }
+{
+    line.clear();
+    writeln!(line, " {} of {}", tally.written, tally.read)
+}
+
+/// The line of a part that was written whole; no line of another one.
+fn write_part<W, O: Write>(
+    output: &str,
+    part: &PartEnd<W>,
+    line: &mut Line,
+    out: &mut O,
+) -> io::Result<()>
+    ensures { Takes (O.contents out.old) (O.contents out.new) result (part_line output.now part.now) }
+{
+    if part.written.is_err() {
+        return Ok(());
+    }
+    send(output.as_bytes(), out)?;
+    put_count(line, part.tally)?;
+    send(line.as_bytes(), out)
+}
+
+/// The OUT of the n-th line, from 0; that of no line is empty.
+fn output_at<'a>(lines: &[SplitLine<'a>], n: usize) -> &'a str
+    ensures { result.now ≡ output_of (slice_get lines.now n) }
+{
+    match lines.get(n) {
+        Some(line) => line.output,
+        None => "",
+    }
+}
+
+/// The lines of all parts.
+fn write_parts<W, O: Write>(
+    lines: &[SplitLine<'_>],
+    parts: &[PartEnd<W>],
+    out: &mut O,
+) -> io::Result<()>
+    ensures { Takes (O.contents out.old) (O.contents out.new) result (numbered (line_text lines.now) 0 parts.now) }
+{
+    let mut line = Line::new();
+    for (n, part) in parts.iter().enumerate() {
+        write_part(output_at(lines, n), part, &mut line, out)?;
+    }
+    Ok(())
+}
+
+/// Whether the parts were begun.
+fn was_begun(end: Result<(), Stop>) -> bool
+    ensures { result ≡ passes_header end }
+{
+    match end {
+        Err(Stop::AtHeader(n, _)) => n != 0,
+        _ => true,
+    }
+}
+
+/// Prints the lines of all parts that were begun, and all that the writer has gathered of them.
+fn print_split<R, W, O: Write>(
+    lines: &[SplitLine<'_>],
+    end: &SplitEnd<R, W>,
+    out: &mut O,
+) -> io::Result<()>
+    ensures { Takes (O.contents out.old) (O.contents out.new) result (printed_split lines.now end.now) }
+{
+    if !was_begun(end.end) {
+        return Ok(());
+    }
+    write_parts(lines, end.parts.as_slice(), out)?;
+    out.flush()
+}
+
+/// Reports why a part was not written whole, if it was not, and returns the exit status.
+fn report_part<W, E: Write>(output: &str, part: &PartEnd<W>, err: &mut E) -> Status
+    ensures { result ≡ written_status part.now.written }
+{
+    match part.written {
+        Ok(()) => Status::Clean,
+        Err(Fault::Device) => tell_device(output, err),
+        Err(fault) => tell_fault(fault, fault_status(fault), err),
+    }
+}
+
+/// Reports each part that was not written whole, and returns the greatest status.
+fn report_parts<W, E: Write>(lines: &[SplitLine<'_>], parts: &[PartEnd<W>], err: &mut E) -> Status
+    ensures { result ≡ parts_status parts.now }
+{
+    let mut status = Status::Clean;
+    for (n, part) in parts.iter().enumerate() {
+        status = status.max(report_part(output_at(lines, n), part, err));
+    }
+    status
+}
+
+/// Reports what ended the reading, if something did, and returns the exit status.
+fn report_stop<E: Write>(end: Result<(), Stop>, err: &mut E) -> Status
+    ensures { result ≡ stop_status end }
+{
+    match end {
+        Ok(()) => Status::Clean,
+        Err(Stop::AtHeader(n, fault) | Stop::AtRecord(n, fault)) => tell_fault(
+            format_args!("Capture {n} {}", CaptureFaultText(fault)),
+            fault_status(fault),
+            err,
+        ),
+    }
+}
+
+/// Prints a line `OUT 67 of 253` for each part that was written whole, in the order of the lines: how many of how many packets. If the
+/// header of the first capture was not read it prints nothing. Then it reports that standard output failed, if it did; the OUT of each
+/// part that was not written whole; and what ended the reading. It returns the greatest of the statuses of these.
+///
+/// `out` took exactly these lines, or a prefix of them if it failed; then the status is [`Status::Failed`]. The status of a part is that of
+/// its fault, [`Status::Failed`] if its sink failed. So is that of a capture: [`Status::Failed`] if its source failed, and
+/// [`Status::Damaged`] for the fault of a record.
+pub fn report_split<R, W, O: Write, E: Write>(
+    lines: &[SplitLine<'_>],
+    end: &SplitEnd<R, W>,
+    out: &mut O,
+    err: &mut E,
+) -> Status
+    ensures { ReportsSplit lines.now end.now (O.contents out.old) (O.contents out.new) result }
+{
+    let printed = print_split(lines, end, out);
+    let _ = tell_output(&printed, err);
+    let parts = report_parts(lines, end.parts.as_slice(), err);
+    let stop = report_stop(end.end, err);
+    print_status(&printed).max(parts.max(stop))
+}
