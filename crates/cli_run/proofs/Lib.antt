@@ -1,1 +1,7 @@
 pub mod Ran
+pub mod Fielded
+pub mod Printing
+pub mod Laid
+pub mod Planned
+pub mod FirstBad
+pub mod Flushed

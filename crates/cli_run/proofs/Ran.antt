@@ -10,13 +10,14 @@ use Rattle.bpfvm.specs.declared.insn.Insn.{Insn}
 use Rattle.replay.specs.Replayed.{IsReplayed, IsServed}
 use Rattle.replay_types.specs.declared.report.InterfaceReport.{InterfaceReport}
 use Rattle.replay_types.specs.declared.task.Interface.{Interface}
-use Rattle.cli_run_texts.specs.declared.listeners.RunLine.{RunLine}
-use Rattle.cli_run_texts.specs.Bare.{HaveTheirListeners}
+use Rattle.cli_run.specs.declared.plan.RunLine.{RunLine}
+use Rattle.cli_run.specs.Bare.{HaveTheirListeners}
 use Rattle.replay_types.specs.Refusals.{IsFirst, NoneStands}
 use Rattle.replay_types.specs.declared.fault.RunFault.{RunFault}
-use Rattle.cli_run_texts.specs.Layout.{places_of, tasks_of, those_at, AreLaidOut}
+use Rattle.cli_run.specs.Layout.{places_of, tasks_of, those_at, AreLaidOut}
 use Rattle.cli_run.specs.Running.{IsReplayOf, IsNoReplayOf, Makes}
-use Rattle.cli_run_texts.proofs.Laid.{zip-length, length-those}
+use Rattle.cli_filter.proofs.Planned.{zip-length}
+use Rattle.cli_run.proofs.Laid.{length-those}
 
 -- ---- a replay of lines
 

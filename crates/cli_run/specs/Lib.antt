@@ -1,1 +1,9 @@
 pub mod Running
+pub mod Replaying
+pub mod Printed
+pub mod Listeners
+pub mod Laws
+pub mod Layout
+pub mod Bare
+pub mod Faults
+pub mod Flushing

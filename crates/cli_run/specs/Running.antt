@@ -6,7 +6,9 @@ use Rattle.std.specs.Io.KnownBytes.{Keeps}
 use Rattle.std.specs.declared.alloc.Global.{Global}
 use Rattle.std.specs.declared.vec.Vec.{Vec}
 use Rattle.bpfvm.specs.declared.insn.Insn.{Insn}
-use Rattle.cli_text.specs.declared.telling.Ended.{Ended}
+use Rattle.cli_text.specs.declared.telling.Outcome.{Outcome}
+use Rattle.cli_text.specs.declared.status.Status.TheVariants.{Refused}
+use Rattle.cli_text.specs.Status.{code}
 use Rattle.cli_text.specs.Sending.{Streams, Takes}
 use Rattle.cli_text.specs.Telling.{told_line}
 use Rattle.replay_types.specs.Refusals.{IsFirst, NoneStands}
@@ -15,13 +17,12 @@ use Rattle.replay_types.specs.declared.fault.RunFault.{RunFault}
 use Rattle.replay_types.specs.declared.fault.RunFault.TheVariants.{NoStart}
 use Rattle.replay_types.specs.declared.report.InterfaceReport.{InterfaceReport}
 use Rattle.replay_types.specs.declared.task.Interface.{Interface}
-use Rattle.cli_run_texts.specs.declared.listeners.RunLine.{RunLine}
-use Rattle.cli_run_texts.specs.declared.plan.PlanFault.{PlanFault}
-use Rattle.cli_run_texts.specs.Faults.{plan_fault_text, run_fault_text}
-use Rattle.cli_run_texts.specs.Layout.{places_of, tasks_of, AreLaidOut, AreSinksOf}
-use Rattle.cli_run_texts.specs.Listeners.{AreRunLines}
-use Rattle.cli_run_texts.specs.Planning.{IsCompiled, IsRefusedPlan}
-use Rattle.cli_run_texts.specs.Replaying.{Tells}
+use Rattle.cli_run.specs.declared.plan.RunLine.{RunLine}
+use Rattle.cli_filter.specs.declared.plan.PlanFault.{PlanFault}
+use Rattle.cli_run.specs.Faults.{listeners_fault_text, run_fault_text}
+use Rattle.cli_run.specs.Layout.{places_of, tasks_of, AreLaidOut, AreSinksOf}
+use Rattle.cli_run.specs.Listeners.{AreRunLines, IsCompiled, IsRefusedPlan}
+use Rattle.cli_run.specs.Replaying.{ReportsRun}
 
 -- The captures were replayed to the listeners of the lines, each with its program and its sink.
 pub record IsReplayOf {S W : Type 0} (left : S → Option (List ℕ)) (broken : S → ℕ) (taken : W → Option (List ℕ)) (failures : W → ℕ)
@@ -46,7 +47,7 @@ Makes step make (line ∷ lines) [] last = ⊥
 -- LISTENERS asks for listeners, each expression has a program, and a sink was made of each OUT. The captures were replayed to these;
 -- the reports were printed and told, and the sinks came back in the order of the lines.
 pub record Ran {S W M : Type 0} (left : S → Option (List ℕ)) (broken : S → ℕ) (taken : W → Option (List ℕ)) (failures : W → ℕ)
-    (step : M → Bor (List ℕ) → W → M → Type 0) (make : M) (listeners : List ℕ) (captures : List (Vec S Global)) (old new : Streams) (ended : Ended) (back : List W) : Type 0 where
+    (step : M → Bor (List ℕ) → W → M → Type 0) (make : M) (listeners : List ℕ) (captures : List (Vec S Global)) (old new : Streams) (outcome : Outcome) (back : List W) : Type 0 where
   pub lines : List RunLine
   pub asked : AreRunLines (length captures) listeners lines
   pub programs : List (List Insn)
@@ -56,25 +57,25 @@ pub record Ran {S W M : Type 0} (left : S → Option (List ℕ)) (broken : S →
   pub made : Makes step make lines sinks last
   pub reports : List (InterfaceReport S W)
   pub replayed : IsReplayOf left broken taken failures lines programs captures sinks reports
-  pub tells : Tells reports old new ended
+  pub tells : ReportsRun reports old new outcome
   pub all_back : length back ≡ length lines
   pub in_order : AreSinksOf (places_of lines) reports back
 
 -- A fault that reads so was told, nothing was printed, and no sink comes back.
-pub record Refuses {W : Type 0} (text : List ℕ) (old new : Streams) (ended : Ended) (back : List W) : Type 0 where
+pub record Refuses {W : Type 0} (text : List ℕ) (old new : Streams) (outcome : Outcome) (back : List W) : Type 0 where
   pub nothing : Keeps old.out new.out
-  pub tells : Takes old.err new.err ended.told (told_line text)
-  pub refused : ended.status ≡ 1
+  pub tells : Takes old.err new.err outcome.told (told_line text)
+  pub refused : outcome.status ≡ Refused
   pub none : back ≡ []
 
 -- LISTENERS is refused.
-pub record Unplanned {S W : Type 0} (listeners : List ℕ) (captures : List (Vec S Global)) (old new : Streams) (ended : Ended) (back : List W) : Type 0 where
+pub record Unplanned {S W : Type 0} (listeners : List ℕ) (captures : List (Vec S Global)) (old new : Streams) (outcome : Outcome) (back : List W) : Type 0 where
   pub fault : PlanFault
   pub stands : IsRefusedPlan (length captures) listeners fault
-  pub refuses : Refuses (plan_fault_text fault) old new ended back
+  pub refuses : Refuses (listeners_fault_text fault) old new outcome back
 
 -- LISTENERS asks for listeners, each expression has a program, and there is no replay.
-pub record Unplayed {S W : Type 0} (listeners : List ℕ) (captures : List (Vec S Global)) (old new : Streams) (ended : Ended) (back : List W) : Type 0 where
+pub record Unplayed {S W : Type 0} (listeners : List ℕ) (captures : List (Vec S Global)) (old new : Streams) (outcome : Outcome) (back : List W) : Type 0 where
   pub lines : List RunLine
   pub asked : AreRunLines (length captures) listeners lines
   pub programs : List (List Insn)
@@ -82,17 +83,17 @@ pub record Unplayed {S W : Type 0} (listeners : List ℕ) (captures : List (Vec 
   pub sinks : List W
   pub fault : RunFault
   pub stands : IsNoReplayOf lines programs captures sinks fault
-  pub refuses : Refuses (run_fault_text fault) old new ended back
+  pub refuses : Refuses (run_fault_text fault) old new outcome back
 
 -- a run: LISTENERS is refused, or there is no replay, or there is one
 abbrev pub Runs : {S W M : Type 0} → (S → Option (List ℕ)) → (S → ℕ) → (W → Option (List ℕ)) → (W → ℕ) → (M → Bor (List ℕ) → W → M → Type 0) → M
-    → List ℕ → List (Vec S Global) → Streams → Streams → Ended → List W → Type 0
-Runs left broken taken failures step make listeners captures old new ended back =
-    Unplanned listeners captures old new ended back ⊎ (Unplayed listeners captures old new ended back
-    ⊎ Ran left broken taken failures step make listeners captures old new ended back)
+    → List ℕ → List (Vec S Global) → Streams → Streams → Outcome → List W → Type 0
+Runs left broken taken failures step make listeners captures old new outcome back =
+    Unplanned listeners captures old new outcome back ⊎ (Unplayed listeners captures old new outcome back
+    ⊎ Ran left broken taken failures step make listeners captures old new outcome back)
 
--- the same, of which the status alone is known
+-- a run of which only the status is known, as a number
 abbrev pub RunsTo : {S W M : Type 0} → (S → Option (List ℕ)) → (S → ℕ) → (W → Option (List ℕ)) → (W → ℕ) → (M → Bor (List ℕ) → W → M → Type 0) → M
     → List ℕ → List (Vec S Global) → Streams → Streams → ℕ → List W → Type 0
 RunsTo left broken taken failures step make listeners captures old new status back =
-    (ended : Ended) × Runs left broken taken failures step make listeners captures old new ended back × (status ≡ ended.status)
+    (outcome : Outcome) × Runs left broken taken failures step make listeners captures old new outcome back × (status ≡ code outcome.status)

@@ -1,7 +1,13 @@
 //! `bpftap run`: captures that are replayed in threads to the listeners of interfaces.
 #![tactic(auto)]
 
-pub mod late_files;
+pub mod command;
+pub mod faults;
+mod hints;
+pub mod laws;
+pub mod layout;
+pub mod paths;
+pub mod plan;
+pub mod report;
 pub mod run;
-pub mod run_files;
-mod run_hints;
+pub mod tally;

@@ -4,17 +4,19 @@
 ghost use Rattle.std.specs.Prelude.{◌≡◌, ◌<◌, ◌≤◌, List, All, IfErr, IfOk, IfSome, length, vec_capacity, vec_len};
 ghost use Rattle.cli_text.specs.Sending.{Takes, streams};
 ghost use Rattle.cli_text.specs.Telling.{told_line};
+ghost use Rattle.cli_text.specs.declared.status.Status.TheVariants.{Refused};
 ghost use Rattle.cli_run.specs.Running.{IsNoReplayOf, IsReplayOf, Makes, Runs, RunsTo};
-ghost use Rattle.cli_run_texts.specs.Bare.{HaveTheirListeners};
-ghost use Rattle.cli_run_texts.specs.Layout.{AreSinksOf, places_of};
-ghost use Rattle.cli_run_texts.specs.Replaying.{Tells};
+ghost use Rattle.cli_run.specs.Bare.{HaveTheirListeners};
+ghost use Rattle.cli_run.specs.Layout.{AreSinksOf, places_of};
+ghost use Rattle.cli_run.specs.Replaying.{ReportsRun};
 
-use cli_run_texts::faults::RunFaultText;
-use cli_run_texts::layout::{interfaces_of, sinks_of};
-use cli_run_texts::listeners::RunLine;
-use cli_run_texts::plan::{Plan, read_plan};
-use cli_run_texts::reports::tell_run_told;
-use cli_text::telling::{Ended, REFUSED, tell_line};
+use crate::faults::RunFaultText;
+use crate::layout::{interfaces_of, sinks_of};
+use crate::plan::{RunLine, fault_text, read_plan};
+use crate::report::report_run;
+use cli_filter::plan::Plan;
+use cli_text::Status;
+use cli_text::telling::{Outcome, tell_line};
 use replay::{InterfaceReport, Open, RunFault};
 use savefile::{Sink, Source};
 use std::alloc::{AllocError, Global};
@@ -28,7 +30,7 @@ use std::thread::Threads;
 pub fn replay_plan<R: Source + Send + Drop, W: Sink + Send + Drop, T: Threads + Wait + Sync>(
     rt: &T,
     alloc: Global,
-    plan: Plan<'_>,
+    plan: Plan<RunLine<'_>>,
     captures: Vec<Vec<R>>,
     sinks: Vec<W>,
 ) -> Result<Vec<InterfaceReport<R, W>>, RunFault>
@@ -69,7 +71,7 @@ fn make_sinks<W: Drop, M: FnMut(&str) -> W>(
 }
 
 /// Makes the sinks and replays.
-fn replay_made<
+fn replay_lines<
     R: Source + Send + Drop,
     W: Sink + Send + Drop,
     M: FnMut(&str) -> W,
@@ -77,7 +79,7 @@ fn replay_made<
 >(
     rt: &T,
     alloc: Global,
-    plan: Plan<'_>,
+    plan: Plan<RunLine<'_>>,
     captures: Vec<Vec<R>>,
     make: M,
 ) -> Result<Replayed<R, W>, RunFault>
@@ -100,17 +102,16 @@ fn replay_made<
     })
 }
 
-/// Prints and tells the reports, and hands the sinks back.
+/// Prints and reports how the replay ended, and hands the sinks back.
 fn end_run<R: Drop, W: Drop, O: Write, E: Write>(
     replayed: Replayed<R, W>,
     out: &mut O,
     err: &mut E,
-) -> (Ended, Vec<W>)
+) -> (Outcome, Vec<W>)
     requires there { All (λ place. place < length replayed.reports.items) replayed.places.items }
     requires counts { HaveTheirListeners replayed.places.items replayed.reports.items }
     requires room { (vec_len replayed.sinks ≡ 0) × (length replayed.places.items ≤ vec_capacity replayed.sinks) }
-    ensures tells { Tells replayed.reports.items (streams (O.contents out.old) (E.contents err.old)) (streams (O.contents out.new) (E.contents err.new)) result.0 }
-    ensures bound { result.0.status ≤ 3 }
+    ensures reports { ReportsRun replayed.reports.items (streams (O.contents out.old) (E.contents err.old)) (streams (O.contents out.new) (E.contents err.new)) result.0 }
     ensures all { length result.1.items ≡ length replayed.places.items }
     ensures back { AreSinksOf replayed.places.items replayed.reports.items result.1.items }
 {
@@ -119,22 +120,22 @@ fn end_run<R: Drop, W: Drop, O: Write, E: Write>(
         places,
         sinks,
     } = replayed;
-    let ended = tell_run_told(reports.as_slice(), out, err);
-    (ended, sinks_of(reports, places.as_slice(), sinks))
+    let outcome = report_run(reports.as_slice(), out, err);
+    (outcome, sinks_of(reports, places.as_slice(), sinks))
 }
 
-/// Tells why there is no replay: a [`cli_run_texts::plan::PlanFault`], or a [`RunFaultText`]. The status is 1.
-pub fn refuse<E: Write, D: Display + Drop>(fault: D, err: &mut E) -> Ended
+/// Reports why there is no replay. The status is [`Status::Refused`].
+pub fn refuse<E: Write, D: Display + Drop>(fault: D, err: &mut E) -> Outcome
     ensures tells { IfSome (D.output fault) (λ text. Takes (E.contents err.old) (E.contents err.new) result.told (told_line text)) }
-    ensures status { result.status ≡ REFUSED }
+    ensures status { result.status ≡ Refused }
 {
-    Ended {
-        status: REFUSED,
+    Outcome {
+        status: Status::Refused,
         told: tell_line(fault, err),
     }
 }
 
-/// [`run`], with whether standard error took what was told.
+/// [`run`], with whether standard error took what was reported.
 pub fn run_told<
     R: Source + Send + Drop,
     W: Sink + Send + Drop,
@@ -150,42 +151,38 @@ pub fn run_told<
     make: M,
     out: &mut O,
     err: &mut E,
-) -> (Ended, Vec<W>)
+) -> (Outcome, Vec<W>)
     requires { M.IsAlwaysCallable make }
-    ensures runs { Runs R.left R.failures W.taken W.failures M.step make listeners.now captures.items
+    ensures { Runs R.left R.failures W.taken W.failures M.step make listeners.now captures.items
         (streams (O.contents out.old) (E.contents err.old)) (streams (O.contents out.new) (E.contents err.new)) result.0 result.1.items }
-    ensures bound { result.0.status ≤ 3 }
 {
     let plan = match read_plan(alloc, listeners, captures.len()) {
         Ok(plan) => plan,
-        Err(fault) => return (refuse(fault, err), Vec::new(alloc)),
+        Err(fault) => return (refuse(fault_text(fault), err), Vec::new(alloc)),
     };
-    match replay_made(rt, alloc, plan, captures, make) {
+    match replay_lines(rt, alloc, plan, captures, make) {
         Ok(replayed) => end_run(replayed, out, err),
         Err(fault) => (refuse(RunFaultText(fault), err), Vec::new(alloc)),
     }
 }
 
-/// Replays captures in threads to the listeners of interfaces, each of which writes what it keeps as a capture, and prints
-/// a line for each listener, by interface: what it received, matched, dropped and wrote, and how that ended.
+/// Replays captures in threads to the listeners of interfaces, each of which writes what it keeps as a capture. It prints a line for
+/// each listener, by interface: what it received, matched, dropped and wrote, and how that ended.
 ///
-/// Each interface has a list of captures, which arrive one behind the other. A line of LISTENERS is `INTERFACE FLUSH SNAP
-/// CAPACITY SPARES OUT EXPRESSION`: the number of the interface, from 0; after every so many arrivals the listener is
-/// flushed, and never for 0; the most bytes that are kept of a packet, where 0 stands for 262,144; the bytes of each of the
-/// listener's buffers, with an `i` behind them for the mode Immediate; how many buffers go round between the listener and
-/// its writer, 1 to 64; where the capture is written, by the sink that `make` makes of this text; and the filter, which may
-/// be empty. What is written is little-endian with microseconds.
+/// Each interface has a list of captures, which arrive one after the other. A line of LISTENERS is `INTERFACE FLUSH SNAP CAPACITY SPARES
+/// OUT EXPRESSION`: the number of the interface, from 0; after how many arrivals each the listener is flushed, 0 for never; how many
+/// bytes of a packet are kept at most, 0 for 262,144; the bytes of each of the listener's buffers, with an `i` after them for the mode
+/// Immediate; how many buffers go round between the listener and its writer, 1 to 64; the path of the capture, of which `make` makes a
+/// sink; and the filter, which may be empty. Captures are written little-endian, with microseconds.
 ///
-/// A bad line is told as `Listeners N`, N from 1: it has not this form, names an interface that is not there, or an OUT that
-/// an earlier line has. Then the expressions are compiled: `Expression N` or `Compile N`, N from 0. Behind these and a
-/// [`RunFault`] no sink is handed back, nothing is printed and the exit status is 1. No source is read either: that is tested, not
-/// proved.
+/// A bad line is reported as `Listeners N`, N from 1: it lacks this form, names an interface that does not exist, or has the OUT of an
+/// earlier line. After that come the expressions: `Expression N` or `Compile N`, N from 0. After one of these and after a [`RunFault`] no
+/// sink is returned, nothing is printed and the exit status is 1. No source is read either: that is tested, not proved.
 ///
-/// Else the sinks are handed back in the order of the lines, and the exit status is the greatest of these: 0; 1 where an
-/// interface's capture has no header of a savefile, memory was wanting for it or for `out`, an interface's arrivals cannot be
-/// counted further, or a listener is `Unfinished`; 2 where a
-/// capture ended with a record fault; 3 where a source, a sink or `out` failed. A fault of a capture is told as `Interface I
-/// Capture N fault`, one of a sink by the end `Write B` alone, B being the bytes that it took.
+/// Otherwise the sinks are returned in the order of the lines, and the exit status is the greatest of these: 0; 1 if an interface's
+/// capture has no header of a savefile, its memory or that of `out` ran out, its arrivals cannot be counted further, or a listener is
+/// `Unfinished`; 2 if a capture ended with a record fault; 3 if a source, a sink or `out` failed. A fault of a capture is reported as
+/// `Interface I Capture N fault`; one of a sink only by the end `Write B`, B being the bytes that it took.
 pub fn run<
     R: Source + Send + Drop,
     W: Sink + Send + Drop,
@@ -203,10 +200,9 @@ pub fn run<
     err: &mut E,
 ) -> (u8, Vec<W>)
     requires { M.IsAlwaysCallable make }
-    ensures runs { RunsTo R.left R.failures W.taken W.failures M.step make listeners.now captures.items
+    ensures { RunsTo R.left R.failures W.taken W.failures M.step make listeners.now captures.items
         (streams (O.contents out.old) (E.contents err.old)) (streams (O.contents out.new) (E.contents err.new)) result.0 result.1.items }
-    ensures bound { result.0 ≤ 3 }
 {
-    let (ended, sinks) = run_told(rt, alloc, listeners, captures, make, out, err);
-    (ended.status, sinks)
+    let (outcome, sinks) = run_told(rt, alloc, listeners, captures, make, out, err);
+    (outcome.status.code(), sinks)
 }

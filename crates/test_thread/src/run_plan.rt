@@ -2,9 +2,10 @@
 
 use crate::same::same;
 use bpfvm::read_listing;
+use cli_run::faults::RunFaultText;
+use cli_run::report::report_run;
 use cli_run::run::run;
-use cli_run_texts::faults::RunFaultText;
-use cli_run_texts::reports::tell_run;
+use cli_text::Status;
 use handover::{Past, pair, settle};
 use listener::OpenFault;
 use replay::{InterfaceEnd, InterfaceReport, ListenerReport, RunFault, TaskEnd};
@@ -147,9 +148,13 @@ fn an_end_that_is_not_reached_is_told(rt: HostRuntime) {
     let reports = uncounted(&rt);
     let mut out: Vec<u8> = Vec::new(rt.alloc());
     let mut err: Vec<u8> = Vec::new(rt.alloc());
-    let status = tell_run(reports.as_slice(), &mut out, &mut err);
+    let outcome = report_run(reports.as_slice(), &mut out, &mut err);
     let line = b"interface 0 listener 0 received 4 matched 3 dropped 1 written 2 Unfinished\n";
-    same(&rt, (out.as_slice(), status), (line.as_slice(), 1));
+    same(
+        &rt,
+        (out.as_slice(), outcome.status),
+        (line.as_slice(), Status::Refused),
+    );
     let fault = b"bpftap: Interface 0 CountFull\n";
     same(&rt, err.as_slice(), fault.as_slice());
 }

@@ -2,7 +2,7 @@
 
 use crate::run_plan::nothing_done;
 use crate::same::same;
-use cli_run_texts::tally::{Output, Tallied, flush_one};
+use cli_run::tally::{CountingCapture, Output, flush_one};
 use replay::{ListenerReport, TaskEnd};
 use savefile::Counted;
 use std::io;
@@ -57,8 +57,11 @@ fn whole_in(bytes: u64) -> u64 {
 }
 
 /// A buffer before an OUT that takes so many bytes, into which a capture went.
-fn filled(rt: &(impl Abort + AllocGlobal), room: usize) -> Counted<BufWriter<Tallied<Narrow>>> {
-    let out = Tallied::new(Narrow { room });
+fn filled(
+    rt: &(impl Abort + AllocGlobal),
+    room: usize,
+) -> Counted<BufWriter<CountingCapture<Narrow>>> {
+    let out = CountingCapture::new(Narrow { room });
     let buffer = BufWriter::with_capacity(rt.alloc(), 40, out).expect(rt, "memory");
     let mut sink = Counted::new(buffer);
     for piece in capture(rt).as_slice().chunks(5) {

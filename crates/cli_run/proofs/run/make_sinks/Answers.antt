@@ -1,6 +1,6 @@
 use Rattle.std.proofs.Common.{[], rules, of_calls}
 use Rattle.listener.specs.declared.mode.Mode.TheVariants.{Buffered}
-use Rattle.cli_run_texts.specs.declared.listeners.RunLine.{RunLine}
+use Rattle.cli_run.specs.declared.plan.RunLine.{RunLine}
 use Rattle.cli_run.proofs.Ran.{made_more}
 use Rattle.cli_run.proofs.run.make_sinks.Goals as goal
 

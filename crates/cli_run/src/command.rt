@@ -1,0 +1,130 @@
+//! `bpftap run`, over files.
+
+ghost use Rattle.std.specs.Prelude.{◌≡◌, ◌<◌, All, IfOk, length};
+
+use crate::faults::RunFaultText;
+use crate::hints::{hint_run, hint_unopened};
+use crate::paths::{LateFiles, check_paths, late_files};
+use crate::plan::{RunLine, fault_text, read_plan};
+use crate::run::{refuse, replay_plan};
+use crate::tally::report_flushed;
+use cli_args::run::RunWords;
+use cli_files::captures::buffered_output;
+use cli_files::reading::read_file;
+use cli_filter::plan::Plan;
+use cli_filter::plan_hints::hint_plan;
+use cli_report::TakesHints;
+use cli_report::failures::hint_printed;
+use cli_report::files::LISTENERS_OF_RUN;
+use cli_text::Status;
+use std::alloc::Global;
+use std::fs::Files;
+use std::io::Write;
+use std::sync::Wait;
+use std::thread::Threads;
+
+/// What LISTENERS asks for; or reports why it is refused.
+fn plan_of<'p, E: TakesHints>(
+    alloc: Global,
+    listeners: &'p [u8],
+    interfaces: usize,
+    err: &mut E,
+) -> Result<Plan<RunLine<'p>>, Status>
+    ensures there { IfOk result (λ plan. All (λ line. line.interface < interfaces) plan.lines.items) }
+    ensures programs { IfOk result (λ plan. length plan.programs.items ≡ length plan.lines.items) }
+{
+    match read_plan(alloc, listeners, interfaces) {
+        Ok(plan) => Ok(plan),
+        Err(fault) => {
+            let outcome = refuse(fault_text(fault), err);
+            hint_plan::<RunLine<'_>, E>(alloc, listeners, interfaces, LISTENERS_OF_RUN, fault, err);
+            Err(outcome.status)
+        }
+    }
+}
+
+/// Names the files of a replay. A type parameter will not do for them: that another thread may do what such a file does is shown of
+/// a type that is known, and not of one that its trait names.
+pub trait NamesFiles {
+    /// The plan of LISTENERS with its files, once it is accepted and the paths are compared; or reports why it is refused.
+    fn named_files<'r, 'i, 'o, E: TakesHints>(
+        &'r self,
+        alloc: Global,
+        words: &RunWords<'i>,
+        listeners: &'o [u8],
+        err: &mut E,
+    ) -> Result<LateFiles<'r, 'i, 'o>, Status>;
+}
+
+impl NamesFiles for HostRuntime {
+    fn named_files<'r, 'i, 'o, E: TakesHints>(
+        &'r self,
+        alloc: Global,
+        words: &RunWords<'i>,
+        listeners: &'o [u8],
+        err: &mut E,
+    ) -> Result<LateFiles<'r, 'i, 'o>, Status> {
+        let plan = plan_of(alloc, listeners, words.inputs.len(), err)?;
+        check_paths(self, alloc, words, plan.lines.as_slice(), err)?;
+        match late_files(self, alloc, words, plan) {
+            Ok(late) => Ok(late),
+            Err(fault) => Err(refuse(RunFaultText(fault), err).status),
+        }
+    }
+}
+
+/// Replays the captures, and reports how that ended, with hints.
+fn replay_files<R: Threads + Wait + Sync + AllocGlobal, O: Write, E: TakesHints>(
+    rt: &R,
+    words: &RunWords<'_>,
+    listeners: &[u8],
+    late: LateFiles<'_, '_, '_>,
+    out: &mut O,
+    err: &mut E,
+) -> Result<Status, Status> {
+    let alloc = rt.alloc();
+    let LateFiles {
+        plan,
+        captures,
+        sinks,
+    } = late;
+    match replay_plan(rt, alloc, plan, captures, sinks) {
+        Ok(mut reports) => {
+            let outcome = report_flushed(reports.as_mut_slice(), out, err);
+            hint_run(words.inputs.as_slice(), reports.as_slice(), err);
+            Ok(outcome.status)
+        }
+        Err(fault) => {
+            let outcome = refuse(RunFaultText(fault), err);
+            hint_unopened(alloc, listeners, words.inputs.len(), fault, err);
+            Err(outcome.status)
+        }
+    }
+}
+
+/// Reads LISTENERS, compares the paths, and replays.
+fn run_files<R: Files + AllocGlobal + NamesFiles + Threads + Wait + Sync, O: Write, E: TakesHints>(
+    rt: &R,
+    words: &RunWords<'_>,
+    out: &mut O,
+    err: &mut E,
+) -> Result<Status, Status> {
+    let alloc = rt.alloc();
+    let listeners = read_file(rt, words.listeners, err)?;
+    let late = rt.named_files(alloc, words, listeners.as_slice(), err)?;
+    let mut out = buffered_output(alloc, &mut *out, err)?;
+    let status = replay_files(rt, words, listeners.as_slice(), late, &mut out, err);
+    hint_printed(out.get_ref(), err);
+    status
+}
+
+/// `bpftap run`: LISTENERS is accepted and the paths are compared before a capture is opened.
+pub fn run_command<
+    R: Files + AllocGlobal + NamesFiles + Threads + Wait + Sync,
+    O: Write,
+    E: TakesHints,
+>(rt: &R, words: &RunWords<'_>, out: &mut O, err: &mut E) -> Status {
+    match run_files(rt, words, out, err) {
+        Ok(status) | Err(status) => status,
+    }
+}

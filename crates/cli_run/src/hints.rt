@@ -1,0 +1,100 @@
+//! Hints on how `bpftap run` ended, below the lines of its faults.
+
+use crate::plan::RunLine;
+use crate::tally::Output;
+use cli_filter::plan::{PlanFault, read_lines};
+use cli_report::failures::hint_source;
+use cli_report::files::{hint_capacity, hint_reason};
+use cli_report::noted::NotedInput;
+use cli_report::stream::give_hint;
+use cli_report::{Noted, TakesHints};
+use listener::OpenFault;
+use replay_types::{InterfaceEnd, InterfaceReport, ListenerReport, MAX_SPARES, RunFault, TaskEnd};
+use std::alloc::Global;
+use std::io::Write;
+
+/// Hints on a listener that is not opened.
+pub(crate) fn hint_unopened<E: TakesHints>(
+    alloc: Global,
+    listeners: &[u8],
+    interfaces: usize,
+    fault: RunFault,
+    err: &mut E,
+) {
+    let RunFault::Open(interface, listener, OpenFault::BadCapacity) = fault else {
+        return;
+    };
+    let lines: Result<Vec<RunLine<'_>>, PlanFault> = read_lines(
+        alloc,
+        listeners,
+        interfaces,
+        usize::MAX,
+    );
+    let Ok(lines) = lines else {
+        return;
+    };
+    let found = lines
+        .iter()
+        .filter(|line| line.interface == interface as usize)
+        .nth(listener as usize);
+    if let Some(line) = found {
+        if line.spares < 1 || line.spares > MAX_SPARES {
+            give_hint(
+                format_args!("SPARES is 1 to {MAX_SPARES}, and not {}", line.spares),
+                err,
+            );
+        } else {
+            hint_capacity(line.snap, line.capacity, err);
+        }
+    }
+}
+
+/// Hints on a capture that a listener could not write.
+fn hint_sink<W: Write + Drop, E: TakesHints>(
+    interface: usize,
+    listener: usize,
+    report: &ListenerReport<Output<Noted<W>>>,
+    err: &mut E,
+) {
+    if let (TaskEnd::Write(_), Some(error)) = (
+        report.end,
+        report.sink.inner.get_ref().get_ref().failure(),
+    ) {
+        give_hint(
+            format_args!("interface {interface} listener {listener}:"),
+            err,
+        );
+        hint_reason(&error, err);
+    }
+}
+
+/// Hints on the captures that the listeners of an interface could not write.
+fn hint_sinks<W: Write + Drop, E: TakesHints>(
+    interface: usize,
+    listeners: &[ListenerReport<Output<Noted<W>>>],
+    err: &mut E,
+) {
+    for (listener, report) in listeners.iter().enumerate() {
+        hint_sink(interface, listener, report, err);
+    }
+}
+
+/// Hints on how the interfaces ended, each of which has these captures.
+pub(crate) fn hint_run<R, W: Write + Drop, E: TakesHints>(
+    inputs: &[Vec<&str>],
+    reports: &[InterfaceReport<NotedInput<R>, Output<Noted<W>>>],
+    err: &mut E,
+) {
+    for (interface, (report, paths)) in reports.iter().zip(inputs).enumerate() {
+        if let InterfaceEnd::Capture(n, fault) = report.end {
+            hint_source(
+                paths.as_slice(),
+                report.sources.as_slice(),
+                n as usize,
+                fault,
+                err,
+            );
+        }
+        hint_sinks(interface, report.listeners.as_slice(), err);
+    }
+}

@@ -1,0 +1,197 @@
+//! What `bpftap run` prints of each listener, what it reports of each interface, and its exit status.
+
+ghost use Rattle.std.specs.Prelude.{◌≡◌, ◌++◌, OnOk, Some};
+ghost use Rattle.cli_text.specs.Sending.{Takes, streams};
+ghost use Rattle.cli_text.specs.Telling.{output_line};
+ghost use Rattle.cli_text.specs.Texts.{numbered};
+ghost use Rattle.cli_run.specs.Printed.{end_text, interface_told, listener_line, printed_replay, told_replay};
+ghost use Rattle.cli_run.specs.Replaying.{ReportsRun, interface_status, listeners_status, report_status, run_status, task_status};
+
+use cli_text::sending::send;
+use cli_text::telling::{Outcome, fault_status, print_status, tell_line, tell_output};
+use cli_text::{CaptureFaultText, Line, Status};
+use replay_types::{InterfaceEnd, InterfaceReport, ListenerReport, TaskEnd};
+use std::fmt::{Display, Formatter};
+use std::io::Write;
+use std::{fmt, io};
+
+/// How the writing of a listener's packets ended, as it is printed.
+#[derive(Clone, Copy)]
+struct EndText(TaskEnd);
+
+impl Display for EndText {
+    ghost output = { λ end. Some (end_text end.0) };
+
+    fn fmt<W: fmt::Write>(&self, f: &mut Formatter<W>) -> fmt::Result {
+        match self.0 {
+            TaskEnd::Clean => f.write_str("Clean"),
+            TaskEnd::Write(bytes) => write!(f, "Write {bytes}"),
+            TaskEnd::Unfinished => f.write_str("Unfinished"),
+        }
+    }
+}
+
+/// Puts the line of the l-th listener of the i-th interface in place of what the line has.
+fn put_listener<W>(
+    line: &mut Line,
+    i: usize,
+    l: usize,
+    report: &ListenerReport<W>,
+) -> io::Result<()>
+    ensures { OnOk result (line.new ≡ listener_line i l report.now) }
+{
+    line.clear();
+    writeln!(
+        line,
+        "interface {i} listener {l} received {} matched {} dropped {} written {} {}",
+        report.received,
+        report.matched,
+        report.dropped,
+        report.written,
+        EndText(report.end)
+    )
+}
+
+/// The lines of the i-th interface's listeners, numbered from 0.
+fn write_listeners<W, O: Write>(
+    i: usize,
+    reports: &[ListenerReport<W>],
+    line: &mut Line,
+    out: &mut O,
+) -> io::Result<()>
+    ensures { Takes (O.contents out.old) (O.contents out.new) result (numbered (listener_line i) 0 reports.now) }
+{
+    for (l, report) in reports.iter().enumerate() {
+        put_listener(line, i, l, report)?;
+        send(line.as_bytes(), out)?;
+    }
+    Ok(())
+}
+
+/// A line for each listener, by interface and then by listener.
+fn write_reports<R, W, O: Write>(reports: &[InterfaceReport<R, W>], out: &mut O) -> io::Result<()>
+    ensures { Takes (O.contents out.old) (O.contents out.new) result (printed_replay reports.now) }
+{
+    let mut line = Line::new();
+    for (i, report) in reports.iter().enumerate() {
+        write_listeners(i, report.listeners.as_slice(), &mut line, out)?;
+    }
+    Ok(())
+}
+
+/// Prints the reports, and all that the writer has gathered of them.
+fn print_reports<R, W, O: Write>(reports: &[InterfaceReport<R, W>], out: &mut O) -> io::Result<()>
+    ensures { Takes (O.contents out.old) (O.contents out.new) result (printed_replay reports.now) }
+{
+    write_reports(reports, out)?;
+    out.flush()
+}
+
+/// The status of how a listener's capture ended.
+fn listener_status<W>(report: &ListenerReport<W>) -> Status
+    ensures { result ≡ task_status report.now.end }
+{
+    match report.end {
+        TaskEnd::Clean => Status::Clean,
+        TaskEnd::Write(_) => Status::Failed,
+        TaskEnd::Unfinished => Status::Refused,
+    }
+}
+
+/// The status of how an interface's captures ended.
+fn interface_status(end: InterfaceEnd) -> Status
+    ensures { result ≡ interface_status end }
+{
+    match end {
+        InterfaceEnd::Clean => Status::Clean,
+        InterfaceEnd::Capture(_, fault) => fault_status(fault),
+        InterfaceEnd::CountFull => Status::Refused,
+    }
+}
+
+/// The greatest status of these listeners.
+fn listeners_status<W>(reports: &[ListenerReport<W>]) -> Status
+    ensures { result ≡ listeners_status reports.now }
+{
+    let mut status = Status::Clean;
+    for report in reports {
+        status = status.max(listener_status(report));
+    }
+    status
+}
+
+/// The greatest status of an interface and its listeners.
+fn report_status<R, W>(report: &InterfaceReport<R, W>) -> Status
+    ensures { result ≡ report_status report.now }
+{
+    interface_status(report.end).max(listeners_status(report.listeners.as_slice()))
+}
+
+/// The greatest status of all interfaces.
+fn run_status<R, W>(reports: &[InterfaceReport<R, W>]) -> Status
+    ensures { result ≡ run_status reports.now }
+{
+    let mut status = Status::Clean;
+    for report in reports {
+        status = status.max(report_status(report));
+    }
+    status
+}
+
+/// Reports how the captures of the i-th interface ended, if that was not clean.
+fn report_end<E: Write>(i: usize, end: InterfaceEnd, err: &mut E) -> io::Result<()>
+    ensures { Takes (E.contents err.old) (E.contents err.new) result (interface_told i end) }
+{
+    match end {
+        InterfaceEnd::Clean => Ok(()),
+        InterfaceEnd::Capture(n, fault) => tell_line(
+            format_args!("Interface {i} Capture {n} {}", CaptureFaultText(fault)),
+            err,
+        ),
+        InterfaceEnd::CountFull => tell_line(format_args!("Interface {i} CountFull"), err),
+    }
+}
+
+/// Reports each interface that did not end clean.
+fn report_ends<R, W, E: Write>(reports: &[InterfaceReport<R, W>], err: &mut E) -> io::Result<()>
+    ensures { Takes (E.contents err.old) (E.contents err.new) result (told_replay reports.now) }
+{
+    for (i, report) in reports.iter().enumerate() {
+        report_end(i, report.end, err)?;
+    }
+    Ok(())
+}
+
+/// Reports that standard output failed, if it did, and then each interface that did not end clean. If `err` does not take a line, no
+/// further one is reported.
+fn report_all<R, W, E: Write>(
+    printed: &io::Result<()>,
+    reports: &[InterfaceReport<R, W>],
+    err: &mut E,
+) -> io::Result<()>
+    ensures { Takes (E.contents err.old) (E.contents err.new) result (output_line printed.now ++ told_replay reports.now) }
+{
+    tell_output(printed, err)?;
+    report_ends(reports, err)
+}
+
+/// Prints a line for each listener, by interface, `interface I listener L received R matched M dropped D written N END`, reports each
+/// interface that did not end clean, and returns the greatest status of all.
+///
+/// `out` took exactly these lines, or a prefix of them if it failed; that is reported first, unless nobody reads `out` any more, and the
+/// status is [`Status::Failed`]. A listener has [`Status::Refused`] for `Unfinished` and [`Status::Failed`] for `Write B`; an interface
+/// [`Status::Failed`] if a source failed, [`Status::Damaged`] for the fault of a record, and [`Status::Refused`] for any other.
+pub fn report_run<R, W, O: Write, E: Write>(
+    reports: &[InterfaceReport<R, W>],
+    out: &mut O,
+    err: &mut E,
+) -> Outcome
+    ensures { ReportsRun reports.now (streams (O.contents out.old) (E.contents err.old)) (streams (O.contents out.new) (E.contents err.new)) result }
+{
+    let printed = print_reports(reports, out);
+    let told = report_all(&printed, reports, err);
+    Outcome {
+        status: print_status(&printed).max(run_status(reports)),
+        told,
+    }
+}

@@ -1,5 +1,0 @@
-use Rattle.cli_text.proofs.Taking.{Takes-flushed}
-use Rattle.cli_run_texts.proofs.reports.print_reports.Goals as goal
-
-pub returns : goal.returns
-returns g c = Takes-flushed _ _ _ _ _ c.in_ok-write_reports.ensures c.flush.ensures.bytes

@@ -1,8 +1,0 @@
-use Rattle.std.proofs.Common.{take}
-use Rattle.std.specs.Io.KnownBytes.{Appends}
-use Rattle.cli_run_texts.specs.Printed.{told_replay}
-use Rattle.cli_run_texts.proofs.reports.tell_ends.Given as goal
-
--- the lines of the interfaces before were taken
-abbrev pub invariant-loop-i : goal.invariant-loop-i
-invariant-loop-i g l = Appends (g.E.Write.contents l.fn.err) (g.E.Write.contents l.err) (told_replay (take l.i l.reports))

@@ -1,9 +1,0 @@
-pub mod Replaying
-pub mod Printed
-pub mod Listeners
-pub mod Laws
-pub mod Layout
-pub mod Bare
-pub mod Faults
-pub mod Flushing
-pub mod Planning
