@@ -8,11 +8,11 @@ use cli_filter::plan;
 use cli_filter::plan::{Plan, PlanFault, PlanFaultText, PlanLine, output_and_expression};
 use cli_text::fields::{capacity_and_mode, number, snapshot_length, split_once};
 use listener::Mode;
-use replay_types::{MOST_INTERFACES, MOST_TASKS};
+use replay_types::{MAX_INTERFACES, MAX_TASKS};
 use std::alloc::Global;
 
 /// The most lines that a replay takes: those of all listeners that all interfaces may have.
-const MAX_LINES: usize = MOST_INTERFACES * MOST_TASKS;
+const MAX_LINES: usize = MAX_INTERFACES * MAX_TASKS;
 
 /// The listener that a line asks for.
 #[derive(Clone, Copy, Debug)]
