@@ -5,7 +5,7 @@ mod program;
 
 use cli_args::command_line::asks_hints;
 use cli_report::ErrorStream;
-use cli_text::telling::tell_words;
+use cli_text::report::report_words;
 use std::io::IsTerminal;
 use std::process::ExitCode;
 use std::{env, io};
@@ -23,7 +23,7 @@ fn main(rt: HostRuntime) -> ExitCode {
             let mut err = ErrorStream::new(err, takes_hints);
             program::run(&rt, words.as_slice(), &mut out, &mut err)
         }
-        Err(error) => tell_words(error, &mut err),
+        Err(error) => report_words(error, &mut err),
     };
     ExitCode::from(status.code())
 }

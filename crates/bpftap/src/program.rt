@@ -3,12 +3,12 @@
 use clap::Error;
 use clap::error::ErrorKind;
 use cli_args::command_line::{Request, read_words};
-use cli_args::telling::tell_words_fault;
+use cli_args::report::report_words_fault;
 use cli_cut::command::{check_command, cut_command};
 use cli_explain::command::explain_command;
-use cli_files::late::hold_stream;
+use cli_files::late::reserve_std_fd;
 use cli_filter_hints::quotes::hint_unquoted;
-use cli_report::TakesHints;
+use cli_report::HintSink;
 use cli_run::command::{NamesFiles, run_command};
 use cli_split::command::split_command;
 use cli_steps::command::steps_command;
@@ -26,11 +26,11 @@ pub fn run<
     R: Files + AllocGlobal + NamesFiles + Threads + Wait + Sync,
     S: AsStr,
     O: Write,
-    E: TakesHints,
+    E: HintSink,
 >(rt: &R, words: &[S], out: &mut O, err: &mut E) -> Status {
-    let _input = hold_stream(rt);
-    let _output = hold_stream(rt);
-    let _error = hold_stream(rt);
+    let _input = reserve_std_fd(rt);
+    let _output = reserve_std_fd(rt);
+    let _error = reserve_std_fd(rt);
     dispatch(rt, words, out, err)
 }
 
@@ -39,7 +39,7 @@ fn dispatch<
     R: Files + AllocGlobal + NamesFiles + Threads + Wait + Sync,
     S: AsStr,
     O: Write,
-    E: TakesHints,
+    E: HintSink,
 >(rt: &R, words: &[S], out: &mut O, err: &mut E) -> Status {
     match read_words(rt.alloc(), words) {
         Ok(Request::Check(words)) => check_command(rt, &words, out, err),
@@ -53,14 +53,14 @@ fn dispatch<
 }
 
 /// Reports what is wrong with the words, or prints help, and answers the exit status.
-fn report_usage<S: AsStr, O: Write, E: TakesHints>(
+fn report_usage<S: AsStr, O: Write, E: HintSink>(
     alloc: Global,
     words: &[S],
     error: &Error,
     out: &mut O,
     err: &mut E,
 ) -> Status {
-    let status = tell_words_fault(error, out, err);
+    let status = report_words_fault(error, out, err);
     if error.kind() == ErrorKind::UnknownArgument {
         hint_unquoted(alloc, words, err);
     }

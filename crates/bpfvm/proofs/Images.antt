@@ -9,8 +9,8 @@ use Rattle.std.specs.declared.fmt.Formatter.{Formatter}
 use Rattle.std.specs.Fmt.{HasWritten, decimal, padded, padded_integral, format_spec, char_count, take_chars}
 use Rattle.std.proofs.lemmas.Fmt.{decimal_nonempty}
 use Rattle.bpfvm.specs.declared.insn.Insn.{Insn}
-use Rattle.bpfvm.specs.declared.image.Form.{Form}
-use Rattle.bpfvm.specs.declared.image.Form.TheVariants as form
+use Rattle.bpfvm.specs.declared.image.OperandForm.{OperandForm}
+use Rattle.bpfvm.specs.declared.image.OperandForm.TheVariants as form
 use Rattle.bpfvm.specs.Codes.{Accumulator, Index, Add, Subtract, Multiply, Divide, Or, And, ShiftLeft, ShiftRight, Modulo, ExclusiveOr, Equal, Greater, GreaterOrEqual, AnyBit, Operation, LoadAbsolute, LoadIndirect, LoadImmediate, LoadMemory, LoadLength, LoadHeaderLength, Store, Calculate, Negate, Jump, Branch, ReturnConstant, ReturnAccumulator, Transfer, operation_of}
 use Rattle.bpfvm.specs.Images.{name_of, column, spaced, line_at, lines_from}
 use Rattle.bpfvm.specs.Naming.{Forms, signed_in, operand_in}
@@ -100,7 +100,7 @@ pub name-each : (name codes : List ℕ) (code : ℕ) → IsOneOf codes code → 
 name-each name codes code is each = one-of (λ code. name ≡ name_of (operation_of code)) codes code is each
 
 -- and of one form
-pub form-each : (f : Form) (codes : List ℕ) (code : ℕ) → IsOneOf codes code → AllByRecursion (λ code. Forms code f) codes → Forms code f
+pub form-each : (f : OperandForm) (codes : List ℕ) (code : ℕ) → IsOneOf codes code → AllByRecursion (λ code. Forms code f) codes → Forms code f
 form-each f codes code is each = one-of (λ code. Forms code f) codes code is each
 
 -- ---- Operands
@@ -110,7 +110,7 @@ some-spaced [] some = absurd (omega arith)
 some-spaced (byte ∷ bytes) some = refl
 
 -- each form but one has an operand
-pub spaced_operand : (f : Form) (next : ℕ) (i : Insn) → f ≢ form.Nothing → next + i.k < 2 ^ 64 → spaced (operand_in f next i) ≡ 32 ∷ operand_in f next i
+pub spaced_operand : (f : OperandForm) (next : ℕ) (i : Insn) → f ≢ form.Nothing → next + i.k < 2 ^ 64 → spaced (operand_in f next i) ≡ 32 ∷ operand_in f next i
 spaced_operand form.Nothing next i other small = absurd (other refl)
 spaced_operand form.InIndex next i other small = refl
 spaced_operand form.Signed next i other small = refl
@@ -126,7 +126,7 @@ spaced_operand form.TestHexadecimal next i other small = refl
 spaced_operand form.Code next i other small = refl
 
 -- the forms of a number with a sign
-pub signed_operand : (f : Form) (next : ℕ) (i : Insn) → (f ≡ form.Signed) ⊎ ((f ≡ form.Packet) ⊎ ((f ≡ form.PacketAtIndex) ⊎ ((f ≡ form.HeaderLength) ⊎ (f ≡ form.Cell)))) →
+pub signed_operand : (f : OperandForm) (next : ℕ) (i : Insn) → (f ≡ form.Signed) ⊎ ((f ≡ form.Packet) ⊎ ((f ≡ form.PacketAtIndex) ⊎ ((f ≡ form.HeaderLength) ⊎ (f ≡ form.Cell)))) →
     signed_in f i.k ≡ operand_in f next i
 signed_operand f next i (inl is) = rw is refl
 signed_operand f next i (inr (inl is)) = rw is refl

@@ -16,7 +16,7 @@ use std::fmt::{Display, Formatter, Write};
 
 /// How the operand of an instruction is written.
 #[derive(Clone, Copy)]
-enum Form {
+enum OperandForm {
     Nothing,
     /// `x`: the index register.
     InIndex,
@@ -86,35 +86,35 @@ fn name_of(code: u16) -> &'static str
 /// How the operand of a code is written.
 ///
 /// Codes that follow one another stand in arms of their own, since the proof goes by the code.
-fn form_of(code: u16) -> Form
+fn form_of(code: u16) -> OperandForm
     ensures { Forms code result }
 {
     match code {
-        code::LD_W_ABS | code::LD_H_ABS | code::LD_B_ABS => Form::Packet,
-        code::LD_W_IND | code::LD_H_IND | code::LD_B_IND => Form::PacketAtIndex,
-        code::LDX_MSH => Form::HeaderLength,
-        code::LD_LEN => Form::WireLength,
-        code::LDX_LEN => Form::WireLength,
-        code::LD_MEM | code::ST => Form::Cell,
-        code::LDX_MEM | code::STX => Form::Cell,
-        code::LD_IMM | code::OR_K | code::AND_K | code::XOR_K => Form::Hexadecimal,
-        code::LDX_IMM => Form::Hexadecimal,
+        code::LD_W_ABS | code::LD_H_ABS | code::LD_B_ABS => OperandForm::Packet,
+        code::LD_W_IND | code::LD_H_IND | code::LD_B_IND => OperandForm::PacketAtIndex,
+        code::LDX_MSH => OperandForm::HeaderLength,
+        code::LD_LEN => OperandForm::WireLength,
+        code::LDX_LEN => OperandForm::WireLength,
+        code::LD_MEM | code::ST => OperandForm::Cell,
+        code::LDX_MEM | code::STX => OperandForm::Cell,
+        code::LD_IMM | code::OR_K | code::AND_K | code::XOR_K => OperandForm::Hexadecimal,
+        code::LDX_IMM => OperandForm::Hexadecimal,
         code::ADD_K
         | code::SUB_K
         | code::MUL_K
         | code::DIV_K
         | code::MOD_K
         | code::LSH_K
-        | code::RSH_K => Form::Signed,
-        code::RET_K => Form::Signed,
-        code::ADD_X | code::SUB_X | code::MUL_X | code::DIV_X | code::MOD_X => Form::InIndex,
-        code::OR_X | code::AND_X | code::XOR_X | code::LSH_X | code::RSH_X => Form::InIndex,
-        code::JA => Form::Target,
-        code::JEQ_K | code::JGT_K | code::JGE_K | code::JSET_K => Form::TestHexadecimal,
-        code::JEQ_X | code::JGT_X | code::JGE_X | code::JSET_X => Form::TestInIndex,
-        code::NEG => Form::Nothing,
-        code::RET_A | code::TAX | code::TXA => Form::Nothing,
-        _ => Form::Code,
+        | code::RSH_K => OperandForm::Signed,
+        code::RET_K => OperandForm::Signed,
+        code::ADD_X | code::SUB_X | code::MUL_X | code::DIV_X | code::MOD_X => OperandForm::InIndex,
+        code::OR_X | code::AND_X | code::XOR_X | code::LSH_X | code::RSH_X => OperandForm::InIndex,
+        code::JA => OperandForm::Target,
+        code::JEQ_K | code::JGT_K | code::JGE_K | code::JSET_K => OperandForm::TestHexadecimal,
+        code::JEQ_X | code::JGT_X | code::JGE_X | code::JSET_X => OperandForm::TestInIndex,
+        code::NEG => OperandForm::Nothing,
+        code::RET_A | code::TAX | code::TXA => OperandForm::Nothing,
+        _ => OperandForm::Code,
     }
 }
 
@@ -160,48 +160,60 @@ impl Display for HexadecimalColumn {
 
 /// Writes an operand that has a number with a sign.
 #[inline]
-fn write_signed<W: Write>(f: &mut Formatter<W>, k: Signed, form: Form) -> fmt::Result
+fn write_signed<W: Write>(f: &mut Formatter<W>, k: Signed, form: OperandForm) -> fmt::Result
     ensures { WritesOnOk W.write_str_gives f.old result (signed_in form k.0) f.new }
 {
     match form {
-        Form::Packet => write!(f, "[{k}]"),
-        Form::PacketAtIndex => write!(f, "[x + {k}]"),
-        Form::HeaderLength => write!(f, "4*([{k}]&0xf)"),
-        Form::Cell => write!(f, "M[{k}]"),
+        OperandForm::Packet => write!(f, "[{k}]"),
+        OperandForm::PacketAtIndex => write!(f, "[x + {k}]"),
+        OperandForm::HeaderLength => write!(f, "4*([{k}]&0xf)"),
+        OperandForm::Cell => write!(f, "M[{k}]"),
         _ => write!(f, "#{k}"),
     }
 }
 
 /// Writes the operand of an instruction, where the next one has this place.
-fn write_operand<W: Write>(f: &mut Formatter<W>, next: u64, insn: &Insn, form: Form) -> fmt::Result
+fn write_operand<W: Write>(
+    f: &mut Formatter<W>,
+    next: u64,
+    insn: &Insn,
+    form: OperandForm,
+) -> fmt::Result
     requires { next ≤ 2 ^ 32 }
     ensures writes { WritesOnOk W.write_str_gives f.old result (operand_in form next insn.now) f.new }
     ensures fits { insn.now.k < 2 ^ 32 }
 {
     let bits = Hexadecimal(insn.k);
     match form {
-        Form::Nothing => Ok(()),
-        Form::InIndex | Form::TestInIndex => f.write_str("x"),
-        Form::Hexadecimal | Form::TestHexadecimal => write!(f, "#{bits}"),
-        Form::WireLength => f.write_str("#pktlen"),
-        Form::Target => write!(f, "{}", next + u64::from(insn.k)),
-        Form::Code => write!(f, "{}", Hexadecimal(u32::from(insn.code))),
-        Form::Signed | Form::Packet | Form::PacketAtIndex | Form::HeaderLength | Form::Cell => {
-            write_signed(f, Signed(insn.k), form)
-        }
+        OperandForm::Nothing => Ok(()),
+        OperandForm::InIndex | OperandForm::TestInIndex => f.write_str("x"),
+        OperandForm::Hexadecimal | OperandForm::TestHexadecimal => write!(f, "#{bits}"),
+        OperandForm::WireLength => f.write_str("#pktlen"),
+        OperandForm::Target => write!(f, "{}", next + u64::from(insn.k)),
+        OperandForm::Code => write!(f, "{}", Hexadecimal(u32::from(insn.code))),
+        OperandForm::Signed
+        | OperandForm::Packet
+        | OperandForm::PacketAtIndex
+        | OperandForm::HeaderLength
+        | OperandForm::Cell => { write_signed(f, Signed(insn.k), form) }
     }
 }
 
 /// Writes the same, and of a conditional jump where it goes on.
-fn write_operands<W: Write>(f: &mut Formatter<W>, next: u64, insn: &Insn, form: Form) -> fmt::Result
+fn write_operands<W: Write>(
+    f: &mut Formatter<W>,
+    next: u64,
+    insn: &Insn,
+    form: OperandForm,
+) -> fmt::Result
     requires { next ≤ 2 ^ 32 }
     ensures { WritesOnOk W.write_str_gives f.old result (operands_in form next insn.now) f.new }
 {
     let jt = next + u64::from(insn.jt);
     let jf = next + u64::from(insn.jf);
     match form {
-        Form::TestInIndex => write!(f, "x                jt {jt}\tjf {jf}"),
-        Form::TestHexadecimal => {
+        OperandForm::TestInIndex => write!(f, "x                jt {jt}\tjf {jf}"),
+        OperandForm::TestHexadecimal => {
             let bits = HexadecimalColumn(insn.k);
             write!(f, "{bits} jt {jt}\tjf {jf}")
         }
@@ -243,7 +255,7 @@ impl Display for Brief<'_> {
         let form = form_of(self.0.code);
         f.write_str(name_of(self.0.code))?;
         match form {
-            Form::Nothing => Ok(()),
+            OperandForm::Nothing => Ok(()),
             _ => {
                 f.write_str(" ")?;
                 write_operand(f, 0, self.0, form)
@@ -255,12 +267,12 @@ impl Display for Brief<'_> {
 /// The instruction at a place of a program, from 0, as `tcpdump -d` prints its line: `(001) jeq      #0x800           jt 2\tjf 5`.
 /// A jump has the places that it leads to.
 #[derive(Clone, Copy)]
-pub struct Placed<'a> {
+pub struct PlacedInsn<'a> {
     pub place: u32,
     pub insn: &'a Insn,
 }
 
-impl Display for Placed<'_> {
+impl Display for PlacedInsn<'_> {
     ghost output = { λ placed. Some (placed_text placed.place placed.insn.now) };
 
     fn fmt<W: Write>(&self, f: &mut Formatter<W>) -> fmt::Result {
@@ -282,7 +294,7 @@ pub fn write_image(alloc: Global, program: &Program) -> Result<Vec<u8>, NoMemory
     let mut text = String::new(alloc);
     for (place, insn) in insns.iter().enumerate() {
         let place = place as u32;
-        write!(text, "{}\n", Placed { place, insn })?;
+        write!(text, "{}\n", PlacedInsn { place, insn })?;
     }
     Ok(text.into_bytes())
 }

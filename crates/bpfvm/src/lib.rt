@@ -19,7 +19,7 @@ mod running;
 mod tracing;
 
 pub use fault::{Invalid, ListingFault, NoMemory};
-pub use image::{Brief, Placed, write_image};
+pub use image::{Brief, PlacedInsn, write_image};
 pub use insn::Insn;
 pub use listing::{read_listing, write_listing};
 pub use program::{MAX_INSNS, Program};

@@ -34,7 +34,7 @@ pub(crate) enum Argument {
 
 impl Argument {
     /// The argument as `clap` has it.
-    pub fn made<'a>(self, alloc: Global) -> Result<Arg<'a>, AllocError> {
+    pub fn to_arg<'a>(self, alloc: Global) -> Result<Arg<'a>, AllocError> {
         match self {
             Argument::Flag(name, short, help) => Ok(flag(alloc, name, short, help)),
             Argument::Text(name, short, value, help) => Ok(option(alloc, name, short, value, help)),

@@ -104,7 +104,7 @@ pub fn explain_words<'a>(matches: &ArgMatches<'a>) -> Option<ExplainWords<'a>> {
 }
 
 /// What a snapshot length or a place has to be that was found to be none.
-fn wanted(matches: &ArgMatches<'_>) -> &'static str {
+fn range_of_value(matches: &ArgMatches<'_>) -> &'static str {
     match place_of(matches) {
         Some(_) => "-s takes a number from 0 to 262144",
         None => "-p takes a number from 0 to 18446744073709551615",
@@ -113,5 +113,9 @@ fn wanted(matches: &ArgMatches<'_>) -> &'static str {
 
 /// The error of a snapshot length or a place that is not digits alone.
 pub fn bad_explain_words(alloc: Global, matches: &ArgMatches<'_>) -> Result<Error, AllocError> {
-    bad_value(explain_command(alloc), "bpftap explain", wanted(matches))
+    bad_value(
+        explain_command(alloc),
+        "bpftap explain",
+        range_of_value(matches),
+    )
 }

@@ -11,7 +11,7 @@ fn with_argument<'a>(
     command: Command<'a>,
     argument: Argument,
 ) -> Result<Command<'a>, AllocError> {
-    command.arg(argument.made(alloc)?)
+    command.arg(argument.to_arg(alloc)?)
 }
 
 /// A subcommand with these arguments, in the order of its help.

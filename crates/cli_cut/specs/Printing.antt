@@ -12,8 +12,8 @@ use Rattle.filtergen.specs.declared.expression.ExpressionFault.TheVariants as fa
 use Rattle.filtergen.specs.Expressions.{IsProgramOf, IsUncompiled}
 use Rattle.cli_text.specs.Sending.{TakesPart}
 use Rattle.cli_text.specs.Telling.{end_of_line}
-use Rattle.cli_cut.specs.declared.print.Form.{Form}
-use Rattle.cli_cut.specs.declared.print.Form.TheVariants as forms
+use Rattle.cli_cut.specs.declared.print.ProgramForm.{ProgramForm}
+use Rattle.cli_cut.specs.declared.print.ProgramForm.TheVariants as forms
 use Rattle.cli_cut.specs.declared.print.PrintFault.{PrintFault}
 use Rattle.cli_cut.specs.declared.print.PrintFault.TheVariants as print
 
@@ -34,7 +34,7 @@ IsUnread old new text print.NoMemory = (tree : Tree) × ReadsAs text tree × Kee
 IsUnread old new text (print.Output error) = (tree : Tree) × ReadsAs text tree × TakesPart old new (canonical tree ++ end_of_line)
 
 -- a program as numbers, or by the names of its instructions
-abbrev pub program_text : Form → List Insn → List ℕ
+abbrev pub program_text : ProgramForm → List Insn → List ℕ
 program_text forms.Listing program = listing_of program
 program_text forms.Image program = image_of program
 
@@ -45,7 +45,7 @@ IsUnprinted old new text print.NoMemory = Keeps old new
 IsUnprinted old new text (print.Output error) = TakesPart old new text
 
 -- why a program is not printed
-abbrev pub IsUnshown : Option (List ℕ) → Option (List ℕ) → Form → List Insn → PrintFault → Type 0
+abbrev pub IsUnshown : Option (List ℕ) → Option (List ℕ) → ProgramForm → List Insn → PrintFault → Type 0
 IsUnshown old new form program fault = IsUnprinted old new (program_text form program) fault
 
 -- Why the listing of an expression's program is not printed: the expression has none, and nothing was taken; or it has one, which

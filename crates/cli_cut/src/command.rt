@@ -3,15 +3,15 @@
 use crate::hints::{hint_cut, hint_print};
 use crate::paths::{late_output, open_apart};
 use crate::plan::{read_filter, read_program};
-use crate::print::{Form, PrintFault, check, show, show_read};
+use crate::print::{PrintFault, ProgramForm, check, show, show_read};
 use crate::report::{report_count, report_cut, report_print};
 use bpfvm::Program;
 use cli_args::check::CheckWords;
 use cli_args::command_line::CutWords;
 use cli_files::late::LateFile;
 use cli_files::retried::Retried;
-use cli_report::TakesHints;
-use cli_report::noted::{NotedInput, NotedOutput};
+use cli_report::HintSink;
+use cli_report::probe::{ProbedInput, ProbedOutput};
 use cli_text::{MAX_SNAP, Status};
 use pcap_cut::cut::{CutEnd, End, cut};
 use savefile::{Counted, Fault};
@@ -28,12 +28,12 @@ struct Job<I, O> {
 
 /// The job of a cut over files.
 type FileJob<'r, 'p, R> = Job<
-    NotedInput<Retried<<R as Files>::File>>,
-    NotedOutput<LateFile<'r, 'p, R>>,
+    ProbedInput<Retried<<R as Files>::File>>,
+    ProbedOutput<LateFile<'r, 'p, R>>,
 >;
 
 /// Accepts the filter, compares the paths, and opens IN, in this order.
-fn prepare<'r, 'p, R: Files + AllocGlobal, E: TakesHints>(
+fn prepare<'r, 'p, R: Files + AllocGlobal, E: HintSink>(
     rt: &'r R,
     words: &CutWords<'p>,
     err: &mut E,
@@ -57,10 +57,10 @@ fn flush<R, W: Write>(mut end: CutEnd<R, Counted<W>>) -> CutEnd<R, Counted<W>> {
 }
 
 /// Cuts IN, and reports how that ended.
-fn cut_and_report<R: Read + Drop, W: Write + Drop, E: TakesHints>(
+fn cut_and_report<R: Read + Drop, W: Write + Drop, E: HintSink>(
     alloc: Global,
     words: &CutWords<'_>,
-    job: Job<NotedInput<R>, NotedOutput<W>>,
+    job: Job<ProbedInput<R>, ProbedOutput<W>>,
     err: &mut E,
 ) -> Status {
     let Job {
@@ -87,7 +87,7 @@ fn cut_and_report<R: Read + Drop, W: Write + Drop, E: TakesHints>(
 }
 
 /// `bpftap cut`: the filter is accepted, and the paths are compared, before IN is opened. OUT is made at its first write.
-pub fn cut_command<R: Files + AllocGlobal, E: TakesHints>(
+pub fn cut_command<R: Files + AllocGlobal, E: HintSink>(
     rt: &R,
     words: &CutWords<'_>,
     err: &mut E,
@@ -99,23 +99,23 @@ pub fn cut_command<R: Files + AllocGlobal, E: TakesHints>(
 }
 
 /// Prints a program in the form that is asked for.
-fn print_program<R: Files + AllocGlobal, O: Write, E: TakesHints>(
+fn print_program<R: Files + AllocGlobal, O: Write, E: HintSink>(
     rt: &R,
     words: &CheckWords<'_>,
     out: &mut O,
     err: &mut E,
 ) -> Result<Result<(), PrintFault>, Status> {
     let form = if words.named {
-        Form::Image
+        ProgramForm::Image
     } else {
-        Form::Listing
+        ProgramForm::Listing
     };
     let program = read_program(rt, words, err)?;
     Ok(show(rt.alloc(), &program, form, out))
 }
 
 /// Prints what is asked for: the expression as it was read, its listing, or a program in some form.
-fn print<R: Files + AllocGlobal, O: Write, E: TakesHints>(
+fn print<R: Files + AllocGlobal, O: Write, E: HintSink>(
     rt: &R,
     words: &CheckWords<'_>,
     out: &mut O,
@@ -131,7 +131,7 @@ fn print<R: Files + AllocGlobal, O: Write, E: TakesHints>(
 }
 
 /// `bpftap check`: prints the program of an expression or of a listing's file, or the expression as it was read.
-pub fn check_command<R: Files + AllocGlobal, O: Write, E: TakesHints>(
+pub fn check_command<R: Files + AllocGlobal, O: Write, E: HintSink>(
     rt: &R,
     words: &CheckWords<'_>,
     out: &mut O,

@@ -2,15 +2,15 @@
 
 use crate::print::PrintFault;
 use cli_filter::hint_expression;
-use cli_report::TakesHints;
+use cli_report::HintSink;
 use cli_report::failures::{hint_failure, hint_input, hint_unprinted};
-use cli_report::noted::{NotedInput, NotedOutput};
+use cli_report::probe::{ProbedInput, ProbedOutput};
 use pcap_cut::cut::{CutEnd, End};
 use std::io::Write;
 
 /// Hints on how a cut ended.
-pub(crate) fn hint_cut<R, W: Write + Drop, E: TakesHints>(
-    end: &CutEnd<NotedInput<R>, NotedOutput<W>>,
+pub(crate) fn hint_cut<R, W: Write + Drop, E: HintSink>(
+    end: &CutEnd<ProbedInput<R>, ProbedOutput<W>>,
     err: &mut E,
 ) {
     match end.end {
@@ -21,7 +21,7 @@ pub(crate) fn hint_cut<R, W: Write + Drop, E: TakesHints>(
 }
 
 /// Hints on why the program of an expression was not printed.
-pub(crate) fn hint_print<E: TakesHints>(expr: &str, printed: &Result<(), PrintFault>, err: &mut E) {
+pub(crate) fn hint_print<E: HintSink>(expr: &str, printed: &Result<(), PrintFault>, err: &mut E) {
     match printed {
         Err(PrintFault::Expression(fault)) => hint_expression(expr, *fault, err),
         Err(PrintFault::Output(error)) => hint_unprinted(error, err),

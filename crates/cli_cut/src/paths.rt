@@ -3,11 +3,11 @@
 use cli_args::command_line::CutWords;
 use cli_files::late::LateFile;
 use cli_files::opening::open_input;
-use cli_files::paths::all_apart;
-use cli_files::reading::tell_io;
+use cli_files::paths::refuse_shared_files;
+use cli_files::reading::report_io;
 use cli_files::retried::Retried;
-use cli_report::noted::{NotedInput, NotedOutput};
-use cli_report::{Noted, TakesHints};
+use cli_report::probe::{ProbedInput, ProbedOutput};
+use cli_report::{FailureProbe, HintSink};
 use cli_text::Status;
 use savefile::Counted;
 use std::fs::Files;
@@ -17,26 +17,26 @@ use std::io::BufWriter;
 const OUTPUT_BUFFER: usize = 1 << 18;
 
 /// Opens IN, once no file can be lost: OUT is neither of the files that are read, nor the one that standard error goes to.
-pub(crate) fn open_apart<R: Files + AllocGlobal, E: TakesHints>(
+pub(crate) fn open_apart<R: Files + AllocGlobal, E: HintSink>(
     rt: &R,
     words: &CutWords<'_>,
     err: &mut E,
-) -> Result<NotedInput<Retried<R::File>>, Status> {
+) -> Result<ProbedInput<Retried<R::File>>, Status> {
     let listing = words.listing.unwrap_or(words.input);
     let read = [listing, words.input];
-    all_apart(rt, None, &read, &[words.output], err)?;
+    refuse_shared_files(rt, None, &read, &[words.output], err)?;
     open_input(rt, words.input, err)
 }
 
 /// OUT, which is made at its first write.
-pub(crate) fn late_output<'r, 'p, R: Files + AllocGlobal, E: TakesHints>(
+pub(crate) fn late_output<'r, 'p, R: Files + AllocGlobal, E: HintSink>(
     rt: &'r R,
     path: &'p str,
     err: &mut E,
-) -> Result<NotedOutput<LateFile<'r, 'p, R>>, Status> {
-    let late = Noted::new(LateFile::new(rt, path));
+) -> Result<ProbedOutput<LateFile<'r, 'p, R>>, Status> {
+    let late = FailureProbe::new(LateFile::new(rt, path));
     match BufWriter::with_capacity(rt.alloc(), OUTPUT_BUFFER, late) {
         Ok(output) => Ok(Counted::new(output)),
-        Err(error) => Err(tell_io(&error, path, err)),
+        Err(error) => Err(report_io(&error, path, err)),
     }
 }

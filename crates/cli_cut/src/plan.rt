@@ -4,26 +4,26 @@ use bpfvm::Program;
 use cli_args::check::CheckWords;
 use cli_args::command_line::CutWords;
 use cli_filter::{FilterFault, program_of_expression, program_of_file};
-use cli_report::TakesHints;
+use cli_report::HintSink;
 use cli_text::Status;
-use cli_text::telling::tell_fault;
+use cli_text::report::report_fault;
 use std::fs::Files;
 
 /// The filter of a cut: a listing's file is read, unless there is an expression too.
-pub(crate) fn read_filter<R: Files + AllocGlobal, E: TakesHints>(
+pub(crate) fn read_filter<R: Files + AllocGlobal, E: HintSink>(
     rt: &R,
     words: &CutWords<'_>,
     err: &mut E,
 ) -> Result<Program, Status> {
     match words.listing {
         Some(path) if words.expr.is_none() => program_of_file(rt, path, err),
-        Some(_) => Err(tell_fault(FilterFault::Twice, Status::Refused, err)),
+        Some(_) => Err(report_fault(FilterFault::Twice, Status::Refused, err)),
         None => program_of_expression(rt, words.expr, words.snap, err),
     }
 }
 
 /// The program that `check` prints: a listing's file, or an expression's.
-pub(crate) fn read_program<R: Files + AllocGlobal, E: TakesHints>(
+pub(crate) fn read_program<R: Files + AllocGlobal, E: HintSink>(
     rt: &R,
     words: &CheckWords<'_>,
     err: &mut E,

@@ -42,26 +42,26 @@ pub fn check<O: Write>(alloc: Global, expr: &str, out: &mut O) -> Result<(), Pri
     ensures fault { IfErr result (IsUnchecked (O.contents out.old) (O.contents out.new) expr.now) }
 {
     match compile_text(alloc, expr, MAX_SNAP) {
-        Ok(program) => show(alloc, &program, Form::Listing, out),
+        Ok(program) => show(alloc, &program, ProgramForm::Listing, out),
         Err(fault) => Err(PrintFault::Expression(fault)),
     }
 }
 
 /// How a program is printed.
 #[derive(Clone, Copy, Debug, PartialEq, Eq)]
-pub enum Form {
+pub enum ProgramForm {
     /// As numbers, for a program to read: what `tcpdump -ddd` prints.
     Listing,
     /// By the names of its instructions, for a person: what `tcpdump -d` prints.
     Image,
 }
 
-fn text_of(alloc: Global, program: &Program, form: Form) -> Result<Vec<u8>, NoMemory>
+fn text_of(alloc: Global, program: &Program, form: ProgramForm) -> Result<Vec<u8>, NoMemory>
     ensures { IfOk result (λ text. text.items ≡ program_text form program.now) }
 {
     match form {
-        Form::Listing => write_listing(alloc, program),
-        Form::Image => write_image(alloc, program),
+        ProgramForm::Listing => write_listing(alloc, program),
+        ProgramForm::Image => write_image(alloc, program),
     }
 }
 
@@ -81,7 +81,7 @@ fn print<O: Write>(text: &[u8], out: &mut O) -> Result<(), PrintFault>
 pub fn show<O: Write>(
     alloc: Global,
     program: &Program,
-    form: Form,
+    form: ProgramForm,
     out: &mut O,
 ) -> Result<(), PrintFault>
     ensures printed { OnOk result (Appends (O.contents out.old) (O.contents out.new) (program_text form program.now)) }

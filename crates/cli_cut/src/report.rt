@@ -6,8 +6,8 @@ ghost use Rattle.cli_text.specs.Status.{code};
 ghost use Rattle.cli_cut.specs.Telling.{count_told, is_counted, print_status, status_of, tally_line};
 
 use crate::print::PrintFault;
+use cli_text::report::{fault_status, report_at, report_fault, report_unwritten};
 use cli_text::sending::send;
-use cli_text::telling::{fault_status, report_at, report_unwritten, tell_fault};
 use cli_text::{Line, Status};
 use pcap_cut::cut::{CutEnd, End, Tally};
 use savefile::Fault;
@@ -81,6 +81,6 @@ pub fn report_print<E: Write>(printed: &Result<(), PrintFault>, err: &mut E) -> 
     match printed {
         Ok(()) => Status::Clean,
         Err(PrintFault::Output(error)) => report_unwritten(error, err),
-        Err(fault) => tell_fault(fault, Status::Refused, err),
+        Err(fault) => report_fault(fault, Status::Refused, err),
     }
 }

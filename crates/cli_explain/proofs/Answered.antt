@@ -11,10 +11,10 @@ use Rattle.filter_meaning.specs.declared.verdict.Verdict.TheVariants.{Yes, No, A
 use Rattle.cli_text.specs.Sending.{TakesPart}
 use Rattle.cli_text.specs.Texts.{numbered}
 use Rattle.cli_text.proofs.Taking.{TakesPart-then}
-use Rattle.cli_explain.specs.declared.each.Counts.{Counts}
+use Rattle.cli_explain.specs.declared.each.VerdictCounts.{VerdictCounts}
 use Rattle.cli_explain.specs.declared.each.Unprinted.{Unprinted}
 use Rattle.cli_explain.specs.declared.each.Unprinted.TheVariants.{NoMemory, Output}
-use Rattle.cli_explain.specs.declared.filter.Filter.{Filter}
+use Rattle.cli_explain.specs.declared.filter.AskedFilter.{AskedFilter}
 use Rattle.cli_explain.specs.Answers.{Answer, answer, IsAnswer, answer_line}
 use Rattle.cli_explain.specs.Explained.{is_yes, is_no, is_abort, count_of, counted, AreCounts, answer_lines, packets_of, PrintsLine, IsLineBroken}
 
@@ -47,7 +47,7 @@ count-last is answers a =
     ap length (filter-append (λ (b : Answer). is b.verdict) answers (a ∷ []))
     ∙ length-append (filter (λ (b : Answer). is b.verdict) answers) (filter (λ (b : Answer). is b.verdict) (a ∷ []))
 
-counts-by : (v : Verdict) (answers : List Answer) (p : Packet) (reason : List ℕ) (c : Counts) → AreCounts c answers → AreCounts (counted v c) (answers ++ answer p v reason ∷ [])
+counts-by : (v : Verdict) (answers : List Answer) (p : Packet) (reason : List ℕ) (c : VerdictCounts) → AreCounts c answers → AreCounts (counted v c) (answers ++ answer p v reason ∷ [])
 counts-by Yes answers p reason c are = record {
   packets = ap (λ n. n + 1) are.packets ∙ sym (length-append answers (answer p Yes reason ∷ []));
   yes = ap (λ n. n + 1) are.yes ∙ sym (count-last is_yes answers (answer p Yes reason));
@@ -68,7 +68,7 @@ counts-by Abort answers p reason c are = record {
 }
 
 -- no count is above that of the packets
-pub counted-packets : (v : Verdict) (c : Counts) (before given : ℕ) → c.packets ≤ before → given ≡ before + 1 → (counted v c).packets ≤ given
+pub counted-packets : (v : Verdict) (c : VerdictCounts) (before given : ℕ) → c.packets ≤ before → given ≡ before + 1 → (counted v c).packets ≤ given
 counted-packets Yes c before given few more = omega (arith, few, more)
 counted-packets No c before given few more = omega (arith, few, more)
 counted-packets Abort c before given few more = omega (arith, few, more)
@@ -77,17 +77,17 @@ counted-packets Abort c before given few more = omega (arith, few, more)
 pub room-for-one : (packets before given : ℕ) → packets ≤ before → (given ≡ before + 1) × (given < 2 ^ 64) → packets + 1 < 2 ^ 64
 room-for-one packets before given few more = omega (arith, few, more.0, more.1)
 
-pub counted-yes : (v : Verdict) (c : Counts) → c.yes ≤ c.packets → (counted v c).yes ≤ (counted v c).packets
+pub counted-yes : (v : Verdict) (c : VerdictCounts) → c.yes ≤ c.packets → (counted v c).yes ≤ (counted v c).packets
 counted-yes Yes c few = omega (arith, few)
 counted-yes No c few = omega (arith, few)
 counted-yes Abort c few = omega (arith, few)
 
-pub counted-no : (v : Verdict) (c : Counts) → c.no ≤ c.packets → (counted v c).no ≤ (counted v c).packets
+pub counted-no : (v : Verdict) (c : VerdictCounts) → c.no ≤ c.packets → (counted v c).no ≤ (counted v c).packets
 counted-no Yes c few = omega (arith, few)
 counted-no No c few = omega (arith, few)
 counted-no Abort c few = omega (arith, few)
 
-pub counted-abort : (v : Verdict) (c : Counts) → c.abort ≤ c.packets → (counted v c).abort ≤ (counted v c).packets
+pub counted-abort : (v : Verdict) (c : VerdictCounts) → c.abort ≤ c.packets → (counted v c).abort ≤ (counted v c).packets
 counted-abort Yes c few = omega (arith, few)
 counted-abort No c few = omega (arith, few)
 counted-abort Abort c few = omega (arith, few)
@@ -95,7 +95,7 @@ counted-abort Abort c few = omega (arith, few)
 -- ---- One packet more
 
 -- it is answered, printed and counted
-pub goes-on : (f : Filter) (old mid new : Option (List ℕ)) (answers : List Answer) (c after : Counts) (p : Packet) (v : Verdict) →
+pub goes-on : (f : AskedFilter) (old mid new : Option (List ℕ)) (answers : List Answer) (c after : VerdictCounts) (p : Packet) (v : Verdict) →
     AllByRecursion (IsAnswer f) answers → Appends old mid (answer_lines answers) → AreCounts c answers →
     PrintsLine f c.packets p mid new v → after ≡ counted v c →
     (a : Answer) × (a.packet ≡ p) × AllByRecursion (IsAnswer f) (answers ++ a ∷ [])
@@ -106,11 +106,11 @@ goes-on f old mid new answers c after p v all lines are (reason, is, line) more 
       refl,
       all-more (IsAnswer f) answers a all is,
       subst (Appends old new) (sym (lines-last answers a c.packets are.packets)) (Appends-trans old mid new (answer_lines answers) (answer_line c.packets a) lines line),
-      subst (λ (k : Counts). AreCounts k (answers ++ a ∷ [])) (sym more) (counts-by v answers p reason c are),
+      subst (λ (k : VerdictCounts). AreCounts k (answers ++ a ∷ [])) (sym more) (counts-by v answers p reason c are),
     )
 
 -- or its line is not printed, or a beginning of it alone
-pub breaks-off : (f : Filter) (old mid new : Option (List ℕ)) (answers : List Answer) (c : Counts) (p : Packet) (unprinted : Unprinted) →
+pub breaks-off : (f : AskedFilter) (old mid new : Option (List ℕ)) (answers : List Answer) (c : VerdictCounts) (p : Packet) (unprinted : Unprinted) →
     AllByRecursion (IsAnswer f) answers → Appends old mid (answer_lines answers) → AreCounts c answers →
     IsLineBroken f c.packets p mid new unprinted →
     (told : List Answer) × AllByRecursion (IsAnswer f) told × ((packets_of told ≡ packets_of answers) ⊎ (packets_of told ≡ packets_of answers ++ p ∷ []))

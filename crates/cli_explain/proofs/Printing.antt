@@ -13,10 +13,10 @@ use Rattle.savefile.specs.Reader.{HasGiven, IsCause, Leaves, Lends, Reading, Was
 use Rattle.filter_meaning.specs.declared.verdict.Verdict.{Verdict}
 use Rattle.cli_text.specs.Sending.{Takes, TakesPart}
 use Rattle.cli_text.proofs.Taking.{TakesPart-more, TakesPart-then}
-use Rattle.cli_explain.specs.declared.each.Counts.{Counts}
+use Rattle.cli_explain.specs.declared.each.VerdictCounts.{VerdictCounts}
 use Rattle.cli_explain.specs.declared.each.Unprinted.{Unprinted}
 use Rattle.cli_explain.specs.declared.each.Unprinted.TheVariants as unprinted
-use Rattle.cli_explain.specs.declared.filter.Filter.{Filter}
+use Rattle.cli_explain.specs.declared.filter.AskedFilter.{AskedFilter}
 use Rattle.cli_explain.specs.declared.one.Found.{Found}
 use Rattle.cli_explain.specs.Answers.{Answer, IsAnswer, answer, answer_line}
 use Rattle.cli_explain.specs.Explained.{is_yes, is_no, is_abort, count_of, AreCounts, counts_text, answer_lines, packets_of, IsLineBroken, IsUnopened, PrintsLine, PrintsLines, PrintsAll, PrintsFound, PrintsMore, PrintsWhole, GoesTo, Finds}
@@ -29,14 +29,14 @@ unopened from left fault (inr (inl device)) (bytes, gave, short) = inr (inl (dev
 unopened from left fault (inr (inr wanting)) given = inr (inr wanting)
 
 -- it broke off
-pub broken-off : {A : Type 0} (f : Filter) (from left : Option (List ℕ)) (header : Header) (old new : Option (List ℕ)) (c : Counts) (read : Result A Fault) (done : Result A Unprinted) (x : A) (u : Unprinted) (told : List Answer) →
+pub broken-off : {A : Type 0} (f : AskedFilter) (from left : Option (List ℕ)) (header : Header) (old new : Option (List ℕ)) (c : VerdictCounts) (read : Result A Fault) (done : Result A Unprinted) (x : A) (u : Unprinted) (told : List Answer) →
     read ≡ Ok x → done ≡ Err u → AllByRecursion (IsAnswer f) told → WasBegun from header (packets_of told) → TakesPart old new (answer_lines told) →
     PrintsLines f from left header old new c read done
 broken-off f from left header old new c read done x u told reads stops all begun part =
     rw (reads, stops) (inl (told, all, begun, refl, refl, part))
 
 -- the capture was read to its end
-pub read-whole : {A : Type 0} (f : Filter) (from left : Option (List ℕ)) (header : Header) (old new : Option (List ℕ)) (c : Counts) (read : Result A Fault) (done : Result A Unprinted) (x y : A) (answers : List Answer) →
+pub read-whole : {A : Type 0} (f : AskedFilter) (from left : Option (List ℕ)) (header : Header) (old new : Option (List ℕ)) (c : VerdictCounts) (read : Result A Fault) (done : Result A Unprinted) (x y : A) (answers : List Answer) →
     read ≡ Ok x → done ≡ Ok y → AllByRecursion (IsAnswer f) answers → WasRead from header (packets_of answers) None →
     Appends old new (answer_lines answers) → AreCounts c answers →
     PrintsLines f from left header old new c read done
@@ -44,7 +44,7 @@ read-whole f from left header old new c read done x y answers reads prints all w
     rw (reads, prints) (inr (answers, all, inl (None, was, refl), refl, lines, are))
 
 -- or not so far
-pub read-part : {A : Type 0} (f : Filter) (from left : Option (List ℕ)) (header : Header) (old new : Option (List ℕ)) (c : Counts) (read : Result A Fault) (done : Result A Unprinted) (fault : Fault) (y : A) (answers : List Answer) →
+pub read-part : {A : Type 0} (f : AskedFilter) (from left : Option (List ℕ)) (header : Header) (old new : Option (List ℕ)) (c : VerdictCounts) (read : Result A Fault) (done : Result A Unprinted) (fault : Fault) (y : A) (answers : List Answer) →
     read ≡ Err fault → done ≡ Ok y → AllByRecursion (IsAnswer f) answers →
     Appends old new (answer_lines answers) → AreCounts c answers → WasBegun from header (packets_of answers) → IsCause from left header (packets_of answers) fault →
     PrintsLines f from left header old new c read done
@@ -56,14 +56,14 @@ read-part f from left header old new c read done fault y answers reads prints al
     rw (reads, prints) (inr (answers, all, inr (begun, inr (ap Err full, many)), refl, lines, are))
 
 -- where the lines broke off, no counts are printed
-pub lines-alone : {A : Type 0} (f : Filter) (from left : Option (List ℕ)) (header : Header) (old new : Option (List ℕ)) (c : Counts) (read : Result A Fault) (done : Result A Unprinted) →
+pub lines-alone : {A : Type 0} (f : AskedFilter) (from left : Option (List ℕ)) (header : Header) (old new : Option (List ℕ)) (c : VerdictCounts) (read : Result A Fault) (done : Result A Unprinted) →
     is_err done ≡ true → PrintsLines f from left header old new c read done → PrintsAll f from left header old new c read done
 lines-alone f from left header old new c read (Ok x) failed lines = absurd (cc)
 lines-alone f from left header old new c read (Err u) failed (inl broke) = inl broke
 lines-alone f from left header old new c read (Err u) failed (inr (answers, all, reads, ok, lines, are)) = absurd (cc)
 
 -- the lines, and then the counts
-pub lines-and-counts : {A : Type 0} (f : Filter) (from left : Option (List ℕ)) (header : Header) (old mid new : Option (List ℕ)) (c : Counts) (read : Result A Fault) (done told : Result A Unprinted) →
+pub lines-and-counts : {A : Type 0} (f : AskedFilter) (from left : Option (List ℕ)) (header : Header) (old mid new : Option (List ℕ)) (c : VerdictCounts) (read : Result A Fault) (done told : Result A Unprinted) →
     is_err done ≡ false → PrintsLines f from left header old mid c read done → Takes mid new told (counts_text c.packets c.yes c.no c.abort) →
     PrintsAll f from left header old new c read told
 lines-and-counts f from left header old mid new c read (Err u) told went lines taken = absurd (cc)
@@ -115,7 +115,7 @@ lends-it old new (Ok false) leaves is = absurd (cc)
 lends-it old new (Err fault) leaves is = absurd (cc)
 
 -- so one packet is found, or none
-pub finds-it : {R : Type 0} (left : R → Option (List ℕ)) (from : R) (f : Filter) (place : ℕ) (old new : Option (List ℕ)) (header : Header) (r : Reading R) (e : Found R) (read : Result Bool Fault) →
+pub finds-it : {R : Type 0} (left : R → Option (List ℕ)) (from : R) (f : AskedFilter) (place : ℕ) (old new : Option (List ℕ)) (header : Header) (r : Reading R) (e : Found R) (read : Result Bool Fault) →
     ((packets : List Packet) → HasGiven left (left from) header packets r → WasBegun (left from) header packets) →
     e.source ≡ r.source → e.read ≡ read → GoesTo left (left from) header place r read → PrintsFound f place r.lent old new read e.printed →
     Finds left from f place old new e
@@ -127,14 +127,14 @@ finds-it left from f place old new header r e (Err fault) begins same is (packet
     inr (inr (header, packets, few, ok, kept, inr (fault, subst (λ s. IsCause (left from) (left s) header packets fault) (sym same) cause, is)))
 
 -- a packet's line, and then more
-pub prints-whole : {A : Type 0} (f : Filter) (place : ℕ) (p : Packet) (old mid new : Option (List ℕ)) (v : Verdict) (result : Result A Unprinted) →
+pub prints-whole : {A : Type 0} (f : AskedFilter) (place : ℕ) (p : Packet) (old mid new : Option (List ℕ)) (v : Verdict) (result : Result A Unprinted) →
     PrintsLine f place p old mid v → PrintsMore mid new result → PrintsWhole f place p old new result
 prints-whole f place p old mid new v (Ok x) (reason, is, line) (text, taken) = (v, reason, is, text, Appends-trans old mid new _ text line taken)
 prints-whole f place p old mid new v (Err unprinted.NoMemory) (reason, is, line) kept = inr (v, (reason, is, Appends-kept old mid new _ line kept))
 prints-whole f place p old mid new v (Err (unprinted.Output error)) (reason, is, line) (text, part) = (v, reason, is, text, TakesPart-then old mid new _ text line part)
 
 -- or its line broke off
-pub broken-line : {A : Type 0} (f : Filter) (place : ℕ) (p : Packet) (old new : Option (List ℕ)) (result : Result A Unprinted) (u : Unprinted) →
+pub broken-line : {A : Type 0} (f : AskedFilter) (place : ℕ) (p : Packet) (old new : Option (List ℕ)) (result : Result A Unprinted) (u : Unprinted) →
     result ≡ Err u → IsLineBroken f place p old new u → PrintsWhole f place p old new result
 broken-line f place p old new result unprinted.NoMemory is kept = rw is (inl kept)
 broken-line f place p old new result (unprinted.Output error) is (verdict, reason, answers, part) =

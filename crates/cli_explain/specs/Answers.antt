@@ -13,7 +13,7 @@ use Rattle.filtergen.specs.Meaning.{Packet as Frame, packet_of, meaning}
 use Rattle.filter_explain.specs.Asking.{questions}
 use Rattle.filter_explain.specs.Deciding.{verdict_text, last_text}
 use Rattle.cli_text.specs.Telling.{end_of_line}
-use Rattle.cli_explain.specs.declared.filter.Filter.{Filter}
+use Rattle.cli_explain.specs.declared.filter.AskedFilter.{AskedFilter}
 use Rattle.cli_explain.specs.Printed.{packet_text, end_text}
 
 -- A packet, what a filter answers to it, and what is told of the reason.
@@ -55,7 +55,7 @@ IsAnswerOf (Some expr) program a = Decides (tree_of expr) a
 IsAnswerOf None program a = EndsRun program a
 
 -- what a filter answers
-abbrev pub IsAnswer : Filter → Answer → Type 0
+abbrev pub IsAnswer : AskedFilter → Answer → Type 0
 IsAnswer filter a = IsAnswerOf filter.expr filter.program a
 
 -- the line of a packet at a place

@@ -13,12 +13,12 @@ use Rattle.filter_meaning.specs.declared.verdict.Verdict.TheVariants.{Yes, No, A
 use Rattle.cli_text.specs.Sending.{TakesPart}
 use Rattle.cli_text.specs.Telling.{end_of_line}
 use Rattle.cli_text.specs.Texts.{numbered}
-use Rattle.cli_explain.specs.declared.each.Counts.{Counts}
+use Rattle.cli_explain.specs.declared.each.VerdictCounts.{VerdictCounts}
 use Rattle.cli_explain.specs.declared.each.Explained.{Explained}
 use Rattle.cli_explain.specs.declared.each.Unprinted.{Unprinted}
 use Rattle.cli_explain.specs.declared.each.Unprinted.TheVariants as unprinted
 use Rattle.cli_explain.specs.declared.one.Found.{Found}
-use Rattle.cli_explain.specs.declared.filter.Filter.{Filter}
+use Rattle.cli_explain.specs.declared.filter.AskedFilter.{AskedFilter}
 use Rattle.cli_explain.specs.Answers.{Answer, answer, IsAnswer, answer_line}
 
 -- ---- The counts
@@ -43,14 +43,14 @@ abbrev pub count_of : (Verdict → Bool) → List Answer → ℕ
 count_of is answers = length (filter (λ a. is a.verdict) answers)
 
 -- how many packets were answered, and how many of them Yes, No and Abort
-pub record AreCounts (counts : Counts) (answers : List Answer) : Type 0 where
+pub record AreCounts (counts : VerdictCounts) (answers : List Answer) : Type 0 where
   pub packets : counts.packets ≡ length answers
   pub yes : counts.yes ≡ count_of is_yes answers
   pub no : counts.no ≡ count_of is_no answers
   pub abort : counts.abort ≡ count_of is_abort answers
 
 -- one packet more was answered so
-abbrev pub counted : Verdict → Counts → Counts
+abbrev pub counted : Verdict → VerdictCounts → VerdictCounts
 counted Yes c = record { packets = c.packets + 1; yes = c.yes + 1; no = c.no; abort = c.abort }
 counted No c = record { packets = c.packets + 1; yes = c.yes; no = c.no + 1; abort = c.abort }
 counted Abort c = record { packets = c.packets + 1; yes = c.yes; no = c.no; abort = c.abort + 1 }
@@ -72,7 +72,7 @@ printed answers = answer_lines answers
     ++ counts_text (length answers) (count_of is_yes answers) (count_of is_no answers) (count_of is_abort answers)
 
 -- all was printed and counted, or a beginning of it was printed
-abbrev pub Prints : {A : Type 0} → Option (List ℕ) → Option (List ℕ) → List Answer → Counts → Result A Unprinted → Type 0
+abbrev pub Prints : {A : Type 0} → Option (List ℕ) → Option (List ℕ) → List Answer → VerdictCounts → Result A Unprinted → Type 0
 Prints old new answers counts done =
     MatchResult done (λ _. Appends old new (printed answers) × AreCounts counts answers) (λ _. TakesPart old new (printed answers))
 
@@ -106,27 +106,27 @@ IsUnopened from left fault =
 -- ---- A capture
 
 -- The printing broke off at a line: a beginning of the lines of packets that the capture begins with was printed, and no counts.
-abbrev pub BreaksOff : {A : Type 0} → Filter → Option (List ℕ) → Header → Option (List ℕ) → Option (List ℕ) → Result A Fault → Result A Unprinted → Type 0
+abbrev pub BreaksOff : {A : Type 0} → AskedFilter → Option (List ℕ) → Header → Option (List ℕ) → Option (List ℕ) → Result A Fault → Result A Unprinted → Type 0
 BreaksOff filter from header old new read done =
     (answers : List Answer) × AllByRecursion (IsAnswer filter) answers × WasBegun from header (packets_of answers)
     × IsOk read × IsErr done × TakesPart old new (answer_lines answers)
 
 -- the lines of the packets of a reader were printed and counted
-abbrev pub PrintsLines : {A : Type 0} → Filter → Option (List ℕ) → Option (List ℕ) → Header → Option (List ℕ) → Option (List ℕ) → Counts → Result A Fault → Result A Unprinted → Type 0
+abbrev pub PrintsLines : {A : Type 0} → AskedFilter → Option (List ℕ) → Option (List ℕ) → Header → Option (List ℕ) → Option (List ℕ) → VerdictCounts → Result A Fault → Result A Unprinted → Type 0
 PrintsLines filter from left header old new counts read done =
     BreaksOff filter from header old new read done
     ⊎ ((answers : List Answer) × AllByRecursion (IsAnswer filter) answers × ReadsTo from left header (packets_of answers) read
     × IsOk done × Appends old new (answer_lines answers) × AreCounts counts answers)
 
 -- and then the counts
-abbrev pub PrintsAll : {A : Type 0} → Filter → Option (List ℕ) → Option (List ℕ) → Header → Option (List ℕ) → Option (List ℕ) → Counts → Result A Fault → Result A Unprinted → Type 0
+abbrev pub PrintsAll : {A : Type 0} → AskedFilter → Option (List ℕ) → Option (List ℕ) → Header → Option (List ℕ) → Option (List ℕ) → VerdictCounts → Result A Fault → Result A Unprinted → Type 0
 PrintsAll filter from left header old new counts read done =
     BreaksOff filter from header old new read done
     ⊎ ((answers : List Answer) × AllByRecursion (IsAnswer filter) answers × ReadsTo from left header (packets_of answers) read
     × Prints old new answers counts done)
 
 -- The header was not read, and nothing was printed; or the packets up to some end were answered, and that was printed.
-abbrev pub Explains : {R : Type 0} → (R → Option (List ℕ)) → R → Filter → Option (List ℕ) → Option (List ℕ) → Explained R → Type 0
+abbrev pub Explains : {R : Type 0} → (R → Option (List ℕ)) → R → AskedFilter → Option (List ℕ) → Option (List ℕ) → Explained R → Type 0
 Explains left from filter old new e =
     ((fault : Fault) × IsUnopened (left from) (left e.source) fault × IsErrOf e.read fault × IsOk e.printed × Keeps old new × AreCounts e.counts [])
     ⊎ ((header : Header) × PrintsAll filter (left from) (left e.source) header old new e.counts e.read e.printed)
@@ -134,12 +134,12 @@ Explains left from filter old new e =
 -- ---- A line
 
 -- the line of a packet was printed, whose answer is told
-abbrev pub PrintsLine : Filter → ℕ → Packet → Option (List ℕ) → Option (List ℕ) → Verdict → Type 0
+abbrev pub PrintsLine : AskedFilter → ℕ → Packet → Option (List ℕ) → Option (List ℕ) → Verdict → Type 0
 PrintsLine filter place p old new verdict =
     (reason : List ℕ) × IsAnswer filter (answer p verdict reason) × Appends old new (answer_line place (answer p verdict reason))
 
 -- or why it was not, or a beginning of it alone
-abbrev pub IsLineBroken : Filter → ℕ → Packet → Option (List ℕ) → Option (List ℕ) → Unprinted → Type 0
+abbrev pub IsLineBroken : AskedFilter → ℕ → Packet → Option (List ℕ) → Option (List ℕ) → Unprinted → Type 0
 IsLineBroken filter place p old new unprinted.NoMemory = Keeps old new
 IsLineBroken filter place p old new (unprinted.Output error) =
     (verdict : Verdict) × (reason : List ℕ) × IsAnswer filter (answer p verdict reason) × TakesPart old new (answer_line place (answer p verdict reason))
@@ -154,7 +154,7 @@ PrintsMore old new (Err (unprinted.Output error)) = (text : List ℕ) × TakesPa
 
 -- The line of a packet was printed, and more behind it. Where memory was wanting that line alone was, or nothing; and where the
 -- writer failed a beginning of the line, or that line and what stands behind it.
-abbrev pub PrintsWhole : {A : Type 0} → Filter → ℕ → Packet → Option (List ℕ) → Option (List ℕ) → Result A Unprinted → Type 0
+abbrev pub PrintsWhole : {A : Type 0} → AskedFilter → ℕ → Packet → Option (List ℕ) → Option (List ℕ) → Result A Unprinted → Type 0
 PrintsWhole filter place p old new (Ok done) =
     (verdict : Verdict) × (reason : List ℕ) × IsAnswer filter (answer p verdict reason)
     × (more : List ℕ) × Appends old new (answer_line place (answer p verdict reason) ++ more)
@@ -165,7 +165,7 @@ PrintsWhole filter place p old new (Err (unprinted.Output error)) =
     × (more : List ℕ) × TakesPart old new (answer_line place (answer p verdict reason) ++ more)
 
 -- what is printed where the packet is found, and nothing else
-abbrev pub PrintsFound : {A : Type 0} → Filter → ℕ → Packet → Option (List ℕ) → Option (List ℕ) → Result Bool Fault → Result A Unprinted → Type 0
+abbrev pub PrintsFound : {A : Type 0} → AskedFilter → ℕ → Packet → Option (List ℕ) → Option (List ℕ) → Result Bool Fault → Result A Unprinted → Type 0
 PrintsFound filter place p old new (Ok true) done = PrintsWhole filter place p old new done
 PrintsFound filter place p old new (Ok false) done = Keeps old new × IsOk done
 PrintsFound filter place p old new (Err fault) done = Keeps old new × IsOk done
@@ -180,7 +180,7 @@ GoesTo left from header place r (Err fault) =
     (packets : List Packet) × (length packets ≤ place) × IsCause from (left r.source) header packets fault
 
 -- The header was not read; or the capture has a packet at this place, and that was printed; or it has not, or can't be read so far.
-abbrev pub Finds : {R : Type 0} → (R → Option (List ℕ)) → R → Filter → ℕ → Option (List ℕ) → Option (List ℕ) → Found R → Type 0
+abbrev pub Finds : {R : Type 0} → (R → Option (List ℕ)) → R → AskedFilter → ℕ → Option (List ℕ) → Option (List ℕ) → Found R → Type 0
 Finds left from filter place old new f =
     ((fault : Fault) × IsUnopened (left from) (left f.source) fault × IsErrOf f.read fault × IsOk f.printed × Keeps old new)
     ⊎ ((header : Header) × (before : List Packet) × (p : Packet) × WasBegun (left from) header (before ++ p ∷ [])

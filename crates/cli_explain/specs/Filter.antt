@@ -4,9 +4,9 @@ use Rattle.filter_tree.specs.declared.tree.Expr.{Expr}
 use Rattle.filterlang.specs.Texts.{ReadsAs}
 use Rattle.filterlang.specs.Trees.{tree_of}
 use Rattle.filtergen.specs.Compiling.{StandsFor}
-use Rattle.cli_explain.specs.declared.filter.Filter.{Filter}
+use Rattle.cli_explain.specs.declared.filter.AskedFilter.{AskedFilter}
 
 -- a filter is the expression that a text reads as, and a program that stands for it
-abbrev pub IsOfExpression : List ℕ → ℕ → Filter → Type 0
+abbrev pub IsOfExpression : List ℕ → ℕ → AskedFilter → Type 0
 IsOfExpression text snap filter =
     (expr : Expr) × (filter.expr ≡ Some expr) × ReadsAs text (tree_of expr) × StandsFor filter.program (tree_of expr) snap

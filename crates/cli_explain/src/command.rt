@@ -1,6 +1,6 @@
 //! `bpftap explain`, over files.
 
-use crate::Filter;
+use crate::AskedFilter;
 use crate::each::{Explained, explain_each};
 use crate::one::{Found, explain_one};
 use crate::paths::open_apart;
@@ -9,10 +9,10 @@ use crate::report::{report_each, report_one};
 use cli_args::explain::ExplainWords;
 use cli_files::retried::Retried;
 use cli_report::failures::{hint_input, hint_output};
-use cli_report::noted::NotedInput;
-use cli_report::{Noted, TakesHints};
+use cli_report::probe::ProbedInput;
+use cli_report::{FailureProbe, HintSink};
 use cli_text::Status;
-use cli_text::telling::tell_fault;
+use cli_text::report::report_fault;
 use savefile::Fault;
 use std::alloc::Global;
 use std::fs::Files;
@@ -24,25 +24,25 @@ const OUTPUT_BUFFER: usize = 1 << 16;
 /// What `explain` needs: its filter and IN.
 #[derive(Drop)]
 struct Job<I> {
-    filter: Filter,
+    filter: AskedFilter,
     input: I,
 }
 
 /// Accepts the filter, compares the paths, and opens IN, in this order.
-fn prepare<R: Files + AllocGlobal, E: TakesHints>(
+fn prepare<R: Files + AllocGlobal, E: HintSink>(
     rt: &R,
     words: &ExplainWords<'_>,
     err: &mut E,
-) -> Result<Job<NotedInput<Retried<R::File>>>, Status> {
+) -> Result<Job<ProbedInput<Retried<R::File>>>, Status> {
     let filter = read_filter(rt, words, err)?;
     let input = open_apart(rt, words, err)?;
     Ok(Job { filter, input })
 }
 
 /// Prints the packet at a place in full, and reports how that ended.
-fn explain_place<R: Read + Drop, O: Write, E: TakesHints>(
+fn explain_place<R: Read + Drop, O: Write, E: HintSink>(
     alloc: Global,
-    job: Job<NotedInput<R>>,
+    job: Job<ProbedInput<R>>,
     place: u64,
     path: &str,
     out: &mut O,
@@ -67,9 +67,9 @@ fn explain_place<R: Read + Drop, O: Write, E: TakesHints>(
 }
 
 /// Prints a line for each packet, and reports how that ended.
-fn explain_all<R: Read + Drop, O: Write, E: TakesHints>(
+fn explain_all<R: Read + Drop, O: Write, E: HintSink>(
     alloc: Global,
-    job: Job<NotedInput<R>>,
+    job: Job<ProbedInput<R>>,
     path: &str,
     out: &mut O,
     err: &mut E,
@@ -95,16 +95,16 @@ fn explain_all<R: Read + Drop, O: Write, E: TakesHints>(
 }
 
 /// Prints what the arguments ask for of IN, behind a buffer.
-fn explain_and_report<R: Read + Drop, O: Write, E: TakesHints>(
+fn explain_and_report<R: Read + Drop, O: Write, E: HintSink>(
     alloc: Global,
     words: &ExplainWords<'_>,
-    job: Job<NotedInput<R>>,
+    job: Job<ProbedInput<R>>,
     out: &mut O,
     err: &mut E,
 ) -> Status {
-    let noted = Noted::new(&mut *out);
+    let noted = FailureProbe::new(&mut *out);
     let Ok(mut out) = BufWriter::with_capacity(alloc, OUTPUT_BUFFER, noted) else {
-        return tell_fault(Fault::NoMemory, Status::Refused, err);
+        return report_fault(Fault::NoMemory, Status::Refused, err);
     };
     let status = match words.place {
         Some(place) => explain_place(alloc, job, place, words.input, &mut out, err),
@@ -115,7 +115,7 @@ fn explain_and_report<R: Read + Drop, O: Write, E: TakesHints>(
 }
 
 /// `bpftap explain`: the filter is accepted before IN is opened, and IN is not the file that is printed to.
-pub fn explain_command<R: Files + AllocGlobal, O: Write, E: TakesHints>(
+pub fn explain_command<R: Files + AllocGlobal, O: Write, E: HintSink>(
     rt: &R,
     words: &ExplainWords<'_>,
     out: &mut O,

@@ -8,7 +8,7 @@ ghost use Rattle.cli_text.specs.Sending.{Takes};
 ghost use Rattle.cli_explain.specs.declared.each.Unprinted.TheVariants.{NoMemory, Output};
 ghost use Rattle.cli_explain.specs.Explained.{Explains, PrintsAll, PrintsLines, PrintsLine, IsLineBroken, counts_text, counted};
 
-use crate::filter::Filter;
+use crate::filter::AskedFilter;
 use crate::line::put_line;
 use bpfvm::NoMemory;
 use cli_text::sending::send;
@@ -21,7 +21,7 @@ use std::io::Write;
 
 /// How many packets a filter was asked, and how many of these it answered Yes, No and Abort.
 #[derive(Clone, Copy, Debug, PartialEq, Eq)]
-pub struct Counts {
+pub struct VerdictCounts {
     pub packets: u64,
     pub yes: u64,
     pub no: u64,
@@ -58,16 +58,16 @@ impl From<io::Error> for Unprinted {
 pub struct Explained<R> {
     pub source: R,
     /// Of the packets whose lines were printed, where all was printed.
-    pub counts: Counts,
+    pub counts: VerdictCounts,
     /// The fault that ended the capture, if one did.
     pub read: Result<(), Fault>,
     /// Whether all was printed.
     pub printed: Result<(), Unprinted>,
 }
 
-impl Counts {
+impl VerdictCounts {
     /// Of no packets.
-    pub const NONE: Counts = Counts {
+    pub const NONE: VerdictCounts = VerdictCounts {
         packets: 0,
         yes: 0,
         no: 0,
@@ -107,7 +107,7 @@ impl Counts {
 pub fn explain_each<R: Source, O: Write>(
     alloc: Global,
     from: R,
-    filter: &Filter,
+    filter: &AskedFilter,
     out: &mut O,
 ) -> Explained<R>
     // What was answered, what was printed, and how that ended.
@@ -122,7 +122,7 @@ pub fn explain_each<R: Source, O: Write>(
         Err((source, fault)) => {
             return Explained {
                 source,
-                counts: Counts::NONE,
+                counts: VerdictCounts::NONE,
                 read: Err(fault),
                 printed: Ok(()),
             };
@@ -138,7 +138,11 @@ pub fn explain_each<R: Source, O: Write>(
 }
 
 /// What printing came to, of a reader that its caller has.
-fn outcome(counts: Counts, read: Result<(), Fault>, printed: Result<(), Unprinted>) -> Explained<()>
+fn outcome(
+    counts: VerdictCounts,
+    read: Result<(), Fault>,
+    printed: Result<(), Unprinted>,
+) -> Explained<()>
     ensures counts { result.counts ≡ counts }
     ensures read { result.read ≡ read }
     ensures printed { result.printed ≡ printed }
@@ -155,7 +159,7 @@ fn outcome(counts: Counts, read: Result<(), Fault>, printed: Result<(), Unprinte
 fn print_all<R: Source, O: Write>(
     alloc: Global,
     reader: &mut Reader<R>,
-    filter: &Filter,
+    filter: &AskedFilter,
     out: &mut O,
 ) -> Explained<()>
     ensures prints { (from : Option (List ℕ)) (header : Header) → HasGiven R.left from header [] reader.old →
@@ -181,7 +185,7 @@ fn print_all<R: Source, O: Write>(
 fn print_lines<R: Source, O: Write>(
     alloc: Global,
     reader: &mut Reader<R>,
-    filter: &Filter,
+    filter: &AskedFilter,
     line: &mut String,
     out: &mut O,
 ) -> Explained<()>
@@ -190,7 +194,7 @@ fn print_lines<R: Source, O: Write>(
     ensures taken { (bytes : List ℕ) × Consumes (R.left reader.old.source) (R.left reader.new.source) bytes }
     ensures source_broke { (result.read ≡ Err Fault.Device) ↔ (R.failures reader.new.source ≢ R.failures reader.old.source) }
 {
-    let mut counts = Counts::NONE;
+    let mut counts = VerdictCounts::NONE;
     loop {
         match reader.advance() {
             Ok(true) => {
@@ -210,7 +214,7 @@ fn print_lines<R: Source, O: Write>(
 /// Prints the line of a packet.
 pub(crate) fn print_line<O: Write>(
     alloc: Global,
-    filter: &Filter,
+    filter: &AskedFilter,
     place: u64,
     packet: &PacketRef<'_>,
     line: &mut String,
@@ -225,7 +229,11 @@ pub(crate) fn print_line<O: Write>(
 }
 
 /// Prints the counts, and all that the writer has gathered.
-fn print_counts<O: Write>(counts: Counts, line: &mut String, out: &mut O) -> Result<(), Unprinted>
+fn print_counts<O: Write>(
+    counts: VerdictCounts,
+    line: &mut String,
+    out: &mut O,
+) -> Result<(), Unprinted>
     ensures { Takes (O.contents out.old) (O.contents out.new) result (counts_text counts.packets counts.yes counts.no counts.abort) }
 {
     put_counts(line, counts)?;
@@ -243,7 +251,7 @@ pub(crate) fn send_last<O: Write>(text: &[u8], out: &mut O) -> io::Result<()>
 
 /// Puts the line of the counts in place of what the line has.
 #[tactic(auto, unfolding(crate::specs::Explained::counts_text))]
-fn put_counts(line: &mut String, counts: Counts) -> Result<(), NoMemory>
+fn put_counts(line: &mut String, counts: VerdictCounts) -> Result<(), NoMemory>
     ensures { OnOk result (string_bytes line.new ≡ counts_text counts.packets counts.yes counts.no counts.abort) }
 {
     line.clear();

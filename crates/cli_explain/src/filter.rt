@@ -11,7 +11,7 @@ use std::alloc::Global;
 
 /// A filter that packets are asked: an expression with its program, or a program alone.
 #[derive(Drop)]
-pub struct Filter {
+pub struct AskedFilter {
     /// The expression, where it is one.
     pub(crate) expr: Option<Expr>,
     pub(crate) program: Program,
@@ -21,7 +21,7 @@ pub struct Filter {
 ///
 /// The fault is that of a text which is no expression, or which is too deep or too long to compile, or of a snapshot length
 /// out of range; or `NoMemory`.
-pub fn of_expression(alloc: Global, text: &str, snap: u32) -> Result<Filter, ExpressionFault>
+pub fn of_expression(alloc: Global, text: &str, snap: u32) -> Result<AskedFilter, ExpressionFault>
     ensures filter { IfOk result (IsOfExpression text.now snap) }
     ensures fault { IfErr result (IsUncompiled text.now snap) }
 {
@@ -30,7 +30,7 @@ pub fn of_expression(alloc: Global, text: &str, snap: u32) -> Result<Filter, Exp
         Err(fault) => return Err(ExpressionFault::Text(fault)),
     };
     match compile(&expr, snap) {
-        Ok(program) => Ok(Filter {
+        Ok(program) => Ok(AskedFilter {
             expr: Some(expr),
             program,
         }),
@@ -39,11 +39,11 @@ pub fn of_expression(alloc: Global, text: &str, snap: u32) -> Result<Filter, Exp
 }
 
 /// The filter that a program is, as that of a listing.
-pub fn of_program(program: Program) -> Filter
+pub fn of_program(program: Program) -> AskedFilter
     ensures expr { result.expr ≡ None }
     ensures program { result.program ≡ program }
 {
-    Filter {
+    AskedFilter {
         expr: None,
         program,
     }

@@ -12,4 +12,4 @@ mod plan;
 pub mod report;
 mod whole;
 
-pub use filter::Filter;
+pub use filter::AskedFilter;

@@ -7,7 +7,7 @@ ghost use Rattle.filterlang.specs.Trees.{tree_of};
 ghost use Rattle.cli_explain.specs.Answers.{answer, answer_line, ended_as, Decides, EndsRun, IsAnswer, PutsAnswer};
 ghost use Rattle.cli_explain.specs.Printed.{packet_text, end_text};
 
-use crate::filter::Filter;
+use crate::filter::AskedFilter;
 use bpfvm::{Brief, Insn, NoMemory, Program, code, trace};
 use cli_text::time::NineDigits;
 use filter_explain::{put_decision, put_verdict};
@@ -104,7 +104,7 @@ fn put_end(
 fn put_answer(
     alloc: Global,
     line: &mut String,
-    filter: &Filter,
+    filter: &AskedFilter,
     packet: &PacketRef<'_>,
 ) -> Result<Verdict, NoMemory>
     ensures { IfOk result (PutsAnswer (string_bytes line.old) (string_bytes line.new) (IsAnswer filter.now) packet.now) }
@@ -119,7 +119,7 @@ fn put_answer(
 pub(crate) fn put_line(
     alloc: Global,
     line: &mut String,
-    filter: &Filter,
+    filter: &AskedFilter,
     place: u64,
     packet: &PacketRef<'_>,
 ) -> Result<Verdict, NoMemory>

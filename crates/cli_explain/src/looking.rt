@@ -24,15 +24,15 @@ pub(crate) enum Looked {
 
 /// Why no more is looked at.
 #[derive(Clone, Copy)]
-enum Stop {
+enum LookEnd {
     /// The test aborts.
     Aborts,
     NoMemory,
 }
 
-impl<T: Drop> From<AllocFailed<T>> for Stop {
-    fn from(_refused: AllocFailed<T>) -> Stop {
-        Stop::NoMemory
+impl<T: Drop> From<AllocFailed<T>> for LookEnd {
+    fn from(_refused: AllocFailed<T>) -> LookEnd {
+        LookEnd::NoMemory
     }
 }
 
@@ -79,7 +79,7 @@ impl Wanted {
 }
 
 /// Looking alone, whatever it answers.
-fn without_answer<T: Drop>(answer: Result<T, Stop>) -> Result<(), Stop> {
+fn without_answer<T: Drop>(answer: Result<T, LookEnd>) -> Result<(), LookEnd> {
     match answer {
         Ok(_) => Ok(()),
         Err(stop) => Err(stop),
@@ -111,28 +111,28 @@ struct Looking<'a> {
 
 impl Looking<'_> {
     /// Notes what was looked at, once.
-    fn note(&mut self, looked: Looked) -> Result<(), Stop> {
+    fn note(&mut self, looked: Looked) -> Result<(), LookEnd> {
         if !self.looked.as_slice().contains(&looked) {
             self.looked.push(looked)?;
         }
         Ok(())
     }
 
-    fn number(&mut self, offset: usize, size: usize) -> Result<u64, Stop> {
+    fn number(&mut self, offset: usize, size: usize) -> Result<u64, LookEnd> {
         let number = number_at(self.packet, offset, size);
         self.note(Looked::Bytes {
             offset,
             size,
             number,
         })?;
-        number.ok_or(Stop::Aborts)
+        number.ok_or(LookEnd::Aborts)
     }
 
-    fn length(&mut self) -> Result<(), Stop> {
+    fn length(&mut self) -> Result<(), LookEnd> {
         self.note(Looked::Length(self.wire))
     }
 
-    fn has(&mut self, offset: usize, wanted: Wanted) -> Result<bool, Stop> {
+    fn has(&mut self, offset: usize, wanted: Wanted) -> Result<bool, LookEnd> {
         let number = self.number(offset, wanted.size)? & wanted.mask;
         Ok(wanted.low <= number && number <= wanted.high)
     }
@@ -144,7 +144,7 @@ impl Looking<'_> {
         source: usize,
         destination: usize,
         wanted: Wanted,
-    ) -> Result<bool, Stop> {
+    ) -> Result<bool, LookEnd> {
         match direction {
             Direction::Src => self.has(source, wanted),
             Direction::Dst => self.has(destination, wanted),
@@ -163,25 +163,25 @@ impl Looking<'_> {
         }
     }
 
-    fn is_type(&mut self, number: u16) -> Result<bool, Stop> {
+    fn is_type(&mut self, number: u16) -> Result<bool, LookEnd> {
         Ok(self.number(12, 2)? == u64::from(number))
     }
 
-    fn is_protocol(&mut self, number: u8) -> Result<bool, Stop> {
+    fn is_protocol(&mut self, number: u8) -> Result<bool, LookEnd> {
         if !self.is_type(0x0800)? {
             return Ok(false);
         }
         Ok(self.number(23, 1)? == u64::from(number))
     }
 
-    fn is_first_fragment_of(&mut self, number: u8) -> Result<bool, Stop> {
+    fn is_first_fragment_of(&mut self, number: u8) -> Result<bool, LookEnd> {
         if !self.is_protocol(number)? {
             return Ok(false);
         }
         Ok(self.number(20, 2)? & 0x1fff == 0)
     }
 
-    fn is_plain(&mut self, word: Plain) -> Result<bool, Stop> {
+    fn is_plain(&mut self, word: Plain) -> Result<bool, LookEnd> {
         match word {
             Plain::Ip => self.is_type(0x0800),
             Plain::Arp => self.is_type(0x0806),
@@ -198,7 +198,7 @@ impl Looking<'_> {
         network: Network,
         direction: Direction,
         wanted: Wanted,
-    ) -> Result<bool, Stop> {
+    ) -> Result<bool, LookEnd> {
         let (number, source, destination) = match network {
             Network::Ip => (0x0800, 26, 30),
             Network::Arp => (0x0806, 28, 38),
@@ -211,7 +211,7 @@ impl Looking<'_> {
     }
 
     /// Without a protocol: that of IPv4, or else of ARP, or else of RARP.
-    fn in_any_net(&mut self, direction: Direction, wanted: Wanted) -> Result<bool, Stop> {
+    fn in_any_net(&mut self, direction: Direction, wanted: Wanted) -> Result<bool, LookEnd> {
         if self.in_net(Network::Ip, direction, wanted)? {
             return Ok(true);
         }
@@ -222,7 +222,7 @@ impl Looking<'_> {
     }
 
     /// How long the IPv4 header is.
-    fn header_length(&mut self) -> Result<usize, Stop>
+    fn header_length(&mut self) -> Result<usize, LookEnd>
         ensures { IfOk result (λ length. length ≤ 60) }
     {
         let first = self.number(14, 1)?;
@@ -234,7 +234,7 @@ impl Looking<'_> {
         transport: Transport,
         direction: Direction,
         wanted: Wanted,
-    ) -> Result<bool, Stop> {
+    ) -> Result<bool, LookEnd> {
         let number = match transport {
             Transport::Tcp => 6,
             Transport::Udp => 17,
@@ -248,7 +248,7 @@ impl Looking<'_> {
     }
 
     /// Without a protocol: that of TCP, or else of UDP, or else of SCTP.
-    fn has_any_ports(&mut self, direction: Direction, wanted: Wanted) -> Result<bool, Stop> {
+    fn has_any_ports(&mut self, direction: Direction, wanted: Wanted) -> Result<bool, LookEnd> {
         if self.has_ports(Transport::Tcp, direction, wanted)? {
             return Ok(true);
         }
@@ -262,7 +262,7 @@ impl Looking<'_> {
         &mut self,
         direction: Direction,
         address: EthernetAddress,
-    ) -> Result<bool, Stop> {
+    ) -> Result<bool, LookEnd> {
         self.has_side(direction, 6, 0, Wanted::octets(address))
     }
 
@@ -271,7 +271,7 @@ impl Looking<'_> {
         network: Option<Network>,
         direction: Direction,
         wanted: Wanted,
-    ) -> Result<(), Stop> {
+    ) -> Result<(), LookEnd> {
         without_answer(match network {
             Some(network) => self.in_net(network, direction, wanted),
             None => self.in_any_net(direction, wanted),
@@ -283,14 +283,14 @@ impl Looking<'_> {
         transport: Option<Transport>,
         direction: Direction,
         wanted: Wanted,
-    ) -> Result<(), Stop> {
+    ) -> Result<(), LookEnd> {
         without_answer(match transport {
             Some(transport) => self.has_ports(transport, direction, wanted),
             None => self.has_any_ports(direction, wanted),
         })
     }
 
-    fn ip_multicast(&mut self) -> Result<(), Stop> {
+    fn ip_multicast(&mut self) -> Result<(), LookEnd> {
         if self.is_type(0x0800)? {
             without_answer(self.number(30, 1))
         } else {
@@ -298,7 +298,7 @@ impl Looking<'_> {
         }
     }
 
-    fn primitive(&mut self, primitive: Primitive) -> Result<(), Stop> {
+    fn primitive(&mut self, primitive: Primitive) -> Result<(), LookEnd> {
         match primitive {
             Primitive::Protocol(word) => without_answer(self.is_plain(word)),
             Primitive::Net {
@@ -326,7 +326,7 @@ impl Looking<'_> {
     }
 
     /// Whether the packet has the layer that an accessor reads.
-    fn in_layer(&mut self, layer: Layer) -> Result<bool, Stop> {
+    fn in_layer(&mut self, layer: Layer) -> Result<bool, LookEnd> {
         match layer {
             Layer::Ether => Ok(true),
             Layer::Ip => self.is_type(0x0800),
@@ -339,7 +339,7 @@ impl Looking<'_> {
     }
 
     /// Whether the packet has the layers of a value's accessors.
-    fn in_layers(&mut self, value: &Value) -> Result<bool, Stop> {
+    fn in_layers(&mut self, value: &Value) -> Result<bool, LookEnd> {
         match value {
             Value::Number(_) | Value::Length => Ok(true),
             Value::Negation(operand) => self.in_layers(operand),
@@ -359,7 +359,7 @@ impl Looking<'_> {
     }
 
     /// The bytes that an accessor reads.
-    fn access(&mut self, layer: Layer, index: u32, size: Size) -> Result<(), Stop> {
+    fn access(&mut self, layer: Layer, index: u32, size: Size) -> Result<(), LookEnd> {
         let size = match size {
             Size::One => 1,
             Size::Two => 2,
@@ -377,14 +377,14 @@ impl Looking<'_> {
     }
 
     /// What a value answers.
-    fn answer(&self, value: &Value) -> Result<u32, Stop> {
+    fn answer(&self, value: &Value) -> Result<u32, LookEnd> {
         match value_of(value, self.packet, self.wire) {
             Some(number) => Ok(number),
-            None => Err(Stop::Aborts),
+            None => Err(LookEnd::Aborts),
         }
     }
 
-    fn value(&mut self, value: &Value) -> Result<(), Stop> {
+    fn value(&mut self, value: &Value) -> Result<(), LookEnd> {
         match value {
             Value::Number(_) => Ok(()),
             Value::Length => self.length(),
@@ -402,7 +402,7 @@ impl Looking<'_> {
         }
     }
 
-    fn relation(&mut self, left: &Value, right: &Value) -> Result<(), Stop> {
+    fn relation(&mut self, left: &Value, right: &Value) -> Result<(), LookEnd> {
         if !self.in_layers(left)? {
             return Ok(());
         }
@@ -413,7 +413,7 @@ impl Looking<'_> {
         self.value(right)
     }
 
-    fn part(&mut self, part: &Expr) -> Result<(), Stop> {
+    fn part(&mut self, part: &Expr) -> Result<(), LookEnd> {
         match part {
             Expr::Test(primitive) => self.primitive(*primitive),
             Expr::Relation(_, left, right) => self.relation(left, right),
@@ -423,7 +423,7 @@ impl Looking<'_> {
 }
 
 /// What a primitive or a relation looks at, in the order in which the language asks, each once.
-pub(crate) fn looked_at(
+pub(crate) fn parts_of(
     alloc: Global,
     part: &Expr,
     packet: &[u8],
@@ -435,7 +435,7 @@ pub(crate) fn looked_at(
         looked: Vec::new(alloc),
     };
     match looking.part(part) {
-        Ok(()) | Err(Stop::Aborts) => Ok(looking.looked),
-        Err(Stop::NoMemory) => Err(NoMemory),
+        Ok(()) | Err(LookEnd::Aborts) => Ok(looking.looked),
+        Err(LookEnd::NoMemory) => Err(NoMemory),
     }
 }

@@ -7,7 +7,7 @@ ghost use Rattle.savefile.specs.Reader.{HasGiven, Lends};
 ghost use Rattle.cli_explain.specs.Explained.{Finds, GoesTo, PrintsFound, PrintsMore, PrintsWhole};
 
 use crate::each::{Unprinted, print_line, send_last};
-use crate::filter::Filter;
+use crate::filter::AskedFilter;
 use crate::whole::whole_text;
 use savefile::laws::given_so_far;
 use savefile::{Fault, PacketRef, Reader, Source};
@@ -34,7 +34,7 @@ pub struct Found<R> {
 pub fn explain_one<R: Source, O: Write>(
     alloc: Global,
     from: R,
-    filter: &Filter,
+    filter: &AskedFilter,
     place: u64,
     out: &mut O,
 ) -> Found<R>
@@ -88,7 +88,7 @@ fn go_to<R: Source>(reader: &mut Reader<R>, place: u64) -> Result<bool, Fault>
 /// Prints the packet that a reader went on to, where it did.
 fn print_found<R: Source, O: Write>(
     alloc: Global,
-    filter: &Filter,
+    filter: &AskedFilter,
     place: u64,
     read: Result<bool, Fault>,
     reader: &Reader<R>,
@@ -107,7 +107,7 @@ fn print_found<R: Source, O: Write>(
 /// Prints a packet's line, and then all that is told of it.
 fn print_whole<O: Write>(
     alloc: Global,
-    filter: &Filter,
+    filter: &AskedFilter,
     place: u64,
     packet: &PacketRef<'_>,
     out: &mut O,
@@ -122,7 +122,7 @@ fn print_whole<O: Write>(
 /// Prints what is told of a packet behind its line.
 fn print_rest<O: Write>(
     alloc: Global,
-    filter: &Filter,
+    filter: &AskedFilter,
     place: u64,
     packet: &PacketRef<'_>,
     out: &mut O,

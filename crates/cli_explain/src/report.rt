@@ -7,7 +7,7 @@ ghost use Rattle.cli_explain.specs.Telling.{printed_status, read_status, found_s
 use crate::each::{Explained, Unprinted};
 use crate::one::Found;
 use cli_text::Status;
-use cli_text::telling::{report_at, report_unwritten, tell_fault};
+use cli_text::report::{report_at, report_fault, report_unwritten};
 use savefile::Fault;
 use std::io::Write;
 
@@ -17,7 +17,7 @@ fn report_printed<E: Write>(printed: Result<(), Unprinted>, err: &mut E) -> Stat
 {
     match printed {
         Ok(()) => Status::Clean,
-        Err(Unprinted::NoMemory) => tell_fault(Fault::NoMemory, Status::Refused, err),
+        Err(Unprinted::NoMemory) => report_fault(Fault::NoMemory, Status::Refused, err),
         Err(Unprinted::Output(error)) => report_unwritten(&error, err),
     }
 }
@@ -41,7 +41,7 @@ pub fn report_one<R: Drop, E: Write>(found: Found<R>, place: u64, path: &str, er
     let printed = report_printed(found.printed, err);
     match found.read {
         Ok(true) => printed,
-        Ok(false) => printed.max(tell_fault(
+        Ok(false) => printed.max(report_fault(
             format_args!("NoPacket {place}"),
             Status::Refused,
             err,

@@ -1,9 +1,9 @@
 //! All that is told of one packet.
 
-use crate::filter::Filter;
-use crate::looking::{Looked, looked_at};
-use bpfvm::{Executed, Insn, NoMemory, Placed, Program, Traced, code, trace};
-use filter_explain::{Asked, decide, put_cause, put_part, verdict_text};
+use crate::filter::AskedFilter;
+use crate::looking::{Looked, parts_of};
+use bpfvm::{Executed, Insn, NoMemory, PlacedInsn, Program, Traced, code, trace};
+use filter_explain::{AskedPart, decide, put_cause, put_part, verdict_text};
 use filter_print::Canonical;
 use filtergen::Verdict;
 use filterlang::Expr;
@@ -47,7 +47,7 @@ fn put_looked(text: &mut String, looked: &[Looked]) -> Result<(), AllocError> {
 }
 
 /// Appends a primitive or a relation that was asked, and its own answer.
-fn put_answer(text: &mut String, asked: Asked<'_>) -> Result<(), AllocError> {
+fn put_answer(text: &mut String, asked: AskedPart<'_>) -> Result<(), AllocError> {
     write!(text, "{:<11}", verdict_text(asked.verdict))?;
     put_part(text, asked.part, false)?;
     put_cause(text, asked.cause)?;
@@ -63,7 +63,7 @@ fn put_asked(
 ) -> Result<Verdict, NoMemory> {
     let asked = decide(part, packet.bytes, packet.len);
     put_answer(text, asked)?;
-    let looked = looked_at(alloc, part, packet.bytes, packet.len)?;
+    let looked = parts_of(alloc, part, packet.bytes, packet.len)?;
     put_looked(text, looked.as_slice())?;
     Ok(asked.verdict)
 }
@@ -85,7 +85,7 @@ fn opposite(answer: Verdict) -> Verdict {
 }
 
 /// What two parts answer, of which the second is asked behind this answer of the first.
-fn joined(first: Verdict, goes_on: Verdict, second: Verdict) -> Verdict {
+fn join_verdicts(first: Verdict, goes_on: Verdict, second: Verdict) -> Verdict {
     if first == goes_on { second } else { first }
 }
 
@@ -124,7 +124,7 @@ fn put_parts(
     let first = put_parts(alloc, text, left, is_asked, packet)?;
     let is_next_asked = is_asked && first == goes_on;
     let second = put_parts(alloc, text, right, is_next_asked, packet)?;
-    Ok(joined(first, goes_on, second))
+    Ok(join_verdicts(first, goes_on, second))
 }
 
 /// Appends how an expression was read, and its primitives and relations.
@@ -141,7 +141,7 @@ fn put_expression(
 
 /// Appends an instruction by its name, with blanks for tabs.
 fn put_name(alloc: Global, text: &mut String, place: u32, insn: &Insn) -> Result<(), NoMemory> {
-    let line = format!(in alloc; "{}", Placed { place, insn })?;
+    let line = format!(in alloc; "{}", PlacedInsn { place, insn })?;
     for character in line.as_str().chars() {
         text.push(if character == '\t' { ' ' } else { character })?;
     }
@@ -248,7 +248,7 @@ fn put_run(
 fn put_whole(
     alloc: Global,
     text: &mut String,
-    filter: &Filter,
+    filter: &AskedFilter,
     place: u64,
     packet: &PacketRef<'_>,
 ) -> Result<(), NoMemory> {
@@ -266,7 +266,7 @@ fn put_whole(
 /// All that is told of a packet behind its line.
 pub(crate) fn whole_text(
     alloc: Global,
-    filter: &Filter,
+    filter: &AskedFilter,
     place: u64,
     packet: &PacketRef<'_>,
 ) -> Result<String, NoMemory> {

@@ -1,10 +1,10 @@
 //! The captures that a command reads and writes, each behind what a hint asks of it, and none of them opened before it is needed.
 
 use crate::late::LateInput;
-use cli_report::noted::NotedInput;
-use cli_report::{Noted, TakesHints};
+use cli_report::probe::ProbedInput;
+use cli_report::{FailureProbe, HintSink};
 use cli_text::Status;
-use cli_text::telling::tell_fault;
+use cli_text::report::report_fault;
 use savefile::{Counted, Fault};
 use std::alloc::{AllocError, Global};
 use std::fs::Files;
@@ -15,7 +15,7 @@ use std::io::{BufWriter, Write};
 const OUTPUT_BUFFER: usize = 1 << 16;
 
 /// A capture that is opened at its first read.
-pub type Input<'r, 'p, R> = NotedInput<LateInput<'r, 'p, R>>;
+pub type Input<'r, 'p, R> = ProbedInput<LateInput<'r, 'p, R>>;
 
 /// The captures at these paths, none of them opened.
 pub fn inputs<'r, 'p, R: Files>(
@@ -25,7 +25,7 @@ pub fn inputs<'r, 'p, R: Files>(
 ) -> Result<Vec<Input<'r, 'p, R>>, AllocError> {
     let mut inputs = Vec::with_capacity(alloc, paths.len())?;
     for path in paths {
-        inputs.push(Counted::new(Noted::new(LateInput::new(rt, *path))))?;
+        inputs.push(Counted::new(FailureProbe::new(LateInput::new(rt, *path))))?;
     }
     Ok(inputs)
 }
@@ -36,13 +36,13 @@ pub fn buffered<W: Write + Drop>(alloc: Global, inner: W) -> io::Result<Counted<
 }
 
 /// Standard output with a buffer in front of it; or reports that memory ran out.
-pub fn buffered_output<W: Write + Drop, E: TakesHints>(
+pub fn buffered_output<W: Write + Drop, E: HintSink>(
     alloc: Global,
     out: W,
     err: &mut E,
-) -> Result<BufWriter<Noted<W>>, Status> {
-    match BufWriter::with_capacity(alloc, OUTPUT_BUFFER, Noted::new(out)) {
+) -> Result<BufWriter<FailureProbe<W>>, Status> {
+    match BufWriter::with_capacity(alloc, OUTPUT_BUFFER, FailureProbe::new(out)) {
         Ok(out) => Ok(out),
-        Err(_) => Err(tell_fault(Fault::NoMemory, Status::Refused, err)),
+        Err(_) => Err(report_fault(Fault::NoMemory, Status::Refused, err)),
     }
 }

@@ -13,7 +13,7 @@ const NULL_DEVICE: &str = "/dev/null";
 /// Opens the null device, which takes the place of the first standard stream that is closed; where none is, another
 /// number does no harm. As long as three are held no file that is opened is given a stream's number, and so none gets
 /// what is told there.
-pub fn hold_stream<R: Files>(rt: &R) -> Option<R::File> {
+pub fn reserve_std_fd<R: Files>(rt: &R) -> Option<R::File> {
     fs::open(rt, NULL_DEVICE).ok()
 }
 
@@ -38,7 +38,7 @@ impl<'r, 'p, R: Files> LateFile<'r, 'p, R> {
         }
     }
 
-    fn write_made(&mut self, bytes: &[u8]) -> io::Result<usize>
+    fn create_and_write(&mut self, bytes: &[u8]) -> io::Result<usize>
         ensures { WritesAtMost result bytes.now }
     {
         if self.file.is_none() {
@@ -56,7 +56,7 @@ impl<R: Files> Write for LateFile<'_, '_, R> {
         if self.failed {
             return Err(io::Error::from(ErrorKind::Other));
         }
-        let written = self.write_made(bytes);
+        let written = self.create_and_write(bytes);
         self.failed = match &written {
             Ok(n) => *n == 0 && !bytes.is_empty(),
             Err(_) => true,
@@ -80,12 +80,12 @@ impl<R: Files> Write for LateFile<'_, '_, R> {
 pub struct LateInput<'r, 'p, R: Files> {
     rt: &'r R,
     path: &'p str,
-    state: Input<Retried<R::File>>,
+    state: InputState<Retried<R::File>>,
 }
 
 /// What became of a file that is read.
 #[derive(Drop)]
-enum Input<F> {
+enum InputState<F> {
     Unopened,
     Opened(F),
     Ended,
@@ -97,19 +97,19 @@ impl<'r, 'p, R: Files> LateInput<'r, 'p, R> {
         LateInput {
             rt,
             path,
-            state: Input::Unopened,
+            state: InputState::Unopened,
         }
     }
 
-    fn read_opened(&mut self, to: &mut [u8]) -> io::Result<usize>
+    fn open_and_read(&mut self, to: &mut [u8]) -> io::Result<usize>
         ensures { ReadsAtMost result to.new }
     {
-        if let Input::Unopened = self.state {
-            self.state = Input::Opened(Retried::new(fs::open(self.rt, self.path)?));
+        if let InputState::Unopened = self.state {
+            self.state = InputState::Opened(Retried::new(fs::open(self.rt, self.path)?));
         }
         match &mut self.state {
-            Input::Opened(file) => file.read(to),
-            Input::Failed => Err(io::Error::from(ErrorKind::Other)),
+            InputState::Opened(file) => file.read(to),
+            InputState::Failed => Err(io::Error::from(ErrorKind::Other)),
             _ => Ok(0),
         }
     }
@@ -117,11 +117,11 @@ impl<'r, 'p, R: Files> LateInput<'r, 'p, R> {
 
 impl<R: Files> Read for LateInput<'_, '_, R> {
     fn read(&mut self, to: &mut [u8]) -> io::Result<usize> {
-        let read = self.read_opened(to);
+        let read = self.open_and_read(to);
         match &read {
-            Ok(0) if !to.is_empty() => self.state = Input::Ended,
+            Ok(0) if !to.is_empty() => self.state = InputState::Ended,
             Ok(_) => {}
-            Err(_) => self.state = Input::Failed,
+            Err(_) => self.state = InputState::Failed,
         }
         read
     }

@@ -1,10 +1,10 @@
 //! Which paths are one file. It is looked at before a file is opened for writing, so that nothing that is read is lost and no
 //! two captures go into one file.
 
-use crate::reading::tell_io;
-use cli_report::TakesHints;
+use crate::reading::report_io;
+use cli_report::HintSink;
 use cli_text::Status;
-use cli_text::telling::{Path, tell_fault};
+use cli_text::report::{EscapedPath, report_fault};
 use savefile::Fault;
 use std::alloc::{AllocError, AllocFailed, Global};
 use std::collections::BTreeSet;
@@ -82,7 +82,7 @@ fn is_no_way(error: &io::Error) -> bool {
 }
 
 /// What stands at a path, its symbolic links followed; nothing where there is no way to it.
-fn standing<R: Files>(rt: &R, path: &str) -> io::Result<Option<Metadata>> {
+fn metadata_of<R: Files>(rt: &R, path: &str) -> io::Result<Option<Metadata>> {
     match fs::metadata(rt, path) {
         Ok(metadata) => Ok(Some(metadata)),
         Err(error) if is_no_way(&error) => Ok(None),
@@ -131,7 +131,7 @@ fn new_file<R: Files + AllocGlobal>(rt: &R, path: &str) -> io::Result<Option<Tar
 /// The target that a new file would be. None can be made in a folder that is not there, nor without a name.
 fn in_folder<R: Files + AllocGlobal>(rt: &R, path: &str) -> io::Result<Option<Target>> {
     let (folder, name) = folder_and_name(path);
-    match standing(rt, folder)? {
+    match metadata_of(rt, folder)? {
         Some(metadata) if metadata.is_dir() && !name.is_empty() => {
             let name = String::from_str(rt.alloc(), name)?;
             Ok(Some(Target::New(id_of(&metadata), name)))
@@ -143,7 +143,7 @@ fn in_folder<R: Files + AllocGlobal>(rt: &R, path: &str) -> io::Result<Option<Ta
 /// Where a path leads; nothing where no file stands or can be made, and at a device or a folder, which lose nothing. An error
 /// says that the system does not tell.
 pub fn target_of<R: Files + AllocGlobal>(rt: &R, path: &str) -> io::Result<Option<Target>> {
-    match standing(rt, path)? {
+    match metadata_of(rt, path)? {
         Some(metadata) => {
             let is_lost = metadata.is_file() || metadata.file_type().is_fifo();
             Ok(is_lost.then_some(Target::File(id_of(&metadata))))
@@ -153,7 +153,7 @@ pub fn target_of<R: Files + AllocGlobal>(rt: &R, path: &str) -> io::Result<Optio
 }
 
 /// The same, with the path in the error.
-fn told_target<'a, R: Files + AllocGlobal>(
+fn named_target<'a, R: Files + AllocGlobal>(
     rt: &R,
     path: &'a str,
 ) -> Result<Option<Target>, PathFault<'a>> {
@@ -164,8 +164,8 @@ fn told_target<'a, R: Files + AllocGlobal>(
 }
 
 /// The regular file that standard error goes to. What is told in a pipe loses nothing of what goes there too.
-fn told_file<R: Files>(rt: &R) -> Result<Option<Target>, PathFault<'static>> {
-    match standing(rt, STANDARD_ERROR) {
+fn error_file<R: Files>(rt: &R) -> Result<Option<Target>, PathFault<'static>> {
+    match metadata_of(rt, STANDARD_ERROR) {
         Ok(Some(metadata)) if metadata.is_file() => Ok(Some(Target::File(id_of(&metadata)))),
         Ok(_) => Ok(None),
         Err(error) => Err(PathFault::Untold(STANDARD_ERROR, error)),
@@ -196,19 +196,19 @@ impl<'a> Taken<'a> {
         paths: &[&'a str],
     ) -> Result<(), PathFault<'a>> {
         let standard_output = match standard_output {
-            Some(path) => told_target(rt, path)?,
+            Some(path) => named_target(rt, path)?,
             None => None,
         };
         for path in paths {
             self.texts.insert(*path)?;
-            let target = told_target(rt, *path)?;
+            let target = named_target(rt, *path)?;
             if target.is_some() && target == standard_output {
                 return Err(PathFault::Same(*path));
             }
             self.add(target)?;
         }
         self.add(standard_output)?;
-        self.add(told_file(rt)?)?;
+        self.add(error_file(rt)?)?;
         Ok(())
     }
 
@@ -219,7 +219,7 @@ impl<'a> Taken<'a> {
         paths: &[&'b str],
     ) -> Result<(), PathFault<'b>> {
         for path in paths {
-            let target = told_target(rt, *path)?;
+            let target = named_target(rt, *path)?;
             if self.texts.contains(*path) || !self.add(target)? {
                 return Err(PathFault::Same(*path));
             }
@@ -237,17 +237,17 @@ impl<'a> Taken<'a> {
 }
 
 /// Tells why files are refused, and answers the exit status.
-fn tell_path<E: TakesHints>(fault: &PathFault<'_>, err: &mut E) -> Status {
+fn report_path<E: HintSink>(fault: &PathFault<'_>, err: &mut E) -> Status {
     match fault {
         PathFault::Same(path) => {
-            tell_fault(
-                format_args!("SameFile {}", Path(*path)),
+            report_fault(
+                format_args!("SameFile {}", EscapedPath(*path)),
                 Status::Refused,
                 err,
             )
         }
-        PathFault::Untold(path, error) => tell_io(error, path, err),
-        PathFault::NoMemory => tell_fault(Fault::NoMemory, Status::Refused, err),
+        PathFault::Untold(path, error) => report_io(error, path, err),
+        PathFault::NoMemory => report_fault(Fault::NoMemory, Status::Refused, err),
     }
 }
 
@@ -257,7 +257,7 @@ fn tell_path<E: TakesHints>(fault: &PathFault<'_>, err: &mut E) -> Status {
 ///
 /// Two paths are one file where they lead to one regular file or fifo, or to one new file; one that is read and one that is
 /// written also where they have the same text. `standard_output` is its path, where the command prints there.
-pub fn all_apart<R: Files + AllocGlobal, E: TakesHints>(
+pub fn refuse_shared_files<R: Files + AllocGlobal, E: HintSink>(
     rt: &R,
     standard_output: Option<&str>,
     read: &[&str],
@@ -266,10 +266,10 @@ pub fn all_apart<R: Files + AllocGlobal, E: TakesHints>(
 ) -> Result<(), Status> {
     let mut taken = Taken::new(rt.alloc());
     if let Err(fault) = taken.add_read(rt, standard_output, read) {
-        return Err(tell_path(&fault, err));
+        return Err(report_path(&fault, err));
     }
     match taken.add_written(rt, written) {
         Ok(()) => Ok(()),
-        Err(fault) => Err(tell_path(&fault, err)),
+        Err(fault) => Err(report_path(&fault, err)),
     }
 }

@@ -4,7 +4,7 @@ use Rattle.bpfvm.specs.declared.insn.Insn.{Insn}
 use Rattle.bpfvm.specs.Listing.{IsListing, IsRefusedListing}
 use Rattle.bpfvm.specs.Validity.{IsValidProgram}
 use Rattle.filtergen.specs.Expressions.{IsProgramOf, IsUncompiled}
-use Rattle.cli_text.specs.Snapshot.{meant}
+use Rattle.cli_text.specs.Snapshot.{effective_snaplen}
 use Rattle.cli_filter.specs.declared.program.FilterFault.{FilterFault}
 use Rattle.cli_filter.specs.declared.program.FilterFault.TheVariants.{Twice, Listing, Expression}
 
@@ -17,11 +17,11 @@ expression_of (Some text) = text
 abbrev pub IsFilter : Option (List ℕ) → Option (List ℕ) → ℕ → List Insn → Type 0
 IsFilter (Some listing) (Some expr) snap program = ⊥
 IsFilter (Some listing) None snap program = IsListing listing program × IsValidProgram program
-IsFilter None expr snap program = IsProgramOf (expression_of expr) (meant snap) program
+IsFilter None expr snap program = IsProgramOf (expression_of expr) (effective_snaplen snap) program
 
 -- Why a command has no filter: two are given; the listing is none of a valid program; the expression has no program.
 abbrev pub IsNoFilter : Option (List ℕ) → Option (List ℕ) → ℕ → FilterFault → Type 0
 IsNoFilter (Some listing) (Some expr) snap fault = fault ≡ Twice
 IsNoFilter (Some listing) None snap (Listing fault) = IsRefusedListing listing fault
-IsNoFilter None expr snap (Expression fault) = IsUncompiled (expression_of expr) (meant snap) fault
+IsNoFilter None expr snap (Expression fault) = IsUncompiled (expression_of expr) (effective_snaplen snap) fault
 IsNoFilter listing expr snap fault = ⊥

@@ -4,18 +4,18 @@ ghost use Rattle.std.specs.Prelude.{◌≡◌, false, Ok, IfErr, IfOk, IsErr};
 ghost use Rattle.cli_text.specs.declared.status.Status.TheVariants.{Refused};
 
 use crate::program::{FilterFault, filter};
-use crate::tell::tell_filter;
+use crate::report::report_filter;
 use bpfvm::{ListingFault, Program};
 use cli_files::reading::read_file;
 use cli_filter_hints::expressions::{hint_refusal, hint_text_fault};
-use cli_report::TakesHints;
+use cli_report::HintSink;
 use cli_report::files::{LISTING, hint_bad_line};
 use cli_text::Status;
 use filtergen::ExpressionFault;
 use std::fs::Files;
 
 /// Hints on an expression that has no program.
-pub fn hint_expression<E: TakesHints>(text: &str, fault: ExpressionFault, err: &mut E)
+pub fn hint_expression<E: HintSink>(text: &str, fault: ExpressionFault, err: &mut E)
     ensures quiet { E.takes_hints err.old ≡ false → err.new ≡ err.old }
 {
     match fault {
@@ -24,7 +24,7 @@ pub fn hint_expression<E: TakesHints>(text: &str, fault: ExpressionFault, err: &
     }
 }
 
-fn hint_filter<E: TakesHints>(
+fn hint_filter<E: HintSink>(
     listing: Option<&[u8]>,
     expr: Option<&str>,
     fault: FilterFault,
@@ -40,7 +40,7 @@ fn hint_filter<E: TakesHints>(
 }
 
 /// Tells why there is no filter of a listing or an expression, if there is none, and answers the exit status then.
-pub fn told_filter<E: TakesHints>(
+pub fn filter_or_report<E: HintSink>(
     listing: Option<&[u8]>,
     expr: Option<&str>,
     found: Result<Program, FilterFault>,
@@ -52,7 +52,7 @@ pub fn told_filter<E: TakesHints>(
     match found {
         Ok(program) => Ok(program),
         Err(fault) => {
-            let told = tell_filter(Err(fault), err);
+            let told = report_filter(Err(fault), err);
             hint_filter(listing, expr, fault, err);
             told
         }
@@ -60,22 +60,22 @@ pub fn told_filter<E: TakesHints>(
 }
 
 /// The program of a listing's file.
-pub fn program_of_file<R: Files + AllocGlobal, E: TakesHints>(
+pub fn program_of_file<R: Files + AllocGlobal, E: HintSink>(
     rt: &R,
     path: &str,
     err: &mut E,
 ) -> Result<Program, Status> {
     let listing = read_file(rt, path, err)?;
     let listing = Some(listing.as_slice());
-    told_filter(listing, None, filter(rt.alloc(), listing, None, 0), err)
+    filter_or_report(listing, None, filter(rt.alloc(), listing, None, 0), err)
 }
 
 /// The program of an expression; without one every packet is taken.
-pub fn program_of_expression<R: AllocGlobal, E: TakesHints>(
+pub fn program_of_expression<R: AllocGlobal, E: HintSink>(
     rt: &R,
     expr: Option<&str>,
     snap: u32,
     err: &mut E,
 ) -> Result<Program, Status> {
-    told_filter(None, expr, filter(rt.alloc(), None, expr, snap), err)
+    filter_or_report(None, expr, filter(rt.alloc(), None, expr, snap), err)
 }

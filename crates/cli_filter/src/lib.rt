@@ -7,8 +7,8 @@ pub mod plan;
 pub mod plan_files;
 pub mod plan_hints;
 mod program;
-mod tell;
+mod report;
 
-pub use filters::{hint_expression, program_of_expression, program_of_file, told_filter};
+pub use filters::{filter_or_report, hint_expression, program_of_expression, program_of_file};
 pub use program::{FilterFault, filter};
-pub use tell::tell_filter;
+pub use report::report_filter;

@@ -3,26 +3,26 @@
 ghost use Rattle.std.specs.Prelude.{◌≡◌, IfOk, length, vec_len};
 
 use crate::plan::PlanLine;
-use cli_files::paths::{STANDARD_OUTPUT, all_apart};
-use cli_report::TakesHints;
+use cli_files::paths::{STANDARD_OUTPUT, refuse_shared_files};
+use cli_report::HintSink;
 use cli_text::Status;
-use cli_text::telling::tell_fault;
+use cli_text::report::report_fault;
 use savefile::Fault;
 use std::alloc::{AllocError, Global};
 use std::fs::Files;
 
 /// Refuses, with a line on `err`, a plan by which something would be lost: an OUT is a file that is read, the file of another OUT,
 /// or the one that lines are printed to.
-pub fn check_outputs<'a, R: Files + AllocGlobal, L: PlanLine<'a>, E: TakesHints>(
+pub fn check_outputs<'a, R: Files + AllocGlobal, L: PlanLine<'a>, E: HintSink>(
     rt: &R,
     read: &[&str],
     lines: &[L],
     err: &mut E,
 ) -> Result<(), Status> {
     let Ok(outputs) = outputs_of(rt.alloc(), lines) else {
-        return Err(tell_fault(Fault::NoMemory, Status::Refused, err));
+        return Err(report_fault(Fault::NoMemory, Status::Refused, err));
     };
-    all_apart(rt, Some(STANDARD_OUTPUT), read, outputs.as_slice(), err)
+    refuse_shared_files(rt, Some(STANDARD_OUTPUT), read, outputs.as_slice(), err)
 }
 
 /// The OUT of each line.

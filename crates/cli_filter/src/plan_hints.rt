@@ -2,12 +2,12 @@
 
 use crate::filters::hint_expression;
 use crate::plan::{PlanFault, PlanLine, read_lines};
-use cli_report::TakesHints;
+use cli_report::HintSink;
 use cli_report::files::hint_bad_line;
 use std::alloc::Global;
 
 /// Hints on the line or the expression that is refused. `form` is the form of a line.
-pub fn hint_plan<'a, L: PlanLine<'a>, E: TakesHints>(
+pub fn hint_plan<'a, L: PlanLine<'a>, E: HintSink>(
     alloc: Global,
     text: &'a [u8],
     terms: L::Terms,

@@ -4,7 +4,7 @@ ghost use Rattle.std.specs.Prelude.{IfOk, IfErr, option_copied};
 ghost use Rattle.cli_filter.specs.Filter.{IsFilter, IsNoFilter};
 
 use bpfvm::{ListingFault, Program, read_listing};
-use cli_text::meant;
+use cli_text::effective_snaplen;
 use filtergen::{ExpressionFault, compile_text};
 use std::alloc::Global;
 use thiserror::Error;
@@ -44,7 +44,7 @@ pub fn filter(
             Ok(program) => Ok(program),
             Err(fault) => Err(FilterFault::Listing(fault)),
         },
-        (None, expr) => match compile_text(alloc, expr.unwrap_or(""), meant(snap)) {
+        (None, expr) => match compile_text(alloc, expr.unwrap_or(""), effective_snaplen(snap)) {
             Ok(program) => Ok(program),
             Err(fault) => Err(FilterFault::Expression(fault)),
         },

@@ -4,7 +4,7 @@ ghost use Rattle.std.specs.Prelude.{◌≡◌, false};
 
 use crate::advice::advice_on;
 use crate::excerpt::{Caret, Excerpt};
-use cli_report::stream::{TakesHints, give_hint};
+use cli_report::stream::{HintSink, give_hint};
 use filtergen_facts::Refusal;
 use filterlang::Fault;
 
@@ -28,7 +28,7 @@ fn place_of(fault: Fault) -> Option<usize> {
 
 /// Hints on an expression that is refused: the part of it round the fault's place, with a caret under the place, and a sentence
 /// that helps. Where the fault has no place the sentence stands alone, and of want of memory nothing is said.
-pub fn hint_text_fault<E: TakesHints>(text: &str, fault: Fault, err: &mut E)
+pub fn hint_text_fault<E: HintSink>(text: &str, fault: Fault, err: &mut E)
     ensures quiet { E.takes_hints err.old ≡ false → err.new ≡ err.old }
 {
     if let Some(place) = place_of(fault) {
@@ -42,7 +42,7 @@ pub fn hint_text_fault<E: TakesHints>(text: &str, fault: Fault, err: &mut E)
 }
 
 /// Hints on an expression whose program is too long: the ways out.
-pub fn hint_too_long<E: TakesHints>(err: &mut E)
+pub fn hint_too_long<E: HintSink>(err: &mut E)
     ensures quiet { E.takes_hints err.old ≡ false → err.new ≡ err.old }
 {
     give_hint(
@@ -57,7 +57,7 @@ pub fn hint_too_long<E: TakesHints>(err: &mut E)
 }
 
 /// A hint on an expression with a relation that is too deep.
-pub fn hint_too_deep<E: TakesHints>(err: &mut E)
+pub fn hint_too_deep<E: HintSink>(err: &mut E)
     ensures quiet { E.takes_hints err.old ≡ false → err.new ≡ err.old }
 {
     give_hint(
@@ -67,7 +67,7 @@ pub fn hint_too_deep<E: TakesHints>(err: &mut E)
 }
 
 /// Hints on a tree that has no program.
-pub fn hint_refusal<E: TakesHints>(refusal: Refusal, err: &mut E)
+pub fn hint_refusal<E: HintSink>(refusal: Refusal, err: &mut E)
     ensures quiet { E.takes_hints err.old ≡ false → err.new ≡ err.old }
 {
     match refusal {

@@ -4,7 +4,7 @@ ghost use Rattle.std.specs.Prelude.{◌≡◌, false};
 
 use crate::nearest::is_word;
 use cli_report::shown::Shown;
-use cli_report::stream::{TakesHints, give_hint};
+use cli_report::stream::{HintSink, give_hint};
 use filterlang::{Fault, lex};
 use std::alloc::Global;
 use std::convert::AsStr;
@@ -79,7 +79,7 @@ fn lacks_option<S: AsStr>(words: &[S]) -> bool {
 
 /// A hint on words that are refused: where they look like an expression without quotes, or without an option before it, how it is
 /// given.
-pub fn hint_unquoted<S: AsStr, E: TakesHints>(alloc: Global, words: &[S], err: &mut E)
+pub fn hint_unquoted<S: AsStr, E: HintSink>(alloc: Global, words: &[S], err: &mut E)
     ensures quiet { E.takes_hints err.old ≡ false → err.new ≡ err.old }
 {
     let Some(expression) = expression_in(alloc, words) else {

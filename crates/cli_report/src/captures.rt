@@ -2,7 +2,7 @@
 
 ghost use Rattle.std.specs.Prelude.{◌≡◌, false};
 
-use crate::stream::{TakesHints, give_hint};
+use crate::stream::{HintSink, give_hint};
 use byteorder::{BigEndian, ByteOrder, LittleEndian};
 use savefile::Fault;
 use std::fmt::{Display, Formatter};
@@ -88,7 +88,7 @@ fn link_name(number: u32) -> &'static str {
     }
 }
 
-fn hint_link_type<E: TakesHints>(header: &[u8; 24], err: &mut E)
+fn hint_link_type<E: HintSink>(header: &[u8; 24], err: &mut E)
     ensures quiet { E.takes_hints err.old ≡ false → err.new ≡ err.old }
 {
     let number = link_type(header);
@@ -107,7 +107,7 @@ fn hint_link_type<E: TakesHints>(header: &[u8; 24], err: &mut E)
     )
 }
 
-fn hint_version<E: TakesHints>(header: &[u8; 24], err: &mut E)
+fn hint_version<E: HintSink>(header: &[u8; 24], err: &mut E)
     ensures quiet { E.takes_hints err.old ≡ false → err.new ≡ err.old }
 {
     let (major, minor) = if is_big(header) {
@@ -129,7 +129,7 @@ fn hint_version<E: TakesHints>(header: &[u8; 24], err: &mut E)
     )
 }
 
-fn hint_not_savefile<E: TakesHints>(first: &[u8], err: &mut E)
+fn hint_not_savefile<E: HintSink>(first: &[u8], err: &mut E)
     ensures quiet { E.takes_hints err.old ≡ false → err.new ≡ err.old }
 {
     match other_format(first) {
@@ -142,7 +142,7 @@ fn hint_not_savefile<E: TakesHints>(first: &[u8], err: &mut E)
 }
 
 /// Hints on the fault of a capture whose first bytes are these, the 24 of a header where it has so many.
-pub fn hint_capture_fault<E: TakesHints>(first: &[u8], fault: Fault, err: &mut E)
+pub fn hint_capture_fault<E: HintSink>(first: &[u8], fault: Fault, err: &mut E)
     ensures quiet { E.takes_hints err.old ≡ false → err.new ≡ err.old }
 {
     match (fault, first.first_chunk::<24>()) {

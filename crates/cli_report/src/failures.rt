@@ -4,15 +4,15 @@ ghost use Rattle.std.specs.Prelude.{◌≡◌, false};
 
 use crate::captures::hint_capture_fault;
 use crate::files::hint_reason;
-use crate::noted::{Noted, NotedInput};
-use crate::stream::{TakesHints, give_hint};
-use cli_text::telling::Path;
+use crate::probe::{FailureProbe, ProbedInput};
+use crate::stream::{HintSink, give_hint};
+use cli_text::report::EscapedPath;
 use savefile::Fault;
 use std::io;
 use std::io::ErrorKind;
 
 /// Hints on a device that failed.
-pub fn hint_failure<T, E: TakesHints>(noted: &Noted<T>, err: &mut E)
+pub fn hint_failure<T, E: HintSink>(noted: &FailureProbe<T>, err: &mut E)
     ensures quiet { E.takes_hints err.old ≡ false → err.new ≡ err.old }
 {
     if let Some(error) = noted.failure() {
@@ -21,7 +21,7 @@ pub fn hint_failure<T, E: TakesHints>(noted: &Noted<T>, err: &mut E)
 }
 
 /// Hints on why standard output failed. Where nobody reads it any more, nothing was told either.
-pub fn hint_unprinted<E: TakesHints>(error: &io::Error, err: &mut E)
+pub fn hint_unprinted<E: HintSink>(error: &io::Error, err: &mut E)
     ensures quiet { E.takes_hints err.old ≡ false → err.new ≡ err.old }
 {
     if error.kind() != ErrorKind::BrokenPipe {
@@ -30,7 +30,7 @@ pub fn hint_unprinted<E: TakesHints>(error: &io::Error, err: &mut E)
 }
 
 /// Hints on standard output that failed, if it did.
-pub fn hint_output<T, E: TakesHints>(noted: &Noted<T>, err: &mut E)
+pub fn hint_output<T, E: HintSink>(noted: &FailureProbe<T>, err: &mut E)
     ensures quiet { E.takes_hints err.old ≡ false → err.new ≡ err.old }
 {
     if let Some(error) = noted.failure() {
@@ -39,7 +39,7 @@ pub fn hint_output<T, E: TakesHints>(noted: &Noted<T>, err: &mut E)
 }
 
 /// Hints on standard output that failed, if it did, where other files are told of too.
-pub fn hint_printed<T, E: TakesHints>(noted: &Noted<T>, err: &mut E)
+pub fn hint_printed<T, E: HintSink>(noted: &FailureProbe<T>, err: &mut E)
     ensures quiet { E.takes_hints err.old ≡ false → err.new ≡ err.old }
 {
     if let Some(error) = noted.failure() {
@@ -51,7 +51,7 @@ pub fn hint_printed<T, E: TakesHints>(noted: &Noted<T>, err: &mut E)
 }
 
 /// Hints on a capture that was not read to its end.
-pub fn hint_input<R, E: TakesHints>(source: &NotedInput<R>, fault: Fault, err: &mut E)
+pub fn hint_input<R, E: HintSink>(source: &ProbedInput<R>, fault: Fault, err: &mut E)
     ensures quiet { E.takes_hints err.old ≡ false → err.new ≡ err.old }
 {
     match fault {
@@ -61,9 +61,9 @@ pub fn hint_input<R, E: TakesHints>(source: &NotedInput<R>, fault: Fault, err: &
 }
 
 /// Hints on the n-th of several captures, from 0, which was not read to its end.
-pub fn hint_source<R, E: TakesHints>(
+pub fn hint_source<R, E: HintSink>(
     paths: &[&str],
-    sources: &[NotedInput<R>],
+    sources: &[ProbedInput<R>],
     n: usize,
     fault: Fault,
     err: &mut E,
@@ -71,7 +71,7 @@ pub fn hint_source<R, E: TakesHints>(
     ensures quiet { E.takes_hints err.old ≡ false → err.new ≡ err.old }
 {
     if let (Some(path), Some(source)) = (paths.get(n), sources.get(n)) {
-        give_hint(format_args!("{}:", Path(*path)), err);
+        give_hint(format_args!("{}:", EscapedPath(*path)), err);
         hint_input(source, fault, err);
     }
 }

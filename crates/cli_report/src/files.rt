@@ -4,7 +4,7 @@ ghost use Rattle.std.specs.Prelude.{◌≡◌, false};
 ghost use Rattle.listener.specs.Messages.{size};
 
 use crate::shown::Shown;
-use crate::stream::{TakesHints, give_hint};
+use crate::stream::{HintSink, give_hint};
 use cli_text::fields::first_line;
 use std::io;
 
@@ -25,7 +25,7 @@ pub const SCRIPT: &str = "`arrive`, `flush L`, `read L` or `close L`";
 pub const LISTING: &str = "CODE JT JF K, four numbers, behind a first line with how many there are";
 
 /// Why a file could not be opened, read, made or written, as the system says it.
-pub fn hint_reason<E: TakesHints>(error: &io::Error, err: &mut E)
+pub fn hint_reason<E: HintSink>(error: &io::Error, err: &mut E)
     ensures quiet { E.takes_hints err.old ≡ false → err.new ≡ err.old }
 {
     give_hint(*error, err)
@@ -42,7 +42,7 @@ fn line_at(text: &[u8], number: usize) -> &[u8] {
 }
 
 /// Hints on a line that has not its form: the line itself, and the form.
-pub fn hint_bad_line<E: TakesHints>(text: &[u8], number: usize, form: &str, err: &mut E)
+pub fn hint_bad_line<E: HintSink>(text: &[u8], number: usize, form: &str, err: &mut E)
     ensures quiet { E.takes_hints err.old ≡ false → err.new ≡ err.old }
 {
     let line = line_at(text, number);
@@ -61,7 +61,7 @@ pub fn hint_bad_line<E: TakesHints>(text: &[u8], number: usize, form: &str, err:
 }
 
 /// Hints on a step of SCRIPT, counted from 0, that names a listener that there is not.
-pub fn hint_no_listener<E: TakesHints>(script: &[u8], step: usize, listeners: usize, err: &mut E)
+pub fn hint_no_listener<E: HintSink>(script: &[u8], step: usize, listeners: usize, err: &mut E)
     ensures quiet { E.takes_hints err.old ≡ false → err.new ≡ err.old }
 {
     let number = step.saturating_add(1);
@@ -86,7 +86,7 @@ fn least_capacity(snap: u32) -> u64
 }
 
 /// A hint on a capacity that is out of its range: the least and the most with this snapshot length.
-pub fn hint_capacity<E: TakesHints>(snap: u32, capacity: usize, err: &mut E)
+pub fn hint_capacity<E: HintSink>(snap: u32, capacity: usize, err: &mut E)
     ensures quiet { E.takes_hints err.old ≡ false → err.new ≡ err.old }
 {
     let least = least_capacity(snap);

@@ -5,9 +5,9 @@
 pub mod captures;
 pub mod failures;
 pub mod files;
-pub mod noted;
+pub mod probe;
 pub mod shown;
 pub mod stream;
 
-pub use noted::Noted;
-pub use stream::{ErrorStream, TakesHints};
+pub use probe::FailureProbe;
+pub use stream::{ErrorStream, HintSink};

@@ -7,7 +7,7 @@ use std::fmt::{Display, Formatter};
 use std::{fmt, str};
 
 /// At most so many characters of a text are shown.
-const MOST: usize = 60;
+const MAX_SHOWN: usize = 60;
 
 /// What stands for a character on a terminal, in one column as a rule: a blank for a tab or the end of a line, and `?` for each
 /// other control character, so that no text of a file or of the command line controls the terminal.
@@ -35,14 +35,14 @@ impl Display for Shown<'_> {
 }
 
 fn write_text<W: fmt::Write>(text: &str, f: &mut Formatter<W>) -> fmt::Result {
-    for character in text.chars().take(MOST) {
+    for character in text.chars().take(MAX_SHOWN) {
         f.write_char(visible(character))?;
     }
     Ok(())
 }
 
 fn write_bytes<W: fmt::Write>(bytes: &[u8], f: &mut Formatter<W>) -> fmt::Result {
-    for byte in bytes.iter().take(MOST) {
+    for byte in bytes.iter().take(MAX_SHOWN) {
         let character = if byte.is_ascii() {
             char::from(*byte)
         } else {

@@ -11,7 +11,7 @@ use std::io;
 use std::io::Write;
 
 /// What faults are told to, with whether hints are wanted below their lines.
-pub trait TakesHints: Write {
+pub trait HintSink: Write {
     /// Whether hints are wanted.
     ghost takes_hints: { Self → Bool };
 
@@ -48,7 +48,7 @@ impl<W: Write> Write for ErrorStream<W> {
     }
 }
 
-impl<W: Write> TakesHints for ErrorStream<W> {
+impl<W: Write> HintSink for ErrorStream<W> {
     ghost takes_hints = { λ stream. stream.takes_hints };
 
     fn takes_hints(&self) -> bool {
@@ -57,7 +57,7 @@ impl<W: Write> TakesHints for ErrorStream<W> {
 }
 
 /// Memory takes the lines of faults alone.
-impl TakesHints for Vec<u8> {
+impl HintSink for Vec<u8> {
     ghost takes_hints = { λ _. false };
 
     fn takes_hints(&self) -> bool {
@@ -84,7 +84,7 @@ fn write_line<D: Display + Drop, W: Write>(hint: D, out: &mut W) -> io::Result<(
 
 /// Gives a hint in a line of its own, indented by two blanks, where hints are wanted. One that standard error does not take, or
 /// that has more than 509 bytes, is left out.
-pub fn give_hint<D: Display + Drop, E: TakesHints>(hint: D, err: &mut E)
+pub fn give_hint<D: Display + Drop, E: HintSink>(hint: D, err: &mut E)
     // Where none are wanted nothing is written.
     ensures quiet { E.takes_hints err.old ≡ false → err.new ≡ err.old }
 {

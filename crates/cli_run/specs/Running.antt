@@ -6,7 +6,7 @@ use Rattle.std.specs.Io.KnownBytes.{Keeps}
 use Rattle.std.specs.declared.alloc.Global.{Global}
 use Rattle.std.specs.declared.vec.Vec.{Vec}
 use Rattle.bpfvm.specs.declared.insn.Insn.{Insn}
-use Rattle.cli_text.specs.declared.telling.Outcome.{Outcome}
+use Rattle.cli_text.specs.declared.report.Outcome.{Outcome}
 use Rattle.cli_text.specs.declared.status.Status.TheVariants.{Refused}
 use Rattle.cli_text.specs.Status.{code}
 use Rattle.cli_text.specs.Sending.{Streams, Takes}

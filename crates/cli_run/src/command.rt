@@ -13,7 +13,7 @@ use cli_files::captures::buffered_output;
 use cli_files::reading::read_file;
 use cli_filter::plan::Plan;
 use cli_filter::plan_hints::hint_plan;
-use cli_report::TakesHints;
+use cli_report::HintSink;
 use cli_report::failures::hint_printed;
 use cli_report::files::LISTENERS_OF_RUN;
 use cli_text::Status;
@@ -24,7 +24,7 @@ use std::sync::Wait;
 use std::thread::Threads;
 
 /// What LISTENERS asks for; or reports why it is refused.
-fn plan_of<'p, E: TakesHints>(
+fn plan_of<'p, E: HintSink>(
     alloc: Global,
     listeners: &'p [u8],
     interfaces: usize,
@@ -47,7 +47,7 @@ fn plan_of<'p, E: TakesHints>(
 /// a type that is known, and not of one that its trait names.
 pub trait NamesFiles {
     /// The plan of LISTENERS with its files, once it is accepted and the paths are compared; or reports why it is refused.
-    fn named_files<'r, 'i, 'o, E: TakesHints>(
+    fn named_files<'r, 'i, 'o, E: HintSink>(
         &'r self,
         alloc: Global,
         words: &RunWords<'i>,
@@ -57,7 +57,7 @@ pub trait NamesFiles {
 }
 
 impl NamesFiles for HostRuntime {
-    fn named_files<'r, 'i, 'o, E: TakesHints>(
+    fn named_files<'r, 'i, 'o, E: HintSink>(
         &'r self,
         alloc: Global,
         words: &RunWords<'i>,
@@ -74,7 +74,7 @@ impl NamesFiles for HostRuntime {
 }
 
 /// Replays the captures, and reports how that ended, with hints.
-fn replay_files<R: Threads + Wait + Sync + AllocGlobal, O: Write, E: TakesHints>(
+fn replay_files<R: Threads + Wait + Sync + AllocGlobal, O: Write, E: HintSink>(
     rt: &R,
     words: &RunWords<'_>,
     listeners: &[u8],
@@ -103,7 +103,7 @@ fn replay_files<R: Threads + Wait + Sync + AllocGlobal, O: Write, E: TakesHints>
 }
 
 /// Reads LISTENERS, compares the paths, and replays.
-fn run_files<R: Files + AllocGlobal + NamesFiles + Threads + Wait + Sync, O: Write, E: TakesHints>(
+fn run_files<R: Files + AllocGlobal + NamesFiles + Threads + Wait + Sync, O: Write, E: HintSink>(
     rt: &R,
     words: &RunWords<'_>,
     out: &mut O,
@@ -122,7 +122,7 @@ fn run_files<R: Files + AllocGlobal + NamesFiles + Threads + Wait + Sync, O: Wri
 pub fn run_command<
     R: Files + AllocGlobal + NamesFiles + Threads + Wait + Sync,
     O: Write,
-    E: TakesHints,
+    E: HintSink,
 >(rt: &R, words: &RunWords<'_>, out: &mut O, err: &mut E) -> Status {
     match run_files(rt, words, out, err) {
         Ok(status) | Err(status) => status,

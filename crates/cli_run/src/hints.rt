@@ -5,16 +5,16 @@ use crate::tally::Output;
 use cli_filter::plan::{PlanFault, read_lines};
 use cli_report::failures::hint_source;
 use cli_report::files::{hint_capacity, hint_reason};
-use cli_report::noted::NotedInput;
+use cli_report::probe::ProbedInput;
 use cli_report::stream::give_hint;
-use cli_report::{Noted, TakesHints};
+use cli_report::{FailureProbe, HintSink};
 use listener::OpenFault;
 use replay_types::{InterfaceEnd, InterfaceReport, ListenerReport, MAX_SPARES, RunFault, TaskEnd};
 use std::alloc::Global;
 use std::io::Write;
 
 /// Hints on a listener that is not opened.
-pub(crate) fn hint_unopened<E: TakesHints>(
+pub(crate) fn hint_unopened<E: HintSink>(
     alloc: Global,
     listeners: &[u8],
     interfaces: usize,
@@ -50,10 +50,10 @@ pub(crate) fn hint_unopened<E: TakesHints>(
 }
 
 /// Hints on a capture that a listener could not write.
-fn hint_sink<W: Write + Drop, E: TakesHints>(
+fn hint_sink<W: Write + Drop, E: HintSink>(
     interface: usize,
     listener: usize,
-    report: &ListenerReport<Output<Noted<W>>>,
+    report: &ListenerReport<Output<FailureProbe<W>>>,
     err: &mut E,
 ) {
     if let (TaskEnd::Write(_), Some(error)) = (
@@ -69,9 +69,9 @@ fn hint_sink<W: Write + Drop, E: TakesHints>(
 }
 
 /// Hints on the captures that the listeners of an interface could not write.
-fn hint_sinks<W: Write + Drop, E: TakesHints>(
+fn hint_sinks<W: Write + Drop, E: HintSink>(
     interface: usize,
-    listeners: &[ListenerReport<Output<Noted<W>>>],
+    listeners: &[ListenerReport<Output<FailureProbe<W>>>],
     err: &mut E,
 ) {
     for (listener, report) in listeners.iter().enumerate() {
@@ -80,9 +80,9 @@ fn hint_sinks<W: Write + Drop, E: TakesHints>(
 }
 
 /// Hints on how the interfaces ended, each of which has these captures.
-pub(crate) fn hint_run<R, W: Write + Drop, E: TakesHints>(
+pub(crate) fn hint_run<R, W: Write + Drop, E: HintSink>(
     inputs: &[Vec<&str>],
-    reports: &[InterfaceReport<NotedInput<R>, Output<Noted<W>>>],
+    reports: &[InterfaceReport<ProbedInput<R>, Output<FailureProbe<W>>>],
     err: &mut E,
 ) {
     for (interface, (report, paths)) in reports.iter().zip(inputs).enumerate() {

@@ -9,9 +9,9 @@ use cli_files::captures::{Input, buffered, inputs};
 use cli_files::late::LateFile;
 use cli_filter::plan::Plan;
 use cli_filter::plan_files::{check_outputs, outputs_of};
-use cli_report::{Noted, TakesHints};
+use cli_report::{FailureProbe, HintSink};
 use cli_text::Status;
-use cli_text::telling::tell_fault;
+use cli_text::report::report_fault;
 use replay_types::RunFault;
 use savefile::Fault;
 use std::alloc::{AllocError, Global};
@@ -21,7 +21,7 @@ use std::io;
 pub type RunInput<'r, 'p> = Input<'r, 'p, HostRuntime>;
 
 /// A capture that is made at its first write.
-pub type RunOutput<'r, 'p> = Output<Noted<LateFile<'r, 'p, HostRuntime>>>;
+pub type RunOutput<'r, 'p> = Output<FailureProbe<LateFile<'r, 'p, HostRuntime>>>;
 
 /// The captures of all interfaces, none of them opened.
 fn interface_inputs<'r, 'p>(
@@ -48,7 +48,7 @@ fn sinks<'r, 'p>(
 {
     let mut sinks = Vec::with_capacity(alloc, outputs.len())?;
     for path in outputs {
-        let late = Noted::new(LateFile::new(files, *path));
+        let late = FailureProbe::new(LateFile::new(files, *path));
         sinks.push(buffered(alloc, CountingCapture::new(late))?)?;
     }
     Ok(sinks)
@@ -66,7 +66,7 @@ fn read_paths<'a>(alloc: Global, words: &RunWords<'a>) -> Result<Vec<&'a str>, A
 
 /// Refuses, with a line on `err`, an OUT by which something would be lost: it is a file that is read, the file of another OUT, or the
 /// one that lines are printed to.
-pub(crate) fn check_paths<E: TakesHints>(
+pub(crate) fn check_paths<E: HintSink>(
     files: &HostRuntime,
     alloc: Global,
     words: &RunWords<'_>,
@@ -74,7 +74,7 @@ pub(crate) fn check_paths<E: TakesHints>(
     err: &mut E,
 ) -> Result<(), Status> {
     let Ok(read) = read_paths(alloc, words) else {
-        return Err(tell_fault(Fault::NoMemory, Status::Refused, err));
+        return Err(report_fault(Fault::NoMemory, Status::Refused, err));
     };
     check_outputs(files, read.as_slice(), lines, err)
 }

@@ -7,8 +7,8 @@ ghost use Rattle.cli_text.specs.Texts.{numbered};
 ghost use Rattle.cli_run.specs.Printed.{end_text, interface_told, listener_line, printed_replay, told_replay};
 ghost use Rattle.cli_run.specs.Replaying.{ReportsRun, interface_status, listeners_status, report_status, run_status, task_status};
 
+use cli_text::report::{Outcome, fault_status, print_status, report_line, report_output};
 use cli_text::sending::send;
-use cli_text::telling::{Outcome, fault_status, print_status, tell_line, tell_output};
 use cli_text::{CaptureFaultText, Line, Status};
 use replay_types::{InterfaceEnd, InterfaceReport, ListenerReport, TaskEnd};
 use std::fmt::{Display, Formatter};
@@ -144,11 +144,11 @@ fn report_end<E: Write>(i: usize, end: InterfaceEnd, err: &mut E) -> io::Result<
 {
     match end {
         InterfaceEnd::Clean => Ok(()),
-        InterfaceEnd::Capture(n, fault) => tell_line(
+        InterfaceEnd::Capture(n, fault) => report_line(
             format_args!("Interface {i} Capture {n} {}", CaptureFaultText(fault)),
             err,
         ),
-        InterfaceEnd::CountFull => tell_line(format_args!("Interface {i} CountFull"), err),
+        InterfaceEnd::CountFull => report_line(format_args!("Interface {i} CountFull"), err),
     }
 }
 
@@ -171,7 +171,7 @@ fn report_all<R, W, E: Write>(
 ) -> io::Result<()>
     ensures { Takes (E.contents err.old) (E.contents err.new) result (output_line printed.now ++ told_replay reports.now) }
 {
-    tell_output(printed, err)?;
+    report_output(printed, err)?;
     report_ends(reports, err)
 }
 

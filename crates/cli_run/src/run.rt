@@ -16,7 +16,7 @@ use crate::plan::{RunLine, fault_text, read_plan};
 use crate::report::report_run;
 use cli_filter::plan::Plan;
 use cli_text::Status;
-use cli_text::telling::{Outcome, tell_line};
+use cli_text::report::{Outcome, report_line};
 use replay::{InterfaceReport, Open, RunFault};
 use savefile::{Sink, Source};
 use std::alloc::{AllocError, Global};
@@ -131,7 +131,7 @@ pub fn refuse<E: Write, D: Display + Drop>(fault: D, err: &mut E) -> Outcome
 {
     Outcome {
         status: Status::Refused,
-        told: tell_line(fault, err),
+        told: report_line(fault, err),
     }
 }
 

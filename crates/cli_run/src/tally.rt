@@ -9,7 +9,7 @@ ghost use Rattle.cli_run.specs.Flushing.{AreFlushed, IsFlushed, bytes_of, packet
 ghost use Rattle.cli_run.specs.Replaying.{ReportsRun};
 
 use crate::report::report_run;
-use cli_text::telling::Outcome;
+use cli_text::report::Outcome;
 use replay_types::{InterfaceReport, ListenerReport, TaskEnd};
 use savefile::Counted;
 use std::io;

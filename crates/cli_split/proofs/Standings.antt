@@ -17,7 +17,7 @@ use Rattle.pcap_cut.specs.Outcome.{tallied, IsTally}
 use Rattle.pcap_cut.proofs.Accepted.{accepted-append, accepted-nil, tally-more}
 use Rattle.pcap_cut.proofs.Outcomes.{took}
 use Rattle.pcap_cut.proofs.Writing.{goes-further, same-unless-different}
-use Rattle.cli_text.specs.Snapshot.{meant}
+use Rattle.cli_text.specs.Snapshot.{effective_snaplen}
 use Rattle.cli_split.specs.declared.part.Outlet.{Outlet}
 use Rattle.cli_split.specs.declared.part.Part.{Part}
 use Rattle.cli_split.specs.declared.part.PartEnd.{PartEnd}
@@ -42,7 +42,7 @@ none-counted program (Err fault) tally read written = tt
 
 -- a part that was begun
 pub stands-begun : {W : Type 0} (taken : W → Option (List ℕ)) (failures : W → ℕ) (order : Order) (unit : TimeUnit) (part : Part W) (outlet : Outlet W) (n : ℕ) →
-    outlet.program ≡ part.program → outlet.snap ≡ n → n ≡ meant part.snap → outlet.tally.read ≡ 0 → outlet.tally.written ≡ 0 →
+    outlet.program ≡ part.program → outlet.snap ≡ n → n ≡ effective_snaplen part.snap → outlet.tally.read ≡ 0 → outlet.tally.written ≡ 0 →
     OnOk outlet.written (HasWritten taken (taken part.sink) order unit n [] outlet.writer) →
     OnErr outlet.written (HasWrittenPart taken (taken part.sink) order unit n [] outlet.writer) → IfErr outlet.written (λ why. why ≡ Device) →
     ((outlet.written ≡ Err Device) ↔ (failures outlet.writer.sink ≢ failures part.sink)) → HasTaken taken failures order unit [] part outlet
@@ -64,7 +64,7 @@ pub stands-failed : {W : Type 0} (taken : W → Option (List ℕ)) (failures : W
 stands-failed taken failures order unit packets part outlet p growing failed stands = by_result outlet.written refl
   where
     snap : ℕ
-    snap = meant part.snap
+    snap = effective_snaplen part.snap
 
     by_result : (result : Result (Unit {0}) Fault) → outlet.written ≡ result → HasTaken taken failures order unit (packets ++ p ∷ []) part outlet
     by_result (Ok done) is = let sound : is_err outlet.written ≡ false = ap is_err is in let wrong : true ≡ false = sym failed ∙ sound in absurd cc
@@ -108,7 +108,7 @@ stands-more taken failures order unit packets part old new p works program snap 
     by_result : (result : Result (Unit {0}) Fault) → old.written ≡ result → HasTaken taken failures order unit (packets ++ p ∷ []) part new
     by_result (Err fault) is = let failed : is_err old.written ≡ true = ap is_err is in let wrong : true ≡ false = sym failed ∙ works in absurd cc
     by_result (Ok done) is =
-        let n = meant part.snap in
+        let n = effective_snaplen part.snap in
         let written : HasWritten taken (taken part.sink) order unit n (accepted part.program n packets) old.writer =
         subst (λ (r : Result (Unit {0}) Fault). Wrote taken (taken part.sink) order unit n (accepted part.program n packets) r old.writer) is stands.wrote in
         let counted : IsTally part.program packets old.tally = subst (λ (r : Result (Unit {0}) Fault). OnOk r (IsTally part.program packets old.tally)) is stands.counted in
@@ -135,7 +135,7 @@ unfolding cut_text
 written-of taken failures order unit packets part outlet end sink sent tally written stands = by_result end.written refl
   where
     n : ℕ
-    n = meant part.snap
+    n = effective_snaplen part.snap
 
     counted : OnOk end.written (IsTally part.program packets end.tally)
     counted = subst (λ (r : Result (Unit {0}) Fault). OnOk r (IsTally part.program packets end.tally)) (sym written)

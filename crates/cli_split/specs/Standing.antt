@@ -8,7 +8,7 @@ use Rattle.savefile.specs.declared.packet.Packet.{Packet}
 use Rattle.pcap_cut.specs.Copying.{Wrote}
 use Rattle.pcap_cut.specs.Cut.{accepted}
 use Rattle.pcap_cut.specs.Outcome.{IsTally}
-use Rattle.cli_text.specs.Snapshot.{meant}
+use Rattle.cli_text.specs.Snapshot.{effective_snaplen}
 use Rattle.cli_split.specs.declared.part.Outlet.{Outlet}
 use Rattle.cli_split.specs.declared.part.Part.{Part}
 use Rattle.cli_split.specs.declared.part.PartEnd.{PartEnd}
@@ -18,8 +18,8 @@ use Rattle.cli_split.specs.Writing.{IsWritten}
 -- Its writer wrote what it accepts of them, or failed at that, and it counted them.
 pub record HasTaken {W : Type 0} (taken : W → Option (List ℕ)) (failures : W → ℕ) (order : Order) (unit : TimeUnit) (packets : List Packet) (part : Part W) (outlet : Outlet W) : Type 0 where
   pub program : outlet.program ≡ part.program
-  pub snap : outlet.snap ≡ meant part.snap
-  pub wrote : Wrote taken (taken part.sink) order unit (meant part.snap) (accepted part.program (meant part.snap) packets) outlet.written outlet.writer
+  pub snap : outlet.snap ≡ effective_snaplen part.snap
+  pub wrote : Wrote taken (taken part.sink) order unit (effective_snaplen part.snap) (accepted part.program (effective_snaplen part.snap) packets) outlet.written outlet.writer
   pub counted : OnOk outlet.written (IsTally part.program packets outlet.tally)
   pub read : outlet.tally.read ≤ length packets
   pub written : outlet.tally.written ≤ outlet.tally.read

@@ -12,11 +12,11 @@ use cli_files::captures::{Input, buffered_output, inputs};
 use cli_files::reading::read_file;
 use cli_filter::plan::Plan;
 use cli_filter::plan_hints::hint_plan;
-use cli_report::TakesHints;
+use cli_report::HintSink;
 use cli_report::failures::hint_printed;
 use cli_report::files::LINES;
 use cli_text::Status;
-use cli_text::telling::tell_fault;
+use cli_text::report::report_fault;
 use savefile::{Counted, Fault, Order, Source, Unit};
 use std::alloc::Global;
 use std::fs::Files;
@@ -24,7 +24,7 @@ use std::io;
 use std::io::Write;
 
 /// What LINES asks for; or reports why it is refused.
-fn plan_of<'p, E: TakesHints>(
+fn plan_of<'p, E: HintSink>(
     alloc: Global,
     text: &'p [u8],
     err: &mut E,
@@ -32,7 +32,7 @@ fn plan_of<'p, E: TakesHints>(
     match read_plan(alloc, text) {
         Ok(plan) => Ok(plan),
         Err(fault) => {
-            let status = tell_fault(fault_text(fault), Status::Refused, err);
+            let status = report_fault(fault_text(fault), Status::Refused, err);
             hint_plan::<SplitLine<'_>, E>(alloc, text, (), LINES, fault, err);
             Err(status)
         }
@@ -75,7 +75,7 @@ fn split_lines<'r, 'p, R: Files>(
 }
 
 /// Splits the captures as the plan says, and prints how many packets each part has.
-fn split_plan<R: Files + AllocGlobal, O: Write, E: TakesHints>(
+fn split_plan<R: Files + AllocGlobal, O: Write, E: HintSink>(
     rt: &R,
     words: &SplitWords<'_>,
     plan: Plan<SplitLine<'_>>,
@@ -85,7 +85,7 @@ fn split_plan<R: Files + AllocGlobal, O: Write, E: TakesHints>(
     let Plan { lines, programs } = plan;
     let mut out = buffered_output(rt.alloc(), &mut *out, err)?;
     let Ok(end) = split_lines(rt, rt.alloc(), words, lines.as_slice(), programs) else {
-        return Err(tell_fault(Fault::NoMemory, Status::Refused, err));
+        return Err(report_fault(Fault::NoMemory, Status::Refused, err));
     };
     let status = report_split(lines.as_slice(), &end, &mut out, err);
     hint_split(words.inputs.as_slice(), lines.as_slice(), &end, err);
@@ -94,7 +94,7 @@ fn split_plan<R: Files + AllocGlobal, O: Write, E: TakesHints>(
 }
 
 /// Reads LINES, compares the paths, and splits.
-fn split_files<R: Files + AllocGlobal, O: Write, E: TakesHints>(
+fn split_files<R: Files + AllocGlobal, O: Write, E: HintSink>(
     rt: &R,
     words: &SplitWords<'_>,
     out: &mut O,
@@ -107,7 +107,7 @@ fn split_files<R: Files + AllocGlobal, O: Write, E: TakesHints>(
 }
 
 /// `bpftap split`: LINES is accepted and the paths are compared before a capture is opened.
-pub fn split_command<R: Files + AllocGlobal, O: Write, E: TakesHints>(
+pub fn split_command<R: Files + AllocGlobal, O: Write, E: HintSink>(
     rt: &R,
     words: &SplitWords<'_>,
     out: &mut O,

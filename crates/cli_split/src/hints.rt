@@ -3,30 +3,30 @@
 use crate::part::PartEnd;
 use crate::plan::SplitLine;
 use crate::split::{SplitEnd, Stop};
-use cli_report::TakesHints;
+use cli_report::HintSink;
 use cli_report::failures::{hint_failure, hint_source};
-use cli_report::noted::{NotedInput, NotedOutput};
+use cli_report::probe::{ProbedInput, ProbedOutput};
 use cli_report::stream::give_hint;
-use cli_text::telling::Path;
+use cli_text::report::EscapedPath;
 use std::io::Write;
 
 /// Hints on a capture that was not written.
-fn hint_part<W: Write + Drop, E: TakesHints>(
+fn hint_part<W: Write + Drop, E: HintSink>(
     line: &SplitLine<'_>,
-    part: &PartEnd<NotedOutput<W>>,
+    part: &PartEnd<ProbedOutput<W>>,
     err: &mut E,
 ) {
     if part.written.is_err() {
-        give_hint(format_args!("{}:", Path(line.output)), err);
+        give_hint(format_args!("{}:", EscapedPath(line.output)), err);
         hint_failure(part.sink.inner.get_ref(), err);
     }
 }
 
 /// Hints on the captures that were not written, and on the one that ended the reading.
-pub(crate) fn hint_split<R, W: Write + Drop, E: TakesHints>(
+pub(crate) fn hint_split<R, W: Write + Drop, E: HintSink>(
     inputs: &[&str],
     lines: &[SplitLine<'_>],
-    end: &SplitEnd<NotedInput<R>, NotedOutput<W>>,
+    end: &SplitEnd<ProbedInput<R>, ProbedOutput<W>>,
     err: &mut E,
 ) {
     for (line, part) in lines.iter().zip(end.parts.iter()) {

@@ -11,7 +11,7 @@ ghost use Rattle.cli_split.specs.Writing.{IsLeft};
 ghost use Rattle.cli_split.specs.declared.part.Part.{Part};
 
 use bpfvm::Program;
-use cli_text::meant;
+use cli_text::effective_snaplen;
 use pcap_cut::cut::{Tally, put_accepted};
 use savefile::laws::growing_text;
 use savefile::{Fault, Order, PacketRef, Sink, Unit, Writer};
@@ -58,7 +58,7 @@ fn begin<W: Sink>(part: Part<W>, order: Order, unit: Unit) -> Outlet<W>
         snap,
         sink,
     } = part;
-    let snap = meant(snap);
+    let snap = effective_snaplen(snap);
     let (writer, written) = Writer::open(sink, order, unit, snap);
     Outlet {
         program,

@@ -7,28 +7,28 @@ use cli_args::split::SplitWords;
 use cli_files::captures::buffered;
 use cli_files::late::LateFile;
 use cli_filter::plan_files::check_outputs;
-use cli_report::noted::NotedOutput;
-use cli_report::{Noted, TakesHints};
+use cli_report::probe::ProbedOutput;
+use cli_report::{FailureProbe, HintSink};
 use cli_text::Status;
-use cli_text::telling::tell_fault;
+use cli_text::report::report_fault;
 use savefile::Fault;
 use std::alloc::{AllocError, Global};
 use std::fs::Files;
 use std::io;
 
 /// A capture that is made at its first write.
-pub(crate) type SplitOutput<'r, 'p, R> = NotedOutput<LateFile<'r, 'p, R>>;
+pub(crate) type SplitOutput<'r, 'p, R> = ProbedOutput<LateFile<'r, 'p, R>>;
 
 /// Refuses, with a line on `err`, an OUT by which something would be lost: it is a file that is read, the file of another OUT, or the
 /// one that lines are printed to.
-pub(crate) fn check_paths<R: Files + AllocGlobal, E: TakesHints>(
+pub(crate) fn check_paths<R: Files + AllocGlobal, E: HintSink>(
     rt: &R,
     words: &SplitWords<'_>,
     lines: &[SplitLine<'_>],
     err: &mut E,
 ) -> Result<(), Status> {
     let Ok(read) = read_paths(rt.alloc(), words) else {
-        return Err(tell_fault(Fault::NoMemory, Status::Refused, err));
+        return Err(report_fault(Fault::NoMemory, Status::Refused, err));
     };
     check_outputs(rt, read.as_slice(), lines, err)
 }
@@ -50,7 +50,7 @@ pub(crate) fn parts<'r, 'p, R: Files>(
 ) -> io::Result<Vec<Part<SplitOutput<'r, 'p, R>>>> {
     let mut parts = Vec::with_capacity(alloc, lines.len())?;
     for (line, program) in lines.iter().zip(programs) {
-        let output = Noted::new(LateFile::new(rt, line.output));
+        let output = FailureProbe::new(LateFile::new(rt, line.output));
         parts.push(Part {
             program,
             snap: line.snap,

@@ -10,8 +10,8 @@ ghost use Rattle.cli_split.specs.Statuses.{ReportsSplit, parts_status, split_sta
 use crate::part::PartEnd;
 use crate::plan::SplitLine;
 use crate::split::{SplitEnd, Stop};
+use cli_text::report::{fault_status, print_status, report_device, report_fault, report_output};
 use cli_text::sending::send;
-use cli_text::telling::{fault_status, print_status, tell_device, tell_fault, tell_output};
 use cli_text::{CaptureFaultText, Line, Status};
 use pcap_cut::cut::Tally;
 use savefile::Fault;
@@ -99,8 +99,8 @@ fn report_part<W, E: Write>(output: &str, part: &PartEnd<W>, err: &mut E) -> Sta
 {
     match part.written {
         Ok(()) => Status::Clean,
-        Err(Fault::Device) => tell_device(output, err),
-        Err(fault) => tell_fault(fault, fault_status(fault), err),
+        Err(Fault::Device) => report_device(output, err),
+        Err(fault) => report_fault(fault, fault_status(fault), err),
     }
 }
 
@@ -121,7 +121,7 @@ fn report_stop<E: Write>(end: Result<(), Stop>, err: &mut E) -> Status
 {
     match end {
         Ok(()) => Status::Clean,
-        Err(Stop::AtHeader(n, fault) | Stop::AtRecord(n, fault)) => tell_fault(
+        Err(Stop::AtHeader(n, fault) | Stop::AtRecord(n, fault)) => report_fault(
             format_args!("Capture {n} {}", CaptureFaultText(fault)),
             fault_status(fault),
             err,
@@ -145,7 +145,7 @@ pub fn report_split<R, W, O: Write, E: Write>(
     ensures { ReportsSplit lines.now end.now (O.contents out.old) (O.contents out.new) result }
 {
     let printed = print_split(lines, end, out);
-    let _ = tell_output(&printed, err);
+    let _ = report_output(&printed, err);
     let parts = report_parts(lines, end.parts.as_slice(), err);
     let stop = report_stop(end.end, err);
     print_status(&printed).max(parts.max(stop))

@@ -6,7 +6,7 @@ use Rattle.std.proofs.KnownBytes.{Appends-trans}
 use Rattle.std.proofs.lemmas.List.{append-nil, drop_all}
 use Rattle.std.proofs.lemmas.Option.{slice_get_read, slice_get_past}
 use Rattle.std.specs.Io.KnownBytes.{Appends}
-use Rattle.tap_steps.specs.declared.playlist.Placed.{Placed}
+use Rattle.tap_steps.specs.declared.playlist.PlacedPacket.{PlacedPacket}
 use Rattle.tap_steps.specs.declared.step.Step.{Step}
 use Rattle.cli_text.specs.Sending.{TakesPart}
 use Rattle.cli_text.proofs.Taking.{TakesPart-more, TakesPart-then}
@@ -52,7 +52,7 @@ takes_more a b c whole text later far taken =
     (far.0 ++ text, Appends-trans a b c far.0 text far.1 taken, far.2 ∙ sym (append_assoc far.0 text later))
 
 -- what is left before the step at this place
-module _ (a b c : Option (List ℕ)) (whole : List ℕ) (i n : ℕ) (step : Step) (steps : List Step) (packets : List Placed) (xs : List Cursor)
+module _ (a b c : Option (List ℕ)) (whole : List ℕ) (i n : ℕ) (step : Step) (steps : List Step) (packets : List PlacedPacket) (xs : List Cursor)
     (next : n ≡ suc i) (inside : i < length steps) (is : step ≡ get_or steps i step) (far : IsSoFar a b whole (answers_from (suc i) (drop i steps) packets xs)) where
   opened : IsSoFar a b whole (step_text n step packets xs ++ answers_from (suc n) (drop n steps) (packets_after step packets) (cursors_after n step packets xs))
   opened =
@@ -64,15 +64,15 @@ module _ (a b c : Option (List ℕ)) (whole : List ℕ) (i n : ℕ) (step : Step
   pub step_fails : TakesPart b c (step_text n step packets xs) → TakesPart a c whole
   step_fails part = takes_part a b c whole (step_text n step packets xs) _ opened part
 
-  pub step_done : (later : List Placed) (ys : List Cursor) → later ≡ packets_after step packets → ys ≡ cursors_after n step packets xs → Appends b c (step_text n step packets xs) →
+  pub step_done : (later : List PlacedPacket) (ys : List Cursor) → later ≡ packets_after step packets → ys ≡ cursors_after n step packets xs → Appends b c (step_text n step packets xs) →
       IsSoFar a c whole (answers_from (suc n) (drop n steps) later ys)
   step_done later ys passed gone taken =
       let more = takes_more a b c whole (step_text n step packets xs) _ opened taken in
-      subst (λ (ps : List Placed). IsSoFar a c whole (answers_from (suc n) (drop n steps) ps ys)) (sym passed)
+      subst (λ (ps : List PlacedPacket). IsSoFar a c whole (answers_from (suc n) (drop n steps) ps ys)) (sym passed)
       (subst (λ (zs : List Cursor). IsSoFar a c whole (answers_from (suc n) (drop n steps) (packets_after step packets) zs)) (sym gone) more)
 
 -- where no step is left, all was taken
-pub all_done : (a b : Option (List ℕ)) (whole : List ℕ) (i : ℕ) (steps : List Step) (packets : List Placed) (xs : List Cursor) →
+pub all_done : (a b : Option (List ℕ)) (whole : List ℕ) (i : ℕ) (steps : List Step) (packets : List PlacedPacket) (xs : List Cursor) →
     length steps ≤ i → IsSoFar a b whole (answers_from (suc i) (drop i steps) packets xs) → Appends a b whole
 all_done a b whole i steps packets xs past far =
     let none : drop i steps ≡ [] = drop_all i steps past in

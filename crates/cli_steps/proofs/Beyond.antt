@@ -6,7 +6,7 @@ use Rattle.tap.specs.declared.fault.Fault.TheVariants.{TooMany, NoListener, Capt
 use Rattle.tap_steps.specs.declared.filters.Spec.{Spec}
 use Rattle.tap_steps.specs.declared.step.Step.{Step}
 use Rattle.tap.specs.Refusals.{AreTooMany, IsFirst}
-use Rattle.cli_text.specs.declared.telling.Outcome.{Outcome}
+use Rattle.cli_text.specs.declared.report.Outcome.{Outcome}
 use Rattle.cli_text.specs.Sending.{Streams}
 use Rattle.cli_steps.specs.Playing.{Plays}
 

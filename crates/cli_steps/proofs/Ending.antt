@@ -3,14 +3,14 @@ use Rattle.std.proofs.Common.{◌≡◌, ℕ, inl, inr, Bool, true, false, List,
 use Rattle.std.specs.Prelude.{Vec}
 use Rattle.std.specs.declared.alloc.Global.{Global}
 use Rattle.savefile.specs.declared.fault.Fault.{Fault as RecordFault}
-use Rattle.cli_text.specs.declared.telling.Outcome.{Outcome}
+use Rattle.cli_text.specs.declared.report.Outcome.{Outcome}
 use Rattle.cli_text.specs.Sending.{Takes, Streams}
 use Rattle.cli_text.specs.Status.{greater}
 use Rattle.cli_text.specs.Telling.{print_status_of}
 use Rattle.tap_steps.specs.declared.answer.Answered.{Answered}
 use Rattle.tap_steps.specs.declared.filters.Spec.{Spec}
 use Rattle.tap_steps.specs.declared.step.Step.{Step}
-use Rattle.tap_steps.specs.declared.playlist.Placed.{Placed}
+use Rattle.tap_steps.specs.declared.playlist.PlacedPacket.{PlacedPacket}
 use Rattle.tap_steps.specs.declared.report.Report.{Report}
 use Rattle.tap_steps.specs.declared.report.Trace.{Trace}
 use Rattle.tap.specs.declared.fault.Fault.{Fault}
@@ -39,7 +39,7 @@ print-status : {A E : Type 0} (old new : Option (List ℕ)) (text : List ℕ) (r
 print-status old new text (Ok x) taken = inl (refl, taken)
 print-status old new text (Err e) taken = inr (refl, taken)
 
-pub Reported-of : {A E : Type 0} (explained : Bool) (captures : List (List ℕ)) (specs : List Spec) (steps : List Step) (old new : Streams) (outcome : Outcome) (reports : List Report) (record_fault : Option (ℕ × RecordFault)) (playlist : List Placed) (r : Result A E)
+pub Reported-of : {A E : Type 0} (explained : Bool) (captures : List (List ℕ)) (specs : List Spec) (steps : List Step) (old new : Streams) (outcome : Outcome) (reports : List Report) (record_fault : Option (ℕ × RecordFault)) (playlist : List PlacedPacket) (r : Result A E)
     (text : List ℕ) → NoneStands captures specs steps → Replays captures specs steps playlist record_fault reports → IsAnswersText explained captures specs steps playlist record_fault text →
     Takes old.out new.out r (text ++ printed_reports reports) →
     Takes old.err new.err outcome.told (failed_output_line (print_status_of r) ++ record_fault_line record_fault) → outcome.status ≡ greater (print_status_of r) (record_fault_status record_fault) →

@@ -3,7 +3,7 @@ use Rattle.std.proofs.Common.{◌≡◌, ℕ, List, ◌∷◌, ◌++◌, codes, 
 use Rattle.std.specs.Fmt.{decimal}
 use Rattle.cli_text.specs.Telling.{end_of_line}
 use Rattle.tap_steps.specs.declared.answer.Answered.{Answered}
-use Rattle.tap_steps.specs.declared.playlist.Placed.{Placed}
+use Rattle.tap_steps.specs.declared.playlist.PlacedPacket.{PlacedPacket}
 use Rattle.cli_steps.specs.Reasons.{state_before, reason, answer_line}
 use Rattle.cli_steps.specs.Rejections.{rejection}
 use Rattle.cli_steps.specs.Answers.{Cursor, first_line, next_line, first_arrived, arrived_line}
@@ -24,7 +24,7 @@ arrived l why behind old mid new first more ends =
     (more ∙ ap (λ (t : List ℕ). t ++ behind) first ∙ append_assoc (codes "  listener " ++ decimal l ++ codes " ") why behind)
 
 -- the same of what a listener has left, which is seen as x
-pub next_arrived : (p : Placed) (l : ℕ) (inside x : Cursor) (a : Answered) (later : List Answered) (old mid new : List ℕ) → inside ≡ x → inside.answers ≡ a ∷ later →
+pub next_arrived : (p : PlacedPacket) (l : ℕ) (inside x : Cursor) (a : Answered) (later : List Answered) (old mid new : List ℕ) → inside ≡ x → inside.answers ≡ a ∷ later →
     old ≡ codes "  listener " ++ decimal l ++ codes " " ++ reason (state_before a x.held_since x.capacity) a.size a.answer →
     mid ≡ old ++ rejection p inside.expr a.answer → new ≡ mid ++ end_of_line → new ≡ arrived_line p l x
 next_arrived p l inside x a later old mid new seen cut first more ends =

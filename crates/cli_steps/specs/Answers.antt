@@ -8,7 +8,7 @@ use Rattle.tap_steps.specs.declared.answer.Answer.{Answer}
 use Rattle.tap_steps.specs.declared.answer.Answer.TheVariants.{Arrived, Flushed}
 use Rattle.tap_steps.specs.declared.answer.Answered.{Answered}
 use Rattle.tap_steps.specs.declared.filters.Spec.{Spec}
-use Rattle.tap_steps.specs.declared.playlist.Placed.{Placed}
+use Rattle.tap_steps.specs.declared.playlist.PlacedPacket.{PlacedPacket}
 use Rattle.tap_steps.specs.declared.step.Step.{Step}
 use Rattle.tap_steps.specs.declared.step.Step.TheVariants.{Arrive, Flush, Read, Close}
 use Rattle.tap.specs.Filters.{AreExpressionsOf}
@@ -45,12 +45,12 @@ abbrev pub next_line : ℕ → Cursor → List ℕ
 next_line l x = first_line l x.capacity x.held_since x.answers
 
 -- the line of the answer to this packet: after it follows why an expression rejects the packet
-abbrev pub first_arrived : Placed → ℕ → Option Expr → ℕ → ℕ → List Answered → List ℕ
+abbrev pub first_arrived : PlacedPacket → ℕ → Option Expr → ℕ → ℕ → List Answered → List ℕ
 first_arrived p l expr capacity held_since [] = []
 first_arrived p l expr capacity held_since (a ∷ later) =
     answer_line l (reason (state_before a held_since capacity) a.size a.answer ++ rejection p expr a.answer)
 
-abbrev pub arrived_line : Placed → ℕ → Cursor → List ℕ
+abbrev pub arrived_line : PlacedPacket → ℕ → Cursor → List ℕ
 arrived_line p l x = first_arrived p l x.expr x.capacity x.held_since x.answers
 
 -- the step that made the store the hold last, after the first of these answers, which is that to the n-th step
@@ -75,12 +75,12 @@ abbrev pub line_at : ℕ → List Cursor → List ℕ
 line_at l xs = line_of l (slice_get xs l)
 
 -- `capture C place P time S.NNNNNNNNN len W`
-unfoldable pub placed_text : Placed → List ℕ
+unfoldable pub placed_text : PlacedPacket → List ℕ
 placed_text p = codes "capture " ++ decimal p.capture ++ codes " place " ++ decimal p.place
     ++ codes " time " ++ decimal p.packet.sec ++ codes "." ++ nine_digits p.packet.nanos ++ codes " len " ++ decimal p.packet.len
 
 -- `step N arrive PACKET`
-abbrev pub arrival_line : ℕ → Placed → List ℕ
+abbrev pub arrival_line : ℕ → PlacedPacket → List ℕ
 arrival_line n p = codes "step " ++ decimal n ++ codes " arrive " ++ placed_text p ++ end_of_line
 
 -- `step N TEXT`
@@ -96,7 +96,7 @@ abbrev pub own_line : ℕ → List ℕ → ℕ → List ℕ
 own_line n word l = codes "step " ++ decimal n ++ codes " " ++ word ++ codes " " ++ decimal l ++ end_of_line
 
 -- the n-th step, and what the listeners that it reaches answer: an arrival reaches all, where a packet is left, which it takes
-abbrev pub step_text : ℕ → Step → List Placed → List Cursor → List ℕ
+abbrev pub step_text : ℕ → Step → List PlacedPacket → List Cursor → List ℕ
 step_text n Arrive [] xs = no_packet_line n
 step_text n Arrive (p ∷ packets) xs = arrival_line n p ++ numbered (arrived_line p) 0 xs
 step_text n (Flush l) packets xs = own_line n (codes "flush") l ++ line_at l xs
@@ -104,14 +104,14 @@ step_text n (Read l) packets xs = own_line n (codes "read") l ++ line_at l xs
 step_text n (Close l) packets xs = own_line n (codes "close") l ++ line_at l xs
 
 -- the packets that are left after a step
-abbrev pub packets_after : Step → List Placed → List Placed
+abbrev pub packets_after : Step → List PlacedPacket → List PlacedPacket
 packets_after Arrive packets = drop 1 packets
 packets_after (Flush l) packets = packets
 packets_after (Read l) packets = packets
 packets_after (Close l) packets = packets
 
 -- what is left of the answers after the n-th step
-abbrev pub cursors_after : ℕ → Step → List Placed → List Cursor → List Cursor
+abbrev pub cursors_after : ℕ → Step → List PlacedPacket → List Cursor → List Cursor
 cursors_after n Arrive [] xs = xs
 cursors_after n Arrive (p ∷ packets) xs = map (advanced n) xs
 cursors_after n (Flush l) packets xs = one_advanced n l xs
@@ -119,7 +119,7 @@ cursors_after n (Read l) packets xs = one_advanced n l xs
 cursors_after n (Close l) packets xs = one_advanced n l xs
 
 -- these steps, of which the first is the n-th
-abbrev pub answers_from : ℕ → List Step → List Placed → List Cursor → List ℕ
+abbrev pub answers_from : ℕ → List Step → List PlacedPacket → List Cursor → List ℕ
 answers_from n [] packets xs = []
 answers_from n (step ∷ steps) packets xs =
     step_text n step packets xs ++ answers_from (suc n) steps (packets_after step packets) (cursors_after n step packets xs)
@@ -130,7 +130,7 @@ cursors_of (spec ∷ specs) (expr ∷ expressions) (own ∷ answers) = cursor ex
 cursors_of specs expressions answers = []
 
 -- What is printed of the answers to all steps, which are counted from 1, as the lines of SCRIPT.
-pub record ArePrintedAnswers (specs : List Spec) (steps : List Step) (playlist : List Placed) (answers : List (List Answered)) (text : List ℕ) : Type 0 where
+pub record ArePrintedAnswers (specs : List Spec) (steps : List Step) (playlist : List PlacedPacket) (answers : List (List Answered)) (text : List ℕ) : Type 0 where
   pub expressions : List (Option Expr)
   pub read : AreExpressionsOf specs expressions
   pub is : text ≡ answers_from 1 steps playlist (cursors_of specs expressions answers)

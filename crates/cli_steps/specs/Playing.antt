@@ -7,7 +7,7 @@ use Rattle.tap.specs.declared.fault.Fault.TheVariants.{Capture}
 use Rattle.tap_steps.specs.declared.answer.Answered.{Answered}
 use Rattle.tap_steps.specs.declared.filters.Spec.{Spec}
 use Rattle.tap_steps.specs.declared.step.Step.{Step}
-use Rattle.tap_steps.specs.declared.playlist.Placed.{Placed}
+use Rattle.tap_steps.specs.declared.playlist.PlacedPacket.{PlacedPacket}
 use Rattle.tap_steps.specs.declared.report.Report.{Report}
 use Rattle.tap_steps.specs.declared.report.Trace.{Trace}
 use Rattle.tap.specs.Answers.{Traces}
@@ -16,7 +16,7 @@ use Rattle.tap.specs.Headline.{Replays}
 use Rattle.tap.specs.Refusals.{IsFirst, NoneStands}
 use Rattle.cli_text.specs.declared.status.Status.{Status}
 use Rattle.cli_text.specs.declared.status.Status.TheVariants as status
-use Rattle.cli_text.specs.declared.telling.Outcome.{Outcome}
+use Rattle.cli_text.specs.declared.report.Outcome.{Outcome}
 use Rattle.cli_text.specs.Status.{greater}
 use Rattle.cli_text.specs.Sending.{Takes, TakesPart, Streams}
 use Rattle.cli_text.specs.Telling.{told_line}
@@ -48,7 +48,7 @@ record_fault_line (Some record_fault) = told_line (fault_text (Capture record_fa
 
 -- What is printed before the reports: if answers are explained, the legal answers of all listeners over this playlist, each with its
 -- reason, and else nothing.
-abbrev pub IsAnswersText : Bool → List (List ℕ) → List Spec → List Step → List Placed → Option (ℕ × RecordFault) → List ℕ → Type 0
+abbrev pub IsAnswersText : Bool → List (List ℕ) → List Spec → List Step → List PlacedPacket → Option (ℕ × RecordFault) → List ℕ → Type 0
 IsAnswersText true captures specs steps playlist record_fault text =
     (answers : List (List Answered)) × Traces captures specs steps playlist record_fault answers
     × ArePrintedAnswers specs steps playlist answers text
@@ -58,7 +58,7 @@ IsAnswersText false captures specs steps playlist record_fault text = text ≡ [
 -- if these are explained; the record fault was reported; the status is the greatest that applies.
 pub record Reported (explained : Bool) (captures : List (List ℕ)) (specs : List Spec) (steps : List Step) (old new : Streams) (outcome : Outcome)
     (reports : List Report) (record_fault : Option (ℕ × RecordFault)) : Type 0 where
-  pub playlist : List Placed
+  pub playlist : List PlacedPacket
   pub replays : Replays captures specs steps playlist record_fault reports
   pub none_stands : NoneStands captures specs steps
   pub answers_text : List ℕ

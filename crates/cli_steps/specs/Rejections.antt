@@ -7,10 +7,10 @@ use Rattle.filter_explain.specs.Deciding.{decision_text}
 use Rattle.listener.specs.declared.answer.Fed.TheVariants.{Passed}
 use Rattle.tap_steps.specs.declared.answer.Answer.{Answer}
 use Rattle.tap_steps.specs.declared.answer.Answer.TheVariants.{Arrived}
-use Rattle.tap_steps.specs.declared.playlist.Placed.{Placed}
+use Rattle.tap_steps.specs.declared.playlist.PlacedPacket.{PlacedPacket}
 
 -- `: VERDICT PART`: of a filter that is an expression
-abbrev pub decision_of : Placed → Option Expr → List ℕ
+abbrev pub decision_of : PlacedPacket → Option Expr → List ℕ
 decision_of p None = []
 decision_of p (Some expr) = codes ": " ++ decision_text (tree_of expr) (packet_of p.packet.bytes p.packet.len)
 
@@ -20,5 +20,5 @@ rejects (Arrived Passed) = true
 rejects other = false
 
 -- what stands behind the answer to this packet: why it was rejected
-abbrev pub rejection : Placed → Option Expr → Answer → List ℕ
+abbrev pub rejection : PlacedPacket → Option Expr → Answer → List ℕ
 rejection p expr answer = if rejects answer then decision_of p expr else []

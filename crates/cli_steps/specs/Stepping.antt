@@ -7,7 +7,7 @@ use Rattle.cli_text.specs.declared.fault.LineFault.{LineFault}
 use Rattle.cli_text.specs.declared.fault.LineFault.TheVariants.{Listeners, Script, NoMemory}
 use Rattle.cli_text.specs.Files.{IsFileOf, IsFirstBad}
 use Rattle.cli_text.specs.declared.status.Status.TheVariants as status
-use Rattle.cli_text.specs.declared.telling.Outcome.{Outcome}
+use Rattle.cli_text.specs.declared.report.Outcome.{Outcome}
 use Rattle.cli_text.specs.Status.{code}
 use Rattle.cli_text.specs.Sending.{Takes, Streams}
 use Rattle.cli_text.specs.Telling.{told_line, line_fault_text}

@@ -1,6 +1,6 @@
 -- What `bpftap steps` reports of what was played.
 use Rattle.std.specs.Prelude.{◌≡◌, ◌⊎◌, Bool, List, ℕ, [], ◌++◌, Option, Some, Result, IsOk, OnOk, codes}
-use Rattle.cli_text.specs.declared.telling.Outcome.{Outcome}
+use Rattle.cli_text.specs.declared.report.Outcome.{Outcome}
 use Rattle.cli_text.specs.Sending.{Takes, streams}
 use Rattle.cli_text.specs.Telling.{told_line}
 use Rattle.cli_steps.specs.declared.steps.Replayed.{Replayed}

@@ -20,7 +20,7 @@ use std::fmt::{Display, Formatter};
 use std::io::Write;
 use std::marker::Model;
 use std::{fmt, io};
-use tap_steps::{Answer, Answered, Placed, Spec, Step};
+use tap_steps::{Answer, Answered, PlacedPacket, Spec, Step};
 
 /// The bytes that a line has room for, beside what decides of a rejected packet.
 const LINE_ROOM: usize = 512;
@@ -124,7 +124,7 @@ impl<'a> AnswerCursor<'a> {
     fn write_arrived<O: Write>(
         &self,
         l: usize,
-        placed: &Placed,
+        placed: &PlacedPacket,
         line: &mut String,
         out: &mut O,
     ) -> io::Result<()>
@@ -190,7 +190,7 @@ pub fn line_for(alloc: Global, all: &[AnswerCursor<'_>]) -> Result<String, Alloc
 
 /// Writes the next answer of each listener, to this packet.
 fn write_all<O: Write>(
-    placed: &Placed,
+    placed: &PlacedPacket,
     all: &[AnswerCursor<'_>],
     line: &mut String,
     out: &mut O,
@@ -239,13 +239,13 @@ fn advance_one(all: &mut Vec<AnswerCursor<'_>>, n: usize, l: usize)
 
 /// A packet that arrives.
 #[derive(Clone, Copy)]
-struct Arriving<'a>(&'a Placed);
+struct Arriving<'a>(&'a PlacedPacket);
 
 impl Display for Arriving<'_> {
     ghost output = { λ arriving. Some (placed_text arriving.0.now) };
 
     fn fmt<W: fmt::Write>(&self, f: &mut Formatter<W>) -> fmt::Result {
-        let Placed {
+        let PlacedPacket {
             capture,
             place,
             packet,
@@ -261,7 +261,7 @@ impl Display for Arriving<'_> {
 }
 
 /// Puts the line of the n-th step, an arrival that takes this packet, in place of what the line has.
-fn put_arrival(line: &mut String, n: usize, placed: &Placed) -> Result<(), AllocError>
+fn put_arrival(line: &mut String, n: usize, placed: &PlacedPacket) -> Result<(), AllocError>
     ensures { OnOk result (string_bytes line.new ≡ arrival_line n placed.now) }
 {
     line.clear();
@@ -271,7 +271,7 @@ fn put_arrival(line: &mut String, n: usize, placed: &Placed) -> Result<(), Alloc
 /// Writes the n-th step, an arrival that takes this packet, and all answers to it.
 fn write_arrival<O: Write>(
     n: usize,
-    placed: &Placed,
+    placed: &PlacedPacket,
     all: &[AnswerCursor<'_>],
     line: &mut String,
     out: &mut O,
@@ -343,7 +343,7 @@ fn write_own<O: Write>(
 /// Writes the n-th step, an arrival, and all answers to it, and goes over these. Where no packet is left there are none.
 fn write_arrive<O: Write>(
     n: usize,
-    packets: &[Placed],
+    packets: &[PlacedPacket],
     all: &mut Vec<AnswerCursor<'_>>,
     line: &mut String,
     out: &mut O,
@@ -363,7 +363,7 @@ fn write_arrive<O: Write>(
 fn write_step<O: Write>(
     n: usize,
     step: Step,
-    packets: &[Placed],
+    packets: &[PlacedPacket],
     all: &mut Vec<AnswerCursor<'_>>,
     line: &mut String,
     out: &mut O,
@@ -380,7 +380,7 @@ fn write_step<O: Write>(
 }
 
 /// The packets that are left after a step.
-fn packets_after(step: Step, packets: &[Placed]) -> &[Placed]
+fn packets_after(step: Step, packets: &[PlacedPacket]) -> &[PlacedPacket]
     ensures { result.now ≡ packets_after step packets.now }
 {
     match step {
@@ -401,7 +401,7 @@ fn packets_after(step: Step, packets: &[Placed]) -> &[Placed]
 /// Where it fails, `out` took a beginning of the text and no more.
 pub fn write_answers<O: Write>(
     steps: &[Step],
-    playlist: &[Placed],
+    playlist: &[PlacedPacket],
     all: &mut Vec<AnswerCursor<'_>>,
     line: &mut String,
     out: &mut O,

@@ -14,10 +14,10 @@ use cli_args::steps::StepsWords;
 use cli_files::piped::Piped;
 use cli_files::reading::read_file;
 use cli_report::failures::hint_output;
-use cli_report::{Noted, TakesHints};
+use cli_report::{FailureProbe, HintSink};
 use cli_text::Status;
+use cli_text::report::{Outcome, report_fault, report_line};
 use cli_text::sending::send;
-use cli_text::telling::{Outcome, tell_fault, tell_line};
 use savefile::Fault;
 use std::alloc::{AllocError, Global};
 use std::fs::Files;
@@ -46,7 +46,7 @@ fn omit_unread_output(report: &[u8], is_unread: bool) -> &[u8]
 /// Plays a plan, and prints by pieces. That nobody reads what is printed any more is not reported.
 ///
 /// If no hints are wanted, standard error took what [`play_plan`] reports, but for that.
-pub fn play<O: Write, E: TakesHints>(
+pub fn play<O: Write, E: HintSink>(
     alloc: Global,
     plan: &StepsPlan,
     captures: &[&[u8]],
@@ -58,14 +58,14 @@ pub fn play<O: Write, E: TakesHints>(
         (map (λ c. c.now) captures.now) plan.now.specs.items plan.now.steps.items (E.contents err.old) (E.contents err.new) result.0 result.1 }
 {
     let hinted = err.takes_hints();
-    let mut noted = Noted::new(Piped::new(out));
+    let mut noted = FailureProbe::new(Piped::new(out));
     let (Ok(mut report), Ok(mut printed)) = (
         Vec::with_capacity(alloc, REPORT),
         BufWriter::with_capacity(alloc, OUTPUT_BUFFER, &mut noted),
     ) else {
         let outcome = Outcome {
             status: Status::Refused,
-            told: tell_line(FaultText(tap::Fault::NoMemory), err),
+            told: report_line(FaultText(tap::Fault::NoMemory), err),
         };
         return (outcome, Err(tap::Fault::NoMemory));
     };
@@ -86,7 +86,7 @@ pub fn play<O: Write, E: TakesHints>(
 }
 
 /// Reads the plan, and reports the first bad line. `Err` is the exit status then.
-fn read_lines<E: TakesHints>(
+fn read_lines<E: HintSink>(
     alloc: Global,
     listeners: &[u8],
     script: &[u8],
@@ -95,7 +95,7 @@ fn read_lines<E: TakesHints>(
     match read_plan(alloc, listeners, script) {
         Ok(plan) => Ok(plan),
         Err(fault) => {
-            let _ = tell_line(fault, err);
+            let _ = report_line(fault, err);
             hint_line(listeners, script, fault, err);
             Err(Status::Refused)
         }
@@ -116,7 +116,7 @@ fn detail_of(words: &StepsWords<'_>) -> Detail {
 }
 
 /// Draws the picture of a replay, if it is wanted, and returns the exit status.
-fn draw_wanted<R: Files + AllocGlobal, E: TakesHints>(
+fn draw_wanted<R: Files + AllocGlobal, E: HintSink>(
     rt: &R,
     words: &StepsWords<'_>,
     plan: &StepsPlan,
@@ -146,7 +146,7 @@ struct Job {
 }
 
 /// Reads LISTENERS and SCRIPT, checks the paths, and reads the captures, in this order.
-fn prepare<R: Files + AllocGlobal, E: TakesHints>(
+fn prepare<R: Files + AllocGlobal, E: HintSink>(
     rt: &R,
     words: &StepsWords<'_>,
     err: &mut E,
@@ -164,7 +164,7 @@ fn prepare<R: Files + AllocGlobal, E: TakesHints>(
 }
 
 /// Plays the plan over the captures, reports how that ended, and draws the picture.
-fn play_and_report<R: Files + AllocGlobal, O: Write, E: TakesHints>(
+fn play_and_report<R: Files + AllocGlobal, O: Write, E: HintSink>(
     rt: &R,
     words: &StepsWords<'_>,
     job: &Job,
@@ -177,7 +177,7 @@ fn play_and_report<R: Files + AllocGlobal, O: Write, E: TakesHints>(
         texts,
     } = job;
     let Ok(captures) = borrow_all(rt.alloc(), texts.as_slice()) else {
-        return tell_fault(Fault::NoMemory, Status::Refused, err);
+        return report_fault(Fault::NoMemory, Status::Refused, err);
     };
     let captures = captures.as_slice();
     let (outcome, replayed) = play(rt.alloc(), plan, captures, detail_of(words), out, err);
@@ -187,7 +187,7 @@ fn play_and_report<R: Files + AllocGlobal, O: Write, E: TakesHints>(
 }
 
 /// `bpftap steps`: LISTENERS and SCRIPT are read, and the paths are compared, before a capture is read. The script is played once.
-pub fn steps_command<R: Files + AllocGlobal, O: Write, E: TakesHints>(
+pub fn steps_command<R: Files + AllocGlobal, O: Write, E: HintSink>(
     rt: &R,
     words: &StepsWords<'_>,
     out: &mut O,

@@ -3,7 +3,7 @@
 use crate::plan::StepsPlan;
 use crate::steps::Replayed;
 use cli_filter_hints::expressions::{hint_refusal, hint_text_fault};
-use cli_report::TakesHints;
+use cli_report::HintSink;
 use cli_report::captures::hint_capture_fault;
 use cli_report::files::{
     LISTENERS_OF_STEPS, SCRIPT, hint_bad_line, hint_capacity, hint_no_listener,
@@ -14,7 +14,7 @@ use savefile::Fault;
 use tap::{Filter, Spec};
 
 /// Hints on a line of LISTENERS or SCRIPT that is refused.
-pub fn hint_line<E: TakesHints>(listeners: &[u8], script: &[u8], fault: LineFault, err: &mut E) {
+pub fn hint_line<E: HintSink>(listeners: &[u8], script: &[u8], fault: LineFault, err: &mut E) {
     match fault {
         LineFault::Listeners(line) => hint_bad_line(listeners, line, LISTENERS_OF_STEPS, err),
         LineFault::Script(line) => hint_bad_line(script, line, SCRIPT, err),
@@ -23,7 +23,7 @@ pub fn hint_line<E: TakesHints>(listeners: &[u8], script: &[u8], fault: LineFaul
 }
 
 /// Hints on a listener that is refused.
-fn hint_listener<E: TakesHints>(spec: &Spec, fault: tap::Fault, err: &mut E) {
+fn hint_listener<E: HintSink>(spec: &Spec, fault: tap::Fault, err: &mut E) {
     match (fault, &spec.filter) {
         (tap::Fault::Expression(_, fault), Filter::Text(text)) => {
             hint_text_fault(text.as_str(), fault, err);
@@ -37,13 +37,13 @@ fn hint_listener<E: TakesHints>(spec: &Spec, fault: tap::Fault, err: &mut E) {
 }
 
 /// Hints on a capture that is refused, or that ended with a record fault.
-fn hint_capture<E: TakesHints>(captures: &[&[u8]], capture: u32, fault: Fault, err: &mut E) {
+fn hint_capture<E: HintSink>(captures: &[&[u8]], capture: u32, fault: Fault, err: &mut E) {
     let text = captures.get(capture as usize).copied().unwrap_or(&[]);
     hint_capture_fault(text, fault, err);
 }
 
 /// Hints on why there is no replay.
-fn hint_fault<E: TakesHints>(
+fn hint_fault<E: HintSink>(
     script: &[u8],
     plan: &StepsPlan,
     captures: &[&[u8]],
@@ -63,7 +63,7 @@ fn hint_fault<E: TakesHints>(
 }
 
 /// Hints on why there is no replay, or on the record that a capture ended at.
-pub fn hint_replay<E: TakesHints>(
+pub fn hint_replay<E: HintSink>(
     script: &[u8],
     plan: &StepsPlan,
     captures: &[&[u8]],

@@ -2,11 +2,11 @@
 
 use crate::faults::FaultText;
 use cli_args::steps::StepsWords;
-use cli_files::paths::{STANDARD_OUTPUT, all_apart};
+use cli_files::paths::{STANDARD_OUTPUT, refuse_shared_files};
 use cli_files::reading::read_file;
-use cli_report::TakesHints;
+use cli_report::HintSink;
 use cli_text::Status;
-use cli_text::telling::tell_fault;
+use cli_text::report::report_fault;
 use savefile::Fault;
 use std::alloc::{AllocError, Global};
 use std::fs::Files;
@@ -21,23 +21,23 @@ fn read_paths<'a>(alloc: Global, words: &StepsWords<'a>) -> Result<Vec<&'a str>,
 
 /// Checks the paths before a capture is read. There may not be too many captures, and no file that is read may be the one that the
 /// reports are printed to, or the one that the picture is drawn to. `Err` is the exit status of a fault that was reported.
-pub fn check_paths<R: Files + AllocGlobal, E: TakesHints>(
+pub fn check_paths<R: Files + AllocGlobal, E: HintSink>(
     rt: &R,
     words: &StepsWords<'_>,
     err: &mut E,
 ) -> Result<(), Status> {
     if words.inputs.len() > MAX_CAPTURES {
-        return Err(tell_fault(FaultText(tap::Fault::TooMany), Status::Refused, err));
+        return Err(report_fault(FaultText(tap::Fault::TooMany), Status::Refused, err));
     }
     let Ok(read) = read_paths(rt.alloc(), words) else {
-        return Err(tell_fault(Fault::NoMemory, Status::Refused, err));
+        return Err(report_fault(Fault::NoMemory, Status::Refused, err));
     };
     let picture = words.picture.as_slice();
-    all_apart(rt, Some(STANDARD_OUTPUT), read.as_slice(), picture, err)
+    refuse_shared_files(rt, Some(STANDARD_OUTPUT), read.as_slice(), picture, err)
 }
 
 /// Reads all captures. `Err` is the exit status of a fault that was reported.
-pub fn read_captures<R: Files + AllocGlobal, E: TakesHints>(
+pub fn read_captures<R: Files + AllocGlobal, E: HintSink>(
     rt: &R,
     paths: &[&str],
     err: &mut E,
@@ -46,7 +46,7 @@ pub fn read_captures<R: Files + AllocGlobal, E: TakesHints>(
     for path in paths {
         let text = read_file(rt, path, err)?;
         if texts.push(text).is_err() {
-            return Err(tell_fault(Fault::NoMemory, Status::Refused, err));
+            return Err(report_fault(Fault::NoMemory, Status::Refused, err));
         }
     }
     Ok(texts)

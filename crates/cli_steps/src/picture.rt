@@ -1,10 +1,10 @@
 //! The picture that `bpftap steps -p` draws.
 
 use crate::plan::StepsPlan;
-use cli_files::reading::tell_io;
-use cli_report::TakesHints;
+use cli_files::reading::report_io;
+use cli_report::HintSink;
 use cli_text::Status;
-use cli_text::telling::tell_fault;
+use cli_text::report::report_fault;
 use savefile::Fault;
 use std::fs;
 use std::fs::Files;
@@ -12,7 +12,7 @@ use tap::Trace;
 use tap_picture::write_picture;
 
 /// Draws a replay to a file, and returns the exit status.
-pub fn draw<R: Files + AllocGlobal, E: TakesHints>(
+pub fn draw<R: Files + AllocGlobal, E: HintSink>(
     rt: &R,
     plan: &StepsPlan,
     trace: &Trace,
@@ -22,10 +22,10 @@ pub fn draw<R: Files + AllocGlobal, E: TakesHints>(
     let (specs, steps) = (plan.specs.as_slice(), plan.steps.as_slice());
     let mut picture = Vec::new(rt.alloc());
     if write_picture(specs, steps, trace, &mut picture).is_err() {
-        return tell_fault(Fault::NoMemory, Status::Refused, err);
+        return report_fault(Fault::NoMemory, Status::Refused, err);
     }
     match fs::write(rt, path, picture) {
         Ok(()) => Status::Clean,
-        Err(error) => tell_io(&error, path, err),
+        Err(error) => report_io(&error, path, err),
     }
 }

@@ -10,7 +10,7 @@ use filter_explain::put_decision;
 use filterlang::Expr;
 use listener::Fed;
 use std::alloc::AllocError;
-use tap_steps::{Answer, Placed};
+use tap_steps::{Answer, PlacedPacket};
 
 /// Appends, behind a colon, what an expression answers to a packet, and the primitive or relation that decides.
 fn put_decision_of(
@@ -48,7 +48,7 @@ fn rejects(answer: Answer) -> bool
 /// Appends to the answer to a packet why it was rejected, where an expression did so.
 pub fn put_rejection(
     line: &mut String,
-    placed: &Placed,
+    placed: &PlacedPacket,
     expr: &Option<Expr>,
     answer: Answer,
 ) -> Result<(), AllocError>

@@ -11,8 +11,8 @@ ghost use Rattle.cli_steps.specs.Playing.{record_fault_status, failed_output_lin
 ghost use Rattle.cli_steps.specs.Printed.{message_line, message_lines, batch_lines, batch_line, listener_line, report_lines, printed_reports};
 
 use crate::faults::FaultText;
+use cli_text::report::{Outcome, print_status, report_line};
 use cli_text::sending::send;
-use cli_text::telling::{Outcome, print_status, tell_line};
 use cli_text::time::NineDigits;
 use cli_text::{Line, Status};
 use listener::Message;
@@ -140,7 +140,7 @@ fn report_failed_output<E: Write>(printed: Status, err: &mut E) -> io::Result<()
 {
     match printed {
         Status::Clean => Ok(()),
-        _ => tell_line("Device standard output", err),
+        _ => report_line("Device standard output", err),
     }
 }
 
@@ -152,7 +152,7 @@ fn report_record_fault<E: Write>(
     ensures { Takes (E.contents err.old) (E.contents err.new) result (record_fault_line record_fault) }
 {
     match record_fault {
-        Some((n, fault)) => tell_line(FaultText(Fault::Capture(n, fault)), err),
+        Some((n, fault)) => report_line(FaultText(Fault::Capture(n, fault)), err),
         None => Ok(()),
     }
 }
@@ -193,6 +193,6 @@ pub fn report_refusal<E: Write>(fault: Fault, err: &mut E) -> Outcome
 {
     Outcome {
         status: Status::Refused,
-        told: tell_line(FaultText(fault), err),
+        told: report_line(FaultText(fault), err),
     }
 }

@@ -12,7 +12,7 @@ use crate::answers::{AnswerCursor, answer_cursors, line_for, write_answers};
 use crate::plan::{StepsPlan, read_plan};
 use crate::report::{print_reports, report_end, report_refusal};
 use cli_text::Status;
-use cli_text::telling::{Outcome, tell_line};
+use cli_text::report::{Outcome, report_line};
 use std::alloc::{AllocError, Global};
 use std::io;
 use std::io::Write;
@@ -198,7 +198,7 @@ pub fn steps_told<O: Write, E: Write>(
         Ok(plan) => play_plan(alloc, &plan, captures, Detail::Reports, out, err).0,
         Err(fault) => Outcome {
             status: Status::Refused,
-            told: tell_line(fault, err),
+            told: report_line(fault, err),
         },
     }
 }

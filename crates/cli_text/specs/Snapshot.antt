@@ -3,5 +3,5 @@ use Rattle.std.specs.Prelude.{ℕ, ◌==◌, if◌then◌else◌}
 use Rattle.savefile.specs.declared.record.TheConstants.{MAX_SNAP}
 
 -- the snapshot length that is meant: 0 stands for the largest
-abbrev pub meant : ℕ → ℕ
-meant snap = if snap == 0 then MAX_SNAP else snap
+abbrev pub effective_snaplen : ℕ → ℕ
+effective_snaplen snap = if snap == 0 then MAX_SNAP else snap

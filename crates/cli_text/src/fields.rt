@@ -5,7 +5,7 @@ ghost use Rattle.bpfvm.specs.Listing.{IsNumber, further_lines};
 ghost use Rattle.listener.specs.declared.mode.Mode.{Mode};
 ghost use Rattle.cli_text.specs.Fields.{IsSnap, IsCapacity};
 
-use crate::snapshot::{MAX_SNAP, meant};
+use crate::snapshot::{MAX_SNAP, effective_snaplen};
 use listener::Mode;
 
 /// What stands before the first such byte, and what stands behind it.
@@ -56,7 +56,7 @@ pub fn snapshot_length(text: &[u8]) -> Option<u32>
     ensures none { IfNone result ((snap : ℕ) → IsSnap text.now snap → ⊥) }
 {
     let snap = number(text, u64::from(MAX_SNAP))?;
-    Some(meant(snap as u32))
+    Some(effective_snaplen(snap as u32))
 }
 
 /// A capacity in bytes. Behind its digits an `i` stands for the mode Immediate.

@@ -6,14 +6,14 @@ pub mod capture_fault;
 pub mod fault;
 pub mod fields;
 pub mod line;
+pub mod report;
 pub mod sending;
 pub mod snapshot;
 pub mod status;
-pub mod telling;
 pub mod time;
 
 pub use capture_fault::CaptureFaultText;
 pub use fault::LineFault;
 pub use line::Line;
-pub use snapshot::{MAX_SNAP, meant};
+pub use snapshot::{MAX_SNAP, effective_snaplen};
 pub use status::Status;

@@ -1,13 +1,13 @@
 //! The snapshot length of a command or a line.
 
 ghost use Rattle.std.specs.Prelude.{◌≡◌};
-ghost use Rattle.cli_text.specs.Snapshot.{meant};
+ghost use Rattle.cli_text.specs.Snapshot.{effective_snaplen};
 
 pub use savefile::MAX_SNAP;
 
 /// The snapshot length that is meant: 0 stands for the largest.
-pub fn meant(snap: u32) -> u32
-    ensures { result ≡ meant snap }
+pub fn effective_snaplen(snap: u32) -> u32
+    ensures { result ≡ effective_snaplen snap }
 {
     if snap == 0 { MAX_SNAP } else { snap }
 }

@@ -22,16 +22,16 @@ use Rattle.filter_tree.specs.declared.tree.Transport.{Transport}
 use Rattle.filter_meaning.specs.declared.verdict.Verdict.{Verdict}
 use Rattle.filter_meaning.specs.declared.verdict.Verdict.TheVariants.{Yes, No, Abort}
 use Rattle.filter_meaning.specs.Meaning.{Packet, Test, and_then, or_else, decided, check, byte, half, is_type, is_protocol, is_first_fragment_of, plain_test, by_direction, has_address, in_net, in_any_net, is_address, half_behind_header, within, has_port, has_ports, has_any_ports, protocol_number, arithmetic_of, bytes_of, behind_header, accessed, value, in_layer, in_layers, compared, check_both, address_number}
-use Rattle.filter_explain.specs.declared.cause.Cause.{Cause}
-use Rattle.filter_explain.specs.declared.cause.Cause.TheVariants.{ZeroDivisor}
+use Rattle.filter_explain.specs.declared.cause.AbortCause.{AbortCause}
+use Rattle.filter_explain.specs.declared.cause.AbortCause.TheVariants.{ZeroDivisor}
 use Rattle.filter_explain.specs.Causes.{missing, why_type, why_protocol, why_first, why_plain, directed, why_addresses, why_net, by_verdict, why_any_net, why_port, why_ports, why_layer, why_layers, why_behind_header, why_access, why_operator, why_value}
 use Rattle.filter_explain.specs.Laws.{PrimitivesHaveCauses, RelationsHaveCauses}
 
-or-first : (c d : Option Cause) → IsSome c → IsSome (option_or c d)
+or-first : (c d : Option AbortCause) → IsSome c → IsSome (option_or c d)
 or-first None d some = absurd cc
 or-first (Some x) d some = refl
 
-or-second : (c d : Option Cause) → IsSome d → IsSome (option_or c d)
+or-second : (c d : Option AbortCause) → IsSome d → IsSome (option_or c d)
 or-second None d some = some
 or-second (Some x) d some = refl
 
@@ -41,17 +41,17 @@ decided-answers true abort = cc
 decided-answers false abort = cc
 
 -- `and` and `or` abort where one of both does
-and-some : (v w : Verdict) (c d : Option Cause) → (v ≡ Abort → IsSome c) → (w ≡ Abort → IsSome d) → and_then v w ≡ Abort → IsSome (option_or c d)
+and-some : (v w : Verdict) (c d : Option AbortCause) → (v ≡ Abort → IsSome c) → (w ≡ Abort → IsSome d) → and_then v w ≡ Abort → IsSome (option_or c d)
 and-some Yes w c d first second abort = or-second c d (second abort)
 and-some No w c d first second abort = absurd cc
 and-some Abort w c d first second abort = or-first c d (first refl)
 
-or-some : (v w : Verdict) (c d : Option Cause) → (v ≡ Abort → IsSome c) → (w ≡ Abort → IsSome d) → or_else v w ≡ Abort → IsSome (option_or c d)
+or-some : (v w : Verdict) (c d : Option AbortCause) → (v ≡ Abort → IsSome c) → (w ≡ Abort → IsSome d) → or_else v w ≡ Abort → IsSome (option_or c d)
 or-some Yes w c d first second abort = absurd cc
 or-some No w c d first second abort = or-second c d (second abort)
 or-some Abort w c d first second abort = or-first c d (first refl)
 
-either-some : (v w : Verdict) (c : Option Cause) → (v ≡ Abort → IsSome c) → (w ≡ Abort → IsSome c) → or_else v w ≡ Abort → IsSome c
+either-some : (v w : Verdict) (c : Option AbortCause) → (v ≡ Abort → IsSome c) → (w ≡ Abort → IsSome c) → or_else v w ≡ Abort → IsSome c
 either-some Yes w c first second abort = absurd cc
 either-some No w c first second abort = second abort
 either-some Abort w c first second abort = first refl
@@ -61,7 +61,7 @@ missing-some : (o n : ℕ) (p : Packet) → number_at p.captured o n ≡ None �
 unfolding number_at
 missing-some o n p none = by_test (nat_le (o + n) (length p.captured)) _ _ none
   where
-    by_test : (b : Bool) (x : ℕ) (c : Cause) → (if b then Some x else None) ≡ None → IsSome (if b then None else Some c)
+    by_test : (b : Bool) (x : ℕ) (c : AbortCause) → (if b then Some x else None) ≡ None → IsSome (if b then None else Some c)
     by_test true x c none = absurd cc
     by_test false x c none = refl
 
@@ -73,7 +73,7 @@ checked : (condition : ℕ → Bool) (o n : ℕ) (p : Packet) → check conditio
 checked condition o n p abort = missing-some o n p (check-none condition (number_at p.captured o n) abort)
 
 -- one number behind another one
-then-some : (m : Option ℕ) (f : ℕ → Option ℕ) (c : Option Cause) (g : ℕ → Option Cause) → (m ≡ None → IsSome c) → ((n : ℕ) → f n ≡ None → IsSome (g n)) → option_and_then f m ≡ None → IsSome (option_or c (option_and_then g m))
+then-some : (m : Option ℕ) (f : ℕ → Option ℕ) (c : Option AbortCause) (g : ℕ → Option AbortCause) → (m ≡ None → IsSome c) → ((n : ℕ) → f n ≡ None → IsSome (g n)) → option_and_then f m ≡ None → IsSome (option_or c (option_and_then g m))
 then-some None f c g first second none = or-first c None (first refl)
 then-some (Some n) f c g first second none = or-second c (g n) (second n none)
 
@@ -99,7 +99,7 @@ plain-some words.Tcp p abort = protocol-some 6 p abort
 plain-some words.Udp p abort = protocol-some 17 p abort
 plain-some words.Sctp p abort = protocol-some 132 p abort
 
-directed-some : (direction : Direction) (source destination : Test) (p : Packet) (c d : Option Cause) → (source p ≡ Abort → IsSome c) → (destination p ≡ Abort → IsSome d) → by_direction direction source destination p ≡ Abort → IsSome (directed direction c d)
+directed-some : (direction : Direction) (source destination : Test) (p : Packet) (c d : Option AbortCause) → (source p ≡ Abort → IsSome c) → (destination p ≡ Abort → IsSome d) → by_direction direction source destination p ≡ Abort → IsSome (directed direction c d)
 directed-some Src source destination p c d first second abort = first abort
 directed-some Dst source destination p c d first second abort = second abort
 directed-some SrcOrDst source destination p c d first second abort = or-some (source p) (destination p) c d first second abort
@@ -137,7 +137,7 @@ alone Yes = refl
 alone No = refl
 alone Abort = refl
 
-by-type : (v a r i j k : Verdict) (c d : Option Cause) → (v ≡ Yes → (a ≡ No) × (r ≡ No)) → (and_then v i ≡ Abort → IsSome c) → (and_then a j ≡ Abort → IsSome d) → (and_then r k ≡ Abort → IsSome d) → (v ≡ Abort → IsSome d) → or_else (or_else (and_then v i) (and_then a j)) (and_then r k) ≡ Abort → IsSome (by_verdict v c d)
+by-type : (v a r i j k : Verdict) (c d : Option AbortCause) → (v ≡ Yes → (a ≡ No) × (r ≡ No)) → (and_then v i ≡ Abort → IsSome c) → (and_then a j ≡ Abort → IsSome d) → (and_then r k ≡ Abort → IsSome d) → (v ≡ Abort → IsSome d) → or_else (or_else (and_then v i) (and_then a j)) (and_then r k) ≡ Abort → IsSome (by_verdict v c d)
 by-type Yes a r i j k c d one ip arp rarp type abort =
     let others = one refl in
     ip (sym (alone i) ∙ sym (ap (λ w. or_else (or_else i (and_then w j)) No) others.0) ∙ sym (ap (λ w. or_else (or_else i (and_then a j)) (and_then w k)) others.1) ∙ abort)
@@ -256,7 +256,7 @@ negated-none : (m : Option ℕ) → option_and_then (calculated Subtract 0) m �
 negated-none None none = refl
 negated-none (Some n) none = absurd cc
 
-binary-some : (o : Operator) (m n : Option ℕ) (c d : Option Cause) → (m ≡ None → IsSome c) → (n ≡ None → IsSome d) → option_and_then (λ a. option_and_then (λ b. calculated (arithmetic_of o) a b) n) m ≡ None → IsSome (option_or (option_or c d) (option_and_then (why_operator o) n))
+binary-some : (o : Operator) (m n : Option ℕ) (c d : Option AbortCause) → (m ≡ None → IsSome c) → (n ≡ None → IsSome d) → option_and_then (λ a. option_and_then (λ b. calculated (arithmetic_of o) a b) n) m ≡ None → IsSome (option_or (option_or c d) (option_and_then (why_operator o) n))
 binary-some o None n c d first second none = or-first (option_or c d) (option_and_then (why_operator o) n) (or-first c d (first refl))
 binary-some o (Some a) None c d first second none = or-first (option_or c d) None (or-second c d (second refl))
 binary-some o (Some a) (Some b) c d first second none = or-second (option_or c d) (why_operator o b) (operator-some o a b none)
@@ -271,7 +271,7 @@ value-some (trees.accessor layer v size) p none =
     then-some (value v p) (accessed layer (bytes_of size) p) (why_value v p) (λ i. why_access layer (bytes_of size) i p)
     (value-some v p) (λ i. access-some layer (bytes_of size) i p) none
 
-both-some : (condition : ℕ → ℕ → Bool) (m n : Option ℕ) (c d : Option Cause) → (m ≡ None → IsSome c) → (n ≡ None → IsSome d) → check_both condition m n ≡ Abort → IsSome (option_or c d)
+both-some : (condition : ℕ → ℕ → Bool) (m n : Option ℕ) (c d : Option AbortCause) → (m ≡ None → IsSome c) → (n ≡ None → IsSome d) → check_both condition m n ≡ Abort → IsSome (option_or c d)
 both-some condition None n c d first second abort = or-first c d (first refl)
 both-some condition (Some a) None c d first second abort = or-second c d (second refl)
 both-some condition (Some a) (Some b) c d first second abort = absurd (decided-answers (condition a b) abort)

@@ -5,7 +5,7 @@ use Rattle.std.specs.Prelude.{option_and_then}
 use Rattle.std.specs.Option.{option_or}
 use Rattle.bpfvm.specs.Machine.{big_endian, number_at}
 use Rattle.filter_meaning.specs.Meaning.{Packet, byte}
-use Rattle.filter_explain.specs.declared.cause.Cause.{Cause}
+use Rattle.filter_explain.specs.declared.cause.AbortCause.{AbortCause}
 use Rattle.filter_explain.specs.Causes.{missing}
 
 -- a number that is past the end is none
@@ -26,12 +26,12 @@ missing-none : (o n x : ℕ) (p : Packet) → number_at p.captured o n ≡ Some 
 unfolding number_at
 missing-none o n x p some = by_test (nat_le (o + n) (length p.captured)) _ _ some
   where
-    by_test : (b : Bool) (y : ℕ) (c : Cause) → (if b then Some y else None) ≡ Some x → (if b then None else Some c) ≡ None
+    by_test : (b : Bool) (y : ℕ) (c : AbortCause) → (if b then Some y else None) ≡ Some x → (if b then None else Some c) ≡ None
     by_test true y c some = refl
     by_test false y c some = absurd cc
 
 -- what is missing behind a byte that is there
-pub missing-behind : (o b : ℕ) (p : Packet) (behind : ℕ → Option Cause) → byte o p ≡ Some b → option_or (missing o 1 p) (option_and_then behind (byte o p)) ≡ behind b
+pub missing-behind : (o b : ℕ) (p : Packet) (behind : ℕ → Option AbortCause) → byte o p ≡ Some b → option_or (missing o 1 p) (option_and_then behind (byte o p)) ≡ behind b
 missing-behind o b p behind is =
-    ap (λ (c : Option Cause). option_or c (option_and_then behind (byte o p))) (missing-none o 1 b p is)
+    ap (λ (c : Option AbortCause). option_or c (option_and_then behind (byte o p))) (missing-none o 1 b p is)
     ∙ ap (λ (m : Option ℕ). option_and_then behind m) is

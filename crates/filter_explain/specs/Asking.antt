@@ -5,8 +5,8 @@ use Rattle.filter_tree.specs.Trees as trees
 use Rattle.filter_meaning.specs.declared.verdict.Verdict.{Verdict}
 use Rattle.filter_meaning.specs.declared.verdict.Verdict.TheVariants.{Yes, No, Abort}
 use Rattle.filter_meaning.specs.Meaning.{Packet, opposite, meaning}
-use Rattle.filter_explain.specs.declared.cause.Cause.{Cause}
-use Rattle.filter_explain.specs.declared.asking.Asked.{Asked}
+use Rattle.filter_explain.specs.declared.cause.AbortCause.{AbortCause}
+use Rattle.filter_explain.specs.declared.asking.AskedPart.{AskedPart}
 use Rattle.filter_explain.specs.Causes.{why}
 
 -- A primitive or a relation, or the empty expression: whether an odd number of `not` stand over it, what it answers, and why where
@@ -15,13 +15,13 @@ pub record Question : Type 0 where
   pub part : Tree
   pub negated : Bool
   pub verdict : Verdict
-  pub cause : Option Cause
+  pub cause : Option AbortCause
 
 -- how an answer of the code is seen
-abbrev pub question_of : Asked → Question
+abbrev pub question_of : AskedPart → Question
 question_of a = record { part = tree_of a.part.now; negated = a.negated; verdict = a.verdict; cause = a.cause }
 
-abbrev pub where_abort : Verdict → Option Cause → Option Cause
+abbrev pub where_abort : Verdict → Option AbortCause → Option AbortCause
 where_abort Yes cause = None
 where_abort No cause = None
 where_abort Abort cause = cause

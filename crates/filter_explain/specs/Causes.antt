@@ -19,11 +19,11 @@ use Rattle.filter_tree.specs.declared.tree.Primitive.TheVariants.{Protocol, Net,
 use Rattle.filter_meaning.specs.declared.verdict.Verdict.{Verdict}
 use Rattle.filter_meaning.specs.declared.verdict.Verdict.TheVariants.{Yes, No, Abort}
 use Rattle.filter_meaning.specs.Meaning.{Packet, byte, is_type, bytes_of, value}
-use Rattle.filter_explain.specs.declared.cause.Cause.{Cause}
-use Rattle.filter_explain.specs.declared.cause.Cause.TheVariants.{NotCaptured, ZeroDivisor}
+use Rattle.filter_explain.specs.declared.cause.AbortCause.{AbortCause}
+use Rattle.filter_explain.specs.declared.cause.AbortCause.TheVariants.{NotCaptured, ZeroDivisor}
 
 abbrev pub Why : Type 0
-Why = Packet → Option Cause
+Why = Packet → Option AbortCause
 
 -- nothing is missing
 abbrev pub nothing : Why
@@ -58,7 +58,7 @@ why_plain words.Udp = why_protocol
 why_plain words.Sctp = why_protocol
 
 -- the source is looked at first
-abbrev pub directed : Direction → Option Cause → Option Cause → Option Cause
+abbrev pub directed : Direction → Option AbortCause → Option AbortCause → Option AbortCause
 directed Src source destination = source
 directed Dst source destination = destination
 directed SrcOrDst source destination = option_or source destination
@@ -75,7 +75,7 @@ why_net networks.Arp direction = why_addresses 28 38 direction
 why_net networks.Rarp direction = why_addresses 28 38 direction
 
 -- Yes chooses the first, and every other verdict the second
-abbrev pub by_verdict : Verdict → Option Cause → Option Cause → Option Cause
+abbrev pub by_verdict : Verdict → Option AbortCause → Option AbortCause → Option AbortCause
 by_verdict Yes c d = c
 by_verdict No c d = d
 by_verdict Abort c d = d
@@ -137,10 +137,10 @@ why_access layers.Udp size i = why_behind_header size i
 why_access layers.Icmp size i = why_behind_header size i
 
 -- `/` and `%` have no value where the divisor is 0
-abbrev pub zero_divisor : ℕ → Option Cause
+abbrev pub zero_divisor : ℕ → Option AbortCause
 zero_divisor n = if n == 0 then Some ZeroDivisor else None
 
-abbrev pub why_operator : Operator → ℕ → Option Cause
+abbrev pub why_operator : Operator → ℕ → Option AbortCause
 why_operator operators.Divide n = zero_divisor n
 why_operator operators.Modulo n = zero_divisor n
 why_operator other n = None

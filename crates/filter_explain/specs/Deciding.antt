@@ -7,8 +7,8 @@ use Rattle.filter_meaning.specs.declared.verdict.Verdict.{Verdict}
 use Rattle.filter_meaning.specs.declared.verdict.Verdict.TheVariants.{Yes, No, Abort}
 use Rattle.filter_meaning.specs.Meaning.{Packet, meaning}
 use Rattle.filter_print.specs.Canonical.{canonical}
-use Rattle.filter_explain.specs.declared.cause.Cause.{Cause}
-use Rattle.filter_explain.specs.declared.cause.Cause.TheVariants.{NotCaptured, ZeroDivisor}
+use Rattle.filter_explain.specs.declared.cause.AbortCause.{AbortCause}
+use Rattle.filter_explain.specs.declared.cause.AbortCause.TheVariants.{NotCaptured, ZeroDivisor}
 use Rattle.filter_explain.specs.Asking.{Question, questions}
 
 abbrev pub verdict_text : Verdict → List ℕ
@@ -32,7 +32,7 @@ part_text true t = negated_text t
 part_text false t = plain_text t
 
 -- why it aborted, where it did
-abbrev pub cause_text : Option Cause → List ℕ
+abbrev pub cause_text : Option AbortCause → List ℕ
 cause_text None = []
 cause_text (Some (NotCaptured place)) = codes ", byte " ++ decimal place ++ codes " is not captured"
 cause_text (Some ZeroDivisor) = codes ", the divisor is 0"

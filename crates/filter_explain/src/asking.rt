@@ -6,7 +6,7 @@ ghost use Rattle.filter_meaning.specs.Meaning.{packet_of, opposite, meaning};
 ghost use Rattle.filter_explain.specs.Causes.{why};
 ghost use Rattle.filter_explain.specs.Asking.{where_abort, question_of, question, questions, LastDecides};
 
-use crate::cause::Cause;
+use crate::cause::AbortCause;
 use crate::missing::why;
 use bpfvm::NoMemory;
 use filter_meaning::{Verdict, evaluate};
@@ -15,7 +15,7 @@ use std::alloc::Global;
 
 /// A primitive or a relation that was asked, and what it answered.
 #[derive(Clone, Copy, Debug)]
-pub struct Asked<'a> {
+pub struct AskedPart<'a> {
     /// The primitive or the relation, as it stands in the expression; or the empty expression.
     pub part: &'a Expr,
     /// An odd number of `not` stand over it.
@@ -23,11 +23,16 @@ pub struct Asked<'a> {
     /// Its own answer, which no `not` has turned.
     pub verdict: Verdict,
     /// Why it aborted, and only there.
-    pub cause: Option<Cause>,
+    pub cause: Option<AbortCause>,
 }
 
 /// Why a part aborts that answered this.
-pub(crate) fn cause_of(part: &Expr, verdict: Verdict, packet: &[u8], wire: u32) -> Option<Cause>
+pub(crate) fn cause_of(
+    part: &Expr,
+    verdict: Verdict,
+    packet: &[u8],
+    wire: u32,
+) -> Option<AbortCause>
     ensures { result ≡ where_abort verdict (why (tree_of part.now) (packet_of packet.now wire)) }
 {
     match verdict {
@@ -43,7 +48,7 @@ fn ask_part<'a>(
     negated: bool,
     packet: &[u8],
     wire: u32,
-    asked: &mut Vec<Asked<'a>>,
+    asked: &mut Vec<AskedPart<'a>>,
 ) -> Result<Verdict, NoMemory>
     ensures verdict { IfOk result (λ verdict. verdict ≡ meaning (tree_of part.now) (packet_of packet.now wire)) }
     ensures asked { IfOk result (λ _. map question_of asked.new.items
@@ -51,7 +56,7 @@ fn ask_part<'a>(
 {
     let verdict = evaluate(part, packet, wire);
     let cause = cause_of(part, verdict, packet, wire);
-    asked.push(Asked {
+    asked.push(AskedPart {
         part,
         negated,
         verdict,
@@ -77,7 +82,7 @@ fn ask<'a>(
     negated: bool,
     packet: &[u8],
     wire: u32,
-    asked: &mut Vec<Asked<'a>>,
+    asked: &mut Vec<AskedPart<'a>>,
 ) -> Result<Verdict, NoMemory>
     ensures verdict { IfOk result (λ verdict. verdict ≡ meaning (tree_of expr.now) (packet_of packet.now wire)) }
     ensures asked { IfOk result (λ _. map question_of asked.new.items
@@ -117,7 +122,7 @@ pub fn explain<'a>(
     expr: &'a Expr,
     packet: &[u8],
     wire: u32,
-) -> Result<Vec<Asked<'a>>, NoMemory>
+) -> Result<Vec<AskedPart<'a>>, NoMemory>
     ensures asked { IfOk result (λ asked. map question_of asked.items
         ≡ questions false (tree_of expr.now) (packet_of packet.now wire)) }
     ensures decides { IfOk result (λ asked. LastDecides (map question_of asked.items)

@@ -5,13 +5,13 @@ ghost use Rattle.filter_tree.specs.Trees.{tree_of};
 ghost use Rattle.filter_meaning.specs.Meaning.{packet_of, meaning};
 ghost use Rattle.filter_explain.specs.Asking.{question_of, question, questions, turned, IsLast};
 
-use crate::asking::{Asked, cause_of, opposite};
+use crate::asking::{AskedPart, cause_of, opposite};
 use filter_meaning::{Verdict, evaluate};
 use filter_tree::Expr;
 
-impl Asked<'_> {
+impl AskedPart<'_> {
     /// Its answer, turned where it is negated: of the one that decides, what the whole expression answers.
-    pub fn turned(&self) -> Verdict
+    pub fn answer(&self) -> Verdict
         ensures { result ≡ turned self.now.negated self.now.verdict }
     {
         if self.negated {
@@ -25,7 +25,7 @@ impl Asked<'_> {
 /// A part of an expression that decides of a packet, and what the part of the expression answers in which it stands.
 #[derive(Clone, Copy)]
 struct Decided<'a> {
-    asked: Asked<'a>,
+    asked: AskedPart<'a>,
     verdict: Verdict,
 }
 
@@ -36,7 +36,7 @@ fn decide_part<'a>(part: &'a Expr, negated: bool, packet: &[u8], wire: u32) -> D
 {
     let verdict = evaluate(part, packet, wire);
     let cause = cause_of(part, verdict, packet, wire);
-    let asked = Asked {
+    let asked = AskedPart {
         part,
         negated,
         verdict,
@@ -84,9 +84,9 @@ fn decide_in<'a>(expr: &'a Expr, negated: bool, packet: &[u8], wire: u32) -> Dec
 /// The primitive or relation of an expression that decides of a packet: the last one of those that
 /// [`explain`](crate::explain) tells. It takes no memory.
 ///
-/// `packet` is the captured bytes, and `wire` the packet's length on the wire. What [`Asked::turned`] answers of it is what
+/// `packet` is the captured bytes, and `wire` the packet's length on the wire. What [`AskedPart::answer`] answers of it is what
 /// [`evaluate`](filtergen::evaluate) answers of the whole expression.
-pub fn decide<'a>(expr: &'a Expr, packet: &[u8], wire: u32) -> Asked<'a>
+pub fn decide<'a>(expr: &'a Expr, packet: &[u8], wire: u32) -> AskedPart<'a>
     ensures last { IsLast (question_of result) (questions false (tree_of expr.now) (packet_of packet.now wire)) }
     ensures decides { meaning (tree_of expr.now) (packet_of packet.now wire) ≡ turned result.negated result.verdict }
 {

@@ -9,7 +9,7 @@ pub mod laws;
 mod missing;
 mod text;
 
-pub use asking::{Asked, explain};
-pub use cause::Cause;
+pub use asking::{AskedPart, explain};
+pub use cause::AbortCause;
 pub use decided::decide;
 pub use text::{put_cause, put_decision, put_part, put_verdict, verdict_text};

@@ -5,7 +5,7 @@ ghost use Rattle.filter_tree.specs.Trees.{amount_of, tree_of};
 ghost use Rattle.filter_meaning.specs.Meaning.{packet_of, byte, bytes_of, value};
 ghost use Rattle.filter_explain.specs.Causes.{missing, why_type, why_protocol, why_first, why_plain, directed, why_addresses, why_net, why_any_net, why_port, why_ports, why_primitive, why_layer, why_layers, why_behind_header, why_access, zero_divisor, why_operator, why_value, why_relation, why};
 
-use crate::cause::Cause;
+use crate::cause::AbortCause;
 use filter_meaning::{Verdict, evaluate, value_of};
 use filter_tree::{Direction, Expr, Layer, Network, Operator, Plain, Primitive, Size, Value};
 
@@ -13,7 +13,7 @@ use filter_tree::{Direction, Expr, Layer, Network, Operator, Plain, Primitive, S
 const IP: u16 = 0x0800;
 
 /// The first of so many bytes at an offset that was not captured.
-fn missing(packet: &[u8], wire: u32, offset: usize, size: usize) -> Option<Cause>
+fn first_uncaptured(packet: &[u8], wire: u32, offset: usize, size: usize) -> Option<AbortCause>
     requires offset { offset < 2 ^ 34 }
     requires size { size ≤ 6 }
     ensures { result ≡ missing offset size (packet_of packet.now wire) }
@@ -21,7 +21,7 @@ fn missing(packet: &[u8], wire: u32, offset: usize, size: usize) -> Option<Cause
     if offset + size <= packet.len() {
         None
     } else {
-        Some(Cause::NotCaptured(offset.max(packet.len())))
+        Some(AbortCause::NotCaptured(offset.max(packet.len())))
     }
 }
 
@@ -37,28 +37,28 @@ fn byte_at(packet: &[u8], wire: u32, offset: usize) -> Option<u32>
 }
 
 /// Of the Ethernet type.
-fn why_type(packet: &[u8], wire: u32) -> Option<Cause>
+fn why_type(packet: &[u8], wire: u32) -> Option<AbortCause>
     ensures { result ≡ why_type (packet_of packet.now wire) }
 {
-    missing(packet, wire, 12, 2)
+    first_uncaptured(packet, wire, 12, 2)
 }
 
 /// Of the protocol number of IPv4.
-fn why_protocol(packet: &[u8], wire: u32) -> Option<Cause>
+fn why_protocol(packet: &[u8], wire: u32) -> Option<AbortCause>
     ensures { result ≡ why_protocol (packet_of packet.now wire) }
 {
-    why_type(packet, wire).or(missing(packet, wire, 23, 1))
+    why_type(packet, wire).or(first_uncaptured(packet, wire, 23, 1))
 }
 
 /// Of a protocol number and the fragment's offset.
-fn why_first(packet: &[u8], wire: u32) -> Option<Cause>
+fn why_first(packet: &[u8], wire: u32) -> Option<AbortCause>
     ensures { result ≡ why_first (packet_of packet.now wire) }
 {
-    why_protocol(packet, wire).or(missing(packet, wire, 20, 2))
+    why_protocol(packet, wire).or(first_uncaptured(packet, wire, 20, 2))
 }
 
 /// Of a protocol word.
-fn why_plain(word: Plain, packet: &[u8], wire: u32) -> Option<Cause>
+fn why_plain(word: Plain, packet: &[u8], wire: u32) -> Option<AbortCause>
     ensures { result ≡ why_plain word (packet_of packet.now wire) }
 {
     match word {
@@ -73,11 +73,11 @@ fn why_plain(word: Plain, packet: &[u8], wire: u32) -> Option<Cause>
 }
 
 /// Of the sides that a direction chooses, the source first.
-fn directed(
+fn in_direction(
     direction: Direction,
-    source: Option<Cause>,
-    destination: Option<Cause>,
-) -> Option<Cause>
+    source: Option<AbortCause>,
+    destination: Option<AbortCause>,
+) -> Option<AbortCause>
     ensures { result ≡ directed direction source destination }
 {
     match direction {
@@ -95,18 +95,18 @@ fn why_addresses(
     direction: Direction,
     packet: &[u8],
     wire: u32,
-) -> Option<Cause>
+) -> Option<AbortCause>
     requires source { source < 2 ^ 34 }
     requires destination { destination < 2 ^ 34 }
     ensures { result ≡ why_addresses source destination direction (packet_of packet.now wire) }
 {
-    let source = missing(packet, wire, source, 4);
-    let destination = missing(packet, wire, destination, 4);
-    why_type(packet, wire).or(directed(direction, source, destination))
+    let source = first_uncaptured(packet, wire, source, 4);
+    let destination = first_uncaptured(packet, wire, destination, 4);
+    why_type(packet, wire).or(in_direction(direction, source, destination))
 }
 
 /// Of a host or a net of one protocol.
-fn why_net(network: Network, direction: Direction, packet: &[u8], wire: u32) -> Option<Cause>
+fn why_net(network: Network, direction: Direction, packet: &[u8], wire: u32) -> Option<AbortCause>
     ensures { result ≡ why_net network direction (packet_of packet.now wire) }
 {
     match network {
@@ -122,7 +122,7 @@ fn why_any_net(
     direction: Direction,
     packet: &[u8],
     wire: u32,
-) -> Option<Cause>
+) -> Option<AbortCause>
     ensures { result ≡ why_any_net network direction (packet_of packet.now wire) }
 {
     match network {
@@ -136,36 +136,36 @@ fn why_any_net(
 }
 
 /// Of the two bytes so many behind the IPv4 header.
-fn why_port(offset: usize, packet: &[u8], wire: u32) -> Option<Cause>
+fn why_port(offset: usize, packet: &[u8], wire: u32) -> Option<AbortCause>
     requires { offset ≤ 2 }
     ensures { result ≡ why_port offset (packet_of packet.now wire) }
 {
     match byte_at(packet, wire, 14) {
-        Some(first) => missing(packet, wire, 14 + 4 * (first & 15) as usize + offset, 2),
-        None => missing(packet, wire, 14, 1),
+        Some(first) => first_uncaptured(packet, wire, 14 + 4 * (first & 15) as usize + offset, 2),
+        None => first_uncaptured(packet, wire, 14, 1),
     }
 }
 
 /// Of the ports of a protocol number.
-fn why_ports(direction: Direction, packet: &[u8], wire: u32) -> Option<Cause>
+fn why_ports(direction: Direction, packet: &[u8], wire: u32) -> Option<AbortCause>
     ensures { result ≡ why_ports direction (packet_of packet.now wire) }
 {
     let source = why_port(0, packet, wire);
     let destination = why_port(2, packet, wire);
-    why_first(packet, wire).or(directed(direction, source, destination))
+    why_first(packet, wire).or(in_direction(direction, source, destination))
 }
 
 /// Of an Ethernet host.
-fn why_ether_host(direction: Direction, packet: &[u8], wire: u32) -> Option<Cause>
+fn why_ether_host(direction: Direction, packet: &[u8], wire: u32) -> Option<AbortCause>
     ensures { result ≡ directed direction (missing 6 6 (packet_of packet.now wire)) (missing 0 6 (packet_of packet.now wire)) }
 {
-    let source = missing(packet, wire, 6, 6);
-    let destination = missing(packet, wire, 0, 6);
-    directed(direction, source, destination)
+    let source = first_uncaptured(packet, wire, 6, 6);
+    let destination = first_uncaptured(packet, wire, 0, 6);
+    in_direction(direction, source, destination)
 }
 
 /// Of a primitive.
-fn why_primitive(primitive: Primitive, packet: &[u8], wire: u32) -> Option<Cause>
+fn why_primitive(primitive: Primitive, packet: &[u8], wire: u32) -> Option<AbortCause>
     ensures { result ≡ why_primitive primitive (packet_of packet.now wire) }
 {
     match primitive {
@@ -179,16 +179,16 @@ fn why_primitive(primitive: Primitive, packet: &[u8], wire: u32) -> Option<Cause
         Primitive::Ports { direction, .. } => why_ports(direction, packet, wire),
         Primitive::IpProto(_) => why_protocol(packet, wire),
         Primitive::EtherProto(_) => why_type(packet, wire),
-        Primitive::EtherBroadcast => missing(packet, wire, 0, 6),
-        Primitive::EtherMulticast => missing(packet, wire, 0, 1),
-        Primitive::IpMulticast => why_type(packet, wire).or(missing(packet, wire, 30, 1)),
+        Primitive::EtherBroadcast => first_uncaptured(packet, wire, 0, 6),
+        Primitive::EtherMulticast => first_uncaptured(packet, wire, 0, 1),
+        Primitive::IpMulticast => why_type(packet, wire).or(first_uncaptured(packet, wire, 30, 1)),
         Primitive::Less(_) => None,
         Primitive::Greater(_) => None,
     }
 }
 
 /// Of the layer that an accessor reads.
-fn why_layer(layer: Layer, packet: &[u8], wire: u32) -> Option<Cause>
+fn why_layer(layer: Layer, packet: &[u8], wire: u32) -> Option<AbortCause>
     ensures { result ≡ why_layer layer (packet_of packet.now wire) }
 {
     match layer {
@@ -203,7 +203,7 @@ fn why_layer(layer: Layer, packet: &[u8], wire: u32) -> Option<Cause>
 }
 
 /// Of the layers of a value's accessors.
-fn why_layers(amount: &Value, packet: &[u8], wire: u32) -> Option<Cause>
+fn why_layers(amount: &Value, packet: &[u8], wire: u32) -> Option<AbortCause>
     ensures { result ≡ why_layers (amount_of amount.now) (packet_of packet.now wire) }
 {
     match amount {
@@ -232,29 +232,29 @@ fn bytes_of(size: Size) -> usize
 }
 
 /// Of bytes at an index of what stands behind the IPv4 header.
-fn why_behind_header(packet: &[u8], wire: u32, index: u32, size: usize) -> Option<Cause>
+fn why_behind_header(packet: &[u8], wire: u32, index: u32, size: usize) -> Option<AbortCause>
     requires { size ≤ 4 }
     ensures { result ≡ why_behind_header size index (packet_of packet.now wire) }
 {
     match byte_at(packet, wire, 14) {
         Some(first) => {
             let behind = index.wrapping_add(4 * (first & 15));
-            missing(packet, wire, 14 + behind as usize, size)
+            first_uncaptured(packet, wire, 14 + behind as usize, size)
         }
-        None => missing(packet, wire, 14, 1),
+        None => first_uncaptured(packet, wire, 14, 1),
     }
 }
 
 /// Of the bytes that an accessor reads.
-fn why_access(layer: Layer, packet: &[u8], wire: u32, index: u32, size: Size) -> Option<Cause>
+fn why_access(layer: Layer, packet: &[u8], wire: u32, index: u32, size: Size) -> Option<AbortCause>
     ensures { result ≡ why_access layer (bytes_of size) index (packet_of packet.now wire) }
 {
     let bytes = bytes_of(size);
     match layer {
-        Layer::Ether => missing(packet, wire, index as usize, bytes),
-        Layer::Ip => missing(packet, wire, 14 + index as usize, bytes),
-        Layer::Arp => missing(packet, wire, 14 + index as usize, bytes),
-        Layer::Rarp => missing(packet, wire, 14 + index as usize, bytes),
+        Layer::Ether => first_uncaptured(packet, wire, index as usize, bytes),
+        Layer::Ip => first_uncaptured(packet, wire, 14 + index as usize, bytes),
+        Layer::Arp => first_uncaptured(packet, wire, 14 + index as usize, bytes),
+        Layer::Rarp => first_uncaptured(packet, wire, 14 + index as usize, bytes),
         Layer::Tcp => why_behind_header(packet, wire, index, bytes),
         Layer::Udp => why_behind_header(packet, wire, index, bytes),
         Layer::Icmp => why_behind_header(packet, wire, index, bytes),
@@ -262,18 +262,18 @@ fn why_access(layer: Layer, packet: &[u8], wire: u32, index: u32, size: Size) ->
 }
 
 /// Of a division by a number.
-fn zero_divisor(divisor: u32) -> Option<Cause>
+fn zero_divisor(divisor: u32) -> Option<AbortCause>
     ensures { result ≡ zero_divisor divisor }
 {
     if divisor == 0 {
-        Some(Cause::ZeroDivisor)
+        Some(AbortCause::ZeroDivisor)
     } else {
         None
     }
 }
 
 /// Of an operator with this number on its right.
-fn why_operator(operator: Operator, right: u32) -> Option<Cause>
+fn why_operator(operator: Operator, right: u32) -> Option<AbortCause>
     ensures { result ≡ why_operator operator right }
 {
     match operator {
@@ -291,7 +291,7 @@ fn why_operator(operator: Operator, right: u32) -> Option<Cause>
 }
 
 /// Of an operator with this value on its right, where there is one.
-fn why_behind(operator: Operator, right: &Value, packet: &[u8], wire: u32) -> Option<Cause>
+fn why_behind(operator: Operator, right: &Value, packet: &[u8], wire: u32) -> Option<AbortCause>
     ensures { result ≡ option_and_then (why_operator operator) (value (amount_of right.now) (packet_of packet.now wire)) }
 {
     match value_of(right, packet, wire) {
@@ -301,7 +301,7 @@ fn why_behind(operator: Operator, right: &Value, packet: &[u8], wire: u32) -> Op
 }
 
 /// Of the bytes that an accessor reads at this index, where there is one.
-fn why_at(layer: Layer, index: &Value, size: Size, packet: &[u8], wire: u32) -> Option<Cause>
+fn why_at(layer: Layer, index: &Value, size: Size, packet: &[u8], wire: u32) -> Option<AbortCause>
     ensures { let p = packet_of packet.now wire in
         result ≡ option_and_then (λ i. why_access layer (bytes_of size) i p) (value (amount_of index.now) p) }
 {
@@ -312,7 +312,7 @@ fn why_at(layer: Layer, index: &Value, size: Size, packet: &[u8], wire: u32) -> 
 }
 
 /// Of a value.
-fn why_value(amount: &Value, packet: &[u8], wire: u32) -> Option<Cause>
+fn why_value(amount: &Value, packet: &[u8], wire: u32) -> Option<AbortCause>
     ensures { result ≡ why_value (amount_of amount.now) (packet_of packet.now wire) }
 {
     match amount {
@@ -330,7 +330,7 @@ fn why_value(amount: &Value, packet: &[u8], wire: u32) -> Option<Cause>
 }
 
 /// Of a relation.
-fn why_relation(left: &Value, right: &Value, packet: &[u8], wire: u32) -> Option<Cause>
+fn why_relation(left: &Value, right: &Value, packet: &[u8], wire: u32) -> Option<AbortCause>
     ensures { result ≡ why_relation (amount_of left.now) (amount_of right.now) (packet_of packet.now wire) }
 {
     let layers = why_layers(left, packet, wire).or(why_layers(right, packet, wire));
@@ -339,7 +339,7 @@ fn why_relation(left: &Value, right: &Value, packet: &[u8], wire: u32) -> Option
 }
 
 /// Of a primitive or a relation that aborts.
-pub(crate) fn why(part: &Expr, packet: &[u8], wire: u32) -> Option<Cause>
+pub(crate) fn why(part: &Expr, packet: &[u8], wire: u32) -> Option<AbortCause>
     ensures { result ≡ why (tree_of part.now) (packet_of packet.now wire) }
 {
     match part {

@@ -6,8 +6,8 @@ ghost use Rattle.filter_meaning.specs.Meaning.{meaning, packet_of};
 ghost use Rattle.filter_explain.specs.Asking.{question_of};
 ghost use Rattle.filter_explain.specs.Deciding.{verdict_text, part_text, cause_text, question_text, decision_text};
 
-use crate::asking::Asked;
-use crate::cause::Cause;
+use crate::asking::AskedPart;
+use crate::cause::AbortCause;
 use crate::decided::decide;
 use filter_meaning::Verdict;
 use filter_print::Canonical;
@@ -40,18 +40,18 @@ pub fn put_part(line: &mut String, part: &Expr, negated: bool) -> Result<(), All
 
 /// Appends why a primitive or a relation aborted, where it did. It fails where memory is refused, and then nothing is promised of the
 /// line.
-pub fn put_cause(line: &mut String, cause: Option<Cause>) -> Result<(), AllocError>
+pub fn put_cause(line: &mut String, cause: Option<AbortCause>) -> Result<(), AllocError>
     ensures { OnOk result (string_bytes line.new ≡ string_bytes line.old ++ cause_text cause) }
 {
     match cause {
         None => Ok(()),
-        Some(Cause::NotCaptured(place)) => write!(line, ", byte {place} is not captured"),
-        Some(Cause::ZeroDivisor) => write!(line, ", the divisor is 0"),
+        Some(AbortCause::NotCaptured(place)) => write!(line, ", byte {place} is not captured"),
+        Some(AbortCause::ZeroDivisor) => write!(line, ", the divisor is 0"),
     }
 }
 
 /// Appends a primitive or a relation that was asked, and why it aborted.
-fn put_asked(line: &mut String, asked: &Asked<'_>) -> Result<(), AllocError>
+fn put_asked(line: &mut String, asked: &AskedPart<'_>) -> Result<(), AllocError>
     ensures { OnOk result (string_bytes line.new ≡ string_bytes line.old ++ question_text (question_of asked.now)) }
 {
     put_part(line, asked.part, asked.negated)?;
@@ -78,7 +78,7 @@ pub fn put_decision(
     ensures verdict { IfOk result (λ verdict. verdict ≡ meaning (tree_of expr.now) (packet_of packet.now wire)) }
 {
     let asked = decide(expr, packet, wire);
-    let verdict = asked.turned();
+    let verdict = asked.answer();
     put_verdict(line, verdict)?;
     put_asked(line, &asked)?;
     Ok(verdict)

@@ -21,7 +21,7 @@ fn shifted_right(a: u32, by: u32) -> u32
 }
 
 /// What an operator makes of two numbers, modulo 2 ^ 32: nothing where the divisor of `/` or `%` is 0; a shift by 32 or more is 0.
-pub fn calculated(operator: Operator, a: u32, b: u32) -> Option<u32>
+pub fn calculate(operator: Operator, a: u32, b: u32) -> Option<u32>
     ensures { result ≡ calculated (arithmetic_of operator) a b }
 {
     match operator {

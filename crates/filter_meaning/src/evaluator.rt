@@ -123,7 +123,7 @@ fn plain(word: Plain, packet: &[u8], wire: u32) -> Verdict
 }
 
 /// The source's verdict, the destination's, or that of both.
-fn directed(direction: Direction, source: Verdict, destination: Verdict) -> Verdict
+fn in_direction(direction: Direction, source: Verdict, destination: Verdict) -> Verdict
     ensures { result ≡ directed direction source destination }
 {
     match direction {
@@ -163,7 +163,7 @@ fn typed_addresses(
 {
     let source = has_address(address, mask, offsets.0, packet, wire);
     let destination = has_address(address, mask, offsets.1, packet, wire);
-    is_type(number, packet, wire).and(directed(direction, source, destination))
+    is_type(number, packet, wire).and(in_direction(direction, source, destination))
 }
 
 /// A host or a net of one protocol.
@@ -224,7 +224,7 @@ fn ether_host(direction: Direction, address: EthernetAddress, packet: &[u8], wir
 {
     let source = is_address(address, 6, packet, wire);
     let destination = is_address(address, 0, packet, wire);
-    directed(direction, source, destination)
+    in_direction(direction, source, destination)
 }
 
 /// A port from low to high, which stands so many bytes behind the IPv4 header.
@@ -255,7 +255,7 @@ fn has_ports(
 {
     let source = has_port(low, high, 0, packet, wire);
     let destination = has_port(low, high, 2, packet, wire);
-    is_first_fragment_of(number, packet, wire).and(directed(direction, source, destination))
+    is_first_fragment_of(number, packet, wire).and(in_direction(direction, source, destination))
 }
 
 /// A port from low to high of a protocol, or of any.

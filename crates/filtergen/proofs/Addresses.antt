@@ -11,7 +11,7 @@ use Rattle.filter_tree.specs.declared.tree.Direction.{Direction}
 use Rattle.filter_meaning.specs.Sides.{directed}
 use Rattle.filtergen.proofs.Sides.{directed-is}
 use Rattle.filter_meaning.specs.Meaning.{Packet, HasBytes, Test, by_direction, or_else, or_test, check, decided, byte, word, within}
-use Rattle.filtergen_facts.specs.declared.lists.Span.{Span}
+use Rattle.filtergen_facts.specs.declared.lists.ValueRange.{ValueRange}
 use Rattle.filtergen_facts.specs.Lists.{any_of, in_span}
 use Rattle.filtergen.specs.declared.code.Exits.{Exits}
 use Rattle.filtergen.specs.declared.among.Spot.{Spot}
@@ -32,7 +32,7 @@ bits_at mask o p = option_map (λ w. bit_and w mask) (word o p)
 abbrev pub IsAddress : Spot → ℕ → ℕ → Type 0
 IsAddress spot mask o = (p : Packet) (r : Registers) → HasBytes p → spot_value spot r p ≡ bits_at mask o p
 
-found-is : (spot : Spot) (mask o : ℕ) (p : Packet) (r : Registers) (x : Span) → HasBytes p → IsAddress spot mask o → found_at spot r x p ≡ in_span x mask o p
+found-is : (spot : Spot) (mask o : ℕ) (p : Packet) (r : Registers) (x : ValueRange) → HasBytes p → IsAddress spot mask o → found_at spot r x p ≡ in_span x mask o p
 found-is spot mask o p r x bytes is = ap (check (within x.low x.high)) (is p r bytes) ∙ spot-masked o mask p r x
 
 directed-same : (d : Direction) (s t s' t' : Test) (p : Packet) → s p ≡ s' p → t p ≡ t' p → by_direction d s t p ≡ by_direction d s' t' p
@@ -40,7 +40,7 @@ directed-same d s t s' t' p first second =
     sym (directed-is d s t p) ∙ ap (λ v. directed d v (t p)) first ∙ ap (directed d (s' p)) second ∙ directed-is d s' t' p
 
 -- by spots of their own
-pub decides-spots : {most e : ℕ} (direction : Direction) (source destination : Spot) (mask s d : ℕ) (xs : List Span) {exits : Exits} {a b : List Insn}
+pub decides-spots : {most e : ℕ} (direction : Direction) (source destination : Spot) (mask s d : ℕ) (xs : List ValueRange) {exits : Exits} {a b : List Insn}
     → IsAddress source mask s → IsAddress destination mask d
     → Follows same_index most (λ r. any_of (λ x. by_direction direction (found_at source r x) (found_at destination r x)) xs) exits e a b
     → Decides most (any_of (λ x. by_direction direction (in_span x mask s) (in_span x mask d)) xs) exits e a b
@@ -53,7 +53,7 @@ decides-spots direction source destination mask s d xs is-source is-destination 
     done
 
 -- one load for all members
-pub decides-address : (spot : Spot) (mask o : ℕ) (xs : List Span) {exits : Exits} {a b : List Insn} → IsAddress spot mask o → AreExits a exits → 0 < length xs
+pub decides-address : (spot : Spot) (mask o : ℕ) (xs : List ValueRange) {exits : Exits} {a b : List Insn} → IsAddress spot mask o → AreExits a exits → 0 < length xs
     → IsChoice (λ r. among xs r.accumulator) exits (length a) a → LoadsSpot spot a b → Decides 2 (any_of (λ x. in_span x mask o) xs) exits (length b) a b
 decides-address spot mask o xs is are some last load =
     decides-followed (λ r. any_of (found_at spot r) xs) (any_of (λ x. in_span x mask o) xs)
@@ -61,7 +61,7 @@ decides-address spot mask o xs is are some last load =
     (follows-sought spot xs are some refl (choice-from (λ r. among xs r.accumulator) last) load)
 
 -- The first member's source. Where the destination is there, the sources of all others, and then the destinations of all.
-pub decides-either-address : {j k e f : ℕ} (source destination : Spot) (mask s d : ℕ) (spans others first : List Span) {exits : Exits} {a b c g h : List Insn}
+pub decides-either-address : {j k e f : ℕ} (source destination : Spot) (mask s d : ℕ) (spans others first : List ValueRange) {exits : Exits} {a b c g h : List Insn}
     → IsAddress source mask s → IsAddress destination mask d → spans ≡ others ++ first → length first ≡ 1 → 0 < length others
     → AreExits a exits → IsChoice (λ r. among spans r.accumulator) exits (length a) a → LoadsSpot destination a b
     → ChoosesFrom j (λ r. among others r.accumulator) (record { yes = exits.yes; no = length b }) e b c → e ≡ length c

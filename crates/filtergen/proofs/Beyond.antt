@@ -12,7 +12,7 @@ use Rattle.filtergen_trim.proofs.Reached.{leads-inside}
 use Rattle.filtergen.specs.declared.code.Exits.{Exits}
 use Rattle.filtergen.specs.declared.insns.Field.{Field}
 use Rattle.filter_meaning.specs.Meaning.{Packet, HasBytes, Test, and_then, check, decided}
-use Rattle.filtergen_facts.specs.declared.lists.Span.{Span}
+use Rattle.filtergen_facts.specs.declared.lists.ValueRange.{ValueRange}
 use Rattle.filtergen.specs.Insns.{load_insn, plain_insn}
 use Rattle.filtergen.specs.Emission.{IsPlace, AreExits, HasCells, run_from, Answers, Passes, outcome, field_of, Decides}
 use Rattle.filtergen.specs.Listed.{among, ChoosesFrom, IsFresh, GoesOnAs, FailsTo, Skips}
@@ -119,7 +119,7 @@ skips-over field choice place behind beyond code passes fails fresh fresh' = rec
 }
 
 -- A number that is one of some, and behind it a second test, which goes on beyond comparisons of that number with others.
-pub decides-beyond : {k m e f y n beyond : ℕ} {u : Test} (field : Field) (xs : List Span) {exits : Exits} {a b c : List Insn} → AreExits a exits → f ≡ length c
+pub decides-beyond : {k m e f y n beyond : ℕ} {u : Test} (field : Field) (xs : List ValueRange) {exits : Exits} {a b c : List Insn} → AreExits a exits → f ≡ length c
     → Skips field (among xs) exits.no beyond a → Decides k u (record { yes = exits.yes; no = beyond }) e a b
     → Passes (load_insn field) e y b → Passes (load_insn field) exits.no n b
     → ChoosesFrom m (λ r. among xs r.accumulator) (record { yes = y; no = n }) f b c

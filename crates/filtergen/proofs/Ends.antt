@@ -11,7 +11,7 @@ use Rattle.filtergen_facts.specs.Knowing.{behind, LOOK_BACK}
 use Rattle.filtergen_facts.specs.Lists.{size, behind_left}
 use Rattle.filtergen.specs.declared.ways.Way.{Way}
 use Rattle.filtergen.specs.declared.ways.Ways.{Ways}
-use Rattle.filtergen.specs.declared.compiler.Kept.{Kept}
+use Rattle.filtergen.specs.declared.compiler.KeptWays.{KeptWays}
 use Rattle.filtergen.specs.Emission.{Extends}
 use Rattle.filtergen.specs.Ways.{AreWays, RenewsBoth, DecidesBehind}
 use Rattle.filtergen.specs.Listed.{EmitsList}
@@ -63,7 +63,7 @@ leaves-both list = record {
 }
 
 -- the code of right ends, the one in front of the other: what decides the rest decides the whole
-pub record Continues (known : Known) (whole rest : Tree) (ways on : Ways) (kept : Kept) (old new : List Insn) : Type 0 where
+pub record Continues (known : Known) (whole rest : Tree) (ways on : Ways) (kept : KeptWays) (old new : List Insn) : Type 0 where
   pub fits : length new + weight rest ≤ length old + weight whole
   pub smaller : size rest ≤ size whole
   pub needs : need rest ≤ need whole
@@ -82,7 +82,7 @@ continues-none known t ways a are = record {
   renews = λ k renewed later extends renews. renews;
 }
 
-pub continues-more : {known : Known} {t u w : Tree} {ways on renewed : Ways} {kept : Kept} {entry : Way} {a b c : List Insn} → Continues known t u ways on kept a b
+pub continues-more : {known : Known} {t u w : Tree} {ways on renewed : Ways} {kept : KeptWays} {entry : Way} {a b c : List Insn} → Continues known t u ways on kept a b
     → Leaves known u w on renewed entry b c → Continues known t w ways (left_ways (chain_of u) entry renewed) (kept_behind (chain_of u) kept renewed) a c
 continues-more {known} {t} {u} {w} {ways} {on} {renewed} {kept} {entry} {a} {b} {c} before end = record {
   fits = omega (arith, before.fits, end.fits, end.extends.within);

@@ -1,6 +1,6 @@
 -- One test for all members of a list answers as their tests do one after the other.
 use Rattle.std.proofs.Common.{◌≡◌, ◌≢◌, ℕ, ◌<◌, ◌==◌, Bool, true, false, List, [], ◌∷◌, ◌++◌, length, Option, Some, None, refl, sym, ap, ◌∙◌, if◌then◌else◌}
-use Rattle.filtergen_facts.specs.declared.lists.Span.{Span}
+use Rattle.filtergen_facts.specs.declared.lists.ValueRange.{ValueRange}
 use Rattle.filter_meaning.specs.declared.verdict.Verdict.{Verdict}
 use Rattle.filter_meaning.specs.declared.verdict.Verdict.TheVariants.{Yes, No, Abort}
 use Rattle.filter_meaning.specs.Meaning.{Packet, Test, or_else, check, decided, within}
@@ -39,16 +39,16 @@ decided-there true is = absurd cc
 decided-there false is = absurd cc
 
 -- one number that is there
-pub among-decided : (xs : List Span) (p : Packet) (n : ℕ) → any_of (λ (x : Span) q. decided (within x.low x.high n)) xs p ≡ decided (among xs n)
+pub among-decided : (xs : List ValueRange) (p : Packet) (n : ℕ) → any_of (λ (x : ValueRange) q. decided (within x.low x.high n)) xs p ≡ decided (among xs n)
 among-decided [] p n = refl
 among-decided (x ∷ xs) p n = ap (λ v. or_else v (decided (within x.low x.high n))) (among-decided xs p n) ∙ decided-either (among xs n) (within x.low x.high n)
 
 -- one number is asked for once
-pub any-checked : (xs : List Span) (p : Packet) (v : Option ℕ) → 0 < length xs → any_of (λ (x : Span) q. check (within x.low x.high) v) xs p ≡ check (among xs) v
+pub any-checked : (xs : List ValueRange) (p : Packet) (v : Option ℕ) → 0 < length xs → any_of (λ (x : ValueRange) q. check (within x.low x.high) v) xs p ≡ check (among xs) v
 any-checked xs p None some = any-abort xs p some
 any-checked xs p (Some n) some = among-decided xs p n
 
-pub among-more : (xs : List Span) (x : Span) (n : ℕ) → among (xs ++ (x ∷ [])) n ≡ (if within x.low x.high n then true else among xs n)
+pub among-more : (xs : List ValueRange) (x : ValueRange) (n : ℕ) → among (xs ++ (x ∷ [])) n ≡ (if within x.low x.high n then true else among xs n)
 among-more [] x n = refl
 among-more (y ∷ xs) x n = ap (λ b. if within y.low y.high n then true else b) (among-more xs x n) ∙ by_test (within y.low y.high n) (within x.low x.high n) (among xs n)
   where
@@ -74,8 +74,8 @@ other-number n other = by_test (0x0800 == n) (λ is. other (sym (equal-true 0x08
     by_test false none = refl
 
 -- two numbers that are there
-pairs-decided : (xs : List Span) (p : Packet) (m n : ℕ)
-    → any_of (λ (x : Span) q. or_else (decided (within x.low x.high m)) (decided (within x.low x.high n))) xs p ≡ or_else (decided (among xs m)) (decided (among xs n))
+pairs-decided : (xs : List ValueRange) (p : Packet) (m n : ℕ)
+    → any_of (λ (x : ValueRange) q. or_else (decided (within x.low x.high m)) (decided (within x.low x.high n))) xs p ≡ or_else (decided (among xs m)) (decided (among xs n))
 pairs-decided [] p m n = refl
 pairs-decided (x ∷ xs) p m n = ap (λ v. or_else v (or_else (decided (within x.low x.high m)) (decided (within x.low x.high n)))) (pairs-decided xs p m n) ∙ by_test (among xs m) (among xs n) (within x.low x.high m) (within x.low x.high n)
   where
@@ -91,11 +91,11 @@ pairs-decided (x ∷ xs) p m n = ap (λ v. or_else v (or_else (decided (within x
 
 -- Of two numbers, the first member asks for its source and its destination. When both are there, the others ask for the
 -- destination together, and then for the source.
-pub any-pair : (xs : List Span) (x : Span) (p : Packet) (v w : Option ℕ)
+pub any-pair : (xs : List ValueRange) (x : ValueRange) (p : Packet) (v w : Option ℕ)
     → or_else (check (among (x ∷ [])) v) (or_else (check (among (xs ++ (x ∷ []))) w) (check (among xs) v))
-    ≡ any_of (λ (y : Span) q. or_else (check (within y.low y.high) v) (check (within y.low y.high) w)) (xs ++ (x ∷ [])) p
-any-pair xs x p None w = sym (any-first (λ (y : Span) q. Abort) p x xs)
-any-pair xs x p (Some m) None = by_test (within x.low x.high m) _ ∙ sym (any-first (λ (y : Span) q. or_else (decided (within y.low y.high m)) Abort) p x xs)
+    ≡ any_of (λ (y : ValueRange) q. or_else (check (within y.low y.high) v) (check (within y.low y.high) w)) (xs ++ (x ∷ [])) p
+any-pair xs x p None w = sym (any-first (λ (y : ValueRange) q. Abort) p x xs)
+any-pair xs x p (Some m) None = by_test (within x.low x.high m) _ ∙ sym (any-first (λ (y : ValueRange) q. or_else (decided (within y.low y.high m)) Abort) p x xs)
   where
     by_test : (b : Bool) (u : Verdict) → or_else (decided (if b then true else false)) Abort ≡ or_else (or_else (decided b) Abort) u
     by_test true u = refl
@@ -104,7 +104,7 @@ any-pair xs x p (Some m) (Some n) =
     ap (λ b. or_else (decided (if within x.low x.high m then true else false)) (or_else (decided b) (decided (among xs m)))) (among-more xs x n)
     ∙ by_test (within x.low x.high m) (within x.low x.high n) (among xs m) (among xs n)
     ∙ ap (or_else (or_else (decided (within x.low x.high m)) (decided (within x.low x.high n)))) (sym (pairs-decided xs p m n))
-    ∙ sym (any-first (λ (y : Span) q. or_else (decided (within y.low y.high m)) (decided (within y.low y.high n))) p x xs)
+    ∙ sym (any-first (λ (y : ValueRange) q. or_else (decided (within y.low y.high m)) (decided (within y.low y.high n))) p x xs)
   where
     by_test : (a b c d : Bool)
         → or_else (decided (if a then true else false)) (or_else (decided (if b then true else d)) (decided c)) ≡ or_else (or_else (decided a) (decided b)) (or_else (decided c) (decided d))

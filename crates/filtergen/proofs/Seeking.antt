@@ -9,7 +9,7 @@ use Rattle.filter_tree.specs.declared.tree.Direction.TheVariants.{Src, Dst, SrcO
 use Rattle.filtergen.specs.declared.code.Exits.{Exits}
 use Rattle.filtergen.specs.declared.insns.Field.{Field}
 use Rattle.filtergen.specs.declared.insns.Field.TheVariants as fields
-use Rattle.filtergen_facts.specs.declared.lists.Span.{Span}
+use Rattle.filtergen_facts.specs.declared.lists.ValueRange.{ValueRange}
 use Rattle.filtergen.specs.declared.among.Spot.{Spot}
 use Rattle.filtergen.specs.declared.among.Spot.TheVariants as spots
 use Rattle.filter_meaning.specs.declared.verdict.Verdict.{Verdict}
@@ -100,7 +100,7 @@ leads-later {k} {near} extends before = record {
 }
 
 -- one more span is asked for in front of these
-pub chooses-more : {k reach near entry yes : ℕ} (xs : List Span) (x : Span) {exits : Exits} {a b c d : List Insn}
+pub chooses-more : {k reach near entry yes : ℕ} (xs : List ValueRange) (x : ValueRange) {exits : Exits} {a b c d : List Insn}
     → ChoosesFrom k (λ r. among xs r.accumulator) exits entry a b → LeadsAs b yes a exits.yes → Nears yes reach near b c
     → Chooses 6 (λ r. within x.low x.high r.accumulator) (record { yes = near; no = entry }) c d
     → ChoosesFrom (k + 7) (λ r. among (xs ++ (x ∷ [])) r.accumulator) exits (length d) a d
@@ -118,7 +118,7 @@ chooses-more {k} {reach} {near} {entry} {yes} xs x {exits} {a} {b} {c} {d} befor
     by_test false c k l m n first second = second
 
 -- and so is the next of a list
-pub chooses-next : {reach near entry yes n : ℕ} (all : List Span) (i : ℕ) (default : Span) {exits : Exits} {a b c d : List Insn} → i < length all → n ≡ length d
+pub chooses-next : {reach near entry yes n : ℕ} (all : List ValueRange) (i : ℕ) (default : ValueRange) {exits : Exits} {a b c d : List Insn} → i < length all → n ≡ length d
     → ChoosesFrom (7 * i) (λ r. among (take i all) r.accumulator) exits entry a b → LeadsAs b yes a exits.yes → Nears yes reach near b c
     → Chooses 6 (λ r. within (get_or all i default).low (get_or all i default).high r.accumulator) (record { yes = near; no = entry }) c d
     → ChoosesFrom (7 * (i + 1)) (λ r. among (take (i + 1) all) r.accumulator) exits n a d
@@ -127,7 +127,7 @@ chooses-next all i default inside at before leads nears jump =
     rw (at, more, take_more all i default inside) (chooses-more (take i all) (get_or all i default) before leads nears jump)
 
 -- a number is looked for in one more span
-pub found-more : (all : List Span) (i : ℕ) (default : Span) (n : ℕ) (b found old : Bool) → i < length all → b ≡ within (get_or all i default).low (get_or all i default).high n → old ≡ among (take i all) n
+pub found-more : (all : List ValueRange) (i : ℕ) (default : ValueRange) (n : ℕ) (b found old : Bool) → i < length all → b ≡ within (get_or all i default).low (get_or all i default).high n → old ≡ among (take i all) n
     → found ≡ (if b then true else old) → found ≡ among (take (i + 1) all) n
 found-more all i default n b found old inside is before now =
     now
@@ -168,9 +168,9 @@ loads-masked o mask a = record {
     by_value p r (Some n) = answer-first (plain_insn 0x54 mask) a p (with_value Accumulator n r) _ (mask-effect mask p (with_value Accumulator n r))
 
 -- one number is loaded once for all members
-pub found-checked : (spot : Spot) (r : Registers) (p : Packet) (xs : List Span) → 0 < length xs → any_of (found_at spot r) xs p ≡ check (among xs) (spot_value spot r p)
+pub found-checked : (spot : Spot) (r : Registers) (p : Packet) (xs : List ValueRange) → 0 < length xs → any_of (found_at spot r) xs p ≡ check (among xs) (spot_value spot r p)
 found-checked spot r p xs some =
-    any-same (found_at spot r) (λ (x : Span) q. check (within x.low x.high) (spot_value spot r p)) p (λ x. refl) xs ∙ any-checked xs p (spot_value spot r p) some
+    any-same (found_at spot r) (λ (x : ValueRange) q. check (within x.low x.high) (spot_value spot r p)) p (λ x. refl) xs ∙ any-checked xs p (spot_value spot r p) some
 
 -- exits that are not passed, and those behind the same load
 pub passes-none : (spot : Spot) {exits : Exits} (a : List Insn) → AreExits a exits → PassesSpot spot exits exits a
@@ -187,7 +187,7 @@ passes-load f yes-passed no-passed = record {
     unchanged : (p : Packet) (r : Registers) (n : ℕ) → field_of f p ≡ Some n → effect p.captured p.wire (load_insn f) (with_value Accumulator n r) ≡ Goes 0 (with_value Accumulator n r)
     unchanged p r n is = load-effect f p (with_value Accumulator n r) ∙ ap (loaded Accumulator (with_value Accumulator n r)) is
 
-pub follows-passed : {most e : ℕ} (spot : Spot) (xs : List Span) {exits passed : Exits} {a b c : List Insn} → 0 < length xs → e ≡ length b → PassesSpot spot exits passed a
+pub follows-passed : {most e : ℕ} (spot : Spot) (xs : List ValueRange) {exits passed : Exits} {a b c : List Insn} → 0 < length xs → e ≡ length b → PassesSpot spot exits passed a
     → ChoosesFrom most (λ r. among xs r.accumulator) passed e a b → LoadsSpot spot b c
     → Follows same_index (most + 2) (λ r. any_of (found_at spot r) xs) exits (length c) a c
 follows-passed {most} {e} spot xs {exits} {passed} {a} {b} {c} some is passes choice load = record {
@@ -213,7 +213,7 @@ follows-passed {most} {e} spot xs {exits} {passed} {a} {b} {c} some is passes ch
         let s = with_value Accumulator x r in
         sym (ap (λ place. run_from b place p s) is ∙ front-place b p s) ∙ choice.chooses p s ∙ by_choice (among xs x) _ _ m n (yes' x at) (no' x at)
 
-pub follows-sought : {most e : ℕ} (spot : Spot) (xs : List Span) {exits : Exits} {a b c : List Insn} → AreExits a exits → 0 < length xs → e ≡ length b
+pub follows-sought : {most e : ℕ} (spot : Spot) (xs : List ValueRange) {exits : Exits} {a b c : List Insn} → AreExits a exits → 0 < length xs → e ≡ length b
     → ChoosesFrom most (λ r. among xs r.accumulator) exits e a b → LoadsSpot spot b c
     → Follows same_index (most + 2) (λ r. any_of (found_at spot r) xs) exits (length c) a c
 follows-sought spot xs {exits} {a} are some is choice load = follows-passed spot xs some is (passes-none spot a are) choice load
@@ -232,16 +232,16 @@ follows-else {k} {l} {e} {f} t u {exits} {a} {b} {c} same are second first = rec
       ∙ outcome-either (t r p) (u r p) m n;
 }
 
-pub found-same : (spot : Spot) (p : Packet) (r s : Registers) (x : Span) → s.index ≡ r.index → found_at spot s x p ≡ found_at spot r x p
+pub found-same : (spot : Spot) (p : Packet) (r s : Registers) (x : ValueRange) → s.index ≡ r.index → found_at spot s x p ≡ found_at spot r x p
 found-same (spots.At field) p r s x same = refl
 found-same (spots.Masked o mask) p r s x same = refl
 found-same (spots.Behind o) p r s x same = ap (λ i. check (within x.low x.high) (half (i + o) p)) same
 
-pub sought-same : (spot : Spot) (xs : List Span) (p : Packet) (r s : Registers) → s.index ≡ r.index → any_of (found_at spot s) xs p ≡ any_of (found_at spot r) xs p
+pub sought-same : (spot : Spot) (xs : List ValueRange) (p : Packet) (r s : Registers) → s.index ≡ r.index → any_of (found_at spot s) xs p ≡ any_of (found_at spot r) xs p
 sought-same spot xs p r s same = any-same (found_at spot s) (found_at spot r) p (λ x. found-same spot p r s x same) xs
 
 -- the first member's source and destination, and then those of all the others
-pub sides-shared : (source destination : Spot) (r : Registers) (p : Packet) (spans others first : List Span) → spans ≡ others ++ first → length first ≡ 1 → 0 < length others
+pub sides-shared : (source destination : Spot) (r : Registers) (p : Packet) (spans others first : List ValueRange) → spans ≡ others ++ first → length first ≡ 1 → 0 < length others
     → or_else (any_of (found_at source r) first p) (or_else (any_of (found_at destination r) spans p) (any_of (found_at source r) others p))
     ≡ any_of (λ x. or_test (found_at source r x) (found_at destination r x)) spans p
 sides-shared source destination r p spans others [] is one some = absurd (omega (arith, one))
@@ -255,10 +255,10 @@ sides-shared source destination r p spans others (x ∷ []) is one some =
     ∙ ap (λ u. or_else (any_of (found_at source r) (x ∷ []) p) (or_else u (check (among others) v))) (found-checked destination r p (others ++ (x ∷ [])) many)
     ∙ ap (λ u. or_else u (or_else (check (among (others ++ (x ∷ []))) w) (check (among others) v))) (found-checked source r p (x ∷ []) (omega arith))
     ∙ any-pair others x p v w
-    ∙ any-same (λ (y : Span) q. or_else (check (within y.low y.high) v) (check (within y.low y.high) w)) (λ y. or_test (found_at source r y) (found_at destination r y)) p (λ y. refl) (others ++ (x ∷ []))
+    ∙ any-same (λ (y : ValueRange) q. or_else (check (within y.low y.high) v) (check (within y.low y.high) w)) (λ y. or_test (found_at source r y) (found_at destination r y)) p (λ y. refl) (others ++ (x ∷ []))
     ∙ ap (λ l. any_of (λ x'. or_test (found_at source r x') (found_at destination r x')) l p) (sym is)
 
-pub follows-sides : {k e f g : ℕ} (source destination : Spot) (spans others first : List Span) {exits : Exits} {a b c d : List Insn} → spans ≡ others ++ first → length first ≡ 1 → 0 < length others
+pub follows-sides : {k e f g : ℕ} (source destination : Spot) (spans others first : List ValueRange) {exits : Exits} {a b c d : List Insn} → spans ≡ others ++ first → length first ≡ 1 → 0 < length others
     → AreExits a exits → Follows same_index k (λ r. any_of (found_at source r) others) exits g a b
     → Follows same_index (7 * length spans + 2) (λ r. any_of (found_at destination r) spans) (record { yes = exits.yes; no = g }) f b c
     → Follows same_index (7 * length first + 2) (λ r. any_of (found_at source r) first) (record { yes = exits.yes; no = f }) e c d
@@ -272,7 +272,7 @@ follows-sides {k} source destination spans others first is one some are third se
     are later begin))
 
 -- the spot of an address
-pub spot-masked : (o mask : ℕ) (p : Packet) (r : Registers) (x : Span) → found_at (spots.Masked o mask) r x p ≡ in_span x mask o p
+pub spot-masked : (o mask : ℕ) (p : Packet) (r : Registers) (x : ValueRange) → found_at (spots.Masked o mask) r x p ≡ in_span x mask o p
 spot-masked o mask p r x = by_value (word o p)
   where
     by_value : (v : Option ℕ) → check (within x.low x.high) (option_map (λ w. bit_and w mask) v) ≡ check (λ w. within x.low x.high (bit_and w mask)) v
@@ -320,20 +320,20 @@ decides-header {most} {e} {y} {n} t {exits} {a} {b} is yes-passed no-passed inne
         (λ t' kept same. no-passed.leads p t' (unchanged p x t' is' same) ∙ no'.always t' kept)
 
 -- the ports of a list, behind the header
-abbrev pub port_at : Direction → ℕ → Span → Test
+abbrev pub port_at : Direction → ℕ → ValueRange → Test
 port_at d l x = by_direction d (port_behind l x.low x.high 0) (port_behind l x.low x.high 2)
 
-pub header-shared : (d : Direction) (xs : List Span) (p : Packet) → 0 < length xs
-    → behind_length (λ l. any_of (port_at d l) xs) p (byte 14 p) ≡ any_of (λ (x : Span). by_direction d (has_port x.low x.high 0) (has_port x.low x.high 2)) xs p
+pub header-shared : (d : Direction) (xs : List ValueRange) (p : Packet) → 0 < length xs
+    → behind_length (λ l. any_of (port_at d l) xs) p (byte 14 p) ≡ any_of (λ (x : ValueRange). by_direction d (has_port x.low x.high 0) (has_port x.low x.high 2)) xs p
 header-shared d xs p some =
     by_value (byte 14 p)
-    ∙ any-same (λ (x : Span) q. directed d (behind x.low x.high 0 (byte 14 p) p) (behind x.low x.high 2 (byte 14 p) p)) (λ (x : Span). by_direction d (has_port x.low x.high 0) (has_port x.low x.high 2)) p
+    ∙ any-same (λ (x : ValueRange) q. directed d (behind x.low x.high 0 (byte 14 p) p) (behind x.low x.high 2 (byte 14 p) p)) (λ (x : ValueRange). by_direction d (has_port x.low x.high 0) (has_port x.low x.high 2)) p
     (λ x. directed-is d (has_port x.low x.high 0) (has_port x.low x.high 2) p) xs
   where
-    same : (o b : ℕ) (x : Span) → port_behind (4 * bit_and b 15) x.low x.high o p ≡ behind x.low x.high o (Some b) p
+    same : (o b : ℕ) (x : ValueRange) → port_behind (4 * bit_and b 15) x.low x.high o p ≡ behind x.low x.high o (Some b) p
     same o b x = let at : 4 * bit_and b 15 + (14 + o) ≡ 14 + 4 * bit_and b 15 + o = omega arith in ap (λ k. check (within x.low x.high) (half k p)) at
 
-    one : (b : ℕ) (x : Span) → port_at d (4 * bit_and b 15) x p ≡ directed d (behind x.low x.high 0 (Some b) p) (behind x.low x.high 2 (Some b) p)
+    one : (b : ℕ) (x : ValueRange) → port_at d (4 * bit_and b 15) x p ≡ directed d (behind x.low x.high 0 (Some b) p) (behind x.low x.high 2 (Some b) p)
     one b x =
         sym (directed-is d (port_behind (4 * bit_and b 15) x.low x.high 0) (port_behind (4 * bit_and b 15) x.low x.high 2) p)
         ∙ ap (λ v. directed d v (port_behind (4 * bit_and b 15) x.low x.high 2 p)) (same 0 b x)
@@ -345,12 +345,12 @@ header-shared d xs p some =
     aborts SrcOrDst = refl
     aborts SrcAndDst = refl
 
-    by_value : (v : Option ℕ) → behind_length (λ l. any_of (port_at d l) xs) p v ≡ any_of (λ (x : Span) q. directed d (behind x.low x.high 0 v p) (behind x.low x.high 2 v p)) xs p
-    by_value None = sym (any-same (λ (x : Span) q. directed d Abort Abort) (λ (x : Span) q. Abort) p (λ x. aborts d) xs ∙ any-abort xs p some)
-    by_value (Some b) = any-same (port_at d (4 * bit_and b 15)) (λ (x : Span) q. directed d (behind x.low x.high 0 (Some b) p) (behind x.low x.high 2 (Some b) p)) p (λ x. one b x) xs
+    by_value : (v : Option ℕ) → behind_length (λ l. any_of (port_at d l) xs) p v ≡ any_of (λ (x : ValueRange) q. directed d (behind x.low x.high 0 v p) (behind x.low x.high 2 v p)) xs p
+    by_value None = sym (any-same (λ (x : ValueRange) q. directed d Abort Abort) (λ (x : ValueRange) q. Abort) p (λ x. aborts d) xs ∙ any-abort xs p some)
+    by_value (Some b) = any-same (port_at d (4 * bit_and b 15)) (λ (x : ValueRange) q. directed d (behind x.low x.high 0 (Some b) p) (behind x.low x.high 2 (Some b) p)) p (λ x. one b x) xs
 
 -- a value is computed once for all members
-pub decides-sought : {most m e : ℕ} (xs : List Span) {v : Packet → Option ℕ} {exits : Exits} {a b c : List Insn} (entry : ℕ) → AreExits a exits → e ≡ length b → entry ≡ length c
+pub decides-sought : {most m e : ℕ} (xs : List ValueRange) {v : Packet → Option ℕ} {exits : Exits} {a b c : List Insn} (entry : ℕ) → AreExits a exits → e ≡ length b → entry ≡ length c
     → ChoosesFrom most (λ r. among xs r.accumulator) exits e a b → Computes m v 0 b c → Decides (most + m) (λ p. check (among xs) (v p)) exits entry a c
 decides-sought {most} {m} {e} xs {v} {exits} {a} {b} {c} entry are is at choice computes =
     decides-same (λ p. check_both (λ x y. among xs x) (v p) (Some 0)) (λ p. check (among xs) (v p)) (λ p bytes. by_value (v p))

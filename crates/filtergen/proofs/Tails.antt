@@ -8,7 +8,7 @@ use Rattle.bpfvm.specs.Machine.{big_endian}
 use Rattle.filter_meaning.proofs.Numbers.{number-some, number-none}
 use Rattle.filter_meaning.specs.declared.verdict.Verdict.TheVariants.{Yes, No, Abort}
 use Rattle.filter_meaning.specs.Meaning.{Packet, HasBytes, and_then, or_else, or_test, check, decided, half, word, six, within}
-use Rattle.filtergen_facts.specs.declared.lists.Span.{Span}
+use Rattle.filtergen_facts.specs.declared.lists.ValueRange.{ValueRange}
 use Rattle.filtergen_facts.specs.Lists.{any_of, has_tail}
 use Rattle.filtergen.specs.Listed.{among}
 use Rattle.filtergen_facts.proofs.Joining.{any-same, any-abort, any-no}
@@ -16,7 +16,7 @@ use Rattle.filtergen.proofs.Neighbours.{among-decided, decided-either}
 use Rattle.filtergen.proofs.Six.{fold-joined, all-dropped, four_below}
 
 -- whether a number of two bytes and one of four are of a member
-abbrev pub is_tail : ℕ → ℕ → Span → Bool
+abbrev pub is_tail : ℕ → ℕ → ValueRange → Bool
 is_tail head n x = (n / 2 ^ 32 == head) && within x.low x.high (n % 2 ^ 32)
 
 -- the last four of more bytes
@@ -82,7 +82,7 @@ six-parted o high low number p bytes below is = by_length (cases_lt (length p.ca
         ∙ sym (ap (check (λ k. k == number)) there.2)
 
 -- the first two of all members are one number
-any-headed : (b : Bool) (xs : List Span) (n : ℕ) (p : Packet) → any_of (λ (x : Span) q. decided (b && within x.low x.high n)) xs p ≡ and_then (decided (among xs n)) (decided b)
+any-headed : (b : Bool) (xs : List ValueRange) (n : ℕ) (p : Packet) → any_of (λ (x : ValueRange) q. decided (b && within x.low x.high n)) xs p ≡ and_then (decided (among xs n)) (decided b)
 any-headed true xs n p = among-decided xs p n ∙ by_test (among xs n)
   where
     by_test : (c : Bool) → decided c ≡ and_then (decided c) Yes
@@ -94,12 +94,12 @@ any-headed false xs n p = any-no xs p ∙ by_test (among xs n)
     by_test true = refl
     by_test false = refl
 
-tails-missing : (head o : ℕ) (xs : List Span) (p : Packet) → length p.captured < o + 6 → 0 < length xs → any_of (λ x. has_tail head x o) xs p ≡ Abort
+tails-missing : (head o : ℕ) (xs : List ValueRange) (p : Packet) → length p.captured < o + 6 → 0 < length xs → any_of (λ x. has_tail head x o) xs p ≡ Abort
 tails-missing head o xs p past some =
-    any-same (λ x. has_tail head x o) (λ (x : Span) q. Abort) p (λ x. ap (check (λ n. is_tail head n x)) (number-none p.captured o 6 past)) xs ∙ any-abort xs p some
+    any-same (λ x. has_tail head x o) (λ (x : ValueRange) q. Abort) p (λ x. ap (check (λ n. is_tail head n x)) (number-none p.captured o 6 past)) xs ∙ any-abort xs p some
 
 -- one test of the last four bytes, and one of the first two
-pub tails-shared : (head o : ℕ) (xs : List Span) (p : Packet) → HasBytes p → 0 < length xs
+pub tails-shared : (head o : ℕ) (xs : List ValueRange) (p : Packet) → HasBytes p → 0 < length xs
     → and_then (check (among xs) (word (o + 2) p)) (check (λ n. n == head) (half o p)) ≡ any_of (λ x. has_tail head x o) xs p
 tails-shared head o xs p bytes some = by_length (cases_lt (length p.captured) (o + 6))
   where
@@ -119,22 +119,22 @@ tails-shared head o xs p bytes some = by_length (cases_lt (length p.captured) (o
         ap (λ v. and_then (check (among xs) v) (check (λ k. k == head) (half o p))) there.4
         ∙ ap (λ v. and_then (decided (among xs n)) (check (λ k. k == head) v)) there.3
         ∙ sym (any-headed (m == head) xs n p)
-        ∙ any-same (λ (x : Span) q. decided ((m == head) && within x.low x.high n)) (λ x. has_tail head x o) p
+        ∙ any-same (λ (x : ValueRange) q. decided ((m == head) && within x.low x.high n)) (λ x. has_tail head x o) p
         (λ x.
         ap (λ k. decided ((k == head) && within x.low x.high n)) (sym first)
         ∙ ap (λ k. decided ((number / 2 ^ 32 == head) && within x.low x.high k)) (sym last)
         ∙ sym (ap (check (λ k. is_tail head k x)) there.2)) xs
 
 -- whether one of them has it
-abbrev some_of : (Span → Bool) → List Span → Bool
+abbrev some_of : (ValueRange → Bool) → List ValueRange → Bool
 some_of f [] = false
 some_of f (x ∷ xs) = if f x then true else some_of f xs
 
-any-decided : (f : Span → Bool) (xs : List Span) (p : Packet) → any_of (λ x q. decided (f x)) xs p ≡ decided (some_of f xs)
+any-decided : (f : ValueRange → Bool) (xs : List ValueRange) (p : Packet) → any_of (λ x q. decided (f x)) xs p ≡ decided (some_of f xs)
 any-decided f [] p = refl
 any-decided f (x ∷ xs) p = ap (λ v. or_else v (decided (f x))) (any-decided f xs p) ∙ decided-either (some_of f xs) (f x)
 
-either-decided : (f g : Span → Bool) (xs : List Span) (p : Packet) → any_of (λ x q. or_else (decided (f x)) (decided (g x))) xs p ≡ or_else (decided (some_of f xs)) (decided (some_of g xs))
+either-decided : (f g : ValueRange → Bool) (xs : List ValueRange) (p : Packet) → any_of (λ x q. or_else (decided (f x)) (decided (g x))) xs p ≡ or_else (decided (some_of f xs)) (decided (some_of g xs))
 either-decided f g [] p = refl
 either-decided f g (x ∷ xs) p =
     ap (λ v. or_else v (or_else (decided (f x)) (decided (g x)))) (either-decided f g xs p) ∙ by_test (some_of f xs) (some_of g xs) (f x) (g x)
@@ -150,7 +150,7 @@ either-decided f g (x ∷ xs) p =
     by_test false false false false = refl
 
 -- where the source is there, the destination is, so that all sources may be asked for first
-pub ethernet-shared : (head : ℕ) (xs : List Span) (p : Packet) → HasBytes p → 0 < length xs
+pub ethernet-shared : (head : ℕ) (xs : List ValueRange) (p : Packet) → HasBytes p → 0 < length xs
     → or_else (any_of (λ x. has_tail head x 6) xs p) (any_of (λ x. has_tail head x 0) xs p) ≡ any_of (λ x. or_test (has_tail head x 6) (has_tail head x 0)) xs p
 ethernet-shared head xs p bytes some = by_length (cases_lt (length p.captured) 12)
   where
@@ -158,15 +158,15 @@ ethernet-shared head xs p bytes some = by_length (cases_lt (length p.captured) 1
         → or_else (any_of (λ x. has_tail head x 6) xs p) (any_of (λ x. has_tail head x 0) xs p) ≡ any_of (λ x. or_test (has_tail head x 6) (has_tail head x 0)) xs p
     by_length (inl past) =
         ap (λ v. or_else v (any_of (λ x. has_tail head x 0) xs p)) (tails-missing head 6 xs p past some)
-        ∙ sym (any-same (λ x. or_test (has_tail head x 6) (has_tail head x 0)) (λ (x : Span) q. Abort) p
+        ∙ sym (any-same (λ x. or_test (has_tail head x 6) (has_tail head x 0)) (λ (x : ValueRange) q. Abort) p
         (λ x. ap (λ v. or_else (check (λ n. is_tail head n x) v) (has_tail head x 0 p)) (number-none p.captured 6 6 past)) xs ∙ any-abort xs p some)
     by_length (inr inside) =
         let source = six-there 6 p bytes inside in
         let destination = six-there 0 p bytes (omega arith) in
-        let f : Span → Bool = is_tail head (source.0 * 2 ^ 32 + source.1) in
-        let g : Span → Bool = is_tail head (destination.0 * 2 ^ 32 + destination.1) in
-        let first : (x : Span) → has_tail head x 6 p ≡ decided (f x) = λ x. ap (check (λ n. is_tail head n x)) source.2 in
-        let second : (x : Span) → has_tail head x 0 p ≡ decided (g x) = λ x. ap (check (λ n. is_tail head n x)) destination.2 in
+        let f : ValueRange → Bool = is_tail head (source.0 * 2 ^ 32 + source.1) in
+        let g : ValueRange → Bool = is_tail head (destination.0 * 2 ^ 32 + destination.1) in
+        let first : (x : ValueRange) → has_tail head x 6 p ≡ decided (f x) = λ x. ap (check (λ n. is_tail head n x)) source.2 in
+        let second : (x : ValueRange) → has_tail head x 0 p ≡ decided (g x) = λ x. ap (check (λ n. is_tail head n x)) destination.2 in
         ap (λ v. or_else v (any_of (λ x. has_tail head x 0) xs p)) (any-same (λ x. has_tail head x 6) (λ x q. decided (f x)) p first xs ∙ any-decided f xs p)
         ∙ ap (or_else (decided (some_of f xs))) (any-same (λ x. has_tail head x 0) (λ x q. decided (g x)) p second xs ∙ any-decided g xs p)
         ∙ sym (either-decided f g xs p)

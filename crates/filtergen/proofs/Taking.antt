@@ -5,8 +5,8 @@ use Rattle.filtergen_facts.specs.declared.lists.Chain.{Chain}
 use Rattle.filtergen_facts.specs.declared.lists.Chain.TheVariants as chains
 use Rattle.filtergen_facts.specs.declared.lists.Form.{Form}
 use Rattle.filtergen_facts.specs.declared.lists.Form.TheVariants as forms
-use Rattle.filtergen_facts.specs.declared.lists.Kind.{Kind}
-use Rattle.filtergen_facts.specs.declared.lists.Span.{Span}
+use Rattle.filtergen_facts.specs.declared.lists.ListKind.{ListKind}
+use Rattle.filtergen_facts.specs.declared.lists.ValueRange.{ValueRange}
 use Rattle.filtergen_facts.specs.declared.lists.Member.{Member}
 use Rattle.filter_meaning.specs.declared.verdict.Verdict.{Verdict}
 use Rattle.filter_meaning.specs.declared.verdict.Verdict.TheVariants.{Yes, No, Abort}
@@ -46,25 +46,25 @@ listed_fits forms.EtherHost n many = omega (arith, many)
 listed_fits forms.Bytes n many = omega (arith, many)
 
 -- a relation alone
-pub bytes-kind : (k : Kind) (xs : List Span) (p : Packet) → k.form ≡ forms.Bytes → any_of (bytes_test k.bytes) xs p ≡ any_of (kind_test k) xs p
+pub bytes-kind : (k : ListKind) (xs : List ValueRange) (p : Packet) → k.form ≡ forms.Bytes → any_of (bytes_test k.bytes) xs p ≡ any_of (kind_test k) xs p
 bytes-kind k xs p is = any-same (bytes_test k.bytes) (kind_test k) p (λ x. ap (λ f. form_test f (direction_of k.sides) k.mask k.head k.bytes x p) (sym is)) xs
 
-pub relation-fits : (k : Kind) (xs : List Span) → k.form ≡ forms.Bytes → length xs ≡ 1 → 2 + (7 * length xs + 20) ≤ weighed k.form (length xs)
+pub relation-fits : (k : ListKind) (xs : List ValueRange) → k.form ≡ forms.Bytes → length xs ≡ 1 → 2 + (7 * length xs + 20) ≤ weighed k.form (length xs)
 relation-fits k xs is one =
     let weight : weighed k.form (length xs) ≡ 30 = ap (λ f. weighed f (length xs)) is ∙ ap (weighed forms.Bytes) one in
     omega (arith, weight, one)
 
 -- an Ethernet host alone
-pub host-kind : (k : Kind) (xs : List Span) (p : Packet) → k.form ≡ forms.EtherHost → any_of (λ x. by_direction (direction_of k.sides) (has_tail k.head x 6) (has_tail k.head x 0)) xs p ≡ any_of (kind_test k) xs p
+pub host-kind : (k : ListKind) (xs : List ValueRange) (p : Packet) → k.form ≡ forms.EtherHost → any_of (λ x. by_direction (direction_of k.sides) (has_tail k.head x 6) (has_tail k.head x 0)) xs p ≡ any_of (kind_test k) xs p
 host-kind k xs p is = any-same (λ x. by_direction (direction_of k.sides) (has_tail k.head x 6) (has_tail k.head x 0)) (kind_test k) p (λ x. ap (λ f. form_test f (direction_of k.sides) k.mask k.head k.bytes x p) (sym is)) xs
 
-pub host-fits : (k : Kind) (xs : List Span) → k.form ≡ forms.EtherHost → length xs ≡ 1 → 2 + (14 * length xs + 12) ≤ weighed k.form (length xs)
+pub host-fits : (k : ListKind) (xs : List ValueRange) → k.form ≡ forms.EtherHost → length xs ≡ 1 → 2 + (14 * length xs + 12) ≤ weighed k.form (length xs)
 host-fits k xs is one =
     let weight : weighed k.form (length xs) ≡ 40 = ap (λ f. weighed f (length xs)) is ∙ ap (weighed forms.EtherHost) one in
     omega (arith, weight, one)
 
 -- a member alone
-pub alone-told : (kind : Kind) (primitive : Option Primitive) (spans : List Span) → IsAlone kind primitive spans → 0 < length spans → length spans ≤ 1
+pub alone-told : (kind : ListKind) (primitive : Option Primitive) (spans : List ValueRange) → IsAlone kind primitive spans → 0 < length spans → length spans ≤ 1
     → MatchOption primitive (kind.form ≡ forms.Bytes) (λ q. ((p : Packet) → primitive_test q p ≡ any_of (kind_test kind) spans p) × (weighed kind.form (length spans) ≡ 40))
 alone-told kind primitive [] alone some few = absurd (omega arith)
 alone-told kind primitive (x ∷ []) alone some few = alone x refl
@@ -110,7 +110,7 @@ left-settled c (Some w) t u p same = by_chain c (meaning w p) same
     by_chain chains.NoneOf Abort same' = refl
 
 -- how much room those of one kind and the others take
-pub rest_fits : (first next : Member) (all rest others : List Member) (kind : Kind) (spans : List Span) → Groups first all kind spans rest → rest ≡ others ++ (next ∷ [])
+pub rest_fits : (first next : Member) (all rest others : List Member) (kind : ListKind) (spans : List ValueRange) → Groups first all kind spans rest → rest ≡ others ++ (next ∷ [])
     → weighed next.kind.form 1 + members_weight others + weighed kind.form (length spans) ≤ weighed first.kind.form 1 + members_weight all
 rest_fits first next all rest others kind spans groups parts =
     let more : members_weight rest ≡ members_weight others + weighed next.kind.form 1 = ap members_weight parts ∙ weight-append others next in
@@ -131,7 +131,7 @@ emits-list {chain} {t} {u} {left} {first} {others} ends made = record {
 }
 
 -- the code of members, all of one kind
-pub emits-alone : {known : Known} {ways renewed : Ways} {entry : Way} {a b : List Insn} (first : Member) (all : List Member) (kind : Kind) (spans : List Span) → Groups first all kind spans []
+pub emits-alone : {known : Known} {ways renewed : Ways} {entry : Way} {a b : List Insn} (first : Member) (all : List Member) (kind : ListKind) (spans : List ValueRange) → Groups first all kind spans []
     → DecidesBehind known (weighed kind.form (length spans)) (any_of (kind_test kind) spans) ways entry a b × RenewsBoth ways renewed a b
     → EmitsMembers known first all ways renewed entry a b
 emits-alone first all kind spans groups made = record {
@@ -142,7 +142,7 @@ emits-alone first all kind spans groups made = record {
 }
 
 -- those of one kind, and behind them the others
-pub emits-more : {known : Known} {ways second renewed : Ways} {later entry : Way} {a b c : List Insn} (first next : Member) (all rest others : List Member) (kind : Kind) (spans : List Span) → Groups first all kind spans rest
+pub emits-more : {known : Known} {ways second renewed : Ways} {later entry : Way} {a b c : List Insn} (first next : Member) (all rest others : List Member) (kind : ListKind) (spans : List ValueRange) → Groups first all kind spans rest
     → rest ≡ others ++ (next ∷ []) → EmitsMembers known next others ways second later a b
     → DecidesBehind known (weighed kind.form (length spans)) (any_of (kind_test kind) spans) (record { yes = second.yes; no = later }) entry b c
     × RenewsBoth (record { yes = second.yes; no = later }) renewed b c

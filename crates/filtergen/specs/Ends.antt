@@ -11,7 +11,7 @@ use Rattle.filtergen_facts.specs.Weights.{weight, need}
 use Rattle.filtergen_facts.specs.Lists.{size}
 use Rattle.filtergen.specs.declared.ways.Way.{Way}
 use Rattle.filtergen.specs.declared.ways.Ways.{Ways}
-use Rattle.filtergen.specs.declared.compiler.Kept.{Kept}
+use Rattle.filtergen.specs.declared.compiler.KeptWays.{KeptWays}
 use Rattle.filtergen.specs.Emission.{Extends}
 use Rattle.filtergen.specs.Ways.{AreWays, RenewsBoth, DecidesBehind}
 
@@ -26,11 +26,11 @@ left_ways chains.AnyOf entry ways = record { yes = ways.yes; no = entry }
 left_ways chains.NoneOf entry ways = record { yes = entry; no = ways.no }
 
 -- the ways of a tree, where what is left of it has these
-abbrev pub kept_ways : Kept → Ways → Ways
+abbrev pub kept_ways : KeptWays → Ways → Ways
 kept_ways kept last = record { yes = unwrap_or kept.yes last.yes; no = unwrap_or kept.no last.no }
 
 -- what is kept behind which a right end has these ways
-abbrev pub kept_behind : Chain → Kept → Ways → Kept
+abbrev pub kept_behind : Chain → KeptWays → Ways → KeptWays
 kept_behind chains.AnyOf kept ways = record { yes = kept.yes; no = Some (unwrap_or kept.no ways.no) }
 kept_behind chains.NoneOf kept ways = record { yes = Some (unwrap_or kept.yes ways.yes); no = kept.no }
 

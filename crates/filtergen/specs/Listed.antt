@@ -11,7 +11,7 @@ use Rattle.filtergen_facts.specs.declared.lists.Chain.{Chain}
 use Rattle.filtergen_facts.specs.declared.lists.Chain.TheVariants as chains
 use Rattle.filtergen_facts.specs.declared.lists.Form.{Form}
 use Rattle.filtergen_facts.specs.declared.lists.Form.TheVariants as forms
-use Rattle.filtergen_facts.specs.declared.lists.Span.{Span}
+use Rattle.filtergen_facts.specs.declared.lists.ValueRange.{ValueRange}
 use Rattle.filtergen_facts.specs.Weights.{weight, need}
 use Rattle.filtergen_facts.specs.declared.lists.Member.{Member}
 use Rattle.filtergen_facts.specs.Lists.{any_of, weighed, member_test, members_weight, AreFree, chained, left_chained, left_weight, left_size, left_need, size}
@@ -25,7 +25,7 @@ use Rattle.filtergen.specs.Emission.{IsPlace, AreExits, run_from, Extends, front
 use Rattle.filtergen.specs.Ways.{RenewsBoth, DecidesBehind}
 
 -- in one of these spans
-abbrev pub among : List Span → ℕ → Bool
+abbrev pub among : List ValueRange → ℕ → Bool
 among [] n = false
 among (x ∷ xs) n = if within x.low x.high n then true else among xs n
 
@@ -40,7 +40,7 @@ spot_value (spots.At field) r p = field_of field p
 spot_value (spots.Masked o mask) r p = option_map (λ w. bit_and w mask) (word o p)
 spot_value (spots.Behind o) r p = half (r.index + o) p
 
-abbrev pub found_at : Spot → Registers → Span → Test
+abbrev pub found_at : Spot → Registers → ValueRange → Test
 found_at spot r x p = check (within x.low x.high) (spot_value spot r p)
 
 -- a run that ends with 0 where there is no number, and else goes on with the number in the accumulator

@@ -12,8 +12,8 @@ use Rattle.filter_tree.specs.declared.tree.Plain.TheVariants as words
 use Rattle.filter_tree.specs.declared.tree.Primitive.{Primitive}
 use Rattle.filter_tree.specs.declared.tree.Primitive.TheVariants.{Protocol, Net, EtherHost, Ports, IpProto, EtherProto, EtherBroadcast, EtherMulticast, IpMulticast, Less, Greater}
 use Rattle.filter_tree.specs.declared.tree.Transport.{Transport}
-use Rattle.filtergen.specs.declared.primitives.Side.{Side}
-use Rattle.filtergen.specs.declared.primitives.Side.TheVariants as sides
+use Rattle.filtergen.specs.declared.primitives.FieldTest.{FieldTest}
+use Rattle.filtergen.specs.declared.primitives.FieldTest.TheVariants as sides
 use Rattle.filtergen.specs.declared.insns.Operand.{Operand}
 use Rattle.filtergen.specs.declared.insns.Operand.TheVariants as operands
 use Rattle.filtergen.specs.declared.values.Leaf.{Leaf}
@@ -23,15 +23,15 @@ use Rattle.filtergen.specs.declared.values.Base.TheVariants as bases
 use Rattle.filtergen.specs.Remaining.{is_unfragmented}
 use Rattle.filter_meaning.specs.Meaning.{Packet, arithmetic_of, in_frame, behind_ethernet, behind_header, Test, and_test, or_test, check, byte, half, is_type, is_first_fragment_of, protocol_number, has_address, is_address, within}
 
-abbrev pub side_cost : Side → ℕ
+abbrev pub side_cost : FieldTest → ℕ
 side_cost (sides.Ip offset address mask) = 5
 side_cost (sides.Ethernet offset address) = 8
 
-abbrev pub side_offset : Side → ℕ
+abbrev pub side_offset : FieldTest → ℕ
 side_offset (sides.Ip offset address mask) = offset
 side_offset (sides.Ethernet offset address) = offset
 
-abbrev pub side_test : Side → Test
+abbrev pub side_test : FieldTest → Test
 side_test (sides.Ip offset address mask) = has_address address mask offset
 side_test (sides.Ethernet offset address) = is_address address.octets offset
 

@@ -12,7 +12,7 @@ use crate::code::{Code, Exits, Full, REACH};
 use crate::insns::{Field, Jump, load_insn, plain_insn};
 use crate::values::base_of;
 use bpfvm::code;
-use filtergen_facts::{Bytes, Sides, Span};
+use filtergen_facts::{Bytes, Sides, ValueRange};
 
 /// From how far the jumps of a list reach its exit: what one member takes may come in between.
 const NEAR: usize = REACH - 6;
@@ -41,14 +41,14 @@ impl Spot {
 }
 
 /// Whether a list is of two hosts, of either side.
-pub(crate) fn are_two_hosts(sides: Sides, mask: u32, spans: &[Span]) -> bool {
+pub(crate) fn are_two_hosts(sides: Sides, mask: u32, spans: &[ValueRange]) -> bool {
     sides == Sides::Either && mask == u32::MAX && spans.len() == 2
 }
 
 impl Code {
     /// Goes to an exit by whether the accumulator is in one of these spans, of which the first one is tested last. An exit that
     /// comes out of reach is brought near once for all that follow. Where both exits are one, nothing is compared.
-    fn among(&mut self, spans: &[Span], exits: Exits) -> Result<usize, Full>
+    fn among(&mut self, spans: &[ValueRange], exits: Exits) -> Result<usize, Full>
         requires exits { AreExits self.old exits }
         ensures { OrFull (7 * length spans.now) self.old result (λ entry.
             ChoosesFrom (7 * length spans.now) (λ r. among spans.now r.accumulator) exits entry self.old self.new
@@ -95,7 +95,7 @@ impl Code {
     }
 
     /// Goes to an exit by whether the number at a spot is in one of these spans. An exit that begins with the same load is passed.
-    pub fn seek(&mut self, spot: Spot, spans: &[Span], exits: Exits) -> Result<usize, Full>
+    pub fn seek(&mut self, spot: Spot, spans: &[ValueRange], exits: Exits) -> Result<usize, Full>
         requires some { 0 < length spans.now }
         requires exits { AreExits self.old exits }
         ensures { OrFull (7 * length spans.now + 2) self.old result (λ entry.
@@ -117,7 +117,7 @@ impl Code {
         sides: Sides,
         source: Spot,
         destination: Spot,
-        spans: &[Span],
+        spans: &[ValueRange],
         exits: Exits,
     ) -> Result<usize, Full>
         requires many { 2 ≤ length spans.now }
@@ -148,7 +148,12 @@ impl Code {
     }
 
     /// Bytes of a layer, where the packet has it.
-    pub fn seek_bytes(&mut self, bytes: Bytes, spans: &[Span], exits: Exits) -> Result<usize, Full>
+    pub fn seek_bytes(
+        &mut self,
+        bytes: Bytes,
+        spans: &[ValueRange],
+        exits: Exits,
+    ) -> Result<usize, Full>
         requires some { 0 < length spans.now }
         requires exits { AreExits self.old exits }
         ensures { OrFull (7 * length spans.now + 2) self.old result (λ entry. Decides (7 * length spans.now + 2)
@@ -163,7 +168,7 @@ impl Code {
     }
 
     /// What a list of addresses asks last, of the accumulator: all members, of one side or of the destination.
-    pub fn among_last(&mut self, spans: &[Span], exits: Exits) -> Result<usize, Full>
+    pub fn among_last(&mut self, spans: &[ValueRange], exits: Exits) -> Result<usize, Full>
         requires some { 0 < length spans.now }
         requires exits { AreExits self.old exits }
         ensures { OrFull (7 * length spans.now) self.old result (λ entry.
@@ -179,7 +184,7 @@ impl Code {
         &mut self,
         offset: u32,
         mask: u32,
-        spans: &[Span],
+        spans: &[ValueRange],
         exits: Exits,
     ) -> Result<usize, Full>
         requires some { 0 < length spans.now }
@@ -194,7 +199,7 @@ impl Code {
     }
 
     /// Goes to an exit by whether the accumulator is in a span of a list, but for its first member, which stands last.
-    fn among_others(&mut self, spans: &[Span], exits: Exits) -> Result<usize, Full>
+    fn among_others(&mut self, spans: &[ValueRange], exits: Exits) -> Result<usize, Full>
         requires many { 2 ≤ length spans.now }
         requires exits { AreExits self.old exits }
         ensures { OrFull (7 * (length spans.now - 1)) self.old result (λ entry.
@@ -207,7 +212,7 @@ impl Code {
     }
 
     /// The same of that member alone.
-    fn among_first(&mut self, spans: &[Span], exits: Exits) -> Result<usize, Full>
+    fn among_first(&mut self, spans: &[ValueRange], exits: Exits) -> Result<usize, Full>
         requires many { 2 ≤ length spans.now }
         requires exits { AreExits self.old exits }
         ensures { OrFull 7 self.old result (λ entry.
@@ -225,7 +230,7 @@ impl Code {
         &mut self,
         offsets: (u32, u32),
         mask: u32,
-        spans: &[Span],
+        spans: &[ValueRange],
         exits: Exits,
     ) -> Result<usize, Full>
         requires destination { offsets.1 ≤ 40 }
@@ -260,7 +265,7 @@ impl Code {
         offsets: (u32, u32),
         sides: Sides,
         mask: u32,
-        spans: &[Span],
+        spans: &[ValueRange],
         exits: Exits,
     ) -> Result<usize, Full>
         requires destination { offsets.1 ≤ 40 }
@@ -285,7 +290,7 @@ impl Code {
         offsets: (u32, u32),
         sides: Sides,
         mask: u32,
-        spans: &[Span],
+        spans: &[ValueRange],
         exits: Exits,
     ) -> Result<usize, Full>
         requires destination { offsets.1 ≤ 40 }
@@ -310,7 +315,7 @@ impl Code {
         &mut self,
         offset: u32,
         head: u16,
-        spans: &[Span],
+        spans: &[ValueRange],
         exits: Exits,
     ) -> Result<usize, Full>
         requires offset { offset ≤ 40 }
@@ -348,7 +353,7 @@ impl Code {
         &mut self,
         sides: Sides,
         head: u16,
-        spans: &[Span],
+        spans: &[ValueRange],
         exits: Exits,
     ) -> Result<usize, Full>
         requires some { 0 < length spans.now }
@@ -376,7 +381,12 @@ impl Code {
     }
 
     /// Ports behind the IPv4 header. An exit that begins with the same header's length is passed.
-    pub fn seek_ports(&mut self, sides: Sides, spans: &[Span], exits: Exits) -> Result<usize, Full>
+    pub fn seek_ports(
+        &mut self,
+        sides: Sides,
+        spans: &[ValueRange],
+        exits: Exits,
+    ) -> Result<usize, Full>
         requires many { 2 ≤ length spans.now }
         requires exits { AreExits self.old exits }
         ensures { OrFull (14 * length spans.now + 7) self.old result (λ entry. Decides (14 * length spans.now + 7)

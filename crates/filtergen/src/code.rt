@@ -16,7 +16,7 @@ use crate::insns::{Field, Jump, Operand, branch_insn, load_insn, plain_insn};
 use crate::listed::has_number;
 use arrayvec::ArrayVec;
 use bpfvm::{Insn, Program, code};
-use filtergen_facts::Span;
+use filtergen_facts::ValueRange;
 use filtergen_trim::{MAX_CODE, without_unreached};
 use std::marker::Model;
 
@@ -232,7 +232,7 @@ impl Code {
 
     /// The place, or the one to which the comparisons there lead where each fails: for a run that has one of these numbers in the
     /// accumulator.
-    fn behind_others(&self, spans: &[Span], place: usize) -> usize
+    fn behind_others(&self, spans: &[ValueRange], place: usize) -> usize
         requires { IsPlace self.now place }
         ensures { FailsTo (among spans.now) place result self.now }
     {
@@ -272,7 +272,7 @@ impl Code {
     }
 
     /// The place, or one behind the comparisons there that fail where the number of the packet is one of these, if that is near.
-    pub fn beyond(&self, field: Field, spans: &[Span], place: usize) -> usize
+    pub fn beyond(&self, field: Field, spans: &[ValueRange], place: usize) -> usize
         requires { IsPlace self.now place }
         ensures { Skips field (among spans.now) place result self.now }
     {

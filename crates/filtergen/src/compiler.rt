@@ -35,7 +35,7 @@ struct Emitted {
 
 /// The right end of an expression, of which the code is there.
 #[derive(Clone, Copy)]
-struct End<'a> {
+struct RightEnd<'a> {
     emitted: Emitted,
     /// What stands to its left. Where nothing does, it is the whole expression.
     left: Option<&'a Expr>,
@@ -43,12 +43,12 @@ struct End<'a> {
 
 /// Ways that lead on as an expression's, which what is left of it does not renew.
 #[derive(Clone, Copy)]
-pub(crate) struct Kept {
+pub(crate) struct KeptWays {
     pub yes: Option<Way>,
     pub no: Option<Way>,
 }
 
-impl Kept {
+impl KeptWays {
     /// The ways of the expression, where what is left of it has these.
     fn ways(self, last: Ways) -> Ways
         ensures { result ≡ kept_ways self last }
@@ -60,15 +60,15 @@ impl Kept {
     }
 
     /// Those behind which a right end has these ways.
-    fn behind(self, chain: Chain, ways: Ways) -> Kept
+    fn behind(self, chain: Chain, ways: Ways) -> KeptWays
         ensures { result ≡ kept_behind chain self ways }
     {
         match chain {
-            Chain::AnyOf => Kept {
+            Chain::AnyOf => KeptWays {
                 yes: self.yes,
                 no: Some(self.no.unwrap_or(ways.no)),
             },
-            Chain::NoneOf => Kept {
+            Chain::NoneOf => KeptWays {
                 yes: Some(self.yes.unwrap_or(ways.yes)),
                 no: self.no,
             },
@@ -237,7 +237,7 @@ impl Code {
         left: &'a Expr,
         right: &Expr,
         ways: Ways,
-    ) -> Result<Option<End<'a>>, Full>
+    ) -> Result<Option<RightEnd<'a>>, Full>
         requires ways { AreWays self.old ways }
         ensures { OrFull (weight (tree_of left.now) + weight (tree_of right.now)) self.old result (λ found.
             MatchOption found (self.new ≡ self.old) (λ listed. MatchOption listed.left
@@ -254,7 +254,7 @@ impl Code {
         let members = self.members(known, list.first, &mut others, turned(chain, ways))?;
         let (entry, ways) = (members.entry, turned(chain, members.ways));
         let emitted = Emitted { entry, ways };
-        Ok(Some(End { emitted, left }))
+        Ok(Some(RightEnd { emitted, left }))
     }
 
     /// The same, where the last links may be those of a list. Else there is none, and nothing is cleared.
@@ -265,7 +265,7 @@ impl Code {
         left: &'a Expr,
         right: &Expr,
         ways: Ways,
-    ) -> Result<Option<End<'a>>, Full>
+    ) -> Result<Option<RightEnd<'a>>, Full>
         requires ways { AreWays self.old ways }
         ensures { OrFull (weight (tree_of left.now) + weight (tree_of right.now)) self.old result (λ found.
             MatchOption found (self.new ≡ self.old) (λ listed. MatchOption listed.left
@@ -289,7 +289,7 @@ impl Code {
         left: &'a Expr,
         right: &Expr,
         ways: Ways,
-    ) -> Result<End<'a>, Full>
+    ) -> Result<RightEnd<'a>, Full>
         requires need { need (tree_of right.now) ≤ 16 }
         requires ways { AreWays self.old ways }
         ensures { OrFull (weight (tree_of left.now) + weight (tree_of right.now)) self.old result (λ end. MatchOption end.left
@@ -304,13 +304,18 @@ impl Code {
         let known = chain.known_behind(known, Some(left));
         let emitted = self.expression(known, right, ways)?;
         let left = Some(left);
-        Ok(End { emitted, left })
+        Ok(RightEnd { emitted, left })
     }
 
     /// What is left of the right end of an expression: of a chain it is the last link or a list, of any other one the whole.
     #[inline(never)]
     #[cycle(expression)]
-    fn right_end<'a>(&mut self, known: Known, expr: &'a Expr, ways: Ways) -> Result<End<'a>, Full>
+    fn right_end<'a>(
+        &mut self,
+        known: Known,
+        expr: &'a Expr,
+        ways: Ways,
+    ) -> Result<RightEnd<'a>, Full>
         requires need { need (tree_of expr.now) ≤ 16 }
         requires ways { AreWays self.old ways }
         ensures { OrFull (weight (tree_of expr.now)) self.old result (λ end. MatchOption end.left
@@ -344,7 +349,7 @@ impl Code {
             }
         };
         let left = None;
-        Ok(End { emitted, left })
+        Ok(RightEnd { emitted, left })
     }
 
     /// What is left of an expression behind what is known. It goes on by its ways. The right end is there before what stands to its left, and
@@ -360,7 +365,7 @@ impl Code {
         let mut rest = expr;
         let mut on = ways;
         let (yes, no) = (None, None);
-        let mut kept = Kept { yes, no };
+        let mut kept = KeptWays { yes, no };
         'ends: loop {
             let end = self.right_end(known, rest, on)?;
             let emitted = end.emitted;

@@ -14,16 +14,16 @@ use crate::primitives::{ARP_ADDRESSES, IP_ADDRESSES};
 use crate::ways::{Way, Ways};
 use filter_meaning::{ARP, IP, RARP, protocol_number};
 use filter_tree::{Layer, Transport};
-use filtergen_facts::{Bytes, Form, Kind, Known, Sides, Span};
+use filtergen_facts::{Bytes, Form, Known, ListKind, Sides, ValueRange};
 
-fn is_within(span: Span, number: u32) -> bool
+fn is_within(span: ValueRange, number: u32) -> bool
     ensures { result ≡ within span.low span.high number }
 {
     span.low <= number && number <= span.high
 }
 
 /// Whether a number is in one of these spans.
-pub(crate) fn has_number(spans: &[Span], number: u32) -> bool
+pub(crate) fn has_number(spans: &[ValueRange], number: u32) -> bool
     ensures { result ≡ among spans.now number }
 {
     let mut found = false;
@@ -37,7 +37,7 @@ pub(crate) fn has_number(spans: &[Span], number: u32) -> bool
 
 impl Code {
     /// Ethernet types. What they answer of IPv4 is known before, so that this type is asked for first.
-    fn listed_types(&mut self, spans: &[Span], ways: Ways) -> Result<Way, Full>
+    fn listed_types(&mut self, spans: &[ValueRange], ways: Ways) -> Result<Way, Full>
         requires many { 2 ≤ length spans.now }
         requires ways { AreWays self.old ways }
         ensures { OrFull (7 * length spans.now + 6) self.old result (λ way. DecidesBy (7 * length spans.now + 6)
@@ -49,7 +49,12 @@ impl Code {
     }
 
     /// Protocol numbers of IPv4.
-    fn listed_protocols(&mut self, known: Known, spans: &[Span], ways: Ways) -> Result<Way, Full>
+    fn listed_protocols(
+        &mut self,
+        known: Known,
+        spans: &[ValueRange],
+        ways: Ways,
+    ) -> Result<Way, Full>
         requires many { 2 ≤ length spans.now }
         requires ways { AreWays self.old ways }
         ensures { OrFull (7 * length spans.now + 6) self.old result (λ way. DecidesBehind known (7 * length spans.now + 6)
@@ -67,7 +72,7 @@ impl Code {
         known: Known,
         sides: Sides,
         mask: u32,
-        spans: &[Span],
+        spans: &[ValueRange],
         ways: Ways,
     ) -> Result<Way, Full>
         requires many { 2 ≤ length spans.now }
@@ -87,7 +92,7 @@ impl Code {
         number: u32,
         sides: Sides,
         mask: u32,
-        spans: &[Span],
+        spans: &[ValueRange],
         ways: Ways,
     ) -> Result<Way, Full>
         requires many { 2 ≤ length spans.now }
@@ -109,7 +114,12 @@ impl Code {
     }
 
     /// What a list asks last of another type than IPv4: what it asks of IPv4, which is there, if that leads on in the same way.
-    fn among_last_of_others(&mut self, of_ip: usize, spans: &[Span], ways: Ways) -> Result<(), Full>
+    fn among_last_of_others(
+        &mut self,
+        of_ip: usize,
+        spans: &[ValueRange],
+        ways: Ways,
+    ) -> Result<(), Full>
         requires some { 0 < length spans.now }
         requires ip { AreExits self.old (record { yes = ways.yes.ip; no = ways.no.ip }) }
         requires other { AreExits self.old (record { yes = ways.yes.other; no = ways.no.other }) }
@@ -137,7 +147,7 @@ impl Code {
         &mut self,
         sides: Sides,
         mask: u32,
-        spans: &[Span],
+        spans: &[ValueRange],
         ways: Ways,
     ) -> Result<(usize, usize), Full>
         requires many { 2 ≤ length spans.now }
@@ -168,7 +178,7 @@ impl Code {
         &mut self,
         sides: Sides,
         mask: u32,
-        spans: &[Span],
+        spans: &[ValueRange],
         ways: Ways,
     ) -> Result<Way, Full>
         requires many { 2 ≤ length spans.now }
@@ -213,7 +223,7 @@ impl Code {
         known: Known,
         sides: Sides,
         mask: u32,
-        spans: &[Span],
+        spans: &[ValueRange],
         ways: Ways,
     ) -> Result<Way, Full>
         requires many { 2 ≤ length spans.now }
@@ -236,7 +246,7 @@ impl Code {
         known: Known,
         asked: Option<Transport>,
         sides: Sides,
-        spans: &[Span],
+        spans: &[ValueRange],
         ways: Ways,
     ) -> Result<Way, Full>
         requires many { 2 ≤ length spans.now }
@@ -266,7 +276,7 @@ impl Code {
         &mut self,
         known: Known,
         sides: Sides,
-        spans: &[Span],
+        spans: &[ValueRange],
         ways: Ways,
     ) -> Result<Way, Full>
         requires many { 2 ≤ length spans.now }
@@ -289,7 +299,7 @@ impl Code {
         &mut self,
         sides: Sides,
         head: u16,
-        spans: &[Span],
+        spans: &[ValueRange],
         ways: Ways,
     ) -> Result<Way, Full>
         requires some { 0 < length spans.now }
@@ -308,7 +318,7 @@ impl Code {
         known: Known,
         transport: Transport,
         bytes: Bytes,
-        spans: &[Span],
+        spans: &[ValueRange],
         ways: Ways,
     ) -> Result<Way, Full>
         requires layer { in_layer bytes.layer ≡ is_first_fragment_of (protocol_number transport) }
@@ -334,7 +344,7 @@ impl Code {
         &mut self,
         known: Known,
         bytes: Bytes,
-        spans: &[Span],
+        spans: &[ValueRange],
         ways: Ways,
     ) -> Result<Way, Full>
         requires layer { in_layer bytes.layer ≡ is_type 0x0800 }
@@ -353,7 +363,7 @@ impl Code {
         &mut self,
         known: Known,
         bytes: Bytes,
-        spans: &[Span],
+        spans: &[ValueRange],
         ways: Ways,
     ) -> Result<Way, Full>
         requires some { 0 < length spans.now }
@@ -377,7 +387,7 @@ impl Code {
         &mut self,
         known: Known,
         bytes: Bytes,
-        spans: &[Span],
+        spans: &[ValueRange],
         ways: Ways,
     ) -> Result<Way, Full>
         requires some { 0 < length spans.now }
@@ -399,8 +409,8 @@ impl Code {
     pub fn listed(
         &mut self,
         known: Known,
-        kind: Kind,
-        spans: &[Span],
+        kind: ListKind,
+        spans: &[ValueRange],
         ways: Ways,
     ) -> Result<Way, Full>
         requires many { 2 ≤ length spans.now }
@@ -409,7 +419,7 @@ impl Code {
             DecidesBehind known (listed_cost kind.form (length spans.now)) (any_of (kind_test kind) spans.now) ways way
             self.old self.new) }
     {
-        let Kind {
+        let ListKind {
             form,
             sides,
             mask,

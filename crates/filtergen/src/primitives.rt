@@ -25,7 +25,7 @@ pub(crate) const ARP_ADDRESSES: (u32, u32) = (28, 38);
 
 /// A test of the source or of the destination, at an offset of the frame.
 #[derive(Clone, Copy)]
-pub(crate) enum Side {
+pub(crate) enum FieldTest {
     /// The bits of an IPv4 address under a mask.
     Ip {
         offset: u32,
@@ -389,19 +389,19 @@ impl Code {
     }
 
     /// The test of one side.
-    fn side(&mut self, side: Side, exits: Exits) -> usize
+    fn side(&mut self, side: FieldTest, exits: Exits) -> usize
         requires offset { side_offset side ≤ 40 }
         requires room { length self.old + side_cost side ≤ MAX_CODE }
         requires exits { AreExits self.old exits }
         ensures { Decides (side_cost side) (side_test side) exits result self.old self.new }
     {
         match side {
-            Side::Ip {
+            FieldTest::Ip {
                 offset,
                 address,
                 mask,
             } => self.address(offset, address, mask, exits),
-            Side::Ethernet { offset, address } => self.ethernet(offset, address, exits),
+            FieldTest::Ethernet { offset, address } => self.ethernet(offset, address, exits),
         }
     }
 
@@ -409,8 +409,8 @@ impl Code {
     fn directed(
         &mut self,
         direction: Direction,
-        source: Side,
-        destination: Side,
+        source: FieldTest,
+        destination: FieldTest,
         exits: Exits,
     ) -> usize
         requires source { side_offset source ≤ 40 }
@@ -463,12 +463,12 @@ impl Code {
             (by_direction direction (has_address address mask offsets.0) (has_address address mask offsets.1)) exits result
             self.old self.new }
     {
-        let source = Side::Ip {
+        let source = FieldTest::Ip {
             offset: offsets.0,
             address,
             mask,
         };
-        let destination = Side::Ip {
+        let destination = FieldTest::Ip {
             offset: offsets.1,
             address,
             mask,
@@ -588,8 +588,8 @@ impl Code {
         ensures { Decides 16 (by_direction direction (is_address address.octets 6) (is_address address.octets 0)) exits
             result self.old self.new }
     {
-        let source = Side::Ethernet { offset: 6, address };
-        let destination = Side::Ethernet { offset: 0, address };
+        let source = FieldTest::Ethernet { offset: 6, address };
+        let destination = FieldTest::Ethernet { offset: 0, address };
         self.directed(direction, source, destination, exits)
     }
 

@@ -12,8 +12,8 @@ use Rattle.filtergen_facts.specs.declared.lists.Chain.{Chain}
 use Rattle.filtergen_facts.specs.declared.lists.Form.TheVariants as forms
 use Rattle.filtergen_facts.specs.declared.lists.Sides.{Sides}
 use Rattle.filtergen_facts.specs.declared.lists.Sides.TheVariants as sides
-use Rattle.filtergen_facts.specs.declared.lists.Kind.{Kind}
-use Rattle.filtergen_facts.specs.declared.lists.Span.{Span}
+use Rattle.filtergen_facts.specs.declared.lists.ListKind.{ListKind}
+use Rattle.filtergen_facts.specs.declared.lists.ValueRange.{ValueRange}
 use Rattle.filtergen_facts.specs.declared.lists.Member.{Member}
 use Rattle.filtergen_facts.specs.Lists.{direction_of, in_span, of_any_type, form_test, kind_test, member_test, IsBroader, Reaches, IsAnswered, Covers, Settles, IsApart, Commute, AreApart, AreFreeBehind}
 use Rattle.filtergen_facts.proofs.Members.{equal-true}
@@ -47,7 +47,7 @@ addresses-reached sides.Destination sides.Destination m m' p reaches = settled-n
 addresses-reached sides.Destination sides.Either m m' p reaches = λ x y is.
     answered-either (in_span y m' 26 p) (in_span y m' 30 p) (source-there _ _ p.captured is) (settled-net sides.Destination sides.Destination m m' 26 30 p tt x y is)
 
-net-apart : (s s' : Sides) (m m' : ℕ) (p : Packet) (x y z : Span) → Reaches s s'
+net-apart : (s s' : Sides) (m m' : ℕ) (p : Packet) (x y z : ValueRange) → Reaches s s'
     → and_then (is_type 0x0800 p) (by_direction (direction_of s) (in_span x m 26) (in_span x m 30) p) ≡ No
     → of_any_type (by_direction (direction_of s') (in_span y m' 26) (in_span y m' 30)) (by_direction (direction_of s') (in_span y m' 28) (in_span y m' 38)) p ≡ Abort
     → and_then (is_type 0x0800 p) (by_direction (direction_of s) (in_span z m 26) (in_span z m 30) p) ≡ No
@@ -73,7 +73,7 @@ net-apart s s' m m' p x y z reaches none aborts =
     never No answered is = cc
     never Abort answered is = answered
 
-pub apart-net : (k other : Kind) → k.form ≡ forms.IpNet → other.form ≡ forms.Net → Reaches k.sides other.sides → IsApart k other
+pub apart-net : (k other : ListKind) → k.form ≡ forms.IpNet → other.form ≡ forms.Net → Reaches k.sides other.sides → IsApart k other
 apart-net k other ip any reaches = record {
   apart = λ p x y z none aborts.
       ap (λ f. form_test f (direction_of k.sides) k.mask k.head k.bytes z p) ip
@@ -87,7 +87,7 @@ broader-itself sides.Source = tt
 broader-itself sides.Destination = tt
 broader-itself sides.Either = tt
 
-covers-itself : (k : Kind) → Covers k k
+covers-itself : (k : ListKind) → Covers k k
 covers-itself k = covers-broader k k refl (broader-itself k.sides)
 
 answered-commute : (v w : Verdict) → IsAnswered v → (w ≡ Abort → v ≡ No) → Commute v w
@@ -131,10 +131,10 @@ apart-free chain left first others apart = record {
     commutes : (p : Packet) → member_test first p ≡ No → (m n : Member) → m.kind ≡ first.kind → n.kind ≡ apart.other → Commute (member_test m p) (member_test n p)
     commutes p none m n own other =
         answered-commute (member_test m p) (member_test n p)
-        (subst (λ (k : Kind). IsAnswered (kind_test k m.span p)) (sym own) ((covers-itself first.kind).answered p first.span m.span none))
+        (subst (λ (k : ListKind). IsAnswered (kind_test k m.span p)) (sym own) ((covers-itself first.kind).answered p first.span m.span none))
         (λ aborts.
-        ap (λ (k : Kind). kind_test k m.span p) own
-        ∙ apart.apart.apart p first.span n.span m.span none (sym (ap (λ (k : Kind). kind_test k n.span p) other) ∙ aborts))
+        ap (λ (k : ListKind). kind_test k m.span p) own
+        ∙ apart.apart.apart p first.span n.span m.span none (sym (ap (λ (k : ListKind). kind_test k n.span p) other) ∙ aborts))
 
     by_kinds : (p : Packet) → member_test first p ≡ No → (m n : Member) → (m.kind ≡ first.kind) ⊎ (m.kind ≡ apart.other) → (n.kind ≡ first.kind) ⊎ (n.kind ≡ apart.other)
         → (m.kind ≡ n.kind) ⊎ Commute (member_test m p) (member_test n p)

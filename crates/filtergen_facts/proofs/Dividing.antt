@@ -8,8 +8,8 @@ use Rattle.filter_meaning.specs.declared.verdict.Verdict.TheVariants.{Yes, No, A
 use Rattle.filter_meaning.specs.Meaning.{Packet, or_else}
 use Rattle.filtergen_facts.specs.declared.lists.Form.{Form}
 use Rattle.filtergen_facts.specs.declared.lists.Form.TheVariants as forms
-use Rattle.filtergen_facts.specs.declared.lists.Kind.{Kind}
-use Rattle.filtergen_facts.specs.declared.lists.Span.{Span}
+use Rattle.filtergen_facts.specs.declared.lists.ListKind.{ListKind}
+use Rattle.filtergen_facts.specs.declared.lists.ValueRange.{ValueRange}
 use Rattle.filtergen_facts.specs.declared.lists.Member.{Member}
 use Rattle.filtergen_facts.specs.Lists.{any_of, kind_test, member_test, IsMember, Commute, AreFree, IsAlone, Divides, LeavesOut, Groups, weighed}
 use Rattle.filtergen_facts.proofs.Members.{any-first, or-assoc, weight-append, weighed-more}
@@ -48,18 +48,18 @@ free-before ms m p free a b first second = free a b (Contains-append_left ms (m 
 members-before : (ms : List Member) (m : Member) → All IsMember (ms ++ (m ∷ [])) → All IsMember ms × IsMember m
 members-before ms m all = All-pop IsMember (ms ++ (m ∷ [])) ms (Some m) refl all
 
-spans-length : (xs : List Span) (x : Span) → length (xs ++ (x ∷ [])) ≡ length xs + 1
+spans-length : (xs : List ValueRange) (x : ValueRange) → length (xs ++ (x ∷ [])) ≡ length xs + 1
 spans-length xs x = length-append xs (x ∷ [])
 
 members-length : (ms : List Member) (m : Member) → length (ms ++ (m ∷ [])) ≡ length ms + 1
 members-length ms m = length-append ms (m ∷ [])
 
 -- one span alone has nothing in front of it
-alone-pushed : (kind : Kind) (m : Member) (xs : List Span) → m.kind ≡ kind → IsMember m → IsAlone kind m.primitive (xs ++ (m.span ∷ []))
+alone-pushed : (kind : ListKind) (m : Member) (xs : List ValueRange) → m.kind ≡ kind → IsMember m → IsAlone kind m.primitive (xs ++ (m.span ∷ []))
 alone-pushed kind m [] is member x same =
-    let first : m.span ≡ x = ap (λ (l : List Span). get_or l 0 m.span) same in
-    subst (λ (k : Kind). IsMember (record { kind = k; span = x; primitive = m.primitive })) is
-    (subst (λ (y : Span). IsMember (record { kind = m.kind; span = y; primitive = m.primitive })) first member)
+    let first : m.span ≡ x = ap (λ (l : List ValueRange). get_or l 0 m.span) same in
+    subst (λ (k : ListKind). IsMember (record { kind = k; span = x; primitive = m.primitive })) is
+    (subst (λ (y : ValueRange). IsMember (record { kind = m.kind; span = y; primitive = m.primitive })) first member)
 alone-pushed kind m (y ∷ xs) is member x same =
     let long : length (y ∷ (xs ++ (m.span ∷ []))) ≡ 1 = ap length same in
     absurd (omega (arith, long, spans-length xs m.span))
@@ -79,7 +79,7 @@ weighed-none forms.EtherProto = refl
 weighed-none forms.EtherHost = refl
 weighed-none forms.Bytes = refl
 
-pub divides-none : (kind : Kind) → Divides kind [] [] []
+pub divides-none : (kind : ListKind) → Divides kind [] [] []
 divides-none kind = record {
   same = λ p free. refl;
   commutes = λ p v each. commute-none v;
@@ -89,33 +89,33 @@ divides-none kind = record {
   together = refl;
 }
 
-weighed-pushed : (kind : Kind) (xs : List Span) (x : Span) → weighed kind.form (length (xs ++ (x ∷ []))) ≡ weighed kind.form (length xs) + weighed kind.form 1
+weighed-pushed : (kind : ListKind) (xs : List ValueRange) (x : ValueRange) → weighed kind.form (length (xs ++ (x ∷ []))) ≡ weighed kind.form (length xs) + weighed kind.form 1
 weighed-pushed kind xs x = ap (weighed kind.form) (spans-length xs x) ∙ weighed-more kind.form (length xs)
 
 -- one more of the kind
-pub divides-this : (kind : Kind) (m : Member) (ms : List Member) (xs : List Span) (os : List Member) → m.kind ≡ kind → Divides kind ms xs os
+pub divides-this : (kind : ListKind) (m : Member) (ms : List Member) (xs : List ValueRange) (os : List Member) → m.kind ≡ kind → Divides kind ms xs os
     → Divides kind (ms ++ (m ∷ [])) (xs ++ (m.span ∷ [])) os
 divides-this kind m ms xs os is d = record {
   same = λ p free.
       any-first member_test p m ms
       ∙ ap (or_else (member_test m p)) (d.same p (free-before ms m p free))
       ∙ sym (or-assoc (member_test m p) (any_of (kind_test kind) xs p) (any_of member_test os p))
-      ∙ ap (λ v. or_else v (any_of member_test os p)) (ap (λ (k : Kind). or_else (kind_test k m.span p) (any_of (kind_test kind) xs p)) is ∙ sym (any-first (kind_test kind) p m.span xs));
+      ∙ ap (λ v. or_else v (any_of member_test os p)) (ap (λ (k : ListKind). or_else (kind_test k m.span p) (any_of (kind_test kind) xs p)) is ∙ sym (any-first (kind_test kind) p m.span xs));
   commutes = λ p v each.
       subst (Commute v) (sym (any-first (kind_test kind) p m.span xs))
       (commute-either v (kind_test kind m.span p) (any_of (kind_test kind) xs p)
-      (subst (λ (k : Kind). Commute v (kind_test k m.span p)) is (each m (Contains-push ms m) is))
+      (subst (λ (k : ListKind). Commute v (kind_test k m.span p)) is (each m (Contains-push ms m) is))
       (d.commutes p v (λ n inside. each n (Contains-append_left ms (m ∷ []) n inside))));
   among = λ n inside. Contains-append_left ms (m ∷ []) n (d.among n inside);
   members = λ members. d.members (members-before ms m members).0;
   weighs =
-      let one : weighed m.kind.form 1 ≡ weighed kind.form 1 = ap (λ (k : Kind). weighed k.form 1) is in
+      let one : weighed m.kind.form 1 ≡ weighed kind.form 1 = ap (λ (k : ListKind). weighed k.form 1) is in
       omega (arith, d.weighs, one, weighed-pushed kind xs m.span, weight-append ms m);
   together = omega (arith, d.together, spans-length xs m.span, members-length ms m);
 }
 
 -- one more of the others
-pub divides-other : (kind : Kind) (m : Member) (ms : List Member) (xs : List Span) (os : List Member) → m.kind ≢ kind → Divides kind ms xs os
+pub divides-other : (kind : ListKind) (m : Member) (ms : List Member) (xs : List ValueRange) (os : List Member) → m.kind ≢ kind → Divides kind ms xs os
     → Divides kind (ms ++ (m ∷ [])) xs (os ++ (m ∷ []))
 divides-other kind m ms xs os other d = record {
   same = λ p free.
@@ -142,7 +142,7 @@ divides-other kind m ms xs os other d = record {
     by_push n (inr is) = subst (Contains (ms ++ (m ∷ []))) is (Contains-push ms m)
 
 -- the first member is asked before all
-pub groups-with : (first : Member) (all : List Member) (xs ys : List Span) (os qs : List Member) → Divides first.kind all xs os → ys ≡ xs ++ (first.span ∷ []) → LeavesOut first.kind ys os qs
+pub groups-with : (first : Member) (all : List Member) (xs ys : List ValueRange) (os qs : List Member) → Divides first.kind all xs os → ys ≡ xs ++ (first.span ∷ []) → LeavesOut first.kind ys os qs
     → Groups first all first.kind ys qs
 groups-with first all xs ys os qs d is leaves = record {
   same = λ p settled.
@@ -156,14 +156,14 @@ groups-with first all xs ys os qs d is leaves = record {
   alone = λ member. rw is (alone-pushed first.kind first xs refl member);
   members = λ members. leaves.members (d.members members);
   weighs =
-      let more : weighed first.kind.form (length ys) ≡ weighed first.kind.form (length xs) + weighed first.kind.form 1 = ap (λ (l : List Span). weighed first.kind.form (length l)) is ∙ weighed-pushed first.kind xs first.span in
+      let more : weighed first.kind.form (length ys) ≡ weighed first.kind.form (length xs) + weighed first.kind.form 1 = ap (λ (l : List ValueRange). weighed first.kind.form (length l)) is ∙ weighed-pushed first.kind xs first.span in
       omega (arith, d.weighs, leaves.weighs, more);
   some = let long : length ys ≡ length xs + 1 = ap length is ∙ spans-length xs first.span in omega (arith, long);
   fewer = omega (arith, d.together, leaves.fewer);
 }
   where
     pushed : (p : Packet) → any_of (kind_test first.kind) ys p ≡ or_else (member_test first p) (any_of (kind_test first.kind) xs p)
-    pushed p = ap (λ (l : List Span). any_of (kind_test first.kind) l p) is ∙ any-first (kind_test first.kind) p first.span xs
+    pushed p = ap (λ (l : List ValueRange). any_of (kind_test first.kind) l p) is ∙ any-first (kind_test first.kind) p first.span xs
 
     by_first : (p : Packet) (v : Verdict) → (v ≡ No → any_of member_test all p ≡ or_else (any_of (kind_test first.kind) xs p) (any_of member_test os p))
         → or_else v (any_of member_test all p) ≡ or_else v (or_else (any_of (kind_test first.kind) xs p) (any_of member_test os p))
@@ -177,10 +177,10 @@ groups-with first all xs ys os qs d is leaves = record {
     by_group p Abort same = refl
 
 -- by the index of a loop
-pub divides-more : (kind : Kind) (items : List Member) (i : ℕ) (d : Member) (xs ys : List Span) (os : List Member) → i < length items → (get_or items i d).kind ≡ kind
+pub divides-more : (kind : ListKind) (items : List Member) (i : ℕ) (d : Member) (xs ys : List ValueRange) (os : List Member) → i < length items → (get_or items i d).kind ≡ kind
     → ys ≡ xs ++ ((get_or items i d).span ∷ []) → Divides kind (take i items) xs os → Divides kind (take (i + 1) items) ys os
 divides-more kind items i d xs ys os inside is pushed before = rw (take_more items i d inside, pushed) (divides-this kind (get_or items i d) (take i items) xs os is before)
 
-pub divides-past : (kind : Kind) (items : List Member) (i : ℕ) (d : Member) (xs : List Span) (os qs : List Member) → i < length items
+pub divides-past : (kind : ListKind) (items : List Member) (i : ℕ) (d : Member) (xs : List ValueRange) (os qs : List Member) → i < length items
     → (get_or items i d).kind ≢ kind → qs ≡ os ++ (get_or items i d ∷ []) → Divides kind (take i items) xs os → Divides kind (take (i + 1) items) xs qs
 divides-past kind items i d xs os qs inside other pushed before = rw (take_more items i d inside, pushed) (divides-other kind (get_or items i d) (take i items) xs os other before)

@@ -9,8 +9,8 @@ use Rattle.filter_meaning.specs.Meaning.{Packet, Test, and_then, or_else, and_te
 use Rattle.filter_tree.specs.declared.tree.Direction.{Direction}
 use Rattle.filtergen_facts.specs.declared.lists.Form.{Form}
 use Rattle.filtergen_facts.specs.declared.lists.Form.TheVariants as forms
-use Rattle.filtergen_facts.specs.declared.lists.Kind.{Kind}
-use Rattle.filtergen_facts.specs.declared.lists.Span.{Span}
+use Rattle.filtergen_facts.specs.declared.lists.ListKind.{ListKind}
+use Rattle.filtergen_facts.specs.declared.lists.ValueRange.{ValueRange}
 use Rattle.filtergen_facts.specs.declared.lists.Member.{Member}
 use Rattle.filtergen_facts.specs.Lists.{any_of, direction_of, form_test, kind_test, member_test, weighed, of_tcp_or_udp, AreJoined, AskFor, Groups, IsMember}
 use Rattle.filtergen_facts.proofs.Members.{equal-true, or-no}
@@ -74,30 +74,30 @@ numbers-apart Yes (Some n) f = by_test (n == 6) (n == 17) (λ is. ap (λ k. k ==
 tcp-apart : (p : Packet) → AreApart (is_first_fragment_of 6 p) (is_first_fragment_of 17 p)
 tcp-apart p = numbers-apart (is_type 0x0800 p) (byte 23 p) (check (λ b. bit_and b 0x1fff == 0) (half 20 p))
 
-abbrev asked_ports : Direction → Span → Test
+abbrev asked_ports : Direction → ValueRange → Test
 asked_ports d x = by_direction d (has_port x.low x.high 0) (has_port x.low x.high 2)
 
 -- ports of TCP or UDP behind what their tests share
-pub either-guarded : (d : Direction) (xs : List Span) (p : Packet) → 0 < length xs
-    → any_of (λ (x : Span). or_test (has_ports 6 d x.low x.high) (has_ports 17 d x.low x.high)) xs p
-    ≡ and_then (or_else (is_first_fragment_of 6 p) (is_first_fragment_of 17 p)) (any_of (λ (x : Span). by_direction d (has_port x.low x.high 0) (has_port x.low x.high 2)) xs p)
+pub either-guarded : (d : Direction) (xs : List ValueRange) (p : Packet) → 0 < length xs
+    → any_of (λ (x : ValueRange). or_test (has_ports 6 d x.low x.high) (has_ports 17 d x.low x.high)) xs p
+    ≡ and_then (or_else (is_first_fragment_of 6 p) (is_first_fragment_of 17 p)) (any_of (λ (x : ValueRange). by_direction d (has_port x.low x.high 0) (has_port x.low x.high 2)) xs p)
 either-guarded d xs p some =
     let either = or_else (is_first_fragment_of 6 p) (is_first_fragment_of 17 p) in
-    any-same (λ (x : Span). or_test (has_ports 6 d x.low x.high) (has_ports 17 d x.low x.high)) (λ x q. and_then either (asked_ports d x q)) p
+    any-same (λ (x : ValueRange). or_test (has_ports 6 d x.low x.high) (has_ports 17 d x.low x.high)) (λ x q. and_then either (asked_ports d x q)) p
     (λ x. apart-guards (is_first_fragment_of 6 p) (is_first_fragment_of 17 p) (asked_ports d x p) (tcp-apart p)) xs
     ∙ any-both either (asked_ports d) xs p some
 
-one-guarded : (n : ℕ) (d : Direction) (xs : List Span) (p : Packet) → 0 < length xs
-    → any_of (λ (x : Span). has_ports n d x.low x.high) xs p ≡ and_then (is_first_fragment_of n p) (any_of (asked_ports d) xs p)
+one-guarded : (n : ℕ) (d : Direction) (xs : List ValueRange) (p : Packet) → 0 < length xs
+    → any_of (λ (x : ValueRange). has_ports n d x.low x.high) xs p ≡ and_then (is_first_fragment_of n p) (any_of (asked_ports d) xs p)
 one-guarded n d xs p some = any-guarded (is_first_fragment_of n) (asked_ports d) xs p some
 
-abbrev with_form : Form → Kind → Kind
+abbrev with_form : Form → ListKind → ListKind
 with_form f k = record { form = f; sides = k.sides; mask = k.mask; head = k.head; bytes = k.bytes }
 
-of-form : (k : Kind) (f : Form) (xs : List Span) (p : Packet) → k.form ≡ f → any_of (kind_test k) xs p ≡ any_of (kind_test (with_form f k)) xs p
+of-form : (k : ListKind) (f : Form) (xs : List ValueRange) (p : Packet) → k.form ≡ f → any_of (kind_test k) xs p ≡ any_of (kind_test (with_form f k)) xs p
 of-form k f xs p is = any-same (kind_test k) (kind_test (with_form f k)) p (λ x. ap (λ g. form_test g (direction_of k.sides) k.mask k.head k.bytes x p) is) xs
 
-pub tcp-joined : (k : Kind) → k.form ≡ forms.TcpPorts → AreJoined k (with_form forms.UdpPorts k) (of_tcp_or_udp k)
+pub tcp-joined : (k : ListKind) → k.form ≡ forms.TcpPorts → AreJoined k (with_form forms.UdpPorts k) (of_tcp_or_udp k)
 tcp-joined k is = record {
   same = λ p xs some.
       let d = direction_of k.sides in
@@ -109,7 +109,7 @@ tcp-joined k is = record {
   weighs = λ n. sym (ap (λ f. weighed f n) is);
 }
 
-pub udp-joined : (k : Kind) → k.form ≡ forms.UdpPorts → AreJoined k (with_form forms.TcpPorts k) (of_tcp_or_udp k)
+pub udp-joined : (k : ListKind) → k.form ≡ forms.UdpPorts → AreJoined k (with_form forms.TcpPorts k) (of_tcp_or_udp k)
 udp-joined k is = record {
   same = λ p xs some.
       let d = direction_of k.sides in
@@ -123,26 +123,26 @@ udp-joined k is = record {
 }
 
 -- members that ask for the numbers of a list are that list
-asked-same : (kind : Kind) (xs : List Span) (ms : List Member) (p : Packet) → AskFor kind xs ms → any_of member_test ms p ≡ any_of (kind_test kind) xs p
+asked-same : (kind : ListKind) (xs : List ValueRange) (ms : List Member) (p : Packet) → AskFor kind xs ms → any_of member_test ms p ≡ any_of (kind_test kind) xs p
 asked-same kind [] [] p each = refl
 asked-same kind [] (m ∷ ms) p each = absurd each
 asked-same kind (x ∷ xs) [] p each = absurd each
 asked-same kind (x ∷ xs) (m ∷ ms) p each =
     ap (λ v. or_else v (member_test m p)) (asked-same kind xs ms p each.1)
-    ∙ ap (or_else (any_of (kind_test kind) xs p)) (ap (λ (k : Kind). kind_test k m.span p) each.0.0 ∙ ap (λ (y : Span). kind_test kind y p) each.0.1)
+    ∙ ap (or_else (any_of (kind_test kind) xs p)) (ap (λ (k : ListKind). kind_test k m.span p) each.0.0 ∙ ap (λ (y : ValueRange). kind_test kind y p) each.0.1)
 
 -- by the number of turns of a loop
-pub asked-more : (kind : Kind) (xs : List Span) (ms : List Member) (i : ℕ) (x : Span) (m : Member) → i < length ms → i < length xs → m ≡ get_or ms i m → x ≡ get_or xs i x
+pub asked-more : (kind : ListKind) (xs : List ValueRange) (ms : List Member) (i : ℕ) (x : ValueRange) (m : Member) → i < length ms → i < length xs → m ≡ get_or ms i m → x ≡ get_or xs i x
     → m.kind ≡ kind → m.span ≡ x → AskFor kind (take i xs) (take i ms) → AskFor kind (take (i + 1) xs) (take (i + 1) ms)
 asked-more kind xs ms i x m in_ms in_xs is_m is_x of_kind same before =
     rw (take_more ms i m in_ms, take_more xs i x in_xs, sym is_m, sym is_x)
-    (all_zipped_more (λ (n : Member) (y : Span). (n.kind ≡ kind) × (n.span ≡ y)) (take i ms) (take i xs) m x before (of_kind, same))
+    (all_zipped_more (λ (n : Member) (y : ValueRange). (n.kind ≡ kind) × (n.span ≡ y)) (take i ms) (take i xs) m x before (of_kind, same))
 
-pub asked-all : (kind : Kind) (xs : List Span) (ms : List Member) (i : ℕ) → length ms ≤ i → length xs ≤ i → AskFor kind (take i xs) (take i ms) → AskFor kind xs ms
+pub asked-all : (kind : ListKind) (xs : List ValueRange) (ms : List Member) (i : ℕ) → length ms ≤ i → length xs ≤ i → AskFor kind (take i xs) (take i ms) → AskFor kind xs ms
 asked-all kind xs ms i all_ms all_xs before = rw (take_all i ms all_ms, take_all i xs all_xs) at before
 
 -- the others are in the list
-pub groups-joined : (first : Member) (all : List Member) (other joined : Kind) (xs : List Span) (os : List Member) → Groups first all first.kind xs os → AreJoined first.kind other joined
+pub groups-joined : (first : Member) (all : List Member) (other joined : ListKind) (xs : List ValueRange) (os : List Member) → Groups first all first.kind xs os → AreJoined first.kind other joined
     → AskFor other xs os → 1 < length xs → Groups first all joined xs []
 groups-joined first all other joined xs os groups are asked many = record {
   same = λ p settled.

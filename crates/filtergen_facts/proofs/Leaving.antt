@@ -17,8 +17,8 @@ use Rattle.filtergen_facts.specs.declared.lists.Form.{Form}
 use Rattle.filtergen_facts.specs.declared.lists.Form.TheVariants as forms
 use Rattle.filtergen_facts.specs.declared.lists.Sides.TheVariants as sides
 use Rattle.filtergen_facts.specs.declared.lists.Bytes.{Bytes}
-use Rattle.filtergen_facts.specs.declared.lists.Kind.{Kind}
-use Rattle.filtergen_facts.specs.declared.lists.Span.{Span}
+use Rattle.filtergen_facts.specs.declared.lists.ListKind.{ListKind}
+use Rattle.filtergen_facts.specs.declared.lists.ValueRange.{ValueRange}
 use Rattle.filtergen_facts.specs.declared.lists.Member.{Member}
 use Rattle.filtergen_facts.specs.Lists.{any_of, direction_of, bytes_test, form_test, kind_test, member_test, IsMember, IsPort, Includes, IsIncluded, LeavesOut}
 use Rattle.filtergen_facts.proofs.Members.{any-first, bytes-at, bytes-same, weight-append}
@@ -51,11 +51,11 @@ no-decided : (b : Bool) → decided b ≡ No → b ≡ false
 no-decided true is = absurd cc
 no-decided false is = refl
 
-narrower : (x y : Span) (v : Option ℕ) → x.low ≤ y.low → y.high ≤ x.high → check (within x.low x.high) v ≡ No → check (within y.low y.high) v ≡ No
+narrower : (x y : ValueRange) (v : Option ℕ) → x.low ≤ y.low → y.high ≤ x.high → check (within x.low x.high) v ≡ No → check (within y.low y.high) v ≡ No
 narrower x y None low high is = absurd cc
 narrower x y (Some n) low high is = ap decided (outside x.low x.high y.low y.high n low high (no-decided (within x.low x.high n) is))
 
-port-included : (i : ℕ) (first : Verdict) (p : Packet) (x y : Span) → (i ≡ 0) ⊎ (i ≡ 2) → x.low ≤ y.low → y.high ≤ x.high
+port-included : (i : ℕ) (first : Verdict) (p : Packet) (x y : ValueRange) → (i ≡ 0) ⊎ (i ≡ 2) → x.low ≤ y.low → y.high ≤ x.high
     → and_then first (or_else (check (within x.low x.high) (half_behind_header 0 p)) (check (within x.low x.high) (half_behind_header 2 p))) ≡ No
     → and_then first (check (within y.low y.high) (behind_header 2 p i)) ≡ No
 port-included i Yes p x y (inl is) low high none =
@@ -67,7 +67,7 @@ port-included i Yes p x y (inr is) low high none =
 port-included i No p x y at low high none = refl
 port-included i Abort p x y at low high none = absurd cc
 
-bytes-included : (f : Form) (m h : ℕ) (b c : Bytes) (p : Packet) (x y : Span) → IsPort f c → x.low ≤ y.low → y.high ≤ x.high → form_test f SrcOrDst m h b x p ≡ No → bytes_test c y p ≡ No
+bytes-included : (f : Form) (m h : ℕ) (b c : Bytes) (p : Packet) (x y : ValueRange) → IsPort f c → x.low ≤ y.low → y.high ≤ x.high → form_test f SrcOrDst m h b x p ≡ No → bytes_test c y p ≡ No
 bytes-included forms.TcpPorts m h b c p x y is low high none =
     ap (λ (d : Bytes). bytes_test d y p) (bytes-same c (bytes-at layers.Tcp c.index sizes.Two) is.0 refl is.1)
     ∙ port-included c.index (is_first_fragment_of 6 p) p x y is.2 low high none
@@ -86,7 +86,7 @@ bytes-included forms.EtherProto m h b c p x y is low high none = absurd is
 bytes-included forms.EtherHost m h b c p x y is low high none = absurd is
 bytes-included forms.Bytes m h b c p x y is low high none = absurd is
 
-pub includes-port : (k other : Kind) → k.sides ≡ sides.Either → other.form ≡ forms.Bytes → IsPort k.form other.bytes → Includes k other
+pub includes-port : (k other : ListKind) → k.sides ≡ sides.Either → other.form ≡ forms.Bytes → IsPort k.form other.bytes → Includes k other
 includes-port k other both of_bytes is = record {
   none = λ p x y low high none.
       ap (λ f. form_test f (direction_of other.sides) other.mask other.head other.bytes y p) of_bytes
@@ -100,17 +100,17 @@ each-none t p (x ∷ xs) none =
     let both = both-no (any_of t xs p) (t x p) none in
     All-cons (λ y. t y p ≡ No) x xs both.1 (each-none t p xs both.0)
 
-pub included : (kind : Kind) (spans : List Span) (i : ℕ) (d : Span) (m : Member) → Includes kind m.kind → i < length spans → (get_or spans i d).low ≤ m.span.low → m.span.high ≤ (get_or spans i d).high
+pub included : (kind : ListKind) (spans : List ValueRange) (i : ℕ) (d : ValueRange) (m : Member) → Includes kind m.kind → i < length spans → (get_or spans i d).low ≤ m.span.low → m.span.high ≤ (get_or spans i d).high
     → IsIncluded kind spans m
 included kind spans i d m includes inside low high = record {
   none = λ p none. includes.none p (get_or spans i d) m.span low high (each-none (kind_test kind) p spans none i d inside);
 }
 
-pub leaves-all : (kind : Kind) (spans : List Span) (ms : List Member) → LeavesOut kind spans ms ms
+pub leaves-all : (kind : ListKind) (spans : List ValueRange) (ms : List Member) → LeavesOut kind spans ms ms
 leaves-all kind spans ms = record { same = λ p none. refl; among = λ m inside. inside; members = λ members. members; weighs = omega arith; fewer = omega arith }
 
 -- one that stays
-pub leaves-this : (kind : Kind) (spans : List Span) (m : Member) (ms os : List Member) → LeavesOut kind spans ms os → LeavesOut kind spans (ms ++ (m ∷ [])) (os ++ (m ∷ []))
+pub leaves-this : (kind : ListKind) (spans : List ValueRange) (m : Member) (ms os : List Member) → LeavesOut kind spans ms os → LeavesOut kind spans (ms ++ (m ∷ [])) (os ++ (m ∷ []))
 leaves-this kind spans m ms os d = record {
   same = λ p none. any-first member_test p m ms ∙ ap (or_else (member_test m p)) (d.same p none) ∙ sym (any-first member_test p m os);
   among = λ n inside. by_push n (Contains-push_cases os m n inside);
@@ -124,7 +124,7 @@ leaves-this kind spans m ms os d = record {
     by_push n (inr is) = subst (Contains (ms ++ (m ∷ []))) is (Contains-push ms m)
 
 -- one that is left out
-pub leaves-out : (kind : Kind) (spans : List Span) (m : Member) (ms os : List Member) → IsIncluded kind spans m → LeavesOut kind spans ms os → LeavesOut kind spans (ms ++ (m ∷ [])) os
+pub leaves-out : (kind : ListKind) (spans : List ValueRange) (m : Member) (ms os : List Member) → IsIncluded kind spans m → LeavesOut kind spans ms os → LeavesOut kind spans (ms ++ (m ∷ [])) os
 leaves-out kind spans m ms os is d = record {
   same = λ p none. any-first member_test p m ms ∙ ap (λ v. or_else v (any_of member_test ms p)) (is.none p none) ∙ d.same p none;
   among = λ n inside. Contains-append_left ms (m ∷ []) n (d.among n inside);
@@ -134,10 +134,10 @@ leaves-out kind spans m ms os is d = record {
 }
 
 -- by the index of a loop
-pub leaves-more : (kind : Kind) (spans : List Span) (items : List Member) (i : ℕ) (d : Member) (os qs : List Member) → i < length items
+pub leaves-more : (kind : ListKind) (spans : List ValueRange) (items : List Member) (i : ℕ) (d : Member) (os qs : List Member) → i < length items
     → qs ≡ os ++ (get_or items i d ∷ []) → LeavesOut kind spans (take i items) os → LeavesOut kind spans (take (i + 1) items) qs
 leaves-more kind spans items i d os qs inside pushed before = rw (take_more items i d inside, pushed) (leaves-this kind spans (get_or items i d) (take i items) os before)
 
-pub leaves-past : (kind : Kind) (spans : List Span) (items : List Member) (i : ℕ) (d : Member) (os : List Member) → i < length items
+pub leaves-past : (kind : ListKind) (spans : List ValueRange) (items : List Member) (i : ℕ) (d : Member) (os : List Member) → i < length items
     → IsIncluded kind spans (get_or items i d) → LeavesOut kind spans (take i items) os → LeavesOut kind spans (take (i + 1) items) os
 leaves-past kind spans items i d os inside is before = rw (take_more items i d inside) (leaves-out kind spans (get_or items i d) (take i items) os is before)

@@ -25,8 +25,8 @@ use Rattle.filtergen_facts.specs.declared.lists.Form.{Form}
 use Rattle.filtergen_facts.specs.declared.lists.Form.TheVariants as forms
 use Rattle.filtergen_facts.specs.declared.lists.Bytes.{Bytes}
 use Rattle.filtergen_facts.specs.declared.lists.Sides.{Sides}
-use Rattle.filtergen_facts.specs.declared.lists.Kind.{Kind}
-use Rattle.filtergen_facts.specs.declared.lists.Span.{Span}
+use Rattle.filtergen_facts.specs.declared.lists.ListKind.{ListKind}
+use Rattle.filtergen_facts.specs.declared.lists.ValueRange.{ValueRange}
 use Rattle.filtergen_facts.specs.Weights.{weight}
 use Rattle.filtergen_facts.specs.declared.lists.Member.{Member}
 use Rattle.filtergen_facts.specs.Lists.{any_of, in_span, has_tail, net_form, ports_form, bytes_test, form_test, member_test, members_weight, IsMember, chained, turned, left_chained, weighed, AreFreeBehind, Takes, EndsIn}
@@ -64,7 +64,7 @@ within-one low high n is = by_cases (cases_lt n low) (cases_lt low n)
     by_cases (inr from) (inl above) = grind (arith, nat_tests)
     by_cases (inr from) (inr upto) = grind (arith, nat_tests)
 
-abbrev pub span_of : ℕ → Span
+abbrev pub span_of : ℕ → ValueRange
 span_of n = record { low = n; high = n }
 
 -- a number is a span
@@ -174,10 +174,10 @@ pub all-true : (a b : Bool) → a ≡ true → b ≡ true → (a && b) ≡ true
 all-true true b first second = second
 all-true false b first second = absurd cc
 
-abbrev pub kind_of : Form → Sides → ℕ → ℕ → Bytes → Kind
+abbrev pub kind_of : Form → Sides → ℕ → ℕ → Bytes → ListKind
 kind_of form sides mask head bytes = record { form = form; sides = sides; mask = mask; head = head; bytes = bytes }
 
-pub kind-same : (j k : Kind) → j.form ≡ k.form → j.sides ≡ k.sides → j.mask ≡ k.mask → j.head ≡ k.head → j.bytes ≡ k.bytes → j ≡ k
+pub kind-same : (j k : ListKind) → j.form ≡ k.form → j.sides ≡ k.sides → j.mask ≡ k.mask → j.head ≡ k.head → j.bytes ≡ k.bytes → j ≡ k
 kind-same j k form sides mask head bytes =
     ap (λ f. kind_of f j.sides j.mask j.head j.bytes) form ∙ ap (λ s. kind_of k.form s j.mask j.head j.bytes) sides
     ∙ ap (λ m. kind_of k.form k.sides m j.head j.bytes) mask ∙ ap (λ h. kind_of k.form k.sides k.mask h j.bytes) head ∙ ap (kind_of k.form k.sides k.mask k.head) bytes

@@ -21,14 +21,14 @@ use Rattle.filtergen_facts.specs.declared.lists.Form.TheVariants as forms
 use Rattle.filtergen_facts.specs.declared.lists.Sides.{Sides}
 use Rattle.filtergen_facts.specs.declared.lists.Sides.TheVariants as sides
 use Rattle.filtergen_facts.specs.declared.lists.Bytes.{Bytes}
-use Rattle.filtergen_facts.specs.declared.lists.Kind.{Kind}
-use Rattle.filtergen_facts.specs.declared.lists.Span.{Span}
+use Rattle.filtergen_facts.specs.declared.lists.ListKind.{ListKind}
+use Rattle.filtergen_facts.specs.declared.lists.ValueRange.{ValueRange}
 use Rattle.filtergen_facts.specs.declared.lists.Member.{Member}
 use Rattle.filtergen_facts.specs.Lists.{direction_of, in_span, has_tail, IsBroader, ArePorts, bytes_test, form_test, kind_test, member_test, turned, passing, IsAnswered, Covers, Asks, Settles}
 
 -- Where one of the first tests was No, each of the others is answered.
-abbrev pub AreSettled : (Span → Verdict) → (Span → Verdict) → Type 0
-AreSettled t u = (x y : Span) → t x ≡ No → IsAnswered (u y)
+abbrev pub AreSettled : (ValueRange → Verdict) → (ValueRange → Verdict) → Type 0
+AreSettled t u = (x y : ValueRange) → t x ≡ No → IsAnswered (u y)
 
 pub both-no : (v w : Verdict) → or_else v w ≡ No → (v ≡ No) × (w ≡ No)
 both-no Yes w is = absurd cc
@@ -44,21 +44,21 @@ pub answered-decided : (b : Bool) → IsAnswered (decided b)
 answered-decided true = tt
 answered-decided false = tt
 
-settled-check : (f g : Span → ℕ → Bool) (v : Option ℕ) → AreSettled (λ x. check (f x) v) (λ x. check (g x) v)
+settled-check : (f g : ValueRange → ℕ → Bool) (v : Option ℕ) → AreSettled (λ x. check (f x) v) (λ x. check (g x) v)
 settled-check f g None x y is = absurd cc
 settled-check f g (Some n) x y is = answered-decided (g y n)
 
-settled-guarded : (v : Verdict) (t u : Span → Verdict) → AreSettled t u → AreSettled (λ x. and_then v (t x)) (λ x. and_then v (u x))
+settled-guarded : (v : Verdict) (t u : ValueRange → Verdict) → AreSettled t u → AreSettled (λ x. and_then v (t x)) (λ x. and_then v (u x))
 settled-guarded Yes t u settled x y is = settled x y is
 settled-guarded No t u settled x y is = tt
 settled-guarded Abort t u settled x y is = absurd cc
 
-settled-either : (t t' u u' : Span → Verdict) → AreSettled t t' → AreSettled u u' → AreSettled (λ x. or_else (t x) (u x)) (λ x. or_else (t' x) (u' x))
+settled-either : (t t' u u' : ValueRange → Verdict) → AreSettled t t' → AreSettled u u' → AreSettled (λ x. or_else (t x) (u x)) (λ x. or_else (t' x) (u' x))
 settled-either t t' u u' first second x y is =
     let no = both-no (t x) (u x) is in
     answered-either (t' y) (u' y) (first x y no.0) (second x y no.1)
 
-settled-sides : (s s' : Sides) (t t' u u' : Span → Test) (p : Packet) → IsBroader s s' → AreSettled (λ x. t x p) (λ x. t' x p) → AreSettled (λ x. u x p) (λ x. u' x p)
+settled-sides : (s s' : Sides) (t t' u u' : ValueRange → Test) (p : Packet) → IsBroader s s' → AreSettled (λ x. t x p) (λ x. t' x p) → AreSettled (λ x. u x p) (λ x. u' x p)
     → AreSettled (λ x. by_direction (direction_of s) (t x) (u x) p) (λ x. by_direction (direction_of s') (t' x) (u' x) p)
 settled-sides sides.Source sides.Source t t' u u' p broader first second = first
 settled-sides sides.Source sides.Destination t t' u u' p broader first second = absurd broader
@@ -73,7 +73,7 @@ settled-sides sides.Either sides.Either t t' u u' p broader first second = settl
 pub settled-net : (s s' : Sides) (m m' o o' : ℕ) (p : Packet) → IsBroader s s'
     → AreSettled (λ x. by_direction (direction_of s) (in_span x m o) (in_span x m o') p) (λ x. by_direction (direction_of s') (in_span x m' o) (in_span x m' o') p)
 settled-net s s' m m' o o' p broader =
-    let bits : ℕ → Span → ℕ → Bool = λ k x w. within x.low x.high (bit_and w k) in
+    let bits : ℕ → ValueRange → ℕ → Bool = λ k x w. within x.low x.high (bit_and w k) in
     settled-sides s s' (λ x. in_span x m o) (λ x. in_span x m' o) (λ x. in_span x m o') (λ x. in_span x m' o') p broader
     (settled-check (bits m) (bits m') (word o p)) (settled-check (bits m) (bits m') (word o' p))
 
@@ -85,7 +85,7 @@ settled-typed n s s' m m' o o' p broader =
 
 settled-ports : (n : ℕ) (s s' : Sides) (p : Packet) → IsBroader s s' → AreSettled (λ x. has_ports n (direction_of s) x.low x.high p) (λ x. has_ports n (direction_of s') x.low x.high p)
 settled-ports n s s' p broader =
-    let spans : Span → ℕ → Bool = λ x. within x.low x.high in
+    let spans : ValueRange → ℕ → Bool = λ x. within x.low x.high in
     settled-guarded (is_first_fragment_of n p)
     (λ x. by_direction (direction_of s) (has_port x.low x.high 0) (has_port x.low x.high 2) p) (λ x. by_direction (direction_of s') (has_port x.low x.high 0) (has_port x.low x.high 2) p)
     (settled-sides s s' (λ x. has_port x.low x.high 0) (λ x. has_port x.low x.high 0) (λ x. has_port x.low x.high 2) (λ x. has_port x.low x.high 2) p broader
@@ -96,7 +96,7 @@ settled-numbers v = settled-check (λ x. within x.low x.high) (λ x. within x.lo
 
 form-settled : (f : Form) (s s' : Sides) (m m' h h' : ℕ) (b : Bytes) (p : Packet) → IsBroader s s' → AreSettled (λ x. form_test f (direction_of s) m h b x p) (λ x. form_test f (direction_of s') m' h' b x p)
 form-settled forms.Net s s' m m' h h' b p broader =
-    let typed : Sides → ℕ → ℕ → ℕ → ℕ → Span → Verdict = λ d k n o o' x. and_then (is_type n p) (by_direction (direction_of d) (in_span x k o) (in_span x k o') p) in
+    let typed : Sides → ℕ → ℕ → ℕ → ℕ → ValueRange → Verdict = λ d k n o o' x. and_then (is_type n p) (by_direction (direction_of d) (in_span x k o) (in_span x k o') p) in
     settled-either
     (λ x. or_else (typed s m 0x0800 26 30 x) (typed s m 0x0806 28 38 x)) (λ x. or_else (typed s' m' 0x0800 26 30 x) (typed s' m' 0x0806 28 38 x))
     (typed s m 0x8035 28 38) (typed s' m' 0x8035 28 38)
@@ -107,7 +107,7 @@ form-settled forms.IpNet s s' m m' h h' b p broader = settled-typed 0x0800 s s' 
 form-settled forms.ArpNet s s' m m' h h' b p broader = settled-typed 0x0806 s s' m m' 28 38 p broader
 form-settled forms.RarpNet s s' m m' h h' b p broader = settled-typed 0x8035 s s' m m' 28 38 p broader
 form-settled forms.Ports s s' m m' h h' b p broader =
-    let ports : Sides → ℕ → Span → Verdict = λ d n x. has_ports n (direction_of d) x.low x.high p in
+    let ports : Sides → ℕ → ValueRange → Verdict = λ d n x. has_ports n (direction_of d) x.low x.high p in
     settled-either (λ x. or_else (ports s 6 x) (ports s 17 x)) (λ x. or_else (ports s' 6 x) (ports s' 17 x)) (ports s 132) (ports s' 132)
     (settled-either (ports s 6) (ports s' 6) (ports s 17) (ports s' 17) (settled-ports 6 s s' p broader) (settled-ports 17 s s' p broader))
     (settled-ports 132 s s' p broader)
@@ -115,22 +115,22 @@ form-settled forms.TcpPorts s s' m m' h h' b p broader = settled-ports 6 s s' p 
 form-settled forms.UdpPorts s s' m m' h h' b p broader = settled-ports 17 s s' p broader
 form-settled forms.SctpPorts s s' m m' h h' b p broader = settled-ports 132 s s' p broader
 form-settled forms.TcpOrUdpPorts s s' m m' h h' b p broader =
-    let ports : Sides → ℕ → Span → Verdict = λ d n x. has_ports n (direction_of d) x.low x.high p in
+    let ports : Sides → ℕ → ValueRange → Verdict = λ d n x. has_ports n (direction_of d) x.low x.high p in
     settled-either (ports s 6) (ports s' 6) (ports s 17) (ports s' 17) (settled-ports 6 s s' p broader) (settled-ports 17 s s' p broader)
 form-settled forms.IpProto s s' m m' h h' b p broader =
     settled-guarded (is_type 0x0800 p) (λ x. check (within x.low x.high) (byte 23 p)) (λ x. check (within x.low x.high) (byte 23 p)) (settled-numbers (byte 23 p))
 form-settled forms.EtherProto s s' m m' h h' b p broader = settled-numbers (half 12 p)
 form-settled forms.EtherHost s s' m m' h h' b p broader =
-    let tails : ℕ → Span → ℕ → Bool = λ k x n. (n / 2 ^ 32 == k) && within x.low x.high (n % 2 ^ 32) in
+    let tails : ℕ → ValueRange → ℕ → Bool = λ k x n. (n / 2 ^ 32 == k) && within x.low x.high (n % 2 ^ 32) in
     settled-sides s s' (λ x. has_tail h x 6) (λ x. has_tail h' x 6) (λ x. has_tail h x 0) (λ x. has_tail h' x 0) p broader
     (settled-check (tails h) (tails h') (six 6 p)) (settled-check (tails h) (tails h') (six 0 p))
 form-settled forms.Bytes s s' m m' h h' b p broader =
     let v = accessed b.layer (bytes_of b.size) p b.index in
     settled-guarded (in_layer b.layer p) (λ x. check (within x.low x.high) v) (λ x. check (within x.low x.high) v) (settled-numbers v)
 
-pub covers-broader : (k other : Kind) → k ≡ record { form = other.form; sides = k.sides; mask = k.mask; head = k.head; bytes = other.bytes } → IsBroader k.sides other.sides → Covers k other
+pub covers-broader : (k other : ListKind) → k ≡ record { form = other.form; sides = k.sides; mask = k.mask; head = k.head; bytes = other.bytes } → IsBroader k.sides other.sides → Covers k other
 covers-broader k other same broader = record {
-  answered = λ p x y is. form-settled other.form k.sides other.sides k.mask other.mask k.head other.head other.bytes p broader x y (ap (λ (j : Kind). kind_test j x p) (sym same) ∙ is);
+  answered = λ p x y is. form-settled other.form k.sides other.sides k.mask other.mask k.head other.head other.bytes p broader x y (ap (λ (j : ListKind). kind_test j x p) (sym same) ∙ is);
 }
 
 pub on-true : {P Q : Type 0} (b : Bool) → (P → Q) → OnTrue b P → OnTrue b Q
@@ -165,7 +165,7 @@ covers-bytes n i size f g Yes v p inside is = ports-there f g p.captured i size 
 covers-bytes n i size f g No v p inside is = tt
 covers-bytes n i size f g Abort v p inside is = absurd cc
 
-bytes-covered : (f : Form) (m h : ℕ) (b c : Bytes) (p : Packet) (x y : Span) → ArePorts f c → form_test f SrcOrDst m h b x p ≡ No → IsAnswered (bytes_test c y p)
+bytes-covered : (f : Form) (m h : ℕ) (b c : Bytes) (p : Packet) (x y : ValueRange) → ArePorts f c → form_test f SrcOrDst m h b x p ≡ No → IsAnswered (bytes_test c y p)
 bytes-covered forms.TcpPorts m h b c p x y are is =
     subst (λ l. IsAnswered (and_then (in_layer l p) (check (within y.low y.high) (accessed l (bytes_of c.size) p c.index)))) (sym are.0)
     (covers-bytes 6 c.index (bytes_of c.size) (within x.low x.high) (within y.low y.high) (is_first_fragment_of 6 p) _ p are.1 is)
@@ -184,7 +184,7 @@ bytes-covered forms.EtherProto m h b c p x y are is = absurd are
 bytes-covered forms.EtherHost m h b c p x y are is = absurd are
 bytes-covered forms.Bytes m h b c p x y are is = absurd are
 
-pub covers-ports : (k other : Kind) → k.sides ≡ sides.Either → other.form ≡ forms.Bytes → ArePorts k.form other.bytes → Covers k other
+pub covers-ports : (k other : ListKind) → k.sides ≡ sides.Either → other.form ≡ forms.Bytes → ArePorts k.form other.bytes → Covers k other
 covers-ports k other both of_bytes are = record {
   answered = λ p x y is.
       subst (λ f. IsAnswered (form_test f (direction_of other.sides) other.mask other.head other.bytes y p)) (sym of_bytes)
@@ -198,7 +198,7 @@ turned-passing chains.NoneOf Yes is = absurd cc
 turned-passing chains.NoneOf No is = refl
 turned-passing chains.NoneOf Abort is = absurd cc
 
-pub asks-member : (c : Chain) (t : Tree) (m : Member) (kind : Kind) → Covers m.kind kind → ((p : Packet) → meaning t p ≡ turned c (member_test m p)) → Asks c t kind
+pub asks-member : (c : Chain) (t : Tree) (m : Member) (kind : ListKind) → Covers m.kind kind → ((p : Packet) → meaning t p ≡ turned c (member_test m p)) → Asks c t kind
 asks-member c t m kind covers same = record { answered = λ p passes x. covers.answered p m.span x (turned-passing c (member_test m p) (sym (same p) ∙ passes)) }
 
 pub yes-both : (v w : Verdict) → and_then v w ≡ Yes → (v ≡ Yes) × (w ≡ Yes)
@@ -206,22 +206,22 @@ yes-both Yes w is = (refl, is)
 yes-both No w is = absurd cc
 yes-both Abort w is = absurd cc
 
-pub asks-right : (t u : Tree) (kind : Kind) → Asks chains.AnyOf u kind → Asks chains.AnyOf (trees.either t u) kind
+pub asks-right : (t u : Tree) (kind : ListKind) → Asks chains.AnyOf u kind → Asks chains.AnyOf (trees.either t u) kind
 asks-right t u kind right = record { answered = λ p passes. right.answered p (both-no (meaning t p) (meaning u p) passes).1 }
 
-pub asks-left : (t u : Tree) (kind : Kind) → Asks chains.AnyOf t kind → Asks chains.AnyOf (trees.either t u) kind
+pub asks-left : (t u : Tree) (kind : ListKind) → Asks chains.AnyOf t kind → Asks chains.AnyOf (trees.either t u) kind
 asks-left t u kind left = record { answered = λ p passes. left.answered p (both-no (meaning t p) (meaning u p) passes).0 }
 
-pub asks-second : (t u : Tree) (kind : Kind) → Asks chains.NoneOf u kind → Asks chains.NoneOf (trees.both t u) kind
+pub asks-second : (t u : Tree) (kind : ListKind) → Asks chains.NoneOf u kind → Asks chains.NoneOf (trees.both t u) kind
 asks-second t u kind right = record { answered = λ p passes. right.answered p (yes-both (meaning t p) (meaning u p) passes).1 }
 
-pub asks-first : (t u : Tree) (kind : Kind) → Asks chains.NoneOf t kind → Asks chains.NoneOf (trees.both t u) kind
+pub asks-first : (t u : Tree) (kind : ListKind) → Asks chains.NoneOf t kind → Asks chains.NoneOf (trees.both t u) kind
 asks-first t u kind left = record { answered = λ p passes. left.answered p (yes-both (meaning t p) (meaning u p) passes).0 }
 
 -- by the first member
-pub settles-first : (c : Chain) (left : Option Tree) (first : Member) (kind : Kind) → Covers first.kind kind → Settles c left first kind
+pub settles-first : (c : Chain) (left : Option Tree) (first : Member) (kind : ListKind) → Covers first.kind kind → Settles c left first kind
 settles-first c left first kind covers = record { answered = λ p passes none x. covers.answered p first.span x none }
 
 -- by what stands to the left
-pub settles-left : (c : Chain) (t : Tree) (first : Member) (kind : Kind) → Asks c t kind → Settles c (Some t) first kind
+pub settles-left : (c : Chain) (t : Tree) (first : Member) (kind : ListKind) → Asks c t kind → Settles c (Some t) first kind
 settles-left c t first kind asks = record { answered = λ p passes none x. asks.answered p passes x }

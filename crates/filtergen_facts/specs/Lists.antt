@@ -24,8 +24,8 @@ use Rattle.filtergen_facts.specs.declared.lists.Form.TheVariants as forms
 use Rattle.filtergen_facts.specs.declared.lists.Sides.{Sides}
 use Rattle.filtergen_facts.specs.declared.lists.Sides.TheVariants as sides
 use Rattle.filtergen_facts.specs.declared.lists.Bytes.{Bytes}
-use Rattle.filtergen_facts.specs.declared.lists.Kind.{Kind}
-use Rattle.filtergen_facts.specs.declared.lists.Span.{Span}
+use Rattle.filtergen_facts.specs.declared.lists.ListKind.{ListKind}
+use Rattle.filtergen_facts.specs.declared.lists.ValueRange.{ValueRange}
 use Rattle.filtergen_facts.specs.declared.lists.Member.{Member}
 use Rattle.filter_tree.specs.declared.tree.Primitive.{Primitive}
 use Rattle.filtergen_facts.specs.declared.known.Known.{Known}
@@ -92,11 +92,11 @@ transport_of words.Sctp = Some transports.Sctp
 transport_of other = None
 
 -- the bits of four bytes under a mask are in a span
-abbrev pub in_span : Span → ℕ → ℕ → Test
+abbrev pub in_span : ValueRange → ℕ → ℕ → Test
 in_span x mask o p = check (λ w. within x.low x.high (bit_and w mask)) (word o p)
 
 -- six bytes: the first two are this number, and the other four are in a span
-abbrev pub has_tail : ℕ → Span → ℕ → Test
+abbrev pub has_tail : ℕ → ValueRange → ℕ → Test
 has_tail head x o p = check (λ n. (n / 2 ^ 32 == head) && within x.low x.high (n % 2 ^ 32)) (six o p)
 
 -- IPv4 behind which one test holds, or ARP or RARP behind which another one does
@@ -104,7 +104,7 @@ abbrev pub of_any_type : Test → Test → Test
 of_any_type ip arp = or_test (or_test (and_test (is_type 0x0800) ip) (and_test (is_type 0x0806) arp)) (and_test (is_type 0x8035) arp)
 
 -- bytes of a packet that has their layer are in a span
-abbrev pub bytes_test : Bytes → Span → Test
+abbrev pub bytes_test : Bytes → ValueRange → Test
 bytes_test b x = and_test (in_layer b.layer) (λ p. check (within x.low x.high) (accessed b.layer (bytes_of b.size) p b.index))
 
 -- those of what is no relation
@@ -112,7 +112,7 @@ abbrev pub no_bytes : Bytes
 no_bytes = record { layer = layers.Ether; index = 0; size = sizes.One }
 
 -- the test of a member: a primitive or a relation whose number is in a span
-abbrev pub form_test : Form → Direction → ℕ → ℕ → Bytes → Span → Test
+abbrev pub form_test : Form → Direction → ℕ → ℕ → Bytes → ValueRange → Test
 form_test forms.Net d m h b x =
     of_any_type (by_direction d (in_span x m 26) (in_span x m 30)) (by_direction d (in_span x m 28) (in_span x m 38))
 form_test forms.IpNet d m h b x = and_test (is_type 0x0800) (by_direction d (in_span x m 26) (in_span x m 30))
@@ -129,11 +129,11 @@ form_test forms.EtherProto d m h b x = (λ p. check (within x.low x.high) (half 
 form_test forms.EtherHost d m h b x = by_direction d (has_tail h x 6) (has_tail h x 0)
 form_test forms.Bytes d m h b x = bytes_test b x
 
-abbrev pub kind_test : Kind → Span → Test
+abbrev pub kind_test : ListKind → ValueRange → Test
 kind_test k x = form_test k.form (direction_of k.sides) k.mask k.head k.bytes x
 
 -- the kind of the same ports of TCP or UDP
-abbrev pub of_tcp_or_udp : Kind → Kind
+abbrev pub of_tcp_or_udp : ListKind → ListKind
 of_tcp_or_udp k = record { form = forms.TcpOrUdpPorts; sides = k.sides; mask = k.mask; head = k.head; bytes = k.bytes }
 
 -- what so many members weigh at least
@@ -215,24 +215,24 @@ Passes c None p = Unit {0}
 Passes c (Some u) p = meaning u p ≡ passing c
 
 -- where a test of a kind was No, none of the other kind aborts
-pub record Covers (kind other : Kind) : Type 0 where
-  pub answered : (p : Packet) (x y : Span) → kind_test kind x p ≡ No → IsAnswered (kind_test other y p)
+pub record Covers (kind other : ListKind) : Type 0 where
+  pub answered : (p : Packet) (x y : ValueRange) → kind_test kind x p ≡ No → IsAnswered (kind_test other y p)
 
 -- where a chain goes on behind a tree, no test of this kind aborts
-pub record Asks (chain : Chain) (t : Tree) (kind : Kind) : Type 0 where
-  pub answered : (p : Packet) → meaning t p ≡ passing chain → (x : Span) → IsAnswered (kind_test kind x p)
+pub record Asks (chain : Chain) (t : Tree) (kind : ListKind) : Type 0 where
+  pub answered : (p : Packet) → meaning t p ≡ passing chain → (x : ValueRange) → IsAnswered (kind_test kind x p)
 
 -- no test of this kind aborts behind a member and what stands to the left of it
-pub record Settles (chain : Chain) (left : Option Tree) (first : Member) (kind : Kind) : Type 0 where
-  pub answered : (p : Packet) → Passes chain left p → member_test first p ≡ No → (x : Span) → IsAnswered (kind_test kind x p)
+pub record Settles (chain : Chain) (left : Option Tree) (first : Member) (kind : ListKind) : Type 0 where
+  pub answered : (p : Packet) → Passes chain left p → member_test first p ≡ No → (x : ValueRange) → IsAnswered (kind_test kind x p)
 
 -- where a test of a kind was No and one of the other kind aborts, each of the kind is No
-pub record IsApart (kind other : Kind) : Type 0 where
-  pub apart : (p : Packet) (x y z : Span) → kind_test kind x p ≡ No → kind_test other y p ≡ Abort → kind_test kind z p ≡ No
+pub record IsApart (kind other : ListKind) : Type 0 where
+  pub apart : (p : Packet) (x y z : ValueRange) → kind_test kind x p ≡ No → kind_test other y p ≡ Abort → kind_test kind z p ≡ No
 
 -- where a test of a kind is No, so is one of the other kind whose numbers it has
-pub record Includes (kind other : Kind) : Type 0 where
-  pub none : (p : Packet) (x y : Span) → x.low ≤ y.low → y.high ≤ x.high → kind_test kind x p ≡ No → kind_test other y p ≡ No
+pub record Includes (kind other : ListKind) : Type 0 where
+  pub none : (p : Packet) (x y : ValueRange) → x.low ≤ y.low → y.high ≤ x.high → kind_test kind x p ≡ No → kind_test other y p ≡ No
 
 -- never Yes and Abort, so that either may be asked first
 abbrev pub Commute : Verdict → Verdict → Type 0
@@ -249,8 +249,8 @@ pub record AreFreeBehind (chain : Chain) (left : Option Tree) (first : Member) (
   pub free : (p : Packet) → Passes chain left p → member_test first p ≡ No → AreFree others p
 
 -- members of a kind, and of one that is apart from it
-pub record AreApart (kind : Kind) (others : List Member) : Type 0 where
-  pub other : Kind
+pub record AreApart (kind : ListKind) (others : List Member) : Type 0 where
+  pub other : ListKind
   pub apart : IsApart kind other
   pub each : All (λ m. (m.kind ≡ kind) ⊎ (m.kind ≡ other)) others
 
@@ -276,11 +276,11 @@ pub record EndsIn (chain : Chain) (t u : Tree) (left : Option Tree) (first : Mem
   pub room : length others < MAX_INSNS
 
 -- a member alone is the primitive that is told of its kind
-abbrev pub IsAlone : Kind → Option Primitive → List Span → Type 0
-IsAlone kind primitive spans = (x : Span) → spans ≡ x ∷ [] → IsMember (record { kind = kind; span = x; primitive = primitive })
+abbrev pub IsAlone : ListKind → Option Primitive → List ValueRange → Type 0
+IsAlone kind primitive spans = (x : ValueRange) → spans ≡ x ∷ [] → IsMember (record { kind = kind; span = x; primitive = primitive })
 
 -- those of a kind leave the others; where they may be, they are asked first
-pub record Divides (kind : Kind) (all : List Member) (spans : List Span) (others : List Member) : Type 0 where
+pub record Divides (kind : ListKind) (all : List Member) (spans : List ValueRange) (others : List Member) : Type 0 where
   pub same : (p : Packet) → AreFree all p → any_of member_test all p ≡ or_else (any_of (kind_test kind) spans p) (any_of member_test others p)
   pub commutes : (p : Packet) (v : Verdict) → ((m : Member) → Contains all m → m.kind ≡ kind → Commute v (member_test m p)) → Commute v (any_of (kind_test kind) spans p)
   pub among : (m : Member) → Contains others m → Contains all m
@@ -289,11 +289,11 @@ pub record Divides (kind : Kind) (all : List Member) (spans : List Span) (others
   pub together : length spans + length others ≡ length all
 
 -- where all of these of a kind are No, a member is
-pub record IsIncluded (kind : Kind) (spans : List Span) (m : Member) : Type 0 where
+pub record IsIncluded (kind : ListKind) (spans : List ValueRange) (m : Member) : Type 0 where
   pub none : (p : Packet) → any_of (kind_test kind) spans p ≡ No → member_test m p ≡ No
 
 -- some that are so are left out
-pub record LeavesOut (kind : Kind) (spans : List Span) (all others : List Member) : Type 0 where
+pub record LeavesOut (kind : ListKind) (spans : List ValueRange) (all others : List Member) : Type 0 where
   pub same : (p : Packet) → any_of (kind_test kind) spans p ≡ No → any_of member_test all p ≡ any_of member_test others p
   pub among : (m : Member) → Contains others m → Contains all m
   pub members : All IsMember all → All IsMember others
@@ -301,17 +301,17 @@ pub record LeavesOut (kind : Kind) (spans : List Span) (all others : List Member
   pub fewer : length others ≤ length all
 
 -- lists of two kinds that ask for the same are one list of a third kind
-pub record AreJoined (kind other joined : Kind) : Type 0 where
-  pub same : (p : Packet) (xs : List Span) → 0 < length xs → or_else (any_of (kind_test kind) xs p) (any_of (kind_test other) xs p) ≡ any_of (kind_test joined) xs p
+pub record AreJoined (kind other joined : ListKind) : Type 0 where
+  pub same : (p : Packet) (xs : List ValueRange) → 0 < length xs → or_else (any_of (kind_test kind) xs p) (any_of (kind_test other) xs p) ≡ any_of (kind_test joined) xs p
   pub weighs : (n : ℕ) → weighed joined.form n ≡ weighed kind.form n
 
 -- members of a kind, with these numbers in their order
-abbrev pub AskFor : Kind → List Span → List Member → Type 0
-AskFor kind spans ms = AllZip (λ (m : Member) (x : Span). (m.kind ≡ kind) × (m.span ≡ x)) ms spans
+abbrev pub AskFor : ListKind → List ValueRange → List Member → Type 0
+AskFor kind spans ms = AllZip (λ (m : Member) (x : ValueRange). (m.kind ≡ kind) × (m.span ≡ x)) ms spans
 
 -- Those of a kind with a member that is asked before all of them, and the others, without some that hold only where one of the kind does. The kind
 -- is that member's, or one for which the others ask too.
-pub record Groups (first : Member) (all : List Member) (kind : Kind) (spans : List Span) (others : List Member) : Type 0 where
+pub record Groups (first : Member) (all : List Member) (kind : ListKind) (spans : List ValueRange) (others : List Member) : Type 0 where
   pub same : (p : Packet) → (member_test first p ≡ No → AreFree all p)
       → or_else (member_test first p) (any_of member_test all p) ≡ or_else (any_of (kind_test kind) spans p) (any_of member_test others p)
   pub free : (p : Packet) → (member_test first p ≡ No → AreFree all p) → any_of (kind_test kind) spans p ≡ No → AreFree others p

@@ -11,7 +11,7 @@ mod refusal;
 mod weighing;
 
 pub use known::Known;
-pub use lists::{Bytes, Chain, Form, Kind, Member, Sides, Span};
+pub use lists::{Bytes, Chain, Form, ListKind, Member, Sides, ValueRange};
 pub use neighbours::{Group, Neighbours, Others};
 pub use refusal::Refusal;
 pub use weighing::{MAX_NEED, MAX_WEIGHT, need, weight};

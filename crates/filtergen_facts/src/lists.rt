@@ -67,7 +67,7 @@ pub struct Bytes {
 
 /// What the members of a list have in common.
 #[derive(Clone, Copy, PartialEq, Eq)]
-pub struct Kind {
+pub struct ListKind {
     pub form: Form,
     pub sides: Sides,
     /// That of hosts and nets.
@@ -80,7 +80,7 @@ pub struct Kind {
 
 /// The numbers from low to high, with both.
 #[derive(Clone, Copy, Default)]
-pub struct Span {
+pub struct ValueRange {
     pub low: u32,
     pub high: u32,
 }
@@ -88,8 +88,8 @@ pub struct Span {
 /// A primitive or a relation as a member of a list.
 #[derive(Clone, Copy)]
 pub struct Member {
-    pub kind: Kind,
-    pub span: Span,
+    pub kind: ListKind,
+    pub span: ValueRange,
     /// The primitive that it is, or none for a relation.
     pub primitive: Option<Primitive>,
 }
@@ -100,8 +100,8 @@ impl Default for Member {
     }
 }
 
-impl Default for Kind {
-    fn default() -> Kind {
+impl Default for ListKind {
+    fn default() -> ListKind {
         Member::default().kind
     }
 }
@@ -159,25 +159,25 @@ impl Bytes {
     }
 }
 
-impl Span {
+impl ValueRange {
     /// Whether it has all numbers of another one.
-    pub(crate) fn has(self, other: Span) -> bool
+    pub(crate) fn has(self, other: ValueRange) -> bool
         ensures { OnTrue result ((self.low ≤ other.low) × (other.high ≤ self.high)) }
     {
         self.low <= other.low && other.high <= self.high
     }
 
     /// Whether two spans are one.
-    pub(crate) fn is(self, other: Span) -> bool
+    pub(crate) fn is(self, other: ValueRange) -> bool
         ensures { OnTrue result (self ≡ other) }
     {
         self.low == other.low && self.high == other.high
     }
 }
 
-impl Kind {
+impl ListKind {
     /// Whether two kinds are one.
-    pub fn is(self, other: Kind) -> bool
+    pub fn is(self, other: ListKind) -> bool
         ensures same { OnTrue result (self ≡ other) }
         ensures differ { OnFalse result (self ≢ other) }
     {
@@ -186,10 +186,10 @@ impl Kind {
 
     /// Whether a test of this kind loads what one of the other kind does, of either side where that is asked for, under any mask,
     /// and whatever the first two bytes are.
-    fn is_broader(self, other: Kind) -> bool
+    fn is_broader(self, other: ListKind) -> bool
         ensures { OnTrue result (Covers self other) }
     {
-        let alike = Kind {
+        let alike = ListKind {
             sides: self.sides,
             mask: self.mask,
             head: self.head,
@@ -203,7 +203,7 @@ impl Kind {
     }
 
     /// Whether it loads both ports, which have the bytes that one of the other kind asks for.
-    fn has_ports(self, other: Kind) -> bool
+    fn has_ports(self, other: ListKind) -> bool
         ensures { OnTrue result (Covers self other) }
     {
         match (self.sides, other.form) {
@@ -213,7 +213,7 @@ impl Kind {
     }
 
     /// Whether no test of the other kind aborts where one of this kind was No.
-    pub fn settles(self, other: Kind) -> bool
+    pub fn settles(self, other: ListKind) -> bool
         ensures { OnTrue result (Covers self other) }
     {
         if self.is_broader(other) {
@@ -224,7 +224,7 @@ impl Kind {
 
     /// Whether all tests of this kind are No where one was and one of the other kind aborts: such a packet is of another type or
     /// protocol.
-    pub(crate) fn is_apart(self, other: Kind) -> bool
+    pub(crate) fn is_apart(self, other: ListKind) -> bool
         ensures { OnTrue result (IsApart self other) }
     {
         match (self.form, other.form) {
@@ -237,15 +237,15 @@ impl Kind {
     }
 
     /// The kind of the same ports of TCP, where this one is of UDP, or the other way round.
-    pub(crate) fn of_other_protocol(self) -> Option<Kind>
+    pub(crate) fn of_other_protocol(self) -> Option<ListKind>
         ensures { IfSome result (λ other. AreJoined self other (of_tcp_or_udp self)) }
     {
         match self.form {
-            Form::TcpPorts => Some(Kind {
+            Form::TcpPorts => Some(ListKind {
                 form: Form::UdpPorts,
                 ..self
             }),
-            Form::UdpPorts => Some(Kind {
+            Form::UdpPorts => Some(ListKind {
                 form: Form::TcpPorts,
                 ..self
             }),
@@ -254,10 +254,10 @@ impl Kind {
     }
 
     /// The kind of the same ports of TCP or UDP.
-    pub(crate) fn of_tcp_or_udp(self) -> Kind
+    pub(crate) fn of_tcp_or_udp(self) -> ListKind
         ensures { result ≡ of_tcp_or_udp self }
     {
-        Kind {
+        ListKind {
             form: Form::TcpOrUdpPorts,
             ..self
         }
@@ -272,7 +272,7 @@ impl Kind {
     }
 
     /// Whether a test of the other kind is No where one of this kind is that has its numbers.
-    pub(crate) fn includes(self, other: Kind) -> bool
+    pub(crate) fn includes(self, other: ListKind) -> bool
         ensures { OnTrue result (Includes self other) }
     {
         match (self.sides, other.form) {
@@ -431,14 +431,14 @@ impl Member {
         } }
     {
         Member {
-            kind: Kind {
+            kind: ListKind {
                 form,
                 sides: Sides::Source,
                 mask: 0,
                 head: 0,
                 bytes: NO_BYTES,
             },
-            span: Span {
+            span: ValueRange {
                 low: number,
                 high: number,
             },
@@ -457,14 +457,14 @@ impl Member {
     {
         match sides_of(direction) {
             Some(sides) => Some(Member {
-                kind: Kind {
+                kind: ListKind {
                     form: net_form(network),
                     sides,
                     mask,
                     head: 0,
                     bytes: NO_BYTES,
                 },
-                span: Span {
+                span: ValueRange {
                     low: address,
                     high: address,
                 },
@@ -485,14 +485,14 @@ impl Member {
     {
         match sides_of(direction) {
             Some(sides) => Some(Member {
-                kind: Kind {
+                kind: ListKind {
                     form: ports_form(transport),
                     sides,
                     mask: 0,
                     head: 0,
                     bytes: NO_BYTES,
                 },
-                span: Span { low, high },
+                span: ValueRange { low, high },
                 primitive: None,
             }),
             None => None,
@@ -510,7 +510,7 @@ impl Member {
         let tail = u32::from_be_bytes([c, d, e, f]);
         let member = Member::numbered(Form::EtherHost, tail);
         Some(Member {
-            kind: Kind {
+            kind: ListKind {
                 sides,
                 head,
                 ..member.kind
@@ -592,7 +592,7 @@ impl Member {
                 };
                 let member = Member::numbered(Form::Bytes, number);
                 Some(Member {
-                    kind: Kind {
+                    kind: ListKind {
                         bytes,
                         ..member.kind
                     },

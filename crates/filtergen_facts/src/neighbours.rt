@@ -5,7 +5,7 @@ ghost use Rattle.std.specs.Bool.{OnTrue, OnFalse};
 ghost use Rattle.filter_tree.specs.Trees.{tree_of};
 ghost use Rattle.filtergen_facts.specs.Lists.{IsMember, Asks, Settles, AreApart, AreFreeBehind, Takes, EndsIn, Divides, IsIncluded, LeavesOut, of_tcp_or_udp, AskFor, Groups};
 
-use crate::lists::{Chain, Kind, Member, Span};
+use crate::lists::{Chain, ListKind, Member, ValueRange};
 use arrayvec::ArrayVec;
 use bpfvm::MAX_INSNS;
 use filter_tree::{Expr, Primitive};
@@ -35,15 +35,15 @@ pub struct Others {
 /// Members of one kind.
 #[derive(Drop)]
 pub struct Group {
-    pub kind: Kind,
+    pub kind: ListKind,
     /// The number of each member, that of the last one first.
-    pub spans: ArrayVec<Span, MAX_INSNS>,
+    pub spans: ArrayVec<ValueRange, MAX_INSNS>,
     /// The primitive that a member is which is alone, or none for a relation.
     pub primitive: Option<Primitive>,
 }
 
 /// Whether a link is a test behind which none of this kind aborts.
-fn is_of(chain: Chain, expr: &Expr, kind: Kind) -> bool
+fn is_of(chain: Chain, expr: &Expr, kind: ListKind) -> bool
     ensures { OnTrue result (Asks chain (tree_of expr.now) kind) }
 {
     match Member::of_link(chain, expr) {
@@ -53,7 +53,7 @@ fn is_of(chain: Chain, expr: &Expr, kind: Kind) -> bool
 }
 
 /// Whether one of the last links of a chain is a test behind which none of this kind aborts.
-fn asks(chain: Chain, expr: &Expr, kind: Kind, links: u32) -> bool
+fn asks(chain: Chain, expr: &Expr, kind: ListKind, links: u32) -> bool
     ensures { OnTrue result (Asks chain (tree_of expr.now) kind) }
 {
     match (chain, expr) {
@@ -68,7 +68,7 @@ fn asks(chain: Chain, expr: &Expr, kind: Kind, links: u32) -> bool
 }
 
 /// Whether no test of a kind aborts behind a member and what stands to the left of it.
-fn is_settled(chain: Chain, left: Option<&Expr>, first: Member, kind: Kind) -> bool
+fn is_settled(chain: Chain, left: Option<&Expr>, first: Member, kind: ListKind) -> bool
     ensures { OnTrue result (MatchOption left.entry (Settles chain None first kind) (λ t. Settles chain (Some (tree_of t.now)) first kind)) }
 {
     if first.kind.settles(kind) {
@@ -81,7 +81,7 @@ fn is_settled(chain: Chain, left: Option<&Expr>, first: Member, kind: Kind) -> b
 }
 
 /// Whether a member is No where all of these of a kind are.
-fn is_included(member: Member, kind: Kind, spans: &[Span]) -> bool
+fn is_included(member: Member, kind: ListKind, spans: &[ValueRange]) -> bool
     ensures { OnTrue result (IsIncluded kind spans.now member) }
 {
     if !kind.includes(member.kind) {
@@ -96,7 +96,7 @@ fn is_included(member: Member, kind: Kind, spans: &[Span]) -> bool
 }
 
 /// Whether a kind is one of these, which it becomes where there is room.
-fn is_counted(kinds: &mut ArrayVec<Kind, MAX_KINDS>, kind: Kind) -> bool {
+fn is_counted(kinds: &mut ArrayVec<ListKind, MAX_KINDS>, kind: ListKind) -> bool {
     for own in kinds.as_slice() {
         if kind.is(*own) {
             return true;
@@ -111,7 +111,7 @@ fn is_counted(kinds: &mut ArrayVec<Kind, MAX_KINDS>, kind: Kind) -> bool {
 
 /// Whether the last link of a chain is of a kind of which all may be asked before one that may abort behind it. These two, of which
 /// that link's has members to its right, are to be the only ones there.
-fn may_lead(chain: Chain, expr: &Expr, kind: Kind, kinds: &[Kind]) -> bool {
+fn may_lead(chain: Chain, expr: &Expr, kind: ListKind, kinds: &[ListKind]) -> bool {
     let Some(first) = Member::of_link(chain, chain.last_of(expr)) else {
         return false;
     };
@@ -132,8 +132,8 @@ fn may_lead(chain: Chain, expr: &Expr, kind: Kind, kinds: &[Kind]) -> bool {
 fn links(
     chain: Chain,
     expr: &Expr,
-    kind: Kind,
-    kinds: &mut ArrayVec<Kind, MAX_KINDS>,
+    kind: ListKind,
+    kinds: &mut ArrayVec<ListKind, MAX_KINDS>,
     found: usize,
 ) -> usize {
     if found >= MAX_INSNS - 1 {
@@ -222,7 +222,7 @@ impl Others {
     }
 
     /// Whether each of these is of a kind, or of that of the last one, which may be asked behind all of the kind.
-    fn are_apart(&self, kind: Kind) -> bool
+    fn are_apart(&self, kind: ListKind) -> bool
         ensures { OnTrue result (AreApart kind self.now.members.items) }
     {
         let Some(last) = self.members.as_slice().last() else {
@@ -247,7 +247,7 @@ impl Others {
 
     /// The numbers of those of a kind, which leave the others.
     #[inline(never)]
-    fn divide(&mut self, kind: Kind) -> ArrayVec<Span, MAX_INSNS>
+    fn divide(&mut self, kind: ListKind) -> ArrayVec<ValueRange, MAX_INSNS>
         ensures { Divides kind self.old.members.items result.items self.new.members.items }
     {
         let mut spans = ArrayVec::new();
@@ -265,7 +265,7 @@ impl Others {
 
     /// Leaves out those that are No where all of these of a kind are.
     #[inline(never)]
-    fn leave_out(&mut self, kind: Kind, spans: &[Span])
+    fn leave_out(&mut self, kind: ListKind, spans: &[ValueRange])
         ensures { LeavesOut kind spans.now self.old.members.items self.new.members.items }
     {
         let mut kept = ArrayVec::new();
@@ -278,7 +278,7 @@ impl Others {
     }
 
     /// Whether these are of a kind and ask for these numbers, in the same order.
-    fn ask_for(&self, kind: Kind, spans: &[Span]) -> bool
+    fn ask_for(&self, kind: ListKind, spans: &[ValueRange]) -> bool
         ensures { OnTrue result (AskFor kind spans.now self.now.members.items) }
     {
         if self.members.len() != spans.len() {

@@ -84,7 +84,7 @@ impl<'a> Cursor<'a> {
     }
 
     /// Goes past the `)` behind what was read.
-    pub fn closed<T: Drop>(&mut self, read: T) -> Result<T, Fault>
+    pub fn close_after<T: Drop>(&mut self, read: T) -> Result<T, Fault>
         ensures { Gives {Y = T × List Kind} (λ t. (t, kinds self.new.rest.now)) result
             (option_map (λ behind. (read, behind.1)) (close_at (kinds self.old.rest.now))) }
     {

@@ -20,7 +20,7 @@ use crate::phrases::primitives::{plain_at, unqualified_at};
 use crate::phrases::qualifiers::{Phrase, Qualifiers, qualifiers_of};
 use crate::phrases::{is_written, joint_at, phrase_at, range_at};
 use crate::token::Token;
-use crate::tree::{joined_by, negated};
+use crate::tree::{joined_by, negate};
 use filter_tree::{Expr, Primitive};
 use std::alloc::Global;
 
@@ -87,19 +87,19 @@ impl<'a> Parser<'a> {
             Beginning::Not => {
                 let levels = self.cursor.deeper(levels)?;
                 let expr = self.term(alloc, levels)?;
-                negated(alloc, expr)
+                negate(alloc, expr)
             }
             Beginning::Parenthesis => {
                 let levels = self.cursor.deeper(levels)?;
                 let expr = self.expr(alloc, levels)?;
-                self.cursor.closed(expr)
+                self.cursor.close_after(expr)
             }
-            Beginning::Primitive => self.started(alloc, levels),
+            Beginning::Primitive => self.primitive_or_group(alloc, levels),
         }
     }
 
     /// A primitive, or a group behind its phrase.
-    fn started(&mut self, alloc: Global, levels: usize) -> Result<Expr, Fault>
+    fn primitive_or_group(&mut self, alloc: Global, levels: usize) -> Result<Expr, Fault>
         ensures { Gives (λ e. (tree_of e, self.new.nearest, kinds self.new.cursor.rest.now)) result
             (started_at levels self.old.nearest (kinds self.old.cursor.rest.now)) }
     {
@@ -108,7 +108,7 @@ impl<'a> Parser<'a> {
             Start::Group(qualifiers) => {
                 let levels = self.cursor.deeper(levels)?;
                 let expr = self.cursor.group(alloc, levels, qualifiers)?;
-                self.cursor.closed(expr)
+                self.cursor.close_after(expr)
             }
         }
     }
@@ -124,7 +124,7 @@ impl<'a> Parser<'a> {
                 self.cursor.rest = rest;
                 Ok(self.without_qualifiers(primitive))
             }
-            Ok(None) => self.phrased(),
+            Ok(None) => self.phrase_start(),
             Err(at) => Err(self.cursor.syntax_at(at)),
         }
     }
@@ -149,7 +149,7 @@ impl<'a> Parser<'a> {
 
     /// What begins with a phrase, or with an identifier without one.
     #[tactic(auto, unfolding(crate::specs::Reading::phrased_at))]
-    fn phrased(&mut self) -> Result<Start, Fault>
+    fn phrase_start(&mut self) -> Result<Start, Fault>
         ensures { Gives (λ s. (s, self.new.nearest, kinds self.new.cursor.rest.now)) result
             (phrased_at self.old.nearest (kinds self.old.cursor.rest.now)) }
     {
@@ -161,14 +161,14 @@ impl<'a> Parser<'a> {
             let primitive = self.cursor.portrange(phrase, behind)?;
             Ok(self.without_qualifiers(primitive))
         } else if is_written(phrase) {
-            self.qualified(phrase, rest)
+            self.qualified_start(phrase, rest)
         } else {
-            self.inherited()
+            self.inherit()
         }
     }
 
     /// What these tokens are, which stand behind a phrase.
-    fn qualified(&mut self, phrase: Phrase, rest: &'a [Token]) -> Result<Start, Fault>
+    fn qualified_start(&mut self, phrase: Phrase, rest: &'a [Token]) -> Result<Start, Fault>
         ensures { Gives (λ s. (s, self.new.nearest, kinds self.new.cursor.rest.now)) result
             (qualified_at phrase (kinds rest.now)) }
     {
@@ -185,7 +185,7 @@ impl<'a> Parser<'a> {
     }
 
     /// An identifier without a phrase.
-    fn inherited(&mut self) -> Result<Start, Fault>
+    fn inherit(&mut self) -> Result<Start, Fault>
         ensures { Gives (λ s. (s, self.new.nearest, kinds self.new.cursor.rest.now)) result
             (inherited_at self.old.nearest (kinds self.old.cursor.rest.now)) }
     {

@@ -47,7 +47,7 @@ fn type_at(tokens: &[Token]) -> (Option<TypeWord>, &[Token])
 }
 
 /// The direction of two words and what joins them, where they are one.
-fn joined(first: Side, joint: Joint, second: Side) -> Option<Direction>
+fn join_sides(first: Side, joint: Joint, second: Side) -> Option<Direction>
     ensures { result ≡ joined first joint second }
 {
     match (first, joint, second) {
@@ -77,7 +77,7 @@ fn joined_at(first: Side, tokens: &[Token]) -> Option<(Direction, &[Token])>
 {
     let (joint, rest) = joint_at(tokens)?;
     let (second, rest) = side_at(rest)?;
-    let direction = joined(first, joint, second)?;
+    let direction = join_sides(first, joint, second)?;
     Some((direction, rest))
 }
 

@@ -11,7 +11,7 @@ use filter_tree::Expr;
 use std::alloc::Global;
 
 /// The expression that negates another.
-pub(crate) fn negated(alloc: Global, expr: Expr) -> Result<Expr, Fault>
+pub(crate) fn negate(alloc: Global, expr: Expr) -> Result<Expr, Fault>
     ensures { Gives (λ e. tree_of e) result (Some (negation (tree_of expr))) }
 {
     Ok(Expr::Not(Box::new(alloc, expr)?))

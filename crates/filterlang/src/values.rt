@@ -15,7 +15,7 @@ use crate::fault::Fault;
 use crate::lookahead::{Opening, bracket_follows, look_into};
 use crate::phrases::{bare_number_at, next};
 use crate::token::{Kind, Token};
-use crate::values::operators::{LOOSEST, layer_of, operated, operator_at, size_of};
+use crate::values::operators::{LOOSEST, combine, layer_of, operator_at, size_of};
 use filter_tree::{Comparison, Expr, Layer, Size, Value};
 use std::alloc::Global;
 
@@ -75,7 +75,7 @@ impl<'a> Cursor<'a> {
             let place = self.place();
             let left = Box::new(alloc, value)?;
             let right = self.arith(alloc, levels, tighter)?;
-            value = operated(alloc, operator, left, right, place)?;
+            value = combine(alloc, operator, left, right, place)?;
         }
         Ok(value)
     }
@@ -96,7 +96,7 @@ impl<'a> Cursor<'a> {
             Opening::Parenthesis => {
                 let levels = self.deeper(levels)?;
                 let value = self.arith(alloc, levels, LOOSEST)?;
-                self.closed(value)
+                self.close_after(value)
             }
             Opening::Accessor => self.accessor(alloc, levels),
             Opening::Leaf => self.leaf(),

@@ -13,8 +13,8 @@ use Rattle.listener.specs.Messages.{Arrival, cut_to, Keeps}
 use Rattle.listener.proofs.ArriveSteps.{size_cut}
 use Rattle.handover.specs.declared.calls.Feed.{Feed}
 use Rattle.handover.specs.declared.calls.Feed.TheVariants.{Arrive, Flush, FlushClosed}
-use Rattle.handover.specs.declared.calls.Step.{Step}
-use Rattle.handover.specs.declared.calls.Made.{Made}
+use Rattle.handover.specs.declared.calls.WordStep.{WordStep}
+use Rattle.handover.specs.declared.calls.EndStep.{EndStep}
 use Rattle.handover.specs.declared.view.View.{View}
 use Rattle.handover.specs.Ends.{feeding, own_list, HasOwnRun, AreCountsOf, AreCountsOfCalls}
 use Rattle.handover.specs.Own.{received_in, matched_in, dropped_in}
@@ -26,13 +26,13 @@ use Rattle.handover.proofs.Owns.{own_legal, own_store}
 use Rattle.handover.proofs.Settling.{histories_are_settled, own_runs_are_right}
 
 -- the store keeps its capacity
-pub same_capacity : (m n : Sat) (b c : Filled) (f : Feed) (es : List Step) → IsFeeder m b false → Went m n c f es → c.capacity ≡ b.capacity
+pub same_capacity : (m n : Sat) (b c : Filled) (f : Feed) (es : List WordStep) → IsFeeder m b false → Went m n c f es → c.capacity ≡ b.capacity
 same_capacity m n b c f es h w =
     ap (λ (k : Filled). k.capacity) w.feeder.store ∙ (ap (λ p. p.capacity) w.profile ∙ sym (ap (λ (k : Filled). k.capacity) h.store))
 
 -- ---- The run of the feeder's own calls
 
-pub own_run : (pair : TableId) (program : List Insn) (snap : ℕ) (n : Sat) (seen : List Made) (c : Filled) (over : Bool) → IsFeeder n c over
+pub own_run : (pair : TableId) (program : List Insn) (snap : ℕ) (n : Sat) (seen : List EndStep) (c : Filled) (over : Bool) → IsFeeder n c over
     → HasOwnRun (feeding pair program snap n.0.profile n.0.feeds n.0.feed_steps seen c.messages)
 own_run pair program snap n seen c over h =
     let t = terms_of n.0.profile in
@@ -146,7 +146,7 @@ counted_flush full FlushClosed fs counts answers c = counted_more counts counts 
 
 -- ---- The fields behind a call
 
-pub fields_after : (m n : Sat) (b c : Filled) (f : Feed) (es : List Step) (snap : ℕ) (mode : Mode) (counts : Counts) → IsFeeder m b false → InRange snap b.capacity
+pub fields_after : (m n : Sat) (b c : Filled) (f : Feed) (es : List WordStep) (snap : ℕ) (mode : Mode) (counts : Counts) → IsFeeder m b false → InRange snap b.capacity
     → m.0.profile.mode ≡ mode → Went m n c f es → AreCountsOfCalls counts (m.0.feeds ++ f ∷ [])
     → IsFeeder n c false × InRange snap c.capacity × (n.0.profile.mode ≡ mode) × AreCountsOfCalls counts n.0.feeds
 fields_after m n b c f es snap mode counts h range is w counted = (

@@ -8,7 +8,7 @@ use Rattle.listener.specs.PlainList.{Terms, PlainList, empty, IsRight, Legal, st
 use Rattle.listener.specs.Laws.{hold_of}
 use Rattle.handover.specs.declared.calls.Feed.{Feed}
 use Rattle.handover.specs.declared.calls.Feed.TheVariants.{Arrive, Flush, FlushClosed}
-use Rattle.handover.specs.declared.calls.Step.{Step}
+use Rattle.handover.specs.declared.calls.WordStep.{WordStep}
 use Rattle.handover.specs.declared.calls.Take.{Take}
 use Rattle.handover.specs.declared.calls.Take.TheVariants.{Full, Nothing, Ended}
 use Rattle.handover.specs.declared.view.View.{View}
@@ -148,7 +148,7 @@ quiet_run t full fs ts f none unshut tidy legal q =
     )
 
 -- what a call that neither stores nor finds the pair closed owes
-plain_facts : (t : Terms) (full : Bool) (home : Home) (v d : View) (f : Feed) (e : Step) → kind f ≡ plain → v.rotating ≡ false → v.ended ≡ false → finds v.feeds ≡ false
+plain_facts : (t : Terms) (full : Bool) (home : Home) (v d : View) (f : Feed) (e : WordStep) → kind f ≡ plain → v.rotating ≡ false → v.ended ≡ false → finds v.feeds ≡ false
     → AllFit t.capacity (f ∷ []) → Facts t full home v d
     → Legal t empty (events (merge (v.feeds ++ f ∷ []) d.takes)) → last (v.feeds ++ f ∷ []) d.takes ≡ next (last v.feeds d.takes) (event_of (fed f))
     → Keeps (last v.feeds d.takes) (next (last v.feeds d.takes) (event_of (fed f))) → Facts t full home (with_feeds v (f ∷ []) e false) d
@@ -166,7 +166,7 @@ plain_facts t full home v d f e is calm going none fit k legal ends keeps = reco
   place = subst (BufferFollowsTurn t.capacity full false d.taking home) (keeps.hold ∙ ap hold_of (sym ends)) (subst (λ (x : Bool). BufferFollowsTurn t.capacity full x d.taking home (hold_of (last v.feeds d.takes))) calm k.place);
 }
 
-pub quiet_keeps : (t : Terms) (full : Bool) (home : Home) (v d : View) (f : Feed) (e : Step) → v.rotating ≡ false → v.ended ≡ false → finds v.feeds ≡ false
+pub quiet_keeps : (t : Terms) (full : Bool) (home : Home) (v d : View) (f : Feed) (e : WordStep) → v.rotating ≡ false → v.ended ≡ false → finds v.feeds ≡ false
     → AllFit t.capacity (f ∷ []) → Quiet t (store_of v.feeds) f → Facts t full home v d → Facts t full home (with_feeds v (f ∷ []) e false) d
 quiet_keeps t full home v d f e calm going none fit q k =
     let r = quiet_run t full v.feeds d.takes f none (k.is_open ∙ none) k.tidy k.legal q in
@@ -192,7 +192,7 @@ busy_plain t store (Arrive (Some m) Closed) q = absurd q
 busy_plain t store (Flush true) q = absurd q
 busy_plain t store FlushClosed q = absurd q
 
-pub busy_keeps : (t : Terms) (home : Home) (v d : View) (f : Feed) (e : Step) → v.rotating ≡ false → v.ended ≡ false → finds v.feeds ≡ false
+pub busy_keeps : (t : Terms) (home : Home) (v d : View) (f : Feed) (e : WordStep) → v.rotating ≡ false → v.ended ≡ false → finds v.feeds ≡ false
     → AllFit t.capacity (f ∷ []) → Busy t (store_of v.feeds) f → Facts t true home v d → Facts t true home (with_feeds v (f ∷ []) e false) d
 busy_keeps t home v d f e calm going none fit q k =
     let fs : List Feed = v.feeds in let ts : List Take = d.takes in
@@ -225,7 +225,7 @@ loud_stores t store (Arrive (Some m) Closed) q = absurd q
 loud_stores t store (Flush false) q = absurd q
 loud_stores t store FlushClosed q = absurd q
 
-pub loud_keeps : (t : Terms) (home : Home) (v d : View) (f : Feed) (e : Step) → v.ended ≡ false → finds v.feeds ≡ false → d.taking ≡ None
+pub loud_keeps : (t : Terms) (home : Home) (v d : View) (f : Feed) (e : WordStep) → v.ended ≡ false → finds v.feeds ≡ false → d.taking ≡ None
     → AllFit t.capacity (f ∷ []) → Loud t (store_of v.feeds) f → Facts t false home v d → Facts t true (some (filled t.capacity (handed (store_of v.feeds) f))) (with_feeds v (f ∷ []) e false) d
 loud_keeps t home v d f e going none idle fit q k =
     let fs : List Feed = v.feeds in let ts : List Take = d.takes in
@@ -299,7 +299,7 @@ later t full fs ts f is o tidy legal = by (finds fs) refl
     by true e = next_late t full fs ts f is e (o ∙ e) tidy legal
     by false e = first_late t full fs ts f is e tidy legal
 
-pub late_keeps : (t : Terms) (full : Bool) (home : Home) (v d : View) (f : Feed) (e : Step) → v.rotating ≡ false → v.ended ≡ false → d.closed ≡ true → kind f ≡ finds_closed
+pub late_keeps : (t : Terms) (full : Bool) (home : Home) (v d : View) (f : Feed) (e : WordStep) → v.rotating ≡ false → v.ended ≡ false → d.closed ≡ true → kind f ≡ finds_closed
     → AllFit t.capacity (f ∷ []) → Facts t full home v d → Facts t full home (with_feeds v (f ∷ []) e false) d
 late_keeps t full home v d f e calm going shut' is fit k =
     let l = later t full v.feeds d.takes f is k.is_open k.tidy k.legal in record {
@@ -331,7 +331,7 @@ idle_ender : (v d : View) (b : Bool) → d.sees_end ≡ b → (d.sees_end ≡ tr
 idle_ender v d true e seen ender n = absurd (true≢false (sym (seen e) ∙ n))
 idle_ender v d false e seen ender n = ended_same d.takes Nothing refl ∙ ender n
 
-pub idle_keeps : (t : Terms) (home : Home) (v d : View) (e : Step) → d.closed ≡ false → d.taking ≡ None → Facts t false home v d
+pub idle_keeps : (t : Terms) (home : Home) (v d : View) (e : WordStep) → d.closed ≡ false → d.taking ≡ None → Facts t false home v d
     → Facts t false home v (with_takes d (idle d.sees_end ∷ []) e None)
 idle_keeps t home v d e unshut calm k =
     let fs : List Feed = v.feeds in let ts : List Take = d.takes in let r : Take = idle d.sees_end in
@@ -353,7 +353,7 @@ idle_keeps t home v d e unshut calm k =
       place = subst (BufferFollowsTurn t.capacity false v.rotating None home) (ap hold_of (sym ends)) (subst (λ (x : Option (List Message)). BufferFollowsTurn t.capacity false v.rotating x home (hold_of (last fs ts))) calm k.place);
     }
 
-pub full_keeps : (t : Terms) (home : Home) (v d : View) (batch : List Message) (e : Step) → d.closed ≡ false → d.taking ≡ Some batch → v.rotating ≡ false → Facts t true home v d
+pub full_keeps : (t : Terms) (home : Home) (v d : View) (batch : List Message) (e : WordStep) → d.closed ≡ false → d.taking ≡ Some batch → v.rotating ≡ false → Facts t true home v d
     → Facts t false (some (filled t.capacity [])) v (with_takes d (Full batch ∷ []) e None)
 full_keeps t home v d batch e unshut busy calm k =
     let fs : List Feed = v.feeds in let ts : List Take = d.takes in let r : Take = Full batch in

@@ -10,7 +10,7 @@ use Rattle.listener.proofs.ArriveSteps.{size_cut, on_true}
 use Rattle.handover.specs.declared.calls.Feed.{Feed}
 use Rattle.handover.specs.declared.calls.Feed.TheVariants.{Flush, FlushClosed}
 use Rattle.handover.specs.declared.calls.Word.TheVariants as word
-use Rattle.handover.specs.declared.calls.Step.TheVariants.{Load, Store}
+use Rattle.handover.specs.declared.calls.WordStep.TheVariants.{Load, Store}
 use Rattle.handover.specs.declared.view.Profile.{Profile}
 use Rattle.handover.specs.Allowed.{handed}
 use Rattle.handover.specs.History.{finds}

@@ -8,8 +8,8 @@ use Rattle.handover.specs.declared.calls.Feed.{Feed}
 use Rattle.handover.specs.declared.calls.Take.{Take}
 use Rattle.handover.specs.declared.calls.Take.TheVariants as take
 use Rattle.handover.specs.declared.calls.Word.TheVariants as word
-use Rattle.handover.specs.declared.calls.Step.{Step}
-use Rattle.handover.specs.declared.calls.Step.TheVariants.{Load, Store}
+use Rattle.handover.specs.declared.calls.WordStep.{WordStep}
+use Rattle.handover.specs.declared.calls.WordStep.TheVariants.{Load, Store}
 use Rattle.handover.specs.declared.view.Role.TheVariants.{Drains}
 use Rattle.handover.specs.History.{event_of, fed, finds}
 use Rattle.handover.specs.Own.{store_from, store_of}
@@ -28,7 +28,7 @@ after_call b f = filled b.capacity (store_after b.messages (event_of (fed f)))
 -- ---- The feeder's seat
 
 -- a call that one step ended
-pub one_step : (m n : Sat) (b c : Filled) (f : Feed) (e : Step) → IsFeeder m b false → n ≡ (with_feeds m.0 (f ∷ []) e false, m.1) → IsLegalWithReads n.0 → c ≡ after_call b f
+pub one_step : (m n : Sat) (b c : Filled) (f : Feed) (e : WordStep) → IsFeeder m b false → n ≡ (with_feeds m.0 (f ∷ []) e false, m.1) → IsLegalWithReads n.0 → c ≡ after_call b f
     → Went m n c f (e ∷ [])
 one_step m n b c f e h is owned new =
     let store : c ≡ filled m.0.profile.capacity (store_of (m.0.feeds ++ f ∷ [])) =
@@ -41,18 +41,18 @@ one_step m n b c f e h is owned new =
     })
 
 -- a step that ended no call
-pub looked : (m n : Sat) (b : Filled) (e : Step) → IsFeeder m b false → n ≡ (with_feeds m.0 [] e false, m.1) → IsLegalWithReads n.0 → IsFeeder n b false
+pub looked : (m n : Sat) (b : Filled) (e : WordStep) → IsFeeder m b false → n ≡ (with_feeds m.0 [] e false, m.1) → IsLegalWithReads n.0 → IsFeeder n b false
 looked m n b e h is owned =
     let store : b ≡ filled m.0.profile.capacity (store_of (m.0.feeds ++ [])) = h.store ∙ ap (λ (l : List Feed). filled m.0.profile.capacity (store_of l)) (sym (append-nil m.0.feeds)) in
     subst (λ (u : Sat). IsFeeder u b false) (sym is)
     (record { role = h.role; calm = refl; ended = h.ended; home = h.home; store = store; owned = subst (λ (u : Sat). IsLegalWithReads u.0) is owned })
 
 -- no call was found closed by it
-pub looked_unclosed : (m n : Sat) (e : Step) → n ≡ (with_feeds m.0 [] e false, m.1) → finds m.0.feeds ≡ false → finds n.0.feeds ≡ false
+pub looked_unclosed : (m n : Sat) (e : WordStep) → n ≡ (with_feeds m.0 [] e false, m.1) → finds m.0.feeds ≡ false → finds n.0.feeds ≡ false
 looked_unclosed m n e is none = ap (λ (u : Sat). finds u.0.feeds) is ∙ ap finds (append-nil m.0.feeds) ∙ none
 
 -- a step that ended no call, before the others
-pub longer : (m n o : Sat) (c : Filled) (f : Feed) (e : Step) (es : List Step) → n ≡ (with_feeds m.0 [] e false, m.1) → Went n o c f es → Went m o c f (e ∷ es)
+pub longer : (m n o : Sat) (c : Filled) (f : Feed) (e : WordStep) (es : List WordStep) → n ≡ (with_feeds m.0 [] e false, m.1) → Went n o c f es → Went m o c f (e ∷ es)
 longer m n o c f e es is w = record {
   feeder = w.feeder;
   profile = w.profile ∙ ap (λ (u : Sat). u.0.profile) is;
@@ -115,7 +115,7 @@ ended_seen m n zero h = (false, refl, h.0 refl)
 ended_seen m n (suc k) h = let t = h.1 (λ e. absurd (omega arith)) in (true, t.0, t.1)
 
 -- the steps of a read of an empty hold
-idle_steps : (seen : Bool) (old : List Step) → GrewByRead (idle seen) old ((old ++ Load word.Ended (bit seen) ∷ []) ++ Load word.Turn 0 ∷ [])
+idle_steps : (seen : Bool) (old : List WordStep) → GrewByRead (idle seen) old ((old ++ Load word.Ended (bit seen) ∷ []) ++ Load word.Turn 0 ∷ [])
 idle_steps false old = (0, refl, append_assoc old (Load word.Ended 0 ∷ []) (Load word.Turn 0 ∷ []))
 idle_steps true old = (1, refl, append_assoc old (Load word.Ended 1 ∷ []) (Load word.Turn 0 ∷ []))
 

@@ -13,14 +13,14 @@ use Rattle.handover.specs.declared.calls.Feed.{Feed}
 use Rattle.handover.specs.declared.calls.Take.{Take}
 use Rattle.handover.specs.declared.calls.Take.TheVariants.{Full}
 use Rattle.handover.specs.declared.calls.Word.TheVariants as word
-use Rattle.handover.specs.declared.calls.Step.{Step}
-use Rattle.handover.specs.declared.calls.Step.TheVariants.{Load, Store}
+use Rattle.handover.specs.declared.calls.WordStep.{WordStep}
+use Rattle.handover.specs.declared.calls.WordStep.TheVariants.{Load, Store}
 use Rattle.handover.specs.declared.view.Role.TheVariants.{Whole, Feeds, Drains, Joined, Spent}
 use Rattle.handover.specs.declared.view.Profile.{Profile}
 use Rattle.handover.specs.declared.view.View.{View}
 use Rattle.handover.specs.declared.view.Sight.{Sight}
-use Rattle.handover.specs.declared.calls.Made.{Made}
-use Rattle.handover.specs.declared.calls.Made.TheVariants.{OfFeeder, OfDrain}
+use Rattle.handover.specs.declared.calls.EndStep.{EndStep}
+use Rattle.handover.specs.declared.calls.EndStep.TheVariants.{OfFeeder, OfDrain}
 use Rattle.handover.specs.History.{events, merge, EndedIsLast, ended_in, finds, kind, finds_closed}
 use Rattle.handover.specs.Tidy.{Tidy}
 use Rattle.handover.specs.Allowed.{IsQuiet, Busy, Loud, handed, AllFit}
@@ -55,7 +55,7 @@ pub record FeedStep (me : Sat) (i : ℕ) (f : ℕ → ℕ) (then : ℕ → Sat �
   pub role : view.role ≡ Feeds
   pub profile : view.profile ≡ me.0.profile
   pub words : set (words_of full me.0 d) i (f (slice_index (words_of full me.0 d) i)) ≡ words_of full_after view d
-  pub made : Step
+  pub made : WordStep
   pub steps : view.feed_steps ≡ me.0.feed_steps ++ made ∷ []
   pub finds : Finds (words_of full me.0 d) made
   pub leaves : words_of full_after view d ≡ behind (words_of full me.0 d) made
@@ -164,7 +164,7 @@ pub record DrainStep (me : Sat) (i : ℕ) (f : ℕ → ℕ) (then : ℕ → Sat 
   pub role : view.role ≡ Drains
   pub profile : view.profile ≡ me.0.profile
   pub words : set (words_of full v me.0) i (f (slice_index (words_of full v me.0) i)) ≡ words_of full_after v view
-  pub made : Step
+  pub made : WordStep
   pub steps : view.take_steps ≡ me.0.take_steps ++ made ∷ []
   pub finds : Finds (words_of full v me.0) made
   pub leaves : words_of full_after v view ≡ behind (words_of full v me.0) made
@@ -234,7 +234,7 @@ looks_on t full home v d w same going turning k =
           (subst (λ (b : Bool). BufferFollowsTurn t.capacity full b d.taking home (hold_of (last v.feeds d.takes))) (sym turning) k.place);
     }
 
-quiet_list : (t : Terms) (full : Bool) (home : Home) (v d : View) (gs : List Feed) (e : Step) → v.rotating ≡ false → v.ended ≡ false → finds v.feeds ≡ false
+quiet_list : (t : Terms) (full : Bool) (home : Home) (v d : View) (gs : List Feed) (e : WordStep) → v.rotating ≡ false → v.ended ≡ false → finds v.feeds ≡ false
     → IsQuiet t v.feeds gs → Facts t full home v d → Facts t full home (with_feeds v gs e false) d
 quiet_list t full home v d [] e calm going yet q k = looks_on t full home v d (with_feeds v [] e false) refl refl (sym calm) k
 quiet_list t full home v d (f ∷ []) e calm going yet q k = quiet_keeps t full home v d f e calm going yet q.1 q.0 k
@@ -664,15 +664,15 @@ recast t full home v w x y a b c g h i j k = record {
 }
 
 -- nor does the order
-reordered : (order : List Made) (ws : List ℕ) (f d g e : Sight) → f.view.feed_steps ≡ g.view.feed_steps → f.feeder_saw ≡ g.feeder_saw
+reordered : (order : List EndStep) (ws : List ℕ) (f d g e : Sight) → f.view.feed_steps ≡ g.view.feed_steps → f.feeder_saw ≡ g.feeder_saw
     → d.view.take_steps ≡ e.view.take_steps → d.drain_saw ≡ e.drain_saw → IsOrder order ws f d → IsOrder order ws g e
 reordered order ws f d g e a b h i k = record {
   fresh = k.fresh;
   words = k.words;
   feeder = k.feeder ∙ a;
   drain = k.drain ∙ h;
-  feeder_saw = subst (λ (l : List Made). IsPrefix l order) b k.feeder_saw;
-  drain_saw = subst (λ (l : List Made). IsPrefix l order) i k.drain_saw;
+  feeder_saw = subst (λ (l : List EndStep). IsPrefix l order) b k.feeder_saw;
+  drain_saw = subst (λ (l : List EndStep). IsPrefix l order) i k.drain_saw;
   latest = same_latest order f.feeder_saw d.drain_saw g.feeder_saw e.drain_saw b i k.latest;
 }
 

@@ -6,8 +6,8 @@ use Rattle.listener.specs.declared.answer.Counts.{Counts}
 use Rattle.listener.specs.declared.message.Message.{Message}
 use Rattle.listener.specs.PlainList.{PlainList, empty, run, stored, Legal}
 use Rattle.handover.specs.declared.calls.Feed.{Feed}
-use Rattle.handover.specs.declared.calls.Made.{Made}
-use Rattle.handover.specs.declared.calls.Step.{Step}
+use Rattle.handover.specs.declared.calls.EndStep.{EndStep}
+use Rattle.handover.specs.declared.calls.WordStep.{WordStep}
 use Rattle.handover.specs.declared.calls.Take.{Take}
 use Rattle.handover.specs.declared.view.Profile.{Profile}
 use Rattle.handover.specs.History.{events}
@@ -23,11 +23,11 @@ pub record Feeding : Type 0 where
   pub snap : ℕ
   pub profile : Profile
   pub feeds : List Feed
-  pub steps : List Step
-  pub seen : List Made
+  pub steps : List WordStep
+  pub seen : List EndStep
   pub store : List Message
 
-abbrev pub feeding : TableId → List Insn → ℕ → Profile → List Feed → List Step → List Made → List Message → Feeding
+abbrev pub feeding : TableId → List Insn → ℕ → Profile → List Feed → List WordStep → List EndStep → List Message → Feeding
 feeding pair program snap profile feeds steps seen store =
     record { pair = pair; program = program; snap = snap; profile = profile; feeds = feeds; steps = steps; seen = seen; store = store }
 
@@ -36,11 +36,11 @@ pub record FeedingEnded : Type 0 where
   pub pair : TableId
   pub profile : Profile
   pub feeds : List Feed
-  pub steps : List Step
-  pub seen : List Made
+  pub steps : List WordStep
+  pub seen : List EndStep
   pub store : List Message
 
-abbrev pub feeding_ended : TableId → Profile → List Feed → List Step → List Made → List Message → FeedingEnded
+abbrev pub feeding_ended : TableId → Profile → List Feed → List WordStep → List EndStep → List Message → FeedingEnded
 feeding_ended pair profile feeds steps seen store =
     record { pair = pair; profile = profile; feeds = feeds; steps = steps; seen = seen; store = store }
 
@@ -50,10 +50,10 @@ pub record Draining : Type 0 where
   pub pair : TableId
   pub profile : Profile
   pub takes : List Take
-  pub steps : List Step
-  pub seen : List Made
+  pub steps : List WordStep
+  pub seen : List EndStep
 
-abbrev pub draining : TableId → Profile → List Take → List Step → List Made → Draining
+abbrev pub draining : TableId → Profile → List Take → List WordStep → List EndStep → Draining
 draining pair profile takes steps seen = record { pair = pair; profile = profile; takes = takes; steps = steps; seen = seen }
 
 -- The lists of a pair: the calls of both ends with their answers, and the steps of both.
@@ -61,11 +61,11 @@ pub record PairLists : Type 0 where
   pub pair : TableId
   pub profile : Profile
   pub feeds : List Feed
-  pub feeder_steps : List Step
+  pub feeder_steps : List WordStep
   pub takes : List Take
-  pub drain_steps : List Step
+  pub drain_steps : List WordStep
 
-abbrev pub pair_lists : TableId → Profile → List Feed → List Step → List Take → List Step → PairLists
+abbrev pub pair_lists : TableId → Profile → List Feed → List WordStep → List Take → List WordStep → PairLists
 pair_lists pair profile feeds feeder_steps takes drain_steps =
     record { pair = pair; profile = profile; feeds = feeds; feeder_steps = feeder_steps; takes = takes; drain_steps = drain_steps }
 

@@ -5,9 +5,9 @@ use Rattle.atomic_table.specs.Table.{State}
 use Rattle.listener.specs.Buffers.{Filled}
 use Rattle.handover.specs.declared.calls.Word.{Word}
 use Rattle.handover.specs.declared.calls.Word.TheVariants.{Turn, Closed, Ended}
-use Rattle.handover.specs.declared.calls.Made.{Made}
-use Rattle.handover.specs.declared.calls.Step.{Step}
-use Rattle.handover.specs.declared.calls.Step.TheVariants.{Load, Store}
+use Rattle.handover.specs.declared.calls.EndStep.{EndStep}
+use Rattle.handover.specs.declared.calls.WordStep.{WordStep}
+use Rattle.handover.specs.declared.calls.WordStep.TheVariants.{Load, Store}
 use Rattle.handover.specs.declared.view.Role.TheVariants.{Feeds}
 use Rattle.handover.specs.declared.view.Profile.{Profile}
 use Rattle.handover.specs.declared.view.Sight.{Sight}
@@ -27,7 +27,7 @@ pub record HasEnds (p : Profile) (s : Pair) (feeder drain : Sight) : Type 0 wher
   pub role : feeder.view.role ≡ Feeds
 
 -- A step of the feeder from s to t: its list has one entry more, and it has forgotten nothing.
-pub record FeederTells (p : Profile) (s t : Pair) (e : Step) : Type 0 where
+pub record FeederTells (p : Profile) (s t : Pair) (e : WordStep) : Type 0 where
   pub old : Sight
   pub new : Sight
   pub drain : Sight
@@ -37,7 +37,7 @@ pub record FeederTells (p : Profile) (s t : Pair) (e : Step) : Type 0 where
   pub steps : new.view.feed_steps ≡ old.view.feed_steps ++ e ∷ []
 
 -- the same of the drain
-pub record DrainTells (p : Profile) (s t : Pair) (e : Step) : Type 0 where
+pub record DrainTells (p : Profile) (s t : Pair) (e : WordStep) : Type 0 where
   pub feeder : Sight
   pub old : Sight
   pub new : Sight
@@ -48,10 +48,10 @@ pub record DrainTells (p : Profile) (s t : Pair) (e : Step) : Type 0 where
 
 -- A load that is told answered the number that its word had at this very step, and changed nothing; a store that is told was made.
 abbrev pub FeederStepsAreFresh : Type 0
-FeederStepsAreFresh = (p : Profile) (s t : Pair) (e : Step) → FeederTells p s t e → Finds s.words e × (t.words ≡ behind s.words e)
+FeederStepsAreFresh = (p : Profile) (s t : Pair) (e : WordStep) → FeederTells p s t e → Finds s.words e × (t.words ≡ behind s.words e)
 
 abbrev pub DrainStepsAreFresh : Type 0
-DrainStepsAreFresh = (p : Profile) (s t : Pair) (e : Step) → DrainTells p s t e → Finds s.words e × (t.words ≡ behind s.words e)
+DrainStepsAreFresh = (p : Profile) (s t : Pair) (e : WordStep) → DrainTells p s t e → Finds s.words e × (t.words ≡ behind s.words e)
 
 -- Where neither list grew, no word has changed. So a call may look at a word without an entry, or store what is there, and no more.
 abbrev pub SilentStepsChangeNothing : Type 0
@@ -87,12 +87,12 @@ NoCloseIsMadeUp = (p : Profile) (s t : Pair) → word_number Closed s ≡ 0 → 
 -- ---- What an end has seen can't foretell what the other one will do
 
 -- What the feeder has seen when it has ended suits a drain that makes these steps: the two can be settled.
-abbrev pub Suits : List Made → List Step → List Step → Type 0
-Suits seen feeder_steps drain_steps = (drain_seen : List Made) × HasOneOrder seen drain_seen feeder_steps drain_steps
+abbrev pub Suits : List EndStep → List WordStep → List WordStep → Type 0
+Suits seen feeder_steps drain_steps = (drain_seen : List EndStep) × HasOneOrder seen drain_seen feeder_steps drain_steps
 
 -- The feeder has ended, and the drain has made these steps. No one list of what the feeder has seen suits both a drain that closes
 -- next and one whose next read finds 0 in `ended`, as each that answers Nothing, whatever that drain does then.
 abbrev pub NoSightSuitsBoth : Type 0
 NoSightSuitsBoth =
-    (seen : List Made) (fed taken later : List Step) → of_feeder seen ≡ fed ++ Store Ended 1 ∷ [] → store_to Ended taken ≡ false
+    (seen : List EndStep) (fed taken later : List WordStep) → of_feeder seen ≡ fed ++ Store Ended 1 ∷ [] → store_to Ended taken ≡ false
     → Suits seen (fed ++ Store Ended 1 ∷ []) (taken ++ Store Closed 1 ∷ []) → Suits seen (fed ++ Store Ended 1 ∷ []) (taken ++ Load Ended 0 ∷ later) → ⊥

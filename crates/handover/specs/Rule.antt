@@ -14,13 +14,13 @@ use Rattle.handover.specs.declared.calls.Feed.{Feed}
 use Rattle.handover.specs.declared.calls.Take.{Take}
 use Rattle.handover.specs.declared.calls.Take.TheVariants.{Full, Nothing, Ended}
 use Rattle.handover.specs.declared.calls.Word.TheVariants as word
-use Rattle.handover.specs.declared.calls.Step.{Step}
-use Rattle.handover.specs.declared.calls.Step.TheVariants.{Load, Store}
+use Rattle.handover.specs.declared.calls.WordStep.{WordStep}
+use Rattle.handover.specs.declared.calls.WordStep.TheVariants.{Load, Store}
 use Rattle.handover.specs.declared.view.Role.TheVariants.{Whole, Feeds, Drains, Joined, Spent}
 use Rattle.handover.specs.declared.view.Profile.{Profile}
 use Rattle.handover.specs.declared.view.View.{View}
 use Rattle.handover.specs.declared.view.Sight.{Sight}
-use Rattle.handover.specs.declared.calls.Made.{Made}
+use Rattle.handover.specs.declared.calls.EndStep.{EndStep}
 use Rattle.handover.specs.History.{events, merge, finds, ended_in, EndedIsLast}
 use Rattle.handover.specs.Allowed.{AllFit}
 use Rattle.handover.specs.Tidy.{Tidy}
@@ -85,7 +85,7 @@ pub data Seats (feeder drain : Sight) : List Sight → Type 0 where
 
 -- All steps that were made, in their order: each load is fresh, and the words are what the stores left. It has the steps of both
 -- ends and no others; one of them has seen it all, and the other a beginning of it.
-pub record IsOrder (order : List Made) (numbers : List ℕ) (f d : Sight) : Type 0 where
+pub record IsOrder (order : List EndStep) (numbers : List ℕ) (f d : Sight) : Type 0 where
   pub fresh : IsFresh order
   pub words : numbers ≡ words_after order
   pub feeder : of_feeder order ≡ f.view.feed_steps
@@ -102,7 +102,7 @@ pub record KeepsRule (p : Profile) (s : State Filled Sight) : Type 0 where
   pub home : Home
   pub feeder : Sight
   pub drain : Sight
-  pub order : List Made
+  pub order : List EndStep
   pub words : s.words ≡ bit full ∷ bit (store_to word.Closed drain.view.take_steps) ∷ bit (store_to word.Ended feeder.view.feed_steps) ∷ []
   pub closed : drain.view.closed ≡ store_to word.Closed drain.view.take_steps
   pub ended : feeder.view.ended ≡ store_to word.Ended feeder.view.feed_steps
@@ -143,11 +143,11 @@ abbrev pub spent : Sight
 spent = let s = first (record { capacity = 0; mode = Buffered }) in record s { view = record (s.view) { role = Spent } }
 
 -- after a step of the feeder, with the calls that it ends
-abbrev pub with_feeds : View → List Feed → Step → Bool → View
+abbrev pub with_feeds : View → List Feed → WordStep → Bool → View
 with_feeds v fs e rotating = record v { feeds = v.feeds ++ fs; feed_steps = v.feed_steps ++ e ∷ []; rotating = rotating }
 
 -- after a step of the drain, with the reads that it ends
-abbrev pub with_takes : View → List Take → Step → Option (List Message) → View
+abbrev pub with_takes : View → List Take → WordStep → Option (List Message) → View
 with_takes v ts e taking = record v { takes = v.takes ++ ts; take_steps = v.take_steps ++ e ∷ []; taking = taking }
 
 -- after the feeder's store to `ended`

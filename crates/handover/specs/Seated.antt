@@ -5,7 +5,7 @@ use Rattle.listener.specs.declared.message.Message.{Message}
 use Rattle.listener.specs.Messages.{Arrival, cut_to, size_of}
 use Rattle.listener.specs.Buffers.{Filled, filled}
 use Rattle.handover.specs.declared.calls.Feed.{Feed}
-use Rattle.handover.specs.declared.calls.Step.{Step}
+use Rattle.handover.specs.declared.calls.WordStep.{WordStep}
 use Rattle.handover.specs.declared.view.Role.TheVariants.{Feeds, Drains}
 use Rattle.handover.specs.History.{finds}
 use Rattle.handover.specs.Own.{store_of}
@@ -38,7 +38,7 @@ pub record Offers (m : Sat) (b : Filled) (x : Message) (a : Arrival) (kept : ℕ
   pub small : size_of x ≤ m.0.profile.capacity
 
 -- The seat went on by one call and these steps, and this is the store behind it.
-pub record Went (m n : Sat) (b : Filled) (f : Feed) (es : List Step) : Type 0 where
+pub record Went (m n : Sat) (b : Filled) (f : Feed) (es : List WordStep) : Type 0 where
   pub feeder : IsFeeder n b false
   pub profile : n.0.profile ≡ m.0.profile
   pub feeds : n.0.feeds ≡ m.0.feeds ++ f ∷ []

@@ -10,30 +10,30 @@ use Rattle.handover.specs.declared.calls.Feed.TheVariants.{Arrive, Flush, FlushC
 use Rattle.handover.specs.declared.calls.Take.{Take}
 use Rattle.handover.specs.declared.calls.Take.TheVariants.{Full, Nothing, Ended}
 use Rattle.handover.specs.declared.calls.Word.TheVariants as word
-use Rattle.handover.specs.declared.calls.Step.{Step}
-use Rattle.handover.specs.declared.calls.Step.TheVariants.{Load, Store}
+use Rattle.handover.specs.declared.calls.WordStep.{WordStep}
+use Rattle.handover.specs.declared.calls.WordStep.TheVariants.{Load, Store}
 
 -- the call found the pair open, and nothing else was asked
-abbrev pub open_alone : List Step
+abbrev pub open_alone : List WordStep
 open_alone = Load word.Closed 0 ∷ []
 
 -- it found the pair open and the hold full
-abbrev pub found_full : List Step
+abbrev pub found_full : List WordStep
 found_full = Load word.Closed 0 ∷ Load word.Turn 1 ∷ []
 
 -- it found the pair open and the hold empty, and made the store the hold
-abbrev pub gave : List Step
+abbrev pub gave : List WordStep
 gave = Load word.Closed 0 ∷ Load word.Turn 0 ∷ Store word.Turn 1 ∷ []
 
 -- it found the pair closed
-abbrev pub found_closed : List Step
+abbrev pub found_closed : List WordStep
 found_closed = Load word.Closed 1 ∷ []
 
-abbrev pub stored_steps : Mode → List Step
+abbrev pub stored_steps : Mode → List WordStep
 stored_steps Buffered = open_alone
 stored_steps Immediate = found_full
 
-abbrev pub arrive_steps : Mode → Fed → List Step
+abbrev pub arrive_steps : Mode → Fed → List WordStep
 arrive_steps mode Passed = open_alone
 arrive_steps mode Stored = stored_steps mode
 arrive_steps mode Held = gave
@@ -42,12 +42,12 @@ arrive_steps mode Dropped = found_full
 arrive_steps mode Closed = found_closed
 
 -- of a flush that leaves this store as it was
-abbrev pub kept_steps : List Message → List Step
+abbrev pub kept_steps : List Message → List WordStep
 kept_steps [] = open_alone
 kept_steps (m ∷ ms) = found_full
 
 -- of a flush, by the store that it found
-abbrev pub flush_steps : List Message → Feed → List Step
+abbrev pub flush_steps : List Message → Feed → List WordStep
 flush_steps store (Flush true) = gave
 flush_steps store (Flush false) = kept_steps store
 flush_steps store FlushClosed = found_closed
@@ -60,7 +60,7 @@ FlushAnswers full FlushClosed = full ≡ false
 FlushAnswers full (Arrive m fed) = ⊥
 
 -- of a read that found so much in `ended`, which is loaded first
-abbrev pub read_steps : ℕ → Take → List Step
+abbrev pub read_steps : ℕ → Take → List WordStep
 read_steps found (Full batch) = Load word.Ended found ∷ Load word.Turn 1 ∷ Store word.Turn 0 ∷ []
 read_steps found Nothing = Load word.Ended found ∷ Load word.Turn 0 ∷ []
 read_steps found Ended = Load word.Ended found ∷ Load word.Turn 0 ∷ []
@@ -72,5 +72,5 @@ FoundEnded found Nothing = found ≡ 0
 FoundEnded found Ended = found ≡ 1
 
 -- the steps grew by those of a read
-abbrev pub GrewByRead : Take → List Step → List Step → Type 0
+abbrev pub GrewByRead : Take → List WordStep → List WordStep → Type 0
 GrewByRead t old new = (found : ℕ) × FoundEnded found t × (new ≡ old ++ read_steps found t)

@@ -34,7 +34,7 @@ pub enum Word {
 }
 
 /// One atomic step on a word, with the number that it found or left.
-pub enum Step {
+pub enum WordStep {
     /// A load, and what it answered.
     Load(Word, u64),
     /// A store.
@@ -42,9 +42,9 @@ pub enum Step {
 }
 
 /// A step, and which end made it.
-pub enum Made {
+pub enum EndStep {
     /// The feeder.
-    OfFeeder(Step),
+    OfFeeder(WordStep),
     /// The drain.
-    OfDrain(Step),
+    OfDrain(WordStep),
 }

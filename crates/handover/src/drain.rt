@@ -2,7 +2,7 @@
 
 ghost use Rattle.std.specs.Prelude.{◌≡◌, ◌++◌, [], ◌∷◌};
 ghost use Rattle.listener.specs.Buffers.{filled};
-ghost use Rattle.handover.specs.declared.calls.Step.TheVariants.{Store};
+ghost use Rattle.handover.specs.declared.calls.WordStep.TheVariants.{Store};
 ghost use Rattle.handover.specs.declared.calls.Word.TheVariants as word;
 ghost use Rattle.handover.specs.Ends.{draining, IsSameDrain};
 ghost use Rattle.handover.specs.Orders.{SightGoesOn, of_drain};

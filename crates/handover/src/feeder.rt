@@ -6,7 +6,7 @@ ghost use Rattle.listener.specs.declared.message.Message.{Message};
 ghost use Rattle.handover.specs.declared.calls.Feed.{Feed};
 ghost use Rattle.listener.specs.Messages.{arrival, kept_by};
 ghost use Rattle.handover.specs.declared.calls.Feed.TheVariants.{Arrive};
-ghost use Rattle.handover.specs.declared.calls.Step.TheVariants.{Store};
+ghost use Rattle.handover.specs.declared.calls.WordStep.TheVariants.{Store};
 ghost use Rattle.handover.specs.declared.calls.Word.TheVariants as word;
 ghost use Rattle.handover.specs.Ends.{feeding_ended, IsSameFeeder, HasOwnRun, AreCountsOf, AreCountsOfCalls, Flushed, own_list};
 ghost use Rattle.handover.specs.Orders.{SightGoesOn, of_feeder};

@@ -11,7 +11,7 @@ mod rule;
 mod stand;
 mod view;
 
-pub use calls::{Feed, Made, Step, Take, Word};
+pub use calls::{EndStep, Feed, Take, Word, WordStep};
 pub use drain::{Drain, DrainEnd, Read};
 pub use feeder::{FeedEnd, Feeder};
 pub use link::{Link, Past, Settled, pair, pair_as, settle};

@@ -1,6 +1,6 @@
 //! What a seat of the table knows. Only contracts have values of these types.
 
-use crate::calls::{Feed, Made, Step, Take};
+use crate::calls::{EndStep, Feed, Take, WordStep};
 use listener::{Message, Mode};
 use std::collections::LinkedList;
 
@@ -26,13 +26,13 @@ pub struct View {
     pub profile: Profile,
     /// The feeder's calls and steps; whether it has loaded 0 from `turn` and not yet stored 1 there, and whether it has ended.
     pub feeds: LinkedList<Feed>,
-    pub feed_steps: LinkedList<Step>,
+    pub feed_steps: LinkedList<WordStep>,
     pub rotating: bool,
     pub ended: bool,
     /// The drain's calls and steps; what it has taken out of the slot, whether it saw that the feeder had ended, and whether it
     /// has closed.
     pub takes: LinkedList<Take>,
-    pub take_steps: LinkedList<Step>,
+    pub take_steps: LinkedList<WordStep>,
     pub taking: Option<LinkedList<Message>>,
     pub sees_end: bool,
     pub closed: bool,
@@ -42,7 +42,7 @@ pub struct View {
 pub struct Sight {
     pub view: View,
     /// What the feeder has seen.
-    pub feeder_saw: LinkedList<Made>,
+    pub feeder_saw: LinkedList<EndStep>,
     /// What the drain has seen.
-    pub drain_saw: LinkedList<Made>,
+    pub drain_saw: LinkedList<EndStep>,
 }

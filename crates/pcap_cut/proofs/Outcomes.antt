@@ -17,7 +17,7 @@ use Rattle.pcap_cut.specs.declared.cut.End.{End}
 use Rattle.pcap_cut.specs.declared.cut.End.TheVariants.{Clean, Input, Output}
 use Rattle.pcap_cut.specs.declared.cut.Tally.{Tally}
 use Rattle.pcap_cut.specs.Copying.{Copied}
-use Rattle.cli_text.specs.Snapshot.{meant}
+use Rattle.cli_text.specs.Snapshot.{effective_snaplen}
 use Rattle.pcap_cut.specs.Cut.{accepted, cut_text}
 use Rattle.pcap_cut.specs.Outcome.{AllSent, BrokeOff, StopsBehind, Took}
 use Rattle.pcap_cut.proofs.Accepted.{accepted-append}
@@ -86,7 +86,7 @@ Growing = (order : Order) (unit : TimeUnit) (snap : ℕ) (packets more : List Pa
 -- the packets were copied up to this end
 pub copied-outcome : {W : Type 0} (taken : W → Option (List ℕ)) (from left : Option (List ℕ)) (header : Header) (to sink : W) (count : ℕ) (program : List Insn) (snap : ℕ) (order : Order) (unit : TimeUnit) (tally : Tally) (end : End) (writer : Writer W) →
     Growing → sink ≡ writer.sink → count ≡ writer.sent → (given : List ℕ) × Consumes from left given →
-    Copied taken from left header (taken to) order unit (meant snap) program (meant snap) tally end writer →
+    Copied taken from left header (taken to) order unit (effective_snaplen snap) program (effective_snaplen snap) tally end writer →
     IsOutcome taken from left to sink count program snap order unit tally end
 unfolding cut_text
 copied-outcome taken from left header to sink count program snap order unit tally Clean writer growing is told (given, gave) (packets, w, written, counted) = (
@@ -126,8 +126,8 @@ copied-outcome taken from left header to sink count program snap order unit tall
   inr (inr (packets, more, record_fault, is-read from header (packets ++ more) record_fault w, refl, inr full)),
 )
 copied-outcome taken from left header to sink count program snap order unit tally (Output fault) writer growing is told (given, gave) (packets, (more, record_fault, w), wrote) =
-    let further = goes-further taken (taken to) order unit (meant snap) (accepted program (meant snap) packets) (accepted program (meant snap) more) fault writer (growing order unit (meant snap) _ _) wrote in
-    let (sent, sends, begins, why) = rw (sym (accepted-append program (meant snap) packets more)) at further in (
+    let further = goes-further taken (taken to) order unit (effective_snaplen snap) (accepted program (effective_snaplen snap) packets) (accepted program (effective_snaplen snap) more) fault writer (growing order unit (effective_snaplen snap) _ _) wrote in
+    let (sent, sends, begins, why) = rw (sym (accepted-append program (effective_snaplen snap) packets more)) at further in (
       w.text,
       w.told,
       given,

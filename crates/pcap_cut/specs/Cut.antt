@@ -6,7 +6,7 @@ use Rattle.savefile.specs.declared.packet.Packet.{Packet}
 use Rattle.savefile.specs.Savefile.{encoded}
 use Rattle.bpfvm.specs.declared.insn.Insn.{Insn}
 use Rattle.bpfvm.specs.Machine.{verdict}
-use Rattle.cli_text.specs.Snapshot.{meant}
+use Rattle.cli_text.specs.Snapshot.{effective_snaplen}
 
 -- the program's answer to a packet
 abbrev pub answer : List Insn → Packet → ℕ
@@ -28,4 +28,4 @@ accepted program snap packets =
 -- the capture that is written of these packets
 unfoldable pub cut_text : List Insn → ℕ → Order → TimeUnit → List Packet → List ℕ
 cut_text program snap order unit packets =
-    encoded order unit (meant snap) (accepted program (meant snap) packets)
+    encoded order unit (effective_snaplen snap) (accepted program (effective_snaplen snap) packets)

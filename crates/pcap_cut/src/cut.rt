@@ -10,11 +10,11 @@ ghost use Rattle.savefile.specs.Reader.{HasGiven};
 ghost use Rattle.savefile.specs.Writer.{HasWritten};
 ghost use Rattle.pcap_cut.specs.Copying.{Copied, Wrote};
 ghost use Rattle.pcap_cut.specs.Cut.{accepts, accepted};
-ghost use Rattle.cli_text.specs.Snapshot.{meant};
+ghost use Rattle.cli_text.specs.Snapshot.{effective_snaplen};
 ghost use Rattle.pcap_cut.specs.Outcome.{tallied, Cuts};
 
 use bpfvm::Program;
-use cli_text::meant;
+use cli_text::effective_snaplen;
 use savefile::laws::{given_so_far, growing_text};
 use savefile::{Fault, Order, PacketRef, Reader, Sink, Source, Unit, Writer};
 use std::alloc::Global;
@@ -132,12 +132,12 @@ fn write_accepted<R: Source, W: Sink>(
 ) -> Ended<W>
     ensures writes { (from : Option (List ℕ)) (header : Header) → HasGiven R.left from header [] reader.old →
         (writer : Writer W) × (result.sink ≡ writer.sink) × (result.sent ≡ writer.sent)
-        × Copied W.taken from (R.left reader.new.source) header (W.taken to) order unit (meant snap) program.now (meant snap) result.tally result.end writer }
+        × Copied W.taken from (R.left reader.new.source) header (W.taken to) order unit (effective_snaplen snap) program.now (effective_snaplen snap) result.tally result.end writer }
     ensures taken { (bytes : List ℕ) × Consumes (R.left reader.old.source) (R.left reader.new.source) bytes }
     ensures source_broke { (result.end ≡ End.Input Fault.Device) ↔ (R.failures reader.new.source ≢ R.failures reader.old.source) }
     ensures sink_broke { (result.end ≡ End.Output Fault.Device) ↔ (W.failures result.sink ≢ W.failures to) }
 {
-    let snap = meant(snap);
+    let snap = effective_snaplen(snap);
     let (mut writer, opened) = Writer::open(to, order, unit, snap);
     if let Err(fault) = opened {
         // No packet, too, begins what the capture holds.

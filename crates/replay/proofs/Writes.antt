@@ -12,7 +12,7 @@ use Rattle.savefile.specs.declared.packet.Packet.{Packet}
 use Rattle.savefile.specs.declared.writing.Writer.{Writer}
 use Rattle.savefile.specs.Savefile.{encoded}
 use Rattle.savefile.specs.Writer.{IsBeginning, HasWritten, HasWrittenPart, Sent}
-use Rattle.replay.specs.declared.writing.Output.{Output}
+use Rattle.replay.specs.declared.writing.OutputFile.{OutputFile}
 use Rattle.replay.specs.declared.writing.Written.{Written}
 use Rattle.replay.specs.Reports.{BreaksBehind, IsFull}
 use Rattle.replay.specs.Writing.{as_written, Writes}
@@ -26,7 +26,7 @@ full-grows : (sent : ℕ) (ms more : List Message) → IsFull sent ms → IsFull
 full-grows sent [] more full = absurd full
 full-grows sent (m ∷ ms) more full = full
 
-module _ {W : Type 0} (taken : W → Option (List ℕ)) (failures : W → ℕ) (o : Output W) where
+module _ {W : Type 0} (taken : W → Option (List ℕ)) (failures : W → ℕ) (o : OutputFile W) where
   -- what the law of the growing text says
   abbrev Grows : Type 0
   Grows = (packets more : List Packet) (text : List ℕ) → IsBeginning text (encoded o.order o.unit o.snap packets) → IsBeginning text (encoded o.order o.unit o.snap (packets ++ more))

@@ -13,7 +13,7 @@ use Rattle.replay.specs.Writing.{Writes}
 use Rattle.replay.specs.declared.crew.Crew.{Crew}
 use Rattle.replay.specs.declared.crew.Done.{Done}
 use Rattle.replay.specs.declared.crew.Stage.{Stage}
-use Rattle.replay.specs.declared.reading.Stop.TheVariants.{Ended}
+use Rattle.replay.specs.declared.reading.ReaderStop.TheVariants.{Ended}
 use Rattle.replay_types.specs.declared.task.Task.{Task}
 
 -- The drain came back. Where the ring's end was handed over, what was pushed is what was read; and what was popped of it, and

@@ -9,8 +9,8 @@ use Rattle.listener.specs.Buffers.{Filled}
 use Rattle.listener.specs.declared.message.Message.{Message}
 use Rattle.handover.specs.Ends.{Draining}
 use Rattle.handover.specs.History.{batches_of, ended_in}
-use Rattle.replay.specs.declared.reading.ReadEnd.{ReadEnd}
-use Rattle.replay.specs.declared.reading.Stop.TheVariants.{Ended}
+use Rattle.replay.specs.declared.reading.ReaderEnd.{ReaderEnd}
+use Rattle.replay.specs.declared.reading.ReaderStop.TheVariants.{Ended}
 
 -- the messages of each buffer
 abbrev pub messages_of : List Filled → List (List Message)
@@ -18,7 +18,7 @@ messages_of buffers = map (λ b. b.messages) buffers
 
 -- The drain came back closed. Where the ring's end was handed over, what was pushed is what was read; and where it stopped at
 -- the end, a read found it.
-pub record HasRead (drain : Draining) (full : Producer Filled Global AnyItems) (r : ReadEnd) : Type 0 where
+pub record HasRead (drain : Draining) (full : Producer Filled Global AnyItems) (r : ReaderEnd) : Type 0 where
   pub pair : r.drain.pair ≡ drain.pair
   pub profile : r.drain.profile ≡ drain.profile
   pub pushed : IfSome r.finished (λ f. SameRing full.end f.end × (messages_of (all_sent f) ≡ batches_of r.drain.takes))

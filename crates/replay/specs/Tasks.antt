@@ -6,10 +6,10 @@ use Rattle.replay.specs.Lines.{Line}
 use Rattle.replay.specs.Playing.{asking_of}
 use Rattle.replay.specs.Rings.{Ring}
 use Rattle.replay_types.specs.declared.task.Task.{Task}
-use Rattle.replay.specs.declared.writing.Output.{Output}
+use Rattle.replay.specs.declared.writing.OutputFile.{OutputFile}
 
 -- the savefile that its packets are written to
-abbrev pub output_of : {W : Type 0} → Task W → Output W
+abbrev pub output_of : {W : Type 0} → Task W → OutputFile W
 output_of t = record { sink = t.sink; order = t.order; unit = t.unit; snap = t.snap }
 
 -- the feeder of a pair that was made for a task, of which nothing was asked yet

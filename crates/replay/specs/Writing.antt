@@ -5,7 +5,7 @@ use Rattle.savefile.specs.declared.packet.Packet.{Packet}
 use Rattle.savefile.specs.Savefile.{packet}
 use Rattle.savefile.specs.Writer.{HasWritten, Sent}
 use Rattle.replay.specs.Reports.{BreaksBehind, IsFull}
-use Rattle.replay.specs.declared.writing.Output.{Output}
+use Rattle.replay.specs.declared.writing.OutputFile.{OutputFile}
 use Rattle.replay.specs.declared.writing.Written.{Written}
 
 -- The message as it is written. Less than a second of nanoseconds stays as it is.
@@ -17,7 +17,7 @@ abbrev pub IsTimely : ℕ → Type 0
 IsTimely nanos = nanos < 1000000000
 
 -- The messages were written: all while no fault came; else a beginning, behind which the sink failed or the text became too long.
-pub record Writes {W : Type 0} (taken : W → Option (List ℕ)) (failures : W → ℕ) (o : Output W) (messages : List Message) (w : Written W) : Type 0 where
+pub record Writes {W : Type 0} (taken : W → Option (List ℕ)) (failures : W → ℕ) (o : OutputFile W) (messages : List Message) (w : Written W) : Type 0 where
   pub whole : w.works ≡ true → (w.count ≡ length messages)
       × HasWritten taken (taken o.sink) o.order o.unit o.snap (map as_written messages) w.writer
       × (failures w.writer.sink ≡ failures o.sink)

@@ -8,11 +8,11 @@ use Rattle.listener.specs.Buffers.{Filled}
 use Rattle.listener.specs.Laws.{joined}
 use Rattle.replay.specs.Reading.{messages_of}
 use Rattle.replay.specs.Writing.{Writes}
-use Rattle.replay.specs.declared.writing.Output.{Output}
+use Rattle.replay.specs.declared.writing.OutputFile.{OutputFile}
 use Rattle.replay.specs.declared.writer.WriteEnd.{WriteEnd}
 
 -- what the buffers popped of the one ring contain was written, and then those of the other, which the rest comes through
-pub record HasWrittenOut {W : Type 0} (taken : W → Option (List ℕ)) (failures : W → ℕ) (o : Output W)
+pub record HasWrittenOut {W : Type 0} (taken : W → Option (List ℕ)) (failures : W → ℕ) (o : OutputFile W)
     (full rest : Consumer Filled Global AnyItems) (r : WriteEnd W) : Type 0 where
   pub ring : SameConsumer full r.full
   pub rest_ring : SameConsumer rest r.rest

@@ -4,9 +4,9 @@ ghost use Rattle.std.specs.Prelude.{◌≡◌, []};
 ghost use Rattle.rtrb.specs.Ring.{sent, received, IsPair};
 ghost use Rattle.handover.specs.Rule.{profile_of};
 
-use crate::reading::{ReadEnd, ReadsOut};
+use crate::reading::{ReaderEnd, ReadsOut};
 use crate::writer::{WriteEnd, WritesOut};
-use crate::writing::Output;
+use crate::writing::OutputFile;
 use handover::Drain;
 use listener::Buffer;
 use replay_types::Task;
@@ -25,7 +25,7 @@ pub(crate) struct Stage<W> {
     pub(crate) empty_in: Producer<Buffer>,
     pub(crate) empty_out: Consumer<Buffer>,
     pub(crate) rest_out: Consumer<Buffer>,
-    pub(crate) output: Output<W>,
+    pub(crate) output: OutputFile<W>,
     ghost profile: { drain.profile ≡ profile_of task.value.capacity task.value.mode },
     ghost out: { (output.sink ≡ task.value.sink) × (output.order ≡ task.value.order) × (output.unit ≡ task.value.unit) × (output.snap ≡ task.value.snap) },
     ghost new: { drain.takes ≡ [] },
@@ -37,7 +37,7 @@ pub(crate) struct Stage<W> {
 #[derive(Drop)]
 pub(crate) struct Crew<W: Sink + Drop> {
     pub(crate) task: Snapshot<Task<W>>,
-    pub(crate) reader: PromisedHandle<Option<ReadEnd>, ReadsOut>,
+    pub(crate) reader: PromisedHandle<Option<ReaderEnd>, ReadsOut>,
     pub(crate) writer: PromisedHandle<Option<WriteEnd<W>>, WritesOut<W>>,
     ghost profile: { reader.promise.drain.value.profile ≡ profile_of task.value.capacity task.value.mode },
     ghost out: { (writer.promise.output.value.sink ≡ task.value.sink) × (writer.promise.output.value.order ≡ task.value.order)
@@ -49,6 +49,6 @@ pub(crate) struct Crew<W: Sink + Drop> {
 #[derive(Drop)]
 pub(crate) struct Done<W: Sink> {
     pub(crate) task: Snapshot<Task<W>>,
-    pub(crate) read: ReadEnd,
+    pub(crate) read: ReaderEnd,
     pub(crate) write: WriteEnd<W>,
 }

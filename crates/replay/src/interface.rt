@@ -17,7 +17,7 @@ use crate::link::TaskLink;
 use crate::playing::{Play, PlayEnd, PlaysOut, play_out};
 use crate::reading::ListenerId;
 use crate::ready::{Ready, Running};
-use crate::room::Room;
+use crate::room::Reserved;
 use crate::threads::start;
 use replay_types::RunFault;
 use savefile::{Sink, Source};
@@ -200,7 +200,7 @@ fn launch_one<
         stages,
         room,
     } = ready;
-    let Room {
+    let Reserved {
         sources,
         ends,
         crews,

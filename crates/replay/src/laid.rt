@@ -8,7 +8,7 @@ ghost use Rattle.replay.specs.Rooms.{HasRoom};
 use crate::crew::Stage;
 use crate::inlet::Entry;
 use crate::link::TaskLink;
-use crate::room::Room;
+use crate::room::Reserved;
 use savefile::Sink;
 
 /// An interface that is ready to be replayed, but for the links of its tasks.
@@ -17,7 +17,7 @@ pub(crate) struct Laid<R, W: Sink + Drop> {
     pub(crate) captures: Vec<R>,
     pub(crate) entries: Vec<Entry>,
     pub(crate) stages: Vec<Stage<W>>,
-    pub(crate) room: Room<R, W>,
+    pub(crate) room: Reserved<R, W>,
     ghost lines: { map entry_line entries.items ≡ map stage_line stages.items },
     ghost few: { (length captures.items ≤ 65536) × (length stages.items ≤ 64) },
     ghost enough: { HasRoom (length captures.items) (length stages.items) room },

@@ -32,7 +32,7 @@ pub(crate) struct Player<'a> {
 
 /// A packet that arrives: its number among the arrivals of the interface, its capture, and its place there.
 #[derive(Clone, Copy)]
-pub(crate) struct Placed<'a> {
+pub(crate) struct PlacedArrival<'a> {
     pub(crate) n: u64,
     pub(crate) capture: u32,
     pub(crate) place: u64,
@@ -59,7 +59,7 @@ fn wake_reader_if(link: &TaskLink, is_hold_made: bool) {
 }
 
 /// Gives a packet to a feeder, flushes it if that is due, and wakes its reader where there is a hold to read.
-fn give(inlet: &mut Inlet<'_>, placed: &Placed<'_>)
+fn give(inlet: &mut Inlet<'_>, placed: &PlacedArrival<'_>)
     requires n { placed.now.n < 2 ^ 64 - 2 }
     requires room { count is_arrival (line_of inlet.old).asks < 2 ^ 64 - 1 }
     ensures { line_of inlet.new ≡ fed_with placed.now.n (arrival placed.now.capture placed.now.place placed.now.packet.now) (line_of inlet.old) }
@@ -78,7 +78,7 @@ fn give(inlet: &mut Inlet<'_>, placed: &Placed<'_>)
 }
 
 /// Gives a packet to each feeder.
-fn give_all(inlets: &mut Vec<Inlet<'_>>, placed: &Placed<'_>)
+fn give_all(inlets: &mut Vec<Inlet<'_>>, placed: &PlacedArrival<'_>)
     requires n { placed.now.n < 2 ^ 64 - 2 }
     requires room { All (λ l. count is_arrival l.asks < 2 ^ 64 - 1) (map line_of inlets.old.items) }
     ensures { map line_of inlets.new.items
@@ -97,7 +97,7 @@ impl Player<'_> {
         ensures { (starts : List Line) (playlist : List Arrival) → HasArrived starts playlist self.old →
             HasArrived starts (playlist ++ arrival capture place packet.now ∷ []) self.new }
     {
-        let placed = Placed {
+        let placed = PlacedArrival {
             n: self.arrived,
             capture,
             place,

@@ -27,16 +27,16 @@ pub(crate) struct ListenerId {
 
 /// What a reading thread hands back.
 #[derive(Drop)]
-pub(crate) struct ReadEnd {
+pub(crate) struct ReaderEnd {
     pub(crate) drain: DrainEnd,
     /// Shows what was pushed.
     pub(crate) finished: Option<Finished<Buffer>>,
-    pub(crate) stop: Stop,
+    pub(crate) stop: ReaderStop,
 }
 
 /// Why a reading thread reads no further.
 #[derive(Clone, Copy)]
-pub(crate) enum Stop {
+pub(crate) enum ReaderStop {
     /// The end was found.
     Ended,
     /// Nobody gives buffers back any more.
@@ -52,7 +52,7 @@ pub(crate) struct ReadsOut {
     pub(crate) full: Snapshot<Producer<Buffer>>,
 }
 
-impl Promise<Option<ReadEnd>> for ReadsOut {
+impl Promise<Option<ReaderEnd>> for ReadsOut {
     ghost kept_by = { λ p r. IfSome r (HasRead p.drain.value p.full.value) };
 }
 
@@ -132,23 +132,23 @@ fn next_empty<R: Wait>(
     link: &TaskLink,
     empty: &mut Consumer<Buffer>,
     capacity: usize,
-) -> Result<Buffer, Stop>
+) -> Result<Buffer, ReaderStop>
     ensures ok { IfOk result (λ buffer. buffer ≡ filled capacity []) }
-    ensures err { IfErr result (λ stop. stop ≢ Stop.Ended) }
+    ensures err { IfErr result (λ stop. stop ≢ ReaderStop.Ended) }
 {
     let mut patience = Patience::new();
     for _ in rt.forever() {
         match empty.pop() {
             Ok(mut buffer) => {
                 if buffer.capacity() != capacity {
-                    return Err(Stop::Foreign);
+                    return Err(ReaderStop::Foreign);
                 }
                 buffer.clear();
                 return Ok(buffer);
             }
             Err(_) => {
                 if empty.is_abandoned() {
-                    return Err(Stop::Abandoned);
+                    return Err(ReaderStop::Abandoned);
                 }
                 patience.wait(rt, &link.reader);
             }
@@ -168,7 +168,7 @@ pub(crate) fn read_out<G: Gate, R: Wait>(
     mut full: Producer<Buffer>,
     mut empty: Consumer<Buffer>,
     listener_id: ListenerId,
-) -> Option<ReadEnd>
+) -> Option<ReaderEnd>
     requires pair { drain.pair ≡ link.now }
     requires new { (drain.takes ≡ []) × (sent full ≡ []) }
     ensures { IfSome result (HasRead drain full) }
@@ -178,7 +178,7 @@ pub(crate) fn read_out<G: Gate, R: Wait>(
     }
     let capacity = drain.capacity();
     let mut spare: Option<Buffer> = None;
-    let mut stop = Stop::Abandoned;
+    let mut stop = ReaderStop::Abandoned;
     let mut patience = Patience::new();
     for _ in rt.forever() {
         let buffer = match spare.take() {
@@ -198,12 +198,12 @@ pub(crate) fn read_out<G: Gate, R: Wait>(
                 patience.wait(rt, &link.reader);
             }
             Once::Ended => {
-                stop = Stop::Ended;
+                stop = ReaderStop::Ended;
                 break;
             }
         }
     }
-    let end = ReadEnd {
+    let end = ReaderEnd {
         drain: drain.close(link.pair()),
         finished: full.finish(),
         stop,

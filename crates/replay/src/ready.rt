@@ -9,7 +9,7 @@ use crate::crew::{Crew, Stage};
 use crate::inlet::{Entry, Inlet};
 use crate::link::TaskLink;
 use crate::playing::{PlayEnd, PlaysOut};
-use crate::room::Room;
+use crate::room::Reserved;
 use replay_types::ListenerReport;
 use savefile::{Sink, Source};
 use std::snapshot::Snapshot;
@@ -23,7 +23,7 @@ pub(crate) struct Ready<'a, R, W: Sink + Drop> {
     pub(crate) inlets: Vec<Inlet<'a>>,
     pub(crate) captures: Vec<R>,
     pub(crate) stages: Vec<Stage<W>>,
-    pub(crate) room: Room<R, W>,
+    pub(crate) room: Reserved<R, W>,
     ghost pairs: { map stage_pair stages.items ≡ links.now },
     ghost entered: { map line_of inlets.items ≡ map entry_line entries.value.items },
     ghost lines: { map entry_line entries.value.items ≡ map stage_line stages.items },

@@ -12,7 +12,7 @@ use std::alloc::Global;
 
 /// Room for what the threads of an interface hand back.
 #[derive(Drop)]
-pub(crate) struct Room<R, W: Sink + Drop> {
+pub(crate) struct Reserved<R, W: Sink + Drop> {
     pub(crate) sources: Vec<R>,
     pub(crate) ends: Vec<Ending>,
     pub(crate) crews: Vec<Crew<W>>,
@@ -39,14 +39,14 @@ pub(crate) fn room_for<R: Drop, W: Sink + Drop>(
     alloc: Global,
     captures: usize,
     tasks: usize,
-) -> Result<Room<R, W>, RunFault>
+) -> Result<Reserved<R, W>, RunFault>
     ensures enough { IfOk result (λ room. HasRoom captures tasks room) }
     ensures refused { IfErr result (λ fault. fault ≡ NoStart) }
 {
     let played = two_lists(alloc, captures, tasks)?;
     let (crews, reports) = two_lists(alloc, tasks, tasks)?;
     let (sources, ends) = played;
-    Ok(Room {
+    Ok(Reserved {
         sources,
         ends,
         crews,

@@ -13,12 +13,12 @@ ghost use Rattle.replay.specs.Reading.{messages_of};
 ghost use Rattle.replay.specs.Reports.{IsReported};
 ghost use Rattle.replay.specs.Rings.{ring_of};
 ghost use Rattle.replay.specs.Writing.{IsTimely, Writes};
-ghost use Rattle.replay.specs.declared.writing.Output.{Output};
+ghost use Rattle.replay.specs.declared.writing.OutputFile.{OutputFile};
 
 use crate::crew::Done;
 use crate::ending::Ending;
 use crate::link::TaskLink;
-use crate::reading::{ReadEnd, Stop};
+use crate::reading::{ReaderEnd, ReaderStop};
 use crate::writer::WriteEnd;
 use crate::writing::Written;
 use handover::{Past, Settled, settle};
@@ -73,7 +73,7 @@ fn left_in(
 /// Writes the buffers that are left in the ring.
 fn write_left<W: Sink>(written: &mut Written<W>, ring: &mut Consumer<Buffer>, left: usize)
     requires { left ≡ length (known_items ring.old) }
-    ensures { (output : Output W) (messages : List Message) → Writes W.taken W.failures output messages written.old →
+    ensures { (output : OutputFile W) (messages : List Message) → Writes W.taken W.failures output messages written.old →
         Writes W.taken W.failures output (messages ++ joined (messages_of (known_items ring.old))) written.new }
 {
     for _ in 0..left {
@@ -83,16 +83,16 @@ fn write_left<W: Sink>(written: &mut Written<W>, ring: &mut Consumer<Buffer>, le
 
 /// How a task ended, by why its reading stopped and whether its savefile works, of which so many bytes were sent. A
 /// buffer of another capacity comes before a fault of the savefile, and that before an end that was not handed over.
-fn end_of(stop: Stop, works: bool, sent: u64) -> TaskEnd
-    ensures clean { result ≡ TaskEnd.Clean → (stop ≡ Stop.Ended) × (works ≡ true) }
+fn end_of(stop: ReaderStop, works: bool, sent: u64) -> TaskEnd
+    ensures clean { result ≡ TaskEnd.Clean → (stop ≡ ReaderStop.Ended) × (works ≡ true) }
     ensures broke { (n : _) → result ≡ TaskEnd.Write n → (works ≡ false) × (n ≡ sent) }
-    ensures unfinished { (result ≡ TaskEnd.Unfinished) ↔ ((stop ≡ Stop.Foreign) ⊎ ((stop ≡ Stop.Abandoned) × (works ≡ true))) }
+    ensures unfinished { (result ≡ TaskEnd.Unfinished) ↔ ((stop ≡ ReaderStop.Foreign) ⊎ ((stop ≡ ReaderStop.Abandoned) × (works ≡ true))) }
 {
     match stop {
-        Stop::Foreign => TaskEnd::Unfinished,
+        ReaderStop::Foreign => TaskEnd::Unfinished,
         _ if !works => TaskEnd::Write(sent),
-        Stop::Ended => TaskEnd::Clean,
-        Stop::Abandoned => TaskEnd::Unfinished,
+        ReaderStop::Ended => TaskEnd::Clean,
+        ReaderStop::Abandoned => TaskEnd::Unfinished,
     }
 }
 
@@ -147,7 +147,7 @@ pub(crate) fn settled<W: Sink + Drop>(
         read,
         write,
     } = done;
-    let ReadEnd {
+    let ReaderEnd {
         drain,
         finished,
         stop,

@@ -15,7 +15,7 @@ use crate::inlet::Entry;
 use crate::laid::{AllLaid, Laid};
 use crate::link::TaskLink;
 use crate::room::{room_for, two_lists};
-use crate::writing::Output;
+use crate::writing::OutputFile;
 use handover::pair_as;
 use listener::Buffer;
 use replay_types::{Interface, RunFault, Task};
@@ -109,7 +109,7 @@ fn make<W: Sink + Drop>(alloc: Global, task: Task<W>) -> Result<Made<W>, RunFaul
         empty_in: empty.0,
         empty_out: empty.1,
         rest_out: rest.1,
-        output: Output {
+        output: OutputFile {
             sink,
             order,
             unit,

@@ -9,9 +9,9 @@ use crate::crew::{Crew, Done, Stage};
 use crate::gate::Gate;
 use crate::launch::Launch;
 use crate::link::TaskLink;
-use crate::reading::{ListenerId, ReadEnd, ReadsOut, read_out};
+use crate::reading::{ListenerId, ReaderEnd, ReadsOut, read_out};
 use crate::writer::{WriteEnd, WritesOut, write_out};
-use crate::writing::Output;
+use crate::writing::OutputFile;
 use handover::Drain;
 use listener::Buffer;
 use replay_types::RunFault;
@@ -22,7 +22,7 @@ use std::sync::Wait;
 use std::thread::{PromisedHandle, Scope, Threads};
 
 /// A thread that reads a listener.
-type ReadingThread = PromisedHandle<Option<ReadEnd>, ReadsOut>;
+type ReadingThread = PromisedHandle<Option<ReaderEnd>, ReadsOut>;
 
 /// A thread that writes a savefile.
 type WritingThread<W> = PromisedHandle<Option<WriteEnd<W>>, WritesOut<W>>;
@@ -63,7 +63,7 @@ fn start_writer<'s, 'a: 's, E, W: Sink + Send + Drop + 's, R: Threads + Wait + S
     scope: &Scope<'s, E>,
     launch: &'s Launch,
     link: &'a TaskLink,
-    output: Output<W>,
+    output: OutputFile<W>,
     full: Consumer<Buffer>,
     empty: Producer<Buffer>,
     rest: Consumer<Buffer>,

@@ -6,13 +6,13 @@ ghost use Rattle.listener.specs.Laws.{joined};
 ghost use Rattle.listener.specs.declared.message.Message.{Message};
 ghost use Rattle.replay.specs.Reading.{messages_of};
 ghost use Rattle.replay.specs.Writing.{Writes};
-ghost use Rattle.replay.specs.declared.writing.Output.{Output};
+ghost use Rattle.replay.specs.declared.writing.OutputFile.{OutputFile};
 ghost use Rattle.replay.specs.WrittenOut.{HasWrittenOut};
 
 use crate::launch::Launch;
 use crate::link::TaskLink;
 use crate::patience::Patience;
-use crate::writing::{Output, Written};
+use crate::writing::{OutputFile, Written};
 use listener::Buffer;
 use rtrb::{Consumer, Producer};
 use savefile::Sink;
@@ -33,7 +33,7 @@ pub(crate) struct WriteEnd<W> {
 /// A writer thread hands back what it wrote into this savefile, out of these rings; nothing where a thread was refused.
 #[derive(Drop)]
 pub(crate) struct WritesOut<W> {
-    pub(crate) output: Snapshot<Output<W>>,
+    pub(crate) output: Snapshot<OutputFile<W>>,
     pub(crate) full: Snapshot<Consumer<Buffer>>,
     pub(crate) rest: Snapshot<Consumer<Buffer>>,
 }
@@ -54,7 +54,7 @@ fn wait<W: Sink, R: Wait>(
     written: &mut Written<W>,
     patience: &mut Patience,
 )
-    ensures { (output : Output W) (messages : List Message) → Writes W.taken W.failures output messages written.old →
+    ensures { (output : OutputFile W) (messages : List Message) → Writes W.taken W.failures output messages written.old →
         Writes W.taken W.failures output messages written.new }
 {
     if patience.is_out() {
@@ -73,7 +73,7 @@ fn write_read<W: Sink, R: Wait>(
     mut empty: Producer<Buffer>,
 )
     ensures ring { SameConsumer full.old full.new }
-    ensures writes { (output : Output W) (messages : List Message) →
+    ensures writes { (output : OutputFile W) (messages : List Message) →
         Writes W.taken W.failures output (messages ++ joined (messages_of (received full.old))) written.old →
         Writes W.taken W.failures output (messages ++ joined (messages_of (received full.new))) written.new }
 {
@@ -112,7 +112,7 @@ fn write_rest<W: Sink, R: Wait>(
     rest: &mut Consumer<Buffer>,
 )
     ensures ring { SameConsumer rest.old rest.new }
-    ensures writes { (output : Output W) (messages : List Message) →
+    ensures writes { (output : OutputFile W) (messages : List Message) →
         Writes W.taken W.failures output (messages ++ joined (messages_of (received rest.old))) written.old →
         Writes W.taken W.failures output (messages ++ joined (messages_of (received rest.new))) written.new }
 {
@@ -135,7 +135,7 @@ pub(crate) fn write_out<W: Sink + Drop, R: Wait>(
     rt: &R,
     launch: &Launch,
     link: &TaskLink,
-    output: Output<W>,
+    output: OutputFile<W>,
     mut full: Consumer<Buffer>,
     empty: Producer<Buffer>,
     mut rest: Consumer<Buffer>,

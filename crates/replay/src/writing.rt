@@ -3,7 +3,7 @@
 ghost use Rattle.std.specs.Prelude.{◌≡◌, List, [], ◌∷◌, ◌++◌};
 ghost use Rattle.listener.specs.Buffers.{message_in, FitsSavefileRecord};
 ghost use Rattle.listener.specs.declared.message.Message.{Message};
-ghost use Rattle.replay.specs.declared.writing.Output.{Output};
+ghost use Rattle.replay.specs.declared.writing.OutputFile.{OutputFile};
 ghost use Rattle.replay.specs.Writing.{Writes};
 
 use listener::{Buffer, Record};
@@ -15,7 +15,7 @@ const MAX_NANOS: u32 = 999_999_999;
 
 /// The savefile that a task's packets are written to.
 #[derive(Drop)]
-pub(crate) struct Output<W> {
+pub(crate) struct OutputFile<W> {
     pub(crate) sink: W,
     pub(crate) order: Order,
     pub(crate) unit: Unit,
@@ -34,10 +34,10 @@ pub(crate) struct Written<W> {
 
 impl<W: Sink> Written<W> {
     /// Writes the header.
-    pub(crate) fn open(output: Output<W>) -> Written<W>
+    pub(crate) fn open(output: OutputFile<W>) -> Written<W>
         ensures { Writes W.taken W.failures output [] result }
     {
-        let Output {
+        let OutputFile {
             sink,
             order,
             unit,
@@ -58,7 +58,7 @@ impl<W: Sink> Written<W> {
     /// Writes one packet.
     fn put(&mut self, message: &Record<'_>)
         requires { FitsSavefileRecord (message_in message.now) }
-        ensures { (output : Output W) (messages : List Message) → Writes W.taken W.failures output messages self.old →
+        ensures { (output : OutputFile W) (messages : List Message) → Writes W.taken W.failures output messages self.old →
             Writes W.taken W.failures output (messages ++ message_in message.now ∷ []) self.new }
     {
         growing_text();
@@ -82,7 +82,7 @@ impl<W: Sink> Written<W> {
 
     /// Lets the sink hand on what it has gathered.
     pub(crate) fn flush(&mut self)
-        ensures { (output : Output W) (messages : List Message) → Writes W.taken W.failures output messages self.old →
+        ensures { (output : OutputFile W) (messages : List Message) → Writes W.taken W.failures output messages self.old →
             Writes W.taken W.failures output messages self.new }
     {
         if !self.works {
@@ -93,7 +93,7 @@ impl<W: Sink> Written<W> {
 
     /// Writes the messages of a buffer.
     pub(crate) fn put_all(&mut self, buffer: &Buffer)
-        ensures { (output : Output W) (messages : List Message) → Writes W.taken W.failures output messages self.old →
+        ensures { (output : OutputFile W) (messages : List Message) → Writes W.taken W.failures output messages self.old →
             Writes W.taken W.failures output (messages ++ buffer.now.messages) self.new }
     {
         for record in buffer.records() {

@@ -10,7 +10,7 @@ use Rattle.filtergen.specs.Compiling.{StandsFor}
 use Rattle.listener.specs.Messages.{Arrival, cut_to, kept_by}
 use Rattle.listener.specs.PlainList.{Request}
 use Rattle.listener.specs.Laws.{AnswersAreLegal, RunsAreKept, KeptFits}
-use Rattle.tap_steps.specs.declared.playlist.Placed.{Placed}
+use Rattle.tap_steps.specs.declared.playlist.PlacedPacket.{PlacedPacket}
 use Rattle.tap_steps.specs.declared.report.Report.{Report}
 use Rattle.tap_steps.specs.declared.step.Step.{Step}
 use Rattle.tap_steps.specs.declared.answer.Answered.{Answered}
@@ -43,13 +43,13 @@ kept_alike_if program tree snap a true some e f =
     rw (e, f, lt-ltb 0 snap some) (ap (λ (n : ℕ). Some (cut_to n a)) (let m : min snap snap ≡ snap = omega arith in m))
 kept_alike_if program tree snap a false some e f = rw (e, f) refl
 
-pub kept_alike : (program : List Insn) (tree : Tree) (snap : ℕ) → 0 < snap → StandsFor program tree snap → (p : Placed) → HasBytes (packet_of p.packet.bytes p.packet.len) → kept_by program snap (arrival_of p) ≡ kept_by_tree tree snap (arrival_of p)
+pub kept_alike : (program : List Insn) (tree : Tree) (snap : ℕ) → 0 < snap → StandsFor program tree snap → (p : PlacedPacket) → HasBytes (packet_of p.packet.bytes p.packet.len) → kept_by program snap (arrival_of p) ≡ kept_by_tree tree snap (arrival_of p)
 kept_alike program tree snap some stands p real = kept_alike_if program tree snap (arrival_of p) (accepts tree (packet_of p.packet.bytes p.packet.len)) some (stands (packet_of p.packet.bytes p.packet.len) real) refl
 
 -- ---- The headline, for one listener
 
 -- what holds of the program's own steps is told of the filter's
-told : (Says : List Request → Type 0) (filter : Filter) (program : List Insn) (snap l : ℕ) (steps : List Step) (playlist : List Placed) → 0 < snap → AllPackets playlist →
+told : (Says : List Request → Type 0) (filter : Filter) (program : List Insn) (snap l : ℕ) (steps : List Step) (playlist : List PlacedPacket) → 0 < snap → AllPackets playlist →
     ProgramOf filter snap program → Says (own (kept_by program snap) l steps playlist) →
     (keeps : Arrival → Option Message) × FiltersAs filter snap keeps × Says (own keeps l steps playlist)
 told Says (Program p) program snap l steps playlist some real made says = (
@@ -64,7 +64,7 @@ told Says (Text text) program snap l steps playlist some real made says = (
 )
 
 -- what is told of a listener at the end is told of one that was opened and went through its own steps
-ended_at : {B : Type 0} (R : Watch → B → Type 0) (traced : Bool) (specs : List Spec) (ws done : List Watch) (ys : List B) (steps : List Step) (playlist : List Placed) →
+ended_at : {B : Type 0} (R : Watch → B → Type 0) (traced : Bool) (specs : List Spec) (ws done : List Watch) (ys : List B) (steps : List Step) (playlist : List PlacedPacket) →
     AllZip (Opened traced) specs ws → done ≡ played steps playlist ws → AllZip R done ys → (l : ℕ) (spec : Spec) → slice_get specs l ≡ Some spec →
     (w : Watch) × Opened traced spec w × (y : B) × (slice_get ys l ≡ Some y) × R (goes l steps playlist w) y
 ended_at R traced specs ws done ys steps playlist opened is tells l spec here =
@@ -73,7 +73,7 @@ ended_at R traced specs ws done ys steps playlist opened is tells l spec here =
     let r = zip_at R done ys l (goes l steps playlist o.0) tells d in
     (o.0, o.2, r.0, r.1, r.2)
 
-module _ (legal_law : AnswersAreLegal) (kept_law : RunsAreKept) (fit_law : KeptFits) (traced : Bool) (specs : List Spec) (ws done : List Watch) (steps : List Step) (playlist : List Placed)
+module _ (legal_law : AnswersAreLegal) (kept_law : RunsAreKept) (fit_law : KeptFits) (traced : Bool) (specs : List Spec) (ws done : List Watch) (steps : List Step) (playlist : List PlacedPacket)
     (opened : AllZip (Opened traced) specs ws) (is : done ≡ played steps playlist ws) (real : AllPackets playlist) where
   pub headline_at : (reports : List Report) → AllZip Tells done reports → (l : ℕ) (spec : Spec) → slice_get specs l ≡ Some spec →
       (report : Report) × (slice_get reports l ≡ Some report) × (keeps : Arrival → Option Message) × FiltersAs spec.filter spec.snap keeps × Reports (terms_of spec) (own keeps l steps playlist) report
@@ -86,7 +86,7 @@ module _ (legal_law : AnswersAreLegal) (kept_law : RunsAreKept) (fit_law : KeptF
       (reports_by legal_law kept_law fit_law traced o.program spec.snap (terms_of spec) l steps playlist e.2 o.range.room r) in
       (e.2, e.3, k.0, k.1, k.2)
 
-module _ (legal_law : AnswersAreLegal) (specs : List Spec) (ws done : List Watch) (steps : List Step) (playlist : List Placed)
+module _ (legal_law : AnswersAreLegal) (specs : List Spec) (ws done : List Watch) (steps : List Step) (playlist : List PlacedPacket)
     (opened : AllZip (Opened true) specs ws) (is : done ≡ played steps playlist ws) (real : AllPackets playlist) where
   pub answers_at : (all : List (List Answered)) → AllZip IsFollowed done all → (l : ℕ) (spec : Spec) → slice_get specs l ≡ Some spec →
       (own_answers : List Answered) × (slice_get all l ≡ Some own_answers) × (keeps : Arrival → Option Message) × FiltersAs spec.filter spec.snap keeps × AreLegal (terms_of spec) (own keeps l steps playlist) own_answers
@@ -100,13 +100,13 @@ module _ (legal_law : AnswersAreLegal) (specs : List Spec) (ws done : List Watch
       (e.2, e.3, k.0, k.1, k.2)
 
 -- as many as were wanted
-ended_many : {B : Type 0} (R : Watch → B → Type 0) (traced : Bool) (specs : List Spec) (ws done : List Watch) (ys : List B) (steps : List Step) (playlist : List Placed) →
+ended_many : {B : Type 0} (R : Watch → B → Type 0) (traced : Bool) (specs : List Spec) (ws done : List Watch) (ys : List B) (steps : List Step) (playlist : List PlacedPacket) →
     AllZip (Opened traced) specs ws → done ≡ played steps playlist ws → AllZip R done ys → length ys ≡ length specs
 ended_many R traced specs ws done ys steps playlist opened is tells =
     zip_length R done ys tells ∙ ap length is ∙ length_played steps playlist ws ∙ zip_length (Opened traced) specs ws opened
 
 -- what the reports of a replay's end tell
-pub replays_by : (legal_law : AnswersAreLegal) (kept_law : RunsAreKept) (fit_law : KeptFits) (traced : Bool) (captures : List (List ℕ)) (specs : List Spec) (steps : List Step) (playlist : List Placed)
+pub replays_by : (legal_law : AnswersAreLegal) (kept_law : RunsAreKept) (fit_law : KeptFits) (traced : Bool) (captures : List (List ℕ)) (specs : List Spec) (steps : List Step) (playlist : List PlacedPacket)
     (record_fault : Option (ℕ × Misread)) (done : List Watch) → ComesTo traced captures specs steps playlist record_fault done →
     (reports : List Report) → AllZip Tells done reports → Replays captures specs steps playlist record_fault reports
 replays_by legal_law kept_law fit_law traced captures specs steps playlist record_fault done c reports tells = record {
@@ -116,7 +116,7 @@ replays_by legal_law kept_law fit_law traced captures specs steps playlist recor
 }
 
 -- what the answers tell, where they were followed
-pub traces_by : (legal_law : AnswersAreLegal) (captures : List (List ℕ)) (specs : List Spec) (steps : List Step) (playlist : List Placed)
+pub traces_by : (legal_law : AnswersAreLegal) (captures : List (List ℕ)) (specs : List Spec) (steps : List Step) (playlist : List PlacedPacket)
     (record_fault : Option (ℕ × Misread)) (done : List Watch) → ComesTo true captures specs steps playlist record_fault done →
     (all : List (List Answered)) → AllZip IsFollowed done all → Traces captures specs steps playlist record_fault all
 traces_by legal_law captures specs steps playlist record_fault done c all followed = record {

@@ -5,7 +5,7 @@ use Rattle.savefile.specs.declared.fault.Fault.{Fault}
 use Rattle.listener.specs.declared.message.Message.{Message}
 use Rattle.listener.specs.Messages.{Arrival}
 use Rattle.tap_steps.specs.declared.answer.Answered.{Answered}
-use Rattle.tap_steps.specs.declared.playlist.Placed.{Placed}
+use Rattle.tap_steps.specs.declared.playlist.PlacedPacket.{PlacedPacket}
 use Rattle.tap_steps.specs.declared.step.Step.{Step}
 use Rattle.tap_steps.specs.declared.filters.Spec.{Spec}
 use Rattle.tap_steps.specs.Answers.{AreLegal}
@@ -15,7 +15,7 @@ use Rattle.tap_steps.specs.Reports.{terms_of}
 use Rattle.tap.specs.Filters.{FiltersAs}
 
 -- For each listener there are the legal answers to its own steps over the playlist.
-pub record Traces (captures : List (List ℕ)) (specs : List Spec) (steps : List Step) (playlist : List Placed) (record_fault : Option (ℕ × Fault)) (answers : List (List Answered)) : Type 0 where
+pub record Traces (captures : List (List ℕ)) (specs : List Spec) (steps : List Step) (playlist : List PlacedPacket) (record_fault : Option (ℕ × Fault)) (answers : List (List Answered)) : Type 0 where
   pub of_captures : IsPlaylist 0 captures playlist record_fault
   pub one_each : length answers ≡ length specs
   pub each : (l : ℕ) (spec : Spec) → slice_get specs l ≡ Some spec →

@@ -10,7 +10,7 @@ use Rattle.listener.specs.PlainList.{empty}
 use Rattle.tap_steps.specs.declared.filters.Spec.{Spec}
 use Rattle.tap_steps.specs.declared.filters.Filter.{Filter}
 use Rattle.tap_steps.specs.declared.filters.Filter.TheVariants.{Text, Program}
-use Rattle.tap_steps.specs.declared.playlist.Placed.{Placed}
+use Rattle.tap_steps.specs.declared.playlist.PlacedPacket.{PlacedPacket}
 use Rattle.tap_steps.specs.declared.step.Step.{Step}
 use Rattle.tap_steps.specs.Playlist.{IsPlaylist}
 use Rattle.tap_steps.specs.Reports.{terms_of}
@@ -32,7 +32,7 @@ pub record Opened (traced : Bool) (spec : Spec) (w : Watch) : Type 0 where
   pub is : w ≡ watch (listening program spec.snap (terms_of spec) empty) [] (no_answers traced)
 
 -- What steps came to: the listeners as they were opened went through all steps, over the playlist of the captures.
-pub record ComesTo (traced : Bool) (captures : List (List ℕ)) (specs : List Spec) (steps : List Step) (playlist : List Placed) (record_fault : Option (ℕ × Fault)) (done : List Watch) : Type 0 where
+pub record ComesTo (traced : Bool) (captures : List (List ℕ)) (specs : List Spec) (steps : List Step) (playlist : List PlacedPacket) (record_fault : Option (ℕ × Fault)) (done : List Watch) : Type 0 where
   pub of_captures : IsPlaylist 0 captures playlist record_fault
   pub packets : AllPackets playlist
   pub began : List Watch

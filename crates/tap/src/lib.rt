@@ -16,5 +16,5 @@ mod run;
 pub use fault::Fault;
 pub use run::{replay, trace};
 pub use tap_steps::{
-    Answer, Answered, Filter, MAX_CAPTURES, MAX_LISTENERS, Placed, Report, Spec, Step, Trace,
+    Answer, Answered, Filter, MAX_CAPTURES, MAX_LISTENERS, PlacedPacket, Report, Spec, Step, Trace,
 };

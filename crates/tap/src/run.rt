@@ -7,20 +7,20 @@ ghost use Rattle.tap.specs.Headline.{Replays};
 ghost use Rattle.tap.specs.Refusals.{IsFirst, NoneStands};
 ghost use Rattle.tap.specs.Opening.{ComesTo};
 ghost use Rattle.tap.specs.declared.fault.Fault.TheVariants.{NoMemory};
-ghost use Rattle.tap_steps.specs.declared.playlist.Placed.{Placed};
+ghost use Rattle.tap_steps.specs.declared.playlist.PlacedPacket.{PlacedPacket};
 
 use crate::fault::Fault;
 use crate::open::open_all;
 use filterlang::Expr;
 use std::alloc::Global;
 use tap_steps::{
-    MAX_CAPTURES, MAX_LISTENERS, Playlist, Report, Spec, Step, Trace, Watched, first_missing, play,
-    read_playlist, report_all, trace_all,
+    MAX_CAPTURES, MAX_LISTENERS, Playlist, Report, Spec, Step, Trace, Watched,
+    first_without_listener, play, read_playlist, report_all, trace_all,
 };
 
 /// What a replay came to.
 #[derive(Drop)]
-struct Outcome {
+struct Playback {
     playlist: Playlist,
     watched: Vec<Watched>,
     expressions: Vec<Option<Expr>>,
@@ -33,7 +33,7 @@ fn play_all(
     specs: &[Spec],
     steps: &[Step],
     traced: bool,
-) -> Result<Outcome, Fault>
+) -> Result<Playback, Fault>
     ensures ok { IfOk result (λ o. ComesTo traced (map (λ c. c.now) captures.now) specs.now steps.now o.playlist.arrivals.items o.playlist.record_fault o.watched.items) }
     ensures expressions { IfOk result (λ o. AreExpressionsOf specs.now o.expressions.items) }
     ensures stands { OnOk result (NoneStands (map (λ c. c.now) captures.now) specs.now steps.now) }
@@ -42,13 +42,13 @@ fn play_all(
     if specs.len() > MAX_LISTENERS || captures.len() > MAX_CAPTURES {
         return Err(Fault::TooMany);
     }
-    if let Some(place) = first_missing(steps, specs.len()) {
+    if let Some(place) = first_without_listener(steps, specs.len()) {
         return Err(Fault::NoListener(place));
     }
     let playlist = read_playlist(alloc, captures)?;
     let (mut watched, expressions) = open_all(alloc, specs, traced)?;
     play(alloc, &mut watched, steps, playlist.arrivals.as_slice())?;
-    Ok(Outcome {
+    Ok(Playback {
         playlist,
         watched,
         expressions,
@@ -79,7 +79,7 @@ pub fn replay(
     steps: &[Step],
 ) -> Result<(Vec<Report>, Option<(u32, savefile::Fault)>), Fault>
     // The headline.
-    ensures tells { IfOk result (λ r. (playlist : List Placed) × Replays (map (λ c. c.now) captures.now) specs.now steps.now playlist r.1 r.0.items) }
+    ensures tells { IfOk result (λ r. (playlist : List PlacedPacket) × Replays (map (λ c. c.now) captures.now) specs.now steps.now playlist r.1 r.0.items) }
     // No fault stands where there are reports, and each fault is the first that stands.
     ensures stands { OnOk result (NoneStands (map (λ c. c.now) captures.now) specs.now steps.now) }
     ensures first { IfErr result (IsFirst (map (λ c. c.now) captures.now) specs.now steps.now) }
@@ -87,7 +87,7 @@ pub fn replay(
     listener::laws::answers();
     listener::laws::looking_back();
     listener::laws::fitting();
-    let Outcome {
+    let Playback {
         playlist,
         watched,
         ..
@@ -120,7 +120,7 @@ pub fn trace(
     listener::laws::answers();
     listener::laws::looking_back();
     listener::laws::fitting();
-    let Outcome {
+    let Playback {
         playlist,
         watched,
         expressions,

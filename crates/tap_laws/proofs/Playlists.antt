@@ -13,11 +13,11 @@ use Rattle.replay_types.specs.declared.report.InterfaceEnd.{InterfaceEnd}
 use Rattle.replay_types.specs.declared.report.InterfaceEnd.TheVariants.{Clean, Capture, CountFull}
 use Rattle.tap_steps.specs.OwnSteps.{arrival_of}
 use Rattle.tap_steps.specs.Playlist.{placed, IsPlaylist}
-use Rattle.tap_steps.specs.declared.playlist.Placed.{Placed}
+use Rattle.tap_steps.specs.declared.playlist.PlacedPacket.{PlacedPacket}
 use Rattle.tap_laws.specs.Laws.{EndsAs}
 
 -- the packets of a capture arrive as they are placed
-arrive-placed : (n place : ℕ) (ps : List Packet) (more : List Placed) → arrivals_from n place ps ++ map arrival_of more ≡ map arrival_of (placed n place ps ++ more)
+arrive-placed : (n place : ℕ) (ps : List Packet) (more : List PlacedPacket) → arrivals_from n place ps ++ map arrival_of more ≡ map arrival_of (placed n place ps ++ more)
 arrive-placed n place [] more = refl
 arrive-placed n place (p ∷ ps) more = ap (λ (as' : List Arrival). arrival n place p ∷ as') (arrive-placed n (place + 1) ps more)
 
@@ -59,7 +59,7 @@ ends-at k fault.CountFull record_fault e = absurd e
 
 pub gives_one_playlist : {S : Type 0} (left : S → Option (List ℕ)) (failures : S → ℕ) (texts : List (List ℕ)) (total n : ℕ) (before after : List S) (arrivals : List Arrival)
     (end : InterfaceEnd) (record_fault : Option (ℕ × Fault)) → map left before ≡ map Some texts → GivesPlaylist left failures total n before after arrivals end → EndsAs end record_fault
-    → (playlist : List Placed) × IsPlaylist n texts playlist record_fault × (arrivals ≡ map arrival_of playlist)
+    → (playlist : List PlacedPacket) × IsPlaylist n texts playlist record_fault × (arrivals ≡ map arrival_of playlist)
 gives_one_playlist left failures [] total n [] [] arrivals end record_fault told (none, clean) ends =
     ([], (refl, subst (λ (e : InterfaceEnd). EndsAs e record_fault) clean ends), none)
 gives_one_playlist left failures [] total n [] (t ∷ ts) arrivals end record_fault told plays ends = absurd plays

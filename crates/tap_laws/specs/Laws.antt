@@ -8,7 +8,7 @@ use Rattle.replay_types.specs.declared.report.InterfaceEnd.{InterfaceEnd}
 use Rattle.replay_types.specs.declared.report.InterfaceEnd.TheVariants.{Clean, Capture, CountFull}
 use Rattle.tap_steps.specs.OwnSteps.{arrival_of}
 use Rattle.tap_steps.specs.Playlist.{IsPlaylist}
-use Rattle.tap_steps.specs.declared.playlist.Placed.{Placed}
+use Rattle.tap_steps.specs.declared.playlist.PlacedPacket.{PlacedPacket}
 
 -- Captures end so for what stands in them: all were read to their end, or this one up to a torn or bad record, which is told
 -- beside its number.
@@ -24,4 +24,4 @@ abbrev pub GiveOnePlaylist : {S : Type 0} → (S → Option (List ℕ)) → (S �
 GiveOnePlaylist {S} left failures =
     (texts : List (List ℕ)) (total n : ℕ) (before after : List S) (arrivals : List Arrival) (end : InterfaceEnd) (record_fault : Option (ℕ × Fault))
     → map left before ≡ map Some texts → GivesPlaylist left failures total n before after arrivals end → EndsAs end record_fault
-    → (playlist : List Placed) × IsPlaylist n texts playlist record_fault × (arrivals ≡ map arrival_of playlist)
+    → (playlist : List PlacedPacket) × IsPlaylist n texts playlist record_fault × (arrivals ≡ map arrival_of playlist)

@@ -2,7 +2,7 @@
 
 use listener::Fed;
 use std::slice::Iter;
-use tap_steps::{Answer, Answered, Placed, Step, Trace};
+use tap_steps::{Answer, Answered, PlacedPacket, Step, Trace};
 
 /// A step as one listener sees it.
 #[derive(Clone, Copy)]
@@ -11,7 +11,7 @@ pub struct Column<'a> {
     pub index: u64,
     pub step: Step,
     /// The packet that an arrival took.
-    pub packet: Option<&'a Placed>,
+    pub packet: Option<&'a PlacedPacket>,
     /// What the listener answered, where the step concerns it.
     pub answer: Option<Answer>,
     /// The bytes of the store before the step.
@@ -26,7 +26,7 @@ pub struct Column<'a> {
 #[derive(Drop)]
 pub struct Columns<'a> {
     listener: u32,
-    packets: Iter<'a, Placed>,
+    packets: Iter<'a, PlacedPacket>,
     answers: Iter<'a, Answered>,
     count: u64,
     load: u64,

@@ -5,7 +5,7 @@ use crate::frame::{BARS, MARGIN};
 use listener::Fed;
 use std::io;
 use std::io::Write;
-use tap_steps::{Answer, Placed, Step};
+use tap_steps::{Answer, PlacedPacket, Step};
 
 /// The bars' own lengths, in which a height is a number of bytes. From the top: a mark of what became of the step, the hold,
 /// and the store with room above it for a record that exceeds the capacity.
@@ -95,7 +95,7 @@ fn write_title<O: Write>(column: &Column<'_>, out: &mut O) -> io::Result<()> {
         write!(out, " {l}")?;
     }
     if let Some(placed) = column.packet {
-        let Placed { capture, place, .. } = placed;
+        let PlacedPacket { capture, place, .. } = placed;
         write!(out, " capture {capture} place {place}")?;
     }
     let (load, held) = (column.load, column.hold_load);

@@ -6,7 +6,7 @@ use Rattle.listener.specs.declared.answer.Fed.{Fed}
 use Rattle.listener.specs.declared.answer.Fed.TheVariants.{Passed, Stored, Held, Rotated, Dropped, Closed}
 use Rattle.listener.specs.PlainList.{PlainList, Request, arrived, flushed, read, next}
 use Rattle.listener.specs.PlainList as P
-use Rattle.tap_steps.specs.declared.playlist.Placed.{Placed}
+use Rattle.tap_steps.specs.declared.playlist.PlacedPacket.{PlacedPacket}
 use Rattle.std.specs.List.{AllZip}
 use Rattle.tap_steps.specs.Watching.{Watch, stepped, arrived_at, one_stepped, CountsFit}
 
@@ -69,11 +69,11 @@ fit_read n l ws h = fit_other n l P.Read ws tt h
 pub fit_close : (n l : ℕ) (ws : List Watch) → CountsFit n ws → CountsFit n (one_stepped l P.Close ws)
 fit_close n l ws h = fit_other n l P.Close ws tt h
 
-one_arrived : (p : Placed) (w : Watch) → (arrived_at p w).listener.list.received ≤ w.listener.list.received + 1
+one_arrived : (p : PlacedPacket) (w : Watch) → (arrived_at p w).listener.list.received ≤ w.listener.list.received + 1
 unfolding stepped
 one_arrived p w = one_more w.listener.list _ _
 
-pub fit_arrived : (n : ℕ) (p : Placed) (ws : List Watch) → CountsFit (suc n) ws → CountsFit n (map (arrived_at p) ws)
+pub fit_arrived : (n : ℕ) (p : PlacedPacket) (ws : List Watch) → CountsFit (suc n) ws → CountsFit n (map (arrived_at p) ws)
 fit_arrived n p [] h = tt
 fit_arrived n p (w ∷ ws) h = (omega (arith, one_arrived p w, h.0), fit_arrived n p ws h.1)
 

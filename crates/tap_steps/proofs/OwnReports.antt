@@ -7,7 +7,7 @@ use Rattle.listener.specs.Listening.{listening}
 use Rattle.listener.specs.PlainList.{Terms, Request, Event, answers, empty, batches, requests}
 use Rattle.listener.specs.PlainList as P
 use Rattle.listener.specs.Laws.{AnswersAreLegal, RunsAreKept, KeptFits, FitsIn, AllFitIn, IsKept, joined}
-use Rattle.tap_steps.specs.declared.playlist.Placed.{Placed}
+use Rattle.tap_steps.specs.declared.playlist.PlacedPacket.{PlacedPacket}
 use Rattle.tap_steps.specs.declared.report.Report.{Report}
 use Rattle.tap_steps.specs.declared.step.Step.{Step}
 use Rattle.tap_steps.specs.declared.step.Step.TheVariants.{Arrive, Flush, Read, Close}
@@ -27,7 +27,7 @@ if_fits : (capacity : ℕ) (b : Bool) (r : Request) (rs : List Request) → Fits
 if_fits capacity true r rs h hs = (h, hs)
 if_fits capacity false r rs h hs = hs
 
-own_fits : (keeps : Arrival → Option Message) (capacity l : ℕ) → ((a : Arrival) → FitsIn capacity (P.Arrive (keeps a))) → (steps : List Step) (playlist : List Placed) → AllFitIn capacity (own keeps l steps playlist)
+own_fits : (keeps : Arrival → Option Message) (capacity l : ℕ) → ((a : Arrival) → FitsIn capacity (P.Arrive (keeps a))) → (steps : List Step) (playlist : List PlacedPacket) → AllFitIn capacity (own keeps l steps playlist)
 own_fits keeps capacity l h [] playlist = tt
 own_fits keeps capacity l h (Arrive ∷ steps) [] = own_fits keeps capacity l h steps []
 own_fits keeps capacity l h (Arrive ∷ steps) (p ∷ playlist) = (h (arrival_of p), own_fits keeps capacity l h steps playlist)
@@ -42,7 +42,7 @@ abbrev pub came_to : Bool → List Insn → ℕ → Terms → List Request → W
 came_to traced program snap t rs = all_stepped rs (watch (listening program snap t empty) [] (no_answers traced))
 
 module _ (legal_law : AnswersAreLegal) (kept_law : RunsAreKept) (fit_law : KeptFits) where
-  pub reports_by : (traced : Bool) (program : List Insn) (snap : ℕ) (t : Terms) (l : ℕ) (steps : List Step) (playlist : List Placed) (report : Report) → size snap ≤ t.capacity →
+  pub reports_by : (traced : Bool) (program : List Insn) (snap : ℕ) (t : Terms) (l : ℕ) (steps : List Step) (playlist : List PlacedPacket) (report : Report) → size snap ≤ t.capacity →
       Tells (came_to traced program snap t (own (kept_by program snap) l steps playlist)) report →
       Reports t (own (kept_by program snap) l steps playlist) report
   reports_by traced program snap t l steps playlist report room tells =
@@ -79,7 +79,7 @@ legal_by legal_law program snap t rs followed follows =
 
 -- ---- Two filters that keep the same
 
-pub own_alike : (f g : Arrival → Option Message) (l : ℕ) (steps : List Step) (playlist : List Placed) → ((p : Placed) → AllByRecursion (λ byte. byte < 256) p.packet.bytes → f (arrival_of p) ≡ g (arrival_of p)) → AllPackets playlist → own f l steps playlist ≡ own g l steps playlist
+pub own_alike : (f g : Arrival → Option Message) (l : ℕ) (steps : List Step) (playlist : List PlacedPacket) → ((p : PlacedPacket) → AllByRecursion (λ byte. byte < 256) p.packet.bytes → f (arrival_of p) ≡ g (arrival_of p)) → AllPackets playlist → own f l steps playlist ≡ own g l steps playlist
 own_alike f g l [] playlist h all = refl
 own_alike f g l (Arrive ∷ steps) [] h all = own_alike f g l steps [] h all
 own_alike f g l (Arrive ∷ steps) (p ∷ playlist) h all = λ i. P.Arrive (h p all.0 i) ∷ own_alike f g l steps playlist h all.1 i
@@ -97,7 +97,7 @@ zip_at R (u ∷ xs) (v ∷ ys) (suc l) x z h = zip_at R xs ys l x z.1 h
 
 -- ---- All listeners
 
-pub length_played : (steps : List Step) (playlist : List Placed) (ws : List Watch) → length (played steps playlist ws) ≡ length ws
+pub length_played : (steps : List Step) (playlist : List PlacedPacket) (ws : List Watch) → length (played steps playlist ws) ≡ length ws
 length_played [] playlist ws = refl
 length_played (Arrive ∷ steps) [] ws = length_played steps [] ws
 length_played (Arrive ∷ steps) (p ∷ playlist) ws = length_played steps playlist (map (arrived_at p) ws) ∙ length-map ws (arrived_at p)

@@ -6,7 +6,7 @@ use Rattle.std.proofs.lemmas.Bool.{false≢true, eqb-true, eq-eqb}
 use Rattle.listener.specs.Listening.{seen_by}
 use Rattle.listener.specs.PlainList.{Request}
 use Rattle.listener.specs.PlainList as P
-use Rattle.tap_steps.specs.declared.playlist.Placed.{Placed}
+use Rattle.tap_steps.specs.declared.playlist.PlacedPacket.{PlacedPacket}
 use Rattle.tap_steps.specs.declared.step.Step.{Step}
 use Rattle.tap_steps.specs.declared.step.Step.TheVariants.{Arrive, Flush, Read, Close}
 use Rattle.tap_steps.specs.OwnSteps.{own}
@@ -30,18 +30,18 @@ rest_here f (w ∷ ws) zero d h = refl
 rest_here f (w ∷ ws) (suc i) d h = rest_here f ws i d (omega arith)
 
 -- what a listener becomes by its own steps
-abbrev pub goes : ℕ → List Step → List Placed → Watch → Watch
+abbrev pub goes : ℕ → List Step → List PlacedPacket → Watch → Watch
 goes l steps playlist w = all_stepped (own (seen_by w.listener) l steps playlist) w
 
 -- a step of its own, or another's
 -- one step first
-stepped_goes : (r : Request) (l : ℕ) (steps : List Step) (playlist : List Placed) (o : Option Watch) →
+stepped_goes : (r : Request) (l : ℕ) (steps : List Step) (playlist : List PlacedPacket) (o : Option Watch) →
     option_map (goes l steps playlist) (option_map (stepped r) o) ≡ option_map (λ w. all_stepped (r ∷ own (seen_by w.listener) l steps playlist) w) o
 unfolding stepped
 stepped_goes r l steps playlist None = refl
 stepped_goes r l steps playlist (Some w) = refl
 
-one_goes : (k l : ℕ) (r : Request) (ws : List Watch) (steps : List Step) (playlist : List Placed) (b : Bool) → eqb k l ≡ b → (o : Option Watch) → slice_get ws l ≡ o →
+one_goes : (k l : ℕ) (r : Request) (ws : List Watch) (steps : List Step) (playlist : List PlacedPacket) (b : Bool) → eqb k l ≡ b → (o : Option Watch) → slice_get ws l ≡ o →
     option_map (goes l steps playlist) (slice_get (one_stepped k r ws) l) ≡ option_map (λ w. all_stepped (cond b (r ∷ []) [] ++ own (seen_by w.listener) l steps playlist) w) o
 unfolding stepped
 one_goes k l r ws steps playlist true e o is =
@@ -53,17 +53,17 @@ one_goes k l r ws steps playlist false e o is =
     let other : slice_get (one_stepped k r ws) l ≡ o = one_other k l r ws (λ same. false≢true (sym e ∙ eq-eqb k l same)) ∙ is in
     ap (option_map (goes l steps playlist)) other
 
-arrived_goes : (p : Placed) (l : ℕ) (steps : List Step) (playlist : List Placed) (o : Option Watch) →
+arrived_goes : (p : PlacedPacket) (l : ℕ) (steps : List Step) (playlist : List PlacedPacket) (o : Option Watch) →
     option_map (goes l steps playlist) (option_map (arrived_at p) o) ≡ option_map (goes l (Arrive ∷ steps) (p ∷ playlist)) o
 unfolding stepped
 arrived_goes p l steps playlist None = refl
 arrived_goes p l steps playlist (Some w) = refl
 
-none_goes : (l : ℕ) (playlist : List Placed) (o : Option Watch) → o ≡ option_map (goes l [] playlist) o
+none_goes : (l : ℕ) (playlist : List PlacedPacket) (o : Option Watch) → o ≡ option_map (goes l [] playlist) o
 none_goes l playlist None = refl
 none_goes l playlist (Some w) = refl
 
-pub played_own : (steps : List Step) (playlist : List Placed) (ws : List Watch) (l : ℕ) →
+pub played_own : (steps : List Step) (playlist : List PlacedPacket) (ws : List Watch) (l : ℕ) →
     slice_get (played steps playlist ws) l ≡ option_map (goes l steps playlist) (slice_get ws l)
 played_own [] playlist ws l = none_goes l playlist (slice_get ws l)
 played_own (Arrive ∷ steps) [] ws l = played_own steps [] ws l

@@ -13,11 +13,11 @@ use Rattle.tap_steps.specs.declared.fault.PlaylistFault.{PlaylistFault}
 use Rattle.tap_steps.specs.declared.fault.PlaylistFault.TheVariants as faults
 use Rattle.std.proofs.lemmas.Bool.{false≢true}
 use Rattle.tap_steps.specs.Watching.{AllPackets}
-use Rattle.tap_steps.specs.declared.playlist.Placed.{Placed}
+use Rattle.tap_steps.specs.declared.playlist.PlacedPacket.{PlacedPacket}
 
 pub placed-push : (n place : ℕ) (ps : List Packet) (p : Packet) → placed n place (ps ++ p ∷ []) ≡ placed n place ps ++ record { capture = n; place = place + length ps; packet = p } ∷ []
 placed-push n place [] p = (λ i. record { capture = n; place = (let e : place ≡ place + 0 = omega arith in e) i; packet = p } ∷ [])
-placed-push n place (q ∷ ps) p = ap (λ (l : List Placed). record { capture = n; place = place; packet = q } ∷ l)
+placed-push n place (q ∷ ps) p = ap (λ (l : List PlacedPacket). record { capture = n; place = place; packet = q } ∷ l)
     (placed-push n (place + 1) ps p ∙ ap (λ (k : ℕ). placed n (place + 1) ps ++ record { capture = n; place = k; packet = p } ∷ []) (let e : (place + 1) + length ps ≡ place + length (q ∷ ps) = omega arith in e))
 
 -- what holds at each place holds of each byte
@@ -31,7 +31,7 @@ next_last : (n : ℕ) (text : List ℕ) (packets : List Packet) (fault : Option 
 next_last n text packets None r = inl (packets, [], r, sym (append-nil (placed n 0 packets)), (refl, refl))
 next_last n text packets (Some fault) r = inr (packets, fault, r, refl, refl)
 
-pub playlist-push : (n : ℕ) (texts : List (List ℕ)) (list : List Placed) (text : List ℕ) (packets : List Packet) (fault : Option Fault) (m : ℕ) → m ≡ n + length texts →
+pub playlist-push : (n : ℕ) (texts : List (List ℕ)) (list : List PlacedPacket) (text : List ℕ) (packets : List Packet) (fault : Option Fault) (m : ℕ) → m ≡ n + length texts →
     IsPlaylist n texts list None → IsCapture text packets fault →
     IsPlaylist n (texts ++ text ∷ []) (list ++ placed m 0 packets) (option_map (λ f. (m, f)) fault)
 playlist-push n [] list text packets fault m is p reading = rw (p.0, (let e : m ≡ n = omega arith in e)) (next_last n text packets fault reading)
@@ -40,13 +40,13 @@ playlist-push n (t ∷ texts) list text packets fault m is (inl (ps, more, reads
       ps,
       more ++ placed m 0 packets,
       reads,
-      ap (λ (l : List Placed). l ++ placed m 0 packets) e ∙ append_assoc (placed n 0 ps) more (placed m 0 packets),
+      ap (λ (l : List PlacedPacket). l ++ placed m 0 packets) e ∙ append_assoc (placed n 0 ps) more (placed m 0 packets),
       playlist-push (n + 1) texts more text packets fault m (omega arith) rest reading,
     )
 playlist-push n (t ∷ texts) list text packets fault m is (inr (ps, f, reads, e, record_fault)) reading = absurd (cc)
 
 -- one before has a record fault
-pub playlist-ended : (n : ℕ) (texts : List (List ℕ)) (list : List Placed) (record_fault : Option (ℕ × Fault)) (t : ℕ × Fault) (text : List ℕ) → record_fault ≡ Some t →
+pub playlist-ended : (n : ℕ) (texts : List (List ℕ)) (list : List PlacedPacket) (record_fault : Option (ℕ × Fault)) (t : ℕ × Fault) (text : List ℕ) → record_fault ≡ Some t →
     IsPlaylist n texts list record_fault → IsPlaylist n (texts ++ text ∷ []) list record_fault
 playlist-ended n [] list record_fault t text is p = absurd (let e : Some t ≡ None = sym is ∙ p.1 in cc)
 playlist-ended n (s ∷ texts) list record_fault t text is (inl (ps, more, reads, e, rest)) = inl (ps, more, reads, e, playlist-ended (n + 1) texts more record_fault t text is rest)
@@ -56,11 +56,11 @@ pub stand-push : (texts : List (List ℕ)) (text : List ℕ) → NoHeaderIsRefus
 stand-push [] text h s = (s, tt)
 stand-push (t ∷ texts) text h s = (h.0, stand-push texts text h.1 s)
 
-pub packets-push : (ps : List Placed) (p : Placed) → AllPackets ps → AllByRecursion (λ byte. byte < 256) p.packet.bytes → AllPackets (ps ++ p ∷ [])
+pub packets-push : (ps : List PlacedPacket) (p : PlacedPacket) → AllPackets ps → AllByRecursion (λ byte. byte < 256) p.packet.bytes → AllPackets (ps ++ p ∷ [])
 packets-push [] p h i = (i, tt)
 packets-push (q ∷ ps) p h i = (h.0, packets-push ps p h.1 i)
 
-pub playlist-ended-by : (n : ℕ) (texts : List (List ℕ)) (list : List Placed) (record_fault : Option (ℕ × Fault)) (text : List ℕ) → is_some record_fault ≡ true →
+pub playlist-ended-by : (n : ℕ) (texts : List (List ℕ)) (list : List PlacedPacket) (record_fault : Option (ℕ × Fault)) (text : List ℕ) → is_some record_fault ≡ true →
     IsPlaylist n texts list record_fault → IsPlaylist n (texts ++ text ∷ []) list record_fault
 playlist-ended-by n texts list None text is p = absurd (false≢true is)
 playlist-ended-by n texts list (Some t) text is p = playlist-ended n texts list (Some t) t text refl p

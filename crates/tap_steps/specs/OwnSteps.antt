@@ -4,17 +4,17 @@ use Rattle.listener.specs.declared.message.Message.{Message}
 use Rattle.listener.specs.Messages.{Arrival, arrival}
 use Rattle.listener.specs.PlainList.{Request}
 use Rattle.listener.specs.PlainList as P
-use Rattle.tap_steps.specs.declared.playlist.Placed.{Placed}
+use Rattle.tap_steps.specs.declared.playlist.PlacedPacket.{PlacedPacket}
 use Rattle.tap_steps.specs.declared.step.Step.{Step}
 use Rattle.tap_steps.specs.declared.step.Step.TheVariants.{Arrive, Flush, Read, Close}
 
 -- a packet of the playlist as it arrives
-abbrev pub arrival_of : Placed → Arrival
+abbrev pub arrival_of : PlacedPacket → Arrival
 arrival_of p = arrival p.capture p.place p.packet
 
 -- The steps of the listener of this number: all Arrives that take a packet, and its own Flush, Read and Close.
 -- `keeps` says what its filter keeps of an arrival. An Arrive takes the next packet, and past the last one none.
-abbrev pub own : (Arrival → Option Message) → ℕ → List Step → List Placed → List Request
+abbrev pub own : (Arrival → Option Message) → ℕ → List Step → List PlacedPacket → List Request
 own keeps l [] playlist = []
 own keeps l (Arrive ∷ steps) [] = own keeps l steps []
 own keeps l (Arrive ∷ steps) (p ∷ playlist) = P.Arrive (keeps (arrival_of p)) ∷ own keeps l steps playlist

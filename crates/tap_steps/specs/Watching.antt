@@ -6,7 +6,7 @@ use Rattle.listener.specs.Listening.{Listening, listening, seen_by}
 use Rattle.listener.specs.PlainList.{Request, Event, answer, next, batch_in}
 use Rattle.listener.specs.PlainList as P
 use Rattle.tap_steps.specs.declared.answer.Answered.{Answered}
-use Rattle.tap_steps.specs.declared.playlist.Placed.{Placed}
+use Rattle.tap_steps.specs.declared.playlist.PlacedPacket.{PlacedPacket}
 use Rattle.tap_steps.specs.declared.report.Report.{Report}
 use Rattle.tap_steps.specs.declared.step.Step.{Step}
 use Rattle.tap_steps.specs.declared.step.Step.TheVariants.{Arrive, Flush, Read, Close}
@@ -37,7 +37,7 @@ unfoldable pub stepped : Request → Watch → Watch
 stepped r w = after (answer w.listener.terms w.listener.list r) w
 
 -- after an arrival
-abbrev pub arrived_at : Placed → Watch → Watch
+abbrev pub arrived_at : PlacedPacket → Watch → Watch
 arrived_at p w = stepped (P.Arrive (seen_by w.listener (arrival_of p))) w
 
 -- after a step of one listener
@@ -47,7 +47,7 @@ one_stepped zero r (w ∷ ws) = stepped r w ∷ ws
 one_stepped (suc l) r (w ∷ ws) = w ∷ one_stepped l r ws
 
 -- after all steps
-abbrev pub played : List Step → List Placed → List Watch → List Watch
+abbrev pub played : List Step → List PlacedPacket → List Watch → List Watch
 played [] playlist ws = ws
 played (Arrive ∷ steps) [] ws = played steps [] ws
 played (Arrive ∷ steps) (p ∷ playlist) ws = played steps playlist (map (arrived_at p) ws)
@@ -82,6 +82,6 @@ abbrev pub no_answers : Bool → Option (List Answered)
 no_answers traced = if traced then Some [] else None
 
 -- each packet's data are bytes
-abbrev pub AllPackets : List Placed → Type 0
+abbrev pub AllPackets : List PlacedPacket → Type 0
 AllPackets [] = Unit {0}
 AllPackets (p ∷ ps) = AllByRecursion (λ byte. byte < 256) p.packet.bytes × AllPackets ps

@@ -6,7 +6,7 @@ ghost use Rattle.tap_steps.specs.OwnSteps.{Names, AllName, FirstMissing};
 ghost use Rattle.tap_steps.specs.Watching.{played, one_stepped, arrived_at, CountsFit};
 ghost use Rattle.tap_steps.specs.declared.step.Step.{Step};
 
-use crate::playlist::Placed;
+use crate::playlist::PlacedPacket;
 use crate::step::Step;
 use crate::watched::Watched;
 use std::alloc::{AllocError, Global};
@@ -21,7 +21,7 @@ fn names(step: Step, listeners: usize) -> bool
 }
 
 /// The first step that names a listener that there is not.
-pub fn first_missing(steps: &[Step], listeners: usize) -> Option<usize>
+pub fn first_without_listener(steps: &[Step], listeners: usize) -> Option<usize>
     ensures { MatchOption result (AllName listeners steps.now) (FirstMissing listeners steps.now) }
 {
     for (place, step) in steps.iter().enumerate() {
@@ -33,7 +33,7 @@ pub fn first_missing(steps: &[Step], listeners: usize) -> Option<usize>
 }
 
 /// A packet arrives at each listener.
-fn arrive_all(watched: &mut Vec<Watched>, placed: &Placed) -> Result<(), AllocError>
+fn arrive_all(watched: &mut Vec<Watched>, placed: &PlacedPacket) -> Result<(), AllocError>
     requires { CountsFit 1 watched.old.items }
     ensures { OnOk result (watched.new.items ≡ map (arrived_at placed.now) watched.old.items) }
 {
@@ -72,8 +72,8 @@ fn play_step<'a>(
     alloc: Global,
     watched: &mut Vec<Watched>,
     step: Step,
-    rest: &'a [Placed],
-) -> Result<&'a [Placed], AllocError>
+    rest: &'a [PlacedPacket],
+) -> Result<&'a [PlacedPacket], AllocError>
     requires names { Names (length watched.old.items) step }
     requires fit { CountsFit (length rest.now) watched.old.items }
     ensures ok { IfOk result (λ left. (later : List Step) → played (step ∷ later) rest.now watched.old.items ≡ played later left.now watched.new.items) }
@@ -108,7 +108,7 @@ pub fn play(
     alloc: Global,
     watched: &mut Vec<Watched>,
     steps: &[Step],
-    playlist: &[Placed],
+    playlist: &[PlacedPacket],
 ) -> Result<(), AllocError>
     requires names { All (Names (length watched.old.items)) steps.now }
     requires fit { CountsFit (length playlist.now) watched.old.items }

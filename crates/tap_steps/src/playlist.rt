@@ -13,7 +13,7 @@ use std::alloc::{AllocError, Global};
 
 /// A packet with the number of its capture and its place there, both from 0.
 #[derive(Debug, Drop)]
-pub struct Placed {
+pub struct PlacedPacket {
     pub capture: u32,
     pub place: u64,
     pub packet: Packet,
@@ -22,7 +22,7 @@ pub struct Placed {
 /// The packets of captures, and the record fault that ended them, with the number of its capture.
 #[derive(Debug, Drop)]
 pub struct Playlist {
-    pub arrivals: Vec<Placed>,
+    pub arrivals: Vec<PlacedPacket>,
     pub record_fault: Option<(u32, savefile::Fault)>,
 }
 
@@ -55,14 +55,14 @@ fn record_fault_at(n: u32, fault: Option<savefile::Fault>) -> Option<(u32, savef
 }
 
 /// Packets with their places, behind what is there.
-fn place(to: &mut Vec<Placed>, capture: u32, packets: Vec<Packet>) -> Result<(), AllocError>
+fn place(to: &mut Vec<PlacedPacket>, capture: u32, packets: Vec<Packet>) -> Result<(), AllocError>
     ensures items { OnOk result (to.new.items ≡ to.old.items ++ placed capture 0 packets.items) }
     ensures packets { OnOk result (AllPackets to.old.items → AllPackets to.new.items) }
 {
     let mut place = 0;
     for packet in packets {
         are_bytes(packet.bytes.as_slice());
-        to.push(Placed {
+        to.push(PlacedPacket {
             capture,
             place,
             packet,

@@ -1,7 +1,7 @@
 //! What a replay tells.
 
 use crate::answer::Answered;
-use crate::playlist::Placed;
+use crate::playlist::PlacedPacket;
 use filter_tree::Expr;
 use listener::Message;
 
@@ -31,7 +31,7 @@ pub struct Trace {
     /// For each listener the expression that its filter reads as. A program has none.
     pub expressions: Vec<Option<Expr>>,
     /// The packets of the captures, in order: the first arrival takes the first, and so on.
-    pub playlist: Vec<Placed>,
+    pub playlist: Vec<PlacedPacket>,
     /// The first capture that ended with a record fault, and that fault.
     pub record_fault: Option<(u32, savefile::Fault)>,
 }

@@ -11,7 +11,7 @@ ghost use Rattle.tap_steps.specs.Watching.{watch, stepped, arrived_at, with_answ
 ghost use Rattle.tap_steps.specs.declared.answer.Answered.{Answered};
 
 use crate::answer::{Answer, Answered};
-use crate::playlist::Placed;
+use crate::playlist::PlacedPacket;
 use crate::report::Report;
 use listener::{Buffer, Listener, Message, Read};
 use savefile::PacketRef;
@@ -65,7 +65,7 @@ impl Before {
     }
 
     /// The answer to a step, of an arrival with the bytes of its record.
-    fn answered(self, size: usize, answer: Answer) -> Answered
+    fn answer_of(self, size: usize, answer: Answer) -> Answered
         ensures { result ≡ record { closed = self.closed; load = self.load; in_hold = self.in_hold; size = size; answer = answer } }
     {
         Answered {
@@ -104,7 +104,7 @@ impl Watched {
     }
 
     /// The bytes of the record that a packet takes, or would take. Nothing is asked where answers are not followed.
-    fn size_told(&self, packet: &PacketRef<'_>) -> usize
+    fn followed_size(&self, packet: &PacketRef<'_>) -> usize
         ensures { (followed : List Answered) → self.now.answers ≡ Some followed → (capture place : ℕ) →
             result ≡ size_kept (seen_by self.now.listener (arrival capture place packet.now)) }
     {
@@ -115,18 +115,18 @@ impl Watched {
     }
 
     /// A packet arrives.
-    pub fn arrive(&mut self, placed: &Placed) -> Result<(), AllocError>
+    pub fn arrive(&mut self, placed: &PlacedPacket) -> Result<(), AllocError>
         requires { self.old.listener.list.received < 2 ^ 64 - 1 }
         ensures { OnOk result (self.new ≡ arrived_at placed.now self.old) }
     {
         listener::laws::answers();
         let before = Before::of(&self.listener, self.closed);
         let packet = placed.packet.as_ref();
-        let size = self.size_told(&packet);
+        let size = self.followed_size(&packet);
         let fed = self.listener.arrive(placed.capture, placed.place, &packet);
         follow(
             &mut self.answers,
-            before.answered(size, Answer::Arrived(fed)),
+            before.answer_of(size, Answer::Arrived(fed)),
         )?;
         Ok(())
     }
@@ -137,7 +137,10 @@ impl Watched {
         listener::laws::answers();
         let before = Before::of(&self.listener, self.closed);
         let full = self.listener.flush();
-        follow(&mut self.answers, before.answered(0, Answer::Flushed(full)))?;
+        follow(
+            &mut self.answers,
+            before.answer_of(0, Answer::Flushed(full)),
+        )?;
         Ok(())
     }
 
@@ -148,7 +151,7 @@ impl Watched {
         let before = Before::of(&self.listener, self.closed);
         self.listener.close();
         self.closed = true;
-        follow(&mut self.answers, before.answered(0, Answer::Closed))?;
+        follow(&mut self.answers, before.answer_of(0, Answer::Closed))?;
         Ok(())
     }
 
@@ -180,12 +183,12 @@ impl Watched {
                 self.batches.push(batch)?;
                 full.clear();
                 self.spare = Some(full);
-                follow(&mut self.answers, before.answered(0, Answer::Read(true)))?;
+                follow(&mut self.answers, before.answer_of(0, Answer::Read(true)))?;
                 return Ok(());
             }
             Read::Nothing(empty) => {
                 self.spare = Some(empty);
-                follow(&mut self.answers, before.answered(0, Answer::Read(false)))?;
+                follow(&mut self.answers, before.answer_of(0, Answer::Read(false)))?;
                 return Ok(());
             }
         }

@@ -1,7 +1,7 @@
 //! The caller that the page of `cli_explain` shows, crates/cli_explain/README.md.
 
 use crate::same::same;
-use cli_explain::each::{Counts, explain_each};
+use cli_explain::each::{VerdictCounts, explain_each};
 use cli_explain::filter::of_expression;
 use filtergen::ExpressionFault;
 use std::alloc::Global;
@@ -12,7 +12,7 @@ pub fn explained(
     capture: &[u8],
     expr: &str,
     told: &mut Vec<u8>,
-) -> Result<Counts, ExpressionFault> {
+) -> Result<VerdictCounts, ExpressionFault> {
     let filter = of_expression(alloc, expr, 262_144)?;
     Ok(explain_each(alloc, capture, &filter, told).counts)
 }
@@ -31,7 +31,7 @@ place 1 time 2.000000000 len 14 captured 14 Abort not tcp, byte 23 is not captur
 fn a_cut_frame_aborts(rt: HostRuntime) {
     let mut told: Vec<u8> = Vec::new(rt.alloc());
     let counts = explained(rt.alloc(), CAPTURE, "not tcp", &mut told).expect(&rt, "an expression");
-    let wanted = Counts {
+    let wanted = VerdictCounts {
         packets: 2,
         yes: 1,
         no: 0,

@@ -2,8 +2,8 @@
 
 use crate::same::same;
 use clap::Error;
-use cli_args::telling::tell_words_fault;
-use cli_files::reading::tell_io;
+use cli_args::report::report_words_fault;
+use cli_files::reading::report_io;
 use std::alloc::AllocError;
 use std::io;
 use std::io::ErrorKind;
@@ -12,7 +12,7 @@ use std::process::Abort;
 /// What is told of a path that can't be read, and the status.
 fn is_told(rt: &(impl Abort + AllocGlobal), kind: ErrorKind, path: &str, line: &str, status: u8) {
     let mut err: Vec<u8> = Vec::new(rt.alloc());
-    let found = tell_io(&io::Error::from(kind), path, &mut err);
+    let found = report_io(&io::Error::from(kind), path, &mut err);
     same(rt, (err.as_slice(), found), (line.as_bytes(), status));
 }
 
@@ -31,7 +31,7 @@ fn want_of_memory_is_told_by_its_name(rt: HostRuntime) {
 fn want_of_memory_for_the_words_is_told_by_its_name(rt: HostRuntime) {
     let mut out: Vec<u8> = Vec::new(rt.alloc());
     let mut err: Vec<u8> = Vec::new(rt.alloc());
-    let status = tell_words_fault(&Error::from(AllocError), &mut out, &mut err);
+    let status = report_words_fault(&Error::from(AllocError), &mut out, &mut err);
     same(
         &rt,
         (err.as_slice(), status),

@@ -2,8 +2,8 @@
 
 use crate::same::same;
 use crate::system::{NONE, System, TORN, Table};
-use cli_files::late::{LateFile, LateInput, hold_stream};
-use cli_files::paths::all_apart;
+use cli_files::late::{LateFile, LateInput, reserve_std_fd};
+use cli_files::paths::refuse_shared_files;
 use std::fs::Files;
 use std::io::{Read, Write};
 use std::process::Abort;
@@ -11,9 +11,9 @@ use std::sync::atomic::Ordering::SeqCst;
 
 /// Holds the standard streams of a system, makes OUT, and looks where it went.
 fn make_beside<R: Files>(rt: &impl Abort, system: &R, table: &Table) {
-    let _input = hold_stream(system);
-    let _output = hold_stream(system);
-    let _error = hold_stream(system);
+    let _input = reserve_std_fd(system);
+    let _output = reserve_std_fd(system);
+    let _error = reserve_std_fd(system);
     let mut file = LateFile::new(system, "out.pcap");
     same(rt, file.write(b"a").ok(), Some(1));
     let output = table.output.load(SeqCst);
@@ -59,7 +59,7 @@ fn ends_untold(rt: &(impl Abort + AllocGlobal), table: &Table) {
     let system = (System { table }, rt.alloc());
     let mut err: Vec<u8> = Vec::new(rt.alloc());
     let read = ["all.bpf", "in.pcap"];
-    let ended = all_apart(&system, None, &read, &["out.pcap"], &mut err);
+    let ended = refuse_shared_files(&system, None, &read, &["out.pcap"], &mut err);
     let line = b"bpftap: Device all.bpf\n";
     same(rt, (ended, err.as_slice()), (Err(3), line.as_slice()));
 }

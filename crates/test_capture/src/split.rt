@@ -65,7 +65,7 @@ fn split_to<'a>(
     rt: &(impl Abort + AllocGlobal),
     texts: &[&'a [u8]],
     breaks: bool,
-    parts: Parts,
+    parts: TestParts,
 ) -> Split<'a> {
     let captures = sources(rt, texts, breaks);
     split(rt.alloc(), captures, parts, Order::Little, Unit::Micro).expect(rt, "memory")
@@ -138,11 +138,11 @@ fn check_tally(
     same_in(rt, what, (part.tally.written, part.tally.read), of);
 }
 
-type Parts = Vec<Part<Counted<BreakingWriter>>>;
+type TestParts = Vec<Part<Counted<BreakingWriter>>>;
 
 fn push_part(
     rt: &(impl Abort + AllocGlobal),
-    parts: &mut Parts,
+    parts: &mut TestParts,
     expr: &str,
     snap: u32,
     room: usize,
@@ -151,7 +151,7 @@ fn push_part(
 }
 
 /// Three parts: TCP, UDP of which 20 bytes are kept, and all.
-fn three_parts(rt: &(impl Abort + AllocGlobal), room: usize) -> Parts {
+fn three_parts(rt: &(impl Abort + AllocGlobal), room: usize) -> TestParts {
     let mut parts = Vec::new(rt.alloc());
     push_part(rt, &mut parts, "tcp", 0, room);
     push_part(rt, &mut parts, "udp", 20, ROOM);

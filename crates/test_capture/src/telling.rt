@@ -4,19 +4,19 @@ use crate::same::same;
 use cli_cut::print::check;
 use cli_cut::report::report_print;
 use cli_text::Status;
-use cli_text::telling::{tell_device, tell_fault, tell_words};
+use cli_text::report::{report_device, report_fault, report_words};
 use std::io;
 use std::io::{ErrorKind, Write};
 use std::process::Abort;
 
 /// A writer that has room for so many bytes, then breaks, and counts its calls.
 #[derive(Drop)]
-struct Counting {
+struct BreakingCounter {
     room: usize,
     calls: usize,
 }
 
-impl Write for Counting {
+impl Write for BreakingCounter {
     fn write(&mut self, buf: &[u8]) -> io::Result<usize> {
         self.calls = self.calls.saturating_add(1);
         let n = self.room.min(buf.len());
@@ -35,7 +35,7 @@ impl Write for Counting {
 /// A writer of so much room leaves the status, and nothing is printed.
 fn leaves_the_status(rt: &(impl Abort + AllocGlobal), room: usize) {
     let mut out: Vec<u8> = Vec::new(rt.alloc());
-    let mut err = Counting { room, calls: 0 };
+    let mut err = BreakingCounter { room, calls: 0 };
     let checked = check(rt.alloc(), "tcp and 80", &mut out);
     same(
         rt,
@@ -53,17 +53,17 @@ fn a_line_that_is_not_taken_leaves_the_status(rt: HostRuntime) {
 
 /// Three lines go out in three writes, of which the last tells a path.
 fn go_out(rt: &impl Abort, path: &str) {
-    let mut err = Counting {
+    let mut err = BreakingCounter {
         room: 1024,
         calls: 0,
     };
     same(
         rt,
-        tell_fault("TornRecord 1", Status::Damaged, &mut err),
+        report_fault("TornRecord 1", Status::Damaged, &mut err),
         Status::Damaged,
     );
-    same(rt, tell_device("in.pcap", &mut err), Status::Failed);
-    same(rt, tell_device(path, &mut err), Status::Failed);
+    same(rt, report_device("in.pcap", &mut err), Status::Failed);
+    same(rt, report_device(path, &mut err), Status::Failed);
     same(rt, err.calls, 3);
 }
 
@@ -78,6 +78,6 @@ fn a_line_goes_out_in_one_write(rt: HostRuntime) {
 fn words_that_cannot_be_taken_are_told(rt: HostRuntime) {
     let mut err: Vec<u8> = Vec::new(rt.alloc());
     let refused = io::Error::from(ErrorKind::OutOfMemory);
-    same(&rt, tell_words(refused, &mut err), Status::Refused);
+    same(&rt, report_words(refused, &mut err), Status::Refused);
     same(&rt, err.as_slice(), b"bpftap: NoMemory\n".as_slice());
 }

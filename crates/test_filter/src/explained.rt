@@ -2,7 +2,7 @@
 
 use crate::same::same;
 use bpfvm::NoMemory;
-use filter_explain::{Cause, explain};
+use filter_explain::{AbortCause, explain};
 use filterlang::{Expr, parse};
 use std::alloc::Global;
 use std::process::Abort;
@@ -17,7 +17,7 @@ pub fn wanted(
     let asked = explain(alloc, expr, packet, wire)?;
     match asked.last() {
         Some(last) => match last.cause {
-            Some(Cause::NotCaptured(place)) => Ok(Some(place)),
+            Some(AbortCause::NotCaptured(place)) => Ok(Some(place)),
             _ => Ok(None),
         },
         None => Ok(None),

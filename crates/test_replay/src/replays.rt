@@ -138,7 +138,7 @@ fn up_to(end: usize, recorded: Recorded<'_>) -> Recorded<'_> {
 }
 
 /// The source of a capture.
-fn source_for(alloc: Global, recorded: Recorded<'_>) -> Result<Source, AllocError> {
+fn source_for(alloc: Global, recorded: Recorded<'_>) -> Result<TapeSource, AllocError> {
     let mut source = source_of(capture(alloc, recorded.sec, recorded.frames)?);
     source.inner.end = recorded.end;
     source.inner.fails = recorded.fails;
@@ -146,7 +146,7 @@ fn source_for(alloc: Global, recorded: Recorded<'_>) -> Result<Source, AllocErro
 }
 
 /// The sources of captures.
-fn sources_for(alloc: Global, captures: &[Recorded<'_>]) -> Result<Vec<Source>, AllocError> {
+fn sources_for(alloc: Global, captures: &[Recorded<'_>]) -> Result<Vec<TapeSource>, AllocError> {
     let mut sources = Vec::new(alloc);
     for recorded in captures {
         sources.push(source_for(alloc, *recorded)?)?;
@@ -234,15 +234,15 @@ fn told<W: Drop>(alloc: Global, report: &ListenerReport<W>) -> Result<String, Al
     )
 }
 
-type Source = Counted<Tape>;
+type TapeSource = Counted<Tape>;
 
-type Sink = Counted<Paper>;
+type PaperSink = Counted<Paper>;
 
 /// Replays one interface, and gives its report.
 fn replay_one(
     rt: &(impl Abort + AllocGlobal + Threads + Wait + Sync),
-    interface: Interface<Source, Sink>,
-) -> Result<InterfaceReport<Source, Sink>, Fail> {
+    interface: Interface<TapeSource, PaperSink>,
+) -> Result<InterfaceReport<TapeSource, PaperSink>, Fail> {
     let interfaces = vec![in rt.alloc(); interface]?;
     let mut reports = run(rt, rt.alloc(), interfaces, &Open)?;
     same(rt, reports.len(), 1);
@@ -252,7 +252,7 @@ fn replay_one(
 /// Tests what is told of a task, and the bytes of its savefile.
 fn serves(
     rt: &(impl Abort + AllocGlobal),
-    report: &ListenerReport<Sink>,
+    report: &ListenerReport<PaperSink>,
     want: &str,
     bytes: &[u8],
 ) {

@@ -169,10 +169,10 @@ fn four_packets_rotate_and_drop(rt: HostRuntime) {
 }
 
 /// What a replay answers.
-type Answered = Result<(Vec<Report>, Option<(u32, savefile::Fault)>), Fault>;
+type ReplayAnswer = Result<(Vec<Report>, Option<(u32, savefile::Fault)>), Fault>;
 
 /// Both calls tell the same of one listener.
-fn are_alike(rt: &(impl Abort + AllocGlobal), plain: &Answered, trace: &Result<Trace, Fault>) {
+fn are_alike(rt: &(impl Abort + AllocGlobal), plain: &ReplayAnswer, trace: &Result<Trace, Fault>) {
     match (plain, trace) {
         (Ok((reports, torn)), Ok(trace)) => {
             let plain = at(rt, reports.as_slice(), 0);
@@ -331,7 +331,7 @@ fn a_bad_snapshot_length_is_told_of_an_expression_and_of_a_program(rt: HostRunti
 }
 
 /// A replay was refused so.
-fn is_refused(rt: &impl Abort, answer: Answered, want: Fault) {
+fn is_refused(rt: &impl Abort, answer: ReplayAnswer, want: Fault) {
     match answer {
         Ok(_) => assert!(rt; false, "it was not refused"),
         Err(fault) => same(rt, fault, want),
@@ -345,7 +345,7 @@ fn replay_many(
     captures: usize,
     text: &[u8],
     step: Step,
-) -> Answered {
+) -> ReplayAnswer {
     let mut specs = Vec::new(rt.alloc());
     for _ in 0..listeners {
         specs
@@ -374,12 +374,12 @@ fn are_too_many(rt: &(impl Abort + AllocGlobal), listeners: u32, captures: usize
 }
 
 /// A replay was not refused.
-fn is_taken(rt: &impl Abort, answer: Answered) {
+fn is_taken(rt: &impl Abort, answer: ReplayAnswer) {
     assert!(rt; answer.is_ok());
 }
 
 /// A replay was not refused, and its first capture is torn in its first record.
-fn is_torn(rt: &impl Abort, answer: Answered) {
+fn is_torn(rt: &impl Abort, answer: ReplayAnswer) {
     let (_reports, fault) = answer.expect(rt, "a report");
     same(rt, fault, Some((0, savefile::Fault::TornRecord(0))));
 }

@@ -150,7 +150,7 @@ fn ample_lines(rt: &(impl Abort + AllocGlobal), listeners: usize) -> String {
 
 /// What was told, the status, and what each sink took.
 #[derive(Drop)]
-struct Broken {
+struct BrokenRun {
     told: String,
     status: u8,
     written: Vec<Vec<u8>>,
@@ -172,7 +172,7 @@ fn broken_by<R: Abort + AllocGlobal + Threads + Wait + Sync>(
     listeners: &[u8],
     rooms: &[usize],
     out: &mut impl Write,
-) -> Broken {
+) -> BrokenRun {
     let alloc = rt.alloc();
     let mut err: Vec<u8> = Vec::new(alloc);
     let mut rooms = rooms.iter();
@@ -183,7 +183,7 @@ fn broken_by<R: Abort + AllocGlobal + Threads + Wait + Sync>(
         })
     };
     let (status, sinks) = run(rt, alloc, listeners, interfaces, make, out, &mut err);
-    Broken {
+    BrokenRun {
         told: String::from_utf8(err).expect(rt, "standard error is text"),
         status,
         written: taken_by(rt, sinks),
@@ -196,14 +196,14 @@ fn run_broken<R: Abort + AllocGlobal + Threads + Wait + Sync>(
     sources: &[(&[u8], bool)],
     rooms: &[usize],
     out: &mut impl Write,
-) -> Broken {
+) -> BrokenRun {
     let interfaces = in_pieces(rt, sources);
     let listeners = ample_lines(rt, rooms.len());
     broken_by(rt, interfaces, listeners.as_bytes(), rooms, out)
 }
 
 /// This was told, with this status.
-fn told(rt: &impl Abort, broken: &Broken, line: &str, status: u8) {
+fn told(rt: &impl Abort, broken: &BrokenRun, line: &str, status: u8) {
     same(rt, (broken.told.as_str(), broken.status), (line, status));
 }
 

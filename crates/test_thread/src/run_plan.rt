@@ -25,14 +25,14 @@ const MAX_TURNS: u32 = 20_000;
 
 /// Gives a capture, and ends once as many bytes were written, or it waited in vain.
 #[derive(Drop)]
-struct Patient<'a, R> {
+struct PatientCapture<'a, R> {
     rt: &'a R,
     left: &'a [u8],
     written: &'a AtomicU64,
     wanted: u64,
 }
 
-impl<R: Clock> Read for Patient<'_, R> {
+impl<R: Clock> Read for PatientCapture<'_, R> {
     fn read(&mut self, to: &mut [u8]) -> io::Result<usize> {
         let n = self.left.len().min(to.len());
         let (given, rest) = self.left.split_at(n);
@@ -50,11 +50,11 @@ impl<R: Clock> Read for Patient<'_, R> {
 
 /// Takes everything, and counts the bytes.
 #[derive(Drop)]
-struct Counting<'a> {
+struct ByteCounter<'a> {
     written: &'a AtomicU64,
 }
 
-impl Write for Counting<'_> {
+impl Write for ByteCounter<'_> {
     fn write(&mut self, from: &[u8]) -> io::Result<usize> {
         self.written.fetch_add(from.len() as u64, SeqCst);
         Ok(from.len())
@@ -70,9 +70,9 @@ fn one_patient<'a, T: Abort + AllocGlobal>(
     rt: &'a T,
     text: &'a [u8],
     written: &'a AtomicU64,
-) -> Vec<Vec<Counted<Patient<'a, T>>>> {
+) -> Vec<Vec<Counted<PatientCapture<'a, T>>>> {
     let mut sources = Vec::new(rt.alloc());
-    let source = Patient {
+    let source = PatientCapture {
         rt,
         left: text,
         written,
@@ -93,7 +93,7 @@ fn status_of(
     let written = AtomicU64::new(0);
     let text = concat(alloc, &[HEADER, TCP]).expect(rt, "memory");
     let captures = one_patient(rt, text.as_slice(), &written);
-    let make = |_: &str| Counted::new(Counting { written: &written });
+    let make = |_: &str| Counted::new(ByteCounter { written: &written });
     let mut out: Vec<u8> = Vec::new(alloc);
     let mut err: Vec<u8> = Vec::new(alloc);
     let (status, _) = run(rt, alloc, listeners, captures, make, &mut out, &mut err);

@@ -6,7 +6,7 @@ ghost use Rattle.filter_tree.specs.Trees.{amount_of};
 ghost use Rattle.filter_meaning.specs.Meaning.{packet_of, bytes_of, behind_header, accessed, value, in_layer, in_layers, compared, check_both, relation_test};
 
 use super::{byte_at, half_at, is_first_fragment_of, is_type, word_at};
-use crate::arithmetic::calculated;
+use crate::arithmetic::calculate;
 use crate::headers::{ARP, IP, RARP};
 use crate::verdict::Verdict;
 use filter_tree::{Comparison, Layer, Size, Value};
@@ -33,7 +33,7 @@ fn behind_header(packet: &[u8], wire: u32, index: u32, size: Size) -> Option<u32
 }
 
 /// The bytes that an accessor reads.
-fn accessed(layer: Layer, packet: &[u8], wire: u32, index: u32, size: Size) -> Option<u32>
+fn access(layer: Layer, packet: &[u8], wire: u32, index: u32, size: Size) -> Option<u32>
     ensures { result ≡ accessed layer (bytes_of size) (packet_of packet.now wire) index }
 {
     match layer {
@@ -62,11 +62,11 @@ pub fn value_of(amount: &Value, packet: &[u8], wire: u32) -> Option<u32>
         Value::Binary(operator, left, right) => {
             let a = value_of(left, packet, wire)?;
             let b = value_of(right, packet, wire)?;
-            calculated(*operator, a, b)
+            calculate(*operator, a, b)
         }
         Value::Accessor(layer, index, size) => {
             let index = value_of(index, packet, wire)?;
-            accessed(*layer, packet, wire, index, *size)
+            access(*layer, packet, wire, index, *size)
         }
     }
 }
@@ -104,7 +104,7 @@ fn in_layers(value: &Value, packet: &[u8], wire: u32) -> Verdict
 }
 
 /// Whether a comparison holds of two numbers.
-fn compared(comparison: Comparison, a: u32, b: u32) -> bool
+fn holds_between(comparison: Comparison, a: u32, b: u32) -> bool
     ensures { result ≡ compared comparison a b }
 {
     match comparison {
@@ -134,7 +134,7 @@ fn comparison(
     let Some(b) = value_of(right, packet, wire) else {
         return Verdict::Abort;
     };
-    Verdict::of(compared(comparison, a, b))
+    Verdict::of(holds_between(comparison, a, b))
 }
 
 /// What a relation answers: the values are looked at only where the layers of the accessors are there.

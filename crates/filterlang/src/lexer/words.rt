@@ -107,7 +107,7 @@ fn whole_word(table: &[(&[u8], Kind)], text: &[u8]) -> Option<(Kind, usize)>
 }
 
 /// The first sign of a table that stands at the front of the text, and how many bytes it has.
-fn standing(table: &[(&[u8], Kind)], text: &[u8]) -> Option<(Kind, usize)>
+fn leading_sign(table: &[(&[u8], Kind)], text: &[u8]) -> Option<(Kind, usize)>
     ensures { result ≡ first_of (stands text.now) table.now }
 {
     let (sign, kind) = table.iter().find(|entry| text.starts_with(entry.0))?;
@@ -135,5 +135,5 @@ pub(crate) fn sign_at(text: &[u8]) -> Option<(Kind, usize)>
     ensures value { result ≡ standing signs text.now }
     ensures within { IfSome result (λ sign. IsLengthWithin sign.1 (length text.now)) }
 {
-    standing(SIGNS.as_slice(), text)
+    leading_sign(SIGNS.as_slice(), text)
 }

@@ -10,7 +10,7 @@ use crate::fault::Fault;
 use crate::lookahead::{Beginning, look_ahead};
 use crate::phrases::joint_at;
 use crate::phrases::qualifiers::Qualifiers;
-use crate::tree::{joined_by, negated};
+use crate::tree::{joined_by, negate};
 use filter_tree::Expr;
 use std::alloc::Global;
 
@@ -52,12 +52,12 @@ impl<'a> Cursor<'a> {
             Beginning::Not => {
                 let levels = self.deeper(levels)?;
                 let expr = self.group_term(alloc, levels, qualifiers)?;
-                negated(alloc, expr)
+                negate(alloc, expr)
             }
             Beginning::Parenthesis => {
                 let levels = self.deeper(levels)?;
                 let expr = self.group(alloc, levels, qualifiers)?;
-                self.closed(expr)
+                self.close_after(expr)
             }
             Beginning::Primitive => Ok(Expr::Test(self.identified(qualifiers)?)),
         }

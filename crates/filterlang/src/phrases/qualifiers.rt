@@ -190,7 +190,7 @@ fn net_of(
 }
 
 /// The net that an identifier names.
-fn net_identified(
+fn net_of_identifier(
     network: Option<Network>,
     direction: Direction,
     id: Identifier,
@@ -225,7 +225,7 @@ fn net_identified(
 }
 
 /// The protocol number of IPv4 that an identifier names.
-fn ip_proto_identified(id: Identifier) -> Result<Primitive, Misfit>
+fn ip_proto_of(id: Identifier) -> Result<Primitive, Misfit>
     ensures { result_ok result ≡ identified IpProto id }
 {
     let number = match id {
@@ -239,7 +239,7 @@ fn ip_proto_identified(id: Identifier) -> Result<Primitive, Misfit>
 }
 
 /// The Ethernet type that an identifier names.
-fn ether_proto_identified(id: Identifier) -> Result<Primitive, Misfit>
+fn ether_proto_of(id: Identifier) -> Result<Primitive, Misfit>
     ensures { result_ok result ≡ identified EtherProto id }
 {
     let number = match id {
@@ -269,7 +269,7 @@ pub(crate) fn identified(qualifiers: Qualifiers, id: Identifier) -> Result<Primi
             address,
             mask: u32::MAX,
         }),
-        (Qualifiers::Net { network, direction }, id) => net_identified(network, direction, id),
+        (Qualifiers::Net { network, direction }, id) => net_of_identifier(network, direction, id),
         (Qualifiers::EtherHost(direction), Identifier::Ethernet(address)) => {
             Ok(Primitive::EtherHost { direction, address })
         }
@@ -288,8 +288,8 @@ pub(crate) fn identified(qualifiers: Qualifiers, id: Identifier) -> Result<Primi
                 high: port,
             })
         }
-        (Qualifiers::IpProto, id) => ip_proto_identified(id),
-        (Qualifiers::EtherProto, id) => ether_proto_identified(id),
+        (Qualifiers::IpProto, id) => ip_proto_of(id),
+        (Qualifiers::EtherProto, id) => ether_proto_of(id),
         _ => Err(Misfit::Identifier),
     }
 }

@@ -1,7 +1,7 @@
 //! Instructions by their names. That each line of a program is what libpcap prints is tested of the program.
 
 use crate::same::same;
-use bpfvm::{Brief, Insn, Placed};
+use bpfvm::{Brief, Insn, PlacedInsn};
 use std::process::Abort;
 
 /// Fields of an instruction, its text, and that with one space in it.
@@ -60,7 +60,7 @@ fn a_jump_has_the_places_that_it_leads_to(rt: HostRuntime) {
         jf: 2,
         k: 0x800,
     };
-    let placed = Placed {
+    let placed = PlacedInsn {
         place: 7,
         insn: &insn,
     };

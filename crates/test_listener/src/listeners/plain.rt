@@ -12,7 +12,7 @@ use std::test::Fail;
 
 /// A message: its place, how many bytes are kept of it, and the last of them.
 #[derive(Clone, Copy, Debug, PartialEq, Eq)]
-struct Kept {
+struct KeptMessage {
     place: u64,
     len: usize,
     last: u8,
@@ -20,10 +20,10 @@ struct Kept {
 
 /// What pends, how many of it are held, and the counts, as the table tells them.
 #[derive(Drop)]
-struct Slow {
+struct PlainModel {
     capacity: usize,
     mode: Mode,
-    pending: Vec<Kept>,
+    pending: Vec<KeptMessage>,
     held: usize,
     received: u64,
     matched: u64,
@@ -42,9 +42,9 @@ fn size_of(len: usize) -> usize {
     size
 }
 
-impl Slow {
-    fn new(alloc: Global, capacity: usize, mode: Mode) -> Slow {
-        Slow {
+impl PlainModel {
+    fn new(alloc: Global, capacity: usize, mode: Mode) -> PlainModel {
+        PlainModel {
             capacity,
             mode,
             pending: Vec::new(alloc),
@@ -65,7 +65,7 @@ impl Slow {
     }
 
     /// An arrival at a Buffered list.
-    fn arrive_buffered(&mut self, kept: Option<Kept>) -> Result<Fed, AllocError> {
+    fn arrive_buffered(&mut self, kept: Option<KeptMessage>) -> Result<Fed, AllocError> {
         self.received = self.received.wrapping_add(1);
         let Some(kept) = kept else {
             return Ok(Fed::Passed);
@@ -85,7 +85,7 @@ impl Slow {
     }
 
     /// An Immediate list makes the store the hold behind each accepted arrival.
-    fn arrive(&mut self, kept: Option<Kept>) -> Result<Fed, AllocError> {
+    fn arrive(&mut self, kept: Option<KeptMessage>) -> Result<Fed, AllocError> {
         if self.closed {
             return Ok(Fed::Closed);
         }
@@ -105,7 +105,7 @@ impl Slow {
     }
 
     /// The batch that a read takes.
-    fn read(&mut self, alloc: Global) -> Result<Option<Vec<Kept>>, AllocError> {
+    fn read(&mut self, alloc: Global) -> Result<Option<Vec<KeptMessage>>, AllocError> {
         if self.closed || self.held == 0 {
             return Ok(None);
         }
@@ -125,14 +125,14 @@ impl Slow {
 }
 
 /// The messages of a buffer.
-fn messages(alloc: Global, buffer: &Buffer) -> Result<Vec<Kept>, AllocError> {
+fn messages(alloc: Global, buffer: &Buffer) -> Result<Vec<KeptMessage>, AllocError> {
     let mut out = Vec::new(alloc);
     for record in buffer.records() {
         let last = match record.bytes.last() {
             Some(byte) => *byte,
             None => 0,
         };
-        out.push(Kept {
+        out.push(KeptMessage {
             place: record.place,
             len: record.bytes.len(),
             last,
@@ -161,9 +161,9 @@ impl Random {
 }
 
 /// What is kept of a packet: nothing where that has no bytes.
-fn cut(bytes: &[u8], place: u64, len: usize) -> Option<Kept> {
+fn cut(bytes: &[u8], place: u64, len: usize) -> Option<KeptMessage> {
     let last = *bytes.get(..len)?.last()?;
-    Some(Kept { place, len, last })
+    Some(KeptMessage { place, len, last })
 }
 
 /// The data of a packet: the first byte is the program's answer.
@@ -180,10 +180,10 @@ fn data_of(place: u64, verdict: u8) -> [u8; 96] {
 fn bytes_arrive(
     rt: &impl Abort,
     listener: &mut Listener,
-    slow: &mut Slow,
+    slow: &mut PlainModel,
     place: u64,
     bytes: &[u8],
-    kept: Option<Kept>,
+    kept: Option<KeptMessage>,
 ) -> Result<(), AllocError> {
     assert!(rt; listener.counts().received < u64::MAX);
     let fed = listener.arrive(0, place, &packet(bytes));
@@ -195,7 +195,7 @@ fn bytes_arrive(
 fn arrive_at_both(
     rt: &impl Abort,
     listener: &mut Listener,
-    slow: &mut Slow,
+    slow: &mut PlainModel,
     random: &mut Random,
     place: u64,
     snap: usize,
@@ -209,7 +209,7 @@ fn arrive_at_both(
 }
 
 /// The messages that a read takes, if it takes any.
-fn read_of(alloc: Global, listener: &mut Listener) -> Result<Option<Vec<Kept>>, Fail> {
+fn read_of(alloc: Global, listener: &mut Listener) -> Result<Option<Vec<KeptMessage>>, Fail> {
     let empty = Buffer::new(alloc, listener.capacity())?;
     match listener.read(empty) {
         Read::Full(buffer) => Ok(Some(messages(alloc, &buffer)?)),
@@ -221,7 +221,7 @@ fn read_of(alloc: Global, listener: &mut Listener) -> Result<Option<Vec<Kept>>, 
 fn read_at_both(
     rt: &(impl Abort + AllocGlobal),
     listener: &mut Listener,
-    slow: &mut Slow,
+    slow: &mut PlainModel,
 ) -> Result<(), Fail> {
     let batch = slow.read(rt.alloc())?;
     match (read_of(rt.alloc(), listener)?, batch) {
@@ -233,7 +233,7 @@ fn read_at_both(
 }
 
 /// What pends at a listener, and how many messages of it are held.
-fn pending_of(alloc: Global, listener: &Listener) -> Result<(Vec<Kept>, usize), AllocError> {
+fn pending_of(alloc: Global, listener: &Listener) -> Result<(Vec<KeptMessage>, usize), AllocError> {
     let (hold, store) = listener.buffers();
     let mut pending = messages(alloc, hold)?;
     let held = pending.len();
@@ -243,7 +243,7 @@ fn pending_of(alloc: Global, listener: &Listener) -> Result<(Vec<Kept>, usize), 
 }
 
 /// Both have the same counts.
-fn compare_counts(rt: &impl Abort, listener: &Listener, slow: &Slow) {
+fn compare_counts(rt: &impl Abort, listener: &Listener, slow: &PlainModel) {
     let counts = listener.counts();
     same(rt, counts.received, slow.received);
     same(rt, counts.matched, slow.matched);
@@ -254,7 +254,7 @@ fn compare_counts(rt: &impl Abort, listener: &Listener, slow: &Slow) {
 fn compare(
     rt: &(impl Abort + AllocGlobal),
     listener: &Listener,
-    slow: &Slow,
+    slow: &PlainModel,
 ) -> Result<(), AllocError> {
     compare_counts(rt, listener, slow);
     let (pending, held) = pending_of(rt.alloc(), listener)?;
@@ -267,7 +267,7 @@ fn compare(
 fn step_at_both(
     rt: &(impl Abort + AllocGlobal),
     listener: &mut Listener,
-    slow: &mut Slow,
+    slow: &mut PlainModel,
     random: &mut Random,
     place: u64,
     snap: usize,
@@ -306,7 +306,7 @@ fn first_byte() -> Result<Program, bpfvm::Invalid> {
 fn steps_at_both(
     rt: &(impl Abort + AllocGlobal),
     listener: &mut Listener,
-    slow: &mut Slow,
+    slow: &mut PlainModel,
     random: &mut Random,
     snap: usize,
 ) -> Result<(), Fail> {
@@ -322,7 +322,7 @@ fn run_both(rt: &(impl Abort + AllocGlobal), random: &mut Random, mode: Mode) ->
     let snap = random.below(64) as u32 + 1;
     let capacity = size_of(snap as usize).wrapping_add(random.below(200) as usize);
     let mut listener = Listener::open_as(rt.alloc(), first_byte()?, snap, capacity, mode)?;
-    let mut slow = Slow::new(rt.alloc(), capacity, mode);
+    let mut slow = PlainModel::new(rt.alloc(), capacity, mode);
     steps_at_both(rt, &mut listener, &mut slow, random, snap as usize)
 }
 

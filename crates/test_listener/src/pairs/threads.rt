@@ -52,7 +52,7 @@ impl Fates {
 
 /// How a pair of snapshot length 32 is played in two threads.
 #[derive(Clone, Copy)]
-struct Plan {
+struct PairPlan {
     mode: Mode,
     capacity: usize,
     /// How many packets are given, and how many of these, the last ones, once the drain has closed.
@@ -64,9 +64,9 @@ struct Plan {
     is_slow: bool,
 }
 
-impl Plan {
-    fn of(mode: Mode, capacity: usize, packets: u64, late: u64, reads: u64) -> Plan {
-        Plan {
+impl PairPlan {
+    fn of(mode: Mode, capacity: usize, packets: u64, late: u64, reads: u64) -> PairPlan {
+        PairPlan {
             mode,
             capacity,
             packets,
@@ -98,7 +98,7 @@ fn await_sign(sign: &AtomicBool) {
 fn feed(
     link: &Link,
     mut feeder: Feeder,
-    plan: Plan,
+    plan: PairPlan,
     signs: &Signs,
     mut fates: Fates,
 ) -> (FeedEnd, Buffer, Fates)
@@ -173,7 +173,7 @@ fn read_all(
 
 /// What came of a plan.
 #[derive(Drop)]
-struct Outcome {
+struct PairOutcome {
     settled: Settled,
     rest: Buffer,
     fates: Fates,
@@ -186,8 +186,8 @@ struct Outcome {
 /// Plays a plan with a feeder and a drain in threads of their own.
 fn play(
     rt: &(impl Abort + AllocGlobal + Threads + Sync),
-    plan: Plan,
-) -> Result<Outcome, OpenFault> {
+    plan: PairPlan,
+) -> Result<PairOutcome, OpenFault> {
     let alloc = rt.alloc();
     let (capacity, reads) = (plan.capacity, plan.reads);
     let program = keeping(262_144).expect(rt, "a program");
@@ -216,7 +216,7 @@ fn play(
             read
         },
     );
-    Ok(Outcome {
+    Ok(PairOutcome {
         settled: settle(link, feed_end, drain_end),
         rest,
         fates,
@@ -226,7 +226,7 @@ fn play(
 }
 
 /// Tests that nothing is taken behind the close, and that the counts are those of what was answered.
-fn are_counted(rt: &impl Abort, fates: &Fates, counts: Counts, plan: Plan) {
+fn are_counted(rt: &impl Abort, fates: &Fates, counts: Counts, plan: PairPlan) {
     assert!(rt; !fates.opened);
     assert!(rt; fates.closed >= plan.late);
     same(rt, counts.received, plan.packets.wrapping_sub(fates.closed));
@@ -238,9 +238,9 @@ fn are_counted(rt: &impl Abort, fates: &Fates, counts: Counts, plan: Plan) {
 /// Tells these, and whether a read reached the end.
 fn run(
     rt: &(impl Abort + AllocGlobal + Threads + Sync),
-    plan: Plan,
+    plan: PairPlan,
 ) -> Result<(Vec<u64>, bool), OpenFault> {
-    let Outcome {
+    let PairOutcome {
         settled,
         rest,
         fates,
@@ -260,7 +260,7 @@ const MODES: [Mode; 2] = [Mode::Buffered, Mode::Immediate];
 #[test]
 fn what_is_not_dropped_is_read_or_left(rt: HostRuntime) -> Result<(), Fail> {
     for mode in MODES {
-        let (_, ended) = run(&rt, Plan::of(mode, 256, 10_000, 0, u64::MAX))?;
+        let (_, ended) = run(&rt, PairPlan::of(mode, 256, 10_000, 0, u64::MAX))?;
         assert!(rt; ended);
     }
     Ok(())
@@ -270,7 +270,7 @@ fn what_is_not_dropped_is_read_or_left(rt: HostRuntime) -> Result<(), Fail> {
 fn a_close_in_the_middle_ends_the_arrivals(rt: HostRuntime) -> Result<(), Fail> {
     for mode in MODES {
         for reads in [0, 1, 10, 100, 1_000] {
-            run(&rt, Plan::of(mode, 256, 10_000, 3, reads))?;
+            run(&rt, PairPlan::of(mode, 256, 10_000, 3, reads))?;
         }
     }
     Ok(())
@@ -281,7 +281,7 @@ fn a_close_in_the_middle_ends_the_arrivals(rt: HostRuntime) -> Result<(), Fail> 
 fn orders_met(rt: &(impl Abort + AllocGlobal + Threads + Sync), mode: Mode) -> Result<usize, Fail> {
     let mut lists: Vec<Vec<u64>> = Vec::new(rt.alloc());
     for round in 0..500u64 {
-        let mut seven = Plan::of(mode, 64, 7, 0, u64::MAX);
+        let mut seven = PairPlan::of(mode, 64, 7, 0, u64::MAX);
         seven.is_slow = round % 2 == 1;
         let (kept, _) = run(rt, seven)?;
         if !lists.iter().any(|list| list.as_slice() == kept.as_slice()) {
@@ -295,8 +295,11 @@ fn orders_met(rt: &(impl Abort + AllocGlobal + Threads + Sync), mode: Mode) -> R
 fn many_short_runs_meet_many_orders(rt: HostRuntime) -> Result<(), Fail> {
     for mode in MODES {
         for round in 0..400u64 {
-            run(&rt, Plan::of(mode, 64, 1 + round % 7, round % 2, round % 5))?;
-            run(&rt, Plan::of(mode, 64, 1 + round % 7, 0, u64::MAX))?;
+            run(
+                &rt,
+                PairPlan::of(mode, 64, 1 + round % 7, round % 2, round % 5),
+            )?;
+            run(&rt, PairPlan::of(mode, 64, 1 + round % 7, 0, u64::MAX))?;
         }
         let met = orders_met(&rt, mode)?;
         assert!(rt; met >= 2, "{met} orders");

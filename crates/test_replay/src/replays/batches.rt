@@ -59,7 +59,7 @@ impl<R: Clock> Gate for Batches<'_, R> {
 fn three_at_once(
     alloc: Global,
     bytes: &AtomicU64,
-) -> Result<Interface<Source, Counted<Weighed<'_>>>, Fail> {
+) -> Result<Interface<TapeSource, Counted<Weighed<'_>>>, Fail> {
     let text = capture(alloc, 1, &[TCP_FRAME, UDP_FRAME, TCP_FRAME])?;
     let mut one = task(keeping_all()?, 64, 1_000, Counted::new(Weighed { bytes }));
     one.flush_every = 3;

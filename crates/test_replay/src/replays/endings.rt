@@ -4,12 +4,12 @@ use super::*;
 use savefile::Fault;
 
 /// A task that takes each packet, in buffers with room for all of a small capture.
-fn roomy(alloc: Global) -> Result<Task<Sink>, Fail> {
+fn roomy(alloc: Global) -> Result<Task<PaperSink>, Fail> {
     Ok(task(keeping_all()?, 64, 1_024, sink_with(alloc, usize::MAX)))
 }
 
 /// So many tasks that have room for all.
-fn roomy_tasks(alloc: Global, tasks: usize) -> Result<Vec<Task<Sink>>, Fail> {
+fn roomy_tasks(alloc: Global, tasks: usize) -> Result<Vec<Task<PaperSink>>, Fail> {
     let mut made = Vec::new(alloc);
     for _ in 0..tasks {
         made.push(roomy(alloc)?)?;
@@ -22,7 +22,7 @@ fn interface(
     alloc: Global,
     captures: &[Recorded<'_>],
     tasks: usize,
-) -> Result<Interface<Source, Sink>, Fail> {
+) -> Result<Interface<TapeSource, PaperSink>, Fail> {
     let captures = sources_for(alloc, captures)?;
     Ok(Interface {
         captures,
@@ -33,7 +33,7 @@ fn interface(
 /// Tests that an interface ended so, and that each of its tasks is Clean and wrote these records.
 fn ends(
     rt: &(impl Abort + AllocGlobal),
-    report: &InterfaceReport<Source, Sink>,
+    report: &InterfaceReport<TapeSource, PaperSink>,
     end: InterfaceEnd,
     records: &[(u8, [u8; 38])],
 ) {
@@ -51,7 +51,7 @@ fn ends(
 fn replayed(
     rt: &(impl Abort + AllocGlobal + Threads + Wait + Sync),
     captures: &[Recorded<'_>],
-) -> Result<InterfaceReport<Source, Sink>, Fail> {
+) -> Result<InterfaceReport<TapeSource, PaperSink>, Fail> {
     let report = replay_one(rt, interface(rt.alloc(), captures, 2)?)?;
     same(rt, report.listeners.len(), 2);
     Ok(report)
@@ -60,7 +60,7 @@ fn replayed(
 /// Tests how much was read of each source of a report.
 fn was_read(
     rt: &(impl Abort + AllocGlobal),
-    report: &InterfaceReport<Source, Sink>,
+    report: &InterfaceReport<TapeSource, PaperSink>,
     want: &[usize],
 ) {
     let places: Vec<usize> = report
@@ -82,7 +82,7 @@ fn frames(alloc: Global, packets: u8) -> Result<Vec<[u8; 38]>, AllocError> {
 }
 
 /// A task with buffers of this capacity: another one for each round.
-fn varied_task(alloc: Global, capacity: usize, round: u64) -> Result<Task<Sink>, Fail> {
+fn varied_task(alloc: Global, capacity: usize, round: u64) -> Result<Task<PaperSink>, Fail> {
     let mut one = task(keeping_tcp()?, 40, capacity, sink_with(alloc, usize::MAX));
     one.spares = 1 + (round % 3) as usize;
     one.flush_every = (round % 5) as u32;
@@ -90,7 +90,11 @@ fn varied_task(alloc: Global, capacity: usize, round: u64) -> Result<Task<Sink>,
 }
 
 /// An interface of one capture and 1 to 4 tasks, each with buffers of one to four records: another one for each round.
-fn varied(alloc: Global, packets: u8, round: u64) -> Result<Interface<Source, Sink>, Fail> {
+fn varied(
+    alloc: Global,
+    packets: u8,
+    round: u64,
+) -> Result<Interface<TapeSource, PaperSink>, Fail> {
     let text = capture(alloc, 1, frames(alloc, packets)?.as_slice())?;
     let captures = vec![in alloc; source_of(text)]?;
     let mut tasks = Vec::new(alloc);
@@ -102,7 +106,7 @@ fn varied(alloc: Global, packets: u8, round: u64) -> Result<Interface<Source, Si
 }
 
 /// Tests that a task is clean, and that its savefile has as many packets as are told.
-fn is_clean(rt: &impl Abort, listener: &ListenerReport<Sink>, packets: u8) {
+fn is_clean(rt: &impl Abort, listener: &ListenerReport<PaperSink>, packets: u8) {
     let matched = packets.div_ceil(2) as u64;
     same(rt, listener.end, TaskEnd::Clean);
     same(
@@ -115,7 +119,12 @@ fn is_clean(rt: &impl Abort, listener: &ListenerReport<Sink>, packets: u8) {
 }
 
 /// Tests that an interface is clean, and each of its tasks, of which there are so many.
-fn are_clean(rt: &impl Abort, report: &InterfaceReport<Source, Sink>, tasks: u64, packets: u8) {
+fn are_clean(
+    rt: &impl Abort,
+    report: &InterfaceReport<TapeSource, PaperSink>,
+    tasks: u64,
+    packets: u8,
+) {
     same(rt, report.end, InterfaceEnd::Clean);
     same(rt, report.listeners.len() as u64, tasks);
     for listener in &report.listeners {
@@ -140,13 +149,17 @@ const TWO: [[u8; 38]; 2] = [TCP_FRAME, UDP_FRAME];
 const THREE: [[u8; 38]; 3] = [TCP_FRAME, UDP_FRAME, TCP_FRAME];
 
 /// An interface of two captures of two frames each, at these seconds, with so many tasks.
-fn whole(alloc: Global, secs: [u8; 2], tasks: usize) -> Result<Interface<Source, Sink>, Fail> {
+fn whole(
+    alloc: Global,
+    secs: [u8; 2],
+    tasks: usize,
+) -> Result<Interface<TapeSource, PaperSink>, Fail> {
     let captures = [in_full(secs[0], &TWO), in_full(secs[1], &TWO)];
     interface(alloc, &captures, tasks)
 }
 
 /// An interface of three captures, the second without a header, with two tasks.
-fn headless(alloc: Global) -> Result<Interface<Source, Sink>, Fail> {
+fn headless(alloc: Global) -> Result<Interface<TapeSource, PaperSink>, Fail> {
     let captures = [
         in_full(1, &TWO),
         up_to(0, in_full(1, &[])),
@@ -156,7 +169,10 @@ fn headless(alloc: Global) -> Result<Interface<Source, Sink>, Fail> {
 }
 
 /// Tests that the second capture of an interface ended it, and the one behind it came back unread.
-fn ends_without_a_header(rt: &(impl Abort + AllocGlobal), report: &InterfaceReport<Source, Sink>) {
+fn ends_without_a_header(
+    rt: &(impl Abort + AllocGlobal),
+    report: &InterfaceReport<TapeSource, PaperSink>,
+) {
     let end = InterfaceEnd::Capture(1, Fault::ShortHeader);
     ends(rt, report, end, &[(1, TCP_FRAME), (2, UDP_FRAME)]);
     same(rt, report.listeners.len(), 2);
@@ -164,7 +180,7 @@ fn ends_without_a_header(rt: &(impl Abort + AllocGlobal), report: &InterfaceRepo
 }
 
 /// Tests that an interface of two whole captures ended clean.
-fn ends_whole(rt: &(impl Abort + AllocGlobal), report: &InterfaceReport<Source, Sink>) {
+fn ends_whole(rt: &(impl Abort + AllocGlobal), report: &InterfaceReport<TapeSource, PaperSink>) {
     let records = [
         (3, TCP_FRAME),
         (4, UDP_FRAME),
@@ -240,12 +256,16 @@ fn packets_before_a_failed_source_are_written(rt: HostRuntime) -> Result<(), Fai
 }
 
 /// An interface of one capture without its last byte, and no task.
-fn torn_unheard(alloc: Global) -> Result<Interface<Source, Sink>, Fail> {
+fn torn_unheard(alloc: Global) -> Result<Interface<TapeSource, PaperSink>, Fail> {
     interface(alloc, &[up_to(131, in_full(1, &TWO))], 0)
 }
 
 /// Tests that an interface with no task ended so.
-fn ends_unheard(rt: &impl Abort, report: &InterfaceReport<Source, Sink>, end: InterfaceEnd) {
+fn ends_unheard(
+    rt: &impl Abort,
+    report: &InterfaceReport<TapeSource, PaperSink>,
+    end: InterfaceEnd,
+) {
     same(rt, (report.end, report.listeners.len()), (end, 0));
 }
 
@@ -272,13 +292,13 @@ fn without_captures_the_header_is_written(rt: HostRuntime) -> Result<(), Fail> {
 
 #[test]
 fn without_interfaces_nothing_is_told(rt: HostRuntime) -> Result<(), Fail> {
-    let none: Vec<Interface<Source, Sink>> = Vec::new(rt.alloc());
+    let none: Vec<Interface<TapeSource, PaperSink>> = Vec::new(rt.alloc());
     assert!(rt; run(&rt, rt.alloc(), none, &Open)?.is_empty());
     Ok(())
 }
 
 /// An interface of T, U and T, and a task whose sink has so much room.
-fn with_room(alloc: Global, room: usize) -> Result<Interface<Source, Sink>, Fail> {
+fn with_room(alloc: Global, room: usize) -> Result<Interface<TapeSource, PaperSink>, Fail> {
     let one = task(keeping_all()?, 64, 1_024, sink_with(alloc, room));
     let tasks = vec![in alloc; one]?;
     Ok(Interface {
@@ -288,7 +308,12 @@ fn with_room(alloc: Global, room: usize) -> Result<Interface<Source, Sink>, Fail
 }
 
 /// Tests that a task filled its sink's room, and how many packets are told as written.
-fn filled(rt: &(impl Abort + AllocGlobal), one: &ListenerReport<Sink>, room: usize, count: u64) {
+fn filled(
+    rt: &(impl Abort + AllocGlobal),
+    one: &ListenerReport<PaperSink>,
+    room: usize,
+    count: u64,
+) {
     same(rt, one.end, TaskEnd::Write(room as u64));
     same(rt, (one.sent, one.written), (room as u64, count));
     let records = [(1, TCP_FRAME), (2, UDP_FRAME), (3, TCP_FRAME)];

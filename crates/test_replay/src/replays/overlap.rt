@@ -93,7 +93,7 @@ impl<R: Clock> Gate for Lockstep<'_, R> {
 }
 
 /// The tasks of the example, of which the first sink has so much room.
-fn example_tasks(alloc: Global, mode: Mode, room: usize) -> Result<Vec<Task<Sink>>, Fail> {
+fn example_tasks(alloc: Global, mode: Mode, room: usize) -> Result<Vec<Task<PaperSink>>, Fail> {
     let everywhere = sink_with(alloc, usize::MAX);
     let mut tasks = vec![in alloc;
         task(keeping_tcp()?, 64, 96, sink_with(alloc, room)),
@@ -110,7 +110,11 @@ fn example_tasks(alloc: Global, mode: Mode, room: usize) -> Result<Vec<Task<Sink
 
 /// The interface of the example: T and U arrive, and then T, at a listener for TCP, whose sink has so much room, and one for
 /// all. Where they are Immediate, nothing is flushed.
-fn example(alloc: Global, mode: Mode, room: usize) -> Result<Vec<Interface<Source, Sink>>, Fail> {
+fn example(
+    alloc: Global,
+    mode: Mode,
+    room: usize,
+) -> Result<Vec<Interface<TapeSource, PaperSink>>, Fail> {
     let captures = sources_for(
         alloc,
         &[
@@ -123,7 +127,7 @@ fn example(alloc: Global, mode: Mode, room: usize) -> Result<Vec<Interface<Sourc
 }
 
 /// The first listener of the example keeps the packets of TCP.
-fn keeps_tcp(rt: &(impl Abort + AllocGlobal), report: &InterfaceReport<Source, Sink>) {
+fn keeps_tcp(rt: &(impl Abort + AllocGlobal), report: &InterfaceReport<TapeSource, PaperSink>) {
     let tcp = [(1, TCP_FRAME), (3, TCP_FRAME)];
     let tcp = written(rt.alloc(), 64, &tcp, 38).expect(rt, "memory");
     let listener = at(rt, report.listeners.as_slice(), 0);
@@ -131,7 +135,7 @@ fn keeps_tcp(rt: &(impl Abort + AllocGlobal), report: &InterfaceReport<Source, S
 }
 
 /// The second listener of the example keeps all packets.
-fn keeps_all(rt: &(impl Abort + AllocGlobal), report: &InterfaceReport<Source, Sink>) {
+fn keeps_all(rt: &(impl Abort + AllocGlobal), report: &InterfaceReport<TapeSource, PaperSink>) {
     let all = [(1, TCP_FRAME), (2, UDP_FRAME), (3, TCP_FRAME)];
     let all = written(rt.alloc(), 0, &all, 38).expect(rt, "memory");
     let listener = at(rt, report.listeners.as_slice(), 1);
@@ -166,7 +170,7 @@ fn immediate_packets_are_read_without_a_flush(rt: HostRuntime) -> Result<(), Fai
 }
 
 /// A listener whose sink took the header alone wrote nothing more.
-fn wrote_the_header(rt: &(impl Abort + AllocGlobal), broken: &ListenerReport<Sink>) {
+fn wrote_the_header(rt: &(impl Abort + AllocGlobal), broken: &ListenerReport<PaperSink>) {
     same(rt, broken.end, TaskEnd::Write(24));
     same(rt, (broken.sent, broken.written), (24, 0));
     assert!(rt; broken.received >= 1 && broken.received <= 3);
@@ -218,7 +222,7 @@ impl<R: Clock> Gate for Meeting<'_, R> {
 }
 
 /// An interface of one packet, at this second, to which nobody listens.
-fn unheard(alloc: Global, sec: u8) -> Result<Interface<Source, Sink>, AllocError> {
+fn unheard(alloc: Global, sec: u8) -> Result<Interface<TapeSource, PaperSink>, AllocError> {
     Ok(Interface {
         captures: sources_for(alloc, &[in_full(sec, &[TCP_FRAME])])?,
         tasks: Vec::new(alloc),

@@ -8,18 +8,18 @@ use std::sync::atomic::Ordering::SeqCst;
 
 /// A device that ends at once, and takes everything. It counts its calls.
 #[derive(Drop)]
-struct Tallied<'a> {
+struct CountedCalls<'a> {
     calls: &'a AtomicU64,
 }
 
-impl Read for Tallied<'_> {
+impl Read for CountedCalls<'_> {
     fn read(&mut self, _to: &mut [u8]) -> io::Result<usize> {
         self.calls.fetch_add(1, SeqCst);
         Ok(0)
     }
 }
 
-impl Write for Tallied<'_> {
+impl Write for CountedCalls<'_> {
     fn write(&mut self, from: &[u8]) -> io::Result<usize> {
         self.calls.fetch_add(1, SeqCst);
         Ok(from.len())
@@ -30,14 +30,18 @@ impl Write for Tallied<'_> {
     }
 }
 
-type Tally<'a> = Counted<Tallied<'a>>;
+type CallCounter<'a> = Counted<CountedCalls<'a>>;
 
-fn tally(calls: &AtomicU64) -> Tally<'_> {
-    Counted::new(Tallied { calls })
+fn tally(calls: &AtomicU64) -> CallCounter<'_> {
+    Counted::new(CountedCalls { calls })
 }
 
 /// So many devices.
-fn tallies(alloc: Global, calls: &AtomicU64, devices: usize) -> Result<Vec<Tally<'_>>, AllocError> {
+fn tallies(
+    alloc: Global,
+    calls: &AtomicU64,
+    devices: usize,
+) -> Result<Vec<CallCounter<'_>>, AllocError> {
     let mut made = Vec::new(alloc);
     for _ in 0..devices {
         made.push(tally(calls))?;
@@ -46,7 +50,7 @@ fn tallies(alloc: Global, calls: &AtomicU64, devices: usize) -> Result<Vec<Tally
 }
 
 /// A task with this snapshot length, capacity and number of spare buffers.
-fn task_of(calls: &AtomicU64, numbers: (u32, usize, usize)) -> Result<Task<Tally<'_>>, Fail> {
+fn task_of(calls: &AtomicU64, numbers: (u32, usize, usize)) -> Result<Task<CallCounter<'_>>, Fail> {
     let (snap, capacity, spares) = numbers;
     let mut one = task(keeping_all()?, snap, capacity, tally(calls));
     one.spares = spares;
@@ -59,7 +63,7 @@ fn interface<'a>(
     calls: &'a AtomicU64,
     captures: usize,
     tasks: &[(u32, usize, usize)],
-) -> Result<Interface<Tally<'a>, Tally<'a>>, Fail> {
+) -> Result<Interface<CallCounter<'a>, CallCounter<'a>>, Fail> {
     let captures = tallies(alloc, calls, captures)?;
     let mut made = Vec::new(alloc);
     for numbers in tasks {
@@ -77,7 +81,7 @@ fn interfaces_of_one_task(
     calls: &AtomicU64,
     interfaces: usize,
     captures: usize,
-) -> Result<Vec<Interface<Tally<'_>, Tally<'_>>>, Fail> {
+) -> Result<Vec<Interface<CallCounter<'_>, CallCounter<'_>>>, Fail> {
     let mut made = Vec::new(alloc);
     for _ in 0..interfaces {
         made.push(interface(alloc, calls, captures, &[RIGHT])?)?;
@@ -89,7 +93,7 @@ fn interfaces_of_one_task(
 fn refuses(
     rt: &(impl Abort + AllocGlobal + Threads + Wait + Sync),
     calls: &AtomicU64,
-    interfaces: Vec<Interface<Tally<'_>, Tally<'_>>>,
+    interfaces: Vec<Interface<CallCounter<'_>, CallCounter<'_>>>,
     want: RunFault,
 ) {
     match run(rt, rt.alloc(), interfaces, &Open) {
@@ -161,7 +165,10 @@ fn too_many_captures_are_refused(rt: HostRuntime) -> Result<(), Fail> {
 }
 
 /// The first of 65,536 captures ended an interface, and each of its 64 tasks is clean and wrote its header.
-fn ends_at_the_first_capture(rt: &impl Abort, report: &InterfaceReport<Tally<'_>, Tally<'_>>) {
+fn ends_at_the_first_capture(
+    rt: &impl Abort,
+    report: &InterfaceReport<CallCounter<'_>, CallCounter<'_>>,
+) {
     let fault = savefile::Fault::ShortHeader;
     same(rt, report.end, InterfaceEnd::Capture(0, fault));
     same(
@@ -192,7 +199,7 @@ fn replays_the_most_captures_and_tasks(
 /// So many interfaces of one task each ended clean.
 fn end_clean(
     rt: &impl Abort,
-    reports: &[InterfaceReport<Tally<'_>, Tally<'_>>],
+    reports: &[InterfaceReport<CallCounter<'_>, CallCounter<'_>>],
     interfaces: usize,
 ) {
     same(rt, reports.len(), interfaces);

@@ -82,7 +82,7 @@ fn crowded<W: Drop>(
     alloc: Global,
     packets: usize,
     task: Task<W>,
-) -> Result<Vec<Interface<Source, W>>, AllocError> {
+) -> Result<Vec<Interface<TapeSource, W>>, AllocError> {
     let text = capture(alloc, 1, frames(alloc, packets)?.as_slice())?;
     let captures = vec![in alloc; source_of(text)]?;
     let mut tasks = Vec::new(alloc);
@@ -118,7 +118,7 @@ fn as_many_batches_are_read_ahead_as_buffers_go_round(rt: HostRuntime) -> Result
 }
 
 /// The sink took the header alone, and the pair was closed: an arrival that finds it so is not received.
-fn was_closed(rt: &impl Abort, one: &ListenerReport<Sink>) {
+fn was_closed(rt: &impl Abort, one: &ListenerReport<PaperSink>) {
     same(rt, (one.end, one.written), (TaskEnd::Write(24), 0));
     assert!(rt; one.received < 250);
 }

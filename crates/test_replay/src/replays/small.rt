@@ -16,12 +16,12 @@ const MAX_TURNS: u32 = 20_000;
 
 /// Holds each read until all packets were given to the listeners.
 #[derive(Drop)]
-struct Slow<'a, R> {
+struct HeldReads<'a, R> {
     rt: &'a R,
     is_given: AtomicBool,
 }
 
-impl<R: Clock> Gate for Slow<'_, R> {
+impl<R: Clock> Gate for HeldReads<'_, R> {
     fn before_arrive(&self, _interface: u32, _n: u64) {}
 
     fn after_arrive(&self, _interface: u32, n: u64) {
@@ -52,7 +52,7 @@ fn tcp_frames(alloc: Global, packets: u8) -> Result<Vec<u8>, AllocError> {
 }
 
 /// A task that keeps 20 bytes of each packet, one in a buffer.
-fn narrow_task(alloc: Global, mode: Mode, flush_every: u32) -> Result<Task<Sink>, Fail> {
+fn narrow_task(alloc: Global, mode: Mode, flush_every: u32) -> Result<Task<PaperSink>, Fail> {
     let mut one = task(keeping_tcp()?, 20, 56, sink_with(alloc, usize::MAX));
     one.mode = mode;
     one.flush_every = flush_every;
@@ -64,7 +64,7 @@ fn narrow(
     alloc: Global,
     packets: u8,
     flush_every: u32,
-) -> Result<Vec<Interface<Source, Sink>>, Fail> {
+) -> Result<Vec<Interface<TapeSource, PaperSink>>, Fail> {
     let tasks = vec![in alloc;
         narrow_task(alloc, Mode::Buffered, flush_every)?,
         narrow_task(alloc, Mode::Immediate, flush_every)?,
@@ -74,7 +74,7 @@ fn narrow(
 }
 
 /// Both listeners kept the first two of all packets: one was held, one stored.
-fn keep_two(rt: &(impl Abort + AllocGlobal), report: &InterfaceReport<Source, Sink>) {
+fn keep_two(rt: &(impl Abort + AllocGlobal), report: &InterfaceReport<TapeSource, PaperSink>) {
     same(rt, report.end, InterfaceEnd::Clean);
     same(rt, report.listeners.len(), 2);
     let two = [(0, TCP_FRAME), (1, TCP_FRAME)];
@@ -87,7 +87,7 @@ fn keep_two(rt: &(impl Abort + AllocGlobal), report: &InterfaceReport<Source, Si
 #[test]
 fn a_slow_reader_loses_packets(rt: HostRuntime) -> Result<(), Fail> {
     let alloc = rt.alloc();
-    let gate = Slow {
+    let gate = HeldReads {
         rt: &rt,
         is_given: AtomicBool::new(false),
     };
@@ -120,7 +120,7 @@ fn stand_among(records: &[u8], others: &[u8]) -> bool {
 }
 
 /// A listener of 250 packets keeps some of them, as they stand in the whole, and drops the others.
-fn keeps_some_in_order(rt: &impl Abort, listener: &ListenerReport<Sink>, whole: &[u8]) {
+fn keeps_some_in_order(rt: &impl Abort, listener: &ListenerReport<PaperSink>, whole: &[u8]) {
     same(rt, listener.end, TaskEnd::Clean);
     same(rt, (listener.received, listener.matched), (250, 250));
     same(rt, listener.dropped.wrapping_add(listener.written), 250);
@@ -159,7 +159,10 @@ fn what_small_buffers_keep_stands_in_order(rt: HostRuntime) -> Result<(), Fail> 
 }
 
 /// Two captures of a frame each, and one listener, whose sink takes no memory.
-fn lasting(alloc: Global, program: Program) -> Result<Vec<Interface<Source, Sink>>, AllocError> {
+fn lasting(
+    alloc: Global,
+    program: Program,
+) -> Result<Vec<Interface<TapeSource, PaperSink>>, AllocError> {
     let captures = vec![in alloc;
         source_of(capture(alloc, 1, &[TCP_FRAME])?),
         source_of(capture(alloc, 2, &[TCP_FRAME])?),
@@ -187,7 +190,7 @@ fn packets_before(rt: &impl Abort, end: InterfaceEnd) -> u64 {
 }
 
 /// A listener is clean and wrote so many packets.
-fn wrote(rt: &impl Abort, listener: &ListenerReport<Sink>, packets: u64) {
+fn wrote(rt: &impl Abort, listener: &ListenerReport<PaperSink>, packets: u64) {
     same(rt, listener.end, TaskEnd::Clean);
     same(
         rt,

@@ -145,7 +145,7 @@ impl<R: Clock> Gate for Watch<'_, R> {
 }
 
 /// A capture for each frame.
-fn one_of_each(alloc: Global, frames: &[[u8; 38]]) -> Result<Vec<Source>, AllocError> {
+fn one_of_each(alloc: Global, frames: &[[u8; 38]]) -> Result<Vec<TapeSource>, AllocError> {
     let mut captures = Vec::new(alloc);
     for frame in frames {
         captures.push(source_of(capture(alloc, 1, &[*frame])?))?;
@@ -154,7 +154,7 @@ fn one_of_each(alloc: Global, frames: &[[u8; 38]]) -> Result<Vec<Source>, AllocE
 }
 
 /// An interface of a capture for each frame, at a listener for TCP and one for all.
-fn interface(alloc: Global, frames: &[[u8; 38]]) -> Result<Interface<Source, Sink>, Fail> {
+fn interface(alloc: Global, frames: &[[u8; 38]]) -> Result<Interface<TapeSource, PaperSink>, Fail> {
     let captures = one_of_each(alloc, frames)?;
     let tcp = task(keeping_tcp()?, 64, 96, sink_with(alloc, usize::MAX));
     let all = task(keeping_all()?, 64, 96, sink_with(alloc, usize::MAX));
@@ -165,7 +165,11 @@ fn interface(alloc: Global, frames: &[[u8; 38]]) -> Result<Interface<Source, Sin
 }
 
 /// So many interfaces ended clean.
-fn end_clean(rt: &impl Abort, reports: &[InterfaceReport<Source, Sink>], interfaces: usize) {
+fn end_clean(
+    rt: &impl Abort,
+    reports: &[InterfaceReport<TapeSource, PaperSink>],
+    interfaces: usize,
+) {
     same(rt, reports.len(), interfaces);
     for report in reports {
         same(rt, report.end, InterfaceEnd::Clean);
@@ -183,7 +187,7 @@ fn was_told(rt: &impl Abort, told: &Told, arrivals: u64, packets: [u64; 2]) {
 }
 
 /// The interfaces whose steps are watched.
-fn two_interfaces(alloc: Global) -> Result<Vec<Interface<Source, Sink>>, Fail> {
+fn two_interfaces(alloc: Global) -> Result<Vec<Interface<TapeSource, PaperSink>>, Fail> {
     Ok(vec![in alloc;
         interface(alloc, &[TCP_FRAME, UDP_FRAME, TCP_FRAME])?,
         interface(alloc, &[UDP_FRAME, TCP_FRAME])?,

@@ -2,7 +2,7 @@ use Rattle.std.proofs.Common.{arith, Ok, ◌≤◌, ◌∙◌, ◌++◌, ◌∷�
 use Rattle.std.proofs.KnownBytes.{Appends-nil, Consumes-nil, Consumes-trans}
 use Rattle.savefile.specs.declared.packet.Packet.{Packet}
 use Rattle.savefile.specs.Reader.{HasGiven, WasBegun}
-use Rattle.cli_explain.specs.declared.each.Counts.{Counts}
+use Rattle.cli_explain.specs.declared.each.VerdictCounts.{VerdictCounts}
 use Rattle.cli_explain.specs.Explained.{packets_of, AreCounts}
 use Rattle.cli_explain.proofs.Printing.{broken-off, read-whole, read-part, still-works, works-on, gave-more}
 use Rattle.cli_explain.proofs.Answered.{goes-on, breaks-off, packets-last, room-for-one, counted-packets, counted-yes, counted-no, counted-abort}
@@ -33,11 +33,11 @@ loop-reader-preserved g c = record {
         printed,
         counted,
       );
-  packets = subst (λ (k : Counts). k.packets ≤ c.advance.new.self.given) (sym c.count.ensures)
+  packets = subst (λ (k : VerdictCounts). k.packets ≤ c.advance.new.self.given) (sym c.count.ensures)
       (counted-packets c.in-Ok.verdict c.loop-reader.counts _ _ c.loop-reader.invariant.packets (gave-more _ _ _ c.advance.ensures.leaves (c.in-Ok-true.is ∙ ap Ok c.in-Ok-true.field-0-test)).0);
-  yes = subst (λ (k : Counts). k.yes ≤ k.packets) (sym c.count.ensures) (counted-yes c.in-Ok.verdict c.loop-reader.counts c.loop-reader.invariant.yes);
-  no = subst (λ (k : Counts). k.no ≤ k.packets) (sym c.count.ensures) (counted-no c.in-Ok.verdict c.loop-reader.counts c.loop-reader.invariant.no);
-  abort = subst (λ (k : Counts). k.abort ≤ k.packets) (sym c.count.ensures) (counted-abort c.in-Ok.verdict c.loop-reader.counts c.loop-reader.invariant.abort);
+  yes = subst (λ (k : VerdictCounts). k.yes ≤ k.packets) (sym c.count.ensures) (counted-yes c.in-Ok.verdict c.loop-reader.counts c.loop-reader.invariant.yes);
+  no = subst (λ (k : VerdictCounts). k.no ≤ k.packets) (sym c.count.ensures) (counted-no c.in-Ok.verdict c.loop-reader.counts c.loop-reader.invariant.no);
+  abort = subst (λ (k : VerdictCounts). k.abort ≤ k.packets) (sym c.count.ensures) (counted-abort c.in-Ok.verdict c.loop-reader.counts c.loop-reader.invariant.abort);
   taken =
       let (before, took) = c.loop-reader.invariant.taken in
       let (further, goes) = c.in-Ok-true.ensures.taken in
@@ -93,12 +93,12 @@ returns-in-Ok-false-clause-prints g c = λ from header given.
     let told = c.outcome-in-Ok-false.ensures in
     read-whole c.args.filter.now from _ header _ _ _ _ _ _ _ answers told.read told.printed all
     (c.in-Ok-false.ensures.end from header (packets_of answers) gives (ap Ok c.in-Ok-false.field-0-test)) lines
-    (subst (λ (k : Counts). AreCounts k answers) (sym told.counts) are)
+    (subst (λ (k : VerdictCounts). AreCounts k answers) (sym told.counts) are)
 
 pub returns-in-Err-clause-prints : goal.returns-in-Err-clause-prints
 returns-in-Err-clause-prints g c = λ from header given.
     let (answers, gives, all, lines, are) = c.loop-reader.invariant.prints from header given in
     let told = c.outcome-in-Err.ensures in
     read-part c.args.filter.now from _ header _ _ _ _ _ _ _ answers told.read told.printed all lines
-    (subst (λ (k : Counts). AreCounts k answers) (sym told.counts) are)
+    (subst (λ (k : VerdictCounts). AreCounts k answers) (sym told.counts) are)
     (c.in-Err.ensures.so_far from header (packets_of answers) gives) (c.in-Err.ensures.cause from header (packets_of answers) gives)

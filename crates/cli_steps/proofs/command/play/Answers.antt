@@ -20,10 +20,10 @@ returns-in_default g c = λ quiet. record {
     refused = refl;
   };
   status = refl;
-  whole = on_ok_any c.tell_line.result refl;
+  whole = on_ok_any c.report_line.result refl;
   still = told_line (codes "NoMemory");
   is_still = inl refl;
-  tells = c.tell_line.ensures;
+  tells = c.report_line.ensures;
 }
 
 -- hints are not wanted, so standard error took what is still told and no more

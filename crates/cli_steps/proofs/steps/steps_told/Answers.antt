@@ -20,6 +20,6 @@ returns-in-Err g c = inr (record {
   fault = c.in-Err.fault;
   refused = c.in-Err.ensures.fault;
   nothing = Keeps-refl _;
-  tells = c.tell_line.ensures;
+  tells = c.report_line.ensures;
   one = refl;
 })

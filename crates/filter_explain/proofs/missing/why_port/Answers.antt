@@ -7,5 +7,5 @@ use Rattle.filter_explain.proofs.missing.why_port.Goals as goal
 pub returns-in-Some : goal.returns-in-Some
 returns-in-Some c =
     let p = packet_of c.args.packet.now c.args.wire in
-    c.missing.ensures
+    c.first_uncaptured.ensures
     ∙ sym (missing-behind 14 c.in-Some.first p (λ b. missing (14 + 4 * bit_and b 15 + c.args.offset) 2 p) (sym c.in-Some.ensures))

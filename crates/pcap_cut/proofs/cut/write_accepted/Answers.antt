@@ -8,8 +8,8 @@ use Rattle.pcap_cut.proofs.cut.write_accepted.Goals as goal
 
 pub returns-in-Err-clause-writes : goal.returns-in-Err-clause-writes
 returns-in-Err-clause-writes g c = λ from header given.
-    let snap = c.meant-snap.result in
-    rw (sym c.meant-snap.ensures) (
+    let snap = c.effective_snaplen-snap.result in
+    rw (sym c.effective_snaplen-snap.ensures) (
       c.open-writer.result.0,
       c.close-sink.ensures.sink,
       c.close-sink.ensures.sent,
@@ -23,8 +23,8 @@ returns-in-Err-clause-writes g c = λ from header given.
 
 pub returns-clause-writes : goal.returns-clause-writes
 returns-clause-writes g c = λ from header given.
-    let snap = c.meant-snap.result in
-    rw (sym c.meant-snap.ensures) (
+    let snap = c.effective_snaplen-snap.result in
+    rw (sym c.effective_snaplen-snap.ensures) (
       c.copy_accepted-end.new.writer,
       c.close-sink-2.ensures.sink,
       c.close-sink-2.ensures.sent,

@@ -4,7 +4,7 @@ use Rattle.listener.specs.Buffers.{filled}
 use Rattle.handover.specs.Ends.{IsSameDrain}
 use Rattle.handover.specs.History.{batches_of}
 use Rattle.replay.specs.Reading.{messages_of}
-use Rattle.replay.specs.declared.reading.Stop.TheVariants.{Ended}
+use Rattle.replay.specs.declared.reading.ReaderStop.TheVariants.{Ended}
 use Rattle.replay.proofs.reading.read_out.Given as goal
 
 -- what was pushed is what was read

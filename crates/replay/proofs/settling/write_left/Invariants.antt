@@ -5,7 +5,7 @@ use Rattle.listener.specs.Laws.{joined}
 use Rattle.listener.specs.declared.message.Message.{Message}
 use Rattle.replay.specs.Reading.{messages_of}
 use Rattle.replay.specs.Writing.{Writes}
-use Rattle.replay.specs.declared.writing.Output.{Output}
+use Rattle.replay.specs.declared.writing.OutputFile.{OutputFile}
 use Rattle.replay.proofs.settling.write_left.Given as goal
 
 -- the buffers that were written, and those that are left
@@ -14,5 +14,5 @@ invariant-loop g l =
     (gone : List Filled)
     × (known_items l.fn.ring ≡ gone ++ known_items l.ring)
     × (l.left ≡ l.counter + length (known_items l.ring))
-    × ((output : Output _) (messages : List Message) → Writes g.W.Sink.taken g.W.Sink.failures output messages l.fn.written
+    × ((output : OutputFile _) (messages : List Message) → Writes g.W.Sink.taken g.W.Sink.failures output messages l.fn.written
     → Writes g.W.Sink.taken g.W.Sink.failures output (messages ++ joined (messages_of gone)) l.written)

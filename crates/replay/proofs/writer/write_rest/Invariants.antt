@@ -2,12 +2,12 @@ use Rattle.std.proofs.Common.{◌≡◌, List}
 use Rattle.rtrb.specs.Ring.{received, SameConsumer}
 use Rattle.listener.specs.declared.message.Message.{Message}
 use Rattle.replay.specs.Writing.{Writes}
-use Rattle.replay.specs.declared.writing.Output.{Output}
+use Rattle.replay.specs.declared.writing.OutputFile.{OutputFile}
 use Rattle.replay.proofs.writer.write_rest.Given as goal
 
 -- nothing was popped so far
 abbrev pub invariant-loop : goal.invariant-loop
 invariant-loop g l =
     SameConsumer l.fn.rest l.rest × (received l.rest ≡ received l.fn.rest)
-    × ((output : Output _) (messages : List Message) → Writes g.W.Sink.taken g.W.Sink.failures output messages l.fn.written
+    × ((output : OutputFile _) (messages : List Message) → Writes g.W.Sink.taken g.W.Sink.failures output messages l.fn.written
     → Writes g.W.Sink.taken g.W.Sink.failures output messages l.written)

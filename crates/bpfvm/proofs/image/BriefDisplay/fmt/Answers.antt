@@ -1,7 +1,7 @@
 use Rattle.std.proofs.Common.{◌≡◌, ℕ, List, [], ◌++◌, refl, ap, sym, subst, ◌∙◌, arith}
 use Rattle.std.specs.Prelude.{codes}
 use Rattle.std.proofs.lemmas.List.{append-nil}
-use Rattle.bpfvm.specs.declared.image.Form.{Form}
+use Rattle.bpfvm.specs.declared.image.OperandForm.{OperandForm}
 use Rattle.bpfvm.specs.Codes.{operation_of}
 use Rattle.bpfvm.specs.Images.{name_of, operand_text, spaced, brief_text}
 use Rattle.bpfvm.specs.Naming.{operand_in}
@@ -13,7 +13,7 @@ unfolding brief_text
 returns-in-Nothing-clause-writes g c = λ plain ok.
     let i = c.args.self.now.0.now in
     let o = operation_of i.code in
-    let none : [] ≡ operand_text o 0 i = subst (λ (form : Form). operand_in form 0 i ≡ operand_text o 0 i) c.in-Nothing.is (c.form_of-form.ensures.operand 0 i) in
+    let none : [] ≡ operand_text o 0 i = subst (λ (form : OperandForm). operand_in form 0 i ≡ operand_text o 0 i) c.in-Nothing.is (c.form_of-form.ensures.operand 0 i) in
     written-as _ _ _ _ _ (c.name_of.ensures ∙ sym (append-nil (name_of o)) ∙ ap (λ (t : List ℕ). name_of o ++ spaced t) none)
     (c.in_ok-write_str.ensures.writes plain refl)
 

@@ -1,12 +1,12 @@
 use Rattle.std.proofs.Common.{◌≡◌, ◌≢◌, ◌⊎◌, inl, inr}
 use Rattle.filtergen_facts.specs.declared.lists.Form.TheVariants as forms
-use Rattle.filtergen_facts.specs.declared.lists.Kind.{Kind}
+use Rattle.filtergen_facts.specs.declared.lists.ListKind.{ListKind}
 use Rattle.filtergen.proofs.Leading.{renews-all-later}
 use Rattle.filtergen.proofs.Narrowed.{behind-any, behind-more, behind-same, behind-renewed}
 use Rattle.filtergen.proofs.Taking.{bytes-kind, relation-fits, host-kind, host-fits}
 use Rattle.filtergen.proofs.code.Code.alone.Goals as goal
 
-only-bytes : (k : Kind) → (k.form ≡ forms.Bytes) ⊎ (k.form ≡ forms.EtherHost) → (k.form ≢ forms.EtherHost) → k.form ≡ forms.Bytes
+only-bytes : (k : ListKind) → (k.form ≡ forms.Bytes) ⊎ (k.form ≡ forms.EtherHost) → (k.form ≢ forms.EtherHost) → k.form ≡ forms.Bytes
 only-bytes k (inl bytes) other = bytes
 only-bytes k (inr host) other = absurd (other host)
 

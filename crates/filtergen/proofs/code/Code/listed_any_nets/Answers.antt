@@ -1,6 +1,6 @@
 use Rattle.std.proofs.Common.{◌<◌, length, arith}
 use Rattle.filtergen.specs.declared.insns.Field.TheVariants as fields
-use Rattle.filtergen_facts.specs.declared.lists.Span.{Span}
+use Rattle.filtergen_facts.specs.declared.lists.ValueRange.{ValueRange}
 use Rattle.filter_meaning.specs.Meaning.{by_direction}
 use Rattle.filtergen_facts.specs.Lists.{any_of, direction_of, in_span, of_any_type}
 use Rattle.filtergen.proofs.Growing.{load-sound}
@@ -19,8 +19,8 @@ returns c =
     let d = direction_of c.args.sides in
     let m = c.args.mask in
     let some : 0 < length spans = omega (arith, c.requires.many) in
-    let t = λ (x : Span). by_direction d (in_span x m 26) (in_span x m 30) in
-    let u = λ (x : Span). by_direction d (in_span x m 28) (in_span x m 38) in
+    let t = λ (x : ValueRange). by_direction d (in_span x m 26) (in_span x m 30) in
+    let u = λ (x : ValueRange). by_direction d (in_span x m 28) (in_span x m 38) in
     let both = c.in_ok-ip.ensures in
     let rarp-jump = rw c.other_exits-exits.ensures at c.branch-self.ensures in
     rw (c.to.ensures, c.len-any.ensures.value, c.push.ensures, c.load_insn.ensures)

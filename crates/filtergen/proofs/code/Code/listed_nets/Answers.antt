@@ -1,6 +1,6 @@
 use Rattle.std.proofs.Common.{◌≡◌, true, sym, arith}
 use Rattle.std.proofs.lemmas.Result.{MatchResult-weaker}
-use Rattle.filtergen_facts.specs.declared.lists.Span.{Span}
+use Rattle.filtergen_facts.specs.declared.lists.ValueRange.{ValueRange}
 use Rattle.filter_meaning.specs.Meaning.{and_test, is_type, by_direction}
 use Rattle.filtergen_facts.specs.Knowing.{has_type}
 use Rattle.filtergen_facts.specs.Lists.{any_of, direction_of, in_span, of_any_type}
@@ -15,8 +15,8 @@ returns-then-has_type c =
     let d = direction_of c.args.sides in
     let m = c.args.mask in
     let known = c.args.known in
-    let t = λ (x : Span). by_direction d (in_span x m 26) (in_span x m 30) in
-    let u = λ (x : Span). by_direction d (in_span x m 28) (in_span x m 38) in
+    let t = λ (x : ValueRange). by_direction d (in_span x m 26) (in_span x m 30) in
+    let u = λ (x : ValueRange). by_direction d (in_span x m 28) (in_span x m 38) in
     let typed : has_type known 0x0800 ≡ true = sym c.if-has_type.ensures in
     MatchResult-weaker c.listed_ip_nets.result c.listed_ip_nets.ensures
     (λ way done.

@@ -1,5 +1,5 @@
 use Rattle.std.proofs.Common.{◌+◌, ◌*◌, ◌<◌, length, refl, sym, arith}
-use Rattle.filtergen_facts.specs.declared.lists.Span.{Span}
+use Rattle.filtergen_facts.specs.declared.lists.ValueRange.{ValueRange}
 use Rattle.filter_meaning.specs.Meaning.{Test, check, byte, and_test, is_type, within}
 use Rattle.filtergen_facts.specs.Lists.{any_of}
 use Rattle.filtergen.proofs.Following.{decides-followed}
@@ -7,7 +7,7 @@ use Rattle.filtergen.proofs.Narrowed.{behind-more, behind-same}
 use Rattle.filtergen_facts.proofs.Joining.{any-guarded}
 use Rattle.filtergen.proofs.code.Code.listed_protocols.Goals as goal
 
-abbrev number : Span → Test
+abbrev number : ValueRange → Test
 number x p = check (within x.low x.high) (byte 23 p)
 
 pub returns : goal.returns

@@ -1,5 +1,5 @@
 use Rattle.std.proofs.Common.{◌<◌, length, arith}
-use Rattle.filtergen_facts.specs.declared.lists.Span.{Span}
+use Rattle.filtergen_facts.specs.declared.lists.ValueRange.{ValueRange}
 use Rattle.filter_meaning.specs.Meaning.{or_test, has_ports}
 use Rattle.filtergen_facts.specs.Lists.{any_of, direction_of}
 use Rattle.filtergen.specs.Emission.{AreExits}
@@ -19,5 +19,5 @@ returns c =
     let first = rw is at c.unfragmented-yes.ensures in
     let number = rw is at c.tcp_or_udp_number-inner.ensures in
     behind-more _ (omega arith)
-    (behind-same c.args.known _ (any_of (λ (x : Span). or_test (has_ports 6 d x.low x.high) (has_ports 17 d x.low x.high)) spans) (λ p holds. either-shared d spans p some)
+    (behind-same c.args.known _ (any_of (λ (x : ValueRange). or_test (has_ports 6 d x.low x.high) (has_ports 17 d x.low x.high)) spans) (λ p holds. either-shared d spans p some)
     (c.behind_ip_unless.ensures.guards _ _ c.args.self.now c.requires.ways (decides-both are (decides-both are ports first) number)))

@@ -1,5 +1,5 @@
 use Rattle.std.proofs.Common.{◌≡◌, ◌<◌, length, refl, ◌∙◌, arith}
-use Rattle.filtergen_facts.specs.declared.lists.Span.{Span}
+use Rattle.filtergen_facts.specs.declared.lists.ValueRange.{ValueRange}
 use Rattle.filter_meaning.specs.Meaning.{Packet, Test, check, half, within}
 use Rattle.filtergen_facts.specs.Lists.{any_of}
 use Rattle.filtergen.specs.Listed.{among}
@@ -9,7 +9,7 @@ use Rattle.filtergen_facts.proofs.Joining.{any-same}
 use Rattle.filtergen.proofs.Neighbours.{any-checked, type-known, type-missing}
 use Rattle.filtergen.proofs.code.Code.listed_types.Goals as goal
 
-abbrev number : Span → Test
+abbrev number : ValueRange → Test
 number x p = check (within x.low x.high) (half 12 p)
 
 pub returns : goal.returns
@@ -19,7 +19,7 @@ returns c =
     let done = rw c.other_exits.ensures at c.in_ok-other.ensures.0 in
     let tested = decides-followed _ (any_of number spans) (λ r p bytes. refl) done in
     let same : (p : Packet) → any_of number spans p ≡ check (among spans) (half 12 p) =
-    λ p. any-same number (λ (x : Span) q. check (within x.low x.high) (half 12 p)) p (λ x. refl) spans ∙ any-checked spans p (half 12 p) some in
+    λ p. any-same number (λ (x : ValueRange) q. check (within x.low x.high) (half 12 p)) p (λ x. refl) spans ∙ any-checked spans p (half 12 p) some in
     let first = rw (c.by.ensures, c.has_number.ensures) at c.apart_from_ip.ensures.test in
     rw (c.apart_from_ip.ensures.places, c.by.ensures, c.has_number.ensures)
     (decides-by-more _ (omega arith)

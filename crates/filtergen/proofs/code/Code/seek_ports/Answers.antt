@@ -3,7 +3,7 @@ use Rattle.bpfvm.specs.Codes.{operation_of}
 use Rattle.bpfvm.specs.Validity.{fault_of}
 use Rattle.filter_meaning.specs.Meaning.{by_direction, has_port}
 use Rattle.filtergen_facts.specs.Lists.{any_of, direction_of}
-use Rattle.filtergen_facts.specs.declared.lists.Span.{Span}
+use Rattle.filtergen_facts.specs.declared.lists.ValueRange.{ValueRange}
 use Rattle.filtergen.proofs.Deciding.{decides-more, decides-same}
 use Rattle.filtergen.proofs.Seeking.{port_at, decides-header, header-shared}
 use Rattle.filtergen.proofs.code.Code.seek_ports.Goals as goal
@@ -21,5 +21,5 @@ returns c =
     let done = c.in_ok-seek_sides.ensures in
     rw (c.len.ensures.value, c.push.ensures, c.plain_insn-header.ensures)
     (decides-more _ (omega arith)
-    (decides-same _ (any_of (λ (x : Span). by_direction d (has_port x.low x.high 0) (has_port x.low x.high 2)) spans) (λ p bytes. header-shared d spans p some)
+    (decides-same _ (any_of (λ (x : ValueRange). by_direction d (has_port x.low x.high 0) (has_port x.low x.high 2)) spans) (λ p bytes. header-shared d spans p some)
     (decides-header (λ l. any_of (port_at d l) spans) done.1 passed.yes passed.no done.0)))

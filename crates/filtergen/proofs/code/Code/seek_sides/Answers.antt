@@ -1,7 +1,7 @@
 use Rattle.std.proofs.Common.{◌+◌, ◌*◌, ◌-◌, ◌<◌, length, take, drop, List, ◌≡◌, ◌++◌, sym, ap, ◌∙◌, arith}
 use Rattle.std.proofs.lemmas.List.{take-append-drop, take_all, length-take, length-drop}
 use Rattle.std.proofs.lemmas.Result.{MatchResult-weaker}
-use Rattle.filtergen_facts.specs.declared.lists.Span.{Span}
+use Rattle.filtergen_facts.specs.declared.lists.ValueRange.{ValueRange}
 use Rattle.filtergen.proofs.Following.{follows-more}
 use Rattle.filtergen.proofs.Seeking.{follows-sides}
 use Rattle.filtergen.proofs.code.Code.seek_sides.Goals as goal
@@ -17,7 +17,7 @@ pub returns-in_ok-second-in-Either : goal.returns-in_ok-second-in-Either
 returns-in_ok-second-in-Either c =
     let spans = c.args.spans.now in
     let n = length spans - 1 in
-    let first : List Span = take (length spans - n) (drop n spans) in
+    let first : List ValueRange = take (length spans - n) (drop n spans) in
     let whole : first ≡ drop n spans = take_all (length spans - n) (drop n spans) (omega (arith, length-drop n spans)) in
     let some : 0 < length (take n spans) = omega (arith, length-take n spans, c.requires.many) in
     let one : length first ≡ 1 = omega (arith, ap length whole, length-drop n spans, c.requires.many) in

@@ -20,7 +20,7 @@ group-loop-joint-preserved t c =
 pub group_term-returns-in_ok-expr-in-Parenthesis : goal.group_term-returns-in_ok-expr-in-Parenthesis
 group_term-returns-in_ok-expr-in-Parenthesis t c =
     rw (group_parenthesis c.args.levels c.args.qualifiers (kinds c.args.self.now.rest.now) (cc), c.in_ok-levels-in-Parenthesis.ensures, c.in_ok-expr-in-Parenthesis.ensures)
-    (closed_gives tree_of c.closed.result c.in_ok-expr-in-Parenthesis.expr c.args.qualifiers _ _ c.closed.ensures)
+    (closed_gives tree_of c.close_after.result c.in_ok-expr-in-Parenthesis.expr c.args.qualifiers _ _ c.close_after.ensures)
 
 pub group-returns-in_err-expr : goal.group-returns-in_err-expr
 group-returns-in_err-expr t c = fails _ _ _ _ _ c.from_residual.ensures c.in_err-expr.ensures

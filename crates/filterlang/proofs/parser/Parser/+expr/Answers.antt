@@ -20,7 +20,7 @@ expr-loop-joint-preserved t c =
 pub logical-returns-in_ok-expr-in-Parenthesis : goal.logical-returns-in_ok-expr-in-Parenthesis
 logical-returns-in_ok-expr-in-Parenthesis t c =
     rw (logical_parenthesis c.args.levels c.args.self.now.nearest (kinds c.args.self.now.cursor.rest.now) (cc), c.in_ok-levels-in-Parenthesis.ensures, c.in_ok-expr-in-Parenthesis.ensures)
-    (closed_gives tree_of c.closed.result c.in_ok-expr-in-Parenthesis.expr _ _ _ c.closed.ensures)
+    (closed_gives tree_of c.close_after.result c.in_ok-expr-in-Parenthesis.expr _ _ _ c.close_after.ensures)
 
 pub expr-returns-in_err-expr : goal.expr-returns-in_err-expr
 expr-returns-in_err-expr t c = fails _ _ _ _ _ c.from_residual.ensures c.in_err-expr.ensures

@@ -11,4 +11,4 @@ returns c =
     let l = c.self.inside.listener in
     rw (← c.self.view_is) (step_told c.answers.ensures.is_right l c.arrive-fed.new.self _ _ _ _ (arrived (seen_by l (arrival p.capture p.place p.packet)) c.arrive-fed.result) _ refl refl
     _ _ _ _ (c.of-before.ensures.closed ∙ c.self.invariant.1) c.of-before.ensures.load c.of-before.ensures.held
-    (λ followed some. rw (← c.as_ref-packet.ensures) (rw (← c.self.view_is) at (c.size_told-size.ensures followed (rw (← c.self.view_is) some) p.capture p.place))) c.answered.ensures (rw (← c.as_ref-packet.ensures) c.arrive-fed.ensures) c.in_ok-follow.ensures)
+    (λ followed some. rw (← c.as_ref-packet.ensures) (rw (← c.self.view_is) at (c.followed_size-size.ensures followed (rw (← c.self.view_is) some) p.capture p.place))) c.answer_of.ensures (rw (← c.as_ref-packet.ensures) c.arrive-fed.ensures) c.in_ok-follow.ensures)

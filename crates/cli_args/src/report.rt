@@ -1,0 +1,23 @@
+//! What is told of words that are refused, and of a call for help.
+
+use clap::Error;
+use clap::error::ErrorKind;
+use cli_text::Status;
+use cli_text::report::{report_fault, report_unwritten};
+use savefile::Fault;
+use std::io::Write;
+
+/// Help goes to `out` with status 0, what is wrong with the words to `err` with status 1.
+pub fn report_words_fault<O: Write, E: Write>(error: &Error, out: &mut O, err: &mut E) -> Status {
+    if error.kind() == ErrorKind::OutOfMemory {
+        report_fault(Fault::NoMemory, Status::Refused, err)
+    } else if error.use_stderr() {
+        let _ = write!(err, "{error}");
+        Status::Refused
+    } else {
+        match write!(out, "{error}") {
+            Ok(()) => Status::Clean,
+            Err(error) => report_unwritten(&error, err),
+        }
+    }
+}

@@ -1,0 +1,158 @@
+//! What the program reports on standard error, and the exit status that goes with it.
+
+ghost use Rattle.std.specs.Prelude.{◌≡◌, IfOk, IfSome};
+ghost use Rattle.cli_text.specs.Sending.{Takes};
+ghost use Rattle.cli_text.specs.declared.status.Status.TheVariants.{Failed, Refused};
+ghost use Rattle.cli_text.specs.Telling.{fault_status, is_unread, output_line, print_status_of, told_line};
+
+use crate::line::Line;
+use crate::sending::send;
+use crate::status::Status;
+use savefile::Fault;
+use std::fmt::{Display, Formatter};
+use std::io::{ErrorKind, Write};
+use std::{fmt, io};
+
+/// What a command came to.
+#[derive(Debug, Drop)]
+pub struct Outcome {
+    /// The exit status.
+    pub status: Status,
+    /// Whether standard error took what was reported.
+    pub told: io::Result<()>,
+}
+
+/// The line of a fault, where it has at most 512 bytes.
+fn line_of<D: Display + Drop>(fault: D) -> io::Result<Line>
+    ensures { IfOk result (λ line. IfSome (D.output fault) (λ text. line ≡ told_line text)) }
+{
+    let mut line = Line::new();
+    writeln!(line, "bpftap: {fault}")?;
+    Ok(line)
+}
+
+/// Tells a fault in a line of its own, which goes out in one piece. Where standard error fails it took a beginning of the line.
+/// A line of more than 512 bytes is not told.
+pub fn report_line<E: Write, D: Display + Drop>(fault: D, err: &mut E) -> io::Result<()>
+    ensures { IfSome (D.output fault) (λ text. Takes (E.contents err.old) (E.contents err.new) result (told_line text)) }
+{
+    let line = line_of(fault)?;
+    send(line.as_bytes(), err)
+}
+
+/// Tells a fault in a line of its own, whatever its length, and gives the status back. Where standard error itself fails, the
+/// status is all that is left to tell.
+pub fn report_fault<E: Write, D: Display + Drop>(fault: D, status: Status, err: &mut E) -> Status
+    ensures { result ≡ status }
+{
+    let _ = match line_of(&fault) {
+        Ok(line) => send(line.as_bytes(), err),
+        Err(_) => writeln!(err, "bpftap: {fault}"),
+    };
+    status
+}
+
+/// Tells why the words of the command line could not be taken.
+pub fn report_words<E: Write>(error: io::Error, err: &mut E) -> Status
+    ensures { result ≡ Refused }
+{
+    match error.kind() {
+        ErrorKind::OutOfMemory => report_fault(Fault::NoMemory, Status::Refused, err),
+        ErrorKind::InvalidData => report_fault(
+            "a word of the command line is not UTF-8",
+            Status::Refused,
+            err,
+        ),
+        _ => report_fault(error, Status::Refused, err),
+    }
+}
+
+/// A path in a line of its own: control characters are written as in a Rust string, `\n` or `\u{1b}`.
+#[derive(Clone, Copy)]
+pub struct EscapedPath<'a>(pub &'a str);
+
+impl Display for EscapedPath<'_> {
+    fn fmt<W: fmt::Write>(&self, f: &mut Formatter<W>) -> fmt::Result {
+        for character in self.0.chars() {
+            if character.is_control() {
+                write!(f, "{}", character.escape_default())?;
+            } else {
+                f.write_char(character)?;
+            }
+        }
+        Ok(())
+    }
+}
+
+/// Tells that the file or device of a path failed.
+pub fn report_device<E: Write>(path: &str, err: &mut E) -> Status
+    ensures { result ≡ Failed }
+{
+    report_fault(
+        format_args!("Device {}", EscapedPath(path)),
+        Status::Failed,
+        err,
+    )
+}
+
+/// Reports that standard output failed, and answers the exit status. If nobody reads what is printed any more, as after `| head`,
+/// nothing is reported.
+pub fn report_unwritten<E: Write>(error: &io::Error, err: &mut E) -> Status
+    ensures { result ≡ Failed }
+{
+    if is_unread(error.kind()) {
+        Status::Failed
+    } else {
+        report_device("standard output", err)
+    }
+}
+
+/// The exit status of a fault.
+pub fn fault_status(fault: Fault) -> Status
+    ensures { result ≡ fault_status fault }
+{
+    match fault {
+        Fault::Device => Status::Failed,
+        Fault::TornRecord(_) | Fault::BadFraction(_) | Fault::TooLong(_) => Status::Damaged,
+        _ => Status::Refused,
+    }
+}
+
+/// Reports the fault of the capture at a path: a failed device by the path, any other one by its name. It answers the exit status.
+pub fn report_at<E: Write>(fault: Fault, path: &str, err: &mut E) -> Status
+    ensures { result ≡ fault_status fault }
+{
+    match fault {
+        Fault::Device => report_device(path, err),
+        _ => report_fault(fault, fault_status(fault), err),
+    }
+}
+
+/// The exit status of printing.
+pub fn print_status(printed: &io::Result<()>) -> Status
+    ensures { result ≡ print_status_of printed.now }
+{
+    match printed {
+        Ok(()) => Status::Clean,
+        Err(_) => Status::Failed,
+    }
+}
+
+/// Whether it is that nobody reads what is printed any more, as behind `| head`.
+fn is_unread(kind: ErrorKind) -> bool
+    ensures { result ≡ is_unread kind }
+{
+    matches!(kind, ErrorKind::BrokenPipe)
+}
+
+/// Tells that standard output failed, if it did, in a line `bpftap: Device standard output`. Where nobody reads what is printed any
+/// more, there is nobody to tell it to either.
+pub fn report_output<E: Write>(printed: &io::Result<()>, err: &mut E) -> io::Result<()>
+    ensures { Takes (E.contents err.old) (E.contents err.new) result (output_line printed.now) }
+{
+    match printed {
+        Ok(()) => Ok(()),
+        Err(error) if is_unread(error.kind()) => Ok(()),
+        Err(_) => report_line("Device standard output", err),
+    }
+}
