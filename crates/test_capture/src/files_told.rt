@@ -4,13 +4,20 @@ use crate::same::same;
 use clap::Error;
 use cli_args::report::report_words_fault;
 use cli_files::reading::report_io;
+use cli_text::Status;
 use std::alloc::AllocError;
 use std::io;
 use std::io::ErrorKind;
 use std::process::Abort;
 
 /// What is told of a path that can't be read, and the status.
-fn is_told(rt: &(impl Abort + AllocGlobal), kind: ErrorKind, path: &str, line: &str, status: u8) {
+fn is_told(
+    rt: &(impl Abort + AllocGlobal),
+    kind: ErrorKind,
+    path: &str,
+    line: &str,
+    status: Status,
+) {
     let mut err: Vec<u8> = Vec::new(rt.alloc());
     let found = report_io(&io::Error::from(kind), path, &mut err);
     same(rt, (err.as_slice(), found), (line.as_bytes(), status));
@@ -23,7 +30,7 @@ fn want_of_memory_is_told_by_its_name(rt: HostRuntime) {
         ErrorKind::OutOfMemory,
         "in.pcap",
         "bpftap: NoMemory\n",
-        1,
+        Status::Refused,
     );
 }
 
@@ -35,7 +42,7 @@ fn want_of_memory_for_the_words_is_told_by_its_name(rt: HostRuntime) {
     same(
         &rt,
         (err.as_slice(), status),
-        (b"bpftap: NoMemory\n".as_slice(), 1),
+        (b"bpftap: NoMemory\n".as_slice(), Status::Refused),
     );
     assert!(rt; out.is_empty());
 }
@@ -43,5 +50,11 @@ fn want_of_memory_for_the_words_is_told_by_its_name(rt: HostRuntime) {
 #[test]
 fn control_characters_of_a_path_are_escaped(rt: HostRuntime) {
     let line = "bpftap: Device a\\n\\u{1b}[1mé b\n";
-    is_told(&rt, ErrorKind::NotFound, "a\n\u{1b}[1mé b", line, 3);
+    is_told(
+        &rt,
+        ErrorKind::NotFound,
+        "a\n\u{1b}[1mé b",
+        line,
+        Status::Failed,
+    );
 }

@@ -4,6 +4,7 @@ use crate::same::same;
 use crate::system::{NONE, System, TORN, Table};
 use cli_files::late::{LateFile, LateInput, reserve_std_fd};
 use cli_files::paths::refuse_shared_files;
+use cli_text::Status;
 use std::fs::Files;
 use std::io::{Read, Write};
 use std::process::Abort;
@@ -61,7 +62,11 @@ fn ends_untold(rt: &(impl Abort + AllocGlobal), table: &Table) {
     let read = ["all.bpf", "in.pcap"];
     let ended = refuse_shared_files(&system, None, &read, &["out.pcap"], &mut err);
     let line = b"bpftap: Device all.bpf\n";
-    same(rt, (ended, err.as_slice()), (Err(3), line.as_slice()));
+    same(
+        rt,
+        (ended, err.as_slice()),
+        (Err(Status::Failed), line.as_slice()),
+    );
 }
 
 #[test]
