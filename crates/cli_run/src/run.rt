@@ -47,7 +47,7 @@ pub fn replay_plan<R: Source + Send + Drop, W: Sink + Send + Drop, T: Threads + 
 
 /// What a replay gave, and room for the sinks that are handed back.
 #[derive(Drop)]
-struct Replayed<R, W> {
+struct RunResults<R, W> {
     reports: Vec<InterfaceReport<R, W>>,
     /// The number of each line's interface.
     places: Vec<usize>,
@@ -82,7 +82,7 @@ fn replay_lines<
     plan: Plan<RunLine<'_>>,
     captures: Vec<Vec<R>>,
     make: M,
-) -> Result<Replayed<R, W>, RunFault>
+) -> Result<RunResults<R, W>, RunFault>
     requires callable { M.IsAlwaysCallable make }
     requires there { All (λ line. line.interface < length captures.items) plan.lines.items }
     requires programs { length plan.programs.items ≡ length plan.lines.items }
@@ -95,7 +95,7 @@ fn replay_lines<
     let room = Vec::with_capacity(alloc, plan.lines.len())?;
     let places = plan.lines.iter().map(|line| line.interface).collect(alloc)?;
     let made = make_sinks(alloc, plan.lines.as_slice(), make)?;
-    Ok(Replayed {
+    Ok(RunResults {
         reports: replay_plan(rt, alloc, plan, captures, made)?,
         places,
         sinks: room,
@@ -104,7 +104,7 @@ fn replay_lines<
 
 /// Prints and reports how the replay ended, and hands the sinks back.
 fn end_run<R: Drop, W: Drop, O: Write, E: Write>(
-    replayed: Replayed<R, W>,
+    replayed: RunResults<R, W>,
     out: &mut O,
     err: &mut E,
 ) -> (Outcome, Vec<W>)
@@ -115,7 +115,7 @@ fn end_run<R: Drop, W: Drop, O: Write, E: Write>(
     ensures all { length result.1.items ≡ length replayed.places.items }
     ensures back { AreSinksOf replayed.places.items replayed.reports.items result.1.items }
 {
-    let Replayed {
+    let RunResults {
         reports,
         places,
         sinks,

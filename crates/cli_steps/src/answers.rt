@@ -45,7 +45,7 @@ fn put_answer(
     }
 }
 
-/// Whether an answer tells that the store became the hold.
+/// Whether an answer says that the store became the hold.
 fn fills_hold(answer: Answer) -> bool
     ensures { result ≡ fills_hold answer }
 {
@@ -283,7 +283,7 @@ fn write_arrival<O: Write>(
     write_all(placed, all, line, out)
 }
 
-/// Puts the line of the n-th step, of which this is told, in place of what the line has.
+/// Puts the line of the n-th step, with this text, in place of what the line has.
 fn put_step(line: &mut String, n: usize, text: &str) -> Result<(), AllocError>
     ensures { OnOk result (string_bytes line.new ≡ step_line n text.now) }
 {

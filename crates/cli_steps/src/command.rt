@@ -26,7 +26,7 @@ use std::io::{BufWriter, Write};
 /// How many bytes of output are gathered before they are written.
 const OUTPUT_BUFFER: usize = 1 << 16;
 
-/// How many bytes of memory a report has from the start, so that it can be made when memory is refused.
+/// How many bytes of memory a report has from the start, so that it can be written when memory is refused.
 const REPORT: usize = 256;
 
 /// What is reported of standard output that failed.
@@ -102,16 +102,19 @@ fn read_lines<E: HintSink>(
     }
 }
 
+/// The captures as slices.
 fn borrow_all(alloc: Global, texts: &[Vec<u8>]) -> Result<Vec<&[u8]>, AllocError> {
     texts.iter().map(|text| text.as_slice()).collect(alloc)
 }
 
 /// What is wanted of the replay: its answers with `-v`, and its trace with `-p`.
 fn detail_of(words: &StepsWords<'_>) -> Detail {
-    match words.picture {
-        _ if words.explained => Detail::Answers,
-        Some(_) => Detail::Trace,
-        None => Detail::Reports,
+    if words.explained {
+        Detail::Answers
+    } else if words.picture.is_some() {
+        Detail::Trace
+    } else {
+        Detail::Reports
     }
 }
 

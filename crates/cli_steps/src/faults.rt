@@ -9,7 +9,7 @@ use std::fmt;
 use std::fmt::{Display, Formatter};
 use tap::Fault;
 
-/// The fault of a replay as it is told, by a contract that names each of its bytes: the same text as the fault's own.
+/// The text that reports the fault of a replay, by a contract that names each of its bytes. It is the fault's own text.
 #[derive(Clone, Copy)]
 pub struct FaultText(pub Fault);
 

@@ -4,13 +4,13 @@ ghost use Rattle.cli_steps.specs.Laws.{NoneIsBad, FirstBadIsOne};
 ghost use Rattle.cli_steps.specs.Listeners.{IsListenerLine};
 ghost use Rattle.cli_steps.specs.Script.{IsStepLine};
 
-/// A file whose lines all have their form has no bad line: so it is read, or its first bad line is told, and never both.
+/// A file whose lines all have their form has no bad line: so it is read, or its first bad line is reported, and never both.
 pub fn none_is_bad()
     ensures listeners { NoneIsBad IsListenerLine }
     ensures script { NoneIsBad IsStepLine }
 {}
 
-/// A file has one first bad line: so the number that is told is the only one that could be.
+/// A file has one first bad line: so the number that is reported is the only one that could be.
 pub fn first_bad_is_one()
     ensures listeners { FirstBadIsOne IsListenerLine }
     ensures script { FirstBadIsOne IsStepLine }

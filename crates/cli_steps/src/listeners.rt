@@ -1,4 +1,4 @@
-//! The file LISTENERS of `bpftap steps`: the listeners that are wanted.
+//! The file LISTENERS of `bpftap steps`: the listeners that are asked for.
 
 ghost use Rattle.std.specs.Prelude.{ℕ, List, IfOk, IfErr, IfSome, IfNone};
 ghost use Rattle.tap_steps.specs.declared.filters.Spec.{Spec};
@@ -10,7 +10,7 @@ use std::alloc::{AllocError, Global};
 use std::str;
 use tap_steps::{Filter, MAX_LISTENERS, Spec};
 
-/// What stands before the first space, between it and the second, and behind that.
+/// What a line has before the first space, between it and the second, and after that.
 fn fields(line: &[u8]) -> Option<(&[u8], &[u8], &[u8])>
     ensures some { IfSome result (λ f. AreFields line.now f.0.now f.1.now f.2.now) }
     ensures none { IfNone result ((snap capacity expression : List ℕ) → AreFields line.now snap capacity expression → ⊥) }
@@ -22,7 +22,7 @@ fn fields(line: &[u8]) -> Option<(&[u8], &[u8], &[u8])>
     }
 }
 
-/// The listener of a line, nothing where the line has not its form.
+/// The listener of a line, `None` if the line lacks its form.
 fn spec_of(alloc: Global, line: &[u8]) -> Result<Option<Spec>, AllocError>
     ensures some { IfOk result (λ found. IfSome found (λ spec. IsListenerLine line.now spec)) }
     ensures none { IfOk result (λ found. IfNone found ((spec : Spec) → IsListenerLine line.now spec → ⊥)) }
@@ -47,14 +47,14 @@ fn spec_of(alloc: Global, line: &[u8]) -> Result<Option<Spec>, AllocError>
     }))
 }
 
-/// How many listeners are kept at most: one more than a replay takes, so that it is seen that there are too many.
+/// How many listeners are kept at most: one more than a replay takes, so that too many can be reported.
 pub const MAX_KEPT: usize = MAX_LISTENERS + 1;
 
 /// Reads the file LISTENERS, a listener on each line: `SNAP CAPACITY EXPRESSION`.
 ///
-/// CAPACITY may have an `i` behind its digits, for the mode Immediate. Where EXPRESSION is empty the space before it may be
-/// missing. The listeners are those of the lines, in order, but at most [`MAX_KEPT`], 65: of each further line nothing is kept,
-/// it is looked at alone. Or else [`LineFault::Listeners`] names the first line, from 1, that has not this form.
+/// CAPACITY may have an `i` after its digits, for the mode Immediate. If EXPRESSION is empty, the space before it may be missing.
+/// The listeners are those of the lines, in order, but at most [`MAX_KEPT`], 65: further lines are checked, and not kept.
+/// [`LineFault::Listeners`] names the first line, from 1, that lacks this form.
 pub fn read_listeners(alloc: Global, text: &[u8]) -> Result<Vec<Spec>, LineFault>
     ensures ok { IfOk result (λ specs. AreFirstOf text.now specs.items) }
     ensures fault { IfErr result (λ fault. IsRefusedListeners text.now fault) }

@@ -12,7 +12,7 @@ use listener::Fed;
 use std::alloc::AllocError;
 use tap_steps::{Answer, PlacedPacket};
 
-/// Appends, behind a colon, what an expression answers to a packet, and the primitive or relation that decides.
+/// Appends, after a colon, what an expression answers to a packet, and the primitive or relation that decides.
 fn put_decision_of(
     line: &mut String,
     expr: &Expr,
@@ -26,7 +26,7 @@ fn put_decision_of(
     Ok(())
 }
 
-/// Whether an answer tells that the filter rejects the packet.
+/// Whether an answer says that the filter rejects the packet.
 fn rejects(answer: Answer) -> bool
     ensures { result ≡ rejects answer }
 {
@@ -45,7 +45,7 @@ fn rejects(answer: Answer) -> bool
     }
 }
 
-/// Appends to the answer to a packet why it was rejected, where an expression did so.
+/// Appends to the answer to a packet why an expression rejected it, if one did.
 pub fn put_rejection(
     line: &mut String,
     placed: &PlacedPacket,

@@ -10,7 +10,7 @@ use cli_text::fields::{first_line, number, split_once};
 use std::alloc::Global;
 use tap_steps::Step;
 
-/// The step that a word names, with its listener; nothing where it names none.
+/// The step that a word names, with its listener; `None` if it names none.
 fn step_named(word: &[u8], l: u32) -> Option<Step>
     ensures some { IfSome result (IsNamed word.now l) }
     ensures none { IfNone result (NamesNone word.now) }
@@ -26,7 +26,7 @@ fn step_named(word: &[u8], l: u32) -> Option<Step>
     }
 }
 
-/// The step of a line, nothing where the line has not its form.
+/// The step of a line, `None` if the line lacks its form.
 fn step_of(line: &[u8]) -> Option<Step>
     ensures some { IfSome result (λ step. IsStepLine line.now step) }
     ensures none { IfNone result ((step : Step) → IsStepLine line.now step → ⊥) }
@@ -41,7 +41,7 @@ fn step_of(line: &[u8]) -> Option<Step>
 
 /// Reads the file SCRIPT, a step on each line: `arrive`, `flush L`, `read L` or `close L`.
 ///
-/// The steps are those of the lines, in order; or else [`LineFault::Script`] names the first line, from 1, that has not this form.
+/// The steps are those of the lines, in order. [`LineFault::Script`] names the first line, from 1, that lacks this form.
 pub fn read_script(alloc: Global, text: &[u8]) -> Result<Vec<Step>, LineFault>
     ensures ok { IfOk result (λ steps. IsFileOf IsStepLine text.now steps.items) }
     ensures fault { IfErr result (λ fault. IsRefusedScript text.now fault) }
