@@ -57,7 +57,7 @@ static ARGUMENTS: [Argument; 5] = [
 ];
 
 /// The subcommand.
-pub fn check_command<'a>(alloc: Global) -> Result<Command<'a>, AllocError> {
+pub fn check_usage<'a>(alloc: Global) -> Result<Command<'a>, AllocError> {
     subcommand(
         alloc,
         "check",

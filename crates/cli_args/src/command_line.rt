@@ -1,10 +1,10 @@
 //! The words of the command line, by `clap`.
 use crate::arguments::Argument;
-use crate::check::{CheckWords, check_command, check_words};
-use crate::explain::{ExplainWords, bad_explain_words, explain_command, explain_words};
-use crate::run::{RunWords, run_command, run_words};
-use crate::split::{SplitWords, split_command, split_words};
-use crate::steps::{StepsWords, steps_command, steps_words};
+use crate::check::{CheckWords, check_usage, check_words};
+use crate::explain::{ExplainWords, bad_explain_words, explain_usage, explain_words};
+use crate::run::{RunWords, run_usage, run_words};
+use crate::split::{SplitWords, split_usage, split_words};
+use crate::steps::{StepsWords, steps_usage, steps_words};
 use crate::subcommand::{bad_value, subcommand};
 use clap::error::ErrorKind;
 use clap::{Arg, ArgAction, ArgMatches, Command, Error};
@@ -111,7 +111,7 @@ static CUT: [Argument; 8] = [
     ),
 ];
 
-fn cut_command<'a>(alloc: Global) -> Result<Command<'a>, AllocError> {
+fn cut_usage<'a>(alloc: Global) -> Result<Command<'a>, AllocError> {
     subcommand(
         alloc,
         "cut",
@@ -141,12 +141,12 @@ fn bare_program<'a>(alloc: Global) -> Command<'a> {
 /// The subcommand of this name.
 fn subcommand_of<'a>(alloc: Global, name: &str) -> Result<Command<'a>, AllocError> {
     match name {
-        "check" => check_command(alloc),
-        "explain" => explain_command(alloc),
-        "cut" => cut_command(alloc),
-        "split" => split_command(alloc),
-        "steps" => steps_command(alloc),
-        _ => run_command(alloc),
+        "check" => check_usage(alloc),
+        "explain" => explain_usage(alloc),
+        "cut" => cut_usage(alloc),
+        "split" => split_usage(alloc),
+        "steps" => steps_usage(alloc),
+        _ => run_usage(alloc),
     }
 }
 
@@ -283,8 +283,8 @@ const SNAP_WANTED: &str = "-s takes a number from 0 to 262144";
 /// The error of a snapshot length that is not digits alone, with the usage of its subcommand.
 fn bad_snap(alloc: Global, name: &str) -> Result<Error, AllocError> {
     match name {
-        "check" => bad_value(check_command(alloc), "bpftap check", SNAP_WANTED),
-        _ => bad_value(cut_command(alloc), "bpftap cut", SNAP_WANTED),
+        "check" => bad_value(check_usage(alloc), "bpftap check", SNAP_WANTED),
+        _ => bad_value(cut_usage(alloc), "bpftap cut", SNAP_WANTED),
     }
 }
 

@@ -79,7 +79,7 @@ fn bare_command<'a>(alloc: Global) -> Result<Command<'a>, AllocError> {
 }
 
 /// The subcommand.
-pub fn explain_command<'a>(alloc: Global) -> Result<Command<'a>, AllocError> {
+pub fn explain_usage<'a>(alloc: Global) -> Result<Command<'a>, AllocError> {
     let filter = filter_group(alloc)?;
     bare_command(alloc)?.group(filter)
 }
@@ -114,7 +114,7 @@ fn range_of_value(matches: &ArgMatches<'_>) -> &'static str {
 /// The error of a snapshot length or a place that is not digits alone.
 pub fn bad_explain_words(alloc: Global, matches: &ArgMatches<'_>) -> Result<Error, AllocError> {
     bad_value(
-        explain_command(alloc),
+        explain_usage(alloc),
         "bpftap explain",
         range_of_value(matches),
     )

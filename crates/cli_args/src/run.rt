@@ -48,7 +48,7 @@ static ARGUMENTS: [Argument; 2] = [
 ];
 
 /// The subcommand.
-pub fn run_command<'a>(alloc: Global) -> Result<Command<'a>, AllocError> {
+pub fn run_usage<'a>(alloc: Global) -> Result<Command<'a>, AllocError> {
     subcommand(
         alloc,
         "run",

@@ -49,7 +49,7 @@ static ARGUMENTS: [Argument; 4] = [
 ];
 
 /// The subcommand.
-pub fn split_command<'a>(alloc: Global) -> Result<Command<'a>, AllocError> {
+pub fn split_usage<'a>(alloc: Global) -> Result<Command<'a>, AllocError> {
     subcommand(
         alloc,
         "split",

@@ -64,7 +64,7 @@ static ARGUMENTS: [Argument; 5] = [
 ];
 
 /// The subcommand.
-pub fn steps_command<'a>(alloc: Global) -> Result<Command<'a>, AllocError> {
+pub fn steps_usage<'a>(alloc: Global) -> Result<Command<'a>, AllocError> {
     subcommand(
         alloc,
         "steps",

@@ -1,6 +1,7 @@
 //! The files of a cut.
 
 use cli_args::command_line::CutWords;
+use cli_files::captures::with_buffer;
 use cli_files::late::LateFile;
 use cli_files::opening::open_input;
 use cli_files::paths::refuse_shared_files;
@@ -9,9 +10,7 @@ use cli_files::retried::Retried;
 use cli_report::probe::{ProbedInput, ProbedOutput};
 use cli_report::{FailureProbe, HintSink};
 use cli_text::Status;
-use savefile::Counted;
 use std::fs::Files;
-use std::io::BufWriter;
 
 /// How many bytes of output are gathered before they are written.
 const OUTPUT_BUFFER: usize = 1 << 18;
@@ -35,8 +34,8 @@ pub(crate) fn late_output<'r, 'p, R: Files + AllocGlobal, E: HintSink>(
     err: &mut E,
 ) -> Result<ProbedOutput<LateFile<'r, 'p, R>>, Status> {
     let late = FailureProbe::new(LateFile::new(rt, path));
-    match BufWriter::with_capacity(rt.alloc(), OUTPUT_BUFFER, late) {
-        Ok(output) => Ok(Counted::new(output)),
+    match with_buffer(rt.alloc(), OUTPUT_BUFFER, late) {
+        Ok(output) => Ok(output),
         Err(error) => Err(report_io(&error, path, err)),
     }
 }

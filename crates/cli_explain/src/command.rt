@@ -7,19 +7,15 @@ use crate::paths::open_apart;
 use crate::plan::read_filter;
 use crate::report::{report_each, report_one};
 use cli_args::explain::ExplainWords;
+use cli_files::captures::output_buffer;
 use cli_files::retried::Retried;
+use cli_report::HintSink;
 use cli_report::failures::{hint_input, hint_output};
 use cli_report::probe::ProbedInput;
-use cli_report::{FailureProbe, HintSink};
 use cli_text::Status;
-use cli_text::report::report_fault;
-use savefile::Fault;
 use std::alloc::Global;
 use std::fs::Files;
-use std::io::{BufWriter, Read, Write};
-
-/// How many bytes of output are gathered before they are written.
-const OUTPUT_BUFFER: usize = 1 << 16;
+use std::io::{Read, Write};
 
 /// What `explain` needs: its filter and IN.
 #[derive(Drop)]
@@ -102,9 +98,9 @@ fn explain_and_report<R: Read + Drop, O: Write, E: HintSink>(
     out: &mut O,
     err: &mut E,
 ) -> Status {
-    let noted = FailureProbe::new(&mut *out);
-    let Ok(mut out) = BufWriter::with_capacity(alloc, OUTPUT_BUFFER, noted) else {
-        return report_fault(Fault::NoMemory, Status::Refused, err);
+    let mut out = match output_buffer(alloc, &mut *out, err) {
+        Ok(out) => out,
+        Err(status) => return status,
     };
     let status = match words.place {
         Some(place) => explain_place(alloc, job, place, words.input, &mut out, err),

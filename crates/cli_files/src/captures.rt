@@ -11,8 +11,8 @@ use std::fs::Files;
 use std::io;
 use std::io::{BufWriter, Write};
 
-/// How many bytes are gathered before they are written.
-const OUTPUT_BUFFER: usize = 1 << 16;
+/// How many bytes are gathered before they are written, of one capture of many or of standard output.
+pub const OUTPUT_BUFFER: usize = 1 << 16;
 
 /// A capture that is opened at its first read.
 pub type Input<'r, 'p, R> = ProbedInput<LateInput<'r, 'p, R>>;
@@ -30,13 +30,17 @@ pub fn inputs<'r, 'p, R: Files>(
     Ok(inputs)
 }
 
-/// A capture that is written, with a buffer in front of it.
-pub fn buffered<W: Write + Drop>(alloc: Global, inner: W) -> io::Result<Counted<BufWriter<W>>> {
-    Ok(Counted::new(BufWriter::with_capacity(alloc, OUTPUT_BUFFER, inner)?))
+/// A capture that is written, with a buffer of `room` bytes in front of it.
+pub fn with_buffer<W: Write + Drop>(
+    alloc: Global,
+    room: usize,
+    inner: W,
+) -> io::Result<Counted<BufWriter<W>>> {
+    Ok(Counted::new(BufWriter::with_capacity(alloc, room, inner)?))
 }
 
 /// Standard output with a buffer in front of it; or reports that memory ran out.
-pub fn buffered_output<W: Write + Drop, E: HintSink>(
+pub fn output_buffer<W: Write + Drop, E: HintSink>(
     alloc: Global,
     out: W,
     err: &mut E,

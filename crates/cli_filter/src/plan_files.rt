@@ -1,6 +1,7 @@
 //! The files that a plan writes.
 
 ghost use Rattle.std.specs.Prelude.{◌≡◌, IfOk, length, vec_len};
+ghost use Rattle.std.specs.List.{AllZip};
 
 use crate::plan::PlanLine;
 use cli_files::paths::{STANDARD_OUTPUT, refuse_shared_files};
@@ -30,7 +31,8 @@ pub fn outputs_of<'a, L: PlanLine<'a>>(
     alloc: Global,
     lines: &[L],
 ) -> Result<Vec<&'a str>, AllocError>
-    ensures { IfOk result (λ outputs. vec_len outputs ≡ length lines.now) }
+    ensures outputs { IfOk result (λ outputs. AllZip (λ line output. output.now ≡ L.output_of line) lines.now outputs.items) }
+    ensures all { IfOk result (λ outputs. vec_len outputs ≡ length lines.now) }
 {
     let mut outputs = Vec::with_capacity(alloc, lines.len())?;
     for line in lines {

@@ -9,7 +9,7 @@ use crate::plan::{RunLine, fault_text, read_plan};
 use crate::run::{refuse, replay_plan};
 use crate::tally::report_flushed;
 use cli_args::run::RunWords;
-use cli_files::captures::buffered_output;
+use cli_files::captures::output_buffer;
 use cli_files::reading::read_file;
 use cli_filter::plan::Plan;
 use cli_filter::plan_hints::hint_plan;
@@ -112,7 +112,7 @@ fn run_files<R: Files + AllocGlobal + NamesFiles + Threads + Wait + Sync, O: Wri
     let alloc = rt.alloc();
     let listeners = read_file(rt, words.listeners, err)?;
     let late = rt.named_files(alloc, words, listeners.as_slice(), err)?;
-    let mut out = buffered_output(alloc, &mut *out, err)?;
+    let mut out = output_buffer(alloc, &mut *out, err)?;
     let status = replay_files(rt, words, listeners.as_slice(), late, &mut out, err);
     hint_printed(out.get_ref(), err);
     status

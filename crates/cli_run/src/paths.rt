@@ -5,7 +5,7 @@ ghost use Rattle.std.specs.Prelude.{◌≡◌, ◌<◌, All, IfOk, length, vec_l
 use crate::plan::RunLine;
 use crate::tally::{CountingCapture, Output};
 use cli_args::run::RunWords;
-use cli_files::captures::{Input, buffered, inputs};
+use cli_files::captures::{Input, OUTPUT_BUFFER, inputs, with_buffer};
 use cli_files::late::LateFile;
 use cli_filter::plan::Plan;
 use cli_filter::plan_files::{check_outputs, outputs_of};
@@ -49,7 +49,7 @@ fn sinks<'r, 'p>(
     let mut sinks = Vec::with_capacity(alloc, outputs.len())?;
     for path in outputs {
         let late = FailureProbe::new(LateFile::new(files, *path));
-        sinks.push(buffered(alloc, CountingCapture::new(late))?)?;
+        sinks.push(with_buffer(alloc, OUTPUT_BUFFER, CountingCapture::new(late))?)?;
     }
     Ok(sinks)
 }

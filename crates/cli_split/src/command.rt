@@ -8,7 +8,7 @@ use crate::report::report_split;
 use crate::split::{SplitEnd, split};
 use bpfvm::Program;
 use cli_args::split::SplitWords;
-use cli_files::captures::{Input, buffered_output, inputs};
+use cli_files::captures::{Input, inputs, output_buffer};
 use cli_files::reading::read_file;
 use cli_filter::plan::Plan;
 use cli_filter::plan_hints::hint_plan;
@@ -83,7 +83,7 @@ fn split_plan<R: Files + AllocGlobal, O: Write, E: HintSink>(
     err: &mut E,
 ) -> Result<Status, Status> {
     let Plan { lines, programs } = plan;
-    let mut out = buffered_output(rt.alloc(), &mut *out, err)?;
+    let mut out = output_buffer(rt.alloc(), &mut *out, err)?;
     let Ok(end) = split_lines(rt, rt.alloc(), words, lines.as_slice(), programs) else {
         return Err(report_fault(Fault::NoMemory, Status::Refused, err));
     };

@@ -4,7 +4,7 @@ use crate::part::Part;
 use crate::plan::SplitLine;
 use bpfvm::Program;
 use cli_args::split::SplitWords;
-use cli_files::captures::buffered;
+use cli_files::captures::{OUTPUT_BUFFER, with_buffer};
 use cli_files::late::LateFile;
 use cli_filter::plan_files::check_outputs;
 use cli_report::probe::ProbedOutput;
@@ -54,7 +54,7 @@ pub(crate) fn parts<'r, 'p, R: Files>(
         parts.push(Part {
             program,
             snap: line.snap,
-            sink: buffered(alloc, output)?,
+            sink: with_buffer(alloc, OUTPUT_BUFFER, output)?,
         })?;
     }
     Ok(parts)

@@ -1,4 +1,4 @@
-//! The texts of a replay's faults, which `cli_fault_texts` and `cli_steps` say again by a contract, are the faults' own.
+//! The texts of a replay's faults, which `cli_filter_hints` and `cli_steps` say again by a contract, are the faults' own.
 
 use crate::same::same;
 use cli_filter_hints::ExpressionFaultText;
