@@ -9,7 +9,7 @@ use Rattle.filter_tree.specs.declared.tree.Expr.{Expr}
 use Rattle.filterlang.specs.Trees.{Tree, tree_of}
 use Rattle.filter_meaning.specs.declared.verdict.Verdict.{Verdict}
 use Rattle.filter_meaning.specs.declared.verdict.Verdict.TheVariants.{Yes, No, Abort}
-use Rattle.filtergen.specs.Meaning.{Packet as Frame, packet_of, meaning}
+use Rattle.filter_meaning.specs.Meaning.{Packet as Frame, packet_of, meaning}
 use Rattle.filter_explain.specs.Asking.{questions}
 use Rattle.filter_explain.specs.Deciding.{verdict_text, last_text}
 use Rattle.cli_text.specs.Telling.{end_of_line}

@@ -3,7 +3,7 @@ use Rattle.std.specs.Prelude.{◌≡◌, ℕ, List, Some}
 use Rattle.filter_tree.specs.declared.tree.Expr.{Expr}
 use Rattle.filterlang.specs.Texts.{ReadsAs}
 use Rattle.filterlang.specs.Trees.{tree_of}
-use Rattle.filtergen.specs.Compiling.{StandsFor}
+use Rattle.filtergen_code.specs.Compiling.{StandsFor}
 use Rattle.cli_explain.specs.declared.filter.AskedFilter.{AskedFilter}
 
 -- a filter is the expression that a text reads as, and a program that stands for it

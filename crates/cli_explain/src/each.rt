@@ -12,7 +12,7 @@ use crate::filter::AskedFilter;
 use crate::line::put_line;
 use bpfvm::NoMemory;
 use cli_text::sending::send;
-use filtergen::Verdict;
+use filter_meaning::Verdict;
 use savefile::laws::given_so_far;
 use savefile::{Fault, PacketRef, Reader, Source};
 use std::alloc::Global;

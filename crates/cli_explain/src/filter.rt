@@ -5,7 +5,8 @@ ghost use Rattle.filtergen.specs.Expressions.{IsUncompiled};
 ghost use Rattle.cli_explain.specs.Filter.{IsOfExpression};
 
 use bpfvm::Program;
-use filtergen::{ExpressionFault, compile};
+use filtergen::ExpressionFault;
+use filtergen_code::compile;
 use filterlang::{Expr, parse};
 use std::alloc::Global;
 

@@ -11,7 +11,7 @@ use crate::filter::AskedFilter;
 use bpfvm::{Brief, Insn, NoMemory, Program, code, trace};
 use cli_text::time::NineDigits;
 use filter_explain::{put_decision, put_verdict};
-use filtergen::Verdict;
+use filter_meaning::Verdict;
 use filterlang::Expr;
 use savefile::PacketRef;
 use std::alloc::{AllocError, Global};

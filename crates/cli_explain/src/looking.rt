@@ -3,7 +3,7 @@
 ghost use Rattle.std.specs.Prelude.{◌≤◌, IfOk};
 
 use bpfvm::NoMemory;
-use filtergen::value_of;
+use filter_meaning::value_of;
 use filterlang::{
     Direction, EthernetAddress, Expr, Layer, Network, Plain, Primitive, Size, Transport, Value,
 };

@@ -9,7 +9,8 @@ ghost use Rattle.cli_filter.specs.declared.plan.PlanFault.TheVariants.{NoMemory}
 use bpfvm::Program;
 use cli_filter_hints::{CompileFaultText, ExpressionFaultText};
 use cli_text::fields::{first_line, split_once};
-use filtergen::{ExpressionFault, Refusal, compile_text};
+use filtergen::{ExpressionFault, compile_text};
+use filtergen_facts::Refusal;
 use std::alloc::{AllocError, AllocFailed, Global};
 use std::collections::BTreeSet;
 use std::fmt::{Display, Formatter};

@@ -3,7 +3,7 @@ use Rattle.std.proofs.Common.{◌≡◌, ℕ, zero, suc, ◌<◌, ◌⊎◌, inl
 use Rattle.std.proofs.lemmas.Bool.{cases_lt}
 use Rattle.filter_tree.specs.Trees.{Tree}
 use Rattle.filtergen_facts.specs.Weights.{need, weight}
-use Rattle.filtergen.specs.Compiling.{Fits, IsBadSnap, IsRightSnap}
+use Rattle.filtergen_code.specs.Compiling.{Fits, IsBadSnap, IsRightSnap}
 use Rattle.filtergen_facts.specs.declared.refusal.Refusal.{Refusal}
 use Rattle.filtergen_facts.specs.declared.refusal.Refusal.TheVariants.{TooLong, TooDeep, BadSnap, NoMemory}
 

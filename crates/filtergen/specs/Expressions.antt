@@ -3,7 +3,7 @@ use Rattle.std.specs.Prelude.{ℕ, List}
 use Rattle.bpfvm.specs.declared.insn.Insn.{Insn}
 use Rattle.filterlang.specs.Texts.{ReadsAs, IsRefusalOf}
 use Rattle.filter_tree.specs.Trees.{Tree}
-use Rattle.filtergen.specs.Compiling.{StandsFor, IsRefused}
+use Rattle.filtergen_code.specs.Compiling.{StandsFor, IsRefused}
 use Rattle.filtergen.specs.declared.expression.ExpressionFault.{ExpressionFault}
 use Rattle.filtergen.specs.declared.expression.ExpressionFault.TheVariants as faults
 

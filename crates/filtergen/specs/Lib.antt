@@ -1,16 +1,5 @@
 pub use Rattle.filter_meaning.specs.Meaning
 pub use Rattle.filtergen_facts.specs.Weights
-pub use Rattle.filtergen.specs.Compiling
+pub use Rattle.filtergen_code.specs.Compiling
 pub use Rattle.filtergen_trim.specs.Reaching
 pub mod Expressions
-pub use Rattle.filter_tree.specs.Trees
-pub use Rattle.filter_meaning.specs.Meaning
-pub use Rattle.filtergen_trim.specs.Reaching
-pub mod Compiling
-pub mod Insns
-pub mod Emission
-pub mod Remaining
-pub mod Ways
-pub mod Parts
-pub mod Listed
-pub mod Ends

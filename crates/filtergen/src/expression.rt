@@ -4,7 +4,7 @@ ghost use Rattle.std.specs.Prelude.{◌≡◌, ◌<◌, ◌≤◌, ◌↔◌, le
 ghost use Rattle.filterlang.specs.Texts.{ReadsAs};
 ghost use Rattle.filter_tree.specs.Trees.{Tree};
 ghost use Rattle.filtergen_facts.specs.Weights.{need};
-ghost use Rattle.filtergen.specs.Compiling.{Fits, IsBadSnap};
+ghost use Rattle.filtergen_code.specs.Compiling.{Fits, IsBadSnap};
 ghost use Rattle.filtergen_trim.specs.Reaching.{IsAllReached};
 ghost use Rattle.filtergen.specs.Expressions.{IsProgramOf, IsUncompiled};
 

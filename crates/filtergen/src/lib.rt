@@ -6,21 +6,10 @@
 //! [`compile_text`] reads the text too, and takes memory for its tree.
 #![tactic(auto)]
 
-mod among;
-mod arithmetic;
-mod behind;
-mod code;
-mod compiler;
 mod expression;
-mod insns;
-mod listed;
-mod primitives;
-mod relations;
-mod values;
-mod ways;
 
-pub use compiler::compile;
 pub use expression::{ExpressionFault, compile_text};
 pub use filter_meaning::{Verdict, evaluate, value_of};
+pub use filtergen_code::compile;
 pub use filtergen_facts::{MAX_NEED, MAX_WEIGHT, Refusal, need, weight};
 pub use savefile::MAX_SNAP;

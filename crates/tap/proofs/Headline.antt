@@ -4,9 +4,9 @@ use Rattle.std.proofs.lemmas.Bool.{lt-ltb}
 use Rattle.bpfvm.specs.declared.insn.Insn.{Insn}
 use Rattle.bpfvm.specs.Machine.{verdict}
 use Rattle.filterlang.specs.Trees.{Tree}
-use Rattle.filtergen.specs.Meaning.{HasBytes, packet_of, accepts}
+use Rattle.filter_meaning.specs.Meaning.{HasBytes, packet_of, accepts}
 use Rattle.listener.specs.declared.message.Message.{Message}
-use Rattle.filtergen.specs.Compiling.{StandsFor}
+use Rattle.filtergen_code.specs.Compiling.{StandsFor}
 use Rattle.listener.specs.Messages.{Arrival, cut_to, kept_by}
 use Rattle.listener.specs.PlainList.{Request}
 use Rattle.listener.specs.Laws.{AnswersAreLegal, RunsAreKept, KeptFits}

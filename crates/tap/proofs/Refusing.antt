@@ -8,8 +8,8 @@ use Rattle.filterlang.specs.Trees.{Tree}
 use Rattle.filterlang.specs.Texts.{ReadsAs, IsRefusalOf}
 use Rattle.filtergen_facts.specs.declared.refusal.Refusal.{Refusal}
 use Rattle.filtergen_facts.specs.declared.refusal.Refusal.TheVariants.{TooLong, TooDeep, BadSnap, NoMemory}
-use Rattle.filtergen.specs.Weights.{need, weight}
-use Rattle.filtergen.specs.Compiling.{IsBadSnap}
+use Rattle.filtergen_facts.specs.Weights.{need, weight}
+use Rattle.filtergen_code.specs.Compiling.{IsBadSnap}
 use Rattle.tap.specs.declared.fault.Fault.{Fault}
 use Rattle.tap.specs.declared.fault.Fault.TheVariants.{Expression, Compile}
 use Rattle.tap.specs.declared.fault.Fault.TheVariants as faults

@@ -4,7 +4,7 @@ use Rattle.std.specs.List.{AllZip}
 use Rattle.filter_tree.specs.declared.tree.Expr.{Expr}
 use Rattle.filterlang.specs.Trees.{Tree, tree_of}
 use Rattle.filterlang.specs.Texts.{ReadsAs}
-use Rattle.filtergen.specs.Meaning.{packet_of, accepts}
+use Rattle.filter_meaning.specs.Meaning.{packet_of, accepts}
 use Rattle.listener.specs.declared.message.Message.{Message}
 use Rattle.listener.specs.Messages.{Arrival, cut_to, kept_by}
 use Rattle.tap_steps.specs.declared.filters.Filter.{Filter}

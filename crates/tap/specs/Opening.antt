@@ -4,7 +4,7 @@ use Rattle.std.specs.List.{AllZip}
 use Rattle.bpfvm.specs.declared.insn.Insn.{Insn}
 use Rattle.savefile.specs.declared.fault.Fault.{Fault}
 use Rattle.filterlang.specs.Trees.{Tree}
-use Rattle.filtergen.specs.Compiling.{StandsFor}
+use Rattle.filtergen_code.specs.Compiling.{StandsFor}
 use Rattle.listener.specs.Listening.{listening, InRange}
 use Rattle.listener.specs.PlainList.{empty}
 use Rattle.tap_steps.specs.declared.filters.Spec.{Spec}

@@ -5,8 +5,8 @@ use Rattle.filterlang.specs.declared.lexer.TheConstants.{MAX_TEXT}
 use Rattle.filterlang.specs.Trees.{Tree}
 use Rattle.filterlang.specs.Texts.{ReadsAs, IsRefusalOf}
 use Rattle.filtergen_facts.specs.declared.refusal.Refusal.TheVariants as uncompiled
-use Rattle.filtergen.specs.Weights.{need, weight}
-use Rattle.filtergen.specs.Compiling.{IsBadSnap}
+use Rattle.filtergen_facts.specs.Weights.{need, weight}
+use Rattle.filtergen_code.specs.Compiling.{IsBadSnap}
 use Rattle.listener.specs.declared.fault.OpenFault.TheVariants as unopened
 use Rattle.listener.specs.Listening.{RefusesOpen, InRange}
 use Rattle.tap.specs.declared.fault.Fault.{Fault}

@@ -4,7 +4,7 @@ ghost use Rattle.std.specs.Prelude.{◌≡◌};
 ghost use Rattle.tap.specs.Refusals.{of_playlist};
 ghost use Rattle.tap.specs.declared.fault.Fault.TheVariants.{NoMemory};
 
-use filtergen::Refusal;
+use filtergen_facts::Refusal;
 use listener::OpenFault;
 use std::alloc::{AllocError, AllocFailed};
 use tap_steps::PlaylistFault;

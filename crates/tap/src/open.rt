@@ -10,7 +10,8 @@ ghost use Rattle.tap.specs.declared.fault.Fault.TheVariants.{NoMemory, Expressio
 
 use crate::fault::Fault;
 use bpfvm::Program;
-use filtergen::{Refusal, compile};
+use filtergen_code::compile;
+use filtergen_facts::Refusal;
 use filterlang::Expr;
 use listener::{Listener, OpenFault};
 use std::alloc::Global;

@@ -1,7 +1,7 @@
 use Rattle.std.proofs.Common.{◌<◌, ap, subst, inl, inr, Err}
 use Rattle.filter_tree.specs.Trees.{tree_of, Tree}
 use Rattle.filtergen_facts.specs.Weights.{need}
-use Rattle.filtergen.specs.Compiling.{Fits}
+use Rattle.filtergen_code.specs.Compiling.{Fits}
 use Rattle.filtergen.specs.declared.expression.ExpressionFault.TheVariants as faults
 use Rattle.filtergen.proofs.Snaps.{bad_or_right, fits_unrefused}
 use Rattle.filtergen.proofs.expression.compile_text.Goals as goal

@@ -1,0 +1,18 @@
+use Rattle.std.proofs.Common.{◌==◌}
+use Rattle.filtergen_code.specs.Insns.{load_insn}
+use Rattle.filtergen_code.specs.Emission.{field_of}
+use Rattle.filtergen_code.proofs.Growing.{load-sound, mask-sound}
+use Rattle.filtergen_code.proofs.Runs.{load-effect}
+use Rattle.filtergen_code.proofs.Deciding.{decides-masked}
+use Rattle.filtergen_code.proofs.code.Code.masked_test.Goals as goal
+
+pub push-requires-clause-sound : goal.push-requires-clause-sound
+push-requires-clause-sound c = rw c.plain_insn.ensures (mask-sound c.args.mask _)
+
+pub push-requires-2-clause-sound : goal.push-requires-2-clause-sound
+push-requires-2-clause-sound c = rw c.load_insn.ensures (load-sound c.args.field _)
+
+pub returns : goal.returns
+returns c =
+    rw (c.len.ensures.value, c.push-2.ensures, c.load_insn.ensures, c.push.ensures, c.plain_insn.ensures)
+    (decides-masked (load_insn c.args.field) c.args.mask (field_of c.args.field) (λ n. n == c.args.bits) (load-effect c.args.field) c.requires.exits c.branch-self.ensures)
