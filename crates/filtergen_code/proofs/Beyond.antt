@@ -15,7 +15,7 @@ use Rattle.filter_meaning.specs.Meaning.{Packet, HasBytes, Test, and_then, check
 use Rattle.filtergen_facts.specs.declared.lists.ValueRange.{ValueRange}
 use Rattle.filtergen_code.specs.Insns.{load_insn, plain_insn}
 use Rattle.filtergen_code.specs.Emission.{IsPlace, AreExits, HasCells, run_from, Answers, Passes, outcome, field_of, Decides}
-use Rattle.filtergen_code.specs.Listed.{among, ChoosesFrom, IsFresh, GoesOnAs, FailsTo, Skips}
+use Rattle.filtergen_code.specs.ValueLists.{in_ranges, ChoosesFrom, IgnoresAccumulator, GoesOnAs, FailsTo, Skips}
 use Rattle.filtergen_code.proofs.Runs.{after, answer-first, front-place, extends-one, extends-both, load-effect, ending, return-effect}
 
 -- two runs on which an instruction has the same effect go on together
@@ -57,7 +57,7 @@ forgets o i p r n (loads size) = loaded-again n r (number_at p.captured i.k size
 forgets o i p r n measures = loaded-again n r (Some p.wire)
 forgets o i p r n returns = refl
 
-pub fresh-there : (at : ℕ) (code : List Insn) (i : Insn) (c : ℕ) (o : Operation) → slice_get code (length code - at) ≡ Some i → i.code ≡ c → operation_of c ≡ Some o → ForgetsIt o → IsFresh at code
+pub fresh-there : (at : ℕ) (code : List Insn) (i : Insn) (c : ℕ) (o : Operation) → slice_get code (length code - at) ≡ Some i → i.code ≡ c → operation_of c ≡ Some o → ForgetsIt o → IgnoresAccumulator at code
 fresh-there at code i c o here is known kind = record {
   same = λ p r n.
       together code (length code - at) i p (with_value Accumulator n r) r here
@@ -108,9 +108,9 @@ same-returns place at code i n here is first second = record {
 }
 
 -- behind the load, over the comparisons, to where the accumulator does not matter
-pub skips-over : (field : Field) (choice : ℕ → Bool) (place behind beyond : ℕ) (code : List Insn) → Passes (load_insn field) place behind code → FailsTo choice behind beyond code
-    → IsFresh place code → IsFresh beyond code → Skips field choice place beyond code
-skips-over field choice place behind beyond code passes fails fresh fresh' = record {
+pub skips-over : (field : Field) (choice : ℕ → Bool) (place later beyond : ℕ) (code : List Insn) → Passes (load_insn field) place later code → FailsTo choice later beyond code
+    → IgnoresAccumulator place code → IgnoresAccumulator beyond code → Skips field choice place beyond code
+skips-over field choice place later beyond code passes fails fresh fresh' = record {
   here = fails.here;
   leads = λ p r n is one.
       let r' = with_value Accumulator n r in
@@ -120,10 +120,10 @@ skips-over field choice place behind beyond code passes fails fresh fresh' = rec
 
 -- A number that is one of some, and behind it a second test, which goes on beyond comparisons of that number with others.
 pub decides-beyond : {k m e f y n beyond : ℕ} {u : Test} (field : Field) (xs : List ValueRange) {exits : Exits} {a b c : List Insn} → AreExits a exits → f ≡ length c
-    → Skips field (among xs) exits.no beyond a → Decides k u (record { yes = exits.yes; no = beyond }) e a b
+    → Skips field (in_ranges xs) exits.no beyond a → Decides k u (record { yes = exits.yes; no = beyond }) e a b
     → Passes (load_insn field) e y b → Passes (load_insn field) exits.no n b
-    → ChoosesFrom m (λ r. among xs r.accumulator) (record { yes = y; no = n }) f b c
-    → Decides (k + (m + 1)) (λ p. and_then (check (among xs) (field_of field p)) (u p)) exits (suc (length c)) a (load_insn field ∷ c)
+    → ChoosesFrom m (λ r. in_ranges xs r.accumulator) (record { yes = y; no = n }) f b c
+    → Decides (k + (m + 1)) (λ p. and_then (check (in_ranges xs) (field_of field p)) (u p)) exits (suc (length c)) a (load_insn field ∷ c)
 decides-beyond {k} {m} {e} {f} {y} {n} {beyond} {u} field xs {exits} {a} {b} {c} are is skip second yes-passed no-passed choice = record {
   extends = extends-both second.extends (extends-both choice.extends (extends-one _ c));
   here = (omega arith, omega arith);
@@ -132,20 +132,20 @@ decides-beyond {k} {m} {e} {f} {y} {n} {beyond} {u} field xs {exits} {a} {b} {c}
   };
 }
   where
-    beyond-answers : (p : Packet) (l x : ℕ) → Answers a exits.no p l → field_of field p ≡ Some x → among xs x ≡ true → Answers a beyond p l
+    beyond-answers : (p : Packet) (l x : ℕ) → Answers a exits.no p l → field_of field p ≡ Some x → in_ranges xs x ≡ true → Answers a beyond p l
     beyond-answers p l x no' at one = record { always = λ r cells. skip.leads p r x at one ∙ no'.always r cells }
 
     by_choice : (p : Packet) (k' l x : ℕ) (r : Registers) → HasBytes p → HasCells r → Answers a exits.yes p k' → Answers a exits.no p l → field_of field p ≡ Some x → effect p.captured p.wire (load_insn field) r ≡ Goes 0 r
-        → (chosen : Bool) → among xs x ≡ chosen → (if chosen then run_from b y p r else run_from b n p r) ≡ outcome (and_then (decided chosen) (u p)) k' l
+        → (chosen : Bool) → in_ranges xs x ≡ chosen → (if chosen then run_from b y p r else run_from b n p r) ≡ outcome (and_then (decided chosen) (u p)) k' l
     by_choice p k' l x r bytes cells yes' no' at unchanged true chosen =
         yes-passed.leads p r unchanged ∙ (second.decides p k' l bytes yes' (beyond-answers p l x no' at chosen)).always r cells
     by_choice p k' l x r bytes cells yes' no' at unchanged false chosen =
         no-passed.leads p r unchanged ∙ second.extends.same exits.no p r are.1.1 ∙ no'.always r cells
 
     by_value : (p : Packet) (k' l : ℕ) (r : Registers) → HasBytes p → HasCells r → Answers a exits.yes p k' → Answers a exits.no p l → (v : Option ℕ) → field_of field p ≡ v
-        → after c p (loaded Accumulator r v) ≡ outcome (and_then (check (among xs) v) (u p)) k' l
+        → after c p (loaded Accumulator r v) ≡ outcome (and_then (check (in_ranges xs) v) (u p)) k' l
     by_value p k' l r bytes cells yes' no' None at = refl
     by_value p k' l r bytes cells yes' no' (Some x) at =
         let r' = with_value Accumulator x r in
         let unchanged : effect p.captured p.wire (load_insn field) r' ≡ Goes 0 r' = load-effect field p r' ∙ ap (loaded Accumulator r') at in
-        sym (ap (λ place. run_from c place p r') is ∙ front-place c p r') ∙ choice.chooses p r' ∙ by_choice p k' l x r' bytes cells yes' no' at unchanged (among xs x) refl
+        sym (ap (λ place. run_from c place p r') is ∙ front-place c p r') ∙ choice.chooses p r' ∙ by_choice p k' l x r' bytes cells yes' no' at unchanged (in_ranges xs x) refl

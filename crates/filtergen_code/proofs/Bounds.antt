@@ -2,7 +2,7 @@
 use Rattle.std.proofs.Common.{◌≡◌, ◌+◌, ◌≤◌, true, arith}
 use Rattle.filter_tree.specs.Trees.{Amount, number, wire_length, minus, binary, accessor}
 use Rattle.filtergen_facts.specs.Weights.{value_weight}
-use Rattle.filtergen_facts.specs.Knowing.{begins_with_ip}
+use Rattle.filtergen_facts.specs.Facts.{begins_with_ip}
 use Rattle.filtergen_code.specs.Parts.{value_cost, layers_cost, relation_cost}
 
 -- each leaf takes an instruction, and there is one more of them than of binary operators

@@ -22,10 +22,10 @@ use Rattle.filtergen_code.specs.declared.insns.Operand.TheVariants as operands
 use Rattle.filtergen_code.specs.declared.values.Base.TheVariants as bases
 use Rattle.filtergen_code.specs.declared.values.Leaf.{Leaf}
 use Rattle.filtergen_code.specs.declared.values.Leaf.TheVariants as leaves
-use Rattle.filtergen_facts.specs.declared.known.Known.{Known}
+use Rattle.filtergen_facts.specs.declared.packet_facts.PacketFacts.{PacketFacts}
 use Rattle.filter_meaning.specs.declared.verdict.Verdict.{Verdict}
 use Rattle.filter_meaning.specs.declared.verdict.Verdict.TheVariants.{Yes, No, Abort}
-use Rattle.filtergen_facts.specs.Knowing.{behind_layers}
+use Rattle.filtergen_facts.specs.Facts.{after_layers}
 use Rattle.filtergen_code.specs.Remaining.{rest_of_layers}
 use Rattle.filter_meaning.specs.Meaning.{Packet, and_then, opposite, byte, decided, compared, arithmetic_of, bytes_of, accessed, value, check, check_both}
 use Rattle.filtergen_code.specs.Parts.{constant_of, IsLeaf, leaf_value, base_of, read_from, value_cost}
@@ -195,9 +195,9 @@ header-short : (b : ℕ) → 4 * bit_and b 15 ≤ 60
 header-short b = omega (arith, and_le_r b 15)
 
 -- a load behind the IPv4 header at a low index
-pub computes-behind : (s : Size) (i : ℕ) (cell : ℕ) (old : List Insn) → 74 + i < 2 ^ 32
+pub computes-after : (s : Size) (i : ℕ) (cell : ℕ) (old : List Insn) → 74 + i < 2 ^ 32
     → Computes 2 (λ p. read_from bases.Transport (bytes_of s) p i) cell old (plain_insn 0xb1 14 ∷ plain_insn (indirect_code s) (14 + i) ∷ old)
-computes-behind s i cell old near = record {
+computes-after s i cell old near = record {
   extends = extends-both (extends-one (plain_insn (indirect_code s) (14 + i)) old) (extends-one (plain_insn 0xb1 14) _);
   computes = λ p r cells. by_header p r cells (byte 14 p) (answer-first (plain_insn 0xb1 14) _ p r _ (header-effect p r));
 }
@@ -237,7 +237,7 @@ constant-value (binary o v w) n p is = by_operands (constant_of v) (constant_of 
 constant-value (accessor layer v size) n p is = absurd cc
 
 -- and it has no accessor, and so no layer to test
-pub constant-always : (k : Known) (v : Amount) (n : ℕ) (p : Packet) → constant_of v ≡ Some n → rest_of_layers k v p ≡ Yes
+pub constant-always : (k : PacketFacts) (v : Amount) (n : ℕ) (p : Packet) → constant_of v ≡ Some n → rest_of_layers k v p ≡ Yes
 constant-always k (number m) n p is = refl
 constant-always k wire_length n p is = absurd cc
 constant-always k (minus v) n p is = by_operand (constant_of v) (λ m. constant-always k v m p) is
@@ -245,20 +245,20 @@ constant-always k (minus v) n p is = by_operand (constant_of v) (λ m. constant-
     by_operand : (x : Option ℕ) → ((m : ℕ) → x ≡ Some m → rest_of_layers k v p ≡ Yes) → option_and_then (calculated Subtract 0) x ≡ Some n → rest_of_layers k v p ≡ Yes
     by_operand None known is = absurd cc
     by_operand (Some m) known is = known m refl
-constant-always k (binary o v w) n p is = by_operands (constant_of v) (constant_of w) (λ m. constant-always k v m p) (λ m. constant-always (behind_layers k v) w m p) is
+constant-always k (binary o v w) n p is = by_operands (constant_of v) (constant_of w) (λ m. constant-always k v m p) (λ m. constant-always (after_layers k v) w m p) is
   where
-    by_operands : (x y : Option ℕ) → ((m : ℕ) → x ≡ Some m → rest_of_layers k v p ≡ Yes) → ((m : ℕ) → y ≡ Some m → rest_of_layers (behind_layers k v) w p ≡ Yes)
-        → option_and_then (λ b. option_and_then (λ a. calculated (arithmetic_of o) a b) x) y ≡ Some n → and_then (rest_of_layers k v p) (rest_of_layers (behind_layers k v) w p) ≡ Yes
+    by_operands : (x y : Option ℕ) → ((m : ℕ) → x ≡ Some m → rest_of_layers k v p ≡ Yes) → ((m : ℕ) → y ≡ Some m → rest_of_layers (after_layers k v) w p ≡ Yes)
+        → option_and_then (λ b. option_and_then (λ a. calculated (arithmetic_of o) a b) x) y ≡ Some n → and_then (rest_of_layers k v p) (rest_of_layers (after_layers k v) w p) ≡ Yes
     by_operands x None left right is = absurd cc
     by_operands None (Some b) left right is = absurd cc
-    by_operands (Some a) (Some b) left right is = ap (λ x. and_then x (rest_of_layers (behind_layers k v) w p)) (left a refl) ∙ right b refl
+    by_operands (Some a) (Some b) left right is = ap (λ x. and_then x (rest_of_layers (after_layers k v) w p)) (left a refl) ∙ right b refl
 constant-always k (accessor layer v size) n p is = absurd cc
 
 -- so that nothing is left of an operator's right operand
-pub constant-right : (k : Known) (o : Operator) (v w : Amount) (p : Packet) → is_some (constant_of w) ≡ true → rest_of_layers k v p ≡ rest_of_layers k (binary o v w) p
-constant-right k o v w p is = sym (ap (and_then (rest_of_layers k v p)) (by_value (constant_of w) (λ n. constant-always (behind_layers k v) w n p) is) ∙ and-yes (rest_of_layers k v p))
+pub constant-right : (k : PacketFacts) (o : Operator) (v w : Amount) (p : Packet) → is_some (constant_of w) ≡ true → rest_of_layers k v p ≡ rest_of_layers k (binary o v w) p
+constant-right k o v w p is = sym (ap (and_then (rest_of_layers k v p)) (by_value (constant_of w) (λ n. constant-always (after_layers k v) w n p) is) ∙ and-yes (rest_of_layers k v p))
   where
-    by_value : (x : Option ℕ) → ((n : ℕ) → x ≡ Some n → rest_of_layers (behind_layers k v) w p ≡ Yes) → is_some x ≡ true → rest_of_layers (behind_layers k v) w p ≡ Yes
+    by_value : (x : Option ℕ) → ((n : ℕ) → x ≡ Some n → rest_of_layers (after_layers k v) w p ≡ Yes) → is_some x ≡ true → rest_of_layers (after_layers k v) w p ≡ Yes
     by_value None always is' = absurd cc
     by_value (Some n) always is' = always n refl
 
@@ -301,9 +301,9 @@ computes-constant v n cell is loads =
     computes-more (value_cost v) (value_positive v) (computes-same (λ p. Some n) (value v) (λ p. sym (constant-value v n p is)) (computes-loaded (λ p. n) cell loads))
 
 -- an operator with a constant behind it
-pub constant-behind : (o : Operator) (v w : Amount) (n : ℕ) (p : Packet) → constant_of w ≡ Some n
+pub constant-after : (o : Operator) (v w : Amount) (n : ℕ) (p : Packet) → constant_of w ≡ Some n
     → option_and_then (λ a. calculated (arithmetic_of o) a n) (value v p) ≡ value (binary o v w) p
-constant-behind o v w n p is = sym (ap (λ x. option_and_then (λ a. option_and_then (λ b. calculated (arithmetic_of o) a b) x) (value v p)) (constant-value w n p is))
+constant-after o v w n p is = sym (ap (λ x. option_and_then (λ a. option_and_then (λ b. calculated (arithmetic_of o) a b) x) (value v p)) (constant-value w n p is))
 
 -- a comparison that is made by the opposite one
 pub not-equal : (a b : ℕ) → (if a == b then false else true) ≡ not (a == b)
@@ -315,7 +315,7 @@ not-equal a b = by_test (a == b)
 
 -- bits under a constant mask
 pub masked-value : (v w : Amount) (mask : ℕ) (p : Packet) → constant_of w ≡ Some mask → option_map (λ n. bit_and n mask) (value v p) ≡ value (binary operators.BitAnd v w) p
-masked-value v w mask p is = by_value (value v p) ∙ constant-behind operators.BitAnd v w mask p is
+masked-value v w mask p is = by_value (value v p) ∙ constant-after operators.BitAnd v w mask p is
   where
     by_value : (x : Option ℕ) → option_map (λ n. bit_and n mask) x ≡ option_and_then (λ a. calculated (arithmetic_of operators.BitAnd) a mask) x
     by_value None = refl

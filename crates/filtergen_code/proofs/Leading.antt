@@ -4,15 +4,15 @@ use Rattle.bpfvm.specs.declared.insn.Insn.{Insn}
 use Rattle.filter_tree.specs.declared.tree.Transport.{Transport}
 use Rattle.filter_tree.specs.declared.tree.Transport.TheVariants.{Tcp, Udp, Sctp}
 use Rattle.filtergen_code.specs.declared.code.Exits.{Exits}
-use Rattle.filtergen_code.specs.declared.ways.Way.{Way}
-use Rattle.filtergen_code.specs.declared.ways.Ways.{Ways}
+use Rattle.filtergen_code.specs.declared.entries.Entry.{Entry}
+use Rattle.filtergen_code.specs.declared.entries.Targets.{Targets}
 use Rattle.filter_meaning.specs.declared.verdict.Verdict.{Verdict}
 use Rattle.filter_meaning.specs.declared.verdict.Verdict.TheVariants.{Yes, No, Abort}
 use Rattle.filter_meaning.specs.Meaning.{Packet, HasBytes, Test, and_then, or_else, and_test, or_test, not_test, check, decided, byte, is_type, protocol_number}
-use Rattle.filtergen_code.specs.Emission.{IsPlace, Answers, Extends, outcome, Nears, Decides}
+use Rattle.filtergen_code.specs.Emission.{IsPlace, Answers, Extends, outcome, IsRelay, Decides}
 use Rattle.filtergen_code.specs.Remaining.{is_unfragmented}
 use Rattle.filtergen_code.specs.Parts.{has_port_number, is_any_first}
-use Rattle.filtergen_code.specs.Ways.{is_first_fragment, Suits, Serves, ServesKnown, IsWay, AreWays, way_by, Renews, RenewsBoth, DecidesBy, IsFor}
+use Rattle.filtergen_code.specs.Entries.{is_first_fragment, Suits, Serves, ServesKnown, IsEntry, AreTargets, for_answer, Relays, RelaysBoth, DecidesBy, IsFor}
 use Rattle.filtergen_code.proofs.Runs.{extends-both, extends-more, answers-kept}
 use Rattle.filtergen_code.proofs.Deciding.{outcome-both, outcome-either, outcome-opposite, answers-same}
 
@@ -29,17 +29,17 @@ suits-same X same before = record { found = before.found; answers = before.answe
 pub serves-any : (code : List Insn) (place n : ℕ) (p : Packet) → Answers code place p n → Serves code (record { any = place; ip = place; other = place; first_fragment = place; transport = None }) p n
 serves-any code place n p before = record { any = before; ip = suits-any _ before; other = suits-any _ before; first_fragment = suits-any _ before }
 
-pub serves-kept : {k : ℕ} (way : Way) (p : Packet) (n : ℕ) {a b : List Insn} → IsWay a way → Extends k a b → Serves a way p n → Serves b way p n
-serves-kept way p n here extends before = record {
-  any = answers-kept way.any n p extends here.any.1 before.any;
-  ip = suits-kept way.ip n p _ extends here.ip.1 before.ip;
-  other = suits-kept way.other n p _ extends here.other.1 before.other;
-  first_fragment = suits-kept way.first_fragment n p _ extends here.first_fragment.1 before.first_fragment;
+pub serves-kept : {k : ℕ} (entry : Entry) (p : Packet) (n : ℕ) {a b : List Insn} → IsEntry a entry → Extends k a b → Serves a entry p n → Serves b entry p n
+serves-kept entry p n here extends before = record {
+  any = answers-kept entry.any n p extends here.any.1 before.any;
+  ip = suits-kept entry.ip n p _ extends here.ip.1 before.ip;
+  other = suits-kept entry.other n p _ extends here.other.1 before.other;
+  first_fragment = suits-kept entry.first_fragment n p _ extends here.first_fragment.1 before.first_fragment;
 }
 
-serves-same : (code : List Insn) (way : Way) (p : Packet) (m n : ℕ) → m ≡ n → Serves code way p m → Serves code way p n
-serves-same code way p m n same before = record {
-  any = answers-same code way.any m n p same before.any;
+serves-same : (code : List Insn) (entry : Entry) (p : Packet) (m n : ℕ) → m ≡ n → Serves code entry p m → Serves code entry p n
+serves-same code entry p m n same before = record {
+  any = answers-same code entry.any m n p same before.any;
   ip = suits-same _ same before.ip;
   other = suits-same _ same before.other;
   first_fragment = suits-same _ same before.first_fragment;
@@ -48,41 +48,41 @@ serves-same code way p m n same before = record {
 pub place-kept : {k : ℕ} (place : ℕ) {a b : List Insn} → Extends k a b → IsPlace a place → IsPlace b place
 place-kept place extends here = (here.0, omega (arith, here.1, extends.longer))
 
-pub way-kept : {k : ℕ} (way : Way) {a b : List Insn} → Extends k a b → IsWay a way → IsWay b way
-way-kept way extends here = record {
-  any = place-kept way.any extends here.any;
-  ip = place-kept way.ip extends here.ip;
-  other = place-kept way.other extends here.other;
-  first_fragment = place-kept way.first_fragment extends here.first_fragment;
+pub entry-kept : {k : ℕ} (entry : Entry) {a b : List Insn} → Extends k a b → IsEntry a entry → IsEntry b entry
+entry-kept entry extends here = record {
+  any = place-kept entry.any extends here.any;
+  ip = place-kept entry.ip extends here.ip;
+  other = place-kept entry.other extends here.other;
+  first_fragment = place-kept entry.first_fragment extends here.first_fragment;
 }
 
 -- ways lead on as they did, behind what is put in front
-pub renews-later : {k : ℕ} {way renewed : Way} {a b c : List Insn} → Renews way renewed a b → Extends k b c → Renews way renewed a c
-renews-later {k} {way} {renewed} first extends = record {
-  here = way-kept renewed extends first.here;
-  serves = λ p n before. serves-kept renewed p n first.here extends (first.serves p n before);
+pub relays-later : {k : ℕ} {entry relayed : Entry} {a b c : List Insn} → Relays entry relayed a b → Extends k b c → Relays entry relayed a c
+relays-later {k} {entry} {relayed} first extends = record {
+  here = entry-kept relayed extends first.here;
+  serves = λ p n before. serves-kept relayed p n first.here extends (first.serves p n before);
 }
 
-pub renews-after : {k : ℕ} {way renewed : Way} {a b c : List Insn} → IsWay a way → Extends k a b → Renews way renewed b c → Renews way renewed a c
-renews-after {k} {way} here extends later = record { here = later.here; serves = λ p n before. later.serves p n (serves-kept way p n here extends before) }
+pub relays-after : {k : ℕ} {entry relayed : Entry} {a b c : List Insn} → IsEntry a entry → Extends k a b → Relays entry relayed b c → Relays entry relayed a c
+relays-after {k} {entry} here extends later = record { here = later.here; serves = λ p n before. later.serves p n (serves-kept entry p n here extends before) }
 
-pub renews-all-later : {k : ℕ} {ways renewed : Ways} {a b c : List Insn} → RenewsBoth ways renewed a b → Extends k b c → RenewsBoth ways renewed a c
-renews-all-later first extends = record { yes = renews-later first.yes extends; no = renews-later first.no extends }
+pub relays-all-later : {k : ℕ} {targets relayed : Targets} {a b c : List Insn} → RelaysBoth targets relayed a b → Extends k b c → RelaysBoth targets relayed a c
+relays-all-later first extends = record { yes = relays-later first.yes extends; no = relays-later first.no extends }
 
-pub renews-not : {ways renewed : Ways} {a b : List Insn} → RenewsBoth (record { yes = ways.no; no = ways.yes }) renewed a b → RenewsBoth ways (record { yes = renewed.no; no = renewed.yes }) a b
-renews-not renews = record { yes = renews.no; no = renews.yes }
+pub relays-not : {targets relayed : Targets} {a b : List Insn} → RelaysBoth (record { yes = targets.no; no = targets.yes }) relayed a b → RelaysBoth targets (record { yes = relayed.no; no = relayed.yes }) a b
+relays-not relays = record { yes = relays.no; no = relays.yes }
 
-renews-on : {way second first : Way} {a b c : List Insn} → Renews way second a b → Renews second first b c → Renews way first a c
-renews-on earlier later = record { here = later.here; serves = λ p n before. later.serves p n (earlier.serves p n before) }
+relays-on : {entry second first : Entry} {a b c : List Insn} → Relays entry second a b → Relays second first b c → Relays entry first a c
+relays-on earlier later = record { here = later.here; serves = λ p n before. later.serves p n (earlier.serves p n before) }
 
 -- both renew the ways, the one after the other
-pub renews-both : {l : ℕ} {e : Way} {ways second first : Ways} {a b c : List Insn} → Extends l b c → RenewsBoth ways second a b → RenewsBoth (record { yes = e; no = second.no }) first b c
-    → RenewsBoth ways (record { yes = second.yes; no = first.no }) a c
-renews-both extends before after = record { yes = renews-later before.yes extends; no = renews-on before.no after.no }
+pub relays-both : {l : ℕ} {e : Entry} {targets second first : Targets} {a b c : List Insn} → Extends l b c → RelaysBoth targets second a b → RelaysBoth (record { yes = e; no = second.no }) first b c
+    → RelaysBoth targets (record { yes = second.yes; no = first.no }) a c
+relays-both extends before after = record { yes = relays-later before.yes extends; no = relays-on before.no after.no }
 
-pub renews-either : {l : ℕ} {e : Way} {ways second first : Ways} {a b c : List Insn} → Extends l b c → RenewsBoth ways second a b → RenewsBoth (record { yes = second.yes; no = e }) first b c
-    → RenewsBoth ways (record { yes = first.yes; no = second.no }) a c
-renews-either extends before after = record { yes = renews-on before.yes after.yes; no = renews-later before.no extends }
+pub relays-either : {l : ℕ} {e : Entry} {targets second first : Targets} {a b c : List Insn} → Extends l b c → RelaysBoth targets second a b → RelaysBoth (record { yes = second.yes; no = e }) first b c
+    → RelaysBoth targets (record { yes = first.yes; no = second.no }) a c
+relays-either extends before after = record { yes = relays-on before.yes after.yes; no = relays-later before.no extends }
 
 -- a place in reach, or the one for any packet
 reached-place : (code : List Insn) (found place any : ℕ) → (found ≡ place) ⊎ (found ≡ any) → IsPlace code place → IsPlace code any → IsPlace code found
@@ -93,77 +93,77 @@ reached-suits : {code : List Insn} (found place any n : ℕ) (p : Packet) (X : T
 reached-suits found place any n p X (inl is) before other = rw is before
 reached-suits found place any n p X (inr is) before other = rw is (suits-any X other)
 
-pub renews-near : (way : Way) (near ip other first : ℕ) (a b : List Insn) → IsWay a way → Nears way.any 255 near a b
-    → (ip ≡ way.ip) ⊎ (ip ≡ near) → (other ≡ way.other) ⊎ (other ≡ near) → (first ≡ way.first_fragment) ⊎ (first ≡ near)
-    → Renews way (record { any = near; ip = ip; other = other; first_fragment = first; transport = way.transport }) a b
-renews-near way near ip other first a b here nears of_ip of_other of_first = record {
+pub relays-near : (entry : Entry) (near ip other first : ℕ) (a b : List Insn) → IsEntry a entry → IsRelay entry.any 255 near a b
+    → (ip ≡ entry.ip) ⊎ (ip ≡ near) → (other ≡ entry.other) ⊎ (other ≡ near) → (first ≡ entry.first_fragment) ⊎ (first ≡ near)
+    → Relays entry (record { any = near; ip = ip; other = other; first_fragment = first; transport = entry.transport }) a b
+relays-near entry near ip other first a b here nears of_ip of_other of_first = record {
   here = record {
     any = nears.here;
-    ip = reached-place b ip way.ip near of_ip (place-kept way.ip nears.extends here.ip) nears.here;
-    other = reached-place b other way.other near of_other (place-kept way.other nears.extends here.other) nears.here;
-    first_fragment = reached-place b first way.first_fragment near of_first (place-kept way.first_fragment nears.extends here.first_fragment) nears.here;
+    ip = reached-place b ip entry.ip near of_ip (place-kept entry.ip nears.extends here.ip) nears.here;
+    other = reached-place b other entry.other near of_other (place-kept entry.other nears.extends here.other) nears.here;
+    first_fragment = reached-place b first entry.first_fragment near of_first (place-kept entry.first_fragment nears.extends here.first_fragment) nears.here;
   };
   serves = λ p n before.
       let any' : Answers b near p n = record { always = λ r cells. nears.leads p r ∙ before.any.always r cells } in
       record {
         any = any';
-        ip = reached-suits ip way.ip near n p _ of_ip (suits-kept way.ip n p _ nears.extends here.ip.1 before.ip) any';
-        other = reached-suits other way.other near n p _ of_other (suits-kept way.other n p _ nears.extends here.other.1 before.other) any';
-        first_fragment = reached-suits first way.first_fragment near n p _ of_first (suits-kept way.first_fragment n p _ nears.extends here.first_fragment.1 before.first_fragment) any';
+        ip = reached-suits ip entry.ip near n p _ of_ip (suits-kept entry.ip n p _ nears.extends here.ip.1 before.ip) any';
+        other = reached-suits other entry.other near n p _ of_other (suits-kept entry.other n p _ nears.extends here.other.1 before.other) any';
+        first_fragment = reached-suits first entry.first_fragment near n p _ of_first (suits-kept entry.first_fragment n p _ nears.extends here.first_fragment.1 before.first_fragment) any';
       };
 }
 
 -- a test that does not look at what is known
-pub decides_any : {k e : ℕ} {t : Test} (ways : Ways) {a b : List Insn} → Decides k t (record { yes = ways.yes.any; no = ways.no.any }) e a b
-    → DecidesBy k t ways (record { any = e; ip = e; other = e; first_fragment = e; transport = None }) a b
-decides_any {k} {e} ways {a} {b} first = record {
+pub decides_any : {k e : ℕ} {t : Test} (targets : Targets) {a b : List Insn} → Decides k t (record { yes = targets.yes.any; no = targets.no.any }) e a b
+    → DecidesBy k t targets (record { any = e; ip = e; other = e; first_fragment = e; transport = None }) a b
+decides_any {k} {e} targets {a} {b} first = record {
   extends = first.extends;
   here = record { any = first.here; ip = first.here; other = first.here; first_fragment = first.here };
   decides = λ p m n bytes yes' no'. serves-any b e _ p (first.decides p m n bytes yes'.any no'.any);
 }
 
 -- the same test in other words
-pub decides-by-same : {k : ℕ} (t u : Test) {ways : Ways} {entry : Way} {a b : List Insn} → ((p : Packet) → HasBytes p → t p ≡ u p) → DecidesBy k t ways entry a b → DecidesBy k u ways entry a b
-decides-by-same t u {ways} {entry} {a} {b} same first = record {
+pub decides-by-same : {k : ℕ} (t u : Test) {targets : Targets} {entry : Entry} {a b : List Insn} → ((p : Packet) → HasBytes p → t p ≡ u p) → DecidesBy k t targets entry a b → DecidesBy k u targets entry a b
+decides-by-same t u {targets} {entry} {a} {b} same first = record {
   extends = first.extends;
   here = first.here;
   decides = λ p m n bytes yes' no'. serves-same b entry p _ _ (ap (λ v. outcome v m n) (same p bytes)) (first.decides p m n bytes yes' no');
 }
 
-pub decides-by-more : {k : ℕ} (l : ℕ) {t : Test} {ways : Ways} {entry : Way} {a b : List Insn} → k ≤ l → DecidesBy k t ways entry a b → DecidesBy l t ways entry a b
+pub decides-by-more : {k : ℕ} (l : ℕ) {t : Test} {targets : Targets} {entry : Entry} {a b : List Insn} → k ≤ l → DecidesBy k t targets entry a b → DecidesBy l t targets entry a b
 decides-by-more l more first = record { extends = extends-more l more first.extends; here = first.here; decides = first.decides }
 
 -- a test by renewed ways
-pub decides-renewed : {k l : ℕ} {t : Test} {ways renewed : Ways} {entry : Way} {a b c : List Insn} → Extends k a b → RenewsBoth ways renewed a b → DecidesBy l t renewed entry b c → DecidesBy (k + l) t ways entry a c
-decides-renewed extends renews first = record {
+pub decides-relayed : {k l : ℕ} {t : Test} {targets relayed : Targets} {entry : Entry} {a b c : List Insn} → Extends k a b → RelaysBoth targets relayed a b → DecidesBy l t relayed entry b c → DecidesBy (k + l) t targets entry a c
+decides-relayed extends relays first = record {
   extends = extends-both extends first.extends;
   here = first.here;
-  decides = λ p m n bytes yes' no'. first.decides p m n bytes (renews.yes.serves p m yes') (renews.no.serves p n no');
+  decides = λ p m n bytes yes' no'. first.decides p m n bytes (relays.yes.serves p m yes') (relays.no.serves p n no');
 }
 
 -- the second test is there first; the first one goes on to it, or by the ways as the second one renewed them
-pub decides-both-renewed : {k l : ℕ} {t u : Test} {ways renewed : Ways} {second first : Way} {a b c : List Insn} → RenewsBoth ways renewed a b
-    → DecidesBy k u ways second a b → DecidesBy l t (record { yes = second; no = renewed.no }) first b c → DecidesBy (k + l) (and_test t u) ways first a c
-decides-both-renewed {k} {l} {t} {u} {ways} {renewed} {second} {first} {a} {b} {c} renews later before = record {
+pub decides-both-relayed : {k l : ℕ} {t u : Test} {targets relayed : Targets} {second first : Entry} {a b c : List Insn} → RelaysBoth targets relayed a b
+    → DecidesBy k u targets second a b → DecidesBy l t (record { yes = second; no = relayed.no }) first b c → DecidesBy (k + l) (and_test t u) targets first a c
+decides-both-relayed {k} {l} {t} {u} {targets} {relayed} {second} {first} {a} {b} {c} relays later before = record {
   extends = extends-both later.extends before.extends;
   here = before.here;
   decides = λ p m n bytes yes' no'.
       serves-same c first p _ _ (outcome-both (t p) (u p) m n)
-      (before.decides p (outcome (u p) m n) n bytes (later.decides p m n bytes yes' no') (renews.no.serves p n no'));
+      (before.decides p (outcome (u p) m n) n bytes (later.decides p m n bytes yes' no') (relays.no.serves p n no'));
 }
 
-pub decides-either-renewed : {k l : ℕ} {t u : Test} {ways renewed : Ways} {second first : Way} {a b c : List Insn} → RenewsBoth ways renewed a b
-    → DecidesBy k u ways second a b → DecidesBy l t (record { yes = renewed.yes; no = second }) first b c → DecidesBy (k + l) (or_test t u) ways first a c
-decides-either-renewed {k} {l} {t} {u} {ways} {renewed} {second} {first} {a} {b} {c} renews later before = record {
+pub decides-either-relayed : {k l : ℕ} {t u : Test} {targets relayed : Targets} {second first : Entry} {a b c : List Insn} → RelaysBoth targets relayed a b
+    → DecidesBy k u targets second a b → DecidesBy l t (record { yes = relayed.yes; no = second }) first b c → DecidesBy (k + l) (or_test t u) targets first a c
+decides-either-relayed {k} {l} {t} {u} {targets} {relayed} {second} {first} {a} {b} {c} relays later before = record {
   extends = extends-both later.extends before.extends;
   here = before.here;
   decides = λ p m n bytes yes' no'.
       serves-same c first p _ _ (outcome-either (t p) (u p) m n)
-      (before.decides p m (outcome (u p) m n) bytes (renews.yes.serves p m yes') (later.decides p m n bytes yes' no'));
+      (before.decides p m (outcome (u p) m n) bytes (relays.yes.serves p m yes') (later.decides p m n bytes yes' no'));
 }
 
-pub decides-not : {k : ℕ} {t : Test} {ways : Ways} {entry : Way} {a b : List Insn} → DecidesBy k t (record { yes = ways.no; no = ways.yes }) entry a b → DecidesBy k (not_test t) ways entry a b
-decides-not {k} {t} {ways} {entry} {a} {b} first = record {
+pub decides-not : {k : ℕ} {t : Test} {targets : Targets} {entry : Entry} {a b : List Insn} → DecidesBy k t (record { yes = targets.no; no = targets.yes }) entry a b → DecidesBy k (not_test t) targets entry a b
+decides-not {k} {t} {targets} {entry} {a} {b} first = record {
   extends = first.extends;
   here = first.here;
   decides = λ p m n bytes yes' no'. serves-same b entry p _ _ (outcome-opposite (t p) m n) (first.decides p n m bytes no' yes');
@@ -228,27 +228,27 @@ pub first-ip : (transport : Option Transport) (p : Packet) → is_first_fragment
 first-ip transport p is = left-yes (is_type 0x0800 p) _ (left-yes (and_test (is_type 0x0800) has_port_number p) _ (first-of-any transport p is))
 
 -- a test behind that of IPv4
-pub decides-guarded : {k inner e : ℕ} {u : Test} (ways : Ways) {a b c : List Insn} → AreWays a ways
-    → Decides k u (record { yes = ways.yes.ip; no = ways.no.ip }) inner a b
-    → Decides 4 (is_type 0x0800) (record { yes = inner; no = ways.no.other }) e b c
-    → DecidesBy (k + 4) (and_test (is_type 0x0800) u) ways (record { any = e; ip = inner; other = ways.no.other; first_fragment = inner; transport = None }) a c
-decides-guarded {k} {inner} {e} {u} ways {a} {b} {c} are second first =
+pub decides-guarded : {k inner e : ℕ} {u : Test} (targets : Targets) {a b c : List Insn} → AreTargets a targets
+    → Decides k u (record { yes = targets.yes.ip; no = targets.no.ip }) inner a b
+    → Decides 4 (is_type 0x0800) (record { yes = inner; no = targets.no.other }) e b c
+    → DecidesBy (k + 4) (and_test (is_type 0x0800) u) targets (record { any = e; ip = inner; other = targets.no.other; first_fragment = inner; transport = None }) a c
+decides-guarded {k} {inner} {e} {u} targets {a} {b} {c} are second first =
     let whole = extends-both second.extends first.extends in
     let ip' = place-kept inner first.extends second.here in
     record {
       extends = whole;
-      here = record { any = first.here; ip = ip'; other = place-kept ways.no.other whole are.1.other; first_fragment = ip' };
+      here = record { any = first.here; ip = ip'; other = place-kept targets.no.other whole are.1.other; first_fragment = ip' };
       decides = λ p m n bytes yes' no'.
           let t = is_type 0x0800 p in
           let inside = second.decides p yes'.ip.found no'.ip.found bytes yes'.ip.answers no'.ip.answers in
-          let outside = answers-kept ways.no.other no'.other.found p second.extends are.1.other.1 no'.other.answers in
+          let outside = answers-kept targets.no.other no'.other.found p second.extends are.1.other.1 no'.other.answers in
           let inside' = answers-kept inner _ p first.extends second.here.1 inside in
           record {
             any = answers-same c e _ _ p (outcome-guarded t (u p) m n _ _ _ yes'.ip.right no'.ip.right no'.other.right) (first.decides p _ _ bytes inside outside);
             ip = record { found = _; answers = inside'; right = λ known. known-inside t (u p) m n _ _ known (yes'.ip.right known) (no'.ip.right known) };
             other = record {
               found = no'.other.found;
-              answers = answers-kept ways.no.other _ p first.extends (place-kept ways.no.other second.extends are.1.other).1 outside;
+              answers = answers-kept targets.no.other _ p first.extends (place-kept targets.no.other second.extends are.1.other).1 outside;
               right = λ known. known-outside t (u p) m n _ known (no'.other.right known);
             };
             first_fragment = record {
@@ -262,14 +262,14 @@ decides-guarded {k} {inner} {e} {u} ways {a} {b} {c} are second first =
     }
 
 -- what serves as the way of an answer that is known serves as the outcome
-served : {X : Type 0} (b : Bool) (ways : Ways) (v : Verdict) {code : List Insn} (p : Packet) (m n : ℕ) → Serves code ways.yes p m → Serves code ways.no p n → (X → v ≡ decided b)
-    → ServesKnown code (way_by b ways) p (outcome v m n) X
-served true ways v p m n yes' no' is = record { found = m; serves = yes'; right = λ known. sym (ap (λ u. outcome u m n) (is known)) }
-served false ways v p m n yes' no' is = record { found = n; serves = no'; right = λ known. sym (ap (λ u. outcome u m n) (is known)) }
+served : {X : Type 0} (b : Bool) (targets : Targets) (v : Verdict) {code : List Insn} (p : Packet) (m n : ℕ) → Serves code targets.yes p m → Serves code targets.no p n → (X → v ≡ decided b)
+    → ServesKnown code (for_answer b targets) p (outcome v m n) X
+served true targets v p m n yes' no' is = record { found = m; serves = yes'; right = λ known. sym (ap (λ u. outcome u m n) (is known)) }
+served false targets v p m n yes' no' is = record { found = n; serves = no'; right = λ known. sym (ap (λ u. outcome u m n) (is known)) }
 
-way-by-here : (b : Bool) (ways : Ways) {code : List Insn} → AreWays code ways → IsWay code (way_by b ways)
-way-by-here true ways are = are.0
-way-by-here false ways are = are.1
+entry-by-here : (b : Bool) (targets : Targets) {code : List Insn} → AreTargets code targets → IsEntry code (for_answer b targets)
+entry-by-here true targets are = are.0
+entry-by-here false targets are = are.1
 
 -- the outcome of a test behind that of IPv4, of which the answer is known there
 outcome-apart : (t v : Verdict) (m n x y z : ℕ) → (t ≡ Yes → x ≡ outcome v m n) → (t ≡ No → y ≡ m) → (t ≡ No → z ≡ n) → (t ≡ Abort → v ≡ Abort) → outcome t x (outcome v y z) ≡ outcome v m n
@@ -278,21 +278,21 @@ outcome-apart No v m n x y z is first second aborts = ap (λ k. outcome v k z) (
 outcome-apart Abort v m n x y z is first second aborts = sym (ap (λ u. outcome u m n) (aborts refl))
 
 -- a test whose answer is known of IPv4, and behind that type the same test of any other
-pub decides-apart : {k other e : ℕ} {u : Test} (by_ip : Bool) (ways : Ways) {a b c : List Insn} → AreWays a ways
+pub decides-apart : {k other e : ℕ} {u : Test} (by_ip : Bool) (targets : Targets) {a b c : List Insn} → AreTargets a targets
     → ((p : Packet) → is_type 0x0800 p ≡ Yes → u p ≡ decided by_ip) → ((p : Packet) → is_type 0x0800 p ≡ Abort → u p ≡ Abort)
-    → Decides k u (record { yes = ways.yes.other; no = ways.no.other }) other a b
-    → Decides 4 (is_type 0x0800) (record { yes = (way_by by_ip ways).ip; no = other }) e b c
-    → DecidesBy (k + 4) u ways (record { any = e; ip = (way_by by_ip ways).ip; other = other; first_fragment = (way_by by_ip ways).first_fragment; transport = (way_by by_ip ways).transport }) a c
-decides-apart {k} {other} {e} {u} by_ip ways {a} {b} {c} are holds aborts second first =
+    → Decides k u (record { yes = targets.yes.other; no = targets.no.other }) other a b
+    → Decides 4 (is_type 0x0800) (record { yes = (for_answer by_ip targets).ip; no = other }) e b c
+    → DecidesBy (k + 4) u targets (record { any = e; ip = (for_answer by_ip targets).ip; other = other; first_fragment = (for_answer by_ip targets).first_fragment; transport = (for_answer by_ip targets).transport }) a c
+decides-apart {k} {other} {e} {u} by_ip targets {a} {b} {c} are holds aborts second first =
     let whole = extends-both second.extends first.extends in
-    let w = way_by by_ip ways in
-    let here = way-by-here by_ip ways are in
+    let w = for_answer by_ip targets in
+    let here = entry-by-here by_ip targets are in
     record {
       extends = whole;
       here = record { any = first.here; ip = place-kept w.ip whole here.ip; other = place-kept other first.extends second.here; first_fragment = place-kept w.first_fragment whole here.first_fragment };
       decides = λ p m n bytes yes' no'.
           let t = is_type 0x0800 p in
-          let of_ip = served by_ip ways (u p) p m n yes' no' (holds p) in
+          let of_ip = served by_ip targets (u p) p m n yes' no' (holds p) in
           let there = of_ip.serves.ip in
           let fragment = of_ip.serves.first_fragment in
           let outside = second.decides p yes'.other.found no'.other.found bytes yes'.other.answers no'.other.answers in
@@ -314,17 +314,17 @@ decides-apart {k} {other} {e} {u} by_ip ways {a} {b} {c} are holds aborts second
     }
 
 -- the same where the type is not asked for first
-pub decides-known : {k e : ℕ} {u : Test} (by_ip : Bool) (ways : Ways) {a b : List Insn} → AreWays a ways → ((p : Packet) → is_type 0x0800 p ≡ Yes → u p ≡ decided by_ip)
-    → Decides k u (record { yes = ways.yes.any; no = ways.no.any }) e a b
-    → DecidesBy k u ways (record { any = e; ip = (way_by by_ip ways).ip; other = e; first_fragment = (way_by by_ip ways).first_fragment; transport = (way_by by_ip ways).transport }) a b
-decides-known {k} {e} {u} by_ip ways {a} {b} are holds first =
-    let w = way_by by_ip ways in
-    let here = way-by-here by_ip ways are in
+pub decides-known : {k e : ℕ} {u : Test} (by_ip : Bool) (targets : Targets) {a b : List Insn} → AreTargets a targets → ((p : Packet) → is_type 0x0800 p ≡ Yes → u p ≡ decided by_ip)
+    → Decides k u (record { yes = targets.yes.any; no = targets.no.any }) e a b
+    → DecidesBy k u targets (record { any = e; ip = (for_answer by_ip targets).ip; other = e; first_fragment = (for_answer by_ip targets).first_fragment; transport = (for_answer by_ip targets).transport }) a b
+decides-known {k} {e} {u} by_ip targets {a} {b} are holds first =
+    let w = for_answer by_ip targets in
+    let here = entry-by-here by_ip targets are in
     record {
       extends = first.extends;
       here = record { any = first.here; ip = place-kept w.ip first.extends here.ip; other = first.here; first_fragment = place-kept w.first_fragment first.extends here.first_fragment };
       decides = λ p m n bytes yes' no'.
-          let of_ip = served by_ip ways (u p) p m n yes' no' (holds p) in
+          let of_ip = served by_ip targets (u p) p m n yes' no' (holds p) in
           let there = of_ip.serves.ip in
           let fragment = of_ip.serves.first_fragment in
           let any' = first.decides p m n bytes yes'.any no'.any in
@@ -340,26 +340,26 @@ decides-known {k} {e} {u} by_ip ways {a} {b} are holds first =
           };
     }
 
-pub suits-first : {code : List Insn} {way : Way} {p : Packet} {n : ℕ} (place : ℕ) (transport : Option Transport) → IsFor transport place way
-    → Serves code way p n → Suits code place p n (is_first_fragment transport p ≡ Yes)
-suits-first {code} {way} {p} place transport (inl is) before =
+pub suits-first : {code : List Insn} {entry : Entry} {p : Packet} {n : ℕ} (place : ℕ) (transport : Option Transport) → IsFor transport place entry
+    → Serves code entry p n → Suits code place p n (is_first_fragment transport p ≡ Yes)
+suits-first {code} {entry} {p} place transport (inl is) before =
     rw is (record { found = before.ip.found; answers = before.ip.answers; right = λ known. before.ip.right (first-ip transport p known) })
-suits-first {code} {way} {p} place transport (inr (is, inl any)) before =
+suits-first {code} {entry} {p} place transport (inr (is, inl any)) before =
     rw is (record {
       found = before.first_fragment.found;
       answers = before.first_fragment.answers;
       right = λ known. before.first_fragment.right (ap (λ t. is_first_fragment t p) any ∙ first-of-any transport p known);
     })
-suits-first {code} {way} {p} place transport (inr (is, inr same)) before =
+suits-first {code} {entry} {p} place transport (inr (is, inr same)) before =
     rw is (record {
       found = before.first_fragment.found;
       answers = before.first_fragment.answers;
       right = λ known. before.first_fragment.right (ap (λ t. is_first_fragment t p) same ∙ known);
     })
 
-pub first-place : (code : List Insn) (way : Way) (place : ℕ) (transport : Option Transport) → IsFor transport place way → IsWay code way → IsPlace code place
-first-place code way place transport (inl is) here = rw is here.ip
-first-place code way place transport (inr (is, which)) here = rw is here.first_fragment
+pub first-place : (code : List Insn) (entry : Entry) (place : ℕ) (transport : Option Transport) → IsFor transport place entry → IsEntry code entry → IsPlace code place
+first-place code entry place transport (inl is) here = rw is here.ip
+first-place code entry place transport (inr (is, which)) here = rw is here.first_fragment
 
 -- the outcome of a test behind those of IPv4, of a protocol and of a fragment, each with exits of its own
 outcome-first : (t b f w : Verdict) (m n m1 n1 n2 n3 : ℕ) → (and_then (and_then t b) f ≡ Yes → m1 ≡ m) → (and_then (and_then t b) f ≡ Yes → n1 ≡ n) → (t ≡ Yes → n2 ≡ n) → (t ≡ No → n3 ≡ n)
@@ -389,19 +389,19 @@ abbrev pub first_by : Test → Test
 first_by protocol = and_test (and_test (is_type 0x0800) protocol) is_unfragmented
 
 -- a test behind those of a first fragment
-pub decides-first : {k l first inner ip any : ℕ} {u : Test} (transport : Option Transport) (protocol : Test) (ways : Ways) {exits : Exits} {a b c d e : List Insn} → AreWays a ways
+pub decides-first : {k l first inner ip any : ℕ} {u : Test} (transport : Option Transport) (protocol : Test) (targets : Targets) {exits : Exits} {a b c d e : List Insn} → AreTargets a targets
     → ((p : Packet) → is_first_fragment transport p ≡ first_by protocol p)
-    → IsFor transport exits.yes ways.yes → IsFor transport exits.no ways.no
+    → IsFor transport exits.yes targets.yes → IsFor transport exits.no targets.no
     → Decides k u exits first a b
-    → Decides 4 is_unfragmented (record { yes = first; no = ways.no.ip }) inner b c
-    → Decides l protocol (record { yes = inner; no = ways.no.ip }) ip c d
-    → Decides 4 (is_type 0x0800) (record { yes = ip; no = ways.no.other }) any d e
-    → DecidesBy (k + l + 8) (and_test (first_by protocol) u) ways (record { any = any; ip = ip; other = ways.no.other; first_fragment = first; transport = transport }) a e
-decides-first {k} {l} {first} {inner} {ip} {any} {u} transport protocol ways {exits} {a} {b} {c} {d} {e} are which of_yes of_no tested unfragmented numbered typed =
+    → Decides 4 is_unfragmented (record { yes = first; no = targets.no.ip }) inner b c
+    → Decides l protocol (record { yes = inner; no = targets.no.ip }) ip c d
+    → Decides 4 (is_type 0x0800) (record { yes = ip; no = targets.no.other }) any d e
+    → DecidesBy (k + l + 8) (and_test (first_by protocol) u) targets (record { any = any; ip = ip; other = targets.no.other; first_fragment = first; transport = transport }) a e
+decides-first {k} {l} {first} {inner} {ip} {any} {u} transport protocol targets {exits} {a} {b} {c} {d} {e} are which of_yes of_no tested unfragmented numbered typed =
     let to_c = extends-both tested.extends unfragmented.extends in
     let to_d = extends-both to_c numbered.extends in
     let whole = extends-both to_d typed.extends in
-    let behind = extends-both unfragmented.extends (extends-both numbered.extends typed.extends) in
+    let later = extends-both unfragmented.extends (extends-both numbered.extends typed.extends) in
     let ip' = are.1.ip in
     let other' = are.1.other in
     record {
@@ -409,8 +409,8 @@ decides-first {k} {l} {first} {inner} {ip} {any} {u} transport protocol ways {ex
       here = record {
         any = typed.here;
         ip = place-kept ip typed.extends numbered.here;
-        other = place-kept ways.no.other whole other';
-        first_fragment = place-kept first behind tested.here;
+        other = place-kept targets.no.other whole other';
+        first_fragment = place-kept first later tested.here;
       };
       decides = λ p m n bytes yes' no'.
           let t = is_type 0x0800 p in
@@ -421,9 +421,9 @@ decides-first {k} {l} {first} {inner} {ip} {any} {u} transport protocol ways {ex
           let n2 = no'.ip in
           let n3 = no'.other in
           let of_first = tested.decides p y.found z.found bytes y.answers z.answers in
-          let of_inner = unfragmented.decides p _ _ bytes of_first (answers-kept ways.no.ip n2.found p tested.extends ip'.1 n2.answers) in
-          let of_ip = numbered.decides p _ _ bytes of_inner (answers-kept ways.no.ip n2.found p to_c ip'.1 n2.answers) in
-          let of_any = typed.decides p _ _ bytes of_ip (answers-kept ways.no.other n3.found p to_d other'.1 n3.answers) in
+          let of_inner = unfragmented.decides p _ _ bytes of_first (answers-kept targets.no.ip n2.found p tested.extends ip'.1 n2.answers) in
+          let of_ip = numbered.decides p _ _ bytes of_inner (answers-kept targets.no.ip n2.found p to_c ip'.1 n2.answers) in
+          let of_any = typed.decides p _ _ bytes of_ip (answers-kept targets.no.other n3.found p to_d other'.1 n3.answers) in
           let y' : first_by protocol p ≡ Yes → y.found ≡ m = λ known. y.right (which p ∙ known) in
           let z' : first_by protocol p ≡ Yes → z.found ≡ n = λ known. z.right (which p ∙ known) in
           record {
@@ -435,12 +435,12 @@ decides-first {k} {l} {first} {inner} {ip} {any} {u} transport protocol ways {ex
             };
             other = record {
               found = n3.found;
-              answers = answers-kept ways.no.other n3.found p whole other'.1 n3.answers;
+              answers = answers-kept targets.no.other n3.found p whole other'.1 n3.answers;
               right = λ known. outside-first t v f (u p) m n _ known (n3.right known);
             };
             first_fragment = record {
               found = _;
-              answers = answers-kept first _ p behind tested.here.1 of_first;
+              answers = answers-kept first _ p later tested.here.1 of_first;
               right = λ known. known-inside (first_by protocol p) (u p) m n _ _ (sym (which p) ∙ known) (y.right known) (z.right known);
             };
           };

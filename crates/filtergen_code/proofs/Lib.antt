@@ -14,7 +14,7 @@ pub mod Computing
 pub mod Bounds
 pub mod Knowing
 pub mod Narrowed
-pub mod Neighbours
+pub mod ValueLists
 pub mod Taking
 pub mod Shared
 pub mod Seeking

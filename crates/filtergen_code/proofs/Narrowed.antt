@@ -7,9 +7,9 @@ use Rattle.filter_tree.specs.declared.tree.Network.TheVariants as networks
 use Rattle.filter_tree.specs.declared.tree.Transport.{Transport}
 use Rattle.filter_tree.specs.declared.tree.Transport.TheVariants.{Tcp, Udp, Sctp}
 use Rattle.filtergen_code.specs.declared.code.Exits.{Exits}
-use Rattle.filtergen_facts.specs.declared.known.Known.{Known}
-use Rattle.filtergen_code.specs.declared.ways.Way.{Way}
-use Rattle.filtergen_code.specs.declared.ways.Ways.{Ways}
+use Rattle.filtergen_facts.specs.declared.packet_facts.PacketFacts.{PacketFacts}
+use Rattle.filtergen_code.specs.declared.entries.Entry.{Entry}
+use Rattle.filtergen_code.specs.declared.entries.Targets.{Targets}
 use Rattle.filter_meaning.specs.declared.verdict.Verdict.{Verdict}
 use Rattle.filter_meaning.specs.declared.verdict.Verdict.TheVariants.{Yes, No, Abort}
 use Rattle.filter_meaning.specs.Meaning.{Packet, Test, and_then, or_else, and_test, or_test, not_test, check, decided, byte, half, is_type, is_protocol, is_first_fragment_of, by_direction, has_address, in_any_net, has_port, has_any_ports, protocol_number}
@@ -17,72 +17,72 @@ use Rattle.filtergen_code.specs.Emission.{Extends, outcome, Decides}
 use Rattle.filtergen_code.specs.Remaining.{shows, is_unfragmented}
 use Rattle.filtergen_code.specs.Parts.{of_transport}
 use Rattle.filtergen_facts.specs.Lists.{of_any_type}
-use Rattle.filtergen_code.specs.Ways.{is_first_fragment, IsWay, AreWays, RenewsBoth, DecidesBy, DecidesBehind, IsFor}
+use Rattle.filtergen_code.specs.Entries.{is_first_fragment, IsEntry, AreTargets, RelaysBoth, DecidesBy, DecidesGiven, IsFor}
 use Rattle.filtergen_code.proofs.Runs.{extends-none, extends-both, extends-more, answers-kept, equal-true}
 use Rattle.filtergen_code.proofs.Deciding.{outcome-either, outcome-opposite}
 use Rattle.filtergen_code.proofs.Leading.{suits-any, suits-first, serves-any, place-kept}
 use Rattle.filtergen_code.proofs.Knowing.{and-left, and-right}
 
 -- what decides a test of any packet does so behind what is known, also where it is the whole test only there
-pub behind-rest : {k : ℕ} {t : Test} (known : Known) (u : Test) {ways : Ways} {entry : Way} {a b : List Insn} → ((p : Packet) → shows known p ≡ Yes → t p ≡ u p)
-    → DecidesBy k t ways entry a b → DecidesBehind known k u ways entry a b
-behind-rest known u same first = record {
+pub given-rest : {k : ℕ} {t : Test} (known : PacketFacts) (u : Test) {targets : Targets} {entry : Entry} {a b : List Insn} → ((p : Packet) → shows known p ≡ Yes → t p ≡ u p)
+    → DecidesBy k t targets entry a b → DecidesGiven known k u targets entry a b
+given-rest known u same first = record {
   extends = first.extends;
   here = first.here;
   decides = λ p m n bytes yes' no'. record { found = _; serves = first.decides p m n bytes yes' no'; right = λ holds. ap (λ v. outcome v m n) (same p holds) };
 }
 
-pub behind-any : {k : ℕ} {t : Test} (known : Known) {ways : Ways} {entry : Way} {a b : List Insn} → DecidesBy k t ways entry a b → DecidesBehind known k t ways entry a b
-behind-any {k} {t} known first = behind-rest known t (λ p holds. refl) first
+pub given-any : {k : ℕ} {t : Test} (known : PacketFacts) {targets : Targets} {entry : Entry} {a b : List Insn} → DecidesBy k t targets entry a b → DecidesGiven known k t targets entry a b
+given-any {k} {t} known first = given-rest known t (λ p holds. refl) first
 
-pub behind-more : {k : ℕ} (l : ℕ) {known : Known} {t : Test} {ways : Ways} {entry : Way} {a b : List Insn} → k ≤ l → DecidesBehind known k t ways entry a b → DecidesBehind known l t ways entry a b
-behind-more l more first = record { extends = extends-more l more first.extends; here = first.here; decides = first.decides }
+pub given-more : {k : ℕ} (l : ℕ) {known : PacketFacts} {t : Test} {targets : Targets} {entry : Entry} {a b : List Insn} → k ≤ l → DecidesGiven known k t targets entry a b → DecidesGiven known l t targets entry a b
+given-more l more first = record { extends = extends-more l more first.extends; here = first.here; decides = first.decides }
 
 -- a test by renewed ways
-pub behind-renewed : {k l : ℕ} {known : Known} {t : Test} {ways renewed : Ways} {entry : Way} {a b c : List Insn} → Extends k a b → RenewsBoth ways renewed a b
-    → DecidesBehind known l t renewed entry b c → DecidesBehind known (k + l) t ways entry a c
-behind-renewed extends renews first = record {
+pub given-relayed : {k l : ℕ} {known : PacketFacts} {t : Test} {targets relayed : Targets} {entry : Entry} {a b c : List Insn} → Extends k a b → RelaysBoth targets relayed a b
+    → DecidesGiven known l t relayed entry b c → DecidesGiven known (k + l) t targets entry a c
+given-relayed extends relays first = record {
   extends = extends-both extends first.extends;
   here = first.here;
-  decides = λ p m n bytes yes' no'. first.decides p m n bytes (renews.yes.serves p m yes') (renews.no.serves p n no');
+  decides = λ p m n bytes yes' no'. first.decides p m n bytes (relays.yes.serves p m yes') (relays.no.serves p n no');
 }
 
-pub renews-none : (ways : Ways) (a : List Insn) → AreWays a ways → RenewsBoth ways ways a a
-renews-none ways a are = record {
+pub relays-none : (targets : Targets) (a : List Insn) → AreTargets a targets → RelaysBoth targets targets a a
+relays-none targets a are = record {
   yes = record { here = are.0; serves = λ p n before. before };
   no = record { here = are.1; serves = λ p n before. before };
 }
 
 -- the second test counts only where the first one is Yes, and there more is known
-outcome-behind : (v w : Verdict) (m n x : ℕ) → (v ≡ Yes → x ≡ outcome w m n) → outcome v x n ≡ outcome (and_then v w) m n
-outcome-behind Yes w m n x is = is refl
-outcome-behind No w m n x is = refl
-outcome-behind Abort w m n x is = refl
+outcome-after : (v w : Verdict) (m n x : ℕ) → (v ≡ Yes → x ≡ outcome w m n) → outcome v x n ≡ outcome (and_then v w) m n
+outcome-after Yes w m n x is = is refl
+outcome-after No w m n x is = refl
+outcome-after Abort w m n x is = refl
 
-pub behind-both : {k l : ℕ} {known later : Known} {t u : Test} {ways renewed : Ways} {second first : Way} {a b c : List Insn}
-    → ((p : Packet) → shows known p ≡ Yes → t p ≡ Yes → shows later p ≡ Yes) → RenewsBoth ways renewed a b
-    → DecidesBehind later k u ways second a b → DecidesBehind known l t (record { yes = second; no = renewed.no }) first b c → DecidesBehind known (k + l) (and_test t u) ways first a c
-behind-both {k} {l} {known} {later} {t} {u} shown renews after before = record {
+pub given-both : {k l : ℕ} {known later : PacketFacts} {t u : Test} {targets relayed : Targets} {second first : Entry} {a b c : List Insn}
+    → ((p : Packet) → shows known p ≡ Yes → t p ≡ Yes → shows later p ≡ Yes) → RelaysBoth targets relayed a b
+    → DecidesGiven later k u targets second a b → DecidesGiven known l t (record { yes = second; no = relayed.no }) first b c → DecidesGiven known (k + l) (and_test t u) targets first a c
+given-both {k} {l} {known} {later} {t} {u} shown relays after before = record {
   extends = extends-both after.extends before.extends;
   here = before.here;
   decides = λ p m n bytes yes' no'.
       let right = after.decides p m n bytes yes' no' in
-      let left = before.decides p right.found n bytes right.serves (renews.no.serves p n no') in
+      let left = before.decides p right.found n bytes right.serves (relays.no.serves p n no') in
       record {
         found = left.found;
         serves = left.serves;
-        right = λ holds. left.right holds ∙ outcome-behind (t p) (u p) m n right.found (λ passed. right.right (shown p holds passed));
+        right = λ holds. left.right holds ∙ outcome-after (t p) (u p) m n right.found (λ passed. right.right (shown p holds passed));
       };
 }
 
-pub behind-either : {k l : ℕ} {known : Known} {t u : Test} {ways renewed : Ways} {second first : Way} {a b c : List Insn} → RenewsBoth ways renewed a b
-    → DecidesBehind known k u ways second a b → DecidesBehind known l t (record { yes = renewed.yes; no = second }) first b c → DecidesBehind known (k + l) (or_test t u) ways first a c
-behind-either {k} {l} {known} {t} {u} renews after before = record {
+pub given-either : {k l : ℕ} {known : PacketFacts} {t u : Test} {targets relayed : Targets} {second first : Entry} {a b c : List Insn} → RelaysBoth targets relayed a b
+    → DecidesGiven known k u targets second a b → DecidesGiven known l t (record { yes = relayed.yes; no = second }) first b c → DecidesGiven known (k + l) (or_test t u) targets first a c
+given-either {k} {l} {known} {t} {u} relays after before = record {
   extends = extends-both after.extends before.extends;
   here = before.here;
   decides = λ p m n bytes yes' no'.
       let right = after.decides p m n bytes yes' no' in
-      let left = before.decides p m right.found bytes (renews.yes.serves p m yes') right.serves in
+      let left = before.decides p m right.found bytes (relays.yes.serves p m yes') right.serves in
       record {
         found = left.found;
         serves = left.serves;
@@ -90,9 +90,9 @@ behind-either {k} {l} {known} {t} {u} renews after before = record {
       };
 }
 
-pub behind-not : {k : ℕ} {known : Known} {t : Test} {ways : Ways} {entry : Way} {a b : List Insn} → DecidesBehind known k t (record { yes = ways.no; no = ways.yes }) entry a b
-    → DecidesBehind known k (not_test t) ways entry a b
-behind-not {k} {known} {t} first = record {
+pub given-not : {k : ℕ} {known : PacketFacts} {t : Test} {targets : Targets} {entry : Entry} {a b : List Insn} → DecidesGiven known k t (record { yes = targets.no; no = targets.yes }) entry a b
+    → DecidesGiven known k (not_test t) targets entry a b
+given-not {k} {known} {t} first = record {
   extends = first.extends;
   here = first.here;
   decides = λ p m n bytes yes' no'.
@@ -101,18 +101,18 @@ behind-not {k} {known} {t} first = record {
 }
 
 -- a test that is known to be Yes
-pub behind-passed : (known : Known) (t : Test) (ways : Ways) (a : List Insn) → IsWay a ways.yes → ((p : Packet) → shows known p ≡ Yes → t p ≡ Yes) → DecidesBehind known 0 t ways ways.yes a a
-behind-passed known t ways a here passes = record {
+pub given-passed : (known : PacketFacts) (t : Test) (targets : Targets) (a : List Insn) → IsEntry a targets.yes → ((p : Packet) → shows known p ≡ Yes → t p ≡ Yes) → DecidesGiven known 0 t targets targets.yes a a
+given-passed known t targets a here passes = record {
   extends = extends-none a;
   here = here;
   decides = λ p m n bytes yes' no'. record { found = m; serves = yes'; right = λ holds. sym (ap (λ v. outcome v m n) (passes p holds)) };
 }
 
 -- what is left of a test where the packet is known to be of IPv4
-pub behind-ip : {k e : ℕ} {u : Test} (known : Known) (t : Test) (ways : Ways) {a b : List Insn} → ((p : Packet) → shows known p ≡ Yes → is_type 0x0800 p ≡ Yes)
-    → ((p : Packet) → shows known p ≡ Yes → u p ≡ t p) → Decides k u (record { yes = ways.yes.ip; no = ways.no.ip }) e a b
-    → DecidesBehind known k t ways (record { any = e; ip = e; other = e; first_fragment = e; transport = None }) a b
-behind-ip {k} {e} {u} known t ways {a} {b} typed same first = record {
+pub given-ip : {k e : ℕ} {u : Test} (known : PacketFacts) (t : Test) (targets : Targets) {a b : List Insn} → ((p : Packet) → shows known p ≡ Yes → is_type 0x0800 p ≡ Yes)
+    → ((p : Packet) → shows known p ≡ Yes → u p ≡ t p) → Decides k u (record { yes = targets.yes.ip; no = targets.no.ip }) e a b
+    → DecidesGiven known k t targets (record { any = e; ip = e; other = e; first_fragment = e; transport = None }) a b
+given-ip {k} {e} {u} known t targets {a} {b} typed same first = record {
   extends = first.extends;
   here = record { any = first.here; ip = first.here; other = first.here; first_fragment = first.here };
   decides = λ p m n bytes yes' no'.
@@ -129,12 +129,12 @@ behind-ip {k} {e} {u} known t ways {a} {b} typed same first = record {
 }
 
 -- where it is known to be a first fragment
-pub behind-first : {k e : ℕ} {u : Test} (known : Known) (transport : Transport) (t : Test) (ways : Ways) {exits : Exits} {a b : List Insn}
-    → IsFor (Some transport) exits.yes ways.yes → IsFor (Some transport) exits.no ways.no
+pub given-first : {k e : ℕ} {u : Test} (known : PacketFacts) (transport : Transport) (t : Test) (targets : Targets) {exits : Exits} {a b : List Insn}
+    → IsFor (Some transport) exits.yes targets.yes → IsFor (Some transport) exits.no targets.no
     → ((p : Packet) → shows known p ≡ Yes → is_first_fragment (Some transport) p ≡ Yes)
     → ((p : Packet) → shows known p ≡ Yes → u p ≡ t p) → Decides k u exits e a b
-    → DecidesBehind known k t ways (record { any = e; ip = e; other = e; first_fragment = e; transport = None }) a b
-behind-first {k} {e} {u} known transport t ways {exits} {a} {b} of_yes of_no shown same first = record {
+    → DecidesGiven known k t targets (record { any = e; ip = e; other = e; first_fragment = e; transport = None }) a b
+given-first {k} {e} {u} known transport t targets {exits} {a} {b} of_yes of_no shown same first = record {
   extends = first.extends;
   here = record { any = first.here; ip = first.here; other = first.here; first_fragment = first.here };
   decides = λ p m n bytes yes' no'.
@@ -160,13 +160,13 @@ both-yes : (v w : Verdict) → v ≡ Yes → w ≡ Yes → and_then v w ≡ Yes
 both-yes v w first second = ap (λ x. and_then x w) first ∙ second
 
 -- where its protocol is known
-pub behind-number : {k first any : ℕ} {u : Test} (known : Known) (transport : Transport) (t : Test) (ways : Ways) {exits : Exits} {a b c : List Insn} → AreWays a ways
-    → IsFor (Some transport) exits.yes ways.yes → IsFor (Some transport) exits.no ways.no
+pub given-number : {k first any : ℕ} {u : Test} (known : PacketFacts) (transport : Transport) (t : Test) (targets : Targets) {exits : Exits} {a b c : List Insn} → AreTargets a targets
+    → IsFor (Some transport) exits.yes targets.yes → IsFor (Some transport) exits.no targets.no
     → ((p : Packet) → shows known p ≡ Yes → is_protocol (protocol_number transport) p ≡ Yes)
     → ((p : Packet) → shows known p ≡ Yes → and_then (is_unfragmented p) (u p) ≡ t p)
-    → Decides k u exits first a b → Decides 4 is_unfragmented (record { yes = first; no = ways.no.ip }) any b c
-    → DecidesBehind known (k + 4) t ways (record { any = any; ip = any; other = any; first_fragment = first; transport = Some transport }) a c
-behind-number {k} {first} {any} {u} known transport t ways {exits} {a} {b} {c} are of_yes of_no shown same tested unfragmented = record {
+    → Decides k u exits first a b → Decides 4 is_unfragmented (record { yes = first; no = targets.no.ip }) any b c
+    → DecidesGiven known (k + 4) t targets (record { any = any; ip = any; other = any; first_fragment = first; transport = Some transport }) a c
+given-number {k} {first} {any} {u} known transport t targets {exits} {a} {b} {c} are of_yes of_no shown same tested unfragmented = record {
   extends = extends-both tested.extends unfragmented.extends;
   here = record { any = unfragmented.here; ip = unfragmented.here; other = unfragmented.here; first_fragment = place-kept first unfragmented.extends tested.here };
   decides = λ p m n bytes yes' no'.
@@ -176,7 +176,7 @@ behind-number {k} {first} {any} {u} known transport t ways {exits} {a} {b} {c} a
       let z = suits-first exits.no (Some transport) of_no no' in
       let n2 = no'.ip in
       let of_first = tested.decides p y.found z.found bytes y.answers z.answers in
-      let of_any = unfragmented.decides p _ _ bytes of_first (answers-kept ways.no.ip n2.found p tested.extends are.1.ip.1 n2.answers) in
+      let of_any = unfragmented.decides p _ _ bytes of_first (answers-kept targets.no.ip n2.found p tested.extends are.1.ip.1 n2.answers) in
       record {
         found = outcome f (outcome (u p) y.found z.found) n2.found;
         serves = record {
@@ -260,9 +260,9 @@ pub protocol-known : (n : ℕ) (p : Packet) → is_type 0x0800 p ≡ Yes → che
 protocol-known n p is = sym (ap (λ v. and_then v (check (λ b. b == n) (byte 23 p))) is)
 
 -- the same where it is known to be a first fragment
-pub ports-behind-first : (transport : Transport) (asked : Option Transport) (t : Test) (p : Packet) → is_first_fragment_of (protocol_number transport) p ≡ Yes
+pub ports-after-first : (transport : Transport) (asked : Option Transport) (t : Test) (p : Packet) → is_first_fragment_of (protocol_number transport) p ≡ Yes
     → (asked ≡ None) ⊎ (asked ≡ Some transport) → t p ≡ of_transport asked t p
-ports-behind-first transport asked t p is which =
+ports-after-first transport asked t p is which =
     let number = is_protocol (protocol_number transport) p in
     sym (ap (λ v. and_then v (t p)) (and-right number (is_unfragmented p) is)) ∙ ports-known transport asked t p (and-left number (is_unfragmented p) is) which
 
@@ -273,9 +273,9 @@ of-transport-is None direction low high p = refl
 of-transport-is (Some transport) direction low high p = refl
 
 -- the same test in other words
-pub behind-same : {k : ℕ} (known : Known) (t u : Test) {ways : Ways} {entry : Way} {a b : List Insn} → ((p : Packet) → shows known p ≡ Yes → t p ≡ u p)
-    → DecidesBehind known k t ways entry a b → DecidesBehind known k u ways entry a b
-behind-same known t u same first = record {
+pub given-same : {k : ℕ} (known : PacketFacts) (t u : Test) {targets : Targets} {entry : Entry} {a b : List Insn} → ((p : Packet) → shows known p ≡ Yes → t p ≡ u p)
+    → DecidesGiven known k t targets entry a b → DecidesGiven known k u targets entry a b
+given-same known t u same first = record {
   extends = first.extends;
   here = first.here;
   decides = λ p m n bytes yes' no'.

@@ -10,11 +10,11 @@ use Rattle.filtergen_code.specs.declared.insns.Operand.TheVariants as operands
 use Rattle.filtergen_code.specs.declared.insns.Field.TheVariants as fields
 use Rattle.filter_meaning.specs.declared.verdict.Verdict.{Verdict}
 use Rattle.filter_meaning.specs.declared.verdict.Verdict.TheVariants.{Yes, No}
-use Rattle.filtergen_code.specs.declared.ways.Ways.{Ways}
+use Rattle.filtergen_code.specs.declared.entries.Targets.{Targets}
 use Rattle.filter_meaning.specs.Meaning.{Packet, Test, check, decided, half, is_type}
 use Rattle.filtergen_code.specs.Insns.{load_insn}
 use Rattle.filtergen_code.specs.Emission.{HasCells, run_from, AreExits, Answers, Extends, outcome, condition, Chooses, any_registers, Follows, Decides}
-use Rattle.filtergen_code.specs.Ways.{AreWays, DecidesBy}
+use Rattle.filtergen_code.specs.Entries.{AreTargets, DecidesBy}
 use Rattle.filtergen_facts.specs.Lists.{of_any_type}
 use Rattle.filtergen_code.proofs.Runs.{after, answer-first, answers-kept, extends-both, extends-one, front-place, load-effect}
 use Rattle.filtergen_code.proofs.Deciding.{decides-kept, decides-later}
@@ -54,20 +54,20 @@ of-ip t u p (Some n) known = by_test (n == 0x0800) known
     by_test false is = absurd cc
 
 -- the load of the type and the comparison with that of IPv4, in front of the test of IPv4 and of those of the other types
-decides-by-type : {g h f n : ℕ} (t u : Test) (ways : Ways) {a b c : List Insn} → Decides g t (record { yes = ways.yes.ip; no = ways.no.ip }) f a b
-    → Follows any_registers h (by_other u) (record { yes = ways.yes.other; no = ways.no.other }) n a b
+decides-by-type : {g h f n : ℕ} (t u : Test) (targets : Targets) {a b c : List Insn} → Decides g t (record { yes = targets.yes.ip; no = targets.no.ip }) f a b
+    → Follows any_registers h (by_other u) (record { yes = targets.yes.other; no = targets.no.other }) n a b
     → Chooses 3 (condition jumps.Equal (operands.Constant 0x0800)) (record { yes = f; no = n }) b c
-    → DecidesBy (g + 4) (of_any_type t u) ways (record { any = suc (length c); ip = f; other = suc (length c); first_fragment = f; transport = None }) a (load_insn (fields.Half 12) ∷ c)
-decides-by-type {g} {h} {f} {n} t u ways {a} {b} {c} ip other-test ip-jump =
+    → DecidesBy (g + 4) (of_any_type t u) targets (record { any = suc (length c); ip = f; other = suc (length c); first_fragment = f; transport = None }) a (load_insn (fields.Half 12) ∷ c)
+decides-by-type {g} {h} {f} {n} t u targets {a} {b} {c} ip other-test ip-jump =
     let load = load_insn (fields.Half 12) in
-    let behind : Extends 4 b (load ∷ c) = extends-both ip-jump.extends (extends-one load c) in
-    let here = place-kept f behind ip.here in
+    let later : Extends 4 b (load ∷ c) = extends-both ip-jump.extends (extends-one load c) in
+    let here = place-kept f later ip.here in
     record {
-      extends = extends-both ip.extends behind;
+      extends = extends-both ip.extends later;
       here = record { any = (omega arith, omega arith); ip = here; other = (omega arith, omega arith); first_fragment = here };
       decides = λ p k l bytes yes' no'.
           let inside = ip.decides p yes'.ip.found no'.ip.found bytes yes'.ip.answers no'.ip.answers in
-          let inside' = answers-kept f _ p behind ip.here.1 inside in
+          let inside' = answers-kept f _ p later ip.here.1 inside in
           let outside : (r : Registers) → HasCells r → run_from b n p r ≡ outcome (by_other u r p) yes'.other.found no'.other.found =
           λ r cells. other-test.follows p _ _ r bytes cells (λ s kept like. yes'.other.answers.always s kept) (λ s kept like. no'.other.answers.always s kept) in
           let right : is_type 0x0800 p ≡ Yes → outcome (t p) yes'.ip.found no'.ip.found ≡ outcome (of_any_type t u p) k l =
@@ -133,30 +133,30 @@ follows-other {e} {y} {k} u exits {a} {b} {c} {d} are arp at-rarp rarp-jump arp-
     (follows-chosen (λ r. u) _ (λ r. r.accumulator == 0x0806) (follows-kept (λ r. u) arp' rarp-jump.extends) rarp-test (rw at-rarp at arp-jump))
 
 -- The test of IPv4 stands behind that of the other types, or before it.
-pub decides-any-net : {e f y n g h : ℕ} (t u : Test) (ways : Ways) {c0 c1 c2 c3 c4 c5 : List Insn} → AreWays c0 ways
-    → Decides g u (record { yes = ways.yes.other; no = ways.no.other }) e c0 c1
+pub decides-any-net : {e f y n g h : ℕ} (t u : Test) (targets : Targets) {c0 c1 c2 c3 c4 c5 : List Insn} → AreTargets c0 targets
+    → Decides g u (record { yes = targets.yes.other; no = targets.no.other }) e c0 c1
     → y ≡ length c2 → n ≡ length c3
-    → Chooses 3 (condition jumps.Equal (operands.Constant 0x8035)) (record { yes = e; no = ways.no.other }) c1 c2
+    → Chooses 3 (condition jumps.Equal (operands.Constant 0x8035)) (record { yes = e; no = targets.no.other }) c1 c2
     → Chooses 3 (condition jumps.Equal (operands.Constant 0x0806)) (record { yes = e; no = y }) c2 c3
-    → Decides h t (record { yes = ways.yes.ip; no = ways.no.ip }) f c3 c4
+    → Decides h t (record { yes = targets.yes.ip; no = targets.no.ip }) f c3 c4
     → Chooses 3 (condition jumps.Equal (operands.Constant 0x0800)) (record { yes = f; no = n }) c4 c5
-    → DecidesBy (g + h + 10) (of_any_type t u) ways (record { any = suc (length c5); ip = f; other = suc (length c5); first_fragment = f; transport = None }) c0 (load_insn (fields.Half 12) ∷ c5)
-decides-any-net {e} {f} {y} {n} {g} {h} t u ways are arp at-rarp at-other rarp-jump arp-jump ip ip-jump =
-    let others : Exits = record { yes = ways.yes.other; no = ways.no.other } in
+    → DecidesBy (g + h + 10) (of_any_type t u) targets (record { any = suc (length c5); ip = f; other = suc (length c5); first_fragment = f; transport = None }) c0 (load_insn (fields.Half 12) ∷ c5)
+decides-any-net {e} {f} {y} {n} {g} {h} t u targets are arp at-rarp at-other rarp-jump arp-jump ip ip-jump =
+    let others : Exits = record { yes = targets.yes.other; no = targets.no.other } in
     let other-test = follows-other u others (are.0.other, are.1.other) arp at-rarp rarp-jump arp-jump in
     decides-by-more (g + h + 10) (omega arith)
-    (decides-by-type t u ways (decides-later (are.0.ip, are.1.ip) other-test.extends ip) (follows-kept (by_other u) other-test ip.extends) (rw at-other at ip-jump))
+    (decides-by-type t u targets (decides-later (are.0.ip, are.1.ip) other-test.extends ip) (follows-kept (by_other u) other-test ip.extends) (rw at-other at ip-jump))
 
-pub decides-listed-nets : {e f y n g h m : ℕ} (t u : Test) (ways : Ways) {c0 c1 c2 c3 c4 c5 : List Insn} → AreWays c0 ways
-    → Decides h t (record { yes = ways.yes.ip; no = ways.no.ip }) f c0 c1 → Extends m c1 c2
-    → Decides g u (record { yes = ways.yes.other; no = ways.no.other }) e c0 c2
+pub decides-listed-nets : {e f y n g h m : ℕ} (t u : Test) (targets : Targets) {c0 c1 c2 c3 c4 c5 : List Insn} → AreTargets c0 targets
+    → Decides h t (record { yes = targets.yes.ip; no = targets.no.ip }) f c0 c1 → Extends m c1 c2
+    → Decides g u (record { yes = targets.yes.other; no = targets.no.other }) e c0 c2
     → y ≡ length c3 → n ≡ length c4
-    → Chooses 3 (condition jumps.Equal (operands.Constant 0x8035)) (record { yes = e; no = ways.no.other }) c2 c3
+    → Chooses 3 (condition jumps.Equal (operands.Constant 0x8035)) (record { yes = e; no = targets.no.other }) c2 c3
     → Chooses 3 (condition jumps.Equal (operands.Constant 0x0806)) (record { yes = e; no = y }) c3 c4
     → Chooses 3 (condition jumps.Equal (operands.Constant 0x0800)) (record { yes = f; no = n }) c4 c5
-    → DecidesBy (h + m + 10) (of_any_type t u) ways (record { any = suc (length c5); ip = f; other = suc (length c5); first_fragment = f; transport = None }) c0 (load_insn (fields.Half 12) ∷ c5)
-decides-listed-nets {e} {f} {y} {n} {g} {h} {m} t u ways are ip between arp at-rarp at-other rarp-jump arp-jump ip-jump =
-    let others : Exits = record { yes = ways.yes.other; no = ways.no.other } in
+    → DecidesBy (h + m + 10) (of_any_type t u) targets (record { any = suc (length c5); ip = f; other = suc (length c5); first_fragment = f; transport = None }) c0 (load_insn (fields.Half 12) ∷ c5)
+decides-listed-nets {e} {f} {y} {n} {g} {h} {m} t u targets are ip between arp at-rarp at-other rarp-jump arp-jump ip-jump =
+    let others : Exits = record { yes = targets.yes.other; no = targets.no.other } in
     let other-test = follows-other u others (are.0.other, are.1.other) arp at-rarp rarp-jump arp-jump in
     decides-by-more (h + m + 10) (omega arith)
-    (decides-by-type t u ways (decides-kept ip (extends-both between (extends-both rarp-jump.extends arp-jump.extends))) other-test (rw at-other at ip-jump))
+    (decides-by-type t u targets (decides-kept ip (extends-both between (extends-both rarp-jump.extends arp-jump.extends))) other-test (rw at-other at ip-jump))

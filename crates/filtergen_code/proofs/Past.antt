@@ -3,15 +3,15 @@ use Rattle.std.proofs.Common.{◌≡◌, ◌≢◌, ℕ, ◌==◌, ◌⊎◌, in
 use Rattle.std.proofs.lemmas.Bool.Decides.{nat_tests}
 use Rattle.bpfvm.specs.declared.insn.Insn.{Insn}
 use Rattle.filter_tree.specs.declared.tree.Transport.{Transport}
-use Rattle.filtergen_code.specs.declared.ways.Way.{Way}
-use Rattle.filtergen_code.specs.declared.ways.Ways.{Ways}
+use Rattle.filtergen_code.specs.declared.entries.Entry.{Entry}
+use Rattle.filtergen_code.specs.declared.entries.Targets.{Targets}
 use Rattle.filter_meaning.specs.declared.verdict.Verdict.{Verdict}
 use Rattle.filter_meaning.specs.declared.verdict.Verdict.TheVariants.{Yes, No, Abort}
 use Rattle.filter_meaning.specs.Meaning.{Packet, Test, and_then, check, decided, byte, is_type, is_protocol, is_first_fragment_of, protocol_number}
 use Rattle.filtergen_code.specs.Emission.{outcome}
 use Rattle.filtergen_code.specs.Parts.{of_transport}
 use Rattle.filtergen_code.specs.Remaining.{is_unfragmented}
-use Rattle.filtergen_code.specs.Ways.{is_first_fragment, AreWays, AreOther, past_way, DecidesBy}
+use Rattle.filtergen_code.specs.Entries.{is_first_fragment, AreTargets, AreOther, with_other_protocol, DecidesBy}
 use Rattle.filtergen_code.proofs.Runs.{answers-kept}
 use Rattle.filtergen_code.proofs.Leading.{place-kept}
 
@@ -38,13 +38,13 @@ other-fragment n m p other is =
     ap (λ v. and_then (and_then v (check (λ b. b == n) (byte 23 p))) (is_unfragmented p)) both.0
     ∙ ap (λ v. and_then v (is_unfragmented p)) (other-number n m (byte 23 p) other both.1)
 
-decides-other : {most : ℕ} (t : Test) (asked other : Option Transport) (ways : Ways) {way : Way} {a b : List Insn} → AreOther asked other → ways.no.transport ≡ other → AreWays a ways
-    → DecidesBy most (of_transport asked t) ways way a b → DecidesBy most (of_transport asked t) ways (past_way way ways.no) a b
-decides-other t None other ways are-other is are first = absurd are-other
-decides-other t (Some own) None ways are-other is are first = absurd are-other
-decides-other t (Some own) (Some other) ways are-other is are first = record {
+decides-other : {most : ℕ} (t : Test) (asked other : Option Transport) (targets : Targets) {entry : Entry} {a b : List Insn} → AreOther asked other → targets.no.transport ≡ other → AreTargets a targets
+    → DecidesBy most (of_transport asked t) targets entry a b → DecidesBy most (of_transport asked t) targets (with_other_protocol entry targets.no) a b
+decides-other t None other targets are-other is are first = absurd are-other
+decides-other t (Some own) None targets are-other is are first = absurd are-other
+decides-other t (Some own) (Some other) targets are-other is are first = record {
   extends = first.extends;
-  here = record { any = first.here.any; ip = first.here.ip; other = first.here.other; first_fragment = place-kept ways.no.first_fragment first.extends are.1.first_fragment };
+  here = record { any = first.here.any; ip = first.here.ip; other = first.here.other; first_fragment = place-kept targets.no.first_fragment first.extends are.1.first_fragment };
   decides = λ p m n bytes yes' no'.
       let before = first.decides p m n bytes yes' no' in
       record {
@@ -53,7 +53,7 @@ decides-other t (Some own) (Some other) ways are-other is are first = record {
         other = before.other;
         first_fragment = record {
           found = no'.first_fragment.found;
-          answers = answers-kept ways.no.first_fragment _ p first.extends are.1.first_fragment.1 no'.first_fragment.answers;
+          answers = answers-kept targets.no.first_fragment _ p first.extends are.1.first_fragment.1 no'.first_fragment.answers;
           right = λ known.
               no'.first_fragment.right known
               ∙ sym (ap (λ v. outcome (and_then v (t p)) m n)
@@ -62,7 +62,7 @@ decides-other t (Some own) (Some other) ways are-other is are first = record {
       };
 }
 
-pub decides-past : {most : ℕ} (t : Test) (asked : Option Transport) (ways : Ways) {way past : Way} {a b : List Insn} → (past ≡ way) ⊎ (AreOther asked ways.no.transport × (past ≡ past_way way ways.no))
-    → AreWays a ways → DecidesBy most (of_transport asked t) ways way a b → DecidesBy most (of_transport asked t) ways past a b
-decides-past t asked ways (inl is) are first = rw is first
-decides-past t asked ways (inr (other, is)) are first = rw is (decides-other t asked ways.no.transport ways other refl are first)
+pub decides-past : {most : ℕ} (t : Test) (asked : Option Transport) (targets : Targets) {entry past : Entry} {a b : List Insn} → (past ≡ entry) ⊎ (AreOther asked targets.no.transport × (past ≡ with_other_protocol entry targets.no))
+    → AreTargets a targets → DecidesBy most (of_transport asked t) targets entry a b → DecidesBy most (of_transport asked t) targets past a b
+decides-past t asked targets (inl is) are first = rw is first
+decides-past t asked targets (inr (other, is)) are first = rw is (decides-other t asked targets.no.transport targets other refl are first)

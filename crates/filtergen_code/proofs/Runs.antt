@@ -16,8 +16,8 @@ use Rattle.filtergen_code.specs.declared.insns.Field.{Field}
 use Rattle.filtergen_code.specs.declared.insns.Field.TheVariants as fields
 use Rattle.filter_meaning.specs.Meaning.{Packet}
 use Rattle.filtergen_code.specs.Insns.{plain_insn, branch_insn, load_insn}
-use Rattle.filtergen_code.specs.Emission.{IsPlace, AreExits, run_from, Answers, Extends, condition, field_of, Passes, GoesOnAt, Nears, Chooses}
-use Rattle.filtergen_code.specs.Listed.{GoesOnAs}
+use Rattle.filtergen_code.specs.Emission.{IsPlace, AreExits, run_from, Answers, Extends, condition, field_of, Passes, GoesOnAt, IsRelay, Chooses}
+use Rattle.filtergen_code.specs.ValueLists.{GoesOnAs}
 
 -- a run over code goes on behind its first instruction, or ends
 abbrev pub after : List Insn → Packet → Effect → ℕ
@@ -111,14 +111,14 @@ insn-there d place items some within =
     slice_get-get_or code k d (omega arith) ∙ ap Some (at ∙ ap (λ n. get_or items n d) same)
 
 pub passes-one : (i : Insn) (place : ℕ) (code : List Insn) → 1 < place → place ≤ length code → slice_get code (length code - place) ≡ Some i → Passes i place (place - 1) code
-passes-one i place code behind' within here =
+passes-one i place code later' within here =
     let next : length code - (place - 1) ≡ suc (length code - place) = omega arith in
     record {
       here = (omega arith, omega arith);
       leads = λ p r unchanged. ap (λ n. answer code p.captured p.wire n r) next ∙ passing code (length code - place) i p r here unchanged;
     }
 
-pub near-found : (place reach found : ℕ) (code : List Insn) → length code - found ≤ reach → GoesOnAs place found code → Nears place reach found code code
+pub near-found : (place reach found : ℕ) (code : List Insn) → length code - found ≤ reach → GoesOnAs place found code → IsRelay place reach found code code
 near-found place reach found code reached goes = record {
   extends = extends-more 1 (omega arith) (extends-none code);
   here = goes.here;
@@ -129,7 +129,7 @@ near-found place reach found code reached goes = record {
 }
 
 pub near-leading : (i : Insn) (place found reach : ℕ) (code : List Insn) → IsPlace code place → reach < length code - found → (length code - place ≤ reach → found ≡ place) → GoesOnAt i place code
-    → Nears place reach (suc (length code)) code (i ∷ code)
+    → IsRelay place reach (suc (length code)) code (i ∷ code)
 near-leading i place found reach code here far same leading = record {
   extends = extends-one i code;
   here = (omega arith, omega arith);
@@ -185,7 +185,7 @@ branch-effect jumps.GreaterOrEqual operands.Index jt jf p r = refl
 branch-effect jumps.AnyBit operands.Index jt jf p r = refl
 
 -- the first exit stays in reach when the second one is brought near
-pub reach-kept : (exits : Exits) (reach no' yes' : ℕ) (a b c : List Insn) → Nears exits.no reach no' a b → Nears exits.yes 255 yes' b c
+pub reach-kept : (exits : Exits) (reach no' yes' : ℕ) (a b c : List Insn) → IsRelay exits.no reach no' a b → IsRelay exits.yes 255 yes' b c
     → (reach ≡ 254) ⊎ ((reach ≡ 255) × (length a - exits.yes ≤ 255)) → length c - no' ≤ 255
 reach-kept exits reach no' yes' a b c first second (inl is) = omega (arith, first.reached, second.extends.within)
 reach-kept exits reach no' yes' a b c first second (inr (is, near)) = by_place first.stands
@@ -201,7 +201,7 @@ choice-of : (b : Bool) (code : List Insn) (p : Packet) (r : Registers) (m n : �
 choice-of true code p r m n = refl
 choice-of false code p r m n = refl
 
-pub branch-chooses : (j : Jump) (o : Operand) (exits : Exits) (reach no' yes' : ℕ) (a b c : List Insn) → AreExits a exits → Nears exits.no reach no' a b → Nears exits.yes 255 yes' b c → Chooses 3 (condition j o) exits a (branch_insn j o (length c - yes') (length c - no') ∷ c)
+pub branch-chooses : (j : Jump) (o : Operand) (exits : Exits) (reach no' yes' : ℕ) (a b c : List Insn) → AreExits a exits → IsRelay exits.no reach no' a b → IsRelay exits.yes 255 yes' b c → Chooses 3 (condition j o) exits a (branch_insn j o (length c - yes') (length c - no') ∷ c)
 branch-chooses j o exits reach no' yes' a b c are first second = record {
   extends = extends-both (extends-both first.extends second.extends) (extends-one _ c);
   chooses = λ p r.

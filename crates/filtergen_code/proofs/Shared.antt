@@ -2,19 +2,19 @@
 use Rattle.std.proofs.Common.{◌≡◌, ◌<◌, ◌==◌, List, length, Option, refl, sym, ap, ◌∙◌}
 use Rattle.filter_tree.specs.declared.tree.Direction.{Direction}
 use Rattle.filter_tree.specs.declared.tree.Transport.{Transport}
-use Rattle.filtergen_facts.specs.declared.known.Known.{Known}
+use Rattle.filtergen_facts.specs.declared.packet_facts.PacketFacts.{PacketFacts}
 use Rattle.filtergen_facts.specs.declared.lists.Bytes.{Bytes}
 use Rattle.filtergen_facts.specs.declared.lists.ValueRange.{ValueRange}
 use Rattle.filter_meaning.specs.declared.verdict.Verdict.TheVariants.{Yes}
 use Rattle.filter_meaning.specs.Meaning.{Packet, Test, and_then, and_test, or_test, check, byte, half, is_type, by_direction, within, has_port, has_ports, has_any_ports, bytes_of, accessed, in_layer}
-use Rattle.filtergen_facts.specs.Knowing.{of_layer}
+use Rattle.filtergen_facts.specs.Facts.{of_layer}
 use Rattle.filtergen_code.specs.Remaining.{shows, rest_of, is_unfragmented}
 use Rattle.filtergen_code.specs.Parts.{has_tcp_or_udp_number, number_of, of_transport}
 use Rattle.filtergen_facts.specs.Lists.{any_of, of_any_type, bytes_test}
-use Rattle.filtergen_code.specs.Listed.{among}
+use Rattle.filtergen_code.specs.ValueLists.{in_ranges}
 use Rattle.filtergen_code.proofs.Knowing.{rest-same, layer-shown}
 use Rattle.filtergen_facts.proofs.Joining.{any-same, any-guarded, either-guarded}
-use Rattle.filtergen_code.proofs.Neighbours.{any-chosen, any-checked}
+use Rattle.filtergen_code.proofs.ValueLists.{any-chosen, any-checked}
 use Rattle.filtergen_code.proofs.Nets.{by_type, by-type}
 use Rattle.filtergen_code.proofs.Narrowed.{of-transport-is}
 use Rattle.filtergen_code.proofs.Sharing.{one_of_two, number-shared}
@@ -46,15 +46,15 @@ either-shared d xs p some =
 
 -- the layer
 pub layer-shared : (b : Bytes) (xs : List ValueRange) (p : Packet) → 0 < length xs
-    → and_then (in_layer b.layer p) (check (among xs) (accessed b.layer (bytes_of b.size) p b.index)) ≡ any_of (bytes_test b) xs p
+    → and_then (in_layer b.layer p) (check (in_ranges xs) (accessed b.layer (bytes_of b.size) p b.index)) ≡ any_of (bytes_test b) xs p
 layer-shared b xs p some =
     let number : ValueRange → Test = (λ (x : ValueRange) q. check (within x.low x.high) (accessed b.layer (bytes_of b.size) q b.index)) in
     ap (and_then (in_layer b.layer p)) (sym (any-same number (λ (x : ValueRange) q. check (within x.low x.high) (accessed b.layer (bytes_of b.size) p b.index)) p (λ x. refl) xs ∙ any-checked xs p (accessed b.layer (bytes_of b.size) p b.index) some))
     ∙ sym (any-guarded (in_layer b.layer) number xs p some)
 
 -- and that of which something is known
-pub bytes-shared : (known : Known) (b : Bytes) (xs : List ValueRange) (p : Packet) → 0 < length xs → shows known p ≡ Yes
-    → and_then (rest_of known (of_layer b.layer) p) (check (among xs) (accessed b.layer (bytes_of b.size) p b.index)) ≡ any_of (bytes_test b) xs p
+pub bytes-shared : (known : PacketFacts) (b : Bytes) (xs : List ValueRange) (p : Packet) → 0 < length xs → shows known p ≡ Yes
+    → and_then (rest_of known (of_layer b.layer) p) (check (in_ranges xs) (accessed b.layer (bytes_of b.size) p b.index)) ≡ any_of (bytes_test b) xs p
 bytes-shared known b xs p some holds =
-    ap (λ v. and_then v (check (among xs) (accessed b.layer (bytes_of b.size) p b.index))) (rest-same known (of_layer b.layer) p holds ∙ layer-shown b.layer p)
+    ap (λ v. and_then v (check (in_ranges xs) (accessed b.layer (bytes_of b.size) p b.index))) (rest-same known (of_layer b.layer) p holds ∙ layer-shown b.layer p)
     ∙ layer-shared b xs p some

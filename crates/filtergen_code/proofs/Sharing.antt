@@ -9,7 +9,7 @@ use Rattle.filter_meaning.specs.Meaning.{Packet, Test, and_then, or_else, opposi
 use Rattle.filtergen_code.specs.Remaining.{is_unfragmented}
 use Rattle.filtergen_code.specs.Parts.{number_of, of_transport}
 use Rattle.filtergen_facts.proofs.Members.{and-assoc}
-use Rattle.filtergen_code.specs.Ways.{is_first_fragment}
+use Rattle.filtergen_code.specs.Entries.{is_first_fragment}
 
 -- no bit is set where the bits are 0
 pub no_bit : (v : Option ℕ) (m : ℕ) → opposite (check (λ n. if bit_and n m == 0 then false else true) v) ≡ check (λ n. bit_and n m == 0) v

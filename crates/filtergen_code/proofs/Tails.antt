@@ -10,9 +10,9 @@ use Rattle.filter_meaning.specs.declared.verdict.Verdict.TheVariants.{Yes, No, A
 use Rattle.filter_meaning.specs.Meaning.{Packet, HasBytes, and_then, or_else, or_test, check, decided, half, word, six, within}
 use Rattle.filtergen_facts.specs.declared.lists.ValueRange.{ValueRange}
 use Rattle.filtergen_facts.specs.Lists.{any_of, has_tail}
-use Rattle.filtergen_code.specs.Listed.{among}
+use Rattle.filtergen_code.specs.ValueLists.{in_ranges}
 use Rattle.filtergen_facts.proofs.Joining.{any-same, any-abort, any-no}
-use Rattle.filtergen_code.proofs.Neighbours.{among-decided, decided-either}
+use Rattle.filtergen_code.proofs.ValueLists.{among-decided, decided-either}
 use Rattle.filtergen_code.proofs.Six.{fold-joined, all-dropped, four_below}
 
 -- whether a number of two bytes and one of four are of a member
@@ -82,13 +82,13 @@ six-parted o high low number p bytes below is = by_length (cases_lt (length p.ca
         ∙ sym (ap (check (λ k. k == number)) there.2)
 
 -- the first two of all members are one number
-any-headed : (b : Bool) (xs : List ValueRange) (n : ℕ) (p : Packet) → any_of (λ (x : ValueRange) q. decided (b && within x.low x.high n)) xs p ≡ and_then (decided (among xs n)) (decided b)
-any-headed true xs n p = among-decided xs p n ∙ by_test (among xs n)
+any-headed : (b : Bool) (xs : List ValueRange) (n : ℕ) (p : Packet) → any_of (λ (x : ValueRange) q. decided (b && within x.low x.high n)) xs p ≡ and_then (decided (in_ranges xs n)) (decided b)
+any-headed true xs n p = among-decided xs p n ∙ by_test (in_ranges xs n)
   where
     by_test : (c : Bool) → decided c ≡ and_then (decided c) Yes
     by_test true = refl
     by_test false = refl
-any-headed false xs n p = any-no xs p ∙ by_test (among xs n)
+any-headed false xs n p = any-no xs p ∙ by_test (in_ranges xs n)
   where
     by_test : (c : Bool) → No ≡ and_then (decided c) No
     by_test true = refl
@@ -100,13 +100,13 @@ tails-missing head o xs p past some =
 
 -- one test of the last four bytes, and one of the first two
 pub tails-shared : (head o : ℕ) (xs : List ValueRange) (p : Packet) → HasBytes p → 0 < length xs
-    → and_then (check (among xs) (word (o + 2) p)) (check (λ n. n == head) (half o p)) ≡ any_of (λ x. has_tail head x o) xs p
+    → and_then (check (in_ranges xs) (word (o + 2) p)) (check (λ n. n == head) (half o p)) ≡ any_of (λ x. has_tail head x o) xs p
 tails-shared head o xs p bytes some = by_length (cases_lt (length p.captured) (o + 6))
   where
     by_length : (length p.captured < o + 6) ⊎ (o + 6 ≤ length p.captured)
-        → and_then (check (among xs) (word (o + 2) p)) (check (λ n. n == head) (half o p)) ≡ any_of (λ x. has_tail head x o) xs p
+        → and_then (check (in_ranges xs) (word (o + 2) p)) (check (λ n. n == head) (half o p)) ≡ any_of (λ x. has_tail head x o) xs p
     by_length (inl past) =
-        ap (λ v. and_then (check (among xs) v) (check (λ n. n == head) (half o p))) (number-none p.captured (o + 2) 4 (omega arith))
+        ap (λ v. and_then (check (in_ranges xs) v) (check (λ n. n == head) (half o p))) (number-none p.captured (o + 2) 4 (omega arith))
         ∙ sym (tails-missing head o xs p past some)
     by_length (inr inside) =
         let there = six-there o p bytes inside in
@@ -116,8 +116,8 @@ tails-shared head o xs p bytes some = by_length (cases_lt (length p.captured) (o
         let below = there.5 in
         let first : number / 2 ^ 32 ≡ m = omega (arith, below) in
         let last : number % 2 ^ 32 ≡ n = omega (arith, below) in
-        ap (λ v. and_then (check (among xs) v) (check (λ k. k == head) (half o p))) there.4
-        ∙ ap (λ v. and_then (decided (among xs n)) (check (λ k. k == head) v)) there.3
+        ap (λ v. and_then (check (in_ranges xs) v) (check (λ k. k == head) (half o p))) there.4
+        ∙ ap (λ v. and_then (decided (in_ranges xs n)) (check (λ k. k == head) v)) there.3
         ∙ sym (any-headed (m == head) xs n p)
         ∙ any-same (λ (x : ValueRange) q. decided ((m == head) && within x.low x.high n)) (λ x. has_tail head x o) p
         (λ x.

@@ -9,10 +9,10 @@ use Rattle.filter_meaning.specs.declared.verdict.Verdict.TheVariants.{Yes, No, A
 use Rattle.filter_meaning.specs.Meaning.{Packet, meaning, is_yes}
 use Rattle.filter_tree.specs.Trees.{Tree}
 use Rattle.filtergen_code.specs.Compiling.{StandsFor}
-use Rattle.filtergen_code.specs.declared.ways.Way.{Way}
-use Rattle.filtergen_code.specs.Emission.{run_from, Answers, outcome, Nears}
-use Rattle.filtergen_facts.specs.declared.known.Known.TheVariants as known
-use Rattle.filtergen_code.specs.Ways.{DecidesBehind}
+use Rattle.filtergen_code.specs.declared.entries.Entry.{Entry}
+use Rattle.filtergen_code.specs.Emission.{run_from, Answers, outcome, IsRelay}
+use Rattle.filtergen_facts.specs.declared.packet_facts.PacketFacts.TheVariants as known
+use Rattle.filtergen_code.specs.Entries.{DecidesGiven}
 use Rattle.filtergen_code.proofs.Leading.{serves-any}
 use Rattle.filtergen_code.proofs.Runs.{answer-first, front-place}
 
@@ -35,11 +35,11 @@ by_verdict Yes snap = refl
 by_verdict No snap = refl
 by_verdict Abort snap = refl
 
-abbrev pub way_to : ℕ → Way
+abbrev pub way_to : ℕ → Entry
 way_to place = record { any = place; ip = place; other = place; first_fragment = place; transport = None }
 
-pub stands : (t : Tree) (snap most near : ℕ) (entry : Way) (old mid program : List Insn) → old ≡ returns_of snap
-    → DecidesBehind known.Nothing most (meaning t) (record { yes = way_to 2; no = way_to 1 }) entry old mid → Nears entry.any 0 near mid program → StandsFor program t snap
+pub stands : (t : Tree) (snap most near : ℕ) (entry : Entry) (old mid program : List Insn) → old ≡ returns_of snap
+    → DecidesGiven known.Nothing most (meaning t) (record { yes = way_to 2; no = way_to 1 }) entry old mid → IsRelay entry.any 0 near mid program → StandsFor program t snap
 unfolding verdict
 stands t snap most near entry old mid program is decides nears p bytes =
     let at : near ≡ length program = omega (arith, nears.here, nears.reached) in

@@ -1,4 +1,4 @@
--- What code that is written from its end does. Private clauses alone say this.
+-- What code that is written from its end does. Only private clauses use this.
 use Rattle.std.specs.Prelude.{◌≡◌, ℕ, ◌+◌, ◌-◌, ◌<◌, ◌≤◌, List, ◌∷◌, length, Bool, Option, Some, None, if◌then◌else◌, slice_index, Result, MatchResult, ◌⊎◌}
 use Rattle.bpfvm.specs.declared.insn.Insn.{Insn}
 use Rattle.bpfvm.specs.Codes.{Register, Comparison, Equal, Greater, GreaterOrEqual, AnyBit}
@@ -54,7 +54,7 @@ pub record GoesOnAt (insn : Insn) (place : ℕ) (code : List Insn) : Type 0 wher
   pub leads : (p : Packet) (r : Registers) → answer (insn ∷ code) p.captured p.wire 0 r ≡ run_from code place p r
 
 -- a place in reach from which the run goes on as from the place, and which was there or stands at the front
-pub record Nears (place reach near : ℕ) (old new : List Insn) : Type 0 where
+pub record IsRelay (place reach near : ℕ) (old new : List Insn) : Type 0 where
   pub extends : Extends 1 old new
   pub here : IsPlace new near
   pub reached : length new - near ≤ reach
@@ -74,10 +74,10 @@ pub record Chooses (most : ℕ) (choice : Registers → Bool) (exits : Exits) (o
       → answer new p.captured p.wire 0 r ≡ (if choice r then run_from old exits.yes p r else run_from old exits.no p r)
 
 -- the front of new is such a choice with one instruction before it
-pub record ChoosesBehind (most : ℕ) (insn : Insn) (choice : Registers → Bool) (exits : Exits) (entry : ℕ) (old new : List Insn) : Type 0 where
-  pub behind : List Insn
-  pub chosen : Chooses most choice exits old behind
-  pub front : new ≡ insn ∷ behind
+pub record ChoosesAfter (most : ℕ) (insn : Insn) (choice : Registers → Bool) (exits : Exits) (entry : ℕ) (old new : List Insn) : Type 0 where
+  pub rest : List Insn
+  pub chosen : Chooses most choice exits old rest
+  pub front : new ≡ insn ∷ rest
   pub here : entry ≡ length new
 
 -- the comparison that a jump makes
@@ -132,9 +132,13 @@ pub record Decides (most : ℕ) (test : Test) (exits : Exits) (entry : ℕ) (old
   pub decides : (p : Packet) (m n : ℕ) → HasBytes p → Answers old exits.yes p m → Answers old exits.no p n
       → Answers new entry p (outcome (test p) m n)
 
--- a call is refused only where its code has no room
+-- a call returns `Full` only if its code has no room
 abbrev pub OrFull : {X : Type 0} → ℕ → List Insn → Result X Full → (X → Type 0) → Type 0
 OrFull cost old result P = MatchResult result P (λ _. MAX_CODE < length old + cost)
+
+-- a call emits a test that goes to the exits, and returns where it is entered
+abbrev pub Emits : ℕ → Test → Exits → List Insn → List Insn → Result ℕ Full → Type 0
+Emits cost test exits old new result = OrFull cost old result (λ entry. Decides cost test exits entry old new)
 
 -- the answer of the run from the front on
 abbrev pub front : List Insn → Packet → Registers → ℕ

@@ -1,4 +1,4 @@
--- The instructions that stand for jumps, loads and operators. Private clauses alone say this.
+-- The instructions that stand for jumps, loads and operators. Only private clauses use this.
 use Rattle.std.specs.Prelude.{ℕ}
 use Rattle.bpfvm.specs.declared.insn.Insn.{Insn}
 use Rattle.filter_tree.specs.declared.tree.Operator.{Operator}
@@ -63,7 +63,7 @@ calculation_code operators.ShiftRight operands.Index = 0x7c
 abbrev pub calculation_insn : Operator → Operand → Insn
 calculation_insn operator operand = plain_insn (calculation_code operator operand) (constant_of operand)
 
--- the load of so many bytes at an offset of the frame, and at one behind the index register
+-- the load of some bytes at an offset in the frame, and at one from the index register
 abbrev pub absolute_code : Size → ℕ
 absolute_code sizes.One = 0x30
 absolute_code sizes.Two = 0x28

@@ -6,7 +6,7 @@ pub mod Compiling
 pub mod Insns
 pub mod Emission
 pub mod Remaining
-pub mod Ways
+pub mod Entries
 pub mod Parts
-pub mod Listed
+pub mod ValueLists
 pub mod Ends

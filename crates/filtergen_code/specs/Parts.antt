@@ -1,4 +1,4 @@
--- The parts of the code of primitives and relations, and how many instructions it has at most. Private clauses alone say this.
+-- The parts of the code of primitives and relations, and how many instructions it has at most. Only private clauses use this.
 use Rattle.std.specs.Prelude.{◌≡◌, ℕ, ◌==◌, ◌+◌, ◌<◌, Option, Some, None, option_and_then}
 use Rattle.bpfvm.specs.Codes.{Subtract}
 use Rattle.bpfvm.specs.Machine.{calculated}
@@ -36,8 +36,8 @@ side_test (sides.Ip offset address mask) = has_address address mask offset
 side_test (sides.Ethernet offset address) = is_address address.octets offset
 
 -- a port, where the index register has the length of the IPv4 header
-abbrev pub port_behind : ℕ → ℕ → ℕ → ℕ → Test
-port_behind length low high o p = check (within low high) (half (length + (14 + o)) p)
+abbrev pub port_after : ℕ → ℕ → ℕ → ℕ → Test
+port_after length low high o p = check (within low high) (half (length + (14 + o)) p)
 
 -- the protocol number of TCP or of UDP
 abbrev pub has_tcp_or_udp_number : Test
@@ -103,14 +103,14 @@ abbrev pub leaf_value : Leaf → Packet → ℕ
 leaf_value (leaves.Number n) p = n
 leaf_value leaves.Length p = p.wire
 
--- an instruction may have this constant behind this operator: none divides by 0
-abbrev pub MayStandBehind : Operator → ℕ → Type 0
-MayStandBehind operators.Divide n = 0 < n
-MayStandBehind operators.Modulo n = 0 < n
-MayStandBehind other n = Unit {0}
+-- an instruction of this operator may have this constant: none divides by 0
+abbrev pub IsValidConstant : Operator → ℕ → Type 0
+IsValidConstant operators.Divide n = 0 < n
+IsValidConstant operators.Modulo n = 0 < n
+IsValidConstant other n = Unit {0}
 
 abbrev pub MayBeOperand : Operator → Operand → Type 0
-MayBeOperand operator (operands.Constant n) = MayStandBehind operator n
+MayBeOperand operator (operands.Constant n) = IsValidConstant operator n
 MayBeOperand operator operands.Index = Unit {0}
 
 abbrev pub base_of : Layer → Base
@@ -128,7 +128,7 @@ read_from bases.Frame = in_frame
 read_from bases.Network = behind_ethernet
 read_from bases.Transport = behind_header
 
--- how far behind the frame's first byte a base can be
+-- how far a base can be from the start of the frame
 abbrev pub farthest : Base → ℕ
 farthest bases.Frame = 0
 farthest bases.Network = 14

@@ -1,4 +1,4 @@
-//! Expressions to programs.
+//! Expressions to programs. Code is written from its end, so an expression is walked from its right end to its left.
 
 ghost use Rattle.std.specs.Prelude.{◌≡◌, ◌≢◌, ◌↔◌, ◌⊎◌, ℕ, ◌+◌, ◌<◌, ◌≤◌, All, length, Some, None, Err, IfOk, IsErr, MatchOption};
 ghost use Rattle.bpfvm.specs.declared.program.TheConstants.{MAX_INSNS};
@@ -8,68 +8,68 @@ ghost use Rattle.filtergen_facts.specs.Weights.{weight, need};
 ghost use Rattle.filtergen_code.specs.Compiling.{StandsFor, IsBadSnap};
 ghost use Rattle.filtergen_trim.specs.Reaching.{IsAllReached};
 ghost use Rattle.filtergen_code.specs.Emission.{OrFull};
-ghost use Rattle.filtergen_code.specs.Ways.{AreWays, DecidesBehind, RenewsBoth};
+ghost use Rattle.filtergen_code.specs.Entries.{AreTargets, DecidesGiven, RelaysBoth};
 ghost use Rattle.filtergen_facts.specs.declared.lists.Form.TheVariants.{Bytes, EtherHost};
-ghost use Rattle.filtergen_facts.specs.Lists.{any_of, kind_test, weighed, members_weight, IsMember, IsAlone, behind_left};
-ghost use Rattle.filtergen_code.specs.Listed.{turned_ways, EmitsMembers, EmitsList};
-ghost use Rattle.filtergen_code.specs.Ends.{chain_of, left_ways, kept_ways, kept_behind, Leaves};
+ghost use Rattle.filtergen_facts.specs.Lists.{any_of, kind_test, list_weight, members_weight, IsMember, IsAlone};
+ghost use Rattle.filtergen_code.specs.ValueLists.{targets_for_chain, EmitsMembers, EmitsRelayed, EmitsEnd};
+ghost use Rattle.filtergen_code.specs.Ends.{chain_of, left_targets, kept_targets, kept_with_end, Leaves};
 
 use crate::code::{Code, Full};
+use crate::entries::{Entry, Targets};
 use crate::primitives::cost;
-use crate::ways::{Way, Ways};
 use bpfvm::Program;
 use filter_tree::{Expr, Primitive};
 use filtergen_facts::{
-    Chain, Form, Group, Known, MAX_NEED, Member, Neighbours, Others, Refusal, need,
+    Chain, Form, Group, MAX_NEED, Member, OtherMembers, PacketFacts, Refusal, ValueLists, need,
 };
 use savefile::MAX_SNAP;
 
 /// The code of an expression.
 #[derive(Clone, Copy)]
-struct Emitted {
+pub(crate) struct Emitted {
     /// Where its run begins.
-    entry: Way,
-    /// Ways that lead on as the expression's, which may have come out of reach.
-    ways: Ways,
+    pub entry: Entry,
+    /// The expression's targets, or relays in reach that lead to them: what comes in front uses these.
+    pub targets: Targets,
 }
 
-/// The right end of an expression, of which the code is there.
+/// The right end of an expression, whose code is written.
 #[derive(Clone, Copy)]
 struct RightEnd<'a> {
     emitted: Emitted,
-    /// What stands to its left. Where nothing does, it is the whole expression.
+    /// What stands to its left: nothing if the right end is the whole expression.
     left: Option<&'a Expr>,
 }
 
-/// Ways that lead on as an expression's, which what is left of it does not renew.
+/// Relays of an expression's targets to which the code of its left part does not lead.
 #[derive(Clone, Copy)]
-pub(crate) struct KeptWays {
-    pub yes: Option<Way>,
-    pub no: Option<Way>,
+pub(crate) struct KeptTargets {
+    pub yes: Option<Entry>,
+    pub no: Option<Entry>,
 }
 
-impl KeptWays {
-    /// The ways of the expression, where what is left of it has these.
-    fn ways(self, last: Ways) -> Ways
-        ensures { result ≡ kept_ways self last }
+impl KeptTargets {
+    /// Relays of the expression's targets, from those of its left part.
+    fn with_last(self, last: Targets) -> Targets
+        ensures { result ≡ kept_targets self last }
     {
-        Ways {
+        Targets {
             yes: self.yes.unwrap_or(last.yes),
             no: self.no.unwrap_or(last.no),
         }
     }
 
-    /// Those behind which a right end has these ways.
-    fn behind(self, chain: Chain, ways: Ways) -> KeptWays
-        ensures { result ≡ kept_behind chain self ways }
+    /// These, and the relay that the code to the left of a right end does not use.
+    fn with_end(self, chain: Chain, targets: Targets) -> KeptTargets
+        ensures { result ≡ kept_with_end chain self targets }
     {
         match chain {
-            Chain::AnyOf => KeptWays {
+            Chain::AnyOf => KeptTargets {
                 yes: self.yes,
-                no: Some(self.no.unwrap_or(ways.no)),
+                no: Some(self.no.unwrap_or(targets.no)),
             },
-            Chain::NoneOf => KeptWays {
-                yes: Some(self.yes.unwrap_or(ways.yes)),
+            Chain::NoneOf => KeptTargets {
+                yes: Some(self.yes.unwrap_or(targets.yes)),
                 no: self.no,
             },
         }
@@ -77,24 +77,24 @@ impl KeptWays {
 }
 
 impl Emitted {
-    /// Where what stands to its left goes on.
-    fn left_ways(self, chain: Chain) -> Ways
-        ensures { result ≡ left_ways chain self.entry self.ways }
+    /// The targets of what stands to its left.
+    fn left_targets(self, chain: Chain) -> Targets
+        ensures { result ≡ left_targets chain self.entry self.targets }
     {
         match chain {
-            Chain::AnyOf => Ways {
-                yes: self.ways.yes,
+            Chain::AnyOf => Targets {
+                yes: self.targets.yes,
                 no: self.entry,
             },
-            Chain::NoneOf => Ways {
+            Chain::NoneOf => Targets {
                 yes: self.entry,
-                no: self.ways.no,
+                no: self.targets.no,
             },
         }
     }
 }
 
-/// How the right end of an expression is joined to what stands to its left.
+/// How the right end of an expression is joined to its left part.
 fn chain_of(expr: &Expr) -> Chain
     ensures { result ≡ chain_of (tree_of expr.now) }
 {
@@ -104,284 +104,296 @@ fn chain_of(expr: &Expr) -> Chain
     }
 }
 
-/// Whether the last two links of a chain of these two are members of lists, without which there is none.
+/// Whether the last two links of a chain can be members of lists. If not, it ends in no list.
 fn may_be_listed(chain: Chain, left: &Expr, right: &Expr) -> bool {
     Member::of_link(chain, right).is_some() && Member::of_link(chain, chain.last_of(left)).is_some()
 }
 
-/// The ways of the test whether any member of a list holds.
-fn turned(chain: Chain, ways: Ways) -> Ways
-    ensures { result ≡ turned_ways chain ways }
+/// The targets of the test whether any member of a list holds.
+fn targets_for_chain(chain: Chain, targets: Targets) -> Targets
+    ensures { result ≡ targets_for_chain chain targets }
 {
     match chain {
-        Chain::AnyOf => ways,
-        Chain::NoneOf => ways.swapped(),
+        Chain::AnyOf => targets,
+        Chain::NoneOf => targets.opposite(),
     }
 }
 
 impl Code {
-    /// What is left of a primitive. Its ways are renewed first, so that its jumps and those in front of it reach them. What it takes
-    /// of the stack is not to be in each frame of the walk down a tree.
+    /// Emits relays of the targets, so that the jumps of the primitive and those in front of it reach them, and then the primitive. It is
+    /// not inlined, to keep its locals out of each frame of the walk down a tree.
     #[inline(never)]
-    fn reached_primitive(
+    fn emit_primitive_with_relays(
         &mut self,
-        known: Known,
+        known: PacketFacts,
         primitive: Primitive,
-        ways: Ways,
+        targets: Targets,
     ) -> Result<Emitted, Full>
-        requires ways { AreWays self.old ways }
-        ensures { OrFull 40 self.old result (λ emitted.
-            DecidesBehind known 40 (primitive_test primitive) ways emitted.entry self.old self.new
-            × RenewsBoth ways emitted.ways self.old self.new) }
+        requires targets { AreTargets self.old targets }
+        ensures { EmitsRelayed known 40 (primitive_test primitive) targets self.old self.new result }
     {
         self.room(2 + cost(primitive))?;
-        let ways = self.renew(ways);
-        let entry = self.primitive_behind(known, primitive, ways);
-        Ok(Emitted { entry, ways })
+        let targets = self.emit_relays(targets);
+        let entry = self.emit_primitive_given(known, primitive, targets);
+        Ok(Emitted { entry, targets })
     }
 
-    /// What is left of several members of a kind.
-    fn several(&mut self, known: Known, group: &Group, ways: Ways) -> Result<Emitted, Full>
-        requires many { 2 ≤ length group.now.spans.items }
-        requires ways { AreWays self.old ways }
-        ensures { OrFull (weighed group.now.kind.form (length group.now.spans.items)) self.old result (λ emitted.
-            DecidesBehind known (weighed group.now.kind.form (length group.now.spans.items))
-            (any_of (kind_test group.now.kind) group.now.spans.items) ways emitted.entry self.old self.new
-            × RenewsBoth ways emitted.ways self.old self.new) }
+    /// Emits a group of at least two members.
+    fn emit_many_members(
+        &mut self,
+        known: PacketFacts,
+        group: &Group,
+        targets: Targets,
+    ) -> Result<Emitted, Full>
+        requires many { 2 ≤ length group.now.ranges.items }
+        requires targets { AreTargets self.old targets }
+        ensures { EmitsRelayed known (list_weight group.now.kind.form (length group.now.ranges.items))
+            (any_of (kind_test group.now.kind) group.now.ranges.items) targets self.old self.new result }
     {
         self.room(2)?;
-        let ways = self.renew(ways);
-        let entry = self.listed(known, group.kind, group.spans.as_slice(), ways)?;
-        Ok(Emitted { entry, ways })
+        let targets = self.emit_relays(targets);
+        let entry = self.emit_list(known, group.kind, group.ranges.as_slice(), targets)?;
+        Ok(Emitted { entry, targets })
     }
 
-    /// What is left of a relation or an Ethernet host that is the one member of its kind.
-    fn alone(&mut self, known: Known, group: &Group, ways: Ways) -> Result<Emitted, Full>
+    /// Emits a group of one member that is a relation or an Ethernet host.
+    fn emit_one_member(
+        &mut self,
+        known: PacketFacts,
+        group: &Group,
+        targets: Targets,
+    ) -> Result<Emitted, Full>
         requires form { (group.now.kind.form ≡ Bytes) ⊎ (group.now.kind.form ≡ EtherHost) }
-        requires some { length group.now.spans.items ≡ 1 }
-        requires ways { AreWays self.old ways }
-        ensures { OrFull (weighed group.now.kind.form (length group.now.spans.items)) self.old result (λ emitted.
-            DecidesBehind known (weighed group.now.kind.form (length group.now.spans.items))
-            (any_of (kind_test group.now.kind) group.now.spans.items) ways emitted.entry self.old self.new
-            × RenewsBoth ways emitted.ways self.old self.new) }
+        requires some { length group.now.ranges.items ≡ 1 }
+        requires targets { AreTargets self.old targets }
+        ensures { EmitsRelayed known (list_weight group.now.kind.form (length group.now.ranges.items))
+            (any_of (kind_test group.now.kind) group.now.ranges.items) targets self.old self.new result }
     {
         self.room(2)?;
-        let ways = self.renew(ways);
+        let targets = self.emit_relays(targets);
         let kind = group.kind;
-        let spans = group.spans.as_slice();
+        let ranges = group.ranges.as_slice();
         let entry = match kind.form {
-            Form::EtherHost => self.listed_ethernet(kind.sides, kind.head, spans, ways)?,
-            _ => self.listed_bytes(known, kind.bytes, spans, ways)?,
+            Form::EtherHost => self.emit_ethernet_list(kind.sides, kind.head, ranges, targets)?,
+            _ => self.emit_bytes_list(known, kind.bytes, ranges, targets)?,
         };
-        Ok(Emitted { entry, ways })
+        Ok(Emitted { entry, targets })
     }
 
-    /// What is left of the members of a kind. One alone is the primitive that it is, but for an Ethernet host, which is asked for as a list
-    /// is: such ones pass each other.
+    /// Emits the members of one kind. A single member is emitted as its primitive, except an Ethernet host: the lists of such hosts enter
+    /// each other after their loads.
     #[inline(never)]
-    fn group(&mut self, known: Known, group: &Group, ways: Ways) -> Result<Emitted, Full>
-        requires some { 0 < length group.now.spans.items }
-        requires alone { IsAlone group.now.kind group.now.primitive group.now.spans.items }
-        requires ways { AreWays self.old ways }
-        ensures { OrFull (weighed group.now.kind.form (length group.now.spans.items)) self.old result (λ emitted.
-            DecidesBehind known (weighed group.now.kind.form (length group.now.spans.items))
-            (any_of (kind_test group.now.kind) group.now.spans.items) ways emitted.entry self.old self.new
-            × RenewsBoth ways emitted.ways self.old self.new) }
+    fn emit_group(
+        &mut self,
+        known: PacketFacts,
+        group: &Group,
+        targets: Targets,
+    ) -> Result<Emitted, Full>
+        requires some { 0 < length group.now.ranges.items }
+        requires alone { IsAlone group.now.kind group.now.primitive group.now.ranges.items }
+        requires targets { AreTargets self.old targets }
+        ensures { EmitsRelayed known (list_weight group.now.kind.form (length group.now.ranges.items))
+            (any_of (kind_test group.now.kind) group.now.ranges.items) targets self.old self.new result }
     {
-        if group.spans.len() > 1 {
-            return self.several(known, group, ways);
+        if group.ranges.len() > 1 {
+            return self.emit_many_members(known, group, targets);
         }
         match group.primitive {
             Some(primitive) => match group.kind.form {
-                Form::EtherHost => self.alone(known, group, ways),
-                _ => self.reached_primitive(known, primitive, ways),
+                Form::EtherHost => self.emit_one_member(known, group, targets),
+                _ => self.emit_primitive_with_relays(known, primitive, targets),
             },
-            None => self.alone(known, group, ways),
+            None => self.emit_one_member(known, group, targets),
         }
     }
 
-    /// What is left of members of which the first one is asked before the others, those of each kind together.
-    fn members(
+    /// Emits all members, kind by kind: in a run the kind of the first member comes first.
+    fn emit_members(
         &mut self,
-        known: Known,
+        known: PacketFacts,
         first: Member,
-        others: &mut Others,
-        ways: Ways,
+        others: &mut OtherMembers,
+        targets: Targets,
     ) -> Result<Emitted, Full>
         requires first { IsMember first }
         requires others { All IsMember others.old.members.items }
         requires room { length others.old.members.items < MAX_INSNS }
-        requires ways { AreWays self.old ways }
-        ensures { OrFull (weighed first.kind.form 1 + members_weight others.old.members.items) self.old result (λ emitted.
-            EmitsMembers known first others.old.members.items ways emitted.ways emitted.entry self.old self.new) }
+        requires targets { AreTargets self.old targets }
+        ensures { OrFull (list_weight first.kind.form 1 + members_weight others.old.members.items) self.old result (λ emitted.
+            EmitsMembers known first others.old.members.items targets emitted.targets emitted.entry self.old self.new) }
     {
         let group = others.group_of(first);
         let Some(next) = others.pop() else {
-            return self.group(known, &group, ways);
+            return self.emit_group(known, &group, targets);
         };
-        let second = self.members(known, next, others, ways)?;
-        let (yes, no) = (second.ways.yes, second.entry);
-        let head = self.group(known, &group, Ways { yes, no })?;
-        let (yes, no) = (head.ways.yes, second.ways.no);
-        let (entry, ways) = (head.entry, Ways { yes, no });
-        Ok(Emitted { entry, ways })
+        let second = self.emit_members(known, next, others, targets)?;
+        let (yes, no) = (second.targets.yes, second.entry);
+        let head = self.emit_group(known, &group, Targets { yes, no })?;
+        let (yes, no) = (head.targets.yes, second.targets.no);
+        let (entry, targets) = (head.entry, Targets { yes, no });
+        Ok(Emitted { entry, targets })
     }
 
-    /// What is left of the list at the right end of a chain of these two, where one is. What a list takes of the stack is not to be in
-    /// the frames of the walk down a tree, and is cleared at each call.
+    /// Emits the lists at the right end of a chain of these two, if it ends in any. It is not inlined: the members take room on the stack,
+    /// which the frames of the walk down a tree must not have.
     #[inline(never)]
-    fn neighbours<'a>(
+    fn emit_value_lists<'a>(
         &mut self,
-        known: Known,
+        known: PacketFacts,
         chain: Chain,
         left: &'a Expr,
         right: &Expr,
-        ways: Ways,
+        targets: Targets,
     ) -> Result<Option<RightEnd<'a>>, Full>
-        requires ways { AreWays self.old ways }
+        requires targets { AreTargets self.old targets }
         ensures { OrFull (weight (tree_of left.now) + weight (tree_of right.now)) self.old result (λ found.
             MatchOption found (self.new ≡ self.old) (λ listed. MatchOption listed.left
-            (EmitsList known chain (tree_of left.now) (tree_of right.now) None ways listed.emitted.ways listed.emitted.entry
-            self.old self.new)
-            (λ rest. EmitsList (behind_left chain known (tree_of rest.now)) chain (tree_of left.now) (tree_of right.now)
-            (Some (tree_of rest.now)) ways listed.emitted.ways listed.emitted.entry self.old self.new))) }
+            (EmitsEnd known chain (tree_of left.now) (tree_of right.now) targets listed.emitted self.old self.new None)
+            (λ rest. EmitsEnd known chain (tree_of left.now) (tree_of right.now) targets listed.emitted self.old self.new
+            (Some (tree_of rest.now))))) }
     {
-        let Some((list, left)) = Neighbours::at_end(chain, left, right) else {
+        let Some((list, left)) = ValueLists::at_end(chain, left, right) else {
             return Ok(None);
         };
-        let known = chain.known_behind(known, left);
+        let known = chain.facts_after(known, left);
         let mut others = list.others;
-        let members = self.members(known, list.first, &mut others, turned(chain, ways))?;
-        let (entry, ways) = (members.entry, turned(chain, members.ways));
-        let emitted = Emitted { entry, ways };
+        let members = self.emit_members(
+            known,
+            list.first,
+            &mut others,
+            targets_for_chain(chain, targets),
+        )?;
+        let (entry, targets) = (members.entry, targets_for_chain(chain, members.targets));
+        let emitted = Emitted { entry, targets };
         Ok(Some(RightEnd { emitted, left }))
     }
 
-    /// The same, where the last links may be those of a list. Else there is none, and nothing is cleared.
-    fn list<'a>(
+    /// Looks first whether the chain can end in lists, and only then emits them: no stack is cleared in vain.
+    fn emit_lists_if_any<'a>(
         &mut self,
-        known: Known,
+        known: PacketFacts,
         chain: Chain,
         left: &'a Expr,
         right: &Expr,
-        ways: Ways,
+        targets: Targets,
     ) -> Result<Option<RightEnd<'a>>, Full>
-        requires ways { AreWays self.old ways }
+        requires targets { AreTargets self.old targets }
         ensures { OrFull (weight (tree_of left.now) + weight (tree_of right.now)) self.old result (λ found.
             MatchOption found (self.new ≡ self.old) (λ listed. MatchOption listed.left
-            (EmitsList known chain (tree_of left.now) (tree_of right.now) None ways listed.emitted.ways listed.emitted.entry
-            self.old self.new)
-            (λ rest. EmitsList (behind_left chain known (tree_of rest.now)) chain (tree_of left.now) (tree_of right.now)
-            (Some (tree_of rest.now)) ways listed.emitted.ways listed.emitted.entry self.old self.new))) }
+            (EmitsEnd known chain (tree_of left.now) (tree_of right.now) targets listed.emitted self.old self.new None)
+            (λ rest. EmitsEnd known chain (tree_of left.now) (tree_of right.now) targets listed.emitted self.old self.new
+            (Some (tree_of rest.now))))) }
     {
         if !may_be_listed(chain, left, right) {
             return Ok(None);
         }
-        self.neighbours(known, chain, left, right, ways)
+        self.emit_value_lists(known, chain, left, right, targets)
     }
 
-    /// What is left of the last link of a chain of these two, or of the list there.
+    /// Emits the lists in which a chain of these two ends, or else its last link.
     #[cycle(expression)]
-    fn last_link<'a>(
+    fn emit_last_link<'a>(
         &mut self,
-        known: Known,
+        known: PacketFacts,
         chain: Chain,
         left: &'a Expr,
         right: &Expr,
-        ways: Ways,
+        targets: Targets,
     ) -> Result<RightEnd<'a>, Full>
         requires need { need (tree_of right.now) ≤ 16 }
-        requires ways { AreWays self.old ways }
+        requires targets { AreTargets self.old targets }
         ensures { OrFull (weight (tree_of left.now) + weight (tree_of right.now)) self.old result (λ end. MatchOption end.left
-            (EmitsList known chain (tree_of left.now) (tree_of right.now) None ways end.emitted.ways end.emitted.entry
-            self.old self.new)
-            (λ rest. EmitsList (behind_left chain known (tree_of rest.now)) chain (tree_of left.now) (tree_of right.now)
-            (Some (tree_of rest.now)) ways end.emitted.ways end.emitted.entry self.old self.new)) }
+            (EmitsEnd known chain (tree_of left.now) (tree_of right.now) targets end.emitted self.old self.new None)
+            (λ rest. EmitsEnd known chain (tree_of left.now) (tree_of right.now) targets end.emitted self.old self.new
+            (Some (tree_of rest.now)))) }
     {
-        if let Some(listed) = self.list(known, chain, left, right, ways)? {
+        if let Some(listed) = self.emit_lists_if_any(known, chain, left, right, targets)? {
             return Ok(listed);
         }
-        let known = chain.known_behind(known, Some(left));
-        let emitted = self.expression(known, right, ways)?;
+        let known = chain.facts_after(known, Some(left));
+        let emitted = self.emit_expr(known, right, targets)?;
         let left = Some(left);
         Ok(RightEnd { emitted, left })
     }
 
-    /// What is left of the right end of an expression: of a chain it is the last link or a list, of any other one the whole.
+    /// Emits the right end of an expression: the last link or the lists of a chain, and the whole of any other expression.
     #[inline(never)]
     #[cycle(expression)]
-    fn right_end<'a>(
+    fn emit_right_end<'a>(
         &mut self,
-        known: Known,
+        known: PacketFacts,
         expr: &'a Expr,
-        ways: Ways,
+        targets: Targets,
     ) -> Result<RightEnd<'a>, Full>
         requires need { need (tree_of expr.now) ≤ 16 }
-        requires ways { AreWays self.old ways }
+        requires targets { AreTargets self.old targets }
         ensures { OrFull (weight (tree_of expr.now)) self.old result (λ end. MatchOption end.left
-            (DecidesBehind known (weight (tree_of expr.now)) (meaning (tree_of expr.now)) ways end.emitted.entry self.old self.new
-            × RenewsBoth ways end.emitted.ways self.old self.new)
-            (λ rest. Leaves known (tree_of expr.now) (tree_of rest.now) ways end.emitted.ways end.emitted.entry
+            (DecidesGiven known (weight (tree_of expr.now)) (meaning (tree_of expr.now)) targets end.emitted.entry self.old self.new
+            × RelaysBoth targets end.emitted.targets self.old self.new)
+            (λ rest. Leaves known (tree_of expr.now) (tree_of rest.now) targets end.emitted.targets end.emitted.entry
             self.old self.new)) }
     {
         let emitted = match expr {
             Expr::Everything => {
-                let entry = ways.yes;
-                Emitted { entry, ways }
+                let entry = targets.yes;
+                Emitted { entry, targets }
             }
-            Expr::Test(primitive) => self.reached_primitive(known, *primitive, ways)?,
+            Expr::Test(primitive) => self.emit_primitive_with_relays(known, *primitive, targets)?,
             Expr::Relation(comparison, left, right) => {
                 self.room(2)?;
-                let ways = self.renew(ways);
-                let entry = self.relation_behind(known, *comparison, left, right, ways)?;
-                Emitted { entry, ways }
+                let targets = self.emit_relays(targets);
+                let entry = self.emit_relation_given(known, *comparison, left, right, targets)?;
+                Emitted { entry, targets }
             }
             Expr::Not(operand) => {
-                let inner = self.expression(known, operand, ways.swapped())?;
-                let (entry, ways) = (inner.entry, inner.ways.swapped());
-                Emitted { entry, ways }
+                let inner = self.emit_expr(known, operand, targets.opposite())?;
+                let (entry, targets) = (inner.entry, inner.targets.opposite());
+                Emitted { entry, targets }
             }
             Expr::And(left, right) => {
-                return self.last_link(known, Chain::NoneOf, left, right, ways);
+                return self.emit_last_link(known, Chain::NoneOf, left, right, targets);
             }
             Expr::Or(left, right) => {
-                return self.last_link(known, Chain::AnyOf, left, right, ways);
+                return self.emit_last_link(known, Chain::AnyOf, left, right, targets);
             }
         };
         let left = None;
         Ok(RightEnd { emitted, left })
     }
 
-    /// What is left of an expression behind what is known. It goes on by its ways. The right end is there before what stands to its left, and
-    /// a loop goes on with that: so a long chain takes no more of the stack than a short one.
+    /// Emits an expression, or only what it needs of a packet of which something is known. A loop goes from its right end to its left, so a
+    /// long chain takes no more stack than a short one.
     #[cycle(expression)]
-    fn expression(&mut self, known: Known, expr: &Expr, ways: Ways) -> Result<Emitted, Full>
+    fn emit_expr(
+        &mut self,
+        known: PacketFacts,
+        expr: &Expr,
+        targets: Targets,
+    ) -> Result<Emitted, Full>
         requires need { need (tree_of expr.now) ≤ 16 }
-        requires ways { AreWays self.old ways }
-        ensures { OrFull (weight (tree_of expr.now)) self.old result (λ emitted.
-            DecidesBehind known (weight (tree_of expr.now)) (meaning (tree_of expr.now)) ways emitted.entry self.old self.new
-            × RenewsBoth ways emitted.ways self.old self.new) }
+        requires targets { AreTargets self.old targets }
+        ensures { EmitsRelayed known (weight (tree_of expr.now)) (meaning (tree_of expr.now)) targets self.old self.new result }
     {
         let mut rest = expr;
-        let mut on = ways;
+        let mut on = targets;
         let (yes, no) = (None, None);
-        let mut kept = KeptWays { yes, no };
+        let mut kept = KeptTargets { yes, no };
         'ends: loop {
-            let end = self.right_end(known, rest, on)?;
+            let end = self.emit_right_end(known, rest, on)?;
             let emitted = end.emitted;
             let Some(left) = end.left else {
-                let (entry, ways) = (emitted.entry, kept.ways(emitted.ways));
-                return Ok(Emitted { entry, ways });
+                let (entry, targets) = (emitted.entry, kept.with_last(emitted.targets));
+                return Ok(Emitted { entry, targets });
             };
             let chain = chain_of(rest);
-            kept = kept.behind(chain, emitted.ways);
-            on = emitted.left_ways(chain);
+            kept = kept.with_end(chain, emitted.targets);
+            on = emitted.left_targets(chain);
             rest = left;
         }
     }
 }
 
-/// The program of an expression, whose entry is its first instruction.
+/// The program of an expression. If the code is not entered at its front, a jump there leads to its entry.
 fn program_of(expr: &Expr, snap: u32) -> Result<Program, Full>
     requires { need (tree_of expr.now) ≤ 16 }
     ensures program { IfOk result (λ program. StandsFor program (tree_of expr.now) snap) }
@@ -389,22 +401,22 @@ fn program_of(expr: &Expr, snap: u32) -> Result<Program, Full>
     ensures full { IsErr result → 500 < weight (tree_of expr.now) }
 {
     let mut code = Code::new(snap);
-    let (yes, no) = (Way::to(2), Way::to(1));
-    let emitted = code.expression(Known::Nothing, expr, Ways { yes, no })?;
+    let (yes, no) = (Entry::at(2), Entry::at(1));
+    let emitted = code.emit_expr(PacketFacts::Nothing, expr, Targets { yes, no })?;
     code.room(1)?;
-    code.near(emitted.entry.any, 0);
+    code.emit_relay(emitted.entry.any, 0);
     code.into_program()
 }
 
 /// Compiles an expression: the program answers the snapshot length where the expression accepts the packet, and else 0.
 ///
-/// What an expression means is told in docs/LANGUAGE.md, after pcap-filter(7). A packet is what was captured of it and
-/// its length on the wire, in bytes; where a test wants a byte past the captured ones, or divides by 0, the packet is
-/// rejected, also under a `not`. Some path of jumps leads from the program's first instruction to each of the others.
+/// docs/LANGUAGE.md says what an expression means, after pcap-filter(7). A packet is its captured bytes and its length on the wire. A test
+/// that reads past the captured bytes, or divides by 0, rejects the packet, also under a `not`. Some path of jumps leads from the
+/// program's first instruction to each of the others.
 ///
-/// `BadSnap` comes exactly where `snap` is not from 1 to [`MAX_SNAP`] bytes; else `TooDeep` exactly where the
-/// expression needs more than 16 cells of the scratch memory (see [`need`](filtergen_facts::need)). `TooLong` comes only where its
-/// weight exceeds 500 (see [`weight`](filtergen_facts::weight)). `NoMemory` does not come: it takes none.
+/// `BadSnap` comes exactly if `snap` is not from 1 to [`MAX_SNAP`] bytes; else `TooDeep` comes exactly if the expression needs more than
+/// 16 cells of scratch memory (see [`need`](filtergen_facts::need)). `TooLong` comes only if its weight exceeds 500 (see
+/// [`weight`](filtergen_facts::weight)). `NoMemory` never comes: this takes no memory.
 pub fn compile(expr: &Expr, snap: u32) -> Result<Program, Refusal>
     ensures program { IfOk result (λ program. StandsFor program (tree_of expr.now) snap) }
     ensures reached { IfOk result IsAllReached }

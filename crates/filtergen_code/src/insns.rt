@@ -1,4 +1,4 @@
-//! The instructions that the compiler makes.
+//! The instructions that the compiler emits.
 
 ghost use Rattle.std.specs.Prelude.{◌≡◌};
 ghost use Rattle.filtergen_code.specs.Insns.{plain_insn, branch_code, constant_of, branch_insn, load_insn, calculation_code, absolute_code, indirect_code};
@@ -15,7 +15,7 @@ pub(crate) enum Jump {
     AnyBit,
 }
 
-/// With what the accumulator is compared.
+/// What the accumulator is compared or calculated with.
 #[derive(Clone, Copy)]
 pub(crate) enum Operand {
     Constant(u32),
@@ -23,7 +23,7 @@ pub(crate) enum Operand {
     Index,
 }
 
-/// A number of a packet, by its offset in the frame.
+/// A number that one instruction loads, by its offset in the frame.
 #[derive(Clone, Copy)]
 pub(crate) enum Field {
     Byte(u32),
@@ -70,7 +70,7 @@ pub(crate) fn constant_of(operand: Operand) -> u32
     }
 }
 
-/// A jump that passes so many instructions where its test holds, and so many where not.
+/// A jump that passes `jt` instructions if its test holds, and else `jf`.
 pub(crate) fn branch_insn(jump: Jump, operand: Operand, jt: u8, jf: u8) -> Insn
     ensures { result ≡ branch_insn jump operand jt jf }
 {
@@ -82,7 +82,7 @@ pub(crate) fn branch_insn(jump: Jump, operand: Operand, jt: u8, jf: u8) -> Insn
     }
 }
 
-/// The load of a number into the accumulator.
+/// The load of a field into the accumulator.
 pub(crate) fn load_insn(field: Field) -> Insn
     ensures { result ≡ load_insn field }
 {
@@ -94,7 +94,7 @@ pub(crate) fn load_insn(field: Field) -> Insn
     }
 }
 
-/// The code that calculates with the accumulator and an operand.
+/// The opcode that calculates with the accumulator and an operand.
 pub(crate) fn calculation_code(operator: Operator, operand: Operand) -> u16
     ensures { result ≡ calculation_code operator operand }
 {
@@ -122,7 +122,7 @@ pub(crate) fn calculation_code(operator: Operator, operand: Operand) -> u16
     }
 }
 
-/// The code of a load of so many bytes, by their offset in the frame.
+/// The opcode of a load at an offset in the frame.
 pub(crate) fn absolute_code(size: Size) -> u16
     ensures { result ≡ absolute_code size }
 {
@@ -133,7 +133,7 @@ pub(crate) fn absolute_code(size: Size) -> u16
     }
 }
 
-/// The code of a load of so many bytes, by their offset behind the index register.
+/// The opcode of a load at an offset from the index register.
 pub(crate) fn indirect_code(size: Size) -> u16
     ensures { result ≡ indirect_code size }
 {

@@ -4,16 +4,16 @@
 //! else 0. It takes no memory. A text is compiled by `filtergen`, which passes `compile` on.
 #![tactic(auto)]
 
-mod among;
-mod arithmetic;
-mod behind;
 mod code;
 mod compiler;
+mod constants;
+mod entries;
 mod insns;
-mod listed;
+mod known_packet;
 mod primitives;
 mod relations;
+mod value_in_list;
+mod value_lists;
 mod values;
-mod ways;
 
 pub use compiler::compile;

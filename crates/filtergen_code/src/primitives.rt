@@ -1,29 +1,33 @@
-//! The primitives. Code is written from its end: of two tests that follow each other, the second one comes first here.
+//! The primitives. Code is written from its end, so what a run does last is emitted first. `next` is where a run goes on after a test.
 
 ghost use Rattle.std.specs.Prelude.{◌≡◌, ◌≢◌, ℕ, ◌+◌, ◌≤◌, ◌==◌, true, if◌then◌else◌, None, length};
 ghost use Rattle.filtergen_trim.specs.declared.unreached.TheConstants.{MAX_CODE};
 ghost use Rattle.filter_tree.specs.declared.tree.Primitive.TheVariants.{IpMulticast, Less};
+ghost use Rattle.filter_meaning.specs.declared.headers.TheConstants.{IP};
+ghost use Rattle.filtergen_facts.specs.declared.packet_facts.TheConstants.{TCP, UDP};
+ghost use Rattle.filtergen_code.specs.declared.primitives.TheConstants.{ARP_ADDRESSES};
 ghost use Rattle.filter_meaning.specs.Meaning.{check, byte, and_test, is_type, is_protocol, plain_test, by_direction, has_address, in_net, in_any_net, is_address, within, has_port, has_any_ports, protocol_number, primitive_test};
 ghost use Rattle.filtergen_code.specs.Insns.{plain_insn};
-ghost use Rattle.filtergen_code.specs.Emission.{IsPlace, AreExits, Chooses, ChoosesBehind, same_index, Follows, Decides};
-ghost use Rattle.filtergen_code.specs.Ways.{IsWay, AreWays, DecidesBy, GuardsPorts};
-ghost use Rattle.filtergen_code.specs.Parts.{side_cost, side_offset, side_test, port_behind, has_tcp_or_udp_number, has_port_number, number_of, plain_cost, cost};
+ghost use Rattle.filtergen_code.specs.Emission.{IsPlace, AreExits, Chooses, ChoosesAfter, same_index, Follows, Decides};
+ghost use Rattle.filtergen_code.specs.Entries.{IsEntry, AreTargets, DecidesBy, GuardsPorts};
+ghost use Rattle.filtergen_code.specs.Parts.{side_cost, side_offset, side_test, port_after, has_tcp_or_udp_number, has_port_number, number_of, plain_cost, cost};
 ghost use Rattle.filtergen_code.specs.Remaining.{is_unfragmented};
 
 use crate::code::{Code, Exits};
+use crate::entries::{Entry, Targets};
 use crate::insns::{Field, Jump, Operand, load_insn, plain_insn};
-use crate::ways::{Way, Ways};
 use bpfvm::code;
 use filter_meaning::{ARP, BROADCAST, IP, RARP, protocol_number};
 use filter_tree::{Direction, EthernetAddress, Network, Plain, Primitive, Transport};
+use filtergen_facts::{ICMP, SCTP, TCP, UDP};
 
-/// Where a frame has the source's and the destination's address of IPv4.
+/// Offsets in the frame of the source and the destination address of IPv4.
 pub(crate) const IP_ADDRESSES: (u32, u32) = (26, 30);
 
-/// Where it has the sender's and the target's address of ARP and RARP.
+/// Offsets in the frame of the sender's and the target's address of ARP and RARP.
 pub(crate) const ARP_ADDRESSES: (u32, u32) = (28, 38);
 
-/// A test of the source or of the destination, at an offset of the frame.
+/// A test of the source or the destination, at an offset in the frame.
 #[derive(Clone, Copy)]
 pub(crate) enum FieldTest {
     /// The bits of an IPv4 address under a mask.
@@ -39,6 +43,26 @@ pub(crate) enum FieldTest {
     },
 }
 
+/// A test of the ports from low to high on the sides that a direction chooses.
+#[derive(Clone, Copy)]
+pub(crate) struct PortTest {
+    pub direction: Direction,
+    pub low: u32,
+    pub high: u32,
+}
+
+impl PortTest {
+    pub fn new(direction: Direction, low: u16, high: u16) -> PortTest
+        ensures { result ≡ record { direction = direction; low = low; high = high } }
+    {
+        PortTest {
+            direction,
+            low: u32::from(low),
+            high: u32::from(high),
+        }
+    }
+}
+
 fn plain_cost(word: Plain) -> usize
     ensures { result ≡ plain_cost word }
 {
@@ -48,8 +72,7 @@ fn plain_cost(word: Plain) -> usize
     }
 }
 
-/// How many instructions a primitive takes at most: each load, each mask, each jump, and two more for each jump whose exits
-/// are out of its reach.
+/// How many instructions a primitive takes at most: its loads, masks and jumps, and two relays for each jump.
 pub(crate) fn cost(primitive: Primitive) -> usize
     ensures value { result ≡ cost primitive }
     ensures within { result ≤ 38 }
@@ -70,50 +93,50 @@ pub(crate) fn cost(primitive: Primitive) -> usize
 }
 
 impl Code {
-    /// The Ethernet type.
-    pub fn ether_type(&mut self, number: u32, exits: Exits) -> usize
+    /// Emits the test of the Ethernet type.
+    pub fn emit_ether_type(&mut self, number: u32, exits: Exits) -> usize
         requires room { length self.old + 4 ≤ MAX_CODE }
         requires exits { AreExits self.old exits }
         ensures { Decides 4 (is_type number) exits result self.old self.new }
     {
-        self.test(Field::Half(12), Jump::Equal, number, exits)
+        self.emit_test(Field::Half(12), Jump::Equal, number, exits)
     }
 
-    /// The protocol number of IPv4.
-    pub fn protocol_number(&mut self, number: u32, exits: Exits) -> usize
+    /// Emits the test of the protocol number of IPv4.
+    pub fn emit_protocol_number(&mut self, number: u32, exits: Exits) -> usize
         requires room { length self.old + 4 ≤ MAX_CODE }
         requires exits { AreExits self.old exits }
         ensures { Decides 4 (λ p. check (λ b. b == number) (byte 23 p)) exits result self.old self.new }
     {
-        self.test(Field::Byte(23), Jump::Equal, number, exits)
+        self.emit_test(Field::Byte(23), Jump::Equal, number, exits)
     }
 
-    /// IPv4, and behind it the test at a place, which is for a packet of IPv4; one of another type goes on at the other place.
-    pub fn behind_ip(&mut self, inner: usize, other: usize) -> Way
+    /// Emits the test for IPv4 in front of a test for IPv4 packets. A packet of another type goes to the other place.
+    pub fn emit_ip_guard(&mut self, next: usize, other: usize) -> Entry
         requires room { length self.old + 4 ≤ MAX_CODE }
-        requires inner { IsPlace self.old inner }
+        requires next { IsPlace self.old next }
         requires other { IsPlace self.old other }
-        ensures test { Decides 4 (is_type 0x0800) (record { yes = inner; no = other }) result.any self.old self.new }
+        ensures test { Decides 4 (is_type IP) (record { yes = next; no = other }) result.any self.old self.new }
         ensures places { result ≡
-            record { any = result.any; ip = inner; other = other; first_fragment = inner; transport = None } }
+            record { any = result.any; ip = next; other = other; first_fragment = next; transport = None } }
     {
         let exits = Exits {
-            yes: inner,
+            yes: next,
             no: other,
         };
-        Way {
-            any: self.ether_type(IP, exits),
+        Entry {
+            any: self.emit_ether_type(IP, exits),
             other,
-            ..Way::to(inner)
+            ..Entry::at(next)
         }
     }
 
-    /// Whether the packet is of another type than IPv4, which goes on at the other place. One of IPv4 goes on by its way.
-    pub fn apart_from_ip(&mut self, of_ip: Way, other: usize) -> Way
+    /// Emits the test for IPv4. A packet of IPv4 goes on at the given entry, a packet of another type at the other place.
+    pub fn emit_ip_split(&mut self, of_ip: Entry, other: usize) -> Entry
         requires room { length self.old + 4 ≤ MAX_CODE }
         requires of_ip { IsPlace self.old of_ip.ip }
         requires other { IsPlace self.old other }
-        ensures test { Decides 4 (is_type 0x0800) (record { yes = of_ip.ip; no = other }) result.any self.old self.new }
+        ensures test { Decides 4 (is_type IP) (record { yes = of_ip.ip; no = other }) result.any self.old self.new }
         ensures places { result ≡ record {
           any = result.any;
           ip = of_ip.ip;
@@ -123,255 +146,226 @@ impl Code {
         } }
     {
         let (yes, no) = (of_ip.ip, other);
-        let any = self.ether_type(IP, Exits { yes, no });
-        Way {
+        let any = self.emit_ether_type(IP, Exits { yes, no });
+        Entry {
             any,
             other,
             ..of_ip
         }
     }
 
-    /// An Ethernet type that is not that of IPv4. Where IPv4 goes on elsewhere than other types do, it is asked for first.
-    fn other_type(&mut self, number: u32, ways: Ways) -> Way
-        requires number { number ≢ 0x0800 }
+    /// Emits the test of an Ethernet type other than IPv4. If the targets differ for IPv4, that type is tested first.
+    fn emit_non_ip_type(&mut self, number: u32, targets: Targets) -> Entry
+        requires number { number ≢ IP }
         requires room { length self.old + 8 ≤ MAX_CODE }
-        requires ways { AreWays self.old ways }
-        ensures { DecidesBy 8 (is_type number) ways result self.old self.new }
+        requires targets { AreTargets self.old targets }
+        ensures { DecidesBy 8 (is_type number) targets result self.old self.new }
     {
-        if ways.is_one_for_all_types() {
-            let other = self.ether_type(number, ways.any_exits());
-            return Way {
+        if targets.is_one_for_all_types() {
+            let other = self.emit_ether_type(number, targets.any_exits());
+            return Entry {
                 any: other,
                 other,
-                ..ways.no
+                ..targets.no
             };
         }
-        let other = self.ether_type(number, ways.other_exits());
-        self.apart_from_ip(ways.no, other)
+        let other = self.emit_ether_type(number, targets.other_exits());
+        self.emit_ip_split(targets.no, other)
     }
 
-    /// An Ethernet type.
-    fn type_of_any(&mut self, number: u32, ways: Ways) -> Way
+    /// Emits the test of any Ethernet type.
+    fn emit_any_type(&mut self, number: u32, targets: Targets) -> Entry
         requires room { length self.old + 8 ≤ MAX_CODE }
-        requires ways { AreWays self.old ways }
-        ensures { DecidesBy 8 (is_type number) ways result self.old self.new }
+        requires targets { AreTargets self.old targets }
+        ensures { DecidesBy 8 (is_type number) targets result self.old self.new }
     {
         if number == IP {
-            self.plain(Plain::Ip, ways)
+            self.emit_protocol_word(Plain::Ip, targets)
         } else {
-            self.other_type(number, ways)
+            self.emit_non_ip_type(number, targets)
         }
     }
 
-    /// IPv4 with this protocol number.
-    pub fn ip_protocol(&mut self, number: u32, ways: Ways) -> Way
+    /// Emits the test for IPv4 with this protocol number.
+    pub fn emit_ip_protocol(&mut self, number: u32, targets: Targets) -> Entry
         requires room { length self.old + 8 ≤ MAX_CODE }
-        requires ways { AreWays self.old ways }
-        ensures { DecidesBy 8 (is_protocol number) ways result self.old self.new }
+        requires targets { AreTargets self.old targets }
+        ensures { DecidesBy 8 (is_protocol number) targets result self.old self.new }
     {
-        let inner = self.protocol_number(number, ways.ip_exits());
-        self.behind_ip(inner, ways.no.other)
+        let next = self.emit_protocol_number(number, targets.ip_exits());
+        self.emit_ip_guard(next, targets.no.other)
     }
 
-    /// No later fragment of IPv4.
-    pub fn unfragmented(&mut self, exits: Exits) -> usize
+    /// Emits the test that an IPv4 packet is no later fragment.
+    pub fn emit_fragment_test(&mut self, exits: Exits) -> usize
         requires room { length self.old + 4 ≤ MAX_CODE }
         requires exits { AreExits self.old exits }
         ensures { Decides 4 is_unfragmented exits result self.old self.new }
     {
-        self.test(Field::Half(20), Jump::AnyBit, 0x1fff, exits.swapped())
+        self.emit_test(Field::Half(20), Jump::AnyBit, 0x1fff, exits.opposite())
     }
 
-    /// Whether the number that was loaded is the protocol number of TCP or UDP.
-    fn branch_tcp_or_udp(&mut self, exits: Exits)
+    /// Emits the comparisons of the accumulator with the protocol numbers of TCP and UDP.
+    fn emit_tcp_or_udp_branch(&mut self, exits: Exits)
         requires room { length self.old + 6 ≤ MAX_CODE }
         requires exits { AreExits self.old exits }
-        ensures { Chooses 6 (λ r. if r.accumulator == 6 then true else r.accumulator == 17) exits self.old self.new }
+        ensures { Chooses 6 (λ r. if r.accumulator == TCP then true else r.accumulator == UDP) exits self.old self.new }
     {
-        self.branch(Jump::Equal, Operand::Constant(17), exits);
+        self.emit_branch(Jump::Equal, Operand::Constant(UDP), exits);
         let udp = self.len();
-        self.branch(
+        self.emit_branch(
             Jump::Equal,
-            Operand::Constant(6),
+            Operand::Constant(TCP),
             Exits { no: udp, ..exits },
         );
     }
 
-    /// The protocol number of TCP or UDP: two comparisons of one byte. An exit that begins with the same load is passed.
-    pub fn tcp_or_udp_number(&mut self, exits: Exits) -> usize
+    /// Emits the test for the protocol number of TCP or UDP. An exit that begins with the same load is entered after it.
+    pub fn emit_tcp_or_udp(&mut self, exits: Exits) -> usize
         requires room { length self.old + 7 ≤ MAX_CODE }
         requires exits { AreExits self.old exits }
         ensures { Decides 7 has_tcp_or_udp_number exits result self.old self.new }
     {
         let load = load_insn(Field::Byte(23));
-        let exits = self.both_passed(load, exits);
-        self.branch_tcp_or_udp(exits);
-        self.push(load);
+        let exits = self.exits_after(load, exits);
+        self.emit_tcp_or_udp_branch(exits);
+        self.emit(load);
         self.len()
     }
 
-    /// A protocol number of IPv4 that has ports: three comparisons of one byte. An exit that begins with the same load is
-    /// passed.
-    fn port_number(&mut self, exits: Exits) -> usize
+    /// Emits the test for a protocol number with ports. An exit that begins with the same load is entered after it.
+    fn emit_protocol_with_ports(&mut self, exits: Exits) -> usize
         requires room { length self.old + 10 ≤ MAX_CODE }
         requires exits { AreExits self.old exits }
         ensures { Decides 10 has_port_number exits result self.old self.new }
     {
         let load = load_insn(Field::Byte(23));
-        let exits = self.both_passed(load, exits);
-        self.branch(Jump::Equal, Operand::Constant(132), exits);
+        let exits = self.exits_after(load, exits);
+        self.emit_branch(Jump::Equal, Operand::Constant(SCTP), exits);
         let sctp = self.len();
-        self.branch_tcp_or_udp(Exits { no: sctp, ..exits });
-        self.push(load);
+        self.emit_tcp_or_udp_branch(Exits { no: sctp, ..exits });
+        self.emit(load);
         self.len()
     }
 
-    /// A port from low to high, so many bytes behind the header whose length the index register has.
-    fn port(&mut self, offset: u32, low: u32, high: u32, exits: Exits) -> usize
+    /// Emits the test for a port from low to high, at an offset after the IPv4 header whose length is in the index register.
+    fn emit_port(&mut self, offset: u32, low: u32, high: u32, exits: Exits) -> usize
         requires offset { offset ≤ 2 }
         requires room { length self.old + 7 ≤ MAX_CODE }
         requires exits { AreExits self.old exits }
-        ensures { ChoosesBehind 6 (plain_insn 0x48 (14 + offset)) (λ r. within low high r.accumulator) exits result
+        ensures { ChoosesAfter 6 (plain_insn 0x48 (14 + offset)) (λ r. within low high r.accumulator) exits result
             self.old self.new }
     {
-        self.branch_within(low, high, exits);
-        self.push(plain_insn(code::LD_H_IND, 14 + offset));
+        self.emit_range_branch(low, high, exits);
+        self.emit(plain_insn(code::LD_H_IND, 14 + offset));
         self.len()
     }
 
-    /// The ports that a direction chooses. Those behind the header share its length in the index register.
-    fn directed_ports(&mut self, direction: Direction, low: u32, high: u32, exits: Exits) -> usize
+    /// Emits the tests of the ports that a direction chooses. They share the header's length in the index register.
+    fn emit_port_sides(&mut self, ports: PortTest, exits: Exits) -> usize
         requires room { length self.old + 14 ≤ MAX_CODE }
         requires exits { AreExits self.old exits }
         ensures test { Follows same_index 14
-            (λ r. by_direction direction (port_behind r.index low high 0) (port_behind r.index low high 2)) exits result
-            self.old self.new }
+            (λ r. by_direction ports.direction (port_after r.index ports.low ports.high 0) (port_after r.index ports.low ports.high 2))
+            exits result self.old self.new }
         ensures front { result ≡ length self.new }
     {
-        match direction {
-            Direction::Src => self.port(0, low, high, exits),
-            Direction::Dst => self.port(2, low, high, exits),
+        let (low, high) = (ports.low, ports.high);
+        match ports.direction {
+            Direction::Src => self.emit_port(0, low, high, exits),
+            Direction::Dst => self.emit_port(2, low, high, exits),
             Direction::SrcOrDst => {
-                let second = self.port(2, low, high, exits);
-                self.port(
-                    0,
-                    low,
-                    high,
-                    Exits {
-                        no: second,
-                        ..exits
-                    },
-                )
+                let next = self.emit_port(2, low, high, exits);
+                self.emit_port(0, low, high, Exits { no: next, ..exits })
             }
             Direction::SrcAndDst => {
-                let second = self.port(2, low, high, exits);
-                self.port(
-                    0,
-                    low,
-                    high,
-                    Exits {
-                        yes: second,
-                        ..exits
-                    },
-                )
+                let next = self.emit_port(2, low, high, exits);
+                self.emit_port(0, low, high, Exits { yes: next, ..exits })
             }
         }
     }
 
-    /// The ports that a direction chooses, behind the IPv4 header. An exit that begins with the same header's length is passed:
-    /// it is still in the index register.
-    pub fn ports_behind_header(
-        &mut self,
-        direction: Direction,
-        low: u32,
-        high: u32,
-        exits: Exits,
-    ) -> usize
+    /// Emits the load of the IPv4 header's length and the tests of the ports. An exit that begins with the same load is entered after it: the
+    /// length is still in the index register.
+    pub fn emit_header_and_ports(&mut self, ports: PortTest, exits: Exits) -> usize
         requires room { length self.old + 15 ≤ MAX_CODE }
         requires exits { AreExits self.old exits }
-        ensures { Decides 15 (by_direction direction (has_port low high 0) (has_port low high 2)) exits result
-            self.old self.new }
+        ensures { Decides 15 (by_direction ports.direction (has_port ports.low ports.high 0) (has_port ports.low ports.high 2)) exits
+            result self.old self.new }
     {
         let header = plain_insn(code::LDX_MSH, 14);
-        let exits = self.both_passed(header, exits);
-        self.directed_ports(direction, low, high, exits);
-        self.push(header);
+        let exits = self.exits_after(header, exits);
+        self.emit_port_sides(ports, exits);
+        self.emit(header);
         self.len()
     }
 
-    /// The protocol number of IPv4 that is asked for. `None` is any that has ports.
-    fn transport_number(&mut self, asked: Option<Transport>, exits: Exits) -> usize
+    /// Emits the test of the protocol number of a transport protocol; `None` is any with ports.
+    fn emit_transport_number(&mut self, asked: Option<Transport>, exits: Exits) -> usize
         requires room { length self.old + 10 ≤ MAX_CODE }
         requires exits { AreExits self.old exits }
         ensures { Decides 10 (number_of asked) exits result self.old self.new }
     {
         match asked {
-            None => self.port_number(exits),
-            Some(transport) => self.protocol_number(protocol_number(transport), exits),
+            None => self.emit_protocol_with_ports(exits),
+            Some(transport) => self.emit_protocol_number(protocol_number(transport), exits),
         }
     }
 
-    /// A first fragment of a protocol, and behind it the test at a place, which is for such a packet. The forms of any protocol
-    /// share all but the protocol number.
-    pub fn behind_transport(
+    /// Emits the tests of type, protocol number and fragment in front of a test for first fragments. If any protocol will do, its forms share
+    /// all but the protocol number.
+    pub fn emit_transport_guard(
         &mut self,
         asked: Option<Transport>,
         first_fragment: usize,
-        ways: Ways,
-    ) -> Way
+        targets: Targets,
+    ) -> Entry
         requires room { length self.old + 18 ≤ MAX_CODE }
         requires first_fragment { IsPlace self.old first_fragment }
-        requires ip { IsPlace self.old ways.no.ip }
-        requires other { IsPlace self.old ways.no.other }
-        ensures { GuardsPorts asked first_fragment ways result self.old self.new }
+        requires ip { IsPlace self.old targets.no.ip }
+        requires other { IsPlace self.old targets.no.other }
+        ensures { GuardsPorts asked first_fragment targets result self.old self.new }
     {
-        let no = ways.no.ip;
-        let yes = self.unfragmented(Exits {
+        let no = targets.no.ip;
+        let yes = self.emit_fragment_test(Exits {
             yes: first_fragment,
             no,
         });
-        let ip = self.transport_number(asked, Exits { yes, no });
-        let way = self.behind_ip(ip, ways.no.other);
-        Way {
+        let ip = self.emit_transport_number(asked, Exits { yes, no });
+        let entry = self.emit_ip_guard(ip, targets.no.other);
+        Entry {
             first_fragment,
             transport: asked,
-            ..way
+            ..entry
         }
     }
 
-    /// A port from low to high of a protocol, or of any. Only behind the port is the packet known to be a first fragment.
-    fn ports(
-        &mut self,
-        asked: Option<Transport>,
-        direction: Direction,
-        low: u32,
-        high: u32,
-        ways: Ways,
-    ) -> Way
+    /// Emits the test for ports from low to high of one protocol or of any.
+    fn emit_ports(&mut self, asked: Option<Transport>, ports: PortTest, targets: Targets) -> Entry
         requires room { length self.old + 33 ≤ MAX_CODE }
-        requires ways { AreWays self.old ways }
-        ensures { DecidesBy 33 (has_any_ports asked direction low high) ways result self.old self.new }
+        requires targets { AreTargets self.old targets }
+        ensures { DecidesBy 33 (has_any_ports asked ports.direction ports.low ports.high) targets result self.old self.new }
     {
-        let exits = ways.first_fragment_exits(asked);
-        let first_fragment = self.ports_behind_header(direction, low, high, exits);
-        self.behind_transport(asked, first_fragment, ways)
+        let exits = targets.first_fragment_exits(asked);
+        let first_fragment = self.emit_header_and_ports(ports, exits);
+        self.emit_transport_guard(asked, first_fragment, targets)
     }
 
-    /// The bits of an IPv4 address under a mask. A mask of ones takes no instruction.
-    fn address(&mut self, offset: u32, address: u32, mask: u32, exits: Exits) -> usize
+    /// Emits the test of an IPv4 address under a mask. A mask of ones takes no instruction.
+    fn emit_address(&mut self, offset: u32, address: u32, mask: u32, exits: Exits) -> usize
         requires room { length self.old + 5 ≤ MAX_CODE }
         requires exits { AreExits self.old exits }
         ensures { Decides 5 (has_address address mask offset) exits result self.old self.new }
     {
         if mask == u32::MAX {
-            self.test(Field::Word(offset), Jump::Equal, address, exits)
+            self.emit_test(Field::Word(offset), Jump::Equal, address, exits)
         } else {
-            self.masked_test(Field::Word(offset), mask, address, exits)
+            self.emit_masked_test(Field::Word(offset), mask, address, exits)
         }
     }
 
-    /// Six bytes that are an Ethernet address. The last four are tested first, so that a missing byte is met in any case.
-    fn ethernet(&mut self, offset: u32, address: EthernetAddress, exits: Exits) -> usize
+    /// Emits the test of an Ethernet address. The last four bytes come first, so that a byte past the captured ones aborts in any case.
+    fn emit_ethernet(&mut self, offset: u32, address: EthernetAddress, exits: Exits) -> usize
         requires offset { offset ≤ 40 }
         requires room { length self.old + 8 ≤ MAX_CODE }
         requires exits { AreExits self.old exits }
@@ -380,16 +374,13 @@ impl Code {
         let [a, b, c, d, e, f] = address.octets;
         let high = u32::from(u16::from_be_bytes([a, b]));
         let low = u32::from_be_bytes([c, d, e, f]);
-        let inner = self.test(Field::Half(offset), Jump::Equal, high, exits);
-        let exits = Exits {
-            yes: inner,
-            ..exits
-        };
-        self.test(Field::Word(offset + 2), Jump::Equal, low, exits)
+        let next = self.emit_test(Field::Half(offset), Jump::Equal, high, exits);
+        let exits = Exits { yes: next, ..exits };
+        self.emit_test(Field::Word(offset + 2), Jump::Equal, low, exits)
     }
 
-    /// The test of one side.
-    fn side(&mut self, side: FieldTest, exits: Exits) -> usize
+    /// Emits the test of one side.
+    fn emit_side(&mut self, side: FieldTest, exits: Exits) -> usize
         requires offset { side_offset side ≤ 40 }
         requires room { length self.old + side_cost side ≤ MAX_CODE }
         requires exits { AreExits self.old exits }
@@ -400,13 +391,13 @@ impl Code {
                 offset,
                 address,
                 mask,
-            } => self.address(offset, address, mask, exits),
-            FieldTest::Ethernet { offset, address } => self.ethernet(offset, address, exits),
+            } => self.emit_address(offset, address, mask, exits),
+            FieldTest::Ethernet { offset, address } => self.emit_ethernet(offset, address, exits),
         }
     }
 
-    /// The source, the destination, or both.
-    fn directed(
+    /// Emits the test of the source, of the destination, or of both.
+    fn emit_sides(
         &mut self,
         direction: Direction,
         source: FieldTest,
@@ -421,33 +412,21 @@ impl Code {
             (by_direction direction (side_test source) (side_test destination)) exits result self.old self.new }
     {
         match direction {
-            Direction::Src => self.side(source, exits),
-            Direction::Dst => self.side(destination, exits),
+            Direction::Src => self.emit_side(source, exits),
+            Direction::Dst => self.emit_side(destination, exits),
             Direction::SrcOrDst => {
-                let second = self.side(destination, exits);
-                self.side(
-                    source,
-                    Exits {
-                        no: second,
-                        ..exits
-                    },
-                )
+                let next = self.emit_side(destination, exits);
+                self.emit_side(source, Exits { no: next, ..exits })
             }
             Direction::SrcAndDst => {
-                let second = self.side(destination, exits);
-                self.side(
-                    source,
-                    Exits {
-                        yes: second,
-                        ..exits
-                    },
-                )
+                let next = self.emit_side(destination, exits);
+                self.emit_side(source, Exits { yes: next, ..exits })
             }
         }
     }
 
-    /// The addresses of IPv4 that a direction chooses, at these offsets of the frame.
-    pub fn addresses(
+    /// Emits the tests of the IPv4 addresses that a direction chooses, at these offsets in the frame.
+    pub fn emit_addresses(
         &mut self,
         offsets: (u32, u32),
         direction: Direction,
@@ -473,116 +452,124 @@ impl Code {
             address,
             mask,
         };
-        self.directed(direction, source, destination, exits)
+        self.emit_sides(direction, source, destination, exits)
     }
 
-    /// The Ethernet type of ARP or RARP, and behind it the addresses that a direction chooses. A packet of another type may
-    /// still be of IPv4, so it goes on at the exits for any.
+    /// Emits the test for a host or a net of ARP or RARP. A packet of another type may still be IPv4, so it goes to the exits for any packet.
     #[tactic(auto, using(crate::proofs::Leading::decides_any))]
-    fn arp_addresses(
+    fn emit_arp_net(
         &mut self,
         number: u32,
         direction: Direction,
         address: u32,
         mask: u32,
-        ways: Ways,
-    ) -> Way
+        targets: Targets,
+    ) -> Entry
         requires room { length self.old + 14 ≤ MAX_CODE }
-        requires ways { AreWays self.old ways }
+        requires targets { AreTargets self.old targets }
         ensures { DecidesBy 14 (and_test (is_type number)
-            (by_direction direction (has_address address mask 28) (has_address address mask 38))) ways result
+            (by_direction direction (has_address address mask ARP_ADDRESSES.0) (has_address address mask ARP_ADDRESSES.1))) targets result
             self.old self.new }
     {
-        let exits = ways.any_exits();
-        let inner = self.addresses(ARP_ADDRESSES, direction, address, mask, exits);
-        Way::to(self.ether_type(
-            number,
-            Exits {
-                yes: inner,
-                ..exits
-            },
-        ))
+        let exits = targets.any_exits();
+        let next = self.emit_addresses(ARP_ADDRESSES, direction, address, mask, exits);
+        Entry::at(self.emit_ether_type(number, Exits { yes: next, ..exits }))
     }
 
-    /// A host or a net of one protocol.
-    fn net(
+    /// Emits the test for a host or a net of one protocol.
+    fn emit_net(
         &mut self,
         network: Network,
         direction: Direction,
         address: u32,
         mask: u32,
-        ways: Ways,
-    ) -> Way
+        targets: Targets,
+    ) -> Entry
         requires room { length self.old + 14 ≤ MAX_CODE }
-        requires ways { AreWays self.old ways }
-        ensures { DecidesBy 14 (in_net network direction address mask) ways result self.old self.new }
+        requires targets { AreTargets self.old targets }
+        ensures { DecidesBy 14 (in_net network direction address mask) targets result self.old self.new }
     {
         match network {
             Network::Ip => {
-                let inner = self.addresses(IP_ADDRESSES, direction, address, mask, ways.ip_exits());
-                self.behind_ip(inner, ways.no.other)
+                let next = self.emit_addresses(
+                    IP_ADDRESSES,
+                    direction,
+                    address,
+                    mask,
+                    targets.ip_exits(),
+                );
+                self.emit_ip_guard(next, targets.no.other)
             }
-            Network::Arp => self.arp_addresses(ARP, direction, address, mask, ways),
-            Network::Rarp => self.arp_addresses(RARP, direction, address, mask, ways),
+            Network::Arp => self.emit_arp_net(ARP, direction, address, mask, targets),
+            Network::Rarp => self.emit_arp_net(RARP, direction, address, mask, targets),
         }
     }
 
-    /// A host or a net of any protocol: three comparisons of one type. ARP and RARP have their addresses at the same places.
-    fn any_net(&mut self, direction: Direction, address: u32, mask: u32, ways: Ways) -> Way
+    /// Emits the test for a host or a net of any protocol: three comparisons of one type. ARP and RARP have their addresses at the same
+    /// offsets.
+    fn emit_any_net(
+        &mut self,
+        direction: Direction,
+        address: u32,
+        mask: u32,
+        targets: Targets,
+    ) -> Entry
         requires room { length self.old + 30 ≤ MAX_CODE }
-        requires ways { AreWays self.old ways }
-        ensures { DecidesBy 30 (in_any_net None direction address mask) ways result self.old self.new }
+        requires targets { AreTargets self.old targets }
+        ensures { DecidesBy 30 (in_any_net None direction address mask) targets result self.old self.new }
     {
-        let exits = ways.other_exits();
-        let inner = self.addresses(ARP_ADDRESSES, direction, address, mask, exits);
-        let arp = Exits {
-            yes: inner,
-            ..exits
-        };
-        self.branch(Jump::Equal, Operand::Constant(RARP), arp);
+        let exits = targets.other_exits();
+        let next = self.emit_addresses(ARP_ADDRESSES, direction, address, mask, exits);
+        let arp = Exits { yes: next, ..exits };
+        self.emit_branch(Jump::Equal, Operand::Constant(RARP), arp);
         let rarp = self.len();
-        self.branch(
+        self.emit_branch(
             Jump::Equal,
             Operand::Constant(ARP),
             Exits { no: rarp, ..arp },
         );
         let other = self.len();
-        let ip = self.addresses(IP_ADDRESSES, direction, address, mask, ways.ip_exits());
-        self.branch(
+        let ip = self.emit_addresses(IP_ADDRESSES, direction, address, mask, targets.ip_exits());
+        self.emit_branch(
             Jump::Equal,
             Operand::Constant(IP),
             Exits { yes: ip, no: other },
         );
-        self.push(load_insn(Field::Half(12)));
+        self.emit(load_insn(Field::Half(12)));
         let any = self.len();
-        // The place for another type than IPv4 wants the type in the accumulator, so such a packet begins anew.
-        Way {
+        // The place for other types compares the accumulator with them, so a packet known to be of another type enters at the load.
+        Entry {
             any,
             other: any,
-            ..Way::to(ip)
+            ..Entry::at(ip)
         }
     }
 
-    /// A protocol word.
+    /// Emits the test of a protocol word.
     #[tactic(auto, using(crate::proofs::Leading::decides_any))]
-    pub fn plain(&mut self, word: Plain, ways: Ways) -> Way
+    pub fn emit_protocol_word(&mut self, word: Plain, targets: Targets) -> Entry
         requires room { length self.old + plain_cost word ≤ MAX_CODE }
-        requires ways { AreWays self.old ways }
-        ensures { DecidesBy (plain_cost word) (plain_test word) ways result self.old self.new }
+        requires targets { AreTargets self.old targets }
+        ensures { DecidesBy (plain_cost word) (plain_test word) targets result self.old self.new }
     {
         match word {
-            Plain::Ip => self.behind_ip(ways.yes.ip, ways.no.other),
-            Plain::Arp => self.other_type(ARP, ways),
-            Plain::Rarp => self.other_type(RARP, ways),
-            Plain::Icmp => self.ip_protocol(1, ways),
-            Plain::Tcp => self.ip_protocol(6, ways),
-            Plain::Udp => self.ip_protocol(17, ways),
-            Plain::Sctp => self.ip_protocol(132, ways),
+            Plain::Ip => self.emit_ip_guard(targets.yes.ip, targets.no.other),
+            Plain::Arp => self.emit_non_ip_type(ARP, targets),
+            Plain::Rarp => self.emit_non_ip_type(RARP, targets),
+            Plain::Icmp => self.emit_ip_protocol(ICMP, targets),
+            Plain::Tcp => self.emit_ip_protocol(TCP, targets),
+            Plain::Udp => self.emit_ip_protocol(UDP, targets),
+            Plain::Sctp => self.emit_ip_protocol(SCTP, targets),
         }
     }
 
-    /// An Ethernet host.
-    fn ether_host(&mut self, direction: Direction, address: EthernetAddress, exits: Exits) -> usize
+    /// Emits the test for an Ethernet host.
+    fn emit_ether_host(
+        &mut self,
+        direction: Direction,
+        address: EthernetAddress,
+        exits: Exits,
+    ) -> usize
         requires room { length self.old + 16 ≤ MAX_CODE }
         requires exits { AreExits self.old exits }
         ensures { Decides 16 (by_direction direction (is_address address.octets 6) (is_address address.octets 0)) exits
@@ -590,68 +577,70 @@ impl Code {
     {
         let source = FieldTest::Ethernet { offset: 6, address };
         let destination = FieldTest::Ethernet { offset: 0, address };
-        self.directed(direction, source, destination, exits)
+        self.emit_sides(direction, source, destination, exits)
     }
 
-    /// A multicast address of IPv4, from 224.0.0.0 on.
-    fn ip_multicast(&mut self, ways: Ways) -> Way
+    /// Emits the test for a multicast destination of IPv4, from 224.0.0.0 on.
+    fn emit_ip_multicast(&mut self, targets: Targets) -> Entry
         requires room { length self.old + 8 ≤ MAX_CODE }
-        requires ways { AreWays self.old ways }
-        ensures { DecidesBy 8 (primitive_test IpMulticast) ways result self.old self.new }
+        requires targets { AreTargets self.old targets }
+        ensures { DecidesBy 8 (primitive_test IpMulticast) targets result self.old self.new }
     {
-        let inner = self.test(Field::Byte(30), Jump::GreaterOrEqual, 224, ways.ip_exits());
-        self.behind_ip(inner, ways.no.other)
+        let next = self.emit_test(
+            Field::Byte(30),
+            Jump::GreaterOrEqual,
+            224,
+            targets.ip_exits(),
+        );
+        self.emit_ip_guard(next, targets.no.other)
     }
 
-    /// A wire length of at most so many bytes.
-    fn less(&mut self, bytes: u32, exits: Exits) -> usize
+    /// Emits the test for a wire length of at most so many bytes.
+    fn emit_less(&mut self, bytes: u32, exits: Exits) -> usize
         requires room { length self.old + 4 ≤ MAX_CODE }
         requires exits { AreExits self.old exits }
         ensures { Decides 4 (primitive_test (Less bytes)) exits result self.old self.new }
     {
-        self.test(Field::Length, Jump::Greater, bytes, exits.swapped())
+        self.emit_test(Field::Length, Jump::Greater, bytes, exits.opposite())
     }
 
-    /// A primitive.
+    /// Emits a primitive.
     #[tactic(auto, using(crate::proofs::Leading::decides_any))]
-    pub fn primitive(&mut self, primitive: Primitive, ways: Ways) -> Way
+    pub fn emit_primitive(&mut self, primitive: Primitive, targets: Targets) -> Entry
         requires room { length self.old + cost primitive ≤ MAX_CODE }
-        requires ways { AreWays self.old ways }
-        ensures { DecidesBy (cost primitive) (primitive_test primitive) ways result self.old self.new }
+        requires targets { AreTargets self.old targets }
+        ensures { DecidesBy (cost primitive) (primitive_test primitive) targets result self.old self.new }
     {
-        let exits = ways.any_exits();
+        let exits = targets.any_exits();
         match primitive {
-            Primitive::Protocol(word) => self.plain(word, ways),
+            Primitive::Protocol(word) => self.emit_protocol_word(word, targets),
             Primitive::Net {
                 network,
                 direction,
                 address,
                 mask,
             } => match network {
-                Some(network) => self.net(network, direction, address, mask, ways),
-                None => self.any_net(direction, address, mask, ways),
+                Some(network) => self.emit_net(network, direction, address, mask, targets),
+                None => self.emit_any_net(direction, address, mask, targets),
             },
             Primitive::EtherHost { direction, address } => {
-                Way::to(self.ether_host(direction, address, exits))
+                Entry::at(self.emit_ether_host(direction, address, exits))
             }
             Primitive::Ports {
                 transport,
                 direction,
                 low,
                 high,
-            } => {
-                let (low, high) = (u32::from(low), u32::from(high));
-                self.ports(transport, direction, low, high, ways)
-            }
-            Primitive::IpProto(number) => self.ip_protocol(u32::from(number), ways),
-            Primitive::EtherProto(number) => self.type_of_any(u32::from(number), ways),
-            Primitive::EtherBroadcast => Way::to(self.ethernet(0, BROADCAST, exits)),
+            } => { self.emit_ports(transport, PortTest::new(direction, low, high), targets) }
+            Primitive::IpProto(number) => self.emit_ip_protocol(u32::from(number), targets),
+            Primitive::EtherProto(number) => self.emit_any_type(u32::from(number), targets),
+            Primitive::EtherBroadcast => Entry::at(self.emit_ethernet(0, BROADCAST, exits)),
             Primitive::EtherMulticast => {
-                Way::to(self.test(Field::Byte(0), Jump::AnyBit, 1, exits))
+                Entry::at(self.emit_test(Field::Byte(0), Jump::AnyBit, 1, exits))
             }
-            Primitive::IpMulticast => self.ip_multicast(ways),
-            Primitive::Less(bytes) => Way::to(self.less(bytes, exits)),
-            Primitive::Greater(bytes) => Way::to(self.test(
+            Primitive::IpMulticast => self.emit_ip_multicast(targets),
+            Primitive::Less(bytes) => Entry::at(self.emit_less(bytes, exits)),
+            Primitive::Greater(bytes) => Entry::at(self.emit_test(
                 Field::Length,
                 Jump::GreaterOrEqual,
                 bytes,

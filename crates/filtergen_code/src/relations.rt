@@ -1,4 +1,4 @@
-//! Relations. Code is written from its end: of two tests that follow each other, the second one comes first here.
+//! Relations. Code is written from its end, so what a run does last is emitted first. `next` is where a run goes on after a test.
 
 ghost use Rattle.std.specs.Prelude.{◌≡◌, ◌+◌, ◌≤◌, length, max, bit_and, option_map, Some, IfSome};
 ghost use Rattle.filtergen_trim.specs.declared.unreached.TheConstants.{MAX_CODE};
@@ -8,18 +8,18 @@ ghost use Rattle.filter_meaning.specs.Meaning.{Packet, value, compared, check, c
 ghost use Rattle.filtergen_facts.specs.Weights.{value_need};
 ghost use Rattle.filtergen_code.specs.Remaining.{rest_of_type, rest_of_protocol, rest_of_first_fragment, rest_of, rest_of_layers, rest_of_relation};
 ghost use Rattle.filtergen_code.specs.Parts.{value_cost, layers_cost, compare_cost, relation_cost};
-ghost use Rattle.filtergen_code.specs.Emission.{AreExits, field_of, value_of, Chooses, Decides, OrFull};
+ghost use Rattle.filtergen_code.specs.Emission.{AreExits, field_of, value_of, Chooses, Decides, Emits};
 
-use crate::arithmetic::constant;
 use crate::code::{Code, Exits, Full};
+use crate::constants::constant;
 use crate::insns::{Field, Jump, Operand, load_insn};
 use crate::values::field_of;
 use filter_meaning::IP;
 use filter_tree::{Comparison, Operator, Value};
-use filtergen_facts::Known;
+use filtergen_facts::PacketFacts;
 
-/// The value and the mask of one whose bits a constant masks.
-fn masked(amount: &Value) -> Option<(&Value, u32)>
+/// The two operands of a value that masks bits with a constant.
+fn split_mask(amount: &Value) -> Option<(&Value, u32)>
     ensures same { IfSome result
         (λ found. (p : Packet) → option_map (λ n. bit_and n found.1) (value (amount_of found.0.now) p) ≡ value (amount_of amount.now) p) }
     ensures fits { IfSome result (λ found. value_cost (amount_of found.0.now) ≤ value_cost (amount_of amount.now)) }
@@ -38,8 +38,8 @@ fn masked(amount: &Value) -> Option<(&Value, u32)>
 }
 
 impl Code {
-    /// What is left of a test of the Ethernet type.
-    fn rest_of_type(&mut self, known: Known, number: u32, exits: Exits) -> usize
+    /// Emits the test of the Ethernet type, unless it is known.
+    fn emit_rest_of_type(&mut self, known: PacketFacts, number: u32, exits: Exits) -> usize
         requires room { length self.old + 4 ≤ MAX_CODE }
         requires exits { AreExits self.old exits }
         ensures { Decides 4 (rest_of_type known number) exits result self.old self.new }
@@ -47,11 +47,11 @@ impl Code {
         if known.has_type(number) {
             return exits.yes;
         }
-        self.ether_type(number, exits)
+        self.emit_ether_type(number, exits)
     }
 
-    /// What is left of a test of IPv4 with this protocol number.
-    fn rest_of_protocol(&mut self, known: Known, number: u32, exits: Exits) -> usize
+    /// Emits what a test for IPv4 with this protocol number needs.
+    fn emit_rest_of_protocol(&mut self, known: PacketFacts, number: u32, exits: Exits) -> usize
         requires room { length self.old + 8 ≤ MAX_CODE }
         requires exits { AreExits self.old exits }
         ensures { Decides 8 (rest_of_protocol known number) exits result self.old self.new }
@@ -59,16 +59,18 @@ impl Code {
         if known.has_protocol(number) {
             return exits.yes;
         }
-        let inner = self.protocol_number(number, exits);
-        let exits = Exits {
-            yes: inner,
-            ..exits
-        };
-        self.rest_of_type(known, IP, exits)
+        let next = self.emit_protocol_number(number, exits);
+        let exits = Exits { yes: next, ..exits };
+        self.emit_rest_of_type(known, IP, exits)
     }
 
-    /// What is left of a test of the same, and of no later fragment.
-    fn rest_of_first_fragment(&mut self, known: Known, number: u32, exits: Exits) -> usize
+    /// Emits what a test for a first fragment of this protocol needs.
+    fn emit_rest_of_first_fragment(
+        &mut self,
+        known: PacketFacts,
+        number: u32,
+        exits: Exits,
+    ) -> usize
         requires room { length self.old + 12 ≤ MAX_CODE }
         requires exits { AreExits self.old exits }
         ensures { Decides 12 (rest_of_first_fragment known number) exits result self.old self.new }
@@ -76,114 +78,120 @@ impl Code {
         if known.has_first_fragment(number) {
             return exits.yes;
         }
-        let inner = self.unfragmented(exits);
-        let exits = Exits {
-            yes: inner,
-            ..exits
-        };
-        self.rest_of_protocol(known, number, exits)
+        let next = self.emit_fragment_test(exits);
+        let exits = Exits { yes: next, ..exits };
+        self.emit_rest_of_protocol(known, number, exits)
     }
 
-    /// What is left of a test, behind what is known.
-    pub fn rest_of(&mut self, known: Known, fact: Known, exits: Exits) -> usize
+    /// Emits what the test of a fact needs.
+    pub fn emit_rest_of_fact(
+        &mut self,
+        known: PacketFacts,
+        fact: PacketFacts,
+        exits: Exits,
+    ) -> usize
         requires room { length self.old + 12 ≤ MAX_CODE }
         requires exits { AreExits self.old exits }
         ensures { Decides 12 (rest_of known fact) exits result self.old self.new }
     {
         match fact {
-            Known::Nothing => exits.yes,
-            Known::Type(number) => self.rest_of_type(known, number, exits),
-            Known::Protocol(number) => self.rest_of_protocol(known, number, exits),
-            Known::FirstFragment(number) => self.rest_of_first_fragment(known, number, exits),
+            PacketFacts::Nothing => exits.yes,
+            PacketFacts::Type(number) => self.emit_rest_of_type(known, number, exits),
+            PacketFacts::Protocol(number) => self.emit_rest_of_protocol(known, number, exits),
+            PacketFacts::FirstFragment(number) => self.emit_rest_of_first_fragment(
+                known, number, exits,
+            ),
         }
     }
 
-    /// What is left of the layers of a value's accessors. A constant has none: what stands to the left of one is not asked for
-    /// what it shows, so that the time of a chain of them does not grow with the square of its length.
-    fn layers(&mut self, known: Known, value: &Value, exits: Exits) -> Result<usize, Full>
+    /// Emits what the tests of the layers of a value's accessors need. A constant has no layers: what its left operand shows is not looked up,
+    /// so that the time of a chain of constants does not grow with the square of its length.
+    fn emit_layers(
+        &mut self,
+        known: PacketFacts,
+        value: &Value,
+        exits: Exits,
+    ) -> Result<usize, Full>
         requires { AreExits self.old exits }
-        ensures { OrFull (layers_cost (amount_of value.now)) self.old result
-            (λ entry. Decides (layers_cost (amount_of value.now)) (rest_of_layers known (amount_of value.now)) exits entry
-            self.old self.new) }
+        ensures { Emits (layers_cost (amount_of value.now))
+            (rest_of_layers known (amount_of value.now)) exits self.old self.new result }
     {
         match value {
             Value::Number(_) | Value::Length => Ok(exits.yes),
-            Value::Negation(operand) => self.layers(known, operand, exits),
+            Value::Negation(operand) => self.emit_layers(known, operand, exits),
             Value::Binary(_, left, right) => {
                 if constant(right).is_some() {
-                    return self.layers(known, left, exits);
+                    return self.emit_layers(known, left, exits);
                 }
-                let second = self.layers(known.behind_layers(left), right, exits)?;
-                let exits = Exits {
-                    yes: second,
-                    ..exits
-                };
-                self.layers(known, left, exits)
+                let next = self.emit_layers(known.after_layers(left), right, exits)?;
+                let exits = Exits { yes: next, ..exits };
+                self.emit_layers(known, left, exits)
             }
             Value::Accessor(layer, index, _) => {
-                let fact = Known::of_layer(*layer);
-                let second = self.layers(known.narrowed(fact), index, exits)?;
+                let fact = PacketFacts::of_layer(*layer);
+                let next = self.emit_layers(known.with_fact(fact), index, exits)?;
                 self.room(12)?;
-                let exits = Exits {
-                    yes: second,
-                    ..exits
-                };
-                Ok(self.rest_of(known, fact, exits))
+                let exits = Exits { yes: next, ..exits };
+                Ok(self.emit_rest_of_fact(known, fact, exits))
             }
         }
     }
 
-    /// Compares the accumulator with an operand.
-    fn compare_with(&mut self, comparison: Comparison, operand: Operand, exits: Exits)
+    /// Emits the comparison of the accumulator with an operand.
+    fn emit_comparison(&mut self, comparison: Comparison, operand: Operand, exits: Exits)
         requires room { length self.old + 3 ≤ MAX_CODE }
         requires exits { AreExits self.old exits }
         ensures { Chooses 3 (λ r. compared comparison r.accumulator (value_of operand r)) exits self.old self.new }
     {
         match comparison {
-            Comparison::Equal => self.branch(Jump::Equal, operand, exits),
-            Comparison::NotEqual => self.branch(Jump::Equal, operand, exits.swapped()),
-            Comparison::Less => self.branch(Jump::GreaterOrEqual, operand, exits.swapped()),
-            Comparison::Greater => self.branch(Jump::Greater, operand, exits),
-            Comparison::LessOrEqual => self.branch(Jump::Greater, operand, exits.swapped()),
-            Comparison::GreaterOrEqual => self.branch(Jump::GreaterOrEqual, operand, exits),
+            Comparison::Equal => self.emit_branch(Jump::Equal, operand, exits),
+            Comparison::NotEqual => self.emit_branch(Jump::Equal, operand, exits.opposite()),
+            Comparison::Less => self.emit_branch(Jump::GreaterOrEqual, operand, exits.opposite()),
+            Comparison::Greater => self.emit_branch(Jump::Greater, operand, exits),
+            Comparison::LessOrEqual => self.emit_branch(Jump::Greater, operand, exits.opposite()),
+            Comparison::GreaterOrEqual => self.emit_branch(Jump::GreaterOrEqual, operand, exits),
         }
     }
 
-    /// Compares a number of the packet with a constant. An exit that begins with the same load is passed.
-    fn compare_field(&mut self, comparison: Comparison, field: Field, n: u32, exits: Exits) -> usize
+    /// Emits the comparison of a field with a constant. An exit that begins with the same load is entered after it.
+    fn emit_field_comparison(
+        &mut self,
+        comparison: Comparison,
+        field: Field,
+        n: u32,
+        exits: Exits,
+    ) -> usize
         requires room { length self.old + 4 ≤ MAX_CODE }
         requires exits { AreExits self.old exits }
         ensures { Decides 4 (λ p. check (λ m. compared comparison m n) (field_of field p)) exits result self.old self.new }
     {
         let load = load_insn(field);
-        let exits = self.both_passed(load, exits);
-        self.compare_with(comparison, Operand::Constant(n), exits);
-        self.push(load);
+        let exits = self.exits_after(load, exits);
+        self.emit_comparison(comparison, Operand::Constant(n), exits);
+        self.emit(load);
         self.len()
     }
 
-    /// Goes to an exit by whether a value has any bit of a mask.
+    /// Emits the test whether a value has any bit of a mask.
     #[tactic(auto, using(crate::proofs::Bounds::value_positive))]
-    fn any_bit(&mut self, amount: &Value, mask: u32, exits: Exits) -> Result<usize, Full>
+    fn emit_any_bit(&mut self, amount: &Value, mask: u32, exits: Exits) -> Result<usize, Full>
         requires need { value_need (amount_of amount.now) ≤ 16 }
         requires exits { AreExits self.old exits }
-        ensures { OrFull (3 + value_cost (amount_of amount.now)) self.old result
-            (λ entry. Decides (3 + value_cost (amount_of amount.now))
-            (λ p. check_both (compared NotEqual) (option_map (λ n. bit_and n mask) (value (amount_of amount.now) p)) (Some 0)) exits entry
-            self.old self.new) }
+        ensures { Emits (3 + value_cost (amount_of amount.now))
+            (λ p. check_both (compared NotEqual) (option_map (λ n. bit_and n mask) (value (amount_of amount.now) p)) (Some 0)) exits self.old self.new result }
     {
         self.room(4)?;
         if let Some(field) = field_of(amount) {
-            return Ok(self.test(field, Jump::AnyBit, mask, exits));
+            return Ok(self.emit_test(field, Jump::AnyBit, mask, exits));
         }
-        self.branch(Jump::AnyBit, Operand::Constant(mask), exits);
-        self.value(amount, 0)?;
+        self.emit_branch(Jump::AnyBit, Operand::Constant(mask), exits);
+        self.emit_value(amount, 0)?;
         Ok(self.len())
     }
 
-    /// Computes a value, and compares it with a number.
+    /// Emits a value and its comparison with a number.
     #[tactic(auto, using(crate::proofs::Bounds::value_positive))]
-    fn compare_number(
+    fn emit_number_comparison(
         &mut self,
         comparison: Comparison,
         amount: &Value,
@@ -192,21 +200,20 @@ impl Code {
     ) -> Result<usize, Full>
         requires need { value_need (amount_of amount.now) ≤ 16 }
         requires exits { AreExits self.old exits }
-        ensures { OrFull (3 + value_cost (amount_of amount.now)) self.old result
-            (λ entry. Decides (3 + value_cost (amount_of amount.now))
-            (λ p. check_both (compared comparison) (value (amount_of amount.now) p) (Some n)) exits entry self.old self.new) }
+        ensures { Emits (3 + value_cost (amount_of amount.now))
+            (λ p. check_both (compared comparison) (value (amount_of amount.now) p) (Some n)) exits self.old self.new result }
     {
         self.room(4)?;
         if let Some(field) = field_of(amount) {
-            return Ok(self.compare_field(comparison, field, n, exits));
+            return Ok(self.emit_field_comparison(comparison, field, n, exits));
         }
-        self.compare_with(comparison, Operand::Constant(n), exits);
-        self.value(amount, 0)?;
+        self.emit_comparison(comparison, Operand::Constant(n), exits);
+        self.emit_value(amount, 0)?;
         Ok(self.len())
     }
 
-    /// The same, where whether bits under a mask are 0 is one jump.
-    fn compare_constant(
+    /// Emits the comparison of a value with a number. Whether bits under a mask are 0 takes one jump.
+    fn emit_constant_comparison(
         &mut self,
         comparison: Comparison,
         amount: &Value,
@@ -215,23 +222,22 @@ impl Code {
     ) -> Result<usize, Full>
         requires need { value_need (amount_of amount.now) ≤ 16 }
         requires exits { AreExits self.old exits }
-        ensures { OrFull (3 + value_cost (amount_of amount.now)) self.old result
-            (λ entry. Decides (3 + value_cost (amount_of amount.now))
-            (λ p. check_both (compared comparison) (value (amount_of amount.now) p) (Some n)) exits entry self.old self.new) }
+        ensures { Emits (3 + value_cost (amount_of amount.now))
+            (λ p. check_both (compared comparison) (value (amount_of amount.now) p) (Some n)) exits self.old self.new result }
     {
-        match (comparison, masked(amount)) {
+        match (comparison, split_mask(amount)) {
             (Comparison::Equal, Some((bits, mask))) if n == 0 => {
-                self.any_bit(bits, mask, exits.swapped())
+                self.emit_any_bit(bits, mask, exits.opposite())
             }
             (Comparison::NotEqual, Some((bits, mask))) if n == 0 => {
-                self.any_bit(bits, mask, exits)
+                self.emit_any_bit(bits, mask, exits)
             }
-            _ => self.compare_number(comparison, amount, n, exits),
+            _ => self.emit_number_comparison(comparison, amount, n, exits),
         }
     }
 
-    /// Computes two values, the left one first, and compares them.
-    fn compare(
+    /// Emits two values, the left one first, and their comparison.
+    fn emit_value_comparison(
         &mut self,
         comparison: Comparison,
         left: &Value,
@@ -240,24 +246,22 @@ impl Code {
     ) -> Result<usize, Full>
         requires need { max (value_need (amount_of left.now)) (1 + value_need (amount_of right.now)) ≤ 16 }
         requires exits { AreExits self.old exits }
-        ensures { OrFull (compare_cost (amount_of left.now) (amount_of right.now)) self.old result
-            (λ entry. Decides (compare_cost (amount_of left.now) (amount_of right.now))
-            (λ p. check_both (compared comparison) (value (amount_of left.now) p) (value (amount_of right.now) p)) exits entry
-            self.old self.new) }
+        ensures { Emits (compare_cost (amount_of left.now) (amount_of right.now))
+            (λ p. check_both (compared comparison) (value (amount_of left.now) p) (value (amount_of right.now) p)) exits self.old self.new result }
     {
         self.room(3)?;
         if let Some(n) = constant(right) {
-            return self.compare_constant(comparison, left, n, exits);
+            return self.emit_constant_comparison(comparison, left, n, exits);
         }
-        self.compare_with(comparison, Operand::Index, exits);
-        self.pair(left, right, 0)?;
+        self.emit_comparison(comparison, Operand::Index, exits);
+        self.emit_pair(left, right, 0)?;
         Ok(self.len())
     }
 
-    /// A relation: what is left of the layers of its accessors comes first, and then the values.
-    pub fn relation(
+    /// Emits a relation: what the tests of its accessors' layers need, then the values and their comparison.
+    pub fn emit_relation(
         &mut self,
-        known: Known,
+        known: PacketFacts,
         comparison: Comparison,
         left: &Value,
         right: &Value,
@@ -265,20 +269,16 @@ impl Code {
     ) -> Result<usize, Full>
         requires need { max (value_need (amount_of left.now)) (1 + value_need (amount_of right.now)) ≤ 16 }
         requires exits { AreExits self.old exits }
-        ensures { OrFull (relation_cost (amount_of left.now) (amount_of right.now)) self.old result
-            (λ entry. Decides (relation_cost (amount_of left.now) (amount_of right.now))
-            (rest_of_relation known comparison (amount_of left.now) (amount_of right.now)) exits entry self.old self.new) }
+        ensures { Emits (relation_cost (amount_of left.now) (amount_of right.now))
+            (rest_of_relation known comparison (amount_of left.now) (amount_of right.now)) exits self.old self.new result }
     {
-        let compared = self.compare(comparison, left, right, exits)?;
+        let compared = self.emit_value_comparison(comparison, left, right, exits)?;
         let exits = Exits {
             yes: compared,
             ..exits
         };
-        let second = self.layers(known.behind_layers(left), right, exits)?;
-        let exits = Exits {
-            yes: second,
-            ..exits
-        };
-        self.layers(known, left, exits)
+        let next = self.emit_layers(known.after_layers(left), right, exits)?;
+        let exits = Exits { yes: next, ..exits };
+        self.emit_layers(known, left, exits)
     }
 }

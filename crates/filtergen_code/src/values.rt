@@ -1,4 +1,4 @@
-//! Values. Code is written from its end: what is done last comes first here.
+//! Values. Code is written from its end, so what a run does last is emitted first.
 
 ghost use Rattle.std.specs.Prelude.{◌≡◌, ℕ, ◌+◌, ◌<◌, ◌≤◌, ◌^◌, ◌∷◌, length, max, None, Some, IfSome};
 ghost use Rattle.std.specs.Bool.{OnTrue};
@@ -8,11 +8,11 @@ ghost use Rattle.filter_tree.specs.Trees.{amount_of};
 ghost use Rattle.filter_meaning.specs.Meaning.{Packet, bytes_of, value};
 ghost use Rattle.filtergen_facts.specs.Weights.{value_need};
 ghost use Rattle.filtergen_code.specs.Insns.{plain_insn, calculation_insn, indirect_code};
-ghost use Rattle.filtergen_code.specs.Parts.{constant_of, IsLeaf, leaf_value, MayStandBehind, MayBeOperand, base_of, read_from, farthest, value_cost, pair_cost};
+ghost use Rattle.filtergen_code.specs.Parts.{constant_of, IsLeaf, leaf_value, IsValidConstant, MayBeOperand, base_of, read_from, farthest, value_cost, pair_cost};
 ghost use Rattle.filtergen_code.specs.Emission.{field_of, Loads, Applies, Computes, Pairs, OrFull};
 
-use crate::arithmetic::constant;
 use crate::code::{Code, Full};
+use crate::constants::constant;
 use crate::insns::{Field, Operand, absolute_code, calculation_code, constant_of, indirect_code};
 use bpfvm::code;
 use filter_tree::{Layer, Operator, Size, Value};
@@ -25,17 +25,17 @@ pub(crate) enum Leaf {
     Length,
 }
 
-/// What an accessor's index is counted from.
+/// Where the index of an accessor counts from.
 #[derive(Clone, Copy)]
 pub(crate) enum Base {
     Frame,
-    /// What stands behind the Ethernet header.
+    /// The end of the Ethernet header.
     Network,
-    /// What stands behind the IPv4 header.
+    /// The end of the IPv4 header.
     Transport,
 }
 
-/// What the indices of a layer are counted from.
+/// Where the indices of a layer count from.
 pub(crate) fn base_of(layer: Layer) -> Base
     ensures { result ≡ base_of layer }
 {
@@ -46,7 +46,7 @@ pub(crate) fn base_of(layer: Layer) -> Base
     }
 }
 
-/// How far behind the frame's first byte a base can be.
+/// How far a base can be from the start of the frame.
 fn farthest(base: Base) -> u32
     ensures { result ≡ farthest base }
 {
@@ -70,9 +70,9 @@ fn leaf_of(amount: &Value) -> Option<Leaf>
     }
 }
 
-/// Whether an instruction may have this constant behind this operator: none divides by 0.
-fn may_stand_behind(operator: Operator, n: u32) -> bool
-    ensures { OnTrue result (MayStandBehind operator n) }
+/// Whether an instruction of this operator may have this constant: none divides by 0.
+fn is_valid_constant(operator: Operator, n: u32) -> bool
+    ensures { OnTrue result (IsValidConstant operator n) }
 {
     match operator {
         Operator::Divide | Operator::Modulo => n > 0,
@@ -80,18 +80,18 @@ fn may_stand_behind(operator: Operator, n: u32) -> bool
     }
 }
 
-/// The number of a right operand that can be the constant of its operator's instruction.
-fn constant_behind(operator: Operator, right: &Value) -> Option<u32>
-    ensures { IfSome result (λ n. (constant_of (amount_of right.now) ≡ Some n) × MayStandBehind operator n) }
+/// The right operand as the constant of its operator's instruction, if it can be one.
+fn constant_operand(operator: Operator, right: &Value) -> Option<u32>
+    ensures { IfSome result (λ n. (constant_of (amount_of right.now) ≡ Some n) × IsValidConstant operator n) }
 {
     match constant(right) {
-        Some(n) if may_stand_behind(operator, n) => Some(n),
+        Some(n) if is_valid_constant(operator, n) => Some(n),
         _ => None,
     }
 }
 
-/// The index of an accessor, where it is a constant so low that no sum of the address can wrap.
-fn near_constant(base: Base, index: &Value) -> Option<u32>
+/// The index of an accessor, if it is a constant so low that the address cannot wrap.
+fn constant_index(base: Base, index: &Value) -> Option<u32>
     ensures { IfSome result (λ n. (constant_of (amount_of index.now) ≡ Some n) × (farthest base + n < 2 ^ 32)) }
 {
     let n = constant(index)?;
@@ -99,7 +99,7 @@ fn near_constant(base: Base, index: &Value) -> Option<u32>
     Some(n)
 }
 
-/// The number at an index, where one instruction loads it.
+/// The field at an index, if one instruction loads it.
 fn field_at(base: Base, size: Size, index: u32) -> Option<Field>
     requires near { farthest base + index < 2 ^ 32 }
     ensures { IfSome result (λ field. (p : Packet) → field_of field p ≡ read_from base (bytes_of size) p index) }
@@ -116,7 +116,7 @@ fn field_at(base: Base, size: Size, index: u32) -> Option<Field>
     })
 }
 
-/// The number of a packet that a value is, where one instruction loads it.
+/// The field that a value is, if one instruction loads it.
 pub(crate) fn field_of(amount: &Value) -> Option<Field>
     ensures { IfSome result (λ field. (p : Packet) → field_of field p ≡ value (amount_of amount.now) p) }
 {
@@ -124,7 +124,7 @@ pub(crate) fn field_of(amount: &Value) -> Option<Field>
         Value::Length => Some(Field::Length),
         Value::Accessor(layer, index, size) => {
             let base = base_of(*layer);
-            let n = near_constant(base, index)?;
+            let n = constant_index(base, index)?;
             field_at(base, *size, n)
         }
         _ => None,
@@ -132,104 +132,104 @@ pub(crate) fn field_of(amount: &Value) -> Option<Field>
 }
 
 impl Code {
-    /// Loads a leaf into the accumulator.
+    /// Emits the load of a leaf into the accumulator.
     #[tactic(auto, unfolding(bpfvm::specs::Validity::fault_of, bpfvm::specs::Codes::operation_of))]
-    fn load_leaf(&mut self, leaf: Leaf)
+    fn emit_leaf(&mut self, leaf: Leaf)
         requires { length self.old < MAX_CODE }
         ensures { Loads Accumulator (leaf_value leaf) self.old self.new }
     {
         match leaf {
-            Leaf::Number(n) => self.put(code::LD_IMM, n),
-            Leaf::Length => self.put(code::LD_LEN, 0),
+            Leaf::Number(n) => self.emit_plain(code::LD_IMM, n),
+            Leaf::Length => self.emit_plain(code::LD_LEN, 0),
         }
     }
 
-    /// Loads a leaf into the index register.
+    /// Emits the load of a leaf into the index register.
     #[tactic(auto, unfolding(bpfvm::specs::Validity::fault_of, bpfvm::specs::Codes::operation_of))]
-    fn index_leaf(&mut self, leaf: Leaf)
+    fn emit_index_leaf(&mut self, leaf: Leaf)
         requires { length self.old < MAX_CODE }
         ensures { Loads Index (leaf_value leaf) self.old self.new }
     {
         match leaf {
-            Leaf::Number(n) => self.put(code::LDX_IMM, n),
-            Leaf::Length => self.put(code::LDX_LEN, 0),
+            Leaf::Number(n) => self.emit_plain(code::LDX_IMM, n),
+            Leaf::Length => self.emit_plain(code::LDX_LEN, 0),
         }
     }
 
-    /// Calculates with the accumulator and an operand.
+    /// Emits a calculation with the accumulator and an operand.
     #[tactic(auto, using(crate::proofs::Growing::calculation_sound))]
-    fn calculate(&mut self, operator: Operator, operand: Operand)
+    fn emit_calculation(&mut self, operator: Operator, operand: Operand)
         requires room { length self.old < MAX_CODE }
         requires operand { MayBeOperand operator operand }
         ensures { self.new ≡ calculation_insn operator operand ∷ self.old }
     {
-        self.put(calculation_code(operator, operand), constant_of(operand));
+        self.emit_plain(calculation_code(operator, operand), constant_of(operand));
     }
 
-    /// Reads bytes so many behind the accumulator.
+    /// Emits the load of bytes at an offset from the accumulator.
     #[tactic(auto, unfolding(bpfvm::specs::Validity::fault_of, bpfvm::specs::Codes::operation_of))]
-    fn indirect(&mut self, size: Size, offset: u32)
+    fn emit_indirect_load(&mut self, size: Size, offset: u32)
         requires { length self.old + 2 ≤ MAX_CODE }
         ensures { self.new ≡ plain_insn 0x07 0 ∷ plain_insn (indirect_code size) offset ∷ self.old }
     {
-        self.put(indirect_code(size), offset);
-        self.put(code::TAX, 0);
+        self.emit_plain(indirect_code(size), offset);
+        self.emit_plain(code::TAX, 0);
     }
 
-    /// Reads the bytes of an accessor, where the accumulator has its index.
+    /// Emits the load of an accessor's bytes; the accumulator has its index.
     #[tactic(auto, unfolding(bpfvm::specs::Validity::fault_of, bpfvm::specs::Codes::operation_of))]
-    fn access(&mut self, base: Base, size: Size)
+    fn emit_access(&mut self, base: Base, size: Size)
         requires { length self.old + 4 ≤ MAX_CODE }
         ensures { Applies 4 (read_from base (bytes_of size)) self.old self.new }
     {
         match base {
-            Base::Frame => self.indirect(size, 0),
-            Base::Network => self.indirect(size, 14),
+            Base::Frame => self.emit_indirect_load(size, 0),
+            Base::Network => self.emit_indirect_load(size, 14),
             Base::Transport => {
-                self.indirect(size, 14);
-                self.put(code::ADD_X, 0);
-                self.put(code::LDX_MSH, 14);
+                self.emit_indirect_load(size, 14);
+                self.emit_plain(code::ADD_X, 0);
+                self.emit_plain(code::LDX_MSH, 14);
             }
         }
     }
 
-    /// Reads the bytes of an accessor, where its index is a number and no sum can wrap.
+    /// Emits the load of an accessor's bytes at an index that is a number and cannot wrap.
     #[tactic(auto, unfolding(bpfvm::specs::Validity::fault_of, bpfvm::specs::Codes::operation_of))]
-    pub fn access_at(&mut self, base: Base, size: Size, index: u32)
+    pub fn emit_access_at(&mut self, base: Base, size: Size, index: u32)
         requires room { length self.old + 2 ≤ MAX_CODE }
         requires near { farthest base + index < 2 ^ 32 }
         ensures { (cell : ℕ) → Computes 2 (λ p. read_from base (bytes_of size) p index) cell self.old self.new }
     {
         match base {
-            Base::Frame => self.put(absolute_code(size), index),
-            Base::Network => self.put(absolute_code(size), 14 + index),
+            Base::Frame => self.emit_plain(absolute_code(size), index),
+            Base::Network => self.emit_plain(absolute_code(size), 14 + index),
             Base::Transport => {
-                self.put(indirect_code(size), 14 + index);
-                self.put(code::LDX_MSH, 14);
+                self.emit_plain(indirect_code(size), 14 + index);
+                self.emit_plain(code::LDX_MSH, 14);
             }
         }
     }
 
-    /// Computes a value, and leaves the cells below one alone.
+    /// Emits the computation of a value. It changes no cell of the scratch memory below `cell`.
     #[tactic(auto, using(crate::proofs::Bounds::value_positive))]
     #[cycle(value)]
-    pub fn value(&mut self, amount: &Value, cell: u32) -> Result<(), Full>
+    pub fn emit_value(&mut self, amount: &Value, cell: u32) -> Result<(), Full>
         requires { cell + value_need (amount_of amount.now) ≤ 16 }
         ensures { OrFull (value_cost (amount_of amount.now)) self.old result
             (λ _. Computes (value_cost (amount_of amount.now)) (value (amount_of amount.now)) cell self.old self.new) }
     {
         if let Some(n) = constant(amount) {
             self.room(1)?;
-            self.load_leaf(Leaf::Number(n));
+            self.emit_leaf(Leaf::Number(n));
             return Ok(());
         }
-        self.variable(amount, cell)
+        self.emit_variable(amount, cell)
     }
 
-    /// Computes a value that is no constant as a whole, or divides by 0.
+    /// Emits the computation of a value that is no constant, or divides by 0.
     #[tactic(auto, unfolding(bpfvm::specs::Validity::fault_of, bpfvm::specs::Codes::operation_of))]
     #[cycle(value)]
-    fn variable(&mut self, amount: &Value, cell: u32) -> Result<(), Full>
+    fn emit_variable(&mut self, amount: &Value, cell: u32) -> Result<(), Full>
         requires { cell + value_need (amount_of amount.now) ≤ 16 }
         ensures { OrFull (value_cost (amount_of amount.now)) self.old result
             (λ _. Computes (value_cost (amount_of amount.now)) (value (amount_of amount.now)) cell self.old self.new) }
@@ -237,45 +237,45 @@ impl Code {
         match amount {
             Value::Number(n) => {
                 self.room(1)?;
-                self.load_leaf(Leaf::Number(*n));
+                self.emit_leaf(Leaf::Number(*n));
                 Ok(())
             }
             Value::Length => {
                 self.room(1)?;
-                self.load_leaf(Leaf::Length);
+                self.emit_leaf(Leaf::Length);
                 Ok(())
             }
             Value::Negation(operand) => {
                 self.room(1)?;
-                self.put(code::NEG, 0);
-                self.variable(operand, cell)
+                self.emit_plain(code::NEG, 0);
+                self.emit_variable(operand, cell)
             }
             Value::Binary(operator, left, right) => {
                 self.room(1)?;
-                if let Some(n) = constant_behind(*operator, right) {
-                    self.calculate(*operator, Operand::Constant(n));
-                    return self.variable(left, cell);
+                if let Some(n) = constant_operand(*operator, right) {
+                    self.emit_calculation(*operator, Operand::Constant(n));
+                    return self.emit_variable(left, cell);
                 }
-                self.calculate(*operator, Operand::Index);
-                self.pair(left, right, cell)
+                self.emit_calculation(*operator, Operand::Index);
+                self.emit_pair(left, right, cell)
             }
             Value::Accessor(layer, index, size) => {
                 self.room(4)?;
                 let base = base_of(*layer);
-                if let Some(n) = near_constant(base, index) {
-                    self.access_at(base, *size, n);
+                if let Some(n) = constant_index(base, index) {
+                    self.emit_access_at(base, *size, n);
                     return Ok(());
                 }
-                self.access(base, *size);
-                self.value(index, cell)
+                self.emit_access(base, *size);
+                self.emit_value(index, cell)
             }
         }
     }
 
-    /// Computes two values, the left one into the accumulator and the right one into the index register.
+    /// Emits the computation of two values, the left one into the accumulator and the right one into the index register.
     #[tactic(auto, unfolding(bpfvm::specs::Validity::fault_of, bpfvm::specs::Codes::operation_of))]
     #[cycle(value)]
-    pub fn pair(&mut self, left: &Value, right: &Value, cell: u32) -> Result<(), Full>
+    pub fn emit_pair(&mut self, left: &Value, right: &Value, cell: u32) -> Result<(), Full>
         requires { cell + max (value_need (amount_of left.now)) (1 + value_need (amount_of right.now)) ≤ 16 }
         ensures { OrFull (pair_cost (amount_of left.now) (amount_of right.now)) self.old result
             (λ _. Pairs (pair_cost (amount_of left.now) (amount_of right.now)) (value (amount_of left.now))
@@ -283,19 +283,19 @@ impl Code {
     {
         self.room(2)?;
         if let Some(leaf) = leaf_of(right) {
-            self.index_leaf(leaf);
-            return self.value(left, cell);
+            self.emit_index_leaf(leaf);
+            return self.emit_value(left, cell);
         }
         if let Some(leaf) = leaf_of(left) {
-            self.load_leaf(leaf);
-            self.put(code::TAX, 0);
-            return self.variable(right, cell);
+            self.emit_leaf(leaf);
+            self.emit_plain(code::TAX, 0);
+            return self.emit_variable(right, cell);
         }
-        self.put(code::LD_MEM, cell);
-        self.put(code::TAX, 0);
-        self.variable(right, cell + 1)?;
+        self.emit_plain(code::LD_MEM, cell);
+        self.emit_plain(code::TAX, 0);
+        self.emit_variable(right, cell + 1)?;
         self.room(1)?;
-        self.put(code::ST, cell);
-        self.variable(left, cell)
+        self.emit_plain(code::ST, cell);
+        self.emit_variable(left, cell)
     }
 }

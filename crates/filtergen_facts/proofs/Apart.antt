@@ -15,7 +15,7 @@ use Rattle.filtergen_facts.specs.declared.lists.Sides.TheVariants as sides
 use Rattle.filtergen_facts.specs.declared.lists.ListKind.{ListKind}
 use Rattle.filtergen_facts.specs.declared.lists.ValueRange.{ValueRange}
 use Rattle.filtergen_facts.specs.declared.lists.Member.{Member}
-use Rattle.filtergen_facts.specs.Lists.{direction_of, in_span, of_any_type, form_test, kind_test, member_test, IsBroader, Reaches, IsAnswered, Covers, Settles, IsApart, Commute, AreApart, AreFreeBehind}
+use Rattle.filtergen_facts.specs.Lists.{direction_of, in_range, of_any_type, form_test, kind_test, member_test, IsBroader, Reaches, IsAnswered, Covers, Settles, IsApart, Commute, AreApart, AreFreeAfter}
 use Rattle.filtergen_facts.proofs.Members.{equal-true}
 use Rattle.filtergen_facts.proofs.Settling.{AreSettled, is-there, answered-decided, answered-either, settled-net, covers-broader}
 
@@ -39,28 +39,28 @@ source-there : (f g : ℕ → Bool) (c : List ℕ) → check f (number_at c 30 4
 source-there f g c is = let whole = is-there f c 30 4 is in rw (number-some c 26 4 (omega arith)) (answered-decided (g _))
 
 addresses-reached : (s s' : Sides) (m m' : ℕ) (p : Packet) → Reaches s s'
-    → AreSettled (λ x. by_direction (direction_of s) (in_span x m 26) (in_span x m 30) p) (λ x. by_direction (direction_of s') (in_span x m' 26) (in_span x m' 30) p)
+    → AreSettled (λ x. by_direction (direction_of s) (in_range x m 26) (in_range x m 30) p) (λ x. by_direction (direction_of s') (in_range x m' 26) (in_range x m' 30) p)
 addresses-reached sides.Source s' m m' p reaches = settled-net sides.Source s' m m' 26 30 p reaches
 addresses-reached sides.Either s' m m' p reaches = settled-net sides.Either s' m m' 26 30 p reaches
 addresses-reached sides.Destination sides.Source m m' p reaches = λ x y is. source-there _ _ p.captured is
 addresses-reached sides.Destination sides.Destination m m' p reaches = settled-net sides.Destination sides.Destination m m' 26 30 p tt
 addresses-reached sides.Destination sides.Either m m' p reaches = λ x y is.
-    answered-either (in_span y m' 26 p) (in_span y m' 30 p) (source-there _ _ p.captured is) (settled-net sides.Destination sides.Destination m m' 26 30 p tt x y is)
+    answered-either (in_range y m' 26 p) (in_range y m' 30 p) (source-there _ _ p.captured is) (settled-net sides.Destination sides.Destination m m' 26 30 p tt x y is)
 
 net-apart : (s s' : Sides) (m m' : ℕ) (p : Packet) (x y z : ValueRange) → Reaches s s'
-    → and_then (is_type 0x0800 p) (by_direction (direction_of s) (in_span x m 26) (in_span x m 30) p) ≡ No
-    → of_any_type (by_direction (direction_of s') (in_span y m' 26) (in_span y m' 30)) (by_direction (direction_of s') (in_span y m' 28) (in_span y m' 38)) p ≡ Abort
-    → and_then (is_type 0x0800 p) (by_direction (direction_of s) (in_span z m 26) (in_span z m 30) p) ≡ No
+    → and_then (is_type 0x0800 p) (by_direction (direction_of s) (in_range x m 26) (in_range x m 30) p) ≡ No
+    → of_any_type (by_direction (direction_of s') (in_range y m' 26) (in_range y m' 30)) (by_direction (direction_of s') (in_range y m' 28) (in_range y m' 38)) p ≡ Abort
+    → and_then (is_type 0x0800 p) (by_direction (direction_of s) (in_range z m 26) (in_range z m 30) p) ≡ No
 net-apart s s' m m' p x y z reaches none aborts =
-    guarded (is_type 0x0800 p) (by_direction (direction_of s) (in_span x m 26) (in_span x m 30) p) (by_direction (direction_of s) (in_span z m 26) (in_span z m 30) p)
+    guarded (is_type 0x0800 p) (by_direction (direction_of s) (in_range x m 26) (in_range x m 30) p) (by_direction (direction_of s) (in_range z m 26) (in_range z m 30) p)
     (λ is last. never ip (addresses-reached s s' m m' p reaches x y last) (sym (of_ip is) ∙ aborts))
     none
   where
     ip : Verdict
-    ip = by_direction (direction_of s') (in_span y m' 26) (in_span y m' 30) p
+    ip = by_direction (direction_of s') (in_range y m' 26) (in_range y m' 30) p
 
     arp : Verdict
-    arp = by_direction (direction_of s') (in_span y m' 28) (in_span y m' 38) p
+    arp = by_direction (direction_of s') (in_range y m' 28) (in_range y m' 38) p
 
     of_ip : is_type 0x0800 p ≡ Yes → or_else (or_else (and_then (is_type 0x0800 p) ip) (and_then (is_type 0x0806 p) arp)) (and_then (is_type 0x8035 p) arp) ≡ or_else (or_else ip No) No
     of_ip is =
@@ -111,16 +111,16 @@ commute-turned Abort No commutes = tt
 commute-turned Abort Abort commutes = tt
 
 -- members that are all answered
-pub settled-free : (chain : Chain) (left : Option Tree) (first : Member) (others : List Member) → All (λ m. Settles chain left first m.kind) others → AreFreeBehind chain left first others
+pub settled-free : (chain : Chain) (left : Option Tree) (first : Member) (others : List Member) → All (λ m. Settles chain left first m.kind) others → AreFreeAfter chain left first others
 settled-free chain left first others settled = record {
   free = λ p passes none m n in_m in_n.
       let each : (o : Member) → Contains others o → IsAnswered (member_test o p) = λ o inside.
-      (All-contains (λ k. Settles chain left first k.kind) others o settled inside).answered p passes none o.span in
+      (All-contains (λ k. Settles chain left first k.kind) others o settled inside).answered p passes none o.range in
       inr (answered-commute (member_test m p) (member_test n p) (each m in_m) (λ aborts. absurd (subst IsAnswered aborts (each n in_n))));
 }
 
 -- members of two kinds, of which those of the first one are answered, and No where the others abort
-pub apart-free : (chain : Chain) (left : Option Tree) (first : Member) (others : List Member) → AreApart first.kind others → AreFreeBehind chain left first others
+pub apart-free : (chain : Chain) (left : Option Tree) (first : Member) (others : List Member) → AreApart first.kind others → AreFreeAfter chain left first others
 apart-free chain left first others apart = record {
   free = λ p passes none m n in_m in_n. by_kinds p none m n (kind_of m in_m) (kind_of n in_n);
 }
@@ -131,10 +131,10 @@ apart-free chain left first others apart = record {
     commutes : (p : Packet) → member_test first p ≡ No → (m n : Member) → m.kind ≡ first.kind → n.kind ≡ apart.other → Commute (member_test m p) (member_test n p)
     commutes p none m n own other =
         answered-commute (member_test m p) (member_test n p)
-        (subst (λ (k : ListKind). IsAnswered (kind_test k m.span p)) (sym own) ((covers-itself first.kind).answered p first.span m.span none))
+        (subst (λ (k : ListKind). IsAnswered (kind_test k m.range p)) (sym own) ((covers-itself first.kind).answered p first.range m.range none))
         (λ aborts.
-        ap (λ (k : ListKind). kind_test k m.span p) own
-        ∙ apart.apart.apart p first.span n.span m.span none (sym (ap (λ (k : ListKind). kind_test k n.span p) other) ∙ aborts))
+        ap (λ (k : ListKind). kind_test k m.range p) own
+        ∙ apart.apart.apart p first.range n.range m.range none (sym (ap (λ (k : ListKind). kind_test k n.range p) other) ∙ aborts))
 
     by_kinds : (p : Packet) → member_test first p ≡ No → (m n : Member) → (m.kind ≡ first.kind) ⊎ (m.kind ≡ apart.other) → (n.kind ≡ first.kind) ⊎ (n.kind ≡ apart.other)
         → (m.kind ≡ n.kind) ⊎ Commute (member_test m p) (member_test n p)

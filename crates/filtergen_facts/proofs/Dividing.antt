@@ -11,8 +11,8 @@ use Rattle.filtergen_facts.specs.declared.lists.Form.TheVariants as forms
 use Rattle.filtergen_facts.specs.declared.lists.ListKind.{ListKind}
 use Rattle.filtergen_facts.specs.declared.lists.ValueRange.{ValueRange}
 use Rattle.filtergen_facts.specs.declared.lists.Member.{Member}
-use Rattle.filtergen_facts.specs.Lists.{any_of, kind_test, member_test, IsMember, Commute, AreFree, IsAlone, Divides, LeavesOut, Groups, weighed}
-use Rattle.filtergen_facts.proofs.Members.{any-first, or-assoc, weight-append, weighed-more}
+use Rattle.filtergen_facts.specs.Lists.{any_of, kind_test, member_test, IsMember, Commute, AreFree, IsAlone, Divides, LeavesOut, Groups, list_weight}
+use Rattle.filtergen_facts.proofs.Members.{any-first, or-assoc, weight-append, list_weight-more}
 use Rattle.filtergen_facts.proofs.Settling.{both-no}
 
 -- answers that may change places
@@ -48,36 +48,36 @@ free-before ms m p free a b first second = free a b (Contains-append_left ms (m 
 members-before : (ms : List Member) (m : Member) → All IsMember (ms ++ (m ∷ [])) → All IsMember ms × IsMember m
 members-before ms m all = All-pop IsMember (ms ++ (m ∷ [])) ms (Some m) refl all
 
-spans-length : (xs : List ValueRange) (x : ValueRange) → length (xs ++ (x ∷ [])) ≡ length xs + 1
-spans-length xs x = length-append xs (x ∷ [])
+ranges-length : (xs : List ValueRange) (x : ValueRange) → length (xs ++ (x ∷ [])) ≡ length xs + 1
+ranges-length xs x = length-append xs (x ∷ [])
 
 members-length : (ms : List Member) (m : Member) → length (ms ++ (m ∷ [])) ≡ length ms + 1
 members-length ms m = length-append ms (m ∷ [])
 
 -- one span alone has nothing in front of it
-alone-pushed : (kind : ListKind) (m : Member) (xs : List ValueRange) → m.kind ≡ kind → IsMember m → IsAlone kind m.primitive (xs ++ (m.span ∷ []))
+alone-pushed : (kind : ListKind) (m : Member) (xs : List ValueRange) → m.kind ≡ kind → IsMember m → IsAlone kind m.primitive (xs ++ (m.range ∷ []))
 alone-pushed kind m [] is member x same =
-    let first : m.span ≡ x = ap (λ (l : List ValueRange). get_or l 0 m.span) same in
-    subst (λ (k : ListKind). IsMember (record { kind = k; span = x; primitive = m.primitive })) is
-    (subst (λ (y : ValueRange). IsMember (record { kind = m.kind; span = y; primitive = m.primitive })) first member)
+    let first : m.range ≡ x = ap (λ (l : List ValueRange). get_or l 0 m.range) same in
+    subst (λ (k : ListKind). IsMember (record { kind = k; range = x; primitive = m.primitive })) is
+    (subst (λ (y : ValueRange). IsMember (record { kind = m.kind; range = y; primitive = m.primitive })) first member)
 alone-pushed kind m (y ∷ xs) is member x same =
-    let long : length (y ∷ (xs ++ (m.span ∷ []))) ≡ 1 = ap length same in
-    absurd (omega (arith, long, spans-length xs m.span))
+    let long : length (y ∷ (xs ++ (m.range ∷ []))) ≡ 1 = ap length same in
+    absurd (omega (arith, long, ranges-length xs m.range))
 
-weighed-none : (f : Form) → weighed f 0 ≡ 0
-weighed-none forms.Net = refl
-weighed-none forms.IpNet = refl
-weighed-none forms.ArpNet = refl
-weighed-none forms.RarpNet = refl
-weighed-none forms.Ports = refl
-weighed-none forms.TcpPorts = refl
-weighed-none forms.UdpPorts = refl
-weighed-none forms.SctpPorts = refl
-weighed-none forms.TcpOrUdpPorts = refl
-weighed-none forms.IpProto = refl
-weighed-none forms.EtherProto = refl
-weighed-none forms.EtherHost = refl
-weighed-none forms.Bytes = refl
+list_weight-none : (f : Form) → list_weight f 0 ≡ 0
+list_weight-none forms.Net = refl
+list_weight-none forms.IpNet = refl
+list_weight-none forms.ArpNet = refl
+list_weight-none forms.RarpNet = refl
+list_weight-none forms.Ports = refl
+list_weight-none forms.TcpPorts = refl
+list_weight-none forms.UdpPorts = refl
+list_weight-none forms.SctpPorts = refl
+list_weight-none forms.TcpOrUdpPorts = refl
+list_weight-none forms.IpProto = refl
+list_weight-none forms.EtherProto = refl
+list_weight-none forms.EtherHost = refl
+list_weight-none forms.Bytes = refl
 
 pub divides-none : (kind : ListKind) → Divides kind [] [] []
 divides-none kind = record {
@@ -85,33 +85,33 @@ divides-none kind = record {
   commutes = λ p v each. commute-none v;
   among = λ m inside. inside;
   members = λ members. members;
-  weighs = let none = weighed-none kind.form in omega (arith, none);
+  weighs = let none = list_weight-none kind.form in omega (arith, none);
   together = refl;
 }
 
-weighed-pushed : (kind : ListKind) (xs : List ValueRange) (x : ValueRange) → weighed kind.form (length (xs ++ (x ∷ []))) ≡ weighed kind.form (length xs) + weighed kind.form 1
-weighed-pushed kind xs x = ap (weighed kind.form) (spans-length xs x) ∙ weighed-more kind.form (length xs)
+list_weight-pushed : (kind : ListKind) (xs : List ValueRange) (x : ValueRange) → list_weight kind.form (length (xs ++ (x ∷ []))) ≡ list_weight kind.form (length xs) + list_weight kind.form 1
+list_weight-pushed kind xs x = ap (list_weight kind.form) (ranges-length xs x) ∙ list_weight-more kind.form (length xs)
 
 -- one more of the kind
 pub divides-this : (kind : ListKind) (m : Member) (ms : List Member) (xs : List ValueRange) (os : List Member) → m.kind ≡ kind → Divides kind ms xs os
-    → Divides kind (ms ++ (m ∷ [])) (xs ++ (m.span ∷ [])) os
+    → Divides kind (ms ++ (m ∷ [])) (xs ++ (m.range ∷ [])) os
 divides-this kind m ms xs os is d = record {
   same = λ p free.
       any-first member_test p m ms
       ∙ ap (or_else (member_test m p)) (d.same p (free-before ms m p free))
       ∙ sym (or-assoc (member_test m p) (any_of (kind_test kind) xs p) (any_of member_test os p))
-      ∙ ap (λ v. or_else v (any_of member_test os p)) (ap (λ (k : ListKind). or_else (kind_test k m.span p) (any_of (kind_test kind) xs p)) is ∙ sym (any-first (kind_test kind) p m.span xs));
+      ∙ ap (λ v. or_else v (any_of member_test os p)) (ap (λ (k : ListKind). or_else (kind_test k m.range p) (any_of (kind_test kind) xs p)) is ∙ sym (any-first (kind_test kind) p m.range xs));
   commutes = λ p v each.
-      subst (Commute v) (sym (any-first (kind_test kind) p m.span xs))
-      (commute-either v (kind_test kind m.span p) (any_of (kind_test kind) xs p)
-      (subst (λ (k : ListKind). Commute v (kind_test k m.span p)) is (each m (Contains-push ms m) is))
+      subst (Commute v) (sym (any-first (kind_test kind) p m.range xs))
+      (commute-either v (kind_test kind m.range p) (any_of (kind_test kind) xs p)
+      (subst (λ (k : ListKind). Commute v (kind_test k m.range p)) is (each m (Contains-push ms m) is))
       (d.commutes p v (λ n inside. each n (Contains-append_left ms (m ∷ []) n inside))));
   among = λ n inside. Contains-append_left ms (m ∷ []) n (d.among n inside);
   members = λ members. d.members (members-before ms m members).0;
   weighs =
-      let one : weighed m.kind.form 1 ≡ weighed kind.form 1 = ap (λ (k : ListKind). weighed k.form 1) is in
-      omega (arith, d.weighs, one, weighed-pushed kind xs m.span, weight-append ms m);
-  together = omega (arith, d.together, spans-length xs m.span, members-length ms m);
+      let one : list_weight m.kind.form 1 ≡ list_weight kind.form 1 = ap (λ (k : ListKind). list_weight k.form 1) is in
+      omega (arith, d.weighs, one, list_weight-pushed kind xs m.range, weight-append ms m);
+  together = omega (arith, d.together, ranges-length xs m.range, members-length ms m);
 }
 
 -- one more of the others
@@ -142,7 +142,7 @@ divides-other kind m ms xs os other d = record {
     by_push n (inr is) = subst (Contains (ms ++ (m ∷ []))) is (Contains-push ms m)
 
 -- the first member is asked before all
-pub groups-with : (first : Member) (all : List Member) (xs ys : List ValueRange) (os qs : List Member) → Divides first.kind all xs os → ys ≡ xs ++ (first.span ∷ []) → LeavesOut first.kind ys os qs
+pub groups-with : (first : Member) (all : List Member) (xs ys : List ValueRange) (os qs : List Member) → Divides first.kind all xs os → ys ≡ xs ++ (first.range ∷ []) → LeavesOut first.kind ys os qs
     → Groups first all first.kind ys qs
 groups-with first all xs ys os qs d is leaves = record {
   same = λ p settled.
@@ -156,14 +156,14 @@ groups-with first all xs ys os qs d is leaves = record {
   alone = λ member. rw is (alone-pushed first.kind first xs refl member);
   members = λ members. leaves.members (d.members members);
   weighs =
-      let more : weighed first.kind.form (length ys) ≡ weighed first.kind.form (length xs) + weighed first.kind.form 1 = ap (λ (l : List ValueRange). weighed first.kind.form (length l)) is ∙ weighed-pushed first.kind xs first.span in
+      let more : list_weight first.kind.form (length ys) ≡ list_weight first.kind.form (length xs) + list_weight first.kind.form 1 = ap (λ (l : List ValueRange). list_weight first.kind.form (length l)) is ∙ list_weight-pushed first.kind xs first.range in
       omega (arith, d.weighs, leaves.weighs, more);
-  some = let long : length ys ≡ length xs + 1 = ap length is ∙ spans-length xs first.span in omega (arith, long);
+  some = let long : length ys ≡ length xs + 1 = ap length is ∙ ranges-length xs first.range in omega (arith, long);
   fewer = omega (arith, d.together, leaves.fewer);
 }
   where
     pushed : (p : Packet) → any_of (kind_test first.kind) ys p ≡ or_else (member_test first p) (any_of (kind_test first.kind) xs p)
-    pushed p = ap (λ (l : List ValueRange). any_of (kind_test first.kind) l p) is ∙ any-first (kind_test first.kind) p first.span xs
+    pushed p = ap (λ (l : List ValueRange). any_of (kind_test first.kind) l p) is ∙ any-first (kind_test first.kind) p first.range xs
 
     by_first : (p : Packet) (v : Verdict) → (v ≡ No → any_of member_test all p ≡ or_else (any_of (kind_test first.kind) xs p) (any_of member_test os p))
         → or_else v (any_of member_test all p) ≡ or_else v (or_else (any_of (kind_test first.kind) xs p) (any_of member_test os p))
@@ -178,7 +178,7 @@ groups-with first all xs ys os qs d is leaves = record {
 
 -- by the index of a loop
 pub divides-more : (kind : ListKind) (items : List Member) (i : ℕ) (d : Member) (xs ys : List ValueRange) (os : List Member) → i < length items → (get_or items i d).kind ≡ kind
-    → ys ≡ xs ++ ((get_or items i d).span ∷ []) → Divides kind (take i items) xs os → Divides kind (take (i + 1) items) ys os
+    → ys ≡ xs ++ ((get_or items i d).range ∷ []) → Divides kind (take i items) xs os → Divides kind (take (i + 1) items) ys os
 divides-more kind items i d xs ys os inside is pushed before = rw (take_more items i d inside, pushed) (divides-this kind (get_or items i d) (take i items) xs os is before)
 
 pub divides-past : (kind : ListKind) (items : List Member) (i : ℕ) (d : Member) (xs : List ValueRange) (os qs : List Member) → i < length items

@@ -12,7 +12,7 @@ use Rattle.filtergen_facts.specs.declared.lists.Form.TheVariants as forms
 use Rattle.filtergen_facts.specs.declared.lists.ListKind.{ListKind}
 use Rattle.filtergen_facts.specs.declared.lists.ValueRange.{ValueRange}
 use Rattle.filtergen_facts.specs.declared.lists.Member.{Member}
-use Rattle.filtergen_facts.specs.Lists.{any_of, direction_of, form_test, kind_test, member_test, weighed, of_tcp_or_udp, AreJoined, AskFor, Groups, IsMember}
+use Rattle.filtergen_facts.specs.Lists.{any_of, direction_of, form_test, kind_test, member_test, list_weight, of_tcp_or_udp, AreJoined, AskFor, Groups, IsMember}
 use Rattle.filtergen_facts.proofs.Members.{equal-true, or-no}
 
 -- the same tests in other words
@@ -106,7 +106,7 @@ tcp-joined k is = record {
       ∙ ap (or_else (and_then (is_first_fragment_of 6 p) asked)) (one-guarded 17 d xs p some)
       ∙ apart-guards (is_first_fragment_of 6 p) (is_first_fragment_of 17 p) asked (tcp-apart p)
       ∙ sym (either-guarded d xs p some);
-  weighs = λ n. sym (ap (λ f. weighed f n) is);
+  weighs = λ n. sym (ap (λ f. list_weight f n) is);
 }
 
 pub udp-joined : (k : ListKind) → k.form ≡ forms.UdpPorts → AreJoined k (with_form forms.TcpPorts k) (of_tcp_or_udp k)
@@ -119,7 +119,7 @@ udp-joined k is = record {
       ∙ apart-guards (is_first_fragment_of 17 p) (is_first_fragment_of 6 p) asked (apart-turned _ _ (tcp-apart p))
       ∙ ap (λ v. and_then v asked) (sym (apart-swap (is_first_fragment_of 6 p) (is_first_fragment_of 17 p) (tcp-apart p)))
       ∙ sym (either-guarded d xs p some);
-  weighs = λ n. sym (ap (λ f. weighed f n) is);
+  weighs = λ n. sym (ap (λ f. list_weight f n) is);
 }
 
 -- members that ask for the numbers of a list are that list
@@ -129,14 +129,14 @@ asked-same kind [] (m ∷ ms) p each = absurd each
 asked-same kind (x ∷ xs) [] p each = absurd each
 asked-same kind (x ∷ xs) (m ∷ ms) p each =
     ap (λ v. or_else v (member_test m p)) (asked-same kind xs ms p each.1)
-    ∙ ap (or_else (any_of (kind_test kind) xs p)) (ap (λ (k : ListKind). kind_test k m.span p) each.0.0 ∙ ap (λ (y : ValueRange). kind_test kind y p) each.0.1)
+    ∙ ap (or_else (any_of (kind_test kind) xs p)) (ap (λ (k : ListKind). kind_test k m.range p) each.0.0 ∙ ap (λ (y : ValueRange). kind_test kind y p) each.0.1)
 
 -- by the number of turns of a loop
 pub asked-more : (kind : ListKind) (xs : List ValueRange) (ms : List Member) (i : ℕ) (x : ValueRange) (m : Member) → i < length ms → i < length xs → m ≡ get_or ms i m → x ≡ get_or xs i x
-    → m.kind ≡ kind → m.span ≡ x → AskFor kind (take i xs) (take i ms) → AskFor kind (take (i + 1) xs) (take (i + 1) ms)
+    → m.kind ≡ kind → m.range ≡ x → AskFor kind (take i xs) (take i ms) → AskFor kind (take (i + 1) xs) (take (i + 1) ms)
 asked-more kind xs ms i x m in_ms in_xs is_m is_x of_kind same before =
     rw (take_more ms i m in_ms, take_more xs i x in_xs, sym is_m, sym is_x)
-    (all_zipped_more (λ (n : Member) (y : ValueRange). (n.kind ≡ kind) × (n.span ≡ y)) (take i ms) (take i xs) m x before (of_kind, same))
+    (all_zipped_more (λ (n : Member) (y : ValueRange). (n.kind ≡ kind) × (n.range ≡ y)) (take i ms) (take i xs) m x before (of_kind, same))
 
 pub asked-all : (kind : ListKind) (xs : List ValueRange) (ms : List Member) (i : ℕ) → length ms ≤ i → length xs ≤ i → AskFor kind (take i xs) (take i ms) → AskFor kind xs ms
 asked-all kind xs ms i all_ms all_xs before = rw (take_all i ms all_ms, take_all i xs all_xs) at before

@@ -100,18 +100,18 @@ each-none t p (x ∷ xs) none =
     let both = both-no (any_of t xs p) (t x p) none in
     All-cons (λ y. t y p ≡ No) x xs both.1 (each-none t p xs both.0)
 
-pub included : (kind : ListKind) (spans : List ValueRange) (i : ℕ) (d : ValueRange) (m : Member) → Includes kind m.kind → i < length spans → (get_or spans i d).low ≤ m.span.low → m.span.high ≤ (get_or spans i d).high
-    → IsIncluded kind spans m
-included kind spans i d m includes inside low high = record {
-  none = λ p none. includes.none p (get_or spans i d) m.span low high (each-none (kind_test kind) p spans none i d inside);
+pub included : (kind : ListKind) (ranges : List ValueRange) (i : ℕ) (d : ValueRange) (m : Member) → Includes kind m.kind → i < length ranges → (get_or ranges i d).low ≤ m.range.low → m.range.high ≤ (get_or ranges i d).high
+    → IsIncluded kind ranges m
+included kind ranges i d m includes inside low high = record {
+  none = λ p none. includes.none p (get_or ranges i d) m.range low high (each-none (kind_test kind) p ranges none i d inside);
 }
 
-pub leaves-all : (kind : ListKind) (spans : List ValueRange) (ms : List Member) → LeavesOut kind spans ms ms
-leaves-all kind spans ms = record { same = λ p none. refl; among = λ m inside. inside; members = λ members. members; weighs = omega arith; fewer = omega arith }
+pub leaves-all : (kind : ListKind) (ranges : List ValueRange) (ms : List Member) → LeavesOut kind ranges ms ms
+leaves-all kind ranges ms = record { same = λ p none. refl; among = λ m inside. inside; members = λ members. members; weighs = omega arith; fewer = omega arith }
 
 -- one that stays
-pub leaves-this : (kind : ListKind) (spans : List ValueRange) (m : Member) (ms os : List Member) → LeavesOut kind spans ms os → LeavesOut kind spans (ms ++ (m ∷ [])) (os ++ (m ∷ []))
-leaves-this kind spans m ms os d = record {
+pub leaves-this : (kind : ListKind) (ranges : List ValueRange) (m : Member) (ms os : List Member) → LeavesOut kind ranges ms os → LeavesOut kind ranges (ms ++ (m ∷ [])) (os ++ (m ∷ []))
+leaves-this kind ranges m ms os d = record {
   same = λ p none. any-first member_test p m ms ∙ ap (or_else (member_test m p)) (d.same p none) ∙ sym (any-first member_test p m os);
   among = λ n inside. by_push n (Contains-push_cases os m n inside);
   members = λ members. let before = All-pop IsMember (ms ++ (m ∷ [])) ms (Some m) refl members in All-push IsMember os m (d.members before.0) before.1;
@@ -124,8 +124,8 @@ leaves-this kind spans m ms os d = record {
     by_push n (inr is) = subst (Contains (ms ++ (m ∷ []))) is (Contains-push ms m)
 
 -- one that is left out
-pub leaves-out : (kind : ListKind) (spans : List ValueRange) (m : Member) (ms os : List Member) → IsIncluded kind spans m → LeavesOut kind spans ms os → LeavesOut kind spans (ms ++ (m ∷ [])) os
-leaves-out kind spans m ms os is d = record {
+pub leaves-out : (kind : ListKind) (ranges : List ValueRange) (m : Member) (ms os : List Member) → IsIncluded kind ranges m → LeavesOut kind ranges ms os → LeavesOut kind ranges (ms ++ (m ∷ [])) os
+leaves-out kind ranges m ms os is d = record {
   same = λ p none. any-first member_test p m ms ∙ ap (λ v. or_else v (any_of member_test ms p)) (is.none p none) ∙ d.same p none;
   among = λ n inside. Contains-append_left ms (m ∷ []) n (d.among n inside);
   members = λ members. d.members (All-pop IsMember (ms ++ (m ∷ [])) ms (Some m) refl members).0;
@@ -134,10 +134,10 @@ leaves-out kind spans m ms os is d = record {
 }
 
 -- by the index of a loop
-pub leaves-more : (kind : ListKind) (spans : List ValueRange) (items : List Member) (i : ℕ) (d : Member) (os qs : List Member) → i < length items
-    → qs ≡ os ++ (get_or items i d ∷ []) → LeavesOut kind spans (take i items) os → LeavesOut kind spans (take (i + 1) items) qs
-leaves-more kind spans items i d os qs inside pushed before = rw (take_more items i d inside, pushed) (leaves-this kind spans (get_or items i d) (take i items) os before)
+pub leaves-more : (kind : ListKind) (ranges : List ValueRange) (items : List Member) (i : ℕ) (d : Member) (os qs : List Member) → i < length items
+    → qs ≡ os ++ (get_or items i d ∷ []) → LeavesOut kind ranges (take i items) os → LeavesOut kind ranges (take (i + 1) items) qs
+leaves-more kind ranges items i d os qs inside pushed before = rw (take_more items i d inside, pushed) (leaves-this kind ranges (get_or items i d) (take i items) os before)
 
-pub leaves-past : (kind : ListKind) (spans : List ValueRange) (items : List Member) (i : ℕ) (d : Member) (os : List Member) → i < length items
-    → IsIncluded kind spans (get_or items i d) → LeavesOut kind spans (take i items) os → LeavesOut kind spans (take (i + 1) items) os
-leaves-past kind spans items i d os inside is before = rw (take_more items i d inside) (leaves-out kind spans (get_or items i d) (take i items) os is before)
+pub leaves-past : (kind : ListKind) (ranges : List ValueRange) (items : List Member) (i : ℕ) (d : Member) (os : List Member) → i < length items
+    → IsIncluded kind ranges (get_or items i d) → LeavesOut kind ranges (take i items) os → LeavesOut kind ranges (take (i + 1) items) os
+leaves-past kind ranges items i d os inside is before = rw (take_more items i d inside) (leaves-out kind ranges (get_or items i d) (take i items) os is before)

@@ -29,7 +29,7 @@ use Rattle.filtergen_facts.specs.declared.lists.ListKind.{ListKind}
 use Rattle.filtergen_facts.specs.declared.lists.ValueRange.{ValueRange}
 use Rattle.filtergen_facts.specs.Weights.{weight}
 use Rattle.filtergen_facts.specs.declared.lists.Member.{Member}
-use Rattle.filtergen_facts.specs.Lists.{any_of, in_span, has_tail, net_form, ports_form, bytes_test, form_test, member_test, members_weight, IsMember, chained, turned, left_chained, weighed, AreFreeBehind, Takes, EndsIn}
+use Rattle.filtergen_facts.specs.Lists.{any_of, in_range, has_tail, net_form, ports_form, bytes_test, form_test, member_test, members_weight, IsMember, chained, turned, left_chained, list_weight, AreFreeAfter, Takes, EndsIn}
 
 pub equal-true : (m n : ℕ) → (m == n) ≡ true → m ≡ n
 equal-true m n is = grind (arith, nat_tests)
@@ -75,18 +75,18 @@ number-member n (Some b) = ap decided (within-one n n b refl)
 pub protocol-member : (n : ℕ) (p : Packet) → is_protocol n p ≡ and_test (is_type 0x0800) (λ q. check (within n n) (byte 23 q)) p
 protocol-member n p = ap (and_then (is_type 0x0800 p)) (number-member n (byte 23 p))
 
-address-member : (a m o : ℕ) (p : Packet) → has_address a m o p ≡ in_span (span_of a) m o p
+address-member : (a m o : ℕ) (p : Packet) → has_address a m o p ≡ in_range (span_of a) m o p
 address-member a m o p = by_value (word o p)
   where
     by_value : (v : Option ℕ) → check (λ w. bit_and w m == a) v ≡ check (λ w. within a a (bit_and w m)) v
     by_value None = refl
     by_value (Some w) = ap decided (within-one a a (bit_and w m) refl)
 
-addresses-member : (d : Direction) (a m o o' : ℕ) (p : Packet) → by_direction d (has_address a m o) (has_address a m o') p ≡ by_direction d (in_span (span_of a) m o) (in_span (span_of a) m o') p
+addresses-member : (d : Direction) (a m o o' : ℕ) (p : Packet) → by_direction d (has_address a m o) (has_address a m o') p ≡ by_direction d (in_range (span_of a) m o) (in_range (span_of a) m o') p
 addresses-member Src a m o o' p = address-member a m o p
 addresses-member Dst a m o o' p = address-member a m o' p
-addresses-member SrcOrDst a m o o' p = ap (λ v. or_else v (has_address a m o' p)) (address-member a m o p) ∙ ap (or_else (in_span (span_of a) m o p)) (address-member a m o' p)
-addresses-member SrcAndDst a m o o' p = ap (λ v. and_then v (has_address a m o' p)) (address-member a m o p) ∙ ap (and_then (in_span (span_of a) m o p)) (address-member a m o' p)
+addresses-member SrcOrDst a m o o' p = ap (λ v. or_else v (has_address a m o' p)) (address-member a m o p) ∙ ap (or_else (in_range (span_of a) m o p)) (address-member a m o' p)
+addresses-member SrcAndDst a m o o' p = ap (λ v. and_then v (has_address a m o' p)) (address-member a m o p) ∙ ap (and_then (in_range (span_of a) m o p)) (address-member a m o' p)
 
 pub net-member : (network : Option Network) (d : Direction) (a m h : ℕ) (b : Bytes) (p : Packet) → in_any_net network d a m p ≡ form_test (net_form network) d m h b (span_of a) p
 net-member (Some networks.Ip) d a m h b p = ap (and_then (is_type 0x0800 p)) (addresses-member d a m 26 30 p)
@@ -94,7 +94,7 @@ net-member (Some networks.Arp) d a m h b p = ap (and_then (is_type 0x0806 p)) (a
 net-member (Some networks.Rarp) d a m h b p = ap (and_then (is_type 0x8035 p)) (addresses-member d a m 28 38 p)
 net-member None d a m h b p =
     ap (λ v. of_types v (by_direction d (has_address a m 28) (has_address a m 38) p)) (addresses-member d a m 26 30 p)
-    ∙ ap (of_types (by_direction d (in_span (span_of a) m 26) (in_span (span_of a) m 30) p)) (addresses-member d a m 28 38 p)
+    ∙ ap (of_types (by_direction d (in_range (span_of a) m 26) (in_range (span_of a) m 30) p)) (addresses-member d a m 28 38 p)
   where
     of_types : Verdict → Verdict → Verdict
     of_types v w = or_else (or_else (and_then (is_type 0x0800 p) v) (and_then (is_type 0x0806 p) w)) (and_then (is_type 0x8035 p) w)
@@ -190,23 +190,23 @@ bytes-same b c layer index size =
     ap (λ l. bytes-at l b.index b.size) layer ∙ ap (λ i. bytes-at c.layer i b.size) index ∙ ap (bytes-at c.layer c.index) size
 
 -- one member more
-pub weighed-more : (f : Form) (n : ℕ) → weighed f (n + 1) ≡ weighed f n + weighed f 1
-weighed-more forms.Net n = omega arith
-weighed-more forms.IpNet n = omega arith
-weighed-more forms.ArpNet n = omega arith
-weighed-more forms.RarpNet n = omega arith
-weighed-more forms.Ports n = omega arith
-weighed-more forms.TcpPorts n = omega arith
-weighed-more forms.UdpPorts n = omega arith
-weighed-more forms.SctpPorts n = omega arith
-weighed-more forms.TcpOrUdpPorts n = omega arith
-weighed-more forms.IpProto n = omega arith
-weighed-more forms.EtherProto n = omega arith
-weighed-more forms.EtherHost n = omega arith
-weighed-more forms.Bytes n = omega arith
+pub list_weight-more : (f : Form) (n : ℕ) → list_weight f (n + 1) ≡ list_weight f n + list_weight f 1
+list_weight-more forms.Net n = omega arith
+list_weight-more forms.IpNet n = omega arith
+list_weight-more forms.ArpNet n = omega arith
+list_weight-more forms.RarpNet n = omega arith
+list_weight-more forms.Ports n = omega arith
+list_weight-more forms.TcpPorts n = omega arith
+list_weight-more forms.UdpPorts n = omega arith
+list_weight-more forms.SctpPorts n = omega arith
+list_weight-more forms.TcpOrUdpPorts n = omega arith
+list_weight-more forms.IpProto n = omega arith
+list_weight-more forms.EtherProto n = omega arith
+list_weight-more forms.EtherHost n = omega arith
+list_weight-more forms.Bytes n = omega arith
 
 -- a primitive weighs no less
-pub weighed_one : (f : Form) → weighed f 1 ≤ 40
+pub weighed_one : (f : Form) → list_weight f 1 ≤ 40
 weighed_one forms.Net = omega arith
 weighed_one forms.IpNet = omega arith
 weighed_one forms.ArpNet = omega arith
@@ -221,19 +221,19 @@ weighed_one forms.EtherProto = omega arith
 weighed_one forms.EtherHost = omega arith
 weighed_one forms.Bytes = omega arith
 
-pub weighed-net : (network : Option Network) → weighed (net_form network) 1 ≡ 40
-weighed-net None = refl
-weighed-net (Some networks.Ip) = refl
-weighed-net (Some networks.Arp) = refl
-weighed-net (Some networks.Rarp) = refl
+pub list_weight-net : (network : Option Network) → list_weight (net_form network) 1 ≡ 40
+list_weight-net None = refl
+list_weight-net (Some networks.Ip) = refl
+list_weight-net (Some networks.Arp) = refl
+list_weight-net (Some networks.Rarp) = refl
 
-pub weighed-ports : (transport : Option Transport) → weighed (ports_form transport) 1 ≡ 40
-weighed-ports None = refl
-weighed-ports (Some transports.Tcp) = refl
-weighed-ports (Some transports.Udp) = refl
-weighed-ports (Some transports.Sctp) = refl
+pub list_weight-ports : (transport : Option Transport) → list_weight (ports_form transport) 1 ≡ 40
+list_weight-ports None = refl
+list_weight-ports (Some transports.Tcp) = refl
+list_weight-ports (Some transports.Udp) = refl
+list_weight-ports (Some transports.Sctp) = refl
 
-pub weight-append : (ms : List Member) (m : Member) → members_weight (ms ++ (m ∷ [])) ≡ members_weight ms + weighed m.kind.form 1
+pub weight-append : (ms : List Member) (m : Member) → members_weight (ms ++ (m ∷ [])) ≡ members_weight ms + list_weight m.kind.form 1
 weight-append [] m = omega arith
 weight-append (n ∷ ms) m = let more = weight-append ms m in omega (arith, more)
 
@@ -242,7 +242,7 @@ left-same c None t u p same = same
 left-same c (Some w) t u p same = ap (chained c (meaning w p)) same
 
 -- one more member
-pub takes-one : (chain : Chain) (t : Tree) (m : Member) (old new : List Member) → ((p : Packet) → meaning t p ≡ turned chain (member_test m p)) → weighed m.kind.form 1 ≤ weight t
+pub takes-one : (chain : Chain) (t : Tree) (m : Member) (old new : List Member) → ((p : Packet) → meaning t p ≡ turned chain (member_test m p)) → list_weight m.kind.form 1 ≤ weight t
     → IsMember m → new ≡ old ++ (m ∷ []) → Takes chain t None old new
 takes-one chain t m old new same weighs member is = record {
   same = λ p.
@@ -252,7 +252,7 @@ takes-one chain t m old new same weighs member is = record {
       ∙ sym (ap (λ l. turned chain (any_of member_test l p)) is);
   members = λ before. All-same IsMember new _ is (All-push IsMember old m before member);
   weighs =
-      let more : members_weight new ≡ members_weight old + weighed m.kind.form 1 = ap members_weight is ∙ weight-append old m in
+      let more : members_weight new ≡ members_weight old + list_weight m.kind.form 1 = ap members_weight is ∙ weight-append old m in
       omega (arith, weighs, more);
   smaller = omega arith;
   needs = omega arith;
@@ -300,17 +300,17 @@ takes-negated t u left old mid new right others = record {
 
 -- the right operand, and what has become of the left one
 pub ends-in : (chain : Chain) (t u : Tree) (left : Option Tree) (first : Member) (one all others : List Member) → Takes chain u None [] one → Takes chain t left one all
-    → all ≡ others ++ (first ∷ []) → length others < 512 → AreFreeBehind chain left first others → EndsIn chain t u left first others
-ends-in chain t u left first one all others right takes is short behind = record {
+    → all ≡ others ++ (first ∷ []) → length others < 512 → AreFreeAfter chain left first others → EndsIn chain t u left first others
+ends-in chain t u left first one all others right takes is short free_after = record {
   is_first = (All-pop IsMember all others (Some first) is members).1;
   are_others = (All-pop IsMember all others (Some first) is members).0;
   same = λ p.
       ap (chained chain (meaning t p)) (chained-none (meaning u p) ∙ right.same p)
       ∙ takes.same p
       ∙ left-same chain left _ _ p (ap (turned chain) (ap (λ l. any_of member_test l p) is ∙ any-first member_test p first others));
-  behind = behind;
+  free_after = free_after;
   weighs =
-      let whole : members_weight all ≡ members_weight others + weighed first.kind.form 1 = ap members_weight is ∙ weight-append others first in
+      let whole : members_weight all ≡ members_weight others + list_weight first.kind.form 1 = ap members_weight is ∙ weight-append others first in
       omega (arith, right.weighs, takes.weighs, whole);
   smaller = takes.smaller;
   needs = takes.needs;

@@ -29,11 +29,11 @@ third-of f g No u v w first second = refl
 third-of f g Abort u v w first second = refl
 
 -- a packet has one type
-pub net-narrowed : (word : Plain) (d : Direction) (a m : ℕ) (p : Packet) → IfSome (network_of word) (λ n. and_then (plain_test word p) (in_any_net None d a m p) ≡ in_any_net (Some n) d a m p)
-net-narrowed words.Ip d a m p = first-of _ _ _ _ _ _ (other-number 0x0800 0x0806 (half 12 p) refl) (other-number 0x0800 0x8035 (half 12 p) refl)
-net-narrowed words.Arp d a m p = second-of _ _ _ _ _ _ (other-number 0x0806 0x0800 (half 12 p) refl) (other-number 0x0806 0x8035 (half 12 p) refl)
-net-narrowed words.Rarp d a m p = third-of _ _ _ _ _ _ (other-number 0x8035 0x0800 (half 12 p) refl) (other-number 0x8035 0x0806 (half 12 p) refl)
-net-narrowed other d a m p = tt
+pub net-with_fact : (word : Plain) (d : Direction) (a m : ℕ) (p : Packet) → IfSome (network_of word) (λ n. and_then (plain_test word p) (in_any_net None d a m p) ≡ in_any_net (Some n) d a m p)
+net-with_fact words.Ip d a m p = first-of _ _ _ _ _ _ (other-number 0x0800 0x0806 (half 12 p) refl) (other-number 0x0800 0x8035 (half 12 p) refl)
+net-with_fact words.Arp d a m p = second-of _ _ _ _ _ _ (other-number 0x0806 0x0800 (half 12 p) refl) (other-number 0x0806 0x8035 (half 12 p) refl)
+net-with_fact words.Rarp d a m p = third-of _ _ _ _ _ _ (other-number 0x8035 0x0800 (half 12 p) refl) (other-number 0x8035 0x0806 (half 12 p) refl)
+net-with_fact other d a m p = tt
 
 -- and one protocol number
 other-protocol : (m n : ℕ) (p : Packet) → (m == n) ≡ false → is_protocol m p ≡ Yes → is_protocol n p ≡ No
@@ -48,9 +48,9 @@ asked_ports d low high = and_test (λ p. check (λ b. bit_and b 0x1fff == 0) (ha
 ports-guarded : (n : ℕ) (d : Direction) (low high : ℕ) (p : Packet) → has_ports n d low high p ≡ and_then (is_protocol n p) (asked_ports d low high p)
 ports-guarded n d low high p = and-assoc (is_protocol n p) (check (λ b. bit_and b 0x1fff == 0) (half 20 p)) (by_direction d (has_port low high 0) (has_port low high 2) p)
 
-pub ports-narrowed : (word : Plain) (d : Direction) (low high : ℕ) (p : Packet)
+pub ports-with_fact : (word : Plain) (d : Direction) (low high : ℕ) (p : Packet)
     → IfSome (transport_of word) (λ t. and_then (plain_test word p) (has_any_ports None d low high p) ≡ has_any_ports (Some t) d low high p)
-ports-narrowed words.Tcp d low high p = simp ports-guarded (first-of _ _ _ _ _ _ (other-protocol 6 17 p refl) (other-protocol 6 132 p refl))
-ports-narrowed words.Udp d low high p = simp ports-guarded (second-of _ _ _ _ _ _ (other-protocol 17 6 p refl) (other-protocol 17 132 p refl))
-ports-narrowed words.Sctp d low high p = simp ports-guarded (third-of _ _ _ _ _ _ (other-protocol 132 6 p refl) (other-protocol 132 17 p refl))
-ports-narrowed other d low high p = tt
+ports-with_fact words.Tcp d low high p = simp ports-guarded (first-of _ _ _ _ _ _ (other-protocol 6 17 p refl) (other-protocol 6 132 p refl))
+ports-with_fact words.Udp d low high p = simp ports-guarded (second-of _ _ _ _ _ _ (other-protocol 17 6 p refl) (other-protocol 17 132 p refl))
+ports-with_fact words.Sctp d low high p = simp ports-guarded (third-of _ _ _ _ _ _ (other-protocol 132 6 p refl) (other-protocol 132 17 p refl))
+ports-with_fact other d low high p = tt

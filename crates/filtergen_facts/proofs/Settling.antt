@@ -24,7 +24,7 @@ use Rattle.filtergen_facts.specs.declared.lists.Bytes.{Bytes}
 use Rattle.filtergen_facts.specs.declared.lists.ListKind.{ListKind}
 use Rattle.filtergen_facts.specs.declared.lists.ValueRange.{ValueRange}
 use Rattle.filtergen_facts.specs.declared.lists.Member.{Member}
-use Rattle.filtergen_facts.specs.Lists.{direction_of, in_span, has_tail, IsBroader, ArePorts, bytes_test, form_test, kind_test, member_test, turned, passing, IsAnswered, Covers, Asks, Settles}
+use Rattle.filtergen_facts.specs.Lists.{direction_of, in_range, has_tail, IsBroader, ArePorts, bytes_test, form_test, kind_test, member_test, turned, passing, IsAnswered, Covers, Asks, Settles}
 
 -- Where one of the first tests was No, each of the others is answered.
 abbrev pub AreSettled : (ValueRange → Verdict) → (ValueRange → Verdict) → Type 0
@@ -71,32 +71,32 @@ settled-sides sides.Either sides.Destination t t' u u' p broader first second = 
 settled-sides sides.Either sides.Either t t' u u' p broader first second = settled-either (λ x. t x p) (λ x. t' x p) (λ x. u x p) (λ x. u' x p) first second
 
 pub settled-net : (s s' : Sides) (m m' o o' : ℕ) (p : Packet) → IsBroader s s'
-    → AreSettled (λ x. by_direction (direction_of s) (in_span x m o) (in_span x m o') p) (λ x. by_direction (direction_of s') (in_span x m' o) (in_span x m' o') p)
+    → AreSettled (λ x. by_direction (direction_of s) (in_range x m o) (in_range x m o') p) (λ x. by_direction (direction_of s') (in_range x m' o) (in_range x m' o') p)
 settled-net s s' m m' o o' p broader =
     let bits : ℕ → ValueRange → ℕ → Bool = λ k x w. within x.low x.high (bit_and w k) in
-    settled-sides s s' (λ x. in_span x m o) (λ x. in_span x m' o) (λ x. in_span x m o') (λ x. in_span x m' o') p broader
+    settled-sides s s' (λ x. in_range x m o) (λ x. in_range x m' o) (λ x. in_range x m o') (λ x. in_range x m' o') p broader
     (settled-check (bits m) (bits m') (word o p)) (settled-check (bits m) (bits m') (word o' p))
 
 settled-typed : (n : ℕ) (s s' : Sides) (m m' o o' : ℕ) (p : Packet) → IsBroader s s'
-    → AreSettled (λ x. and_then (is_type n p) (by_direction (direction_of s) (in_span x m o) (in_span x m o') p)) (λ x. and_then (is_type n p) (by_direction (direction_of s') (in_span x m' o) (in_span x m' o') p))
+    → AreSettled (λ x. and_then (is_type n p) (by_direction (direction_of s) (in_range x m o) (in_range x m o') p)) (λ x. and_then (is_type n p) (by_direction (direction_of s') (in_range x m' o) (in_range x m' o') p))
 settled-typed n s s' m m' o o' p broader =
-    settled-guarded (is_type n p) (λ x. by_direction (direction_of s) (in_span x m o) (in_span x m o') p) (λ x. by_direction (direction_of s') (in_span x m' o) (in_span x m' o') p)
+    settled-guarded (is_type n p) (λ x. by_direction (direction_of s) (in_range x m o) (in_range x m o') p) (λ x. by_direction (direction_of s') (in_range x m' o) (in_range x m' o') p)
     (settled-net s s' m m' o o' p broader)
 
 settled-ports : (n : ℕ) (s s' : Sides) (p : Packet) → IsBroader s s' → AreSettled (λ x. has_ports n (direction_of s) x.low x.high p) (λ x. has_ports n (direction_of s') x.low x.high p)
 settled-ports n s s' p broader =
-    let spans : ValueRange → ℕ → Bool = λ x. within x.low x.high in
+    let ranges : ValueRange → ℕ → Bool = λ x. within x.low x.high in
     settled-guarded (is_first_fragment_of n p)
     (λ x. by_direction (direction_of s) (has_port x.low x.high 0) (has_port x.low x.high 2) p) (λ x. by_direction (direction_of s') (has_port x.low x.high 0) (has_port x.low x.high 2) p)
     (settled-sides s s' (λ x. has_port x.low x.high 0) (λ x. has_port x.low x.high 0) (λ x. has_port x.low x.high 2) (λ x. has_port x.low x.high 2) p broader
-    (settled-check spans spans (half_behind_header 0 p)) (settled-check spans spans (half_behind_header 2 p)))
+    (settled-check ranges ranges (half_behind_header 0 p)) (settled-check ranges ranges (half_behind_header 2 p)))
 
 settled-numbers : (v : Option ℕ) → AreSettled (λ x. check (within x.low x.high) v) (λ x. check (within x.low x.high) v)
 settled-numbers v = settled-check (λ x. within x.low x.high) (λ x. within x.low x.high) v
 
 form-settled : (f : Form) (s s' : Sides) (m m' h h' : ℕ) (b : Bytes) (p : Packet) → IsBroader s s' → AreSettled (λ x. form_test f (direction_of s) m h b x p) (λ x. form_test f (direction_of s') m' h' b x p)
 form-settled forms.Net s s' m m' h h' b p broader =
-    let typed : Sides → ℕ → ℕ → ℕ → ℕ → ValueRange → Verdict = λ d k n o o' x. and_then (is_type n p) (by_direction (direction_of d) (in_span x k o) (in_span x k o') p) in
+    let typed : Sides → ℕ → ℕ → ℕ → ℕ → ValueRange → Verdict = λ d k n o o' x. and_then (is_type n p) (by_direction (direction_of d) (in_range x k o) (in_range x k o') p) in
     settled-either
     (λ x. or_else (typed s m 0x0800 26 30 x) (typed s m 0x0806 28 38 x)) (λ x. or_else (typed s' m' 0x0800 26 30 x) (typed s' m' 0x0806 28 38 x))
     (typed s m 0x8035 28 38) (typed s' m' 0x8035 28 38)
@@ -199,7 +199,7 @@ turned-passing chains.NoneOf No is = refl
 turned-passing chains.NoneOf Abort is = absurd cc
 
 pub asks-member : (c : Chain) (t : Tree) (m : Member) (kind : ListKind) → Covers m.kind kind → ((p : Packet) → meaning t p ≡ turned c (member_test m p)) → Asks c t kind
-asks-member c t m kind covers same = record { answered = λ p passes x. covers.answered p m.span x (turned-passing c (member_test m p) (sym (same p) ∙ passes)) }
+asks-member c t m kind covers same = record { answered = λ p passes x. covers.answered p m.range x (turned-passing c (member_test m p) (sym (same p) ∙ passes)) }
 
 pub yes-both : (v w : Verdict) → and_then v w ≡ Yes → (v ≡ Yes) × (w ≡ Yes)
 yes-both Yes w is = (refl, is)
@@ -220,7 +220,7 @@ asks-first t u kind left = record { answered = λ p passes. left.answered p (yes
 
 -- by the first member
 pub settles-first : (c : Chain) (left : Option Tree) (first : Member) (kind : ListKind) → Covers first.kind kind → Settles c left first kind
-settles-first c left first kind covers = record { answered = λ p passes none x. covers.answered p first.span x none }
+settles-first c left first kind covers = record { answered = λ p passes none x. covers.answered p first.range x none }
 
 -- by what stands to the left
 pub settles-left : (c : Chain) (t : Tree) (first : Member) (kind : ListKind) → Asks c t kind → Settles c (Some t) first kind

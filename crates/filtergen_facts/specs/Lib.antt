@@ -1,5 +1,5 @@
 pub use Rattle.filter_tree.specs.Trees
 pub use Rattle.filter_meaning.specs.Meaning
 pub mod Weights
-pub mod Knowing
+pub mod Facts
 pub mod Lists

@@ -1,4 +1,4 @@
--- Lists: links of a chain of `or`, or negations in a chain of `and`, that differ in their numbers alone, wherever in it they stand.
+-- Lists: the links of a chain of `or`, or the negations in a chain of `and`, that differ only in their numbers.
 use Rattle.std.specs.Prelude.{◌≡◌, ℕ, ◌+◌, ◌*◌, ◌/◌, ◌%◌, ◌^◌, ◌≤◌, ◌<◌, ◌==◌, ◌&&◌, List, [], ◌∷◌, All, Contains, length, ◌⊎◌, Option, Some, None, MatchOption, bit_and}
 use Rattle.std.specs.List.{AllZip}
 use Rattle.bpfvm.specs.declared.program.TheConstants.{MAX_INSNS}
@@ -16,7 +16,7 @@ use Rattle.filter_tree.specs.declared.tree.Plain.{Plain}
 use Rattle.filter_tree.specs.declared.tree.Plain.TheVariants as words
 use Rattle.filter_meaning.specs.declared.verdict.Verdict.{Verdict}
 use Rattle.filter_meaning.specs.declared.verdict.Verdict.TheVariants.{Yes, No, Abort}
-use Rattle.filter_meaning.specs.Meaning.{Packet, Test, and_then, or_else, opposite, or_test, and_test, check, byte, half, word, six, is_type, by_direction, within, has_any_ports, bytes_of, accessed, in_layer, primitive_test, meaning}
+use Rattle.filter_meaning.specs.Meaning.{Packet, Test, and_then, or_else, opposite, or_test, and_test, check, byte, half, word, six, is_type, by_direction, within, has_port, has_any_ports, bytes_of, accessed, in_layer, primitive_test, meaning}
 use Rattle.filtergen_facts.specs.declared.lists.Chain.{Chain}
 use Rattle.filtergen_facts.specs.declared.lists.Chain.TheVariants as chains
 use Rattle.filtergen_facts.specs.declared.lists.Form.{Form}
@@ -28,9 +28,9 @@ use Rattle.filtergen_facts.specs.declared.lists.ListKind.{ListKind}
 use Rattle.filtergen_facts.specs.declared.lists.ValueRange.{ValueRange}
 use Rattle.filtergen_facts.specs.declared.lists.Member.{Member}
 use Rattle.filter_tree.specs.declared.tree.Primitive.{Primitive}
-use Rattle.filtergen_facts.specs.declared.known.Known.{Known}
+use Rattle.filtergen_facts.specs.declared.packet_facts.PacketFacts.{PacketFacts}
 use Rattle.filtergen_facts.specs.Weights.{weight, need}
-use Rattle.filtergen_facts.specs.Knowing.{behind, LOOK_BACK}
+use Rattle.filtergen_facts.specs.Facts.{after_expr, LOOK_BACK}
 
 -- one of these tests; the last of them stands first in the list
 abbrev pub any_of : {X : Type 0} → (X → Test) → List X → Test
@@ -91,19 +91,19 @@ transport_of words.Udp = Some transports.Udp
 transport_of words.Sctp = Some transports.Sctp
 transport_of other = None
 
--- the bits of four bytes under a mask are in a span
-abbrev pub in_span : ValueRange → ℕ → ℕ → Test
-in_span x mask o p = check (λ w. within x.low x.high (bit_and w mask)) (word o p)
+-- the bits of four bytes under a mask are in a range
+abbrev pub in_range : ValueRange → ℕ → ℕ → Test
+in_range x mask o p = check (λ w. within x.low x.high (bit_and w mask)) (word o p)
 
--- six bytes: the first two are this number, and the other four are in a span
+-- six bytes: the first two are this number, and the other four are in a range
 abbrev pub has_tail : ℕ → ValueRange → ℕ → Test
 has_tail head x o p = check (λ n. (n / 2 ^ 32 == head) && within x.low x.high (n % 2 ^ 32)) (six o p)
 
--- IPv4 behind which one test holds, or ARP or RARP behind which another one does
+-- IPv4 and one test, or ARP or RARP and another one
 abbrev pub of_any_type : Test → Test → Test
 of_any_type ip arp = or_test (or_test (and_test (is_type 0x0800) ip) (and_test (is_type 0x0806) arp)) (and_test (is_type 0x8035) arp)
 
--- bytes of a packet that has their layer are in a span
+-- bytes of a packet that has their layer are in a range
 abbrev pub bytes_test : Bytes → ValueRange → Test
 bytes_test b x = and_test (in_layer b.layer) (λ p. check (within x.low x.high) (accessed b.layer (bytes_of b.size) p b.index))
 
@@ -111,22 +111,59 @@ bytes_test b x = and_test (in_layer b.layer) (λ p. check (within x.low x.high) 
 abbrev pub no_bytes : Bytes
 no_bytes = record { layer = layers.Ether; index = 0; size = sizes.One }
 
--- the test of a member: a primitive or a relation whose number is in a span
+-- two addresses of a frame: the source's and the destination's, by their offsets
+abbrev pub addresses_test : Direction → ℕ → ℕ → ℕ → ValueRange → Test
+addresses_test d mask source destination x = by_direction d (in_range x mask source) (in_range x mask destination)
+
+-- those of IPv4, and those of ARP and RARP
+abbrev pub ip_addresses_test : Direction → ℕ → ValueRange → Test
+ip_addresses_test d mask = addresses_test d mask 26 30
+
+abbrev pub arp_addresses_test : Direction → ℕ → ValueRange → Test
+arp_addresses_test d mask = addresses_test d mask 28 38
+
+-- the ports after an IPv4 header
+abbrev pub header_ports_test : Direction → ValueRange → Test
+header_ports_test d x = by_direction d (has_port x.low x.high 0) (has_port x.low x.high 2)
+
+-- The test of a member, by the form of its list: its number is in a range.
+abbrev pub any_net_test : Direction → ℕ → ValueRange → Test
+any_net_test d mask x = of_any_type (ip_addresses_test d mask x) (arp_addresses_test d mask x)
+
+abbrev pub ip_net_test : Direction → ℕ → ValueRange → Test
+ip_net_test d mask x = and_test (is_type 0x0800) (ip_addresses_test d mask x)
+
+abbrev pub arp_net_test : ℕ → Direction → ℕ → ValueRange → Test
+arp_net_test number d mask x = and_test (is_type number) (arp_addresses_test d mask x)
+
+abbrev pub ports_test : Option Transport → Direction → ValueRange → Test
+ports_test asked d x = has_any_ports asked d x.low x.high
+
+abbrev pub tcp_or_udp_ports_test : Direction → ValueRange → Test
+tcp_or_udp_ports_test d x = or_test (ports_test (Some transports.Tcp) d x) (ports_test (Some transports.Udp) d x)
+
+abbrev pub ip_protocol_test : ValueRange → Test
+ip_protocol_test x = and_test (is_type 0x0800) (λ p. check (within x.low x.high) (byte 23 p))
+
+abbrev pub ether_type_test : ValueRange → Test
+ether_type_test x p = check (within x.low x.high) (half 12 p)
+
+abbrev pub ether_host_test : Direction → ℕ → ValueRange → Test
+ether_host_test d head x = by_direction d (has_tail head x 6) (has_tail head x 0)
+
 abbrev pub form_test : Form → Direction → ℕ → ℕ → Bytes → ValueRange → Test
-form_test forms.Net d m h b x =
-    of_any_type (by_direction d (in_span x m 26) (in_span x m 30)) (by_direction d (in_span x m 28) (in_span x m 38))
-form_test forms.IpNet d m h b x = and_test (is_type 0x0800) (by_direction d (in_span x m 26) (in_span x m 30))
-form_test forms.ArpNet d m h b x = and_test (is_type 0x0806) (by_direction d (in_span x m 28) (in_span x m 38))
-form_test forms.RarpNet d m h b x = and_test (is_type 0x8035) (by_direction d (in_span x m 28) (in_span x m 38))
-form_test forms.Ports d m h b x = has_any_ports None d x.low x.high
-form_test forms.TcpPorts d m h b x = has_any_ports (Some transports.Tcp) d x.low x.high
-form_test forms.UdpPorts d m h b x = has_any_ports (Some transports.Udp) d x.low x.high
-form_test forms.SctpPorts d m h b x = has_any_ports (Some transports.Sctp) d x.low x.high
-form_test forms.TcpOrUdpPorts d m h b x =
-    or_test (has_any_ports (Some transports.Tcp) d x.low x.high) (has_any_ports (Some transports.Udp) d x.low x.high)
-form_test forms.IpProto d m h b x = and_test (is_type 0x0800) (λ p. check (within x.low x.high) (byte 23 p))
-form_test forms.EtherProto d m h b x = (λ p. check (within x.low x.high) (half 12 p))
-form_test forms.EtherHost d m h b x = by_direction d (has_tail h x 6) (has_tail h x 0)
+form_test forms.Net d m h b x = any_net_test d m x
+form_test forms.IpNet d m h b x = ip_net_test d m x
+form_test forms.ArpNet d m h b x = arp_net_test 0x0806 d m x
+form_test forms.RarpNet d m h b x = arp_net_test 0x8035 d m x
+form_test forms.Ports d m h b x = ports_test None d x
+form_test forms.TcpPorts d m h b x = ports_test (Some transports.Tcp) d x
+form_test forms.UdpPorts d m h b x = ports_test (Some transports.Udp) d x
+form_test forms.SctpPorts d m h b x = ports_test (Some transports.Sctp) d x
+form_test forms.TcpOrUdpPorts d m h b x = tcp_or_udp_ports_test d x
+form_test forms.IpProto d m h b x = ip_protocol_test x
+form_test forms.EtherProto d m h b x = ether_type_test x
+form_test forms.EtherHost d m h b x = ether_host_test d h x
 form_test forms.Bytes d m h b x = bytes_test b x
 
 abbrev pub kind_test : ListKind → ValueRange → Test
@@ -137,9 +174,9 @@ abbrev pub of_tcp_or_udp : ListKind → ListKind
 of_tcp_or_udp k = record { form = forms.TcpOrUdpPorts; sides = k.sides; mask = k.mask; head = k.head; bytes = k.bytes }
 
 -- what so many members weigh at least
-abbrev pub weighed : Form → ℕ → ℕ
-weighed forms.Bytes n = 30 * n
-weighed other n = 40 * n
+abbrev pub list_weight : Form → ℕ → ℕ
+list_weight forms.Bytes n = 30 * n
+list_weight other n = 40 * n
 
 -- the last link of an expression in a chain, which is itself one where it is none
 abbrev pub last_link : Chain → Tree → Tree
@@ -162,10 +199,10 @@ abbrev pub left_chained : Chain → Option Tree → Test → Test
 left_chained c None t p = t p
 left_chained c (Some u) t p = chained c (meaning u p) (t p)
 
--- what is known behind a tree to the left
-abbrev pub behind_left : Chain → Known → Tree → Known
-behind_left chains.AnyOf k t = k
-behind_left chains.NoneOf k t = behind LOOK_BACK k t
+-- what is known after a tree to the left
+abbrev pub after_left : Chain → PacketFacts → Tree → PacketFacts
+after_left chains.AnyOf k t = k
+after_left chains.NoneOf k t = after_expr LOOK_BACK k t
 
 abbrev pub left_weight : Option Tree → ℕ
 left_weight None = 0
@@ -190,22 +227,22 @@ left_size (Some u) = size u
 
 -- a member's test
 abbrev pub member_test : Member → Test
-member_test m = kind_test m.kind m.span
+member_test m = kind_test m.kind m.range
 
 abbrev pub members_weight : List Member → ℕ
 members_weight [] = 0
-members_weight (m ∷ ms) = weighed m.kind.form 1 + members_weight ms
+members_weight (m ∷ ms) = list_weight m.kind.form 1 + members_weight ms
 
--- a member is the primitive that it tells, or it is a relation
+-- a member is its primitive, or it is a relation
 abbrev pub IsMember : Member → Type 0
-IsMember m = MatchOption m.primitive (m.kind.form ≡ forms.Bytes) (λ q. ((p : Packet) → primitive_test q p ≡ member_test m p) × (weighed m.kind.form 1 ≡ 40))
+IsMember m = MatchOption m.primitive (m.kind.form ≡ forms.Bytes) (λ q. ((p : Packet) → primitive_test q p ≡ member_test m p) × (list_weight m.kind.form 1 ≡ 40))
 
 -- an answer other than Abort
 abbrev pub IsAnswered : Verdict → Type 0
 IsAnswered Abort = ⊥
 IsAnswered other = Unit {0}
 
--- a chain goes on behind what stands to the left
+-- a chain goes on after what stands to the left
 abbrev pub passing : Chain → Verdict
 passing chains.AnyOf = No
 passing chains.NoneOf = Yes
@@ -218,11 +255,11 @@ Passes c (Some u) p = meaning u p ≡ passing c
 pub record Covers (kind other : ListKind) : Type 0 where
   pub answered : (p : Packet) (x y : ValueRange) → kind_test kind x p ≡ No → IsAnswered (kind_test other y p)
 
--- where a chain goes on behind a tree, no test of this kind aborts
+-- if a chain goes on after a tree, no test of this kind aborts
 pub record Asks (chain : Chain) (t : Tree) (kind : ListKind) : Type 0 where
   pub answered : (p : Packet) → meaning t p ≡ passing chain → (x : ValueRange) → IsAnswered (kind_test kind x p)
 
--- no test of this kind aborts behind a member and what stands to the left of it
+-- no test of this kind aborts after a member and what stands to its left
 pub record Settles (chain : Chain) (left : Option Tree) (first : Member) (kind : ListKind) : Type 0 where
   pub answered : (p : Packet) → Passes chain left p → member_test first p ≡ No → (x : ValueRange) → IsAnswered (kind_test kind x p)
 
@@ -244,8 +281,8 @@ Commute v w = Unit {0}
 abbrev pub AreFree : List Member → Packet → Type 0
 AreFree ms p = (m n : Member) → Contains ms m → Contains ms n → (m.kind ≡ n.kind) ⊎ Commute (member_test m p) (member_test n p)
 
--- they are so behind a member that is No and what stands to the left of it
-pub record AreFreeBehind (chain : Chain) (left : Option Tree) (first : Member) (others : List Member) : Type 0 where
+-- they are so after a member that is No and what stands to its left
+pub record AreFreeAfter (chain : Chain) (left : Option Tree) (first : Member) (others : List Member) : Type 0 where
   pub free : (p : Packet) → Passes chain left p → member_test first p ≡ No → AreFree others p
 
 -- members of a kind, and of one that is apart from it
@@ -263,38 +300,38 @@ pub record Takes (chain : Chain) (whole : Tree) (left : Option Tree) (old new : 
   pub smaller : left_size left ≤ size whole
   pub needs : left_need left ≤ need whole
 
--- a chain ends in members, behind what is left of its left operand; where the first of them is No, the others may be asked kind by kind
+-- a chain ends in members, after what is left of its left operand; if the first of them is No, the others may be tested kind by kind
 pub record EndsIn (chain : Chain) (t u : Tree) (left : Option Tree) (first : Member) (others : List Member) : Type 0 where
   pub is_first : IsMember first
   pub are_others : All IsMember others
   pub same : (p : Packet) → chained chain (meaning t p) (meaning u p)
       ≡ left_chained chain left (λ q. turned chain (or_else (member_test first q) (any_of member_test others q))) p
-  pub behind : AreFreeBehind chain left first others
-  pub weighs : left_weight left + (weighed first.kind.form 1 + members_weight others) ≤ weight t + weight u
+  pub free_after : AreFreeAfter chain left first others
+  pub weighs : left_weight left + (list_weight first.kind.form 1 + members_weight others) ≤ weight t + weight u
   pub smaller : left_size left ≤ size t
   pub needs : left_need left ≤ need t
   pub room : length others < MAX_INSNS
 
--- a member alone is the primitive that is told of its kind
+-- a single member is the primitive of its group
 abbrev pub IsAlone : ListKind → Option Primitive → List ValueRange → Type 0
-IsAlone kind primitive spans = (x : ValueRange) → spans ≡ x ∷ [] → IsMember (record { kind = kind; span = x; primitive = primitive })
+IsAlone kind primitive ranges = (x : ValueRange) → ranges ≡ x ∷ [] → IsMember (record { kind = kind; range = x; primitive = primitive })
 
 -- those of a kind leave the others; where they may be, they are asked first
-pub record Divides (kind : ListKind) (all : List Member) (spans : List ValueRange) (others : List Member) : Type 0 where
-  pub same : (p : Packet) → AreFree all p → any_of member_test all p ≡ or_else (any_of (kind_test kind) spans p) (any_of member_test others p)
-  pub commutes : (p : Packet) (v : Verdict) → ((m : Member) → Contains all m → m.kind ≡ kind → Commute v (member_test m p)) → Commute v (any_of (kind_test kind) spans p)
+pub record Divides (kind : ListKind) (all : List Member) (ranges : List ValueRange) (others : List Member) : Type 0 where
+  pub same : (p : Packet) → AreFree all p → any_of member_test all p ≡ or_else (any_of (kind_test kind) ranges p) (any_of member_test others p)
+  pub commutes : (p : Packet) (v : Verdict) → ((m : Member) → Contains all m → m.kind ≡ kind → Commute v (member_test m p)) → Commute v (any_of (kind_test kind) ranges p)
   pub among : (m : Member) → Contains others m → Contains all m
   pub members : All IsMember all → All IsMember others
-  pub weighs : weighed kind.form (length spans) + members_weight others ≡ members_weight all
-  pub together : length spans + length others ≡ length all
+  pub weighs : list_weight kind.form (length ranges) + members_weight others ≡ members_weight all
+  pub together : length ranges + length others ≡ length all
 
 -- where all of these of a kind are No, a member is
-pub record IsIncluded (kind : ListKind) (spans : List ValueRange) (m : Member) : Type 0 where
-  pub none : (p : Packet) → any_of (kind_test kind) spans p ≡ No → member_test m p ≡ No
+pub record IsIncluded (kind : ListKind) (ranges : List ValueRange) (m : Member) : Type 0 where
+  pub none : (p : Packet) → any_of (kind_test kind) ranges p ≡ No → member_test m p ≡ No
 
 -- some that are so are left out
-pub record LeavesOut (kind : ListKind) (spans : List ValueRange) (all others : List Member) : Type 0 where
-  pub same : (p : Packet) → any_of (kind_test kind) spans p ≡ No → any_of member_test all p ≡ any_of member_test others p
+pub record LeavesOut (kind : ListKind) (ranges : List ValueRange) (all others : List Member) : Type 0 where
+  pub same : (p : Packet) → any_of (kind_test kind) ranges p ≡ No → any_of member_test all p ≡ any_of member_test others p
   pub among : (m : Member) → Contains others m → Contains all m
   pub members : All IsMember all → All IsMember others
   pub weighs : members_weight others ≤ members_weight all
@@ -303,20 +340,20 @@ pub record LeavesOut (kind : ListKind) (spans : List ValueRange) (all others : L
 -- lists of two kinds that ask for the same are one list of a third kind
 pub record AreJoined (kind other joined : ListKind) : Type 0 where
   pub same : (p : Packet) (xs : List ValueRange) → 0 < length xs → or_else (any_of (kind_test kind) xs p) (any_of (kind_test other) xs p) ≡ any_of (kind_test joined) xs p
-  pub weighs : (n : ℕ) → weighed joined.form n ≡ weighed kind.form n
+  pub weighs : (n : ℕ) → list_weight joined.form n ≡ list_weight kind.form n
 
 -- members of a kind, with these numbers in their order
 abbrev pub AskFor : ListKind → List ValueRange → List Member → Type 0
-AskFor kind spans ms = AllZip (λ (m : Member) (x : ValueRange). (m.kind ≡ kind) × (m.span ≡ x)) ms spans
+AskFor kind ranges ms = AllZip (λ (m : Member) (x : ValueRange). (m.kind ≡ kind) × (m.range ≡ x)) ms ranges
 
 -- Those of a kind with a member that is asked before all of them, and the others, without some that hold only where one of the kind does. The kind
 -- is that member's, or one for which the others ask too.
-pub record Groups (first : Member) (all : List Member) (kind : ListKind) (spans : List ValueRange) (others : List Member) : Type 0 where
+pub record Groups (first : Member) (all : List Member) (kind : ListKind) (ranges : List ValueRange) (others : List Member) : Type 0 where
   pub same : (p : Packet) → (member_test first p ≡ No → AreFree all p)
-      → or_else (member_test first p) (any_of member_test all p) ≡ or_else (any_of (kind_test kind) spans p) (any_of member_test others p)
-  pub free : (p : Packet) → (member_test first p ≡ No → AreFree all p) → any_of (kind_test kind) spans p ≡ No → AreFree others p
-  pub alone : IsMember first → IsAlone kind first.primitive spans
+      → or_else (member_test first p) (any_of member_test all p) ≡ or_else (any_of (kind_test kind) ranges p) (any_of member_test others p)
+  pub free : (p : Packet) → (member_test first p ≡ No → AreFree all p) → any_of (kind_test kind) ranges p ≡ No → AreFree others p
+  pub alone : IsMember first → IsAlone kind first.primitive ranges
   pub members : All IsMember all → All IsMember others
-  pub weighs : weighed kind.form (length spans) + members_weight others ≤ weighed first.kind.form 1 + members_weight all
-  pub some : 0 < length spans
+  pub weighs : list_weight kind.form (length ranges) + members_weight others ≤ list_weight first.kind.form 1 + members_weight all
+  pub some : 0 < length ranges
   pub fewer : length others ≤ length all

@@ -1,17 +1,17 @@
-//! What a compiler wants to know of an expression before it writes a program.
+//! What the compiler has to know of an expression before it writes a program.
 //!
-//! [`need`] and [`weight`] tell how much an expression may take. [`Known`] is what tests that were passed have shown of a packet, and
-//! [`Neighbours`] finds links of a chain that differ in their numbers alone. None of these takes memory.
+//! [`need`] and [`weight`] say how much an expression may take. [`PacketFacts`] is what passed tests have shown of a packet, and
+//! [`ValueLists`] finds the links of a chain that differ only in their numbers. None of these takes memory.
 #![tactic(auto)]
 
-mod known;
 mod lists;
-mod neighbours;
+mod packet_facts;
 mod refusal;
-mod weighing;
+mod value_lists;
+mod weights;
 
-pub use known::Known;
 pub use lists::{Bytes, Chain, Form, ListKind, Member, Sides, ValueRange};
-pub use neighbours::{Group, Neighbours, Others};
+pub use packet_facts::{ICMP, PacketFacts, SCTP, TCP, UDP};
 pub use refusal::Refusal;
-pub use weighing::{MAX_NEED, MAX_WEIGHT, need, weight};
+pub use value_lists::{Group, OtherMembers, ValueLists};
+pub use weights::{MAX_NEED, MAX_WEIGHT, need, weight};

@@ -1,16 +1,16 @@
-//! Lists: links of a chain of `or`, or negations in a chain of `and`, that differ in their numbers alone, wherever in it they stand.
+//! Members of lists: the links of a chain of `or`, or the negations in a chain of `and`, that differ only in their numbers.
 
 ghost use Rattle.std.specs.Prelude.{◌≡◌, ◌≢◌, ◌+◌, ◌≤◌, IfSome, MatchOption, None};
 ghost use Rattle.filter_tree.specs.Trees.{amount_of, tree_of, number as literal, both};
 ghost use Rattle.filter_tree.specs.declared.tree.Comparison.TheVariants.{Equal};
 ghost use Rattle.filter_meaning.specs.Meaning.{Packet, and_then, by_direction, plain_test, in_any_net, has_any_ports, is_address, primitive_test, relation_test, meaning};
-ghost use Rattle.filtergen_facts.specs.Knowing.{behind, LOOK_BACK};
-ghost use Rattle.filtergen_facts.specs.Lists.{direction_of, net_form, ports_form, network_of, transport_of, no_bytes, member_test, IsBroader, Reaches, ArePorts, IsPort, Covers, IsApart, Includes, IsMember, of_tcp_or_udp, AreJoined, turned, last_link, behind_left, weighed};
+ghost use Rattle.filtergen_facts.specs.Facts.{after_expr, LOOK_BACK};
+ghost use Rattle.filtergen_facts.specs.Lists.{direction_of, net_form, ports_form, network_of, transport_of, no_bytes, member_test, IsBroader, Reaches, ArePorts, IsPort, Covers, IsApart, Includes, IsMember, of_tcp_or_udp, AreJoined, turned, last_link, after_left, list_weight};
 ghost use Rattle.filtergen_facts.specs.declared.lists.Sides.TheVariants as sides;
 ghost use Rattle.std.specs.Bool.{OnTrue, OnFalse};
 ghost use Rattle.filtergen_facts.specs.Weights.{value_weight, weight};
 
-use crate::known::Known;
+use crate::packet_facts::{ICMP, PacketFacts, SCTP, TCP, UDP};
 use filter_meaning::{ARP, RARP};
 use filter_tree::{
     Comparison, Direction, EthernetAddress, Expr, Layer, Network, Plain, Primitive, Size,
@@ -26,7 +26,7 @@ pub enum Chain {
     NoneOf,
 }
 
-/// Of which tests a list is.
+/// Which tests a list is made of.
 #[derive(Clone, Copy, PartialEq, Eq)]
 pub enum Form {
     /// Hosts and nets of any protocol.
@@ -39,17 +39,17 @@ pub enum Form {
     TcpPorts,
     UdpPorts,
     SctpPorts,
-    /// Ports of TCP or UDP. No member is of this form: lists of both that ask for the same become one.
+    /// Ports of TCP or UDP. No member has this form: two lists, of TCP and of UDP, with the same numbers become one.
     TcpOrUdpPorts,
     IpProto,
     EtherProto,
-    /// Ethernet hosts that have their first two bytes in common.
+    /// Ethernet hosts that share their first two bytes.
     EtherHost,
-    /// Relations that ask for the same bytes.
+    /// Relations that look at the same bytes.
     Bytes,
 }
 
-/// Whether the source, the destination, or either of them is asked for.
+/// Whether a test is for the source, the destination, or either of them.
 #[derive(Clone, Copy, PartialEq, Eq)]
 pub enum Sides {
     Source,
@@ -70,15 +70,15 @@ pub struct Bytes {
 pub struct ListKind {
     pub form: Form,
     pub sides: Sides,
-    /// That of hosts and nets.
+    /// The mask of hosts and nets.
     pub mask: u32,
     /// The first two bytes of Ethernet hosts. The other four are a member's number.
     pub head: u16,
-    /// Those of relations.
+    /// The bytes that relations look at.
     pub bytes: Bytes,
 }
 
-/// The numbers from low to high, with both.
+/// The numbers from low to high, both included.
 #[derive(Clone, Copy, Default)]
 pub struct ValueRange {
     pub low: u32,
@@ -89,8 +89,8 @@ pub struct ValueRange {
 #[derive(Clone, Copy)]
 pub struct Member {
     pub kind: ListKind,
-    pub span: ValueRange,
-    /// The primitive that it is, or none for a relation.
+    pub range: ValueRange,
+    /// The primitive, or `None` for a relation.
     pub primitive: Option<Primitive>,
 }
 
@@ -107,7 +107,7 @@ impl Default for ListKind {
 }
 
 impl Sides {
-    /// Whether what these ask for has what the others ask for.
+    /// Whether these sides include the others.
     fn is_broader(self, other: Sides) -> bool
         ensures { OnTrue result (IsBroader self other) }
     {
@@ -119,7 +119,7 @@ impl Sides {
         }
     }
 
-    /// Whether an address of IPv4 of the other sides is there where one of these is: the destination stands behind the source.
+    /// Whether an IPv4 address of the other sides is captured if one of these is: the destination stands after the source.
     fn reaches(self, other: Sides) -> bool
         ensures { OnTrue result (Reaches self other) }
     {
@@ -131,7 +131,7 @@ impl Sides {
 }
 
 impl Bytes {
-    /// Whether they are bytes of the ports of such tests.
+    /// Whether they are bytes of the ports that tests of this form look at.
     fn are_ports(self, form: Form) -> bool
         ensures { OnTrue result (ArePorts form self) }
     {
@@ -147,7 +147,7 @@ impl Bytes {
         }
     }
 
-    /// Whether they are one of the ports of such tests.
+    /// Whether they are one of the ports that tests of this form look at.
     fn are_a_port(self, form: Form) -> bool
         ensures { OnTrue result (IsPort form self) }
     {
@@ -160,14 +160,14 @@ impl Bytes {
 }
 
 impl ValueRange {
-    /// Whether it has all numbers of another one.
+    /// Whether it includes another range.
     pub(crate) fn has(self, other: ValueRange) -> bool
         ensures { OnTrue result ((self.low ≤ other.low) × (other.high ≤ self.high)) }
     {
         self.low <= other.low && other.high <= self.high
     }
 
-    /// Whether two spans are one.
+    /// Whether two ranges are equal.
     pub(crate) fn is(self, other: ValueRange) -> bool
         ensures { OnTrue result (self ≡ other) }
     {
@@ -176,7 +176,7 @@ impl ValueRange {
 }
 
 impl ListKind {
-    /// Whether two kinds are one.
+    /// Whether two kinds are equal.
     pub fn is(self, other: ListKind) -> bool
         ensures same { OnTrue result (self ≡ other) }
         ensures differ { OnFalse result (self ≢ other) }
@@ -184,8 +184,7 @@ impl ListKind {
         if self == other { true } else { false }
     }
 
-    /// Whether a test of this kind loads what one of the other kind does, of either side where that is asked for, under any mask,
-    /// and whatever the first two bytes are.
+    /// Whether a test of this kind loads all that a test of the other kind does. Masks and first bytes make no difference.
     fn is_broader(self, other: ListKind) -> bool
         ensures { OnTrue result (Covers self other) }
     {
@@ -202,7 +201,7 @@ impl ListKind {
         }
     }
 
-    /// Whether it loads both ports, which have the bytes that one of the other kind asks for.
+    /// Whether it loads both ports, and the other kind looks at bytes of these.
     fn has_ports(self, other: ListKind) -> bool
         ensures { OnTrue result (Covers self other) }
     {
@@ -212,7 +211,7 @@ impl ListKind {
         }
     }
 
-    /// Whether no test of the other kind aborts where one of this kind was No.
+    /// Whether no test of the other kind can abort once a test of this kind was No.
     pub fn settles(self, other: ListKind) -> bool
         ensures { OnTrue result (Covers self other) }
     {
@@ -222,7 +221,7 @@ impl ListKind {
         self.has_ports(other)
     }
 
-    /// Whether all tests of this kind are No where one was and one of the other kind aborts: such a packet is of another type or
+    /// Whether all tests of this kind are No if one of them is and a test of the other kind aborts: the packet then has another type or
     /// protocol.
     pub(crate) fn is_apart(self, other: ListKind) -> bool
         ensures { OnTrue result (IsApart self other) }
@@ -236,7 +235,7 @@ impl ListKind {
         }
     }
 
-    /// The kind of the same ports of TCP, where this one is of UDP, or the other way round.
+    /// The kind of the same ports of UDP if this kind is of TCP, and the other way round.
     pub(crate) fn of_other_protocol(self) -> Option<ListKind>
         ensures { IfSome result (λ other. AreJoined self other (of_tcp_or_udp self)) }
     {
@@ -263,7 +262,7 @@ impl ListKind {
         }
     }
 
-    /// Whether both ports of TCP or UDP are asked for, which tests of their bytes may ask for again.
+    /// Whether it is for both ports of TCP or UDP, at which relations may look as well.
     pub(crate) fn has_both_ports(self) -> bool {
         match self.form {
             Form::TcpPorts | Form::UdpPorts => self.sides == Sides::Either,
@@ -271,7 +270,7 @@ impl ListKind {
         }
     }
 
-    /// Whether a test of the other kind is No where one of this kind is that has its numbers.
+    /// Whether a test of the other kind is No if a test of this kind is that includes its numbers.
     pub(crate) fn includes(self, other: ListKind) -> bool
         ensures { OnTrue result (Includes self other) }
     {
@@ -294,21 +293,21 @@ impl Chain {
         }
     }
 
-    /// What is known where a list is asked that stands behind an expression, or behind none.
-    pub fn known_behind(self, known: Known, left: Option<&Expr>) -> Known
-        ensures { MatchOption left.entry (result ≡ known) (λ t. result ≡ behind_left self known (tree_of t.now)) }
+    /// What is known at a list after the expression to its left, if there is one.
+    pub fn facts_after(self, known: PacketFacts, left: Option<&Expr>) -> PacketFacts
+        ensures { MatchOption left.entry (result ≡ known) (λ t. result ≡ after_left self known (tree_of t.now)) }
     {
         match left {
             None => known,
             Some(left) => match self {
                 Chain::AnyOf => known,
-                Chain::NoneOf => known.behind(left),
+                Chain::NoneOf => known.after_expr(left),
             },
         }
     }
 }
 
-/// The bytes of what is no relation.
+/// The bytes of a kind that is not of relations.
 const NO_BYTES: Bytes = Bytes {
     layer: Layer::Ether,
     index: 0,
@@ -376,8 +375,8 @@ fn transport_of(word: Plain) -> Option<Transport>
     }
 }
 
-/// What a protocol word and a primitive of any protocol behind it ask for together, where that is one primitive.
-fn narrowed(word: Plain, primitive: Primitive) -> Option<Primitive>
+/// The primitive that a protocol word and a primitive without a protocol after it make together: `tcp` and `port 80` make `tcp port 80`.
+fn primitive_of_both(word: Plain, primitive: Primitive) -> Option<Primitive>
     ensures { IfSome result (λ q. (p : Packet)
         → and_then (plain_test word p) (primitive_test primitive p) ≡ primitive_test q p) }
 {
@@ -408,7 +407,7 @@ fn narrowed(word: Plain, primitive: Primitive) -> Option<Primitive>
     }
 }
 
-/// The number that a value is written as, where it is a low one.
+/// The number of a value that is written as one, if 16 bits hold it.
 fn low_literal(value: &Value) -> Option<u16>
     ensures { IfSome result (λ n. amount_of value.now ≡ literal n) }
 {
@@ -422,11 +421,11 @@ fn low_literal(value: &Value) -> Option<u16>
 }
 
 impl Member {
-    /// A member that asks for one number, of neither side.
+    /// A member with one number, without sides.
     fn numbered(form: Form, number: u32) -> Member
         ensures { result ≡ record {
           kind = record { form = form; sides = sides.Source; mask = 0; head = 0; bytes = no_bytes };
-          span = record { low = number; high = number };
+          range = record { low = number; high = number };
           primitive = None;
         } }
     {
@@ -438,7 +437,7 @@ impl Member {
                 head: 0,
                 bytes: NO_BYTES,
             },
-            span: ValueRange {
+            range: ValueRange {
                 low: number,
                 high: number,
             },
@@ -453,7 +452,7 @@ impl Member {
         mask: u32,
     ) -> Option<Member>
         ensures same { IfSome result (λ m. (p : Packet) → in_any_net network direction address mask p ≡ member_test m p) }
-        ensures weighs { IfSome result (λ m. weighed m.kind.form 1 ≡ 40) }
+        ensures weighs { IfSome result (λ m. list_weight m.kind.form 1 ≡ 40) }
     {
         match sides_of(direction) {
             Some(sides) => Some(Member {
@@ -464,7 +463,7 @@ impl Member {
                     head: 0,
                     bytes: NO_BYTES,
                 },
-                span: ValueRange {
+                range: ValueRange {
                     low: address,
                     high: address,
                 },
@@ -481,7 +480,7 @@ impl Member {
         high: u32,
     ) -> Option<Member>
         ensures same { IfSome result (λ m. (p : Packet) → has_any_ports transport direction low high p ≡ member_test m p) }
-        ensures weighs { IfSome result (λ m. weighed m.kind.form 1 ≡ 40) }
+        ensures weighs { IfSome result (λ m. list_weight m.kind.form 1 ≡ 40) }
     {
         match sides_of(direction) {
             Some(sides) => Some(Member {
@@ -492,7 +491,7 @@ impl Member {
                     head: 0,
                     bytes: NO_BYTES,
                 },
-                span: ValueRange { low, high },
+                range: ValueRange { low, high },
                 primitive: None,
             }),
             None => None,
@@ -502,7 +501,7 @@ impl Member {
     fn of_ethernet(direction: Direction, address: EthernetAddress) -> Option<Member>
         ensures same { IfSome result (λ m. (p : Packet)
             → by_direction direction (is_address address.octets 6) (is_address address.octets 0) p ≡ member_test m p) }
-        ensures weighs { IfSome result (λ m. weighed m.kind.form 1 ≡ 40) }
+        ensures weighs { IfSome result (λ m. list_weight m.kind.form 1 ≡ 40) }
     {
         let sides = sides_of(direction)?;
         let [a, b, c, d, e, f] = address.octets;
@@ -519,26 +518,26 @@ impl Member {
         })
     }
 
-    /// A protocol word. `ip` is none: what goes on behind it is to know of it.
+    /// A protocol word. `ip` is no member: what follows it has to know that the packet is IPv4.
     fn of_word(word: Plain) -> Option<Member>
         ensures same { IfSome result (λ m. (p : Packet) → plain_test word p ≡ member_test m p) }
-        ensures weighs { IfSome result (λ m. weighed m.kind.form 1 ≡ 40) }
+        ensures weighs { IfSome result (λ m. list_weight m.kind.form 1 ≡ 40) }
     {
         match word {
             Plain::Ip => None,
             Plain::Arp => Some(Member::numbered(Form::EtherProto, ARP)),
             Plain::Rarp => Some(Member::numbered(Form::EtherProto, RARP)),
-            Plain::Icmp => Some(Member::numbered(Form::IpProto, 1)),
-            Plain::Tcp => Some(Member::numbered(Form::IpProto, 6)),
-            Plain::Udp => Some(Member::numbered(Form::IpProto, 17)),
-            Plain::Sctp => Some(Member::numbered(Form::IpProto, 132)),
+            Plain::Icmp => Some(Member::numbered(Form::IpProto, ICMP)),
+            Plain::Tcp => Some(Member::numbered(Form::IpProto, TCP)),
+            Plain::Udp => Some(Member::numbered(Form::IpProto, UDP)),
+            Plain::Sctp => Some(Member::numbered(Form::IpProto, SCTP)),
         }
     }
 
-    /// What a primitive asks for, where lists are made of such ones.
+    /// A primitive of which lists are made.
     fn asked_by(primitive: Primitive) -> Option<Member>
         ensures same { IfSome result (λ m. (p : Packet) → primitive_test primitive p ≡ member_test m p) }
-        ensures weighs { IfSome result (λ m. weighed m.kind.form 1 ≡ 40) }
+        ensures weighs { IfSome result (λ m. list_weight m.kind.form 1 ≡ 40) }
     {
         match primitive {
             Primitive::Protocol(word) => Member::of_word(word),
@@ -563,10 +562,10 @@ impl Member {
         }
     }
 
-    /// The member that a primitive is.
+    /// A primitive as a member, which remembers it.
     fn of(primitive: Primitive) -> Option<Member>
         ensures same { IfSome result (λ m. (p : Packet) → primitive_test primitive p ≡ member_test m p) }
-        ensures weighs { IfSome result (λ m. weighed m.kind.form 1 ≡ 40) }
+        ensures weighs { IfSome result (λ m. list_weight m.kind.form 1 ≡ 40) }
         ensures member { IfSome result IsMember }
     {
         let member = Member::asked_by(primitive)?;
@@ -576,10 +575,10 @@ impl Member {
         })
     }
 
-    /// A relation that asks whether bytes are a number, where their index is written as one too.
+    /// A relation that compares bytes, at an index that is written as a number, with a number.
     fn of_bytes(value: &Value, number: u32) -> Option<Member>
         ensures same { IfSome result (λ m. (p : Packet) → relation_test Equal (amount_of value.now) (literal number) p ≡ member_test m p) }
-        ensures weighs { IfSome result (λ m. weighed m.kind.form 1 ≤ 10 + value_weight (amount_of value.now)) }
+        ensures weighs { IfSome result (λ m. list_weight m.kind.form 1 ≤ 10 + value_weight (amount_of value.now)) }
         ensures member { IfSome result IsMember }
     {
         match value {
@@ -606,7 +605,7 @@ impl Member {
     fn of_relation(comparison: Comparison, left: &Value, right: &Value) -> Option<Member>
         ensures same { IfSome result (λ m. (p : Packet) → relation_test comparison (amount_of left.now) (amount_of right.now) p ≡ member_test m p) }
         ensures weighs { IfSome result (λ m.
-            weighed m.kind.form 1 ≤ 10 + (value_weight (amount_of left.now) + value_weight (amount_of right.now))) }
+            list_weight m.kind.form 1 ≤ 10 + (value_weight (amount_of left.now) + value_weight (amount_of right.now))) }
         ensures member { IfSome result IsMember }
     {
         match comparison {
@@ -618,25 +617,25 @@ impl Member {
         }
     }
 
-    /// The member that two operands of `and` are, as `tcp` and `port 80` are `tcp port 80`. In the other order they are none: where a
-    /// packet is of another protocol, `port 80` may abort before `tcp` is asked.
+    /// Two operands of `and`: `tcp and port 80` is the member `tcp port 80`. `port 80 and tcp` is none: on a packet of another protocol
+    /// `port 80` may abort before `tcp` is tested.
     fn of_both(left: &Expr, right: &Expr) -> Option<Member>
         ensures same { IfSome result (λ m. (p : Packet) → meaning (both (tree_of left.now) (tree_of right.now)) p ≡ member_test m p) }
-        ensures weighs { IfSome result (λ m. weighed m.kind.form 1 ≤ weight (both (tree_of left.now) (tree_of right.now))) }
+        ensures weighs { IfSome result (λ m. list_weight m.kind.form 1 ≤ weight (both (tree_of left.now) (tree_of right.now))) }
         ensures member { IfSome result IsMember }
     {
         match (left, right) {
             (Expr::Test(Primitive::Protocol(word)), Expr::Test(primitive)) => {
-                Member::of(narrowed(*word, *primitive)?)
+                Member::of(primitive_of_both(*word, *primitive)?)
             }
             _ => None,
         }
     }
 
-    /// The member that an expression is.
+    /// An expression as a member.
     fn of_expr(expr: &Expr) -> Option<Member>
         ensures same { IfSome result (λ m. (p : Packet) → meaning (tree_of expr.now) p ≡ member_test m p) }
-        ensures weighs { IfSome result (λ m. weighed m.kind.form 1 ≤ weight (tree_of expr.now)) }
+        ensures weighs { IfSome result (λ m. list_weight m.kind.form 1 ≤ weight (tree_of expr.now)) }
         ensures member { IfSome result IsMember }
     {
         match expr {
@@ -649,10 +648,10 @@ impl Member {
         }
     }
 
-    /// The member that an expression is in a chain.
+    /// A link of a chain as a member: in a chain of `and`, the operand of its `not`.
     pub fn of_link(chain: Chain, expr: &Expr) -> Option<Member>
         ensures same { IfSome result (λ m. (p : Packet) → meaning (tree_of expr.now) p ≡ turned chain (member_test m p)) }
-        ensures weighs { IfSome result (λ m. weighed m.kind.form 1 ≤ weight (tree_of expr.now)) }
+        ensures weighs { IfSome result (λ m. list_weight m.kind.form 1 ≤ weight (tree_of expr.now)) }
         ensures member { IfSome result IsMember }
     {
         match chain {

@@ -18,7 +18,7 @@ use Rattle.filtergen_trim.specs.Sound.{IsSoundCode}
 use Rattle.filtergen_trim.specs.declared.unreached.Onward.{Onward}
 use Rattle.filtergen_trim.specs.declared.unreached.Onward.TheVariants as onward
 use Rattle.filtergen_trim.specs.Reaching.{MayPass, LeadsTo, IsPath, IsAllReached}
-use Rattle.filtergen_trim.specs.Trimming.{onward_by, onward_of, MayGo, IsSound, IsMarked, marked, moved_by, moved, trimmed, MarksNext, MarksBefore, Marks}
+use Rattle.filtergen_trim.specs.Trimming.{onward_by, onward_of, MayGo, IsSound, IsMarked, count_marked, shorten_by, shorten_jumps, trimmed, MarksNext, MarksBefore, Marks}
 use Rattle.filtergen_trim.proofs.Growing.{fine, unless-true, same-bar, both-inside, sound-grown}
 use Rattle.filtergen_trim.proofs.Running.{after, answer-first, equal-true, insn_of}
 
@@ -69,50 +69,50 @@ goes-may (Some (Transfer Accumulator)) packet wire i r r' n is = loaded-next Acc
 
 -- an effect that passes only what is marked
 abbrev pub shorter : List Bool → Effect → Effect
-shorter marks (Goes n r) = Goes (marked n marks) r
+shorter marks (Goes n r) = Goes (count_marked n marks) r
 shorter marks (Ends n) = Ends n
 
 loaded-shorter : (marks : List Bool) (to : Register) (r : Registers) (v : Option ℕ) → loaded to r v ≡ shorter marks (loaded to r v)
 loaded-shorter marks to r None = refl
 loaded-shorter marks to r (Some x) = refl
 
-choice-shorter : (marks : List Bool) (b : Bool) (j k : ℕ) (r : Registers) → Goes (if b then marked j marks else marked k marks) r ≡ shorter marks (Goes (if b then j else k) r)
+choice-shorter : (marks : List Bool) (b : Bool) (j k : ℕ) (r : Registers) → Goes (if b then count_marked j marks else count_marked k marks) r ≡ shorter marks (Goes (if b then j else k) r)
 choice-shorter marks true j k r = refl
 choice-shorter marks false j k r = refl
 
-moved-effect-by : (marks : List Bool) (o : Option Operation) (packet : List ℕ) (wire : ℕ) (i : Insn) (r : Registers) → effect_if o packet wire (moved_by (onward_by o i) marks i) r ≡ shorter marks (effect_if o packet wire i r)
-moved-effect-by marks None packet wire i r = refl
-moved-effect-by marks (Some (LoadAbsolute size)) packet wire i r = loaded-shorter marks Accumulator r (number_at packet i.k size)
-moved-effect-by marks (Some (LoadIndirect size)) packet wire i r = loaded-shorter marks Accumulator r (number_at packet (r.index + i.k) size)
-moved-effect-by marks (Some (LoadImmediate to)) packet wire i r = loaded-shorter marks to r (Some i.k)
-moved-effect-by marks (Some (LoadMemory to)) packet wire i r = loaded-shorter marks to r (Some (slice_index r.memory i.k))
-moved-effect-by marks (Some (LoadLength to)) packet wire i r = loaded-shorter marks to r (Some wire)
-moved-effect-by marks (Some LoadHeaderLength) packet wire i r = loaded-shorter marks Index r (option_map (λ byte. 4 * bit_and byte 15) (number_at packet i.k 1))
-moved-effect-by marks (Some (Store from)) packet wire i r = refl
-moved-effect-by marks (Some (Calculate f v)) packet wire i r = loaded-shorter marks Accumulator r (calculated f r.accumulator (operand v i r))
-moved-effect-by marks (Some Negate) packet wire i r = loaded-shorter marks Accumulator r (calculated Subtract 0 r.accumulator)
-moved-effect-by marks (Some Jump) packet wire i r = refl
-moved-effect-by marks (Some (Branch test Constant)) packet wire i r = choice-shorter marks (holds test r.accumulator i.k) i.jt i.jf r
-moved-effect-by marks (Some (Branch test InIndex)) packet wire i r = choice-shorter marks (holds test r.accumulator r.index) i.jt i.jf r
-moved-effect-by marks (Some ReturnConstant) packet wire i r = refl
-moved-effect-by marks (Some ReturnAccumulator) packet wire i r = refl
-moved-effect-by marks (Some (Transfer Index)) packet wire i r = loaded-shorter marks Index r (Some r.accumulator)
-moved-effect-by marks (Some (Transfer Accumulator)) packet wire i r = loaded-shorter marks Accumulator r (Some r.index)
+shorten_jumps-effect-by : (marks : List Bool) (o : Option Operation) (packet : List ℕ) (wire : ℕ) (i : Insn) (r : Registers) → effect_if o packet wire (shorten_by (onward_by o i) marks i) r ≡ shorter marks (effect_if o packet wire i r)
+shorten_jumps-effect-by marks None packet wire i r = refl
+shorten_jumps-effect-by marks (Some (LoadAbsolute size)) packet wire i r = loaded-shorter marks Accumulator r (number_at packet i.k size)
+shorten_jumps-effect-by marks (Some (LoadIndirect size)) packet wire i r = loaded-shorter marks Accumulator r (number_at packet (r.index + i.k) size)
+shorten_jumps-effect-by marks (Some (LoadImmediate to)) packet wire i r = loaded-shorter marks to r (Some i.k)
+shorten_jumps-effect-by marks (Some (LoadMemory to)) packet wire i r = loaded-shorter marks to r (Some (slice_index r.memory i.k))
+shorten_jumps-effect-by marks (Some (LoadLength to)) packet wire i r = loaded-shorter marks to r (Some wire)
+shorten_jumps-effect-by marks (Some LoadHeaderLength) packet wire i r = loaded-shorter marks Index r (option_map (λ byte. 4 * bit_and byte 15) (number_at packet i.k 1))
+shorten_jumps-effect-by marks (Some (Store from)) packet wire i r = refl
+shorten_jumps-effect-by marks (Some (Calculate f v)) packet wire i r = loaded-shorter marks Accumulator r (calculated f r.accumulator (operand v i r))
+shorten_jumps-effect-by marks (Some Negate) packet wire i r = loaded-shorter marks Accumulator r (calculated Subtract 0 r.accumulator)
+shorten_jumps-effect-by marks (Some Jump) packet wire i r = refl
+shorten_jumps-effect-by marks (Some (Branch test Constant)) packet wire i r = choice-shorter marks (holds test r.accumulator i.k) i.jt i.jf r
+shorten_jumps-effect-by marks (Some (Branch test InIndex)) packet wire i r = choice-shorter marks (holds test r.accumulator r.index) i.jt i.jf r
+shorten_jumps-effect-by marks (Some ReturnConstant) packet wire i r = refl
+shorten_jumps-effect-by marks (Some ReturnAccumulator) packet wire i r = refl
+shorten_jumps-effect-by marks (Some (Transfer Index)) packet wire i r = loaded-shorter marks Index r (Some r.accumulator)
+shorten_jumps-effect-by marks (Some (Transfer Accumulator)) packet wire i r = loaded-shorter marks Accumulator r (Some r.index)
 
-code-kept : (next : Onward) (marks : List Bool) (i : Insn) → (moved_by next marks i).code ≡ i.code
+code-kept : (next : Onward) (marks : List Bool) (i : Insn) → (shorten_by next marks i).code ≡ i.code
 code-kept onward.Nowhere marks i = refl
 code-kept onward.Next marks i = refl
 code-kept (onward.Jump k) marks i = refl
 code-kept (onward.Either jt jf) marks i = refl
 
-moved-code : (marks : List Bool) (i : Insn) → operation_of (moved marks i).code ≡ operation_of i.code
-moved-code marks i = ap operation_of (code-kept (onward_of i) marks i)
+shorten_jumps-code : (marks : List Bool) (i : Insn) → operation_of (shorten_jumps marks i).code ≡ operation_of i.code
+shorten_jumps-code marks i = ap operation_of (code-kept (onward_of i) marks i)
 
-moved-effect : (marks : List Bool) (packet : List ℕ) (wire : ℕ) (i : Insn) (r : Registers) → effect packet wire (moved marks i) r ≡ shorter marks (effect packet wire i r)
+shorten_jumps-effect : (marks : List Bool) (packet : List ℕ) (wire : ℕ) (i : Insn) (r : Registers) → effect packet wire (shorten_jumps marks i) r ≡ shorter marks (effect packet wire i r)
 unfolding effect
-moved-effect marks packet wire i r =
-    ap (λ o. effect_if o packet wire (moved marks i) r) (moved-code marks i)
-    ∙ moved-effect-by marks (operation_of i.code) packet wire i r
+shorten_jumps-effect marks packet wire i r =
+    ap (λ o. effect_if o packet wire (shorten_jumps marks i) r) (shorten_jumps-code marks i)
+    ∙ shorten_jumps-effect-by marks (operation_of i.code) packet wire i r
 
 -- what a marked instruction leads to is marked
 abbrev pub IsClosed : List Insn → List Bool → Type 0
@@ -137,11 +137,11 @@ inside-later mark marks i others inside = λ k is. let below : suc k < suc (leng
 -- the run from a marked instruction on
 answers-first : (marks : List Bool) (i : Insn) (others : List Insn) (packet : List ℕ) (wire : ℕ) (r : Registers)
     → ((n : ℕ) → MayPass (operation_of i.code) i n → IsMarked marks n)
-    → ((n : ℕ) (r' : Registers) → IsMarked marks n → answer (trimmed marks others) packet wire (marked n marks) r' ≡ answer others packet wire n r')
-    → answer (moved marks i ∷ trimmed marks others) packet wire 0 r ≡ answer (i ∷ others) packet wire 0 r
+    → ((n : ℕ) (r' : Registers) → IsMarked marks n → answer (trimmed marks others) packet wire (count_marked n marks) r' ≡ answer others packet wire n r')
+    → answer (shorten_jumps marks i ∷ trimmed marks others) packet wire 0 r ≡ answer (i ∷ others) packet wire 0 r
 unfolding effect
 answers-first marks i others packet wire r closed later =
-    answer-first (moved marks i) (trimmed marks others) packet wire r _ (moved-effect marks packet wire i r)
+    answer-first (shorten_jumps marks i) (trimmed marks others) packet wire r _ (shorten_jumps-effect marks packet wire i r)
     ∙ by_effect (effect packet wire i r) (λ n r' is. goes-may (operation_of i.code) packet wire i r r' n is)
     ∙ sym (answer-first i others packet wire r _ refl)
   where
@@ -150,7 +150,7 @@ answers-first marks i others packet wire r closed later =
     by_effect (Ends n) may = refl
 
 pub answers-trimmed : (marks : List Bool) (program : List Insn) (passed : ℕ) (packet : List ℕ) (wire : ℕ) (r : Registers) → IsClosed program marks → IsMarked marks passed
-    → answer (trimmed marks program) packet wire (marked passed marks) r ≡ answer program packet wire passed r
+    → answer (trimmed marks program) packet wire (count_marked passed marks) r ≡ answer program packet wire passed r
 unfolding answer
 answers-trimmed [] program passed packet wire r closed here = absurd cc
 answers-trimmed (mark ∷ marks) [] passed packet wire r closed here = refl
@@ -162,13 +162,13 @@ answers-trimmed (true ∷ marks) (i ∷ others) (suc passed) packet wire r close
 answers-trimmed (false ∷ marks) (i ∷ others) (suc passed) packet wire r closed here = answers-trimmed marks others passed packet wire r (closed-later false marks i others closed) here
 
 -- a marked place is inside of what is left
-marked-inside : (marks : List Bool) (program : List Insn) (n : ℕ) → IsMarked marks n → n < length program → marked n marks < length (trimmed marks program)
-marked-inside [] program n is within = absurd cc
-marked-inside (mark ∷ marks) [] n is within = absurd (omega arith)
-marked-inside (true ∷ marks) (i ∷ others) zero is within = omega arith
-marked-inside (false ∷ marks) (i ∷ others) zero is within = absurd cc
-marked-inside (true ∷ marks) (i ∷ others) (suc n) is within = omega (arith, marked-inside marks others n is (omega arith))
-marked-inside (false ∷ marks) (i ∷ others) (suc n) is within = marked-inside marks others n is (omega arith)
+count_marked-inside : (marks : List Bool) (program : List Insn) (n : ℕ) → IsMarked marks n → n < length program → count_marked n marks < length (trimmed marks program)
+count_marked-inside [] program n is within = absurd cc
+count_marked-inside (mark ∷ marks) [] n is within = absurd (omega arith)
+count_marked-inside (true ∷ marks) (i ∷ others) zero is within = omega arith
+count_marked-inside (false ∷ marks) (i ∷ others) zero is within = absurd cc
+count_marked-inside (true ∷ marks) (i ∷ others) (suc n) is within = omega (arith, count_marked-inside marks others n is (omega arith))
+count_marked-inside (false ∷ marks) (i ∷ others) (suc n) is within = count_marked-inside marks others n is (omega arith)
 
 pub trimmed-within : (marks : List Bool) (program : List Insn) → length (trimmed marks program) ≤ length program
 trimmed-within [] program = omega arith
@@ -177,36 +177,36 @@ trimmed-within (true ∷ marks) (i ∷ others) = omega (arith, trimmed-within ma
 trimmed-within (false ∷ marks) (i ∷ others) = omega (arith, trimmed-within marks others)
 
 -- an instruction that was sound is so where all that it may pass is there
-moved-fault : (marks : List Bool) (o : Option Operation) (i : Insn) (size place rest : ℕ) → fault_in o size place i ≡ None → ((n : ℕ) → MayPass o i n → marked n marks < rest)
-    → fault_in o (rest + 1) 0 (moved_by (onward_by o i) marks i) ≡ None
-moved-fault marks None i size place rest none inside = absurd cc
-moved-fault marks (Some Jump) i size place rest none inside =
+shorten_jumps-fault : (marks : List Bool) (o : Option Operation) (i : Insn) (size place rest : ℕ) → fault_in o size place i ≡ None → ((n : ℕ) → MayPass o i n → count_marked n marks < rest)
+    → fault_in o (rest + 1) 0 (shorten_by (onward_by o i) marks i) ≡ None
+shorten_jumps-fault marks None i size place rest none inside = absurd cc
+shorten_jumps-fault marks (Some Jump) i size place rest none inside =
     let below = inside i.k refl in
-    let test : nat_lt (0 + 1 + marked i.k marks) (rest + 1) ≡ true = grind (arith, nat_tests) in
+    let test : nat_lt (0 + 1 + count_marked i.k marks) (rest + 1) ≡ true = grind (arith, nat_tests) in
     unless-true _ (JumpOut 0) test
-moved-fault marks (Some (Branch test v)) i size place rest none inside =
-    unless-true _ (JumpOut 0) (both-inside (marked i.jt marks) (marked i.jf marks) rest (inside i.jt (inl refl)) (inside i.jf (inr refl)))
-moved-fault marks (Some (LoadMemory to)) i size place rest none inside = same-bar _ (Cell place) (Cell 0) none
-moved-fault marks (Some (Store from)) i size place rest none inside = same-bar _ (Cell place) (Cell 0) none
-moved-fault marks (Some (Calculate Divide Constant)) i size place rest none inside = same-bar _ (ZeroDivisor place) (ZeroDivisor 0) none
-moved-fault marks (Some (Calculate Divide InIndex)) i size place rest none inside = refl
-moved-fault marks (Some (Calculate Modulo Constant)) i size place rest none inside = same-bar _ (ZeroDivisor place) (ZeroDivisor 0) none
-moved-fault marks (Some (Calculate Modulo InIndex)) i size place rest none inside = refl
-moved-fault marks (Some (Calculate Add v)) i size place rest none inside = refl
-moved-fault marks (Some (Calculate Subtract v)) i size place rest none inside = refl
-moved-fault marks (Some (Calculate Multiply v)) i size place rest none inside = refl
-moved-fault marks (Some (Calculate Or v)) i size place rest none inside = refl
-moved-fault marks (Some (Calculate And v)) i size place rest none inside = refl
-moved-fault marks (Some (Calculate ShiftLeft v)) i size place rest none inside = refl
-moved-fault marks (Some (Calculate ShiftRight v)) i size place rest none inside = refl
-moved-fault marks (Some (Calculate ExclusiveOr v)) i size place rest none inside = refl
-moved-fault marks (Some other) i size place rest none inside = refl
+shorten_jumps-fault marks (Some (Branch test v)) i size place rest none inside =
+    unless-true _ (JumpOut 0) (both-inside (count_marked i.jt marks) (count_marked i.jf marks) rest (inside i.jt (inl refl)) (inside i.jf (inr refl)))
+shorten_jumps-fault marks (Some (LoadMemory to)) i size place rest none inside = same-bar _ (Cell place) (Cell 0) none
+shorten_jumps-fault marks (Some (Store from)) i size place rest none inside = same-bar _ (Cell place) (Cell 0) none
+shorten_jumps-fault marks (Some (Calculate Divide Constant)) i size place rest none inside = same-bar _ (ZeroDivisor place) (ZeroDivisor 0) none
+shorten_jumps-fault marks (Some (Calculate Divide InIndex)) i size place rest none inside = refl
+shorten_jumps-fault marks (Some (Calculate Modulo Constant)) i size place rest none inside = same-bar _ (ZeroDivisor place) (ZeroDivisor 0) none
+shorten_jumps-fault marks (Some (Calculate Modulo InIndex)) i size place rest none inside = refl
+shorten_jumps-fault marks (Some (Calculate Add v)) i size place rest none inside = refl
+shorten_jumps-fault marks (Some (Calculate Subtract v)) i size place rest none inside = refl
+shorten_jumps-fault marks (Some (Calculate Multiply v)) i size place rest none inside = refl
+shorten_jumps-fault marks (Some (Calculate Or v)) i size place rest none inside = refl
+shorten_jumps-fault marks (Some (Calculate And v)) i size place rest none inside = refl
+shorten_jumps-fault marks (Some (Calculate ShiftLeft v)) i size place rest none inside = refl
+shorten_jumps-fault marks (Some (Calculate ShiftRight v)) i size place rest none inside = refl
+shorten_jumps-fault marks (Some (Calculate ExclusiveOr v)) i size place rest none inside = refl
+shorten_jumps-fault marks (Some other) i size place rest none inside = refl
 
-moved-sound : (marks : List Bool) (i : Insn) (rest : ℕ) → IsSound i → ((n : ℕ) → MayPass (operation_of i.code) i n → marked n marks < rest) → fault_of (rest + 1) 0 (moved marks i) ≡ None
+shorten_jumps-sound : (marks : List Bool) (i : Insn) (rest : ℕ) → IsSound i → ((n : ℕ) → MayPass (operation_of i.code) i n → count_marked n marks < rest) → fault_of (rest + 1) 0 (shorten_jumps marks i) ≡ None
 unfolding fault_of
-moved-sound marks i rest (size, place, none) inside =
-    ap (λ o. fault_in o (rest + 1) 0 (moved marks i)) (moved-code marks i)
-    ∙ moved-fault marks (operation_of i.code) i size place rest none inside
+shorten_jumps-sound marks i rest (size, place, none) inside =
+    ap (λ o. fault_in o (rest + 1) 0 (shorten_jumps marks i)) (shorten_jumps-code marks i)
+    ∙ shorten_jumps-fault marks (operation_of i.code) i size place rest none inside
 
 -- a sound instruction is a return, or leads somewhere
 returns-or-goes : (o : Option Operation) (i : Insn) (size place : ℕ) → fault_in o size place i ≡ None → (is_return_code o ≡ true) ⊎ ((n : ℕ) × MayPass o i n)
@@ -225,19 +225,19 @@ single-sound i none returns = record { some = omega arith; sound = each; returns
     each (suc k) j within here = absurd (omega arith)
 
 -- the last instruction that is left is a return
-last-returns : (marks : List Bool) (i : Insn) → IsSound i → ((n : ℕ) → MayPass (operation_of i.code) i n → marked n marks < 0) → is_return (moved marks i) ≡ true
+last-returns : (marks : List Bool) (i : Insn) → IsSound i → ((n : ℕ) → MayPass (operation_of i.code) i n → count_marked n marks < 0) → is_return (shorten_jumps marks i) ≡ true
 unfolding fault_of is_return
-last-returns marks i (size, place, none) inside = ap is_return_code (moved-code marks i) ∙ by_next (returns-or-goes (operation_of i.code) i size place none)
+last-returns marks i (size, place, none) inside = ap is_return_code (shorten_jumps-code marks i) ∙ by_next (returns-or-goes (operation_of i.code) i size place none)
   where
     by_next : (is_return_code (operation_of i.code) ≡ true) ⊎ ((n : ℕ) × MayPass (operation_of i.code) i n) → is_return_code (operation_of i.code) ≡ true
     by_next (inl is) = is
     by_next (inr (n, may)) = let below = inside n may in absurd (omega arith)
 
-sound-first : (marks : List Bool) (i : Insn) (rest : List Insn) → IsSound i → ((n : ℕ) → MayPass (operation_of i.code) i n → marked n marks < length rest)
-    → (rest ≡ []) ⊎ IsSoundCode rest → IsSoundCode (moved marks i ∷ rest)
-sound-first marks i [] sound inside code = single-sound (moved marks i) (moved-sound marks i 0 sound inside) (last-returns marks i sound inside)
+sound-first : (marks : List Bool) (i : Insn) (rest : List Insn) → IsSound i → ((n : ℕ) → MayPass (operation_of i.code) i n → count_marked n marks < length rest)
+    → (rest ≡ []) ⊎ IsSoundCode rest → IsSoundCode (shorten_jumps marks i ∷ rest)
+sound-first marks i [] sound inside code = single-sound (shorten_jumps marks i) (shorten_jumps-sound marks i 0 sound inside) (last-returns marks i sound inside)
 sound-first marks i (j ∷ rest) sound inside (inl none) = absurd cc
-sound-first marks i (j ∷ rest) sound inside (inr code) = sound-grown (moved marks i) (j ∷ rest) code (moved-sound marks i (length (j ∷ rest)) sound inside)
+sound-first marks i (j ∷ rest) sound inside (inr code) = sound-grown (shorten_jumps marks i) (j ∷ rest) code (shorten_jumps-sound marks i (length (j ∷ rest)) sound inside)
 
 pub sound-trimmed : (marks : List Bool) (program : List Insn) → ((k : ℕ) (i : Insn) → slice_get program k ≡ Some i → IsSound i) → IsClosed program marks → IsInside program marks
     → (trimmed marks program ≡ []) ⊎ IsSoundCode (trimmed marks program)
@@ -246,7 +246,7 @@ sound-trimmed (mark ∷ marks) [] sound closed inside = inl refl
 sound-trimmed (true ∷ marks) (i ∷ others) sound closed inside =
     let inside' = inside-later true marks i others inside in
     inr (sound-first marks i (trimmed marks others) (sound 0 i refl)
-    (λ n may. let is = closed-here marks i others n closed may in marked-inside marks others n is (inside' n is))
+    (λ n may. let is = closed-here marks i others n closed may in count_marked-inside marks others n is (inside' n is))
     (sound-trimmed marks others (λ k j here. sound (suc k) j here) (closed-later true marks i others closed) inside'))
 sound-trimmed (false ∷ marks) (i ∷ others) sound closed inside =
     sound-trimmed marks others (λ k j here. sound (suc k) j here) (closed-later false marks i others closed) (inside-later false marks i others inside)
@@ -255,50 +255,50 @@ closed-of : (marks : List Bool) (program : List Insn) → Marks program marks �
 closed-of marks program all = λ k n i here is may. all.closed k n i (slice_get_within program k i here) here is may
 
 -- where a marked instruction led, it leads as well once moved
-moved-may-by : (marks : List Bool) (o : Option Operation) (i : Insn) (n : ℕ) → MayPass o i n → MayPass o (moved_by (onward_by o i) marks i) (marked n marks)
-moved-may-by marks None i n may = may
-moved-may-by marks (Some ReturnConstant) i n may = may
-moved-may-by marks (Some ReturnAccumulator) i n may = may
-moved-may-by marks (Some Jump) i n may = ap (λ m. marked m marks) may
-moved-may-by marks (Some (Branch test v)) i n (inl may) = inl (ap (λ m. marked m marks) may)
-moved-may-by marks (Some (Branch test v)) i n (inr may) = inr (ap (λ m. marked m marks) may)
-moved-may-by marks (Some other) i n may = ap (λ m. marked m marks) may
+shorten_jumps-may-by : (marks : List Bool) (o : Option Operation) (i : Insn) (n : ℕ) → MayPass o i n → MayPass o (shorten_by (onward_by o i) marks i) (count_marked n marks)
+shorten_jumps-may-by marks None i n may = may
+shorten_jumps-may-by marks (Some ReturnConstant) i n may = may
+shorten_jumps-may-by marks (Some ReturnAccumulator) i n may = may
+shorten_jumps-may-by marks (Some Jump) i n may = ap (λ m. count_marked m marks) may
+shorten_jumps-may-by marks (Some (Branch test v)) i n (inl may) = inl (ap (λ m. count_marked m marks) may)
+shorten_jumps-may-by marks (Some (Branch test v)) i n (inr may) = inr (ap (λ m. count_marked m marks) may)
+shorten_jumps-may-by marks (Some other) i n may = ap (λ m. count_marked m marks) may
 
-moved-may : (marks : List Bool) (i : Insn) (n : ℕ) → MayPass (operation_of i.code) i n → MayPass (operation_of (moved marks i).code) (moved marks i) (marked n marks)
-moved-may marks i n may =
-    subst (λ (o : Option Operation). MayPass o (moved marks i) (marked n marks)) (sym (moved-code marks i)) (moved-may-by marks (operation_of i.code) i n may)
+shorten_jumps-may : (marks : List Bool) (i : Insn) (n : ℕ) → MayPass (operation_of i.code) i n → MayPass (operation_of (shorten_jumps marks i).code) (shorten_jumps marks i) (count_marked n marks)
+shorten_jumps-may marks i n may =
+    subst (λ (o : Option Operation). MayPass o (shorten_jumps marks i) (count_marked n marks)) (sym (shorten_jumps-code marks i)) (shorten_jumps-may-by marks (operation_of i.code) i n may)
 
 leads-later : (i : Insn) (program : List Insn) (from to : ℕ) → LeadsTo program from to → LeadsTo (i ∷ program) (suc from) (suc to)
 leads-later i program from to leads = record { insn = leads.insn; passed = leads.passed; here = leads.here; may = leads.may; is = omega (arith, leads.is) }
 
 leads-trimmed : (marks : List Bool) (program : List Insn) (from n : ℕ) (i : Insn) → slice_get program from ≡ Some i → IsMarked marks from → MayPass (operation_of i.code) i n
-    → LeadsTo (trimmed marks program) (marked from marks) (marked (suc (from + n)) marks)
+    → LeadsTo (trimmed marks program) (count_marked from marks) (count_marked (suc (from + n)) marks)
 leads-trimmed [] program from n i here is may = absurd cc
 leads-trimmed (mark ∷ marks) [] from n i here is may = absurd cc
 leads-trimmed (true ∷ marks) (j ∷ others) zero n i here is may =
     let same : j ≡ i = cc in
     let at : 0 + n ≡ n = omega arith in
     record {
-      insn = moved marks j;
-      passed = marked n marks;
+      insn = shorten_jumps marks j;
+      passed = count_marked n marks;
       here = refl;
-      may = moved-may marks j n (subst (λ (x : Insn). MayPass (operation_of x.code) x n) (sym same) may);
-      is = ap (λ m. suc (marked m marks)) at ∙ omega arith;
+      may = shorten_jumps-may marks j n (subst (λ (x : Insn). MayPass (operation_of x.code) x n) (sym same) may);
+      is = ap (λ m. suc (count_marked m marks)) at ∙ omega arith;
     }
 leads-trimmed (false ∷ marks) (j ∷ others) zero n i here is may = absurd cc
 leads-trimmed (true ∷ marks) (j ∷ others) (suc from) n i here is may =
     let at : suc from + n ≡ suc (from + n) = omega arith in
-    subst (λ m. LeadsTo (moved marks j ∷ trimmed marks others) (suc (marked from marks)) (suc (marked m marks))) (sym at)
-    (leads-later (moved marks j) (trimmed marks others) _ _ (leads-trimmed marks others from n i here is may))
+    subst (λ m. LeadsTo (shorten_jumps marks j ∷ trimmed marks others) (suc (count_marked from marks)) (suc (count_marked m marks))) (sym at)
+    (leads-later (shorten_jumps marks j) (trimmed marks others) _ _ (leads-trimmed marks others from n i here is may))
 leads-trimmed (false ∷ marks) (j ∷ others) (suc from) n i here is may =
     let at : suc from + n ≡ suc (from + n) = omega arith in
-    subst (λ m. LeadsTo (trimmed marks others) (marked from marks) (marked m marks)) (sym at) (leads-trimmed marks others from n i here is may)
+    subst (λ m. LeadsTo (trimmed marks others) (count_marked from marks) (count_marked m marks)) (sym at) (leads-trimmed marks others from n i here is may)
 
 -- each instruction that is left was at a marked place
 record WasAt (marks : List Bool) (k : ℕ) : Type 0 where
   pub place : ℕ
   pub is : IsMarked marks place
-  pub now : marked place marks ≡ k
+  pub now : count_marked place marks ≡ k
 
 was-at : (marks : List Bool) (program : List Insn) (k : ℕ) → k < length (trimmed marks program) → WasAt marks k
 was-at [] program k within = absurd (omega arith)
@@ -313,21 +313,21 @@ was-at (false ∷ marks) (i ∷ others) k within =
 
 -- a path leads to what is left of each marked place
 path-to : (fuel : ℕ) (marks : List Bool) (program : List Insn) (place : ℕ) → MarksBefore program (length program) marks → place < fuel → IsMarked marks place
-    → (n : ℕ) × IsPath (trimmed marks program) n (marked place marks)
+    → (n : ℕ) × IsPath (trimmed marks program) n (count_marked place marks)
 path-to zero marks program place all within is = absurd (omega arith)
 path-to (suc fuel) marks program place all within is = by_led (λ from below is'. path-to fuel marks program from all below is') (all.led place is)
   where
-    by_led : ((from : ℕ) → from < fuel → IsMarked marks from → (n : ℕ) × IsPath (trimmed marks program) n (marked from marks))
-        → (place ≡ 0) ⊎ ((from : ℕ) × IsMarked marks from × LeadsTo program from place) → (n : ℕ) × IsPath (trimmed marks program) n (marked place marks)
-    by_led earlier (inl first) = (0, ap (λ m. marked m marks) first)
+    by_led : ((from : ℕ) → from < fuel → IsMarked marks from → (n : ℕ) × IsPath (trimmed marks program) n (count_marked from marks))
+        → (place ≡ 0) ⊎ ((from : ℕ) × IsMarked marks from × LeadsTo program from place) → (n : ℕ) × IsPath (trimmed marks program) n (count_marked place marks)
+    by_led earlier (inl first) = (0, ap (λ m. count_marked m marks) first)
     by_led earlier (inr (from, is', leads)) =
         let before = earlier from (omega (arith, leads.is)) is' in
         let at : suc (from + leads.passed) ≡ place = omega (arith, leads.is) in (
           suc before.0,
           (
-            marked from marks,
+            count_marked from marks,
             before.1,
-            subst (λ m. LeadsTo (trimmed marks program) (marked from marks) (marked m marks)) at (leads-trimmed marks program from leads.passed leads.insn leads.here is' leads.may),
+            subst (λ m. LeadsTo (trimmed marks program) (count_marked from marks) (count_marked m marks)) at (leads-trimmed marks program from leads.passed leads.insn leads.here is' leads.may),
           ),
         )
 
@@ -384,7 +384,7 @@ trimmed-sound marks program code all =
     by_cases (sound-trimmed marks program (λ k i here. program-sound program k i code here (slice_get_within program k i here)) (closed-of marks program all) all.inside)
   where
     by_cases : (trimmed marks program ≡ []) ⊎ IsSoundCode (trimmed marks program) → IsSoundCode (trimmed marks program)
-    by_cases (inl none) = let some = marked-inside marks program 0 all.first (all.inside 0 all.first) in absurd (omega (arith, ap length none))
+    by_cases (inl none) = let some = count_marked-inside marks program 0 all.first (all.inside 0 all.first) in absurd (omega (arith, ap length none))
     by_cases (inr code') = code'
 
 pub trimmed-same : (marks : List Bool) (program : List Insn) → Marks program marks → (packet : List ℕ) (wire : ℕ) → verdict (trimmed marks program) packet wire ≡ verdict program packet wire
@@ -393,25 +393,25 @@ trimmed-same marks program all packet wire =
     answers-trimmed marks program 0 packet wire initial (closed-of marks program all) all.first
 
 -- how many are marked, one place farther
-pub marked-more : (marks : List Bool) (n : ℕ) → n < length marks → marked (suc n) marks ≡ marked n marks + (if get_or marks n false then 1 else 0)
-marked-more [] n within = absurd (omega arith)
-marked-more (true ∷ marks) zero within = refl
-marked-more (false ∷ marks) zero within = refl
-marked-more (true ∷ marks) (suc n) within = ap suc (marked-more marks n (omega arith)) ∙ omega arith
-marked-more (false ∷ marks) (suc n) within = marked-more marks n (omega arith)
+pub count_marked-more : (marks : List Bool) (n : ℕ) → n < length marks → count_marked (suc n) marks ≡ count_marked n marks + (if get_or marks n false then 1 else 0)
+count_marked-more [] n within = absurd (omega arith)
+count_marked-more (true ∷ marks) zero within = refl
+count_marked-more (false ∷ marks) zero within = refl
+count_marked-more (true ∷ marks) (suc n) within = ap suc (count_marked-more marks n (omega arith)) ∙ omega arith
+count_marked-more (false ∷ marks) (suc n) within = count_marked-more marks n (omega arith)
 
-pub marked-within : (marks : List Bool) (n : ℕ) → marked n marks ≤ n
-marked-within marks zero = omega arith
-marked-within [] (suc n) = omega arith
-marked-within (true ∷ marks) (suc n) = omega (arith, marked-within marks n)
-marked-within (false ∷ marks) (suc n) = omega (arith, marked-within marks n)
+pub count_marked-within : (marks : List Bool) (n : ℕ) → count_marked n marks ≤ n
+count_marked-within marks zero = omega arith
+count_marked-within [] (suc n) = omega arith
+count_marked-within (true ∷ marks) (suc n) = omega (arith, count_marked-within marks n)
+count_marked-within (false ∷ marks) (suc n) = omega (arith, count_marked-within marks n)
 
 -- marks where a run may go on, by a write or two
 pub marks-none : (place : ℕ) (marks : List Bool) → MarksNext place onward.Nowhere marks marks
 marks-none place marks = record { size = refl; kept = λ k is. is; added = λ n may. absurd may; only = λ k is. inl is }
 
-set-marked : (marks : List Bool) (place k : ℕ) → place < length marks → IsMarked marks k → IsMarked (set marks place true) k
-set-marked marks place k within is = by_place (cases_eq k place)
+set-count_marked : (marks : List Bool) (place k : ℕ) → place < length marks → IsMarked marks k → IsMarked (set marks place true) k
+set-count_marked marks place k within is = by_place (cases_eq k place)
   where
     by_place : (k ≡ place) ⊎ (k ≢ place) → IsMarked (set marks place true) k
     by_place (inl same) = rw same (get_or-set_same marks place true false within)
@@ -448,7 +448,7 @@ pub marks-one : (place n at : ℕ) (next : Onward) (marks : List Bool) → at �
     → MarksNext place next marks (set marks at true)
 marks-one place n at next marks is within may alone = record {
   size = length-set marks at true;
-  kept = λ k is'. set-marked marks at k within is';
+  kept = λ k is'. set-count_marked marks at k within is';
   added = λ m may'.
       let here : at ≡ place + 1 + m = omega (arith, alone m may') in
       subst (λ k. IsMarked (set marks at true) k) here (get_or-set_same marks at true false within);
@@ -467,7 +467,7 @@ marks-two place jt jf at at' marks is is' within within' =
     let within-mid : at' < length mid = omega arith in
     record {
       size = length-set mid at' true ∙ size;
-      kept = λ k before. set-marked mid at' k within-mid (set-marked marks at k within before);
+      kept = λ k before. set-count_marked mid at' k within-mid (set-count_marked marks at k within before);
       added = λ m may. by_exit m may within-mid;
       only = λ k now. by_second k (set-only mid at' k within-mid now);
     }
@@ -475,7 +475,7 @@ marks-two place jt jf at at' marks is is' within within' =
     by_exit : (m : ℕ) → (m ≡ jt) ⊎ (m ≡ jf) → at' < length (set marks at true) → IsMarked (set (set marks at true) at' true) (place + 1 + m)
     by_exit m (inl same) within-mid =
         let here : at ≡ place + 1 + m = omega arith in
-        subst (λ k. IsMarked (set (set marks at true) at' true) k) here (set-marked (set marks at true) at' at within-mid (get_or-set_same marks at true false within))
+        subst (λ k. IsMarked (set (set marks at true) at' true) k) here (set-count_marked (set marks at true) at' at within-mid (get_or-set_same marks at true false within))
     by_exit m (inr same) within-mid =
         let here : at' ≡ place + 1 + m = omega arith in
         subst (λ k. IsMarked (set (set marks at true) at' true) k) here (get_or-set_same (set marks at true) at' true false within-mid)
@@ -572,26 +572,26 @@ marks-all program place marks through all = record {
 }
 
 -- the instructions at the marked places, one place farther
-trimmed-marked : (marks : List Bool) (program : List Insn) (place : ℕ) (d : Insn) → place < length program → place < length marks → get_or marks place false ≡ true
-    → trimmed (drop place marks) (drop place program) ≡ moved (drop (suc place) marks) (get_or program place d) ∷ trimmed (drop (suc place) marks) (drop (suc place) program)
-trimmed-marked marks program place d within room mark = rw (drop-cons marks place false room, drop-cons program place d within, mark) refl
+trimmed-count_marked : (marks : List Bool) (program : List Insn) (place : ℕ) (d : Insn) → place < length program → place < length marks → get_or marks place false ≡ true
+    → trimmed (drop place marks) (drop place program) ≡ shorten_jumps (drop (suc place) marks) (get_or program place d) ∷ trimmed (drop (suc place) marks) (drop (suc place) program)
+trimmed-count_marked marks program place d within room mark = rw (drop-cons marks place false room, drop-cons program place d within, mark) refl
 
 trimmed-unmarked : (marks : List Bool) (program : List Insn) (place : ℕ) (d : Insn) → place < length program → place < length marks → get_or marks place false ≡ false
     → trimmed (drop place marks) (drop place program) ≡ trimmed (drop (suc place) marks) (drop (suc place) program)
 trimmed-unmarked marks program place d within room mark = rw (drop-cons marks place false room, drop-cons program place d within, mark) refl
 
 pub kept-step : (marks : List Bool) (program kept kept' whole : List Insn) (place : ℕ) (d : Insn) (i : Insn) → place < length program → place < length marks → get_or marks place false ≡ true
-    → i ≡ moved (take (length marks - (place + 1)) (drop (place + 1) marks)) (get_or program place d) → kept' ≡ kept ++ i ∷ []
+    → i ≡ shorten_jumps (take (length marks - (place + 1)) (drop (place + 1) marks)) (get_or program place d) → kept' ≡ kept ++ i ∷ []
     → kept ++ trimmed (drop place marks) (drop place program) ≡ whole → kept' ++ trimmed (drop (place + 1) marks) (drop (place + 1) program) ≡ whole
 kept-step marks program kept kept' whole place d i within room mark is kept-is before =
     let one : place + 1 ≡ suc place = omega arith in
     let whole' : take (length marks - (place + 1)) (drop (place + 1) marks) ≡ drop (suc place) marks =
     take_all _ _ (omega (arith, length-drop (place + 1) marks)) ∙ ap (λ n. drop n marks) one in
-    let is' : i ≡ moved (drop (suc place) marks) (get_or program place d) = is ∙ ap (λ l. moved l (get_or program place d)) whole' in
+    let is' : i ≡ shorten_jumps (drop (suc place) marks) (get_or program place d) = is ∙ ap (λ l. shorten_jumps l (get_or program place d)) whole' in
     rw (one, kept-is)
     (append_assoc kept (i ∷ []) _
     ∙ ap (λ x. kept ++ x ∷ trimmed (drop (suc place) marks) (drop (suc place) program)) is'
-    ∙ ap (λ l. kept ++ l) (sym (trimmed-marked marks program place d within room mark))
+    ∙ ap (λ l. kept ++ l) (sym (trimmed-count_marked marks program place d within room mark))
     ∙ before)
 
 pub pushed-length : (kept kept' : List Insn) (i : Insn) → kept' ≡ kept ++ i ∷ [] → length kept' ≡ length kept + 1
@@ -611,10 +611,10 @@ pub kept-all : (marks : List Bool) (program kept whole : List Insn) (place : ℕ
 kept-all marks program kept whole place through before =
     sym (ap (λ l. kept ++ trimmed (drop place marks) l) (drop_all place program through) ∙ ap (λ l. kept ++ l) (trimmed-none (drop place marks)) ∙ append-nil kept) ∙ before
 
-pub none-marked : (n k : ℕ) → get_or (replicate n false) k false ≡ false
-none-marked zero k = refl
-none-marked (suc n) zero = refl
-none-marked (suc n) (suc k) = none-marked n k
+pub none-count_marked : (n k : ℕ) → get_or (replicate n false) k false ≡ false
+none-count_marked zero k = refl
+none-count_marked (suc n) zero = refl
+none-count_marked (suc n) (suc k) = none-count_marked n k
 
 -- as the code says it
 pub next-inside : (program : List Insn) (place n : ℕ) (d : Insn) (goes : Onward) → IsSoundCode program → place < length program → goes ≡ onward_of (get_or program place d) → MayGo goes n → place + 1 + n < length program
@@ -626,32 +626,32 @@ next-inside program place n d goes code within is may =
 pub next-sound : (program : List Insn) (place : ℕ) (d : Insn) → IsSoundCode program → place < length program → IsSound (get_or program place d)
 next-sound program place d code within = program-sound program place (get_or program place d) code (slice_get-get_or program place d within) within
 
-pub next-marked : (program : List Insn) (place : ℕ) (d : Insn) (goes : Onward) (marks marks' : List Bool) → IsSoundCode program → place < length program → goes ≡ onward_of (get_or program place d)
+pub next-count_marked : (program : List Insn) (place : ℕ) (d : Insn) (goes : Onward) (marks marks' : List Bool) → IsSoundCode program → place < length program → goes ≡ onward_of (get_or program place d)
     → IsMarked marks place → MarksBefore program place marks → MarksNext place goes marks marks' → MarksBefore program (place + 1) marks'
-next-marked program place d goes marks marks' code within is here all new =
+next-count_marked program place d goes marks marks' code within is here all new =
     marks-step program place (get_or program place d) marks marks' code (slice_get-get_or program place d within) within here all (subst (λ (x : Onward). MarksNext place x marks marks') is new)
 
 -- the marks behind a place
-pub behind-inside : (marks : List Bool) (place n : ℕ) → place + 1 + n < length marks → n ≤ length (take (length marks - (place + 1)) (drop (place + 1) marks))
-behind-inside marks place n below =
+pub after-inside : (marks : List Bool) (place n : ℕ) → place + 1 + n < length marks → n ≤ length (take (length marks - (place + 1)) (drop (place + 1) marks))
+after-inside marks place n below =
     let whole = take_all (length marks - (place + 1)) (drop (place + 1) marks) (omega (arith, length-drop (place + 1) marks)) in
     omega (arith, ap length whole, length-drop (place + 1) marks)
 
 -- one more of the first marks is counted, or not
-pub counted : (marks : List Bool) (passed n k : ℕ) → n < length (take passed marks) → k ≡ marked n marks → get_or (take passed marks) n false ≡ true → k + 1 ≡ marked (n + 1) marks
+pub counted : (marks : List Bool) (passed n k : ℕ) → n < length (take passed marks) → k ≡ count_marked n marks → get_or (take passed marks) n false ≡ true → k + 1 ≡ count_marked (n + 1) marks
 counted marks passed n k within is mark =
     let at : n + 1 ≡ suc n = omega arith in
     let before : n < passed = omega (arith, length-take passed marks) in
     let inside : n < length marks = omega (arith, length-take passed marks) in
     let this : get_or marks n false ≡ true = sym (get_or-take passed marks n false before) ∙ mark in
-    let more : marked (suc n) marks ≡ marked n marks + 1 = marked-more marks n inside ∙ ap (λ b. marked n marks + (if b then 1 else 0)) this in
+    let more : count_marked (suc n) marks ≡ count_marked n marks + 1 = count_marked-more marks n inside ∙ ap (λ b. count_marked n marks + (if b then 1 else 0)) this in
     rw at (omega (arith, is, more))
 
-pub uncounted : (marks : List Bool) (passed n k : ℕ) → n < length (take passed marks) → k ≡ marked n marks → get_or (take passed marks) n false ≡ false → k ≡ marked (n + 1) marks
+pub uncounted : (marks : List Bool) (passed n k : ℕ) → n < length (take passed marks) → k ≡ count_marked n marks → get_or (take passed marks) n false ≡ false → k ≡ count_marked (n + 1) marks
 uncounted marks passed n k within is mark =
     let at : n + 1 ≡ suc n = omega arith in
     let before : n < passed = omega (arith, length-take passed marks) in
     let inside : n < length marks = omega (arith, length-take passed marks) in
     let this : get_or marks n false ≡ false = sym (get_or-take passed marks n false before) ∙ mark in
-    let more : marked (suc n) marks ≡ marked n marks + 0 = marked-more marks n inside ∙ ap (λ b. marked n marks + (if b then 1 else 0)) this in
+    let more : count_marked (suc n) marks ≡ count_marked n marks + 0 = count_marked-more marks n inside ∙ ap (λ b. count_marked n marks + (if b then 1 else 0)) this in
     rw at (omega (arith, is, more))

@@ -1,4 +1,4 @@
--- How instructions that nothing reaches are taken out. Private clauses alone say this.
+-- How instructions that nothing reaches are removed. Only private clauses use this.
 use Rattle.std.specs.Prelude.{◌≡◌, ℕ, zero, suc, ◌+◌, ◌<◌, ◌⊎◌, Bool, true, false, List, [], ◌∷◌, length, Option, Some, None, slice_get, slice_index_or}
 use Rattle.bpfvm.specs.declared.insn.Insn.{Insn}
 use Rattle.bpfvm.specs.Codes.{Operation, Jump, Branch, ReturnConstant, ReturnAccumulator, operation_of}
@@ -7,7 +7,7 @@ use Rattle.filtergen_trim.specs.declared.unreached.Onward.{Onward}
 use Rattle.filtergen_trim.specs.declared.unreached.Onward.TheVariants as onward
 use Rattle.filtergen_trim.specs.Reaching.{MayPass, LeadsTo}
 
--- where a run goes on behind an instruction of this operation
+-- where a run goes on after an instruction of this operation
 abbrev pub onward_by : Option Operation → Insn → Onward
 onward_by None i = onward.Nowhere
 onward_by (Some ReturnConstant) i = onward.Nowhere
@@ -34,27 +34,27 @@ abbrev pub IsMarked : List Bool → ℕ → Type 0
 IsMarked marks place = slice_index_or marks place false ≡ true
 
 -- how many of the first places are marked
-abbrev pub marked : ℕ → List Bool → ℕ
-marked zero marks = 0
-marked (suc n) [] = 0
-marked (suc n) (true ∷ marks) = suc (marked n marks)
-marked (suc n) (false ∷ marks) = marked n marks
+abbrev pub count_marked : ℕ → List Bool → ℕ
+count_marked zero marks = 0
+count_marked (suc n) [] = 0
+count_marked (suc n) (true ∷ marks) = suc (count_marked n marks)
+count_marked (suc n) (false ∷ marks) = count_marked n marks
 
 -- an instruction that passes only what is marked of what it passed
-abbrev pub moved_by : Onward → List Bool → Insn → Insn
-moved_by onward.Nowhere behind i = i
-moved_by onward.Next behind i = i
-moved_by (onward.Jump k) behind i = record { code = i.code; jt = i.jt; jf = i.jf; k = marked k behind }
-moved_by (onward.Either jt jf) behind i = record { code = i.code; jt = marked jt behind; jf = marked jf behind; k = i.k }
+abbrev pub shorten_by : Onward → List Bool → Insn → Insn
+shorten_by onward.Nowhere after i = i
+shorten_by onward.Next after i = i
+shorten_by (onward.Jump k) after i = record { code = i.code; jt = i.jt; jf = i.jf; k = count_marked k after }
+shorten_by (onward.Either jt jf) after i = record { code = i.code; jt = count_marked jt after; jf = count_marked jf after; k = i.k }
 
-abbrev pub moved : List Bool → Insn → Insn
-moved behind i = moved_by (onward_of i) behind i
+abbrev pub shorten_jumps : List Bool → Insn → Insn
+shorten_jumps after i = shorten_by (onward_of i) after i
 
 -- the instructions at the marked places
 abbrev pub trimmed : List Bool → List Insn → List Insn
 trimmed [] program = []
 trimmed (mark ∷ marks) [] = []
-trimmed (true ∷ marks) (i ∷ others) = moved marks i ∷ trimmed marks others
+trimmed (true ∷ marks) (i ∷ others) = shorten_jumps marks i ∷ trimmed marks others
 trimmed (false ∷ marks) (i ∷ others) = trimmed marks others
 
 -- where a run goes on from a place is marked, beside what was

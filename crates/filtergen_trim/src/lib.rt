@@ -3,4 +3,4 @@
 
 mod unreached;
 
-pub use unreached::{MAX_CODE, without_unreached};
+pub use unreached::{MAX_CODE, trim_unreached};

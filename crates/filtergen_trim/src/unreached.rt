@@ -4,7 +4,7 @@ ghost use Rattle.std.specs.Prelude.{◌≡◌, ℕ, ◌+◌, ◌<◌, ◌≤◌,
 ghost use Rattle.bpfvm.specs.Machine.{verdict};
 ghost use Rattle.filtergen_trim.specs.Reaching.{IsAllReached};
 ghost use Rattle.filtergen_trim.specs.Sound.{IsSoundCode};
-ghost use Rattle.filtergen_trim.specs.Trimming.{onward_of, MayGo, IsSound, marked, moved, trimmed, MarksNext, Marks};
+ghost use Rattle.filtergen_trim.specs.Trimming.{onward_of, MayGo, IsSound, count_marked, shorten_jumps, trimmed, MarksNext, Marks};
 
 use arrayvec::ArrayVec;
 use bpfvm::{Insn, code};
@@ -83,13 +83,13 @@ fn mark_reached(insns: &[Insn], marks: &mut [bool])
 }
 
 /// How many of the first so many places are marked.
-fn marked(behind: &[bool], passed: usize) -> usize
-    requires { passed ≤ length behind.now }
-    ensures value { result ≡ marked passed behind.now }
+fn count_marked(after: &[bool], passed: usize) -> usize
+    requires { passed ≤ length after.now }
+    ensures value { result ≡ count_marked passed after.now }
     ensures within { result ≤ passed }
 {
     let mut count = 0;
-    for mark in &behind[..passed] {
+    for mark in &after[..passed] {
         if *mark {
             count += 1;
         }
@@ -98,28 +98,28 @@ fn marked(behind: &[bool], passed: usize) -> usize
 }
 
 /// The instruction, which passes only what is kept of those behind it.
-fn moved(insn: Insn, behind: &[bool]) -> Insn
+fn shorten_jumps(insn: Insn, after: &[bool]) -> Insn
     requires sound { IsSound insn }
-    requires inside { (n : ℕ) → MayGo (onward_of insn) n → n ≤ length behind.now }
-    ensures { result ≡ moved behind.now insn }
+    requires inside { (n : ℕ) → MayGo (onward_of insn) n → n ≤ length after.now }
+    ensures { result ≡ shorten_jumps after.now insn }
 {
     match onward_of(insn) {
         Onward::Nowhere => insn,
         Onward::Next => insn,
         Onward::Jump(passed) => Insn {
-            k: marked(behind, passed as usize) as u32,
+            k: count_marked(after, passed as usize) as u32,
             ..insn
         },
         Onward::Either(jt, jf) => Insn {
-            jt: marked(behind, usize::from(jt)) as u8,
-            jf: marked(behind, usize::from(jf)) as u8,
+            jt: count_marked(after, usize::from(jt)) as u8,
+            jf: count_marked(after, usize::from(jf)) as u8,
             ..insn
         },
     }
 }
 
 /// The instructions at the marked places.
-fn marked_insns(insns: &[Insn], marks: &[bool]) -> ArrayVec<Insn, MAX_CODE>
+fn keep_marked(insns: &[Insn], marks: &[bool]) -> ArrayVec<Insn, MAX_CODE>
     requires code { IsSoundCode insns.now }
     requires most { length insns.now ≤ MAX_CODE }
     requires room { length insns.now ≤ length marks.now }
@@ -129,7 +129,7 @@ fn marked_insns(insns: &[Insn], marks: &[bool]) -> ArrayVec<Insn, MAX_CODE>
     let mut kept = ArrayVec::new();
     for (place, insn) in insns.iter().enumerate() {
         if marks[place] {
-            kept.push(moved(*insn, &marks[place + 1..]));
+            kept.push(shorten_jumps(*insn, &marks[place + 1..]));
         }
     }
     kept
@@ -139,7 +139,7 @@ fn marked_insns(insns: &[Insn], marks: &[bool]) -> ArrayVec<Insn, MAX_CODE>
 /// leads to each of the others; such a path may take a side that no packet takes.
 ///
 /// Code is what would be a program, were there 512 instructions at most; here there may be [`MAX_CODE`].
-pub fn without_unreached(insns: &[Insn]) -> ArrayVec<Insn, MAX_CODE>
+pub fn trim_unreached(insns: &[Insn]) -> ArrayVec<Insn, MAX_CODE>
     requires code { IsSoundCode insns.now }
     requires most { length insns.now ≤ MAX_CODE }
     ensures code { IsSoundCode result.items }
@@ -149,5 +149,5 @@ pub fn without_unreached(insns: &[Insn]) -> ArrayVec<Insn, MAX_CODE>
 {
     let mut marks = [false; MAX_CODE];
     mark_reached(insns, &mut marks);
-    marked_insns(insns, &marks)
+    keep_marked(insns, &marks)
 }

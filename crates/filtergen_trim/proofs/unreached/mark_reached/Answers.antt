@@ -1,5 +1,5 @@
 use Rattle.std.proofs.Common.{◌∙◌, arith, length-set, true}
-use Rattle.filtergen_trim.proofs.Reached.{next-inside, next-sound, next-marked, marks-begin, marks-skip, marks-all}
+use Rattle.filtergen_trim.proofs.Reached.{next-inside, next-sound, next-count_marked, marks-begin, marks-skip, marks-all}
 use Rattle.filtergen_trim.proofs.unreached.mark_reached.Goals as goal
 use Rattle.filtergen_trim.proofs.unreached.mark_reached.Goals.{then-marks-place, else-marks-place}
 
@@ -16,7 +16,7 @@ loop-place-preserved c =
     elim c.if-marks-place.branch [
       | then-marks-place w ↦ record {
         size = rw w.marks-is (w.mark_next.ensures.size ∙ c.loop-place.invariant.size);
-        marks = rw w.marks-is (next-marked c.args.insns.now c.loop-place.place _ w.onward_of.result c.loop-place.marks _ c.requires.code c.loop-place-test.true w.onward_of.ensures w.if-marks-place.true c.loop-place.invariant.marks w.mark_next.ensures);
+        marks = rw w.marks-is (next-count_marked c.args.insns.now c.loop-place.place _ w.onward_of.result c.loop-place.marks _ c.requires.code c.loop-place-test.true w.onward_of.ensures w.if-marks-place.true c.loop-place.invariant.marks w.mark_next.ensures);
       }
       | else-marks-place w ↦ record {
         size = rw w.marks-is c.loop-place.invariant.size;

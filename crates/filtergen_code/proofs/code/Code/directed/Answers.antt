@@ -1,8 +1,0 @@
-use Rattle.filtergen_code.proofs.Deciding.{decides-both, decides-either}
-use Rattle.filtergen_code.proofs.code.Code.directed.Goals as goal
-
-pub returns-in-SrcOrDst : goal.returns-in-SrcOrDst
-returns-in-SrcOrDst c = rw c.in-SrcOrDst.is (decides-either c.requires.exits c.side-second.ensures c.side-in-SrcOrDst.ensures)
-
-pub returns-in-SrcAndDst : goal.returns-in-SrcAndDst
-returns-in-SrcAndDst c = rw c.in-SrcAndDst.is (decides-both c.requires.exits c.side-second-in-SrcAndDst.ensures c.side-in-SrcAndDst.ensures)

@@ -1,5 +1,0 @@
-use Rattle.filtergen_code.proofs.Leading.{decides-guarded}
-use Rattle.filtergen_code.proofs.code.Code.ip_multicast.Goals as goal
-
-pub returns : goal.returns
-returns c = rw c.behind_ip.ensures.places (decides-guarded c.args.ways c.requires.ways (rw c.ip_exits.ensures at c.test-inner.ensures) c.behind_ip.ensures.test)

@@ -1,7 +1,0 @@
-use Rattle.filtergen_code.proofs.Leading.{decides_any}
-use Rattle.filtergen_code.proofs.code.Code.listed_ethernet.Goals as goal
-
-pub returns : goal.returns
-returns c =
-    let done = rw c.any_exits.ensures at c.in_ok-entry.ensures in
-    rw c.to.ensures (decides_any c.args.ways done)

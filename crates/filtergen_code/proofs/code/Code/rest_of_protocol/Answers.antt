@@ -1,9 +1,0 @@
-use Rattle.std.proofs.Common.{◌≡◌, false, sym}
-use Rattle.filtergen_facts.specs.Knowing.{has_protocol}
-use Rattle.filtergen_code.proofs.Deciding.{decides-both}
-use Rattle.filtergen_code.proofs.code.Code.rest_of_protocol.Goals as goal
-
-pub returns : goal.returns
-returns c =
-    let left : has_protocol c.args.known c.args.number ≡ false = sym c.if-has_protocol.ensures in
-    rw left (decides-both c.requires.exits c.protocol_number-inner.ensures c.rest_of_type.ensures)

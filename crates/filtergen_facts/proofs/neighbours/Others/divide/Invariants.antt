@@ -1,6 +1,0 @@
-use Rattle.std.proofs.Common.{take}
-use Rattle.filtergen_facts.specs.Lists.{Divides}
-use Rattle.filtergen_facts.proofs.neighbours.Others.divide.Given as goal
-
-abbrev pub invariant-loop-member : goal.invariant-loop-member
-invariant-loop-member l = Divides l.fn.kind (take l.member-index l.member-items) l.spans.items l.others.items

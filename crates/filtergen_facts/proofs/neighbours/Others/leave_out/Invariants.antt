@@ -1,6 +1,0 @@
-use Rattle.std.proofs.Common.{take}
-use Rattle.filtergen_facts.specs.Lists.{LeavesOut}
-use Rattle.filtergen_facts.proofs.neighbours.Others.leave_out.Given as goal
-
-abbrev pub invariant-loop-member : goal.invariant-loop-member
-invariant-loop-member l = LeavesOut l.fn.kind l.fn.spans (take l.member-index l.member-items) l.kept.items
