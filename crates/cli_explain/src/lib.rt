@@ -5,7 +5,6 @@ pub mod command;
 pub mod each;
 pub mod filter;
 mod line;
-mod looking;
 pub mod one;
 mod paths;
 mod plan;

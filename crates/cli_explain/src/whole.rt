@@ -1,10 +1,9 @@
 //! All that is told of one packet.
 
 use crate::filter::AskedFilter;
-use crate::looking::{Looked, parts_of};
 use bpfvm::{Executed, Insn, NoMemory, PlacedInsn, Program, Traced, code, trace};
 use filter_explain::{AskedPart, decide, put_cause, put_part, verdict_text};
-use filter_meaning::Verdict;
+use filter_meaning::{Look, Verdict, looks_of};
 use filter_print::Canonical;
 use filterlang::Expr;
 use savefile::PacketRef;
@@ -13,7 +12,17 @@ use std::alloc::{AllocError, Global};
 /// How wide an instruction is written.
 const NAME: usize = 48;
 
-/// Appends bytes that were looked at.
+/// The bytes at an offset as a number in network order; `None` if one of them was not captured.
+fn number_at(packet: &[u8], offset: usize, size: usize) -> Option<u64> {
+    let end = offset.checked_add(size)?;
+    let mut number = 0u64;
+    for byte in packet.get(offset..end)? {
+        number = number << 8 | u64::from(*byte);
+    }
+    Some(number)
+}
+
+/// Appends bytes that a test looked at.
 fn put_bytes(
     text: &mut String,
     offset: usize,
@@ -31,16 +40,17 @@ fn put_bytes(
     }
 }
 
-/// Appends what was looked at.
-fn put_looked(text: &mut String, looked: &[Looked]) -> Result<(), AllocError> {
-    for one in looked {
-        match *one {
-            Looked::Length(length) => write!(text, "           len = {length}\n")?,
-            Looked::Bytes {
-                offset,
-                size,
-                number,
-            } => put_bytes(text, offset, size, number)?,
+/// Appends what a test looked at, each once.
+fn put_looks(text: &mut String, looks: &[Look], packet: &PacketRef<'_>) -> Result<(), AllocError> {
+    for (at, look) in looks.iter().enumerate() {
+        if looks[..at].contains(look) {
+            continue;
+        }
+        match *look {
+            Look::Length => write!(text, "           len = {}\n", packet.len)?,
+            Look::Bytes { offset, size } => {
+                put_bytes(text, offset, size, number_at(packet.bytes, offset, size))?
+            }
         }
     }
     Ok(())
@@ -63,8 +73,8 @@ fn put_asked(
 ) -> Result<Verdict, NoMemory> {
     let asked = decide(part, packet.bytes, packet.len);
     put_answer(text, asked)?;
-    let looked = parts_of(alloc, part, packet.bytes, packet.len)?;
-    put_looked(text, looked.as_slice())?;
+    let looks = looks_of(alloc, part, packet.bytes, packet.len)?;
+    put_looks(text, looks.as_slice(), packet)?;
     Ok(asked.verdict)
 }
 

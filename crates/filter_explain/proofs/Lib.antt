@@ -1,4 +1,3 @@
-pub mod Captured
 pub mod Deciding
 pub mod Aborting
 mod Telling

@@ -5,9 +5,9 @@ use Rattle.filter_tree.specs.Trees as trees
 use Rattle.filter_meaning.specs.declared.verdict.Verdict.{Verdict}
 use Rattle.filter_meaning.specs.declared.verdict.Verdict.TheVariants.{Yes, No, Abort}
 use Rattle.filter_meaning.specs.Meaning.{Packet, opposite, meaning}
-use Rattle.filter_explain.specs.declared.cause.AbortCause.{AbortCause}
+use Rattle.filter_meaning.specs.declared.cause.AbortCause.{AbortCause}
 use Rattle.filter_explain.specs.declared.asking.AskedPart.{AskedPart}
-use Rattle.filter_explain.specs.Causes.{why}
+use Rattle.filter_meaning.specs.Looks.{why}
 
 -- A primitive or a relation, or the empty expression: whether an odd number of `not` stand over it, what it answers, and why where
 -- it aborts.

@@ -7,8 +7,8 @@ use Rattle.filter_meaning.specs.declared.verdict.Verdict.{Verdict}
 use Rattle.filter_meaning.specs.declared.verdict.Verdict.TheVariants.{Yes, No, Abort}
 use Rattle.filter_meaning.specs.Meaning.{Packet, meaning}
 use Rattle.filter_print.specs.Canonical.{canonical}
-use Rattle.filter_explain.specs.declared.cause.AbortCause.{AbortCause}
-use Rattle.filter_explain.specs.declared.cause.AbortCause.TheVariants.{NotCaptured, ZeroDivisor}
+use Rattle.filter_meaning.specs.declared.cause.AbortCause.{AbortCause}
+use Rattle.filter_meaning.specs.declared.cause.AbortCause.TheVariants.{NotCaptured, ZeroDivisor}
 use Rattle.filter_explain.specs.Asking.{Question, questions}
 
 abbrev pub verdict_text : Verdict → List ℕ

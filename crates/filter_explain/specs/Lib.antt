@@ -1,4 +1,3 @@
-pub mod Causes
 pub mod Asking
 pub mod Laws
 pub mod Deciding

@@ -3,13 +3,11 @@
 ghost use Rattle.std.specs.Prelude.{◌≡◌, ◌++◌, [], ◌∷◌, map, IfOk, false};
 ghost use Rattle.filter_tree.specs.Trees.{tree_of};
 ghost use Rattle.filter_meaning.specs.Meaning.{packet_of, opposite, meaning};
-ghost use Rattle.filter_explain.specs.Causes.{why};
+ghost use Rattle.filter_meaning.specs.Looks.{why};
 ghost use Rattle.filter_explain.specs.Asking.{where_abort, question_of, question, questions, LastDecides};
 
-use crate::cause::AbortCause;
-use crate::missing::why;
 use bpfvm::NoMemory;
-use filter_meaning::{Verdict, evaluate};
+use filter_meaning::{AbortCause, Verdict, abort_cause, evaluate};
 use filter_tree::Expr;
 use std::alloc::Global;
 
@@ -38,7 +36,7 @@ pub(crate) fn cause_of(
     match verdict {
         Verdict::Yes => None,
         Verdict::No => None,
-        Verdict::Abort => why(part, packet, wire),
+        Verdict::Abort => abort_cause(part, packet, wire),
     }
 }
 

@@ -3,13 +3,11 @@
 #![tactic(auto)]
 
 mod asking;
-mod cause;
 mod decided;
 pub mod laws;
-mod missing;
 mod text;
 
 pub use asking::{AskedPart, explain};
-pub use cause::AbortCause;
 pub use decided::decide;
+pub use filter_meaning::AbortCause;
 pub use text::{put_cause, put_decision, put_part, put_verdict, verdict_text};

@@ -7,9 +7,8 @@ ghost use Rattle.filter_explain.specs.Asking.{question_of};
 ghost use Rattle.filter_explain.specs.Deciding.{verdict_text, part_text, cause_text, question_text, decision_text};
 
 use crate::asking::AskedPart;
-use crate::cause::AbortCause;
 use crate::decided::decide;
-use filter_meaning::Verdict;
+use filter_meaning::{AbortCause, Verdict};
 use filter_print::Canonical;
 use filter_tree::Expr;
 use std::alloc::AllocError;

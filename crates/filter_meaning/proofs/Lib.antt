@@ -1,1 +1,4 @@
 pub mod Numbers
+pub mod Good
+pub mod GoodPrimitives
+pub mod GoodValues

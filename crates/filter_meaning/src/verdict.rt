@@ -1,7 +1,7 @@
 //! The three answers to a test.
 
 ghost use Rattle.std.specs.Prelude.{◌≡◌};
-ghost use Rattle.filter_meaning.specs.Meaning.{and_then, or_else, opposite, decided};
+ghost use Rattle.filter_meaning.specs.Meaning.{opposite, decided};
 
 /// What a filter expression, or a part of it, answers to a packet.
 #[derive(Clone, Copy, Debug, PartialEq, Eq)]
@@ -19,28 +19,6 @@ impl Verdict {
         ensures { result ≡ decided holds }
     {
         if holds { Verdict::Yes } else { Verdict::No }
-    }
-
-    /// `and`: the other verdict counts only behind a Yes.
-    pub(crate) fn and(self, other: Verdict) -> Verdict
-        ensures { result ≡ and_then self other }
-    {
-        match self {
-            Verdict::Yes => other,
-            Verdict::No => Verdict::No,
-            Verdict::Abort => Verdict::Abort,
-        }
-    }
-
-    /// `or`: the other verdict counts only behind a No.
-    pub(crate) fn or(self, other: Verdict) -> Verdict
-        ensures { result ≡ or_else self other }
-    {
-        match self {
-            Verdict::Yes => Verdict::Yes,
-            Verdict::No => other,
-            Verdict::Abort => Verdict::Abort,
-        }
     }
 
     /// `not`: an Abort stays one.

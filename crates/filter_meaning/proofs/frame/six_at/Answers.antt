@@ -1,9 +1,9 @@
 use Rattle.std.proofs.Common.{ap, sym, ◌∙◌, Some, arith}
-use Rattle.filter_meaning.proofs.Numbers.{number-none, number-byte}
-use Rattle.filter_meaning.proofs.evaluator.byte_at.Goals as goal
+use Rattle.filter_meaning.proofs.Numbers.{number-none, number-six}
+use Rattle.filter_meaning.proofs.frame.six_at.Goals as goal
 
 pub returns-then-packet-offset : goal.returns-then-packet-offset
 returns-then-packet-offset c = sym (number-none c.args.packet.now c.args.offset _ c.if-packet-offset.true)
 
 pub returns : goal.returns
-returns c = ap (λ n. Some n) c.from.ensures ∙ sym (number-byte c.args.packet.now c.args.offset (omega arith))
+returns c = ap (λ n. Some n) c.from_be_bytes.ensures ∙ sym (number-six c.args.packet.now c.args.offset (omega arith))

@@ -1,6 +1,6 @@
 use Rattle.std.proofs.Common.{ap, sym, ◌∙◌, Some, arith}
 use Rattle.filter_meaning.proofs.Numbers.{number-none, number-word}
-use Rattle.filter_meaning.proofs.evaluator.word_at.Goals as goal
+use Rattle.filter_meaning.proofs.frame.word_at.Goals as goal
 
 pub returns-then-packet-offset : goal.returns-then-packet-offset
 returns-then-packet-offset c = sym (number-none c.args.packet.now c.args.offset _ c.if-packet-offset.true)
