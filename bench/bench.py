@@ -26,7 +26,7 @@
 Machines are noisy, so the ratios of one run are what to compare. Instructions are repeatable. The captures that
 bpftap and tcpdump write are compared.
 
-It needs Python alone, and builds bpftap first, but where BPFTAP=PATH names a built one; without tcpdump only bpftap is
+It needs only Python. The program is this folder's, or BPFTAP=PATH. Without tcpdump only bpftap is
 measured, --instructions needs valgrind, and peak memory is told where GNU time is (a program started by Python itself
 shows Python's size where it needs less).
 """
@@ -45,8 +45,9 @@ import sys
 import tempfile
 import time
 
+from filters import program
+
 ROOT = pathlib.Path(__file__).resolve().parent.parent
-PROGRAM = pathlib.Path(os.environ.get("BPFTAP", ROOT / "crates" / "bpftap" / "out" / "bpftap"))
 # Bytes; the program's own limit is that of the machine, mostly 8 MiB.
 STACK = 640 << 10
 # As `tcpdump -ddd udp port 53` prints it.
@@ -131,7 +132,7 @@ def commands(folder, capture):
         path = folder / f"{at}.bpf"
         path.write_text(listing)
         out = folder / f"{at}-bpftap.pcap"
-        yield f"bpftap cut, {name}", [str(PROGRAM), "cut", "-s", "0", "-f", str(path), str(capture), str(out)], out
+        yield f"bpftap cut, {name}", [program(), "cut", "-s", "0", "-f", str(path), str(capture), str(out)], out
         if shutil.which("tcpdump"):
             # As root tcpdump would become another user, which may not write here.
             stay = ["-Z", "root"] if os.geteuid() == 0 else []
@@ -262,7 +263,7 @@ def steps(folder):
         for packets, path in captures.items():
             # A buffer of 1,048,576 bytes has room for some 1,500 packets.
             (folder / "script.txt").write_text(("arrive\n" * 1000 + reads) * (packets // 1000))
-            words = [str(PROGRAM), "steps", *(str(folder / f) for f in ("listeners.txt", "script.txt")), str(path)]
+            words = [program(), "steps", *(str(folder / f) for f in ("listeners.txt", "script.txt")), str(path)]
             counts.append(instructions_of(words, folder))
         print(f"{name:40} {(counts[1] - counts[0]) / 10000:8.0f}")
 
@@ -278,7 +279,7 @@ def replay_words(folder, capture, interfaces, listeners, spares):
         for i in range(interfaces) for l in range(listeners)]
     path = folder / f"{interfaces}-{listeners}-{spares}.txt"
     path.write_text("".join(lines))
-    return [str(PROGRAM), "run", str(path), *" + ".join([str(capture)] * interfaces).split()]
+    return [program(), "run", str(path), *" + ".join([str(capture)] * interfaces).split()]
 
 
 def at_once(commands):
@@ -294,7 +295,7 @@ def beside(folder, capture, interfaces, listeners):
     """As many `cut`, and as many tcpdump, as a replay has listeners."""
     places = [(i, l) for i in range(interfaces) for l in range(listeners)]
     yield "cut", [
-        [str(PROGRAM), "cut", "-s", "0", *(["-e", FILTERS[l]] if FILTERS[l] else []), str(capture), str(folder / f"{i}-{l}-cut.pcap")]
+        [program(), "cut", "-s", "0", *(["-e", FILTERS[l]] if FILTERS[l] else []), str(capture), str(folder / f"{i}-{l}-cut.pcap")]
         for i, l in places]
     if shutil.which("tcpdump"):
         stay = ["-Z", "root"] if os.geteuid() == 0 else []
@@ -312,8 +313,8 @@ def rejected(folder):
         for listeners in (1, 2):
             lines = folder / f"nobody-{listeners}.txt"
             lines.write_text("".join(f"0 0 0 1048576 2 {folder / f'nobody-{l}.pcap'} less 1\n" for l in range(listeners)))
-            counts[listeners, many] = instructions_of([str(PROGRAM), "run", str(lines), str(capture)], folder)
-        counts["cut", many] = instructions_of([str(PROGRAM), "cut", *filtered, str(capture), str(folder / "nobody.pcap")], folder)
+            counts[listeners, many] = instructions_of([program(), "run", str(lines), str(capture)], folder)
+        counts["cut", many] = instructions_of([program(), "cut", *filtered, str(capture), str(folder / "nobody.pcap")], folder)
     of = {name: (counts[name, 11000] - counts[name, 1000]) / 10000 for name in (1, 2, "cut")}
     print(f"user instructions for each packet that nobody accepts: run {of[1]:.0f}, each listener more {of[2] - of[1]:.0f}, cut {of['cut']:.0f}")
 
@@ -460,9 +461,9 @@ def split_commands(folder, capture):
     """The words of a split, and those of a cut and of a tcpdump for each of its filters."""
     lines = folder / "lines.txt"
     lines.write_text("".join(f"0 {folder}/{at}-split.pcap {expr}\n" for at, expr in enumerate(SPLIT_FILTERS)))
-    commands = {"split": [[str(PROGRAM), "split", str(lines), str(capture)]], "cut": []}
+    commands = {"split": [[program(), "split", str(lines), str(capture)]], "cut": []}
     for at, expr in enumerate(SPLIT_FILTERS):
-        commands["cut"].append([str(PROGRAM), "cut", "-s", "0", "-e", expr, str(capture), f"{folder}/{at}-cut.pcap"])
+        commands["cut"].append([program(), "cut", "-s", "0", "-e", expr, str(capture), f"{folder}/{at}-cut.pcap"])
         if shutil.which("tcpdump"):
             stay = ["-Z", "root"] if os.geteuid() == 0 else []
             words = ["tcpdump", *stay, "-r", str(capture), "-w", f"{folder}/{at}-tcpdump.pcap", expr]
@@ -510,8 +511,8 @@ def rejecting(folder, packets, rounds, other):
     """What it costs to reject packets of which half are UDP of another port, and half ARP."""
     whole, capture, expression = folder / "whole.pcap", folder / "in.pcap", "udp port 53"
     generate(whole, packets)
-    subprocess.run([str(PROGRAM), "cut", "-s", "0", "-e", f"not {expression}", str(whole), str(capture)], check=True)
-    commands = {"bpftap cut": [str(PROGRAM), "cut", "-s", "0", "-e", expression, str(capture), f"{folder}/cut-out.pcap"]}
+    subprocess.run([program(), "cut", "-s", "0", "-e", f"not {expression}", str(whole), str(capture)], check=True)
+    commands = {"bpftap cut": [program(), "cut", "-s", "0", "-e", expression, str(capture), f"{folder}/cut-out.pcap"]}
     if shutil.which("tcpdump"):
         stay = ["-Z", "root"] if os.geteuid() == 0 else []
         commands["tcpdump"] = ["tcpdump", *stay, "-r", str(capture), "-w", f"{folder}/tcpdump-out.pcap", expression]
@@ -607,7 +608,7 @@ def expressions(rounds):
     seen = {name: [] for name, _, _ in hostile()}
     for _ in range(rounds):
         for name, text, wanted in hostile():
-            seconds, status, _ = run([str(PROGRAM), "check", text])
+            seconds, status, _ = run([program(), "check", text])
             if status != wanted:
                 sys.exit(f"{name}: status {status} and not {wanted}")
             seen[name].append(seconds)
@@ -640,8 +641,6 @@ def main():
     if words.replay:
         with tempfile.TemporaryDirectory() as name:
             return rejected_by_replay(pathlib.Path(name))
-    if "BPFTAP" not in os.environ:
-        subprocess.run([str(ROOT / "bpftap"), "--help"], check=True, stdout=subprocess.DEVNULL)
     if not words.expressions and shutil.which("tcpdump") is None:
         print("tcpdump is not there: only bpftap is measured")
     with tempfile.TemporaryDirectory() as name:
@@ -653,7 +652,7 @@ def main():
         elif words.run:
             replays(folder, words.packets, words.rounds)
         elif words.waiting:
-            programs = {"this": str(PROGRAM), **({"beside": words.beside} if words.beside else {})}
+            programs = {"this": program(), **({"beside": words.beside} if words.beside else {})}
             waiting(folder, words.packets, words.rounds, programs)
         elif words.split:
             splits(folder, words.packets, words.rounds)

@@ -4,7 +4,7 @@
 The programs are those of `bench/filters.py`'s expressions, run once over the real capture of `examples/`. The loop of
 `bench/machine` runs them; what it costs itself is counted by a program of one return, of whose count `RETURN` is the machine's
 own, by the listing of the built program. It proves and builds bench/machine first, in a copy, over what ./build kept
-(MACHINE=PATH takes a built one), and needs `bpftap` (`./bpftap --help` builds it, or BPFTAP=PATH) and valgrind.
+(MACHINE=PATH takes a built one), and needs valgrind. `bpftap` is this folder's, or BPFTAP=PATH.
 
   bench/machine.py [EVERY [CAPTURE]]    all programs, or each EVERYth; on another little-endian savefile
 """
@@ -42,7 +42,7 @@ def measured(machine, folder, capture, every):
     around = counted(machine, folder, capture, "return", "1\n6 0 0 0\n") - RETURN * len(seen)
 
     def one(place):
-        words = [str(filters.PROGRAM), "check", filters.EXPRESSIONS[place]]
+        words = [filters.program(), "check", filters.EXPRESSIONS[place]]
         done = subprocess.run(words, stdout=subprocess.PIPE, stderr=subprocess.PIPE, text=True)
         if done.returncode != 0:
             return None

@@ -7,14 +7,14 @@ from the program's own code.
 
 The expressions are random, with many operands of an `or` (or of an `and` of negations) that differ in their numbers alone, and many
 comparisons of the same bytes.
-Each is tried on frames of its own numbers, cut at each byte. It needs the program, which `./bpftap --help` builds (or BPFTAP=PATH).
+Each is tried on frames of its own numbers, cut at each byte. The program is this folder's, or BPFTAP=PATH.
 """
 import argparse
 import random
 import subprocess
 import sys
 
-from filters import PROGRAM, program_of, run
+from filters import program, program_of, run
 
 IP, ARP, RARP = 0x0800, 0x0806, 0x8035
 NUMBERS = {"icmp": 1, "tcp": 6, "udp": 17, "sctp": 132}
@@ -341,7 +341,7 @@ def main():
     runs = accepted = expressions = refused = 0
     while runs < words.runs:
         tree = expression(rng, 2)
-        done = subprocess.run([str(PROGRAM), "check", "--", text_of(tree)], stdout=subprocess.PIPE, stderr=subprocess.PIPE, text=True)
+        done = subprocess.run([program(), "check", "--", text_of(tree)], stdout=subprocess.PIPE, stderr=subprocess.PIPE, text=True)
         if done.returncode != 0:
             if done.stderr.strip() != "bpftap: TooLong":
                 sys.exit(f"{text_of(tree)}: {done.stderr}")

@@ -1,7 +1,7 @@
 #!/usr/bin/env python3
 """Runs the built program as a shell would: what it prints and tells, its exit status, and what becomes of its files.
 
-  tests/program.py            all groups of cases; the program is built first where it is not built yet
+  tests/program.py            all groups of cases; the program is unpacked or built first if it has to be
   tests/program.py cut run    these groups alone
   tests/program.py --list     the groups and their cases, with what each one shows
 
@@ -20,7 +20,7 @@ import tempfile
 import traceback
 
 from cases import GROUPS
-from cases.common import CASES, PROGRAM, Scene
+from cases.common import CASES, ROOT, Scene
 
 
 def words():
@@ -75,9 +75,11 @@ def run_groups(groups):
     return passed, failed
 
 
-def is_built():
-    """Whether the program answers a call for help; the first such call builds it."""
-    return subprocess.run([PROGRAM, "--help"], stdout=subprocess.DEVNULL).returncode == 0
+def run_with_own_program():
+    """Runs this again with the repository's own program, called without the launcher, which looks at all sources."""
+    done = subprocess.run(["sh", ROOT / "release" / "lib.sh", "program_path"], stdout=subprocess.PIPE, text=True)
+    if done.returncode == 0:
+        os.execve(sys.executable, [sys.executable, *sys.argv], {**os.environ, "BPFTAP": done.stdout.strip()})
 
 
 def main():
@@ -87,11 +89,9 @@ def main():
     if asked.list:
         list_cases(groups)
         return
-    if is_built():
-        passed, failed = run_groups(groups)
-    else:
-        print(f"{PROGRAM} --help fails")
-        passed, failed = 0, 1
+    if "BPFTAP" not in os.environ:
+        run_with_own_program()
+    passed, failed = run_groups(groups) if "BPFTAP" in os.environ else (0, 1)
     print(f"{passed} passed, {failed} failed")
     sys.exit(1 if failed else 0)
 

@@ -19,7 +19,7 @@ LIMIT = 120
 
 
 def program_path():
-    """The program that the variable BPFTAP names, as a path or a word of the PATH, or else the repository's own."""
+    """The program that the variable BPFTAP names, as a path or a word of the PATH. `tests/program.py` sets it if nobody else did."""
     named = os.environ.get("BPFTAP") or str(ROOT / "bpftap")
     found = shutil.which(named)
     if found is None:

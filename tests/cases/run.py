@@ -407,8 +407,7 @@ def each_thread_is_refused_in_turn(scene):
     """Where a thread of a run is refused, that alone is told, nothing is read of IN, and there is no OUT; else all is written."""
     if os.geteuid() != 0:
         return scene.leave("only root can limit a user's threads")
-    program = PROGRAM if PROGRAM != str(ROOT / "bpftap") else ROOT / "crates" / "bpftap" / "out" / "bpftap"
-    shutil.copy(program, scene.folder / "bpftap")
+    shutil.copy(PROGRAM, scene.folder / "bpftap")
     for folder in [scene.folder, scene.folder.parent]:
         folder.chmod(0o777)
     scene.put({**CAPTURES, "listeners.txt": "0 0 0 1048576 2 left.pcap\n1 0 0 1048576 2 right.pcap\n1 0 96 1048576 2 /dev/null tcp\n"})

@@ -106,15 +106,11 @@ def run_all(scene, room):
     return reports
 
 
-# `bench/filters.py` with the program that is tested in place of its own.
-FIGURES = "import sys, pathlib, filters; filters.PROGRAM = pathlib.Path(sys.argv.pop(1)); filters.main()"
-
-
 @case
 def packets_and_bytes_are_those_of_tcpdump(scene):
     """`bench/filters.py --figures` finds in what `cut -e` writes as many packets and bytes as in what tcpdump does."""
     done = subprocess.run(
-        [sys.executable, "-c", FIGURES, PROGRAM, "--figures"], cwd=scene.folder, capture_output=True, text=True,
-        env={**os.environ, "PYTHONPATH": str(ROOT / "bench")})
+        [sys.executable, ROOT / "bench" / "filters.py", "--figures"], cwd=scene.folder, capture_output=True, text=True,
+        env={**os.environ, "BPFTAP": PROGRAM})
     wanted = ["23 expressions, 0 of them differ from tcpdump"]
     scene.check("figures", (done.stdout.splitlines(), done.stderr, done.returncode), (wanted, "", 0))
