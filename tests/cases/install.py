@@ -1,47 +1,45 @@
-"""`./install`: what is put where, what is told of it, and what is refused. A stand-in takes the program's place."""
+"""`./install` and `./package`: what is put where, what is printed, and what is refused. A stand-in takes the program's place."""
+import pathlib
+import re
 import shutil
 import subprocess
 
-from .common import LIMIT, ROOT, Seen, case
+from .common import LIMIT, PROGRAM, ROOT, Seen, case
+from .manual import PAGES, examples
+from .release import Clone
 
-# A launcher that builds a program and, where there is one already, says so; either way it answers to one word.
-LAUNCHER = """#!/bin/sh
-out=$(dirname "$0")/crates/bpftap/out/bpftap
-[ -x "$out" ] && echo "there already" >&2
-[ -x "$out" ] || { printf '#!/bin/sh\\necho stand-in\\n' >"$out" && chmod +x "$out"; }
-[ "$*" = --version ]
-"""
+DOCUMENTS = ["README.md", "CHANGELOG.md", "docs", "examples"]
 
-PAGES = sorted(page.name for page in (ROOT / "man").glob("*.1"))
 
-# Below the prefix: the program, the pages, and the completions.
+def listed(folder):
+    """The files below a folder of the repository, by their paths in the repository."""
+    return sorted(str(path.relative_to(ROOT)) for path in (ROOT / folder).rglob("*") if path.is_file())
+
+
+# Below the prefix: the program, the pages, the completions, and the documents, in the order in which they are put.
 PUT = {
     "bin/bpftap": None,
-    **{f"share/man/man1/{name}": f"man/{name}" for name in PAGES},
+    **{f"share/man/man1/{page.name}": f"man/{page.name}" for page in PAGES},
     "share/bash-completion/completions/bpftap": "completions/bpftap.bash",
     "share/zsh/site-functions/_bpftap": "completions/_bpftap",
     "share/fish/vendor_completions.d/bpftap.fish": "completions/bpftap.fish",
+    **{f"share/doc/bpftap/{name}": name for name in ["CHANGELOG.md", "README.md", *listed("docs"), *listed("examples")]},
 }
 
 
-def source_in(scene, launcher=LAUNCHER):
-    """A source folder with all that is put but the program, which its launcher makes."""
-    source = scene.folder / "source"
-    (source / "crates" / "bpftap" / "out").mkdir(parents=True)
-    shutil.copy(ROOT / "install", source)
-    for name in ["man", "completions"]:
-        shutil.copytree(ROOT / name, source / name)
-    (source / "bpftap").write_text(launcher)
-    (source / "bpftap").chmod(0o755)
-    return source
+def source_in(scene, **program):
+    """A clone with all that is put."""
+    clone = Clone(scene, **program)
+    for name in ["install", "package", "README.md", "CHANGELOG.md"]:
+        shutil.copy(ROOT / name, clone.folder)
+    for name in ["man", "completions", "docs", "examples"]:
+        shutil.copytree(ROOT / name, clone.folder / name)
+    return clone
 
 
-def install(scene, source, *words, path="/usr/bin:/bin"):
-    """Runs `install` of a source folder, in the case's folder."""
-    done = subprocess.run(
-        [source / "install", *words], cwd=scene.folder, env={"PATH": path, "HOME": str(scene.folder)},
-        stdin=subprocess.DEVNULL, capture_output=True, timeout=LIMIT)
-    return Seen(done.stdout, done.stderr, done.returncode)
+def install(scene, source, *words, path="/usr/bin:/bin", program="install"):
+    """Runs `install` of a source folder, in the case's folder, without the toolchain."""
+    return source.run(*words, program=program, env={**source.bare(), "PATH": path})
 
 
 def put_below(prefix):
@@ -51,19 +49,23 @@ def put_below(prefix):
 
 @case
 def files_are_put_under_the_prefix(scene):
-    """The program is built, all files stand under the prefix with their modes, each is printed, and a missing PATH is told."""
+    """All files are put under the prefix with their modes, each is printed, and a missing PATH is named; `--remove` takes them away again."""
     source, prefix = source_in(scene), scene.folder / "a folder" / "below"
     printed = "".join(f"{prefix}/{name}\n" for name in PUT)
-    told = f"install: {prefix}/bin is not on the PATH\n"
-    scene.check("install", install(scene, source, str(prefix)), Seen(printed.encode(), told.encode(), 0))
+    missing = f"install: {prefix}/bin is not on the PATH\n"
+    scene.check("install", install(scene, source, str(prefix)), Seen(printed.encode(), missing.encode(), 0))
     scene.check("files", put_below(prefix), set(PUT))
     for name, origin in PUT.items():
         path = prefix / name
         scene.check(f"mode of {name}", oct(path.stat().st_mode & 0o777), "0o644" if origin else "0o755")
         if origin:
             scene.check(name, path.read_bytes(), (ROOT / origin).read_bytes())
-    ran = subprocess.run([prefix / "bin" / "bpftap"], capture_output=True, timeout=LIMIT)
-    scene.check("the program", ran.stdout, b"stand-in\n")
+    ran = subprocess.run([prefix / "bin" / "bpftap", "--version"], capture_output=True, timeout=LIMIT)
+    scene.check("the program", ran.stdout, b"bpftap 1.2.3, a stand-in\n")
+    (prefix / "bin" / "other").touch()
+    scene.check("remove", install(scene, source, "--remove", str(prefix)), Seen(printed.encode(), b"", 0))
+    scene.check("left", (put_below(prefix), (prefix / "share" / "doc" / "bpftap").exists()), ({"bin/other"}, False))
+    scene.check("remove again", install(scene, source, "--remove", str(prefix)), Seen(b"", b"", 0))
 
 
 @case
@@ -81,14 +83,14 @@ def zsh_is_pointed_to_its_completions(scene):
 
 @case
 def files_are_put_again(scene):
-    """A second call, with a prefix that is not absolute, replaces what stands there, a link too; nothing is told where the PATH has it."""
+    """A second call, with a prefix that is not absolute, replaces what is there, a link too; nothing is printed if the PATH has it."""
     source = source_in(scene)
     install(scene, source, "there")
-    (scene.folder / "there" / "bin" / "bpftap").write_text("old")
-    seen = install(scene, source, "./there", path=f"{scene.folder}/there/bin:/usr/bin:/bin")
-    scene.check("told, and the status", (seen.err, seen.status), (b"there already\n", 0))
-    scene.check("the program", b"stand-in" in (scene.read("there/bin/bpftap") or b""), True)
     program = scene.folder / "there" / "bin" / "bpftap"
+    program.write_text("old")
+    seen = install(scene, source, "./there", path=f"{scene.folder}/there/bin:/usr/bin:/bin")
+    scene.check("reported, and the status", (seen.err, seen.status), (b"", 0))
+    scene.check("the program", b"stand-in" in program.read_bytes(), True)
     program.unlink()
     program.symlink_to(scene.folder)
     scene.check("the status over a link to a folder", install(scene, source, "there").status, 0)
@@ -97,19 +99,18 @@ def files_are_put_again(scene):
 
 @case
 def a_prefix_that_cannot_be_written_is_refused(scene):
-    """Where a file or a link that leads nowhere stands in the way nothing is built and nothing is put, and the way out is told: status 1."""
+    """If a file or a link that leads nowhere is in the way nothing is put, and the way out is named: status 1."""
     source = source_in(scene)
     (scene.folder / "file").touch()
     (scene.folder / "half" / "share").mkdir(parents=True)
     (scene.folder / "half" / "share" / "man").touch()
     (scene.folder / "linked").mkdir()
     (scene.folder / "linked" / "bin").symlink_to("nowhere")
-    for prefix, bar in [("file", "file"), ("file/below", "file"), ("half", "half/share/man"), ("linked", "linked/bin")]:
+    for prefix, bar in [("file", "bin"), ("file/below", "bin"), ("half", "share/man/man1"), ("linked", "bin")]:
+        whole = scene.folder / prefix
+        line = f"install: {whole}/{bar} cannot be written, so nothing was put under {whole}\n"
         seen = install(scene, source, prefix)
-        line = f"install: {scene.folder}/{bar} cannot be written, so nothing was put under {scene.folder}/{prefix}\n"
-        scene.check(f"told of {prefix}", (line.encode() in seen.err, b"./install ~/.local" in seen.err), (True, True))
-        scene.check(f"printed of {prefix}, and the status", (seen.out, seen.status), (b"", 1))
-        scene.check("built", (source / "crates" / "bpftap" / "out" / "bpftap").exists(), False)
+        scene.check(prefix, (line.encode() in seen.err, b"./install ~/.local" in seen.err, seen.out, seen.status), (True, True, b"", 1))
     scene.check("put", put_below(scene.folder / "half"), {"share/man"})
     (scene.folder / "taken" / "bin" / "bpftap").mkdir(parents=True)
     line = f"install: {scene.folder}/taken/bin/bpftap is a folder, so nothing was put under {scene.folder}/taken\n"
@@ -117,22 +118,87 @@ def a_prefix_that_cannot_be_written_is_refused(scene):
 
 
 @case
-def a_build_that_fails_puts_nothing(scene):
-    """Where the launcher fails it is told, and nothing is put: status 1."""
-    source = source_in(scene, "#!/bin/sh\nexit 125\n")
-    seen = install(scene, source, "there")
-    line = f"install: bpftap is not built: nothing was put under {scene.folder}/there\n"
-    scene.check("install", seen, Seen(b"", line.encode(), 1))
-    scene.check("put", (scene.folder / "there").exists(), False)
+def without_a_program_nothing_is_put(scene):
+    """If sources were changed and the toolchain is not there, that is printed, and nothing is put: status 1."""
+    source = source_in(scene)
+    source.edit("low")
+    line = f"bpftap: the toolchain's command 'rt' is not on the PATH\ninstall: nothing was put under {scene.folder}/there\n"
+    scene.check("install", install(scene, source, "there"), Seen(b"", line.encode(), 1))
+    scene.check("put", put_below(scene.folder / "there"), set())
 
 
 @case
 def wrong_words_have_the_usage(scene):
     """An option that there is not, an empty prefix and two of them have the usage on standard error, with status 2."""
     source = source_in(scene)
-    for words in [["-x"], [""], ["a", "b"]]:
+    for words in [["-x"], [""], ["a", "b"], ["--remove", "-x"], ["--remove", "a", "b"]]:
         seen = install(scene, source, *words)
-        scene.check(f"usage behind {words}", b"./install PREFIX" in seen.err, True)
+        scene.check(f"usage behind {words}", b"./install [PREFIX]" in seen.err, True)
         scene.check(f"printed of {words}, and the status", (seen.out, seen.status), (b"", 2))
     seen = install(scene, source, "--help")
-    scene.check("help", (b"./install PREFIX" in seen.out, seen.err, seen.status), (True, b"", 0))
+    scene.check("help", (b"./install [PREFIX]" in seen.out, seen.err, seen.status), (True, b"", 0))
+    for words in [["-x"], [""], ["a", "b"]]:
+        scene.check(f"package {words}", install(scene, source, *words, program="package").status, 2)
+
+
+def help_examples(program):
+    """The commands that the help of all commands shows."""
+    for command in ["", "check", "explain", "cut", "split", "steps", "run"]:
+        words = [program, *command.split(), "--help"]
+        text = subprocess.run(words, stdout=subprocess.PIPE, text=True, timeout=LIMIT).stdout
+        for line in text.partition("Examples:\n")[2].partition("\n\n")[0].splitlines():
+            yield line.strip().partition("   ")[0]
+
+
+def run_all_examples(scene, prefix, name):
+    """Runs what manual and help show, in a folder with a copy of the examples that were installed."""
+    folder = scene.folder / name
+    folder.mkdir()
+    shutil.copytree(prefix / "share" / "doc" / "bpftap" / "examples", folder / "examples")
+    environment = {"PATH": f"{prefix}/bin:/usr/bin:/bin", "HOME": str(folder)}
+    how = {"cwd": folder, "env": environment, "stdin": subprocess.DEVNULL, "stdout": subprocess.PIPE, "stderr": subprocess.STDOUT, "timeout": LIMIT}
+    for page in PAGES:
+        for script, printed in examples(page):
+            scene.check(f"{page.name}: {script}", subprocess.run(["bash", "-c", script], **how).stdout.decode(), printed)
+    commands = [*help_examples(prefix / "bin" / "bpftap")]
+    scene.check("commands of help", len(commands) > 12, True)
+    # One shows a fault of an expression. No file is missing.
+    for command in commands:
+        done = subprocess.run(["bash", "-c", command], **how)
+        scene.check(command, (done.returncode in (0, 1), b"Device" in done.stdout), (True, False))
+
+
+@case
+def what_manual_and_help_show_runs_once_installed(scene):
+    """Each of their commands runs in a folder with a copy of the installed examples."""
+    source, prefix = source_in(scene, program=pathlib.Path(PROGRAM).read_bytes()), scene.folder / "own"
+    scene.check("install", install(scene, source, str(prefix)).status, 0)
+    run_all_examples(scene, prefix, "work")
+
+
+@case
+def packages_have_what_is_installed(scene):
+    """The Debian package and the tar archive hold the installed files, and run where they are unpacked. The same files give the same packages."""
+    if not scene.has("dpkg-deb"):
+        return
+    source = source_in(scene, program=pathlib.Path(PROGRAM).read_bytes())
+    packages = scene.folder / "packages"
+    seen = install(scene, source, str(packages), program="package")
+    names = sorted(path.name for path in packages.iterdir())
+    version = re.fullmatch(r"bpftap-(.*)-x86_64-linux\.tar\.gz", names[0])[1]
+    scene.check("names", names, [f"bpftap-{version}-x86_64-linux.tar.gz", f"bpftap_{version}_amd64.deb"])
+    scene.check("printed", seen, Seen("".join(f"{packages}/{name}\n" for name in names).encode(), b"", 0))
+    root = scene.folder / "root"
+    subprocess.run(["dpkg-deb", "-x", packages / names[1], root], check=True)
+    zipped = {f"{name}.gz" if name.startswith("share/man/") else name for name in PUT}
+    scene.check("files of the package", put_below(root), {f"usr/{name}" for name in zipped})
+    run_all_examples(scene, root / "usr", "by the package")
+    fields = subprocess.run(["dpkg-deb", "-f", packages / names[1], "Package", "Version", "Depends"], stdout=subprocess.PIPE, text=True).stdout
+    scene.check("fields", fields, f"Package: bpftap\nVersion: {version}\nDepends: libc6 (>= 2.34)\n")
+    owners = subprocess.run(["dpkg-deb", "-c", packages / names[1]], stdout=subprocess.PIPE, text=True).stdout
+    scene.check("owners", {line.split()[1] for line in owners.splitlines()}, {"root/root"})
+    subprocess.run(["tar", "-xzf", packages / names[0], "-C", scene.folder], check=True)
+    scene.check("files of the archive", put_below(scene.folder / f"bpftap-{version}"), set(PUT))
+    again = scene.folder / "again"
+    install(scene, source, str(again), program="package")
+    scene.check("the same again", [(again / name).read_bytes() == (packages / name).read_bytes() for name in names], [True, True])

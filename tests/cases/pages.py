@@ -69,7 +69,7 @@ def program_and_pages_name_one_logic(scene):
 
 def pages():
     """All pages of the repository."""
-    named = [ROOT / "README.md", ROOT / "CONTRIBUTING.md"]
+    named = [ROOT / name for name in ("README.md", "CONTRIBUTING.md", "CHANGELOG.md")]
     return named + [page for place in ("docs/*.md", "crates/*/README.md", "examples/**/*.md")
                     for page in sorted(ROOT.glob(place))]
 
