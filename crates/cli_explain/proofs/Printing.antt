@@ -19,14 +19,14 @@ use Rattle.cli_explain.specs.declared.each.Unprinted.TheVariants as unprinted
 use Rattle.cli_explain.specs.declared.filter.AskedFilter.{AskedFilter}
 use Rattle.cli_explain.specs.declared.one.Found.{Found}
 use Rattle.cli_explain.specs.Answers.{Answer, IsAnswer, answer, answer_line}
-use Rattle.cli_explain.specs.Explained.{is_yes, is_no, is_abort, count_of, AreCounts, counts_text, answer_lines, packets_of, IsLineBroken, IsUnopened, PrintsLine, PrintsLines, PrintsAll, PrintsFound, PrintsMore, PrintsWhole, GoesTo, Finds}
+use Rattle.cli_explain.specs.Explained.{is_yes, is_no, is_abort, count_of, AreCounts, counts_text, counts_line, answer_lines, packets_of, IsLineBroken, IsUnopened, PrintsLine, PrintsLines, PrintsAll, PrintsFound, PrintsMore, PrintsWhole, GoesTo, Finds}
 
 -- the header was not read
-pub unopened : (from left : Option (List ℕ)) (fault : Fault) → WasRefused from fault ⊎ (fault ≡ Device) ⊎ (fault ≡ NoMemory) →
-    (bytes : List ℕ) × Consumes from left bytes × (fault ≡ Device → length bytes < 24) → IsUnopened from left fault
-unopened from left fault (inl refused) given = inl refused
-unopened from left fault (inr (inl device)) (bytes, gave, short) = inr (inl (device, bytes, gave, short device))
-unopened from left fault (inr (inr wanting)) given = inr (inr wanting)
+pub unopened : {R : Type 0} (left : R → Option (List ℕ)) (from back : R) (fault : Fault) → WasRefused (left from) fault ⊎ (fault ≡ Device) ⊎ (fault ≡ NoMemory) →
+    (fault ≡ NoMemory → back ≡ from) → (bytes : List ℕ) × Consumes (left from) (left back) bytes × (fault ≡ Device → length bytes < 24) → IsUnopened left from back fault
+unopened left from back fault (inl refused) kept given = inl refused
+unopened left from back fault (inr (inl device)) kept (bytes, gave, short) = inr (inl (device, bytes, gave, short device))
+unopened left from back fault (inr (inr wanting)) kept given = inr (inr (wanting, kept wanting))
 
 -- it broke off
 pub broken-off : {A : Type 0} (f : AskedFilter) (from left : Option (List ℕ)) (header : Header) (old new : Option (List ℕ)) (c : VerdictCounts) (read : Result A Fault) (done : Result A Unprinted) (x : A) (u : Unprinted) (told : List Answer) →
@@ -69,14 +69,12 @@ pub lines-and-counts : {A : Type 0} (f : AskedFilter) (from left : Option (List 
 lines-and-counts f from left header old mid new c read (Err u) told went lines taken = absurd (cc)
 lines-and-counts f from left header old mid new c read (Ok x) told went (inl (answers, all, begun, ok, err, part)) taken = absurd (cc)
 lines-and-counts f from left header old mid new c read (Ok x) (Ok y) went (inr (answers, all, reads, ok, lines, are)) taken =
-    let same : counts_text c.packets c.yes c.no c.abort ≡ counts_text (length answers) (count_of is_yes answers) (count_of is_no answers) (count_of is_abort answers) =
-    rw (are.packets, are.yes, are.no, are.abort) refl in
+    let same : counts_text c.packets c.yes c.no c.abort ≡ counts_line answers = rw (are.packets, are.yes, are.no, are.abort) refl in
     let more = Appends-trans old mid new (answer_lines answers) _ lines (subst (Appends mid new) same taken) in
     inr (answers, all, reads, (more, are))
 lines-and-counts f from left header old mid new c read (Ok x) (Err u) went (inr (answers, all, reads, ok, lines, are)) taken =
-    let same : counts_text c.packets c.yes c.no c.abort ≡ counts_text (length answers) (count_of is_yes answers) (count_of is_no answers) (count_of is_abort answers) =
-    rw (are.packets, are.yes, are.no, are.abort) refl in
-    inr (answers, all, reads, TakesPart-then old mid new (answer_lines answers) _ lines (subst (TakesPart mid new) same taken))
+    let same : counts_text c.packets c.yes c.no c.abort ≡ counts_line answers = rw (are.packets, are.yes, are.no, are.abort) refl in
+    inr (answers, all, reads, (mid, lines, subst (TakesPart mid new) same taken))
 
 -- ---- One packet more
 

@@ -5,6 +5,7 @@ use Rattle.bpfvm.specs.declared.insn.Insn.{Insn}
 use Rattle.bpfvm.specs.declared.tracing.Executed.{Executed}
 use Rattle.bpfvm.specs.Machine.{beginning}
 use Rattle.bpfvm.specs.Traces.{Runs}
+use Rattle.bpfvm.specs.Validity.{is_return}
 use Rattle.filter_tree.specs.declared.tree.Expr.{Expr}
 use Rattle.filterlang.specs.Trees.{Tree, tree_of}
 use Rattle.filter_meaning.specs.declared.verdict.Verdict.{Verdict}
@@ -34,10 +35,9 @@ pub record Decides (tree : Tree) (a : Answer) : Type 0 where
   pub answers : a.verdict ≡ meaning tree (frame_of a.packet)
   pub told : a.reason ≡ last_text (questions false tree (frame_of a.packet))
 
--- What the answer of a run counts as whose last instruction has this code: the returns have the codes 6 and 22, and a run that
--- ends elsewhere is an Abort.
-abbrev pub ended_as : ℕ → ℕ → Verdict
-ended_as code n = if code == 6 then (if n == 0 then No else Yes) else if code == 22 then (if n == 0 then No else Yes) else Abort
+-- What the answer of a run counts as whose last instruction is this one: a run that no return ends is an Abort.
+abbrev pub ended_as : Insn → ℕ → Verdict
+ended_as insn n = if is_return insn then (if n == 0 then No else Yes) else Abort
 
 -- Of a program: the end of its run; told is the number that it answers, and its last instruction with its place.
 pub record EndsRun (program : List Insn) (a : Answer) : Type 0 where
@@ -47,7 +47,7 @@ pub record EndsRun (program : List Insn) (a : Answer) : Type 0 where
   pub runs : Runs program a.packet.bytes a.packet.len beginning (before ++ last ∷ []) number
   pub insn : Insn
   pub here : slice_get program last.place ≡ Some insn
-  pub answers : a.verdict ≡ ended_as insn.code number
+  pub answers : a.verdict ≡ ended_as insn number
   pub told : a.reason ≡ end_text number last.place insn
 
 abbrev pub IsAnswerOf : Option Expr → List Insn → Answer → Type 0

@@ -66,15 +66,19 @@ counts_text packets accepted rejected aborted = decimal packets ++ codes " packe
 abbrev pub answer_lines : List Answer → List ℕ
 answer_lines answers = numbered answer_line 0 answers
 
+-- the line of the counts
+abbrev pub counts_line : List Answer → List ℕ
+counts_line answers = counts_text (length answers) (count_of is_yes answers) (count_of is_no answers) (count_of is_abort answers)
+
 -- the lines of the packets, and that of the counts
 abbrev pub printed : List Answer → List ℕ
-printed answers = answer_lines answers
-    ++ counts_text (length answers) (count_of is_yes answers) (count_of is_no answers) (count_of is_abort answers)
+printed answers = answer_lines answers ++ counts_line answers
 
--- all was printed and counted, or a beginning of it was printed
+-- All was printed and counted; or all lines of the packets were, and then a beginning of that of the counts.
 abbrev pub Prints : {A : Type 0} → Option (List ℕ) → Option (List ℕ) → List Answer → VerdictCounts → Result A Unprinted → Type 0
 Prints old new answers counts done =
-    MatchResult done (λ _. Appends old new (printed answers) × AreCounts counts answers) (λ _. TakesPart old new (printed answers))
+    MatchResult done (λ _. Appends old new (printed answers) × AreCounts counts answers)
+    (λ _. (mid : Option (List ℕ)) × Appends old mid (answer_lines answers) × TakesPart mid new (counts_line answers))
 
 -- ---- What was read
 
@@ -96,12 +100,13 @@ ReadsTo from left header packets read =
     × ((IsErrOf read Device × WasTaken from left header packets)
     ⊎ (IsErrOf read CountFull × (length packets ≡ 2 ^ 64 - 1))))
 
--- Why no header was read: it is refused, or memory was wanting, or the source broke before it had given the 24 bytes of one.
-abbrev pub IsUnopened : Option (List ℕ) → Option (List ℕ) → Fault → Type 0
-IsUnopened from left fault =
-    WasRefused from fault
-    ⊎ ((fault ≡ Device) × (given : List ℕ) × Consumes from left given × (length given < 24))
-    ⊎ (fault ≡ NoMemory)
+-- Why no header was read, of a source that is now `back`: it is refused; or the source broke before it had given the 24 bytes of one;
+-- or memory was wanting, and the source is as it was.
+abbrev pub IsUnopened : {R : Type 0} → (R → Option (List ℕ)) → R → R → Fault → Type 0
+IsUnopened left from back fault =
+    WasRefused (left from) fault
+    ⊎ ((fault ≡ Device) × (given : List ℕ) × Consumes (left from) (left back) given × (length given < 24))
+    ⊎ ((fault ≡ NoMemory) × (back ≡ from))
 
 -- ---- A capture
 
@@ -128,7 +133,7 @@ PrintsAll filter from left header old new counts read done =
 -- The header was not read, and nothing was printed; or the packets up to some end were answered, and that was printed.
 abbrev pub Explains : {R : Type 0} → (R → Option (List ℕ)) → R → AskedFilter → Option (List ℕ) → Option (List ℕ) → Explained R → Type 0
 Explains left from filter old new e =
-    ((fault : Fault) × IsUnopened (left from) (left e.source) fault × IsErrOf e.read fault × IsOk e.printed × Keeps old new × AreCounts e.counts [])
+    ((fault : Fault) × IsUnopened left from e.source fault × IsErrOf e.read fault × IsOk e.printed × Keeps old new × AreCounts e.counts [])
     ⊎ ((header : Header) × PrintsAll filter (left from) (left e.source) header old new e.counts e.read e.printed)
 
 -- ---- A line
@@ -182,7 +187,7 @@ GoesTo left from header place r (Err fault) =
 -- The header was not read; or the capture has a packet at this place, and that was printed; or it has not, or can't be read so far.
 abbrev pub Finds : {R : Type 0} → (R → Option (List ℕ)) → R → AskedFilter → ℕ → Option (List ℕ) → Option (List ℕ) → Found R → Type 0
 Finds left from filter place old new f =
-    ((fault : Fault) × IsUnopened (left from) (left f.source) fault × IsErrOf f.read fault × IsOk f.printed × Keeps old new)
+    ((fault : Fault) × IsUnopened left from f.source fault × IsErrOf f.read fault × IsOk f.printed × Keeps old new)
     ⊎ ((header : Header) × (before : List Packet) × (p : Packet) × WasBegun (left from) header (before ++ p ∷ [])
     × (length before ≡ place) × (f.read ≡ Ok true) × PrintsWhole filter place p old new f.printed)
     ⊎ ((header : Header) × (packets : List Packet) × (length packets ≤ place) × IsOk f.printed × Keeps old new

@@ -100,10 +100,10 @@ impl VerdictCounts {
 /// or a division by 0; behind that stand the number, and the place and name of the instruction where the run ended. The last
 /// line is `253 packets: 67 Yes, 186 No, 0 Abort`.
 ///
-/// Each line is sent before the next packet is read, in memory that does not grow with the capture. `read` has the header's fault,
-/// and then nothing is printed, or that of the first torn or bad record, behind the line of the counts. It is
-/// [`Fault::Device`] exactly where the source failed. Where `printed` has a fault, `out` took a beginning of the text; and where that
-/// broke off at a line, none of the counts.
+/// Each line is sent before the next packet is read. `read` has the header's fault, and then nothing is printed; with
+/// [`Fault::NoMemory`] the source is as it was too. It has the fault of the first torn or bad record, after the line of the counts. It is
+/// [`Fault::Device`] exactly if the source failed. If `printed` has a fault, `out` took a prefix of the lines, and `read` is `Ok`, since no
+/// further packet was read; or it took all lines of the packets, and a prefix of that of the counts.
 pub fn explain_each<R: Source, O: Write>(
     alloc: Global,
     from: R,

@@ -55,11 +55,11 @@ fn put_meaning(line: &mut String, expr: &Expr, packet: &PacketRef<'_>) -> Result
     Ok(put_decision(line, expr, packet.bytes, packet.len)?)
 }
 
-/// What an answer of a program counts as whose last instruction has this code: a run that no return ended is an Abort.
-fn ended_as(code: u16, answer: u32) -> Verdict
-    ensures { result ≡ ended_as code answer }
+/// What an answer of a program counts as whose run ended with this instruction: a run that no return ended is an Abort.
+fn ended_as(insn: &Insn, answer: u32) -> Verdict
+    ensures { result ≡ ended_as insn.now answer }
 {
-    if code != code::RET_K && code != code::RET_A {
+    if insn.code != code::RET_K && insn.code != code::RET_A {
         Verdict::Abort
     } else if answer == 0 {
         Verdict::No
@@ -94,7 +94,7 @@ fn put_end(
     let Some(insn) = program.insns().get(last.place) else {
         return Err(NoMemory);
     };
-    let verdict = ended_as(insn.code, run.answer);
+    let verdict = ended_as(insn, run.answer);
     put_verdict(line, verdict)?;
     put_number(line, run.answer, last.place, insn)?;
     Ok(verdict)

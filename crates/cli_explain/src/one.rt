@@ -28,9 +28,9 @@ pub struct Found<R> {
 /// expression how it was read, and each primitive and relation with its own answer and the bytes that it looked at, or that it was
 /// not asked; and the run of the program, by the names of its instructions, with the registers behind each.
 ///
-/// `read` is `Ok(false)` where the capture has no packet at that place; or it has the fault that stands before it, as that of the
-/// header, or of a torn or bad record. Then nothing is printed. Where `printed` is `NoMemory`, `out` took that line alone or nothing,
-/// and where it is `Output` a beginning of the line, or the line and what stands behind it.
+/// `read` is `Ok(false)` if the capture has no packet at that place; or it has the fault that comes before it, as that of the header, or of
+/// a torn or bad record. Then nothing is printed; with [`Fault::NoMemory`] the source is as it was too. If `printed` is `NoMemory`, `out`
+/// took that line alone or nothing, and if it is `Output` a prefix of the line, or the line and what comes after it.
 pub fn explain_one<R: Source, O: Write>(
     alloc: Global,
     from: R,

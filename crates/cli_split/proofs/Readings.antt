@@ -71,6 +71,11 @@ module _ {R : Type 0} (left : R → Option (List ℕ)) (failures : R → ℕ) wh
   met-device n (Err fault) (inl e) = absurd (cc)
   met-device n (Err fault) (inr e) = let same : fault ≡ Device = cc in ap Err same
 
+  -- no fault of its header is told where the header was read
+  no-header : (n : ℕ) (fault : Fault) (given : Result (Unit {0}) Fault) → end_of n given ≡ Err (AtHeader n fault) → ⊥
+  no-header n fault (Ok done) e = cc
+  no-header n fault (Err record_fault) e = cc
+
   -- a capture whose header was read
   pub reads-opened : (from to behind : R) (reader : Reader R) (total n : ℕ) (packets : List Packet) (given : Result (Unit {0}) Fault) → (o : HasOpened left failures from reader) →
       to ≡ behind → (bytes : List ℕ) × Consumes (left reader.source) (left behind) bytes → GaveSo (left from) (left behind) o.header total packets given →
@@ -87,13 +92,14 @@ module _ {R : Type 0} (left : R → Option (List ℕ)) (failures : R → ℕ) wh
           λ e. let differs = broke.0 (met-device n given e) in (λ same. differs (same ∙ sym o.works)),
           λ differs. inr (ap (end_of n) (broke.1 (λ same. differs (same ∙ o.works)))),
         );
+        unread = λ e. absurd (no-header n NoMemory given e);
       })
 
   -- a capture whose header was not read
   pub reads-unopened : (from back : R) (total n : ℕ) (fault : Fault) → WasRefused (left from) fault ⊎ (fault ≡ Device) ⊎ (fault ≡ NoMemory) →
       (given : List ℕ) × Consumes (left from) (left back) given × (fault ≡ Device → length given < 24) → ((fault ≡ Device) ↔ (failures back ≢ failures from)) →
-      ReadsOne left failures from back total n [] (Err (AtHeader n fault))
-  reads-unopened from back total n fault why (given, gave, short) broke =
+      (fault ≡ NoMemory → back ≡ from) → ReadsOne left failures from back total n [] (Err (AtHeader n fault))
+  reads-unopened from back total n fault why (given, gave, short) broke kept =
       let (text, told, ends) = unread why in record {
         text = text;
         told = told;
@@ -101,6 +107,7 @@ module _ {R : Type 0} (left : R → Option (List ℕ)) (failures : R → ℕ) wh
         gave = gave;
         ends = ends;
         broke = (λ e. broke.0 (at-header _ refl e), λ differs. inl (ap (λ (f : Fault). Err (AtHeader n f)) (broke.1 differs)));
+        unread = λ e. let wanting : fault ≡ NoMemory = cc in kept wanting;
       }
     where
       unread : WasRefused (left from) fault ⊎ (fault ≡ Device) ⊎ (fault ≡ NoMemory) →
@@ -115,7 +122,7 @@ module _ {R : Type 0} (left : R → Option (List ℕ)) (failures : R → ℕ) wh
 
   -- a capture that was read whole is one of any number in all
   any-total : (from to : R) (total other n : ℕ) (packets : List Packet) (done : Unit {0}) → ReadsOne left failures from to total n packets (Ok done) → ReadsOne left failures from to other n packets (Ok done)
-  any-total from to total other n packets done r = record { text = r.text; told = r.told; given = r.given; gave = r.gave; ends = r.ends; broke = r.broke }
+  any-total from to total other n packets done r = record { text = r.text; told = r.told; given = r.given; gave = r.gave; ends = r.ends; broke = r.broke; unread = r.unread }
 
   -- the first capture was read
   pub first-read : (s t : R) (total : ℕ) (rest : List R) (packets : List Packet) (end : Result (Unit {0}) Stop) → ReadsOne left failures s t total 0 packets end → total ≡ length packets →

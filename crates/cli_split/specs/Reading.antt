@@ -27,7 +27,7 @@ EndsSo text given total n packets (Err (AtRecord m fault)) =
     × (((fault ≡ Device) × StopsBehind given packets) ⊎ ((fault ≡ CountFull) × (total ≡ 2 ^ 64 - 1)))))
 
 -- The n-th capture was read, whose source was `from` and is `to`: the text that it had left, and what it gave of that. A fault of
--- the device is told exactly where it failed.
+-- the device is told exactly where it failed; and where memory was wanting the source is as it was.
 pub record ReadsOne {R : Type 0} (left : R → Option (List ℕ)) (failures : R → ℕ) (from to : R) (total n : ℕ) (packets : List Packet) (end : Result (Unit {0}) Stop) : Type 0 where
   pub text : List ℕ
   pub told : IfSome (left from) (λ bytes. bytes ≡ text)
@@ -35,6 +35,7 @@ pub record ReadsOne {R : Type 0} (left : R → Option (List ℕ)) (failures : R 
   pub gave : Consumes (left from) (left to) given
   pub ends : EndsSo text given total n packets end
   pub broke : ((end ≡ Err (AtHeader n Device)) ⊎ (end ≡ Err (AtRecord n Device))) ↔ (failures to ≢ failures from)
+  pub unread : end ≡ Err (AtHeader n NoMemory) → to ≡ from
 
 -- Captures were read, of which the first has this number, and gave these packets, `total` in all with those before: each one whole, or up
 -- to the first that was not. The sources behind that are as they were.

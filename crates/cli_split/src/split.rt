@@ -258,10 +258,10 @@ fn split_first<R: Source + Drop, W: Sink + Drop>(
 /// capture, all sinks are as they were.
 ///
 /// A part whose sink fails ends there, with a prefix of its text and [`Fault::Device`]; so does one whose text has 2^64 bytes or more,
-/// with [`Fault::CountFull`]. The others go on. If memory runs out for a capture's reader, that is `NoMemory`, a fault of its header. After
-/// 2^64 - 1 packets no more is read, with [`Fault::CountFull`].
+/// with [`Fault::CountFull`]. The others go on. If memory runs out for a capture's reader, that is `NoMemory`, a fault of its header, and
+/// its source is as it was. After 2^64 - 1 packets no more is read, with [`Fault::CountFull`].
 ///
-/// The error is that memory runs out before anything is read or written. Memory does not grow with the captures.
+/// The error is that memory runs out before anything is read or written.
 pub fn split<R: Source + Drop, W: Sink + Drop>(
     alloc: Global,
     mut captures: Vec<R>,

@@ -49,22 +49,37 @@ pub record AllSent (text : List ℕ) (program : List Insn) (snap : ℕ) (order :
   pub whole : sent ≡ cut_text program snap order unit packets
   pub counted : IsTally program packets tally
 
--- It broke off. The source had given these bytes.
-abbrev pub BrokeOff : List ℕ → List ℕ → List Insn → ℕ → Order → TimeUnit → End → List ℕ → Type 0
-BrokeOff text given program snap order unit Clean sent = ⊥
--- At the source. Nothing was sent: the header is refused, memory was wanting, or the source broke inside the header. Or
--- the accepted packets of those before the break were, all of them: the source broke, and what it had given stops behind
--- these packets, or no more packets can be counted.
-BrokeOff text given program snap order unit (Input fault) sent =
-    ((RefusesHeader text fault ⊎ (fault ≡ NoMemory) ⊎ ((fault ≡ Device) × (length given < 24))) × (sent ≡ []))
-    ⊎ ((before after : List Packet) × (record_fault : Option Fault) × IsCapture text (before ++ after) record_fault
-    × (sent ≡ cut_text program snap order unit before)
-    × (((fault ≡ Device) × StopsBehind given before) ⊎ ((fault ≡ CountFull) × (length before ≡ 2 ^ 64 - 1))))
--- At the sink. A beginning was sent: the sink broke, or the whole has more bytes than can be counted.
-BrokeOff text given program snap order unit (Output fault) sent =
-    (packets : List Packet) × (record_fault : Option Fault) × IsCapture text packets record_fault
-    × IsBeginning sent (cut_text program snap order unit packets)
-    × ((fault ≡ Device) ⊎ ((fault ≡ CountFull) × (2 ^ 64 ≤ length (cut_text program snap order unit packets))))
+-- No header was read, of a source that is now `back`, and the sink is as it was: the header is refused; memory was wanting, and
+-- the source is as it was too; or the source, which had given these bytes, broke inside the header.
+pub record StopsAtHeader {R W : Type 0} (from back : R) (to sink : W) (text given : List ℕ) (fault : Fault) (sent : List ℕ) : Type 0 where
+  pub why : RefusesHeader text fault ⊎ ((fault ≡ NoMemory) × (back ≡ from)) ⊎ ((fault ≡ Device) × (length given < 24))
+  pub untouched : sink ≡ to
+  pub nothing : sent ≡ []
+
+-- The reading broke off behind the packets `before`, and the accepted ones of these were sent, all of them: the source broke, and
+-- what it had given stops behind them; or no more packets can be counted.
+pub record StopsReading (text given : List ℕ) (program : List Insn) (snap : ℕ) (order : Order) (unit : TimeUnit) (fault : Fault) (sent : List ℕ) : Type 0 where
+  pub before : List Packet
+  pub after : List Packet
+  pub record_fault : Option Fault
+  pub reads : IsCapture text (before ++ after) record_fault
+  pub whole : sent ≡ cut_text program snap order unit before
+  pub why : ((fault ≡ Device) × StopsBehind given before) ⊎ ((fault ≡ CountFull) × (length before ≡ 2 ^ 64 - 1))
+
+-- The writing broke off, and a beginning was sent: the sink broke, or the whole has more bytes than can be counted.
+pub record StopsWriting (text : List ℕ) (program : List Insn) (snap : ℕ) (order : Order) (unit : TimeUnit) (fault : Fault) (sent : List ℕ) : Type 0 where
+  pub packets : List Packet
+  pub record_fault : Option Fault
+  pub reads : IsCapture text packets record_fault
+  pub begins : IsBeginning sent (cut_text program snap order unit packets)
+  pub why : (fault ≡ Device) ⊎ ((fault ≡ CountFull) × (2 ^ 64 ≤ length (cut_text program snap order unit packets)))
+
+-- It broke off: at the source, before its header was read or after that, or at the sink.
+abbrev pub BrokeOff : {R W : Type 0} → R → R → W → W → List ℕ → List ℕ → List Insn → ℕ → Order → TimeUnit → End → List ℕ → Type 0
+BrokeOff from back to sink text given program snap order unit Clean sent = ⊥
+BrokeOff from back to sink text given program snap order unit (Input fault) sent =
+    StopsAtHeader from back to sink text given fault sent ⊎ StopsReading text given program snap order unit fault sent
+BrokeOff from back to sink text given program snap order unit (Output fault) sent = StopsWriting text program snap order unit fault sent
 
 -- A sink, which was `old` and is `new`, took these bytes and no more, and their number is told.
 pub record Took {W : Type 0} (taken : W → Option (List ℕ)) (old new : W) (count : ℕ) (bytes : List ℕ) : Type 0 where
@@ -81,4 +96,5 @@ pub record Cuts {R W : Type 0} (left : R → Option (List ℕ)) (taken : W → O
   pub gave : Consumes (left from) (left end.source) given
   pub sent : List ℕ
   pub took : Took taken to end.sink end.sent sent
-  pub outcome : AllSent text program snap order unit end.tally end.end sent ⊎ BrokeOff text given program snap order unit end.end sent
+  pub outcome : AllSent text program snap order unit end.tally end.end sent
+      ⊎ BrokeOff from end.source to end.sink text given program snap order unit end.end sent

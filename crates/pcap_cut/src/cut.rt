@@ -63,15 +63,18 @@ pub struct CutEnd<R, W> {
 /// A packet is kept with the least of the snapshot length, the program's answer and the captured length as its number
 /// of bytes; its time and its length on the wire stay. The new header has the snapshot length, and 0 stands for
 /// 262,144. The capture is a savefile of pcap-savefile(5), in any byte order and unit; it is written in those given.
-/// Each packet is written before the next one is read, in memory that does not grow with the capture.
+/// Each packet is written before the next one is read.
 ///
-/// The end is [`End::Clean`] where the whole capture was read and written. It is [`End::Input`] with the header's fault,
-/// and nothing is written; with the fault of the first torn or bad record, behind all packets before it; with
-/// [`Fault::Device`] exactly where the source failed: behind all packets that came whole in what the source gave, or
-/// with nothing written where that was fewer than the 24 bytes of a header; with [`Fault::NoMemory`], and nothing is
-/// written; or with [`Fault::CountFull`] after 2^64 - 1 packets. It is [`End::Output`] with [`Fault::Device`] exactly
-/// where the sink failed, or [`Fault::CountFull`] where the text has 2^64 bytes or more. In every case the sink took
-/// exactly `sent` bytes, a beginning of the text that was to be written.
+/// The end is [`End::Clean`] if the whole capture was read and written. It is [`End::Input`]
+///
+/// - with the header's fault, and the sink is as it was; so it is with [`Fault::NoMemory`], and then the source is too;
+/// - with the fault of the first torn or bad record, after all packets before it;
+/// - with [`Fault::Device`] exactly if the source failed: after all packets that came whole in what the source gave, or, with the sink
+///   as it was, if that was fewer than the 24 bytes of a header;
+/// - with [`Fault::CountFull`] after 2^64 - 1 packets.
+///
+/// It is [`End::Output`] with [`Fault::Device`] exactly if the sink failed, or [`Fault::CountFull`] if the text has 2^64 bytes or more. In
+/// every case the sink took exactly `sent` bytes, a prefix of the text that was to be written.
 pub fn cut<R: Source, W: Sink>(
     alloc: Global,
     from: R,

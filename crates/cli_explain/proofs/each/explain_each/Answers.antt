@@ -7,7 +7,7 @@ pub returns-in-Err-clause-explains : goal.returns-in-Err-clause-explains
 returns-in-Err-clause-explains g c =
     inl (
       c.in-Err.fault,
-      unopened _ _ c.in-Err.fault c.in-Err.ensures.refused c.in-Err.ensures.taken,
+      unopened g.R.Source.left c.args.from c.in-Err.source c.in-Err.fault c.in-Err.ensures.refused c.in-Err.ensures.unread c.in-Err.ensures.taken,
       refl,
       refl,
       Keeps-refl _,

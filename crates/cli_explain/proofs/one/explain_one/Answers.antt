@@ -5,7 +5,7 @@ use Rattle.cli_explain.proofs.one.explain_one.Goals as goal
 
 pub returns-in-Err-clause-finds : goal.returns-in-Err-clause-finds
 returns-in-Err-clause-finds g c =
-    inl (c.in-Err.fault, unopened _ _ c.in-Err.fault c.in-Err.ensures.refused c.in-Err.ensures.taken, refl, refl, Keeps-refl _)
+    inl (c.in-Err.fault, unopened g.R.Source.left c.args.from c.in-Err.source c.in-Err.fault c.in-Err.ensures.refused c.in-Err.ensures.unread c.in-Err.ensures.taken, refl, refl, Keeps-refl _)
 
 pub returns-clause-finds : goal.returns-clause-finds
 returns-clause-finds g c =

@@ -21,7 +21,7 @@ returns-in-Err g c =
     c.leave_captures.ensures ∙ ap (λ xs. xs ++ c.args.others.items) (c.push_reserved.ensures.items ∙ ap (λ xs. xs ++ c.in-Err.source ∷ []) c.requires.sources.0) in
     unread-first g.R.Source.left g.R.Source.failures g.W.Sink.taken g.W.Sink.failures (c.args.first ∷ c.args.others.items) c.args.parts.items c.args.order c.args.unit c.leave_captures.result c.leave_all.new.ends
     c.args.first c.in-Err.source c.args.others.items c.in-Err.fault refl back
-    (reads-unopened g.R.Source.left g.R.Source.failures c.args.first c.in-Err.source 0 0 c.in-Err.fault told.refused told.taken told.device) c.leave_all.ensures
+    (reads-unopened g.R.Source.left g.R.Source.failures c.args.first c.in-Err.source 0 0 c.in-Err.fault told.refused told.taken told.device told.unread) c.leave_all.ensures
 
 pub begin_all-requires : goal.begin_all-requires
 begin_all-requires g c = record { room = c.requires.outlets }
