@@ -1,5 +1,6 @@
 //! The filter machine, beside what the program shows: its instructions and their names, its trace, and its page's caller.
 
+mod assembled;
 mod caller;
 mod named;
 mod traced;

@@ -1,0 +1,9 @@
+pub mod Entries
+pub mod Numerals
+pub mod Comments
+pub mod Lexing
+pub mod Agreeing
+pub mod Refusals
+pub mod Lines
+pub mod Insns
+pub mod Arrays

@@ -1,0 +1,11 @@
+pub mod Types
+pub mod Words
+pub mod Numbers
+pub mod Tokens
+pub mod Operands
+pub mod Instructions
+pub mod Lines
+pub mod Assembly
+pub mod Answers
+pub mod Notation
+pub mod Arrays
