@@ -8,7 +8,7 @@ from .manual import session
 
 # Pages whose commands need no other program than the system's own; docs/SCALE.md has a group of its own.
 LESSONS = [f"examples/lessons/{page.name}" for page in sorted((ROOT / "examples" / "lessons").glob("*.md"))]
-RUN = ["README.md", "docs/RECIPES.md", "docs/LANGUAGE.md", "docs/FAULTS.md", "examples/README.md", *LESSONS]
+RUN = ["README.md", "docs/RECIPES.md", "docs/LANGUAGE.md", "docs/ASSEMBLY.md", "docs/FAULTS.md", "examples/README.md", *LESSONS]
 
 # A block between two lines of three backticks, or one that is indented by four blanks.
 BLOCK = re.compile(r"^```\w*\n(?P<fenced>(?s:.*?))^```$|^(?P<indented>(?:    .*\n)+)", re.M)

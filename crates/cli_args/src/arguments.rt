@@ -8,6 +8,8 @@ use std::alloc::{AllocError, Global};
 pub(crate) enum Argument {
     /// An option without a value.
     Flag(&'static str, char, &'static str),
+    /// An option without a value that may be repeated.
+    Count(&'static str, char, &'static str),
     /// An option with a value.
     Text(&'static str, char, &'static str, &'static str),
     /// An option whose value is a number.
@@ -37,6 +39,7 @@ impl Argument {
     pub fn to_arg<'a>(self, alloc: Global) -> Result<Arg<'a>, AllocError> {
         match self {
             Argument::Flag(name, short, help) => Ok(flag(alloc, name, short, help)),
+            Argument::Count(name, short, help) => Ok(count(alloc, name, short, help)),
             Argument::Text(name, short, value, help) => Ok(option(alloc, name, short, value, help)),
             Argument::Number(name, short, value, help) => Ok(number(
                 alloc, name, short, value, help,
@@ -72,6 +75,14 @@ fn flag<'a>(alloc: Global, name: &'a str, short: char, help: &'a str) -> Arg<'a>
     Arg::new(alloc, name)
         .short(short)
         .action(ArgAction::SetTrue)
+        .help(help)
+}
+
+/// An option without a value that may be repeated.
+fn count<'a>(alloc: Global, name: &'a str, short: char, help: &'a str) -> Arg<'a> {
+    Arg::new(alloc, name)
+        .short(short)
+        .action(ArgAction::Count)
         .help(help)
 }
 
@@ -116,7 +127,7 @@ fn listing<'a>(alloc: Global) -> Arg<'a> {
         "listing",
         'f',
         "LISTING",
-        "Filter program, as lines of numbers in the form of tcpdump -ddd",
+        "Filter program: assembly, or as tcpdump -d or -ddd prints it",
     )
 }
 

@@ -15,8 +15,9 @@ pub struct CheckWords<'a> {
     pub listing: Option<&'a str>,
     /// The snapshot length of an expression's program, 1 to [`cli_text::MAX_SNAP`].
     pub snap: u32,
-    /// Whether the program is printed by the names of its instructions.
-    pub named: bool,
+    /// How many options `-d` are given: by one the program is printed by the names of its instructions, by two as an array of C,
+    /// and by three as numbers.
+    pub named: u8,
     /// Whether the expression is printed as it was read, and no program.
     pub read: bool,
 }
@@ -26,12 +27,14 @@ const CHECK_EXAMPLES: &str = "Examples:
   bpftap check -d 'tcp dst port 80 or 443'    the same program, for a person to read
   bpftap check -x 'tcp dst port 80 or 443'    what was read: tcp dst port 80 or tcp dst port 443
   tcpdump -y EN10MB -ddd 'udp port 53' | bpftap check -d -f /dev/stdin
+  bpftap check -f examples/ssh.asm    the numbers of a program that is written by hand
   bpftap check 'tcp and 80'       prints bpftap: NoQualifier 8
   bpftap check ''                 the empty expression accepts every packet
 
 What is printed is a line with the number of instructions, and a line code jt jf k for each:
 tcpdump -ddd prints the same form, and cut -f reads it. With -d it is a line for each
-instruction by its name, as tcpdump -d prints it. With -x it is the expression as it was read, on
+instruction by its name, as tcpdump -d prints it, and with -dd an array of C. The file of -f has
+any of the three but the array, or assembly (docs/ASSEMBLY.md). With -x it is the expression as it was read, on
 one line, also where its program is too long. -s is for an expression alone. An expression that
 begins with - is written in parentheses. The number behind a fault's name is the byte of the
 expression that it stands at, from 0; docs/LANGUAGE.md has the language.
@@ -40,10 +43,10 @@ Exit status: 0 the program is printed; 1 the expression or listing is refused or
 too long, wrong words, or want of memory; 3 a file or standard output failed.";
 
 static ARGUMENTS: [Argument; 5] = [
-    Argument::Flag(
+    Argument::Count(
         "named",
         'd',
-        "Print instructions by their names, as tcpdump -d does",
+        "Print instructions by their names, as tcpdump -d does; -dd: as an array of C",
     ),
     Argument::Read,
     Argument::DefaultSnap,
@@ -51,7 +54,7 @@ static ARGUMENTS: [Argument; 5] = [
         "listing",
         'f',
         "LISTING",
-        "Print the program of this file, which is in the form of tcpdump -ddd",
+        "Print the program of this file: assembly, or as tcpdump -d or -ddd prints it",
     ),
     Argument::Word,
 ];
@@ -73,7 +76,7 @@ pub fn check_words<'a>(matches: &ArgMatches<'a>) -> Option<CheckWords<'a>> {
         expr: matches.get_str("EXPR"),
         listing: matches.get_str("listing"),
         snap: snapshot_length(matches.get_str("snap")?.as_bytes())?,
-        named: matches.get_flag("named"),
+        named: matches.get_count("named"),
         read: matches.get_flag("read"),
     })
 }

@@ -4,6 +4,7 @@ use Rattle.std.specs.Io.KnownBytes.{Appends, Keeps}
 use Rattle.bpfvm.specs.declared.insn.Insn.{Insn}
 use Rattle.bpfvm.specs.Listing.{listing_of}
 use Rattle.bpfvm.specs.Images.{image_of}
+use Rattle.bpf_asm.specs.Arrays.{array_of}
 use Rattle.savefile.specs.declared.record.TheConstants.{MAX_SNAP}
 use Rattle.filterlang.specs.Texts.{ReadsAs, IsRefusalOf}
 use Rattle.filterlang.specs.Trees.{Tree}
@@ -33,10 +34,11 @@ IsUnread old new text (print.Expression (faults.Tree refusal)) = ⊥
 IsUnread old new text print.NoMemory = (tree : Tree) × ReadsAs text tree × Keeps old new
 IsUnread old new text (print.Output error) = (tree : Tree) × ReadsAs text tree × TakesPart old new (canonical tree ++ end_of_line)
 
--- a program as numbers, or by the names of its instructions
+-- a program as numbers, by the names of its instructions, or as an array of C
 abbrev pub program_text : ProgramForm → List Insn → List ℕ
 program_text forms.Listing program = listing_of program
 program_text forms.Image program = image_of program
+program_text forms.Array program = array_of program
 
 -- Why a text is not printed: memory for it was wanting, and nothing was taken; or the writer failed, which took a beginning of it.
 abbrev pub IsUnprinted : Option (List ℕ) → Option (List ℕ) → List ℕ → PrintFault → Type 0

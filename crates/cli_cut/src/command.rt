@@ -105,10 +105,10 @@ fn print_program<R: Files + AllocGlobal, O: Write, E: HintSink>(
     out: &mut O,
     err: &mut E,
 ) -> Result<Result<(), PrintFault>, Status> {
-    let form = if words.named {
-        ProgramForm::Image
-    } else {
-        ProgramForm::Listing
+    let form = match words.named {
+        1 => ProgramForm::Image,
+        2 => ProgramForm::Array,
+        _ => ProgramForm::Listing,
     };
     let program = read_program(rt, words, err)?;
     Ok(show(rt.alloc(), &program, form, out))
@@ -123,7 +123,7 @@ fn print<R: Files + AllocGlobal, O: Write, E: HintSink>(
 ) -> Result<Result<(), PrintFault>, Status> {
     match (words.expr, words.read) {
         (Some(expr), true) => Ok(show_read(rt.alloc(), expr, out)),
-        (Some(expr), false) if !words.named && words.snap == MAX_SNAP => {
+        (Some(expr), false) if words.named == 0 && words.snap == MAX_SNAP => {
             Ok(check(rt.alloc(), expr, out))
         }
         _ => print_program(rt, words, out, err),

@@ -7,6 +7,7 @@ ghost use Rattle.cli_text.specs.Telling.{end_of_line};
 ghost use Rattle.filter_print.specs.Canonical.{canonical};
 ghost use Rattle.cli_cut.specs.Printing.{Prints, PrintsRead, IsPart, IsUnchecked, IsUnprinted, IsUnread, IsUnshown, program_text};
 
+use bpf_asm::write_array;
 use bpfvm::{NoMemory, Program, write_image, write_listing};
 use cli_text::MAX_SNAP;
 use cli_text::sending::send;
@@ -54,6 +55,8 @@ pub enum ProgramForm {
     Listing,
     /// By the names of its instructions, for a person: what `tcpdump -d` prints.
     Image,
+    /// As an array of C: what `tcpdump -dd` prints.
+    Array,
 }
 
 fn text_of(alloc: Global, program: &Program, form: ProgramForm) -> Result<Vec<u8>, NoMemory>
@@ -62,6 +65,7 @@ fn text_of(alloc: Global, program: &Program, form: ProgramForm) -> Result<Vec<u8
     match form {
         ProgramForm::Listing => write_listing(alloc, program),
         ProgramForm::Image => write_image(alloc, program),
+        ProgramForm::Array => write_array(alloc, program),
     }
 }
 
@@ -76,7 +80,7 @@ fn print<O: Write>(text: &[u8], out: &mut O) -> Result<(), PrintFault>
     }
 }
 
-/// Prints a program in one of two forms. The fault is [`PrintFault::NoMemory`], and then nothing was printed, or
+/// Prints a program in one of its forms. The fault is [`PrintFault::NoMemory`], and then nothing was printed, or
 /// [`PrintFault::Output`]: `out` failed, and took a beginning of the text and no more.
 pub fn show<O: Write>(
     alloc: Global,

@@ -5,6 +5,7 @@ ghost use Rattle.cli_text.specs.declared.status.Status.TheVariants.{Refused};
 
 use crate::program::{FilterFault, filter};
 use crate::report::report_filter;
+use bpf_asm::AssemblyFault;
 use bpfvm::{ListingFault, Program};
 use cli_files::reading::read_file;
 use cli_filter_hints::expressions::{hint_refusal, hint_text_fault};
@@ -13,6 +14,9 @@ use cli_report::files::{LISTING, hint_bad_line};
 use cli_text::Status;
 use filtergen::ExpressionFault;
 use std::fs::Files;
+
+/// The form of a line of assembly.
+const ASSEMBLY: &str = "LABEL: NAME OPERAND, as docs/ASSEMBLY.md has it";
 
 /// Hints on an expression that has no program.
 pub fn hint_expression<E: HintSink>(text: &str, fault: ExpressionFault, err: &mut E)
@@ -34,6 +38,9 @@ fn hint_filter<E: HintSink>(
         FilterFault::Expression(fault) => hint_expression(expr.unwrap_or(""), fault, err),
         FilterFault::Listing(ListingFault::BadLine(line)) => {
             hint_bad_line(listing.unwrap_or(&[]), line, LISTING, err);
+        }
+        FilterFault::Assembly(AssemblyFault::Line(line, _)) => {
+            hint_bad_line(listing.unwrap_or(&[]), line, ASSEMBLY, err);
         }
         _ => {}
     }

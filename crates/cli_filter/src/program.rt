@@ -3,7 +3,8 @@
 ghost use Rattle.std.specs.Prelude.{IfOk, IfErr, option_copied};
 ghost use Rattle.cli_filter.specs.Filter.{IsFilter, IsNoFilter};
 
-use bpfvm::{ListingFault, Program, read_listing};
+use bpf_asm::{AssemblyFault, ProgramTextFault, read_program};
+use bpfvm::{ListingFault, Program};
 use cli_text::effective_snaplen;
 use filtergen::{ExpressionFault, compile_text};
 use std::alloc::Global;
@@ -18,16 +19,19 @@ pub enum FilterFault {
     /// The text is no listing of a valid program.
     #[error("{0}")]
     Listing(ListingFault),
+    /// The text is no assembly of a valid program.
+    #[error("{0}")]
+    Assembly(AssemblyFault),
     /// The expression has no program.
     #[error("{0}")]
     Expression(ExpressionFault),
 }
 
-/// The filter that a listing is, or that stands for an expression: it answers the snapshot length where the expression
+/// The filter that a listing, assembly or an image is, or that stands for an expression: it answers the snapshot length where the expression
 /// accepts a packet. Without either it is that of the empty expression, which accepts every packet.
 ///
-/// The fault is the one that stands: [`FilterFault::Twice`] where both are given; the fault of a text that is no listing of
-/// a valid program; or that of an expression which is refused, or too deep or too long to compile, or of a snapshot length
+/// The fault is the one that stands: [`FilterFault::Twice`] where both are given; the fault of a text that is no valid
+/// program in its notation; or that of an expression which is refused, or too deep or too long to compile, or of a snapshot length
 /// above 262,144. Of an expression it may also be `NoMemory`.
 pub fn filter(
     alloc: Global,
@@ -40,9 +44,10 @@ pub fn filter(
 {
     match (listing, expr) {
         (Some(_), Some(_)) => Err(FilterFault::Twice),
-        (Some(text), None) => match read_listing(text) {
+        (Some(text), None) => match read_program(alloc, text) {
             Ok(program) => Ok(program),
-            Err(fault) => Err(FilterFault::Listing(fault)),
+            Err(ProgramTextFault::Listing(fault)) => Err(FilterFault::Listing(fault)),
+            Err(ProgramTextFault::Assembly(fault)) => Err(FilterFault::Assembly(fault)),
         },
         (None, expr) => match compile_text(alloc, expr.unwrap_or(""), effective_snaplen(snap)) {
             Ok(program) => Ok(program),
