@@ -177,6 +177,46 @@ def the_lesson_is_drawn_as_its_page_shows_it(scene):
 
 
 @case
+def a_lane_without_loads_is_as_high_as_others(scene):
+    """Of a listener that never stores the whole buffers are drawn, with marks as low as those of another lane."""
+    scene.put({"l.txt": "64 192 arp\n64 192 icmp\n", "s.txt": "arrive\n" * 7})
+    scene.run(["steps", "-p", "steps.svg", "l.txt", "s.txt", VETH])
+    picture = tree.fromstring(scene.read("steps.svg"))
+    boxes = [lane.find(f"{SVG}svg").get("viewBox") for lane in picture.findall(f"{SVG}g")]
+    scene.check("both lanes", boxes, ["0 0 70 530"] * 2)
+    scene.check("no part is drawn only", b"drawn up to" in scene.read("steps.svg"), False)
+
+
+@case
+def the_picture_says_what_it_shows(scene):
+    """A title and a description stand first, for readers who cannot see it."""
+    scene.put({"l.txt": "64 192 icmp\n64 192 arp\n", "s.txt": "arrive\nread 0\narrive\n"})
+    scene.run(["steps", "-p", "steps.svg", "l.txt", "s.txt", VETH])
+    title, described = list(tree.fromstring(scene.read("steps.svg")))[:2]
+    scene.check("a title", (title.tag, title.text), (f"{SVG}title", "bpftap steps: the buffers of each listener, step by step"))
+    scene.check("a description", (described.tag, described.text[:25]), (f"{SVG}desc", "Steps: 3. Listeners: 2. E"))
+
+
+@case
+def a_long_expression_is_cut_to_the_page(scene):
+    """The line of a lane has at most as many characters as the page has room for, of 7 pixels each, and the whole expression is its title;
+    a short one has no title."""
+    long = " or ".join(f"host 192.0.2.{n}" for n in range(40))
+    scene.put({"l.txt": f"64 192 {long}\n0 1048576i {long}\n64 192 icmp\n64 1048576 len < 60 and icmp\n", "s.txt": "arrive\n" * 7})
+    scene.run(["steps", "-p", "steps.svg", "l.txt", "s.txt", VETH])
+    lines = [lane.find(f"{SVG}text") for lane in tree.fromstring(scene.read("steps.svg")).findall(f"{SVG}g")]
+    for line in lines[:2]:
+        title = line.find(f"{SVG}title")
+        shown = title.tail
+        scene.check("the whole of it", title.text, long)
+        scene.check("what is shown", long.startswith(shown.split("a packet: ")[1].split("..")[0]) and ".." in shown, True)
+        scene.check("its length", len(shown) <= 126, True)
+    scene.check("a short one", [line.text for line in lines[2:]], [
+        "listener 2: two buffers of 192 bytes, at most 64 bytes of a packet: icmp",
+        "listener 3: two buffers of 1048576 bytes, at most 64 bytes of a packet: len < 60 and icmp"])
+
+
+@case
 def a_picture_that_cannot_be_made_is_told(scene):
     """The reports are printed, and FILE is told with status 3."""
     files = [STEPS / "listeners.txt", STEPS / "script.txt", VETH]

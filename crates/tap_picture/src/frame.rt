@@ -9,6 +9,23 @@ pub const LANE: u64 = 210;
 /// The height of what stands above the lanes.
 pub const HEAD: u64 = 60;
 
+/// The least width of the picture, which the legend takes.
+const LEAST_WIDTH: u64 = 900;
+/// The room at the left of a line of text, and again at its right.
+const INDENT: u64 = 10;
+/// The width of a character, of most of which it is less.
+const CHARACTER: u64 = 7;
+
+/// The width of the picture, of lanes that are so wide.
+pub fn page_width(lanes: u64) -> u64 {
+    lanes.saturating_add(MARGIN + 2 * INDENT).max(LEAST_WIDTH)
+}
+
+/// How many characters a line of text has room for.
+pub fn characters(lanes: u64) -> u64 {
+    page_width(lanes).saturating_sub(2 * INDENT) / CHARACTER
+}
+
 /// The width of a step: wide where there are few.
 pub fn step_width(steps: usize) -> u64 {
     match steps {

@@ -11,7 +11,7 @@ use tap_steps::{Answer, PlacedPacket, Step};
 /// and the store with room above it for a record that exceeds the capacity.
 #[derive(Clone, Copy)]
 pub struct Scale {
-    /// The bytes that are drawn of a buffer: its capacity, or less where little of it is ever filled.
+    /// The bytes that are drawn of a buffer: its capacity, or less if little of it is ever filled, but not nothing.
     pub drawn: u64,
     mark: u64,
 }
@@ -22,7 +22,12 @@ const STEP: u64 = 10;
 impl Scale {
     /// Of buffers of this capacity that have at most `highest` bytes.
     pub fn new(capacity: usize, highest: u64) -> Scale {
-        let drawn = highest.saturating_mul(2).min(capacity as u64).max(1);
+        let capacity = capacity as u64;
+        let drawn = match highest {
+            0 => capacity,
+            _ => highest.saturating_mul(2).min(capacity),
+        };
+        let drawn = drawn.max(1);
         Scale {
             drawn,
             mark: drawn / 8 + 1,

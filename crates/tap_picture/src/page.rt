@@ -1,7 +1,7 @@
 //! The picture as a whole.
 
 use crate::columns::{Columns, highest};
-use crate::frame::{BARS, HEAD, LANE, MARGIN, are_named, step_width};
+use crate::frame::{BARS, HEAD, LANE, are_named, characters, page_width, step_width};
 use crate::lane::{Scale, write_bars, write_names};
 use listener::Mode;
 use std::io;
@@ -33,6 +33,12 @@ static LEGEND: [(&str, &str); 8] = [
     ("passed", "rejected, or nothing to do"),
     ("closed", "closed"),
 ];
+
+/// How many characters of a filter are shown at least.
+const LEAST_SHOWN: u64 = 8;
+
+/// What stands at the end of a filter that is cut.
+const CUT: &str = "..";
 
 /// What stands for a character in XML, where it does not stand for itself.
 fn escape_of(character: char) -> Option<&'static str> {
@@ -70,14 +76,32 @@ fn write_legend<O: Write>(out: &mut O) -> io::Result<()> {
     Ok(())
 }
 
-/// The size of the picture, the colours and what they mean.
-fn write_head<O: Write>(width: u64, listeners: usize, out: &mut O) -> io::Result<()> {
-    let wide = width.saturating_add(MARGIN + 20).max(900);
+/// What the picture is, in words.
+fn write_description<O: Write>(steps: usize, listeners: usize, out: &mut O) -> io::Result<()> {
+    writeln!(
+        out,
+        "<title>bpftap steps: the buffers of each listener, step by step</title>"
+    )?;
+    writeln!(
+        out,
+        "<desc>Steps: {steps}. Listeners: {listeners}. Each listener has a lane, with a column for each step: at the top a mark of what became of the step, below it the bytes of the hold, and at the bottom those of the store. The title of a column says the same in words.</desc>"
+    )
+}
+
+/// The size of the picture, what it is, the colours and what they mean.
+fn write_head<O: Write>(
+    width: u64,
+    steps: usize,
+    listeners: usize,
+    out: &mut O,
+) -> io::Result<()> {
+    let wide = page_width(width);
     let high = (listeners as u64).saturating_mul(LANE).saturating_add(HEAD);
     writeln!(
         out,
         "<svg xmlns=\"http://www.w3.org/2000/svg\" width=\"{wide}\" height=\"{high}\" viewBox=\"0 0 {wide} {high}\">"
     )?;
+    write_description(steps, listeners, out)?;
     writeln!(out, "<style>{STYLE}</style>")?;
     writeln!(
         out,
@@ -86,30 +110,86 @@ fn write_head<O: Write>(width: u64, listeners: usize, out: &mut O) -> io::Result
     write_legend(out)
 }
 
-/// What stands for the filter of a listener.
-fn write_filter<O: Write>(filter: &Filter, out: &mut O) -> io::Result<()> {
-    match filter {
-        Filter::Text(text) if text.is_empty() => write!(out, "all packets"),
-        Filter::Text(text) => write_escaped(text, out),
-        Filter::Program(_) => write!(out, "a program"),
+/// A writer that keeps nothing but the number of bytes.
+#[derive(Drop)]
+struct Length(u64);
+
+impl Write for Length {
+    fn write(&mut self, from: &[u8]) -> io::Result<usize> {
+        self.0 = self.0.saturating_add(from.len() as u64);
+        Ok(from.len())
+    }
+
+    fn flush(&mut self) -> io::Result<()> {
+        Ok(())
     }
 }
 
-/// What a listener was asked for.
-fn write_asked<O: Write>(l: u32, spec: &Spec, drawn: u64, out: &mut O) -> io::Result<()> {
+/// What stands for the filter of a listener.
+fn filter_text(filter: &Filter) -> &str {
+    match filter {
+        Filter::Text(text) if text.is_empty() => "all packets",
+        Filter::Text(text) => text.as_str(),
+        Filter::Program(_) => "a program",
+    }
+}
+
+/// What a listener has beside its filter.
+fn write_terms<O: Write>(l: u32, spec: &Spec, out: &mut O) -> io::Result<()> {
     let mode = match spec.mode {
         Mode::Buffered => "",
         Mode::Immediate => ", immediate",
     };
     write!(
         out,
-        "<text x=\"10\" y=\"14\">listener {l}: two buffers of {} bytes{mode}, at most {} bytes of a packet: ",
+        "listener {l}: two buffers of {} bytes{mode}, at most {} bytes of a packet: ",
         spec.capacity, spec.snap
-    )?;
-    write_filter(&spec.filter, out)?;
+    )
+}
+
+/// How much of the buffers is drawn, if that is not all.
+fn write_drawn<O: Write>(spec: &Spec, drawn: u64, out: &mut O) -> io::Result<()> {
     if drawn < spec.capacity as u64 {
-        write!(out, " (drawn up to {drawn} bytes)")?;
+        write!(out, " (drawn up to {drawn} bytes)")
+    } else {
+        Ok(())
     }
+}
+
+/// How many characters of a filter there is room for on its line.
+fn room_for_filter(l: u32, spec: &Spec, drawn: u64, characters: u64) -> io::Result<u64> {
+    let mut rest = Length(CUT.len() as u64);
+    write_terms(l, spec, &mut rest)?;
+    write_drawn(spec, drawn, &mut rest)?;
+    Ok(characters.saturating_sub(rest.0).max(LEAST_SHOWN))
+}
+
+/// Writes what a listener was asked for, on one line. A filter that is too long for it is cut, and the whole of it is the line's title.
+fn write_asked<O: Write>(
+    l: u32,
+    spec: &Spec,
+    drawn: u64,
+    characters: u64,
+    out: &mut O,
+) -> io::Result<()> {
+    let filter = filter_text(&spec.filter);
+    let room = room_for_filter(l, spec, drawn, characters)?;
+    write!(out, "<text x=\"10\" y=\"14\">")?;
+    match filter.split_at_checked(room as usize) {
+        Some((shown, rest)) if !rest.is_empty() => {
+            write!(out, "<title>")?;
+            write_escaped(filter, out)?;
+            write!(out, "</title>")?;
+            write_terms(l, spec, out)?;
+            write_escaped(shown, out)?;
+            write!(out, "{CUT}")?;
+        }
+        _ => {
+            write_terms(l, spec, out)?;
+            write_escaped(filter, out)?;
+        }
+    }
+    write_drawn(spec, drawn, out)?;
     let (hold, store) = (24 + BARS / 3, 24 + BARS - BARS / 4);
     writeln!(
         out,
@@ -132,7 +212,7 @@ fn write_lane<O: Write>(
     let columns = || Columns::new(l, trace, answers);
     writeln!(out, "<g transform=\"translate(0,{y})\">")?;
     let scale = Scale::new(spec.capacity, highest(columns(), steps));
-    write_asked(l, spec, scale.drawn, out)?;
+    write_asked(l, spec, scale.drawn, characters(width), out)?;
     write_bars(columns(), steps, &scale, width, out)?;
     if are_named(steps.len()) {
         write_names(columns(), steps, pixels, out)?;
@@ -144,8 +224,9 @@ fn write_lane<O: Write>(
 /// the hold, and a mark of what became of it. `trace` is what [`tap::trace`] answers for these listeners and steps.
 ///
 /// In a lane the height of a bar is a number of bytes (`viewBox`), so bars of listeners of different capacities are scaled
-/// apart; where little of a buffer is ever filled, only its lower part is drawn. Each step has a `title` with its line of SCRIPT, its packet, and both loads. With at most 60 steps the place of each
-/// packet stands below it. An error is that of `out`.
+/// apart; if little of a buffer is ever filled, only its lower part is drawn. Each step has a `title` with its line of SCRIPT, its
+/// packet, and both loads. With at most 60 steps the place of each packet stands below it. The picture has a `title` and a `desc`
+/// that say what it shows. An error is that of `out`.
 pub fn write_picture<O: Write>(
     specs: &[Spec],
     steps: &[Step],
@@ -153,7 +234,7 @@ pub fn write_picture<O: Write>(
     out: &mut O,
 ) -> io::Result<()> {
     let width = (steps.len() as u64).saturating_mul(step_width(steps.len()));
-    write_head(width, specs.len(), out)?;
+    write_head(width, steps.len(), specs.len(), out)?;
     let mut l: u32 = 0;
     for (spec, answers) in specs.iter().zip(&trace.answers) {
         write_lane(l, spec, steps, trace, answers.as_slice(), out)?;
