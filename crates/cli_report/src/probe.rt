@@ -1,13 +1,19 @@
-//! Readers and writers that note what a hint tells of them.
+//! Readers and writers that note what a hint says of them.
+
+ghost use Rattle.std.specs.Prelude.{◌≡◌, ◌≢◌, IfErr, IsSome};
+ghost use Rattle.std.specs.Io.{WritesAtMost};
+ghost use Rattle.std.specs.IoError.{error_kind};
 
 use savefile::Counted;
 use std::io;
-use std::io::{BufWriter, Read, Write};
+use std::io::{BufWriter, ErrorKind, Read, Write};
 
 /// The bytes of a capture's header.
 pub const HEADER: usize = 24;
 
-/// A reader or a writer that notes the first 24 bytes that were read of it, and why a call failed first.
+/// A reader or a writer that notes the first 24 bytes that were read of it, and why a call failed first. Once a write or a flush has
+/// failed, each later one fails with the same error and touches nothing: nothing goes out after a failure that is reported. A call
+/// that a signal broke is no failure, and a write that takes nothing is one.
 #[derive(Debug, Drop)]
 pub struct FailureProbe<T> {
     inner: T,
@@ -47,8 +53,10 @@ impl<T> FailureProbe<T> {
         self.failure
     }
 
-    fn note_failure(&mut self, error: io::Error) {
-        if self.failure.is_none() {
+    fn note_failure(&mut self, error: io::Error)
+        ensures { error_kind error ≢ ErrorKind.Interrupted → IsSome self.new.failure }
+    {
+        if self.failure.is_none() && error.kind() != ErrorKind::Interrupted {
             self.failure = Some(error);
         }
     }
@@ -76,20 +84,53 @@ impl<T: Read> Read for FailureProbe<T> {
     }
 }
 
-impl<T: Write> Write for FailureProbe<T> {
-    fn write(&mut self, from: &[u8]) -> io::Result<usize> {
+impl<T: Write> FailureProbe<T> {
+    /// Writes, and notes if that fails.
+    fn write_noting(&mut self, from: &[u8]) -> io::Result<usize>
+        ensures bound { WritesAtMost result from.now }
+        ensures noted { IfErr result (λ error. error_kind error ≢ ErrorKind.Interrupted → IsSome self.new.failure) }
+    {
         let written = self.inner.write(from);
-        if let Err(error) = &written {
-            self.note_failure(*error);
+        match &written {
+            Ok(0) if !from.is_empty() => self.note_failure(io::Error::from(ErrorKind::WriteZero)),
+            Ok(_) => {}
+            Err(error) => self.note_failure(*error),
         }
         written
     }
 
-    fn flush(&mut self) -> io::Result<()> {
+    /// Flushes, and notes if that fails.
+    fn flush_noting(&mut self) -> io::Result<()>
+        ensures noted { IfErr result (λ error. error_kind error ≢ ErrorKind.Interrupted → IsSome self.new.failure) }
+    {
         let flushed = self.inner.flush();
         if let Err(error) = &flushed {
             self.note_failure(*error);
         }
         flushed
+    }
+}
+
+impl<T: Write> Write for FailureProbe<T> {
+    fn write(&mut self, from: &[u8]) -> io::Result<usize>
+        ensures bound { WritesAtMost result from.now }
+        // After a failure nothing more is written.
+        ensures noted { IfErr result (λ error. error_kind error ≢ ErrorKind.Interrupted → IsSome self.new.failure) }
+        ensures ended { IsSome self.old.failure → self.new ≡ self.old }
+    {
+        match self.failure {
+            None => self.write_noting(from),
+            Some(error) => Err(error),
+        }
+    }
+
+    fn flush(&mut self) -> io::Result<()>
+        ensures noted { IfErr result (λ error. error_kind error ≢ ErrorKind.Interrupted → IsSome self.new.failure) }
+        ensures ended { IsSome self.old.failure → self.new ≡ self.old }
+    {
+        match self.failure {
+            None => self.flush_noting(),
+            Some(error) => Err(error),
+        }
     }
 }

@@ -1,6 +1,9 @@
 //! Standard error that may take hints, and the line of a hint.
 
-ghost use Rattle.std.specs.Prelude.{◌≡◌, Bool, true, false, OnOk, OnErr, IfOk, IfSome};
+ghost use Rattle.std.specs.Prelude.{◌≡◌, ◌≢◌, Bool, true, false, OnOk, OnErr, IfErr, IfOk, IfSome};
+ghost use Rattle.std.specs.Io.{WritesAtMost};
+ghost use Rattle.std.specs.Io.KnownBytes.{WriteAppends};
+ghost use Rattle.std.specs.IoError.{error_kind};
 ghost use Rattle.cli_text.specs.Sending.{Takes};
 ghost use Rattle.cli_report.specs.Hints.{hint_line};
 
@@ -8,7 +11,7 @@ use cli_text::Line;
 use cli_text::sending::send;
 use std::fmt::Display;
 use std::io;
-use std::io::Write;
+use std::io::{ErrorKind, Write};
 
 /// What faults are told to, with whether hints are wanted below their lines.
 pub trait HintSink: Write {
@@ -20,7 +23,8 @@ pub trait HintSink: Write {
         ensures { result ≡ takes_hints self.now };
 }
 
-/// A writer that faults are told to.
+/// A writer that faults are reported to. Once a write has failed no hints are wanted: one without the line of its fault explains
+/// nothing.
 #[derive(Debug, Drop)]
 pub struct ErrorStream<W> {
     inner: W,
@@ -39,12 +43,28 @@ impl<W> ErrorStream<W> {
 impl<W: Write> Write for ErrorStream<W> {
     ghost contents = { λ stream. W.contents stream.inner };
 
-    fn write(&mut self, from: &[u8]) -> io::Result<usize> {
-        self.inner.write(from)
+    fn write(&mut self, from: &[u8]) -> io::Result<usize>
+        ensures bound { WritesAtMost result from.now }
+        ensures bytes { WriteAppends (W.contents self.old.inner) (W.contents self.new.inner) result from.now }
+        ensures silent { IfErr result (λ error. error_kind error ≢ ErrorKind.Interrupted → self.new.takes_hints ≡ false) }
+    {
+        let written = self.inner.write(from);
+        self.takes_hints = self.takes_hints && !has_failed(&written, from);
+        written
     }
 
     fn flush(&mut self) -> io::Result<()> {
         self.inner.flush()
+    }
+}
+
+/// Whether a write failed: it is an error, but for a call that a signal broke, or took nothing of what it was given.
+fn has_failed(written: &io::Result<usize>, from: &[u8]) -> bool
+    ensures { IfErr written.now (λ error. error_kind error ≢ ErrorKind.Interrupted → result ≡ true) }
+{
+    match written {
+        Ok(count) => *count == 0 && !from.is_empty(),
+        Err(error) => error.kind() != ErrorKind::Interrupted,
     }
 }
 
