@@ -1,5 +1,5 @@
 """The words of the command line: those that are no command, and those that ask for help or the version."""
-from .common import case, told
+from .common import HEADER, TCP_RECORD, case, told
 
 WRONG = [
     "",
@@ -55,6 +55,51 @@ def a_signed_snapshot_length_has_the_usage_of_cut(scene):
     seen = scene.run("cut -s +5 -f x in.pcap out.pcap")
     scene.check("the usage", b"Usage: bpftap cut [OPTIONS]" in seen.err, True)
     scene.check("printed, and the status", (seen.out, seen.status), (b"", 1))
+
+
+# Words with control characters, and how these are printed.
+CONTROLLING = [
+    (["x\x1b[31m"], "'x\\u{1b}[31m'"),
+    (["check", "ip", "\x1b]0;title\x07"], "'\\u{1b}]0;title\\u{7}'"),
+    (["check", "ip", "a\nbpftap: Device x"], "'a\\nbpftap: Device x'"),
+    (["cut", "-s", "0", "-o", "lit\ttle", "in.pcap", "out.pcap"], "'lit\\ttle'"),
+    (["--\u009b31m"], "'--\\u{9b}31m'"),
+]
+
+
+@case
+def no_word_controls_the_terminal(scene):
+    """What is told of wrong words has their control characters escaped, as those of paths."""
+    for words, part in CONTROLLING:
+        for asked in [[], ["--hints"]]:
+            seen = scene.run([*asked, *words])
+            told = seen.err.decode()
+            scene.check(f"{part} of {words!r}", part in told, True)
+            controls = [one for one in told if ord(one) < 32 and one != "\n" or 127 <= ord(one) < 160]
+            scene.check(f"control characters of {words!r}", controls, [])
+            scene.check(f"a line of another kind of {words!r}", "\nbpftap" in told, False)
+            scene.check(f"printed of {words!r}, and its status", (seen.out, seen.status), (b"", 1))
+
+
+# Words whose expression begins with `-`: behind -e it is taken for options.
+DASHED = ["explain -e '-1 = len' in.pcap", "cut -s 0 -e '-len < 5' in.pcap out.pcap", "--hints cut -e -1 -s 0 in.pcap out.pcap"]
+
+
+@case
+def an_expression_that_begins_with_a_minus_is_told_of(scene):
+    """How it is given is told: in parentheses, or behind `-e=`; and so it is taken."""
+    for words in DASHED:
+        seen = scene.run(words)
+        told = seen.err.decode()
+        scene.check(f"told of {words}", "in parentheses, as -e '(-1 + len > 60)', or write -e='-1 + len > 60'" in told, True)
+        scene.check(f"no other tip of {words}", "use '-- " in told, False)
+        scene.check(f"usage of {words}", f"Usage: bpftap {words.removeprefix('--hints ').split()[0]} " in told, True)
+        scene.check(f"printed of {words}, and its status", (seen.out, seen.status), (b"", 1))
+    scene.put({"in.pcap": HEADER + TCP_RECORD})
+    for words in ["-e '(-1 + len > 60)'", "-e='-1 + len > 60'", "-e'-1 + len > 60'"]:
+        seen = scene.run(f"explain {words} in.pcap")
+        scene.check(f"explain {words}", (seen.err, seen.status), (b"", 0))
+        scene.expect(f"cut -s 0 {words} in.pcap out.pcap")
 
 
 @case

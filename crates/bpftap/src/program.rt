@@ -3,6 +3,7 @@
 use clap::Error;
 use clap::error::ErrorKind;
 use cli_args::command_line::{Request, read_words};
+use cli_args::refusal::printed_error;
 use cli_args::report::report_words_fault;
 use cli_cut::command::{check_command, cut_command};
 use cli_explain::command::explain_command;
@@ -48,7 +49,7 @@ fn dispatch<
         Ok(Request::Steps(words)) => steps_command(rt, &words, out, err),
         Ok(Request::Run(words)) => run_command(rt, &words, out, err),
         Ok(Request::Split(words)) => split_command(rt, &words, out, err),
-        Err(error) => report_usage(rt.alloc(), words, &error, out, err),
+        Err(error) => report_usage(rt.alloc(), words, error, out, err),
     }
 }
 
@@ -56,11 +57,12 @@ fn dispatch<
 fn report_usage<S: AsStr, O: Write, E: HintSink>(
     alloc: Global,
     words: &[S],
-    error: &Error,
+    error: Error,
     out: &mut O,
     err: &mut E,
 ) -> Status {
-    let status = report_words_fault(error, out, err);
+    let error = printed_error(alloc, words, error);
+    let status = report_words_fault(&error, out, err);
     if error.kind() == ErrorKind::UnknownArgument {
         hint_unquoted(alloc, words, err);
     }

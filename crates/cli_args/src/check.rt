@@ -36,7 +36,7 @@ tcpdump -ddd prints the same form, and cut -f reads it. With -d it is a line for
 instruction by its name, as tcpdump -d prints it, and with -dd an array of C. The file of -f has
 any of the three but the array, or assembly (docs/ASSEMBLY.md). With -x it is the expression as it was read, on
 one line, also where its program is too long. -s is for an expression alone. An expression that
-begins with - is written in parentheses. The number behind a fault's name is the byte of the
+begins with - is written in parentheses, and so -x prints it. The number behind a fault's name is the byte of the
 expression that it stands at, from 0; docs/LANGUAGE.md has the language.
 
 Exit status: 0 the program is printed; 1 the expression or listing is refused or the program is

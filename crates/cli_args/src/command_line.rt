@@ -2,6 +2,7 @@
 use crate::arguments::Argument;
 use crate::check::{CheckWords, check_usage, check_words};
 use crate::explain::{ExplainWords, bad_explain_words, explain_usage, explain_words};
+use crate::refusal::refusal_of;
 use crate::run::{RunWords, run_usage, run_words};
 use crate::split::{SplitWords, split_usage, split_words};
 use crate::steps::{StepsWords, steps_usage, steps_words};
@@ -66,7 +67,8 @@ const CUT_EXAMPLES: &str = "Examples:
   bpftap cut -s 0 -f examples/ip.bpf examples/veth.pcap ip.pcap
   bpftap cut -s 64 examples/veth.pcap headers.pcap     the first 64 bytes of every packet
 
--e and -f exclude each other. An expression that begins with - is written in parentheses.
+-e and -f exclude each other. An expression that begins with - is written in parentheses, or
+after -e=, as -e='-1 + len > 60'.
 
 Exit status: 0 clean; 1 wrong words, a refused expression, file or listing, or want of memory;
 2 a torn or bad record, after the packets before it; 3 a file or device failed.";
@@ -111,7 +113,7 @@ static CUT: [Argument; 8] = [
     ),
 ];
 
-fn cut_usage<'a>(alloc: Global) -> Result<Command<'a>, AllocError> {
+pub(crate) fn cut_usage<'a>(alloc: Global) -> Result<Command<'a>, AllocError> {
     subcommand(
         alloc,
         "cut",
@@ -274,7 +276,10 @@ fn asked_by<'a>(
 /// What the words ask for, the program's name first; or `clap`'s error, which for a call for help has the help.
 pub fn read_words<'a, S: AsStr>(alloc: Global, words: &'a [S]) -> Result<Request<'a>, Error> {
     let mut program = program(alloc)?;
-    read_by(alloc, &mut program, words)
+    match read_by(alloc, &mut program, words) {
+        Ok(request) => Ok(request),
+        Err(error) => Err(refusal_of(alloc, words, error)),
+    }
 }
 
 /// What a snapshot length is.

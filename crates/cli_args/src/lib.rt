@@ -5,6 +5,7 @@ mod arguments;
 pub mod check;
 pub mod command_line;
 pub mod explain;
+pub mod refusal;
 pub mod report;
 pub mod run;
 pub mod split;
