@@ -140,7 +140,7 @@ pub fn check_command<R: Files + AllocGlobal, O: Write, E: HintSink>(
     match print(rt, words, out, err) {
         Ok(printed) => {
             let status = report_print(&printed, err);
-            hint_print(words.expr.unwrap_or(""), &printed, err);
+            hint_print(rt.alloc(), words.expr.unwrap_or(""), &printed, err);
             status
         }
         Err(status) => status,

@@ -6,6 +6,7 @@ use cli_report::HintSink;
 use cli_report::failures::{hint_failure, hint_input, hint_unprinted};
 use cli_report::probe::{ProbedInput, ProbedOutput};
 use pcap_cut::cut::{CutEnd, End};
+use std::alloc::Global;
 use std::io::Write;
 
 /// Hints on how a cut ended.
@@ -21,9 +22,14 @@ pub(crate) fn hint_cut<R, W: Write + Drop, E: HintSink>(
 }
 
 /// Hints on why the program of an expression was not printed.
-pub(crate) fn hint_print<E: HintSink>(expr: &str, printed: &Result<(), PrintFault>, err: &mut E) {
+pub(crate) fn hint_print<E: HintSink>(
+    alloc: Global,
+    expr: &str,
+    printed: &Result<(), PrintFault>,
+    err: &mut E,
+) {
     match printed {
-        Err(PrintFault::Expression(fault)) => hint_expression(expr, *fault, err),
+        Err(PrintFault::Expression(fault)) => hint_expression(alloc, expr, *fault, err),
         Err(PrintFault::Output(error)) => hint_unprinted(error, err),
         _ => {}
     }

@@ -12,6 +12,7 @@ use cli_files::retried::Retried;
 use cli_report::HintSink;
 use cli_report::failures::{hint_input, hint_output};
 use cli_report::probe::ProbedInput;
+use cli_report::stream::give_hint;
 use cli_text::Status;
 use std::alloc::Global;
 use std::fs::Files;
@@ -56,8 +57,13 @@ fn explain_place<R: Read + Drop, O: Write, E: HintSink>(
         printed,
     };
     let status = report_one(found, place, path, err);
-    if let Err(fault) = read {
-        hint_input(&source, fault, err);
+    match read {
+        Ok(true) => {}
+        Ok(false) => give_hint(
+            "places count from 0: without -p the last line is how many packets there are",
+            err,
+        ),
+        Err(fault) => hint_input(&source, fault, err),
     }
     status
 }

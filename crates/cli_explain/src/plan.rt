@@ -20,7 +20,7 @@ fn read_expression<R: AllocGlobal, E: HintSink>(
         Ok(filter) => Ok(filter),
         Err(fault) => {
             let status = report_fault(fault, Status::Refused, err);
-            hint_expression(expr, fault, err);
+            hint_expression(rt.alloc(), expr, fault, err);
             Err(status)
         }
     }

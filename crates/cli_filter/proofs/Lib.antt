@@ -1,4 +1,3 @@
 pub mod Outputs
 pub mod Planned
 pub mod Fields
-pub mod Kept

@@ -15,7 +15,7 @@ use Rattle.cli_filter_hints.specs.Faults.{expression_fault_text, compile_fault_t
 use Rattle.cli_text.specs.Fields.{IsWord}
 use Rattle.cli_text.specs.Files.{Say, IsFileOf}
 use Rattle.cli_filter.specs.declared.plan.PlanFault.{PlanFault}
-use Rattle.cli_filter.specs.declared.plan.PlanFault.TheVariants.{Line, Expression, NoMemory}
+use Rattle.cli_filter.specs.declared.plan.PlanFault.TheVariants.{Line, Expression, TooMany, NoMemory}
 
 -- the end of a line is OUT, a space and EXPRESSION; if EXPRESSION is empty the space before it may be missing
 abbrev pub AreCut : List ℕ → List ℕ → List ℕ → Type 0
@@ -53,6 +53,7 @@ pub record IsFirstBadLine {X : Type 0} (Is : List ℕ → X → Type 0) (output 
 abbrev pub AreNoLines : {X : Type 0} → (List ℕ → X → Type 0) → (X → List ℕ) → List ℕ → PlanFault → Type 0
 AreNoLines Is output text (Line n) = IsFirstBadLine Is output text n
 AreNoLines Is output text (Expression n why) = ⊥
+AreNoLines Is output text TooMany = ⊥
 AreNoLines Is output text NoMemory = Unit {0}
 
 -- the program stands for a line's expression at its snapshot length
@@ -71,6 +72,7 @@ pub record IsFirstUncompiled {X : Type 0} (expression : X → List ℕ) (snap : 
 abbrev pub AreUncompiled : {X : Type 0} → (X → List ℕ) → (X → ℕ) → List X → PlanFault → Type 0
 AreUncompiled expression snap lines (Line n) = ⊥
 AreUncompiled expression snap lines (Expression n why) = IsFirstUncompiled expression snap lines n why
+AreUncompiled expression snap lines TooMany = ⊥
 AreUncompiled expression snap lines NoMemory = Unit {0}
 
 -- why there is no plan: the first bad line; else the first expression that has no program; or out of memory
@@ -78,6 +80,7 @@ abbrev pub IsRefusedPlan : {X : Type 0} → (List ℕ → X → Type 0) → (X �
 IsRefusedPlan Is output expression snap most text (Line n) = IsFirstBadLine Is output text n
 IsRefusedPlan {X} Is output expression snap most text (Expression n why) =
     (lines : List X) × AreLines Is output most text lines × IsFirstUncompiled expression snap lines n why
+IsRefusedPlan Is output expression snap most text TooMany = ⊥
 IsRefusedPlan Is output expression snap most text NoMemory = Unit {0}
 
 -- how the fault of the n-th line's expression is printed; out of memory has no place
@@ -91,4 +94,5 @@ uncompiled_text n (Tree refusal) = codes "Compile " ++ decimal n ++ codes " " ++
 abbrev pub plan_fault_text : List ℕ → PlanFault → List ℕ
 plan_fault_text file (Line n) = file ++ codes " " ++ decimal n
 plan_fault_text file (Expression n why) = uncompiled_text n why
+plan_fault_text file TooMany = codes "TooMany"
 plan_fault_text file NoMemory = codes "NoMemory"

@@ -3,42 +3,48 @@
 ghost use Rattle.std.specs.Prelude.{◌≡◌, false, Ok, IfErr, IfOk, IsErr};
 ghost use Rattle.cli_text.specs.declared.status.Status.TheVariants.{Refused};
 
+use crate::listing_hints::hint_listing;
 use crate::program::{FilterFault, filter};
 use crate::report::report_filter;
 use bpf_asm::AssemblyFault;
-use bpfvm::{ListingFault, Program};
+use bpfvm::Program;
 use cli_files::reading::read_file;
 use cli_filter_hints::expressions::{hint_refusal, hint_text_fault};
 use cli_report::HintSink;
-use cli_report::files::{LISTING, hint_bad_line};
+use cli_report::files::hint_bad_line;
 use cli_text::Status;
 use filtergen::ExpressionFault;
+use std::alloc::Global;
 use std::fs::Files;
 
 /// The form of a line of assembly.
 const ASSEMBLY: &str = "LABEL: NAME OPERAND, as docs/ASSEMBLY.md has it";
 
 /// Hints on an expression that has no program.
-pub fn hint_expression<E: HintSink>(text: &str, fault: ExpressionFault, err: &mut E)
+pub fn hint_expression<E: HintSink>(
+    alloc: Global,
+    text: &str,
+    fault: ExpressionFault,
+    err: &mut E,
+)
     ensures quiet { E.takes_hints err.old ≡ false → err.new ≡ err.old }
 {
     match fault {
-        ExpressionFault::Text(fault) => hint_text_fault(text, fault, err),
+        ExpressionFault::Text(fault) => hint_text_fault(alloc, text, fault, err),
         ExpressionFault::Tree(refusal) => hint_refusal(refusal, err),
     }
 }
 
 fn hint_filter<E: HintSink>(
+    alloc: Global,
     listing: Option<&[u8]>,
     expr: Option<&str>,
     fault: FilterFault,
     err: &mut E,
 ) {
     match fault {
-        FilterFault::Expression(fault) => hint_expression(expr.unwrap_or(""), fault, err),
-        FilterFault::Listing(ListingFault::BadLine(line)) => {
-            hint_bad_line(listing.unwrap_or(&[]), line, LISTING, err);
-        }
+        FilterFault::Expression(fault) => hint_expression(alloc, expr.unwrap_or(""), fault, err),
+        FilterFault::Listing(fault) => hint_listing(listing.unwrap_or(&[]), fault, err),
         FilterFault::Assembly(AssemblyFault::Line(line, _)) => {
             hint_bad_line(listing.unwrap_or(&[]), line, ASSEMBLY, err);
         }
@@ -48,6 +54,7 @@ fn hint_filter<E: HintSink>(
 
 /// Tells why there is no filter of a listing or an expression, if there is none, and answers the exit status then.
 pub fn filter_or_report<E: HintSink>(
+    alloc: Global,
     listing: Option<&[u8]>,
     expr: Option<&str>,
     found: Result<Program, FilterFault>,
@@ -60,7 +67,7 @@ pub fn filter_or_report<E: HintSink>(
         Ok(program) => Ok(program),
         Err(fault) => {
             let told = report_filter(Err(fault), err);
-            hint_filter(listing, expr, fault, err);
+            hint_filter(alloc, listing, expr, fault, err);
             told
         }
     }
@@ -74,7 +81,8 @@ pub fn program_of_file<R: Files + AllocGlobal, E: HintSink>(
 ) -> Result<Program, Status> {
     let listing = read_file(rt, path, err)?;
     let listing = Some(listing.as_slice());
-    filter_or_report(listing, None, filter(rt.alloc(), listing, None, 0), err)
+    let alloc = rt.alloc();
+    filter_or_report(alloc, listing, None, filter(alloc, listing, None, 0), err)
 }
 
 /// The program of an expression; without one every packet is taken.
@@ -84,5 +92,6 @@ pub fn program_of_expression<R: AllocGlobal, E: HintSink>(
     snap: u32,
     err: &mut E,
 ) -> Result<Program, Status> {
-    filter_or_report(None, expr, filter(rt.alloc(), None, expr, snap), err)
+    let alloc = rt.alloc();
+    filter_or_report(alloc, None, expr, filter(alloc, None, expr, snap), err)
 }

@@ -3,6 +3,7 @@
 #![tactic(auto)]
 
 mod filters;
+mod listing_hints;
 pub mod plan;
 pub mod plan_files;
 pub mod plan_hints;

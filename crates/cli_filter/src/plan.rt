@@ -56,6 +56,8 @@ pub enum PlanFault {
     Line(usize),
     /// The expression of this line, from 0, has no program.
     Expression(usize, ExpressionFault),
+    /// There are more lines than the command takes.
+    TooMany,
     NoMemory,
 }
 
@@ -113,6 +115,7 @@ impl Display for PlanFaultText {
         match self.fault {
             PlanFault::Line(line) => write!(f, "{} {line}", self.file),
             PlanFault::Expression(n, fault) => write!(f, "{}", UncompiledText(n, fault)),
+            PlanFault::TooMany => f.write_str("TooMany"),
             PlanFault::NoMemory => f.write_str("NoMemory"),
         }
     }
@@ -191,7 +194,10 @@ pub fn read_lines<'a, L: PlanLine<'a>>(
 }
 
 /// The program of each line, for its snapshot length; or the fault of the first expression that has none.
-fn compile_lines<'a, L: PlanLine<'a>>(alloc: Global, lines: &[L]) -> Result<Vec<Program>, PlanFault>
+pub fn compile_lines<'a, L: PlanLine<'a>>(
+    alloc: Global,
+    lines: &[L],
+) -> Result<Vec<Program>, PlanFault>
     ensures programs { IfOk result (λ programs. AllZip (IsCompiled L.expression_of L.snap_of) lines.now programs.items) }
     ensures fault { IfErr result (λ fault. AreUncompiled L.expression_of L.snap_of lines.now fault) }
 {

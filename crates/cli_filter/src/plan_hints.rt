@@ -20,9 +20,9 @@ pub fn hint_plan<'a, L: PlanLine<'a>, E: HintSink>(
         PlanFault::Expression(n, fault) => {
             let lines: Result<Vec<L>, PlanFault> = read_lines(alloc, text, terms, usize::MAX);
             if let Some(line) = lines.as_ref().ok().and_then(|lines| lines.get(n)) {
-                hint_expression(line.expression(), fault, err);
+                hint_expression(alloc, line.expression(), fault, err);
             }
         }
-        PlanFault::NoMemory => {}
+        PlanFault::TooMany | PlanFault::NoMemory => {}
     }
 }

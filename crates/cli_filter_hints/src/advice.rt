@@ -1,60 +1,132 @@
-//! What helps to mend an expression.
+//! What helps to fix an expression.
 
-use crate::nearest::{in_small_letters, nearest};
+use crate::nearest::in_small_letters;
+use crate::spots::{Spot, first_word, last_word, without_blanks};
+use crate::suggestions::Gap;
 use cli_report::shown::Shown;
 use filterlang::Fault;
+use std::alloc::{AllocError, Global};
 use std::fmt;
 use std::fmt::{Display, Formatter};
 
-/// Words of other systems' languages that this profile has not.
+/// Words of other systems' languages that this profile lacks.
 static OTHER_LINKS: [&[u8]; 12] = [
     b"ip6", b"icmp6", b"vlan", b"mpls", b"pppoed", b"pppoes", b"geneve", b"atalk", b"decnet",
     b"ipx", b"llc", b"wlan",
 ];
 
-/// Words of libpcap's language, and what means the same here.
-static WRITTEN: [(&[u8], &str); 7] = [
-    (b"length", "len"),
-    (b"igmp", "proto 2"),
-    (b"igrp", "proto 9"),
-    (b"esp", "proto 50"),
-    (b"ah", "proto 51"),
-    (b"pim", "proto 103"),
-    (b"vrrp", "proto 112"),
+/// A protocol that is written by its number.
+struct ByNumber {
+    name: &'static [u8],
+    number: &'static str,
+    primitive: &'static str,
+}
+
+/// Protocols over IPv4 that have no name after `proto`: all but the last are no words of the language.
+static BY_NUMBER: [ByNumber; 7] = [
+    ByNumber {
+        name: b"igmp",
+        number: "2",
+        primitive: "proto 2",
+    },
+    ByNumber {
+        name: b"igrp",
+        number: "9",
+        primitive: "proto 9",
+    },
+    ByNumber {
+        name: b"esp",
+        number: "50",
+        primitive: "proto 50",
+    },
+    ByNumber {
+        name: b"ah",
+        number: "51",
+        primitive: "proto 51",
+    },
+    ByNumber {
+        name: b"pim",
+        number: "103",
+        primitive: "proto 103",
+    },
+    ByNumber {
+        name: b"vrrp",
+        number: "112",
+        primitive: "proto 112",
+    },
+    ByNumber {
+        name: b"sctp",
+        number: "132",
+        primitive: "proto 132",
+    },
 ];
 
-/// Flags behind `tcp-` that the language has not, and what helps at each.
-static OTHER_FLAGS: [(&[u8], &str); 2] = [
-    (b"ece", "write `64` for `tcp-ece`"),
-    (b"cwr", "write `128` for `tcp-cwr`"),
+/// The word of libpcap's language for `len`.
+const LENGTH: &[u8] = b"length";
+
+/// What the names of flags begin with.
+const FLAG: &[u8] = b"tcp-";
+
+/// A flag that the language lacks: its name after `tcp-`, its number, and what helps.
+struct OtherFlag {
+    name: &'static [u8],
+    number: &'static str,
+    said: &'static str,
+}
+
+/// Flags that the language lacks.
+static OTHER_FLAGS: [OtherFlag; 2] = [
+    OtherFlag {
+        name: b"ece",
+        number: "64",
+        said: "write `64` for `tcp-ece`",
+    },
+    OtherFlag {
+        name: b"cwr",
+        number: "128",
+        said: "write `128` for `tcp-cwr`",
+    },
 ];
 
-/// Words that the number of a port stands behind.
+/// Words after which the number of a port stands.
 static BEFORE_PORTS: [&[u8]; 2] = [b"port", b"portrange"];
 
-/// Words that an address stands behind.
+/// Words after which an address stands.
 static BEFORE_ADDRESSES: [&[u8]; 4] = [b"host", b"net", b"src", b"dst"];
 
-/// What helps to mend an expression.
+/// The word after which the number or the name of a protocol stands.
+const PROTO: &[u8] = b"proto";
+
+/// What helps to fix an expression.
 #[derive(Clone, Copy)]
 pub(crate) enum Advice<'a> {
     /// A sentence that is the same for each such fault.
     Said(&'static str),
     /// A sentence round a word, which stands between backquotes.
     Round(&'static str, &'a [u8], &'static str),
-    /// What is written for a word here.
-    Written(&'static str, &'a [u8]),
+    /// What is written here for a word, which has a backslash before it or not.
+    Written(&'static str, &'static str, &'a [u8]),
 }
 
 impl<'a> Advice<'a> {
     /// The word that is meant is this one, in small letters.
-    fn small_letters(word: &'static str) -> Advice<'a> {
-        Advice::Round("words are in small letters: `", word.as_bytes(), "`")
+    fn small_letters(backslash: bool, word: &'static str) -> Advice<'a> {
+        let before = if backslash {
+            "words are in small letters: `\\"
+        } else {
+            "words are in small letters: `"
+        };
+        Advice::Round(before, word.as_bytes(), "`")
     }
 
     /// The word that may be meant.
-    fn did_you_mean(word: &'static str) -> Advice<'a> {
-        Advice::Round("did you mean `", word.as_bytes(), "`?")
+    fn did_you_mean(backslash: bool, word: &'static str) -> Advice<'a> {
+        let before = if backslash {
+            "did you mean `\\"
+        } else {
+            "did you mean `"
+        };
+        Advice::Round(before, word.as_bytes(), "`?")
     }
 }
 
@@ -62,104 +134,108 @@ impl Display for Advice<'_> {
     fn fmt<W: fmt::Write>(&self, f: &mut Formatter<W>) -> fmt::Result {
         match self {
             Advice::Said(sentence) => f.write_str(*sentence),
-            Advice::Round(before, word, behind) => write!(f, "{before}{}{behind}", Shown(*word)),
-            Advice::Written(written, word) => {
-                write!(f, "write `{written}` for `{}`", Shown(*word))
+            Advice::Round(before, word, after) => write!(f, "{before}{}{after}", Shown(*word)),
+            Advice::Written(written, backslash, word) => {
+                write!(f, "write `{written}` for `{backslash}{}`", Shown(*word))
             }
         }
     }
 }
 
-/// Whether a byte belongs to no word and no name, as a reader takes it.
-fn is_outside_words(byte: &u8) -> bool {
-    !byte.is_ascii_alphanumeric() && *byte != b'.' && *byte != b'-' && *byte != b'_'
-}
+/// What helps, if something does; or that memory was refused.
+type Found<'a> = Result<Option<Advice<'a>>, AllocError>;
 
-/// Whether a byte is more than what separates tokens.
-fn is_no_blank(byte: &u8) -> bool {
-    *byte != b' ' && *byte != b'\t' && *byte != b'\r' && *byte != b'\n'
-}
-
-/// The word or the name at the front of a text.
-fn first_word(text: &[u8]) -> &[u8] {
-    let end = text.iter().position(is_outside_words).unwrap_or(text.len());
-    &text[..end]
-}
-
-/// The word or the name at the end of a text, the blanks behind it left out.
-fn last_word(text: &[u8]) -> &[u8] {
-    let text = without_blanks(text);
-    let start = match text.iter().rposition(is_outside_words) {
-        Some(before) => before + 1,
-        None => 0,
-    };
-    &text[start..]
-}
-
-/// A text without the blanks at its end.
-fn without_blanks(text: &[u8]) -> &[u8] {
-    match text.iter().rposition(is_no_blank) {
-        Some(last) => &text[..last + 1],
-        None => &[],
+/// Whether a text reads on with something put into a gap of it.
+fn takes(alloc: Global, gap: Option<Gap<'_>>, put: &str) -> Result<bool, AllocError> {
+    match gap {
+        Some(gap) => gap.takes(alloc, put),
+        None => Ok(false),
     }
 }
 
-/// What a table has beside a word.
-fn beside(table: &[(&[u8], &'static str)], word: &[u8]) -> Option<&'static str> {
-    for (known, said) in table {
-        if *known == word {
-            return Some(*said);
+/// What helps at the second word of a flag that the language lacks.
+fn of_flag<'a>(alloc: Global, spot: Spot<'a>) -> Found<'a> {
+    let Some(gap) = spot.without_word_and(FLAG.len()) else {
+        return Ok(None);
+    };
+    if !spot.before().ends_with(FLAG) {
+        return Ok(None);
+    }
+    for flag in OTHER_FLAGS.iter() {
+        if flag.name == spot.word() && gap.takes(alloc, flag.number)? {
+            return Ok(Some(Advice::Said(flag.said)));
         }
     }
-    None
+    Ok(None)
 }
 
-/// What helps at the second word of a flag that the language has not.
-fn of_flag(before: &[u8], word: &[u8]) -> Option<&'static str> {
-    if before == b"tcp-".as_slice() {
-        beside(OTHER_FLAGS.as_slice(), word)
+/// What helps at a protocol that is written by its number.
+fn of_protocol<'a>(alloc: Global, spot: Spot<'a>, protocol: &ByNumber) -> Found<'a> {
+    let Some(gap) = spot.without_name() else {
+        return Ok(None);
+    };
+    let backslash = if spot.has_backslash() { "\\" } else { "" };
+    let written = if spot.has_backslash() || spot.last() == PROTO {
+        protocol.number
     } else {
-        None
+        protocol.primitive
+    };
+    if gap.takes(alloc, written)? {
+        return Ok(Some(Advice::Written(written, backslash, spot.word())));
     }
+    if spot.after_word().starts_with(b"[") {
+        return Ok(Some(Advice::Said(
+            "`[..]` stands after `ether`, `ip`, `arp`, `rarp`, `tcp`, `udp` and `icmp` only",
+        )));
+    }
+    Ok(None)
 }
 
-/// What helps at a word that the language has not, behind another word.
-fn of_word<'a>(before: &[u8], word: &'a [u8]) -> Advice<'a> {
-    if let Some(said) = of_flag(before, word) {
-        return Advice::Said(said);
+/// What helps at a word of libpcap's language, or at a protocol, for which something else is written here.
+fn of_other_word<'a>(alloc: Global, spot: Spot<'a>) -> Found<'a> {
+    let word = spot.word();
+    if word == LENGTH && takes(alloc, spot.without_name(), "len")? {
+        return Ok(Some(Advice::Written("len", "", word)));
     }
-    if OTHER_LINKS.contains(&word) {
-        return Advice::Round(
-            "this profile is Ethernet with IPv4: `",
-            word,
-            "` is not read",
-        );
+    for protocol in BY_NUMBER.iter() {
+        if protocol.name == word {
+            return of_protocol(alloc, spot, protocol);
+        }
     }
-    if let Some(written) = beside(WRITTEN.as_slice(), word) {
-        return Advice::Written(written, word);
-    }
-    match of_spelling(word) {
-        Some(advice) => advice,
-        None => of_name(before, word),
-    }
+    Ok(None)
 }
 
 /// What helps at a word that differs from one of the language by its capital letters, or by one edit.
-fn of_spelling(word: &[u8]) -> Option<Advice<'static>> {
-    if let Some(small) = in_small_letters(word) {
-        return Some(Advice::small_letters(small));
+fn of_spelling<'a>(alloc: Global, spot: Spot<'a>) -> Found<'a> {
+    let Some(gap) = spot.without_word() else {
+        return Ok(None);
+    };
+    let backslash = spot.has_backslash();
+    if let Some(small) = in_small_letters(spot.word()) {
+        if gap.takes(alloc, small)? {
+            return Ok(Some(Advice::small_letters(backslash, small)));
+        }
     }
-    if let Some(near) = nearest(word) {
-        return Some(Advice::did_you_mean(near));
+    match gap.near_word(alloc, spot.word())? {
+        Some(near) => Ok(Some(Advice::did_you_mean(backslash, near))),
+        None => Ok(None),
     }
-    None
 }
 
-/// What helps at what may be a name, behind another word.
-fn of_name<'a>(before: &[u8], name: &'a [u8]) -> Advice<'a> {
-    if BEFORE_PORTS.contains(&before) {
+/// What helps at what may be a name.
+fn of_name<'a>(spot: Spot<'a>) -> Advice<'a> {
+    let (before, name) = (spot.last(), spot.word());
+    if spot.has_backslash() {
+        Advice::Said("a backslash stands before `tcp`, `udp`, `icmp`, `ip`, `arp` and `rarp` only")
+    } else if BEFORE_PORTS.contains(&before) {
         Advice::Round(
             "names of services are not read: write a number, as `port 80`, for `",
+            name,
+            "`",
+        )
+    } else if before == PROTO {
+        Advice::Round(
+            "names of protocols are not read: write a number, as `proto 17`, for `",
             name,
             "`",
         )
@@ -178,6 +254,24 @@ fn of_name<'a>(before: &[u8], name: &'a [u8]) -> Advice<'a> {
     }
 }
 
+/// What helps at a word that the language lacks.
+fn of_word<'a>(alloc: Global, spot: Spot<'a>) -> Result<Advice<'a>, AllocError> {
+    if let Some(advice) = of_flag(alloc, spot)? {
+        return Ok(advice);
+    }
+    if OTHER_LINKS.contains(&spot.word()) {
+        return Ok(Advice::Round(
+            "this profile is Ethernet with IPv4: `",
+            spot.word(),
+            "` is not read",
+        ));
+    }
+    if let Some(advice) = of_other_word(alloc, spot)? {
+        return Ok(advice);
+    }
+    Ok(of_spelling(alloc, spot)?.unwrap_or(of_name(spot)))
+}
+
 /// Whether a text begins with a quote: a shell's, or a printed one, U+2018 to U+201F.
 fn begins_with_quote(text: &[u8]) -> bool {
     match text.strip_prefix(b"\xe2\x80") {
@@ -186,40 +280,24 @@ fn begins_with_quote(text: &[u8]) -> bool {
     }
 }
 
-/// How many bytes of UTF-8 the character has that begins with this one; 1 where none does.
-fn width_of(first: u8) -> usize {
-    match first {
-        0xc2..=0xdf => 2,
-        0xe0..=0xef => 3,
-        0xf0..=0xf7 => 4,
-        _ => 1,
-    }
-}
-
 /// What helps where no token begins.
-fn of_byte(rest: &[u8]) -> Advice<'_> {
-    if begins_with_quote(rest) {
-        return Advice::Said(
-            "quotes are the shell's, and no part of an expression: '..' round it on the command line alone",
-        );
-    }
-    match rest.first() {
-        Some(first) => Advice::Round(
-            "no word, number or sign begins with `",
-            rest.get(..width_of(*first)).unwrap_or(&rest[..1]),
-            "`",
-        ),
-        None => Advice::Said("no word, number or sign begins here"),
+fn of_byte<'a>(spot: Spot<'a>) -> Advice<'a> {
+    if begins_with_quote(spot.rest()) {
+        Advice::Said("quotes are for the shell: they are no part of an expression")
+    } else if spot.rest().is_empty() {
+        Advice::Said("no word, number or sign begins here")
+    } else {
+        Advice::Round("no word, number or sign begins with `", spot.token(), "`")
     }
 }
 
 /// What helps at a number or an address that is none.
-fn of_number(word: &[u8]) -> Advice<'static> {
+fn of_number<'a>(word: &[u8]) -> Advice<'a> {
     if word.contains(&b'.') {
         Advice::Said("an address has two to four parts of at most three digits, each up to 255")
     } else if word.starts_with(b"0") {
         Advice::Said(
-            "a number behind a 0 is octal, of the digits 0 to 7, and behind 0x hexadecimal",
+            "a number that begins with 0 is octal, of the digits 0 to 7; with 0x it is hexadecimal",
         )
     } else {
         Advice::Said(
@@ -228,67 +306,91 @@ fn of_number(word: &[u8]) -> Advice<'static> {
     }
 }
 
-/// What helps where an expression ends behind a word, and more is wanted.
-fn at_end(last: &[u8]) -> &'static str {
-    if BEFORE_PORTS.contains(&last) {
-        "the expression ends here, and a number is wanted, as `port 80`"
+/// What stands after a word that takes a number or an address, and after no other one.
+fn operand_of(last: &[u8]) -> Option<&'static str> {
+    if last == b"portrange".as_slice() {
+        Some("write two numbers after `portrange`, as `portrange 20-30`")
+    } else if BEFORE_PORTS.contains(&last) {
+        Some("write a number after `port`, as `port 80`")
+    } else if last == b"host".as_slice() {
+        Some("write an address after `host`, as `host 192.0.2.1`")
+    } else if last == b"net".as_slice() {
+        Some("write an address after `net`, as `net 192.0.2.0/24`")
+    } else if last == PROTO {
+        Some("write a number after `proto`, as `proto 17`, or a name with a backslash, as `proto \\udp`")
     } else if BEFORE_ADDRESSES.contains(&last) {
-        "the expression ends here, and an address is wanted, as `host 192.0.2.1`"
+        Some("write an address after `src` and `dst`, or `host`, `net` or `port` before it")
     } else {
-        "the expression ends here, and more is wanted: a term behind `and`, `or` and `not`, a `)` for each `(`"
+        None
     }
 }
 
-/// What helps where no expression goes on behind a word with what begins with this byte.
-fn going_on(last: &[u8], first: u8) -> &'static str {
-    if last == b"proto".as_slice() && first.is_ascii_lowercase() {
-        "behind `proto` a name has a backslash, as `proto \\tcp`"
-    } else if matches!(first, b'a'..=b'z' | b'0'..=b'9' | b'(' | b'!') {
-        "`and` or `or` stands between two terms: is it wanting before this one?"
+/// What helps at a word after `proto`.
+fn of_proto<'a>(alloc: Global, spot: Spot<'a>) -> Found<'a> {
+    if takes(alloc, spot.before_word(), "\\")? {
+        return Ok(Some(Advice::Round(
+            "after `proto` a name has a backslash: write `\\",
+            spot.word(),
+            "`",
+        )));
+    }
+    of_other_word(alloc, spot)
+}
+
+/// What helps where a term begins that nothing joins to the one before it.
+fn of_joint<'a>(alloc: Global, spot: Spot<'a>) -> Found<'a> {
+    if takes(alloc, spot.before_word(), "and ")? {
+        Ok(Some(Advice::Round("write `and` or `or` before `", spot.token(), "`")))
     } else {
-        "no expression can go on with this behind what stands before it"
+        Ok(None)
     }
 }
 
-/// What helps where no expression can go on with what stands behind a text.
-fn of_syntax(before: &[u8], rest: &[u8]) -> Advice<'static> {
-    let last = last_word(before);
-    Advice::Said(match rest.first() {
-        Some(first) => going_on(last, *first),
-        None => at_end(last),
+/// What helps at a token with which no expression can go on.
+fn of_token<'a>(alloc: Global, spot: Spot<'a>) -> Result<Advice<'a>, AllocError> {
+    let advice = if spot.last() == PROTO {
+        of_proto(alloc, spot)?
+    } else {
+        of_joint(alloc, spot)?
+    };
+    Ok(match (advice, operand_of(spot.last())) {
+        (Some(advice), _) => advice,
+        (None, Some(said)) => Advice::Said(said),
+        (None, None) => Advice::Round("no expression goes on with `", spot.token(), "` here"),
     })
 }
 
+/// What helps where no expression can go on with what stands at a place, or at its end.
+fn of_syntax<'a>(alloc: Global, spot: Spot<'a>) -> Result<Advice<'a>, AllocError> {
+    if !spot.rest().is_empty() {
+        return of_token(alloc, spot);
+    }
+    Ok(Advice::Said(operand_of(spot.last()).unwrap_or(
+        "the expression ends too early: `and`, `or` and `not` need a term, and each `(` a `)`",
+    )))
+}
+
 /// What helps at an identifier that has no qualifier.
-fn of_no_qualifier(before: &[u8]) -> Advice<'static> {
+fn of_no_qualifier<'a>(before: &[u8]) -> Advice<'a> {
     let joint = last_word(before);
     let left = without_blanks(before);
     let term = without_blanks(&left[..left.len() - joint.len().min(left.len())]);
     if term.ends_with(b")") {
-        Advice::Said("behind `(a or b)` write the qualifier again, as `(tcp or udp) or port 53`")
+        Advice::Said("after `(a or b)` write the qualifier again, as `(tcp or udp) or port 53`")
     } else {
-        Advice::Said(
-            "nothing to its left says of what it is: write `port 80` or `host 192.0.2.1` in full",
-        )
+        Advice::Said("no qualifier to inherit: write `port 80` or `host 192.0.2.1` in full")
     }
 }
 
-/// What helps to mend a text that is refused.
-pub(crate) fn advice_on(text: &[u8], fault: Fault) -> Option<Advice<'_>> {
+/// What helps to fix a text that is refused. The error is that memory was refused, without which a suggestion cannot be tried.
+pub(crate) fn advice_on<'a>(alloc: Global, text: &'a str, fault: Fault) -> Found<'a> {
     match fault {
-        Fault::BadByte(place) => Some(of_byte(&text[place.min(text.len())..])),
-        Fault::BadWord(place) => {
-            let (before, rest) = text.split_at(place.min(text.len()));
-            let word = first_word(rest.strip_prefix(b"\\").unwrap_or(rest));
-            Some(of_word(last_word(before), word))
-        }
-        Fault::BadNumber(place) => Some(of_number(first_word(&text[place.min(text.len())..]))),
-        Fault::Syntax(place) => {
-            let (before, rest) = text.split_at(place.min(text.len()));
-            Some(of_syntax(before, rest))
-        }
-        Fault::NoQualifier(place) => Some(of_no_qualifier(&text[..place.min(text.len())])),
-        _ => sentence(fault),
+        Fault::BadByte(place) => Ok(Some(of_byte(Spot::new(text, place)))),
+        Fault::BadWord(place) => Ok(Some(of_word(alloc, Spot::new(text, place))?)),
+        Fault::BadNumber(place) => Ok(Some(of_number(first_word(Spot::new(text, place).rest())))),
+        Fault::Syntax(place) => Ok(Some(of_syntax(alloc, Spot::new(text, place))?)),
+        Fault::NoQualifier(place) => Ok(Some(of_no_qualifier(Spot::new(text, place).before()))),
+        _ => Ok(sentence(fault)),
     }
 }
 
@@ -300,12 +402,12 @@ fn sentence(fault: Fault) -> Option<Advice<'static>> {
         Fault::BadQualifier(_) =>
             "these words do not go together: `host 192.0.2.1 and tcp`, not `tcp host 192.0.2.1`",
         Fault::BadIdentifier(_) =>
-            "`host` takes a whole address, `net` a beginning of one, `port` and `proto` a number",
+            "`host` takes a whole address, `net` the first parts of one, `port` and `proto` a number",
         Fault::NetBits(_) =>
             "a net's address has no bits outside its mask: `net 10.0.0.0/8`, and `host 10.0.0.1` for one host",
         Fault::OutOfRange(_) =>
             "ports are 0 to 65535, protocols 0 to 255, `ether proto` 1501 to 65535, masks 0 to 32, sizes 1, 2 or 4",
-        Fault::DivideByZero(_) => "a divisor is not written as 0",
+        Fault::DivideByZero(_) => "division by zero",
         Fault::TooNested(_) =>
             "at most 64 of `(`, `[`, `not` and `-` are open at once: take parentheses away",
         _ => return None,

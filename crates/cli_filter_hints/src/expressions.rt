@@ -4,31 +4,17 @@ ghost use Rattle.std.specs.Prelude.{◌≡◌, false};
 
 use crate::advice::advice_on;
 use crate::excerpt::{Caret, Excerpt};
+use crate::suggestions::place_of;
 use cli_report::stream::{HintSink, give_hint};
 use filtergen_facts::Refusal;
 use filterlang::Fault;
-
-/// The byte that a fault stands at.
-fn place_of(fault: Fault) -> Option<usize> {
-    match fault {
-        Fault::BadByte(place)
-        | Fault::BadWord(place)
-        | Fault::BadNumber(place)
-        | Fault::Syntax(place)
-        | Fault::NoQualifier(place)
-        | Fault::BadQualifier(place)
-        | Fault::BadIdentifier(place)
-        | Fault::NetBits(place)
-        | Fault::OutOfRange(place)
-        | Fault::DivideByZero(place)
-        | Fault::TooNested(place) => Some(place),
-        Fault::TextTooLong | Fault::NoMemory => None,
-    }
-}
+use std::alloc::Global;
 
 /// Hints on an expression that is refused: the part of it round the fault's place, with a caret under the place, and a sentence
-/// that helps. Where the fault has no place the sentence stands alone, and of want of memory nothing is said.
-pub fn hint_text_fault<E: HintSink>(text: &str, fault: Fault, err: &mut E)
+/// that helps. If the fault has no place the sentence stands alone, and of refused memory nothing is said.
+///
+/// A word is suggested only if the whole text with it put in is an expression, or reads on past it.
+pub fn hint_text_fault<E: HintSink>(alloc: Global, text: &str, fault: Fault, err: &mut E)
     ensures quiet { E.takes_hints err.old ≡ false → err.new ≡ err.old }
 {
     if let Some(place) = place_of(fault) {
@@ -36,8 +22,10 @@ pub fn hint_text_fault<E: HintSink>(text: &str, fault: Fault, err: &mut E)
         give_hint(excerpt, err);
         give_hint(Caret(excerpt), err);
     }
-    if let Some(advice) = advice_on(text.as_bytes(), fault) {
-        give_hint(advice, err);
+    if err.takes_hints() {
+        if let Ok(Some(advice)) = advice_on(alloc, text, fault) {
+            give_hint(advice, err);
+        }
     }
 }
 

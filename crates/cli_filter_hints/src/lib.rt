@@ -7,5 +7,7 @@ pub mod expressions;
 mod fault_texts;
 mod nearest;
 pub mod quotes;
+mod spots;
+mod suggestions;
 
 pub use fault_texts::{CompileFaultText, ExpressionFaultText, OpenFaultText};

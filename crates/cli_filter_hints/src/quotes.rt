@@ -1,39 +1,36 @@
-//! A hint on an expression whose quotes are wanting, or the option before it.
+//! A hint on an expression whose quotes are missing, or the option before it.
 
 ghost use Rattle.std.specs.Prelude.{◌≡◌, false};
 
 use crate::nearest::is_word;
-use cli_report::shown::Shown;
+use crate::suggestions::{is_whole, reads_on};
 use cli_report::stream::{HintSink, give_hint};
 use filterlang::{Fault, lex};
-use std::alloc::Global;
+use std::alloc::{AllocError, Global};
 use std::convert::AsStr;
-use std::fmt::{Display, Formatter};
 use std::io::Write;
-use std::{fmt, io};
 
-/// Words of a command line, with a blank between two of them.
-#[derive(Drop)]
-struct Joined<'a, S>(&'a [S]);
+/// How many bytes of an expression are shown at most.
+const MAX_QUOTED: usize = 300;
 
-impl<S: AsStr> Display for Joined<'_, S> {
-    fn fmt<W: fmt::Write>(&self, f: &mut Formatter<W>) -> fmt::Result {
-        for (place, word) in self.0.iter().enumerate() {
-            if place > 0 {
-                f.write_char(' ')?;
-            }
-            write!(f, "{}", Shown(word.as_str().as_bytes()))?;
+/// Words with a blank between two of them.
+fn join<S: AsStr>(alloc: Global, words: &[S]) -> Result<String, AllocError> {
+    let mut text = String::new(alloc);
+    for word in words {
+        if !text.is_empty() {
+            text.push_str(" ")?;
         }
-        Ok(())
+        text.push_str(word.as_str())?;
     }
+    Ok(text)
 }
 
-/// Whether a word is of tokens of the filter language alone, if there is memory to tell.
-fn is_lexed(alloc: Global, word: &str) -> Option<bool> {
+/// Whether a word is of tokens of the filter language only.
+fn is_lexed(alloc: Global, word: &str) -> Result<bool, AllocError> {
     match lex(alloc, word) {
-        Ok(tokens) => Some(!tokens.is_empty()),
-        Err(Fault::NoMemory) => None,
-        Err(_) => Some(false),
+        Ok(tokens) => Ok(!tokens.is_empty()),
+        Err(Fault::NoMemory) => Err(AllocError),
+        Err(_) => Ok(false),
     }
 }
 
@@ -46,17 +43,35 @@ fn begins_expression<S: AsStr>(word: &S) -> bool {
     }
 }
 
-/// The words of a command line that look like an expression: from one on that begins with a word of the filter language, all that
-/// are of its tokens. Where memory is wanting there are none, since some of them may be another expression.
-fn expression_in<S: AsStr>(alloc: Global, words: &[S]) -> Option<&[S]> {
-    let start = words.iter().position(begins_expression)?;
+/// Whether these are arguments of `check`, which takes an expression and nothing else.
+fn is_check<S: AsStr>(words: &[S]) -> bool {
+    words.iter().take(3).any(|word| word.as_str() == "check")
+}
+
+/// Whether every word belongs to an expression that begins with the first one: `check` takes nothing else, and the quotes are missing.
+fn takes_all<S: AsStr>(words: &[S], first: &str) -> bool {
+    is_check(words) && !first.contains(' ')
+}
+
+/// The arguments that look like an expression: from one on that begins with a word of the filter language, all that are of its tokens;
+/// of `check` all up to an option.
+fn expression_in<S: AsStr>(alloc: Global, words: &[S]) -> Result<&[S], AllocError> {
+    let Some(start) = words.iter().position(begins_expression) else {
+        return Ok(&words[..0]);
+    };
     let rest = &words[start..];
+    let takes_all = match rest.first() {
+        Some(first) => takes_all(words, first.as_str()),
+        None => false,
+    };
     for (place, word) in rest.iter().enumerate() {
-        if !is_lexed(alloc, word.as_str())? {
-            return Some(&rest[..place]);
+        let word = word.as_str();
+        let is_taken = takes_all && !word.starts_with("-");
+        if !is_taken && !is_lexed(alloc, word)? {
+            return Ok(&rest[..place]);
         }
     }
-    Some(rest)
+    Ok(rest)
 }
 
 /// Whether a word is an option that gives a filter.
@@ -64,7 +79,7 @@ fn gives_filter(word: &str) -> bool {
     word.starts_with("-e") || word.starts_with("-f")
 }
 
-/// Whether these are words of a command that takes an expression behind an option, and give it no filter.
+/// Whether these are arguments of a command that takes an expression after an option, and give it no filter.
 fn lacks_option<S: AsStr>(words: &[S]) -> bool {
     let mut takes_one = false;
     for word in words {
@@ -77,29 +92,63 @@ fn lacks_option<S: AsStr>(words: &[S]) -> bool {
     takes_one
 }
 
-/// A hint on words that are refused: where they look like an expression without quotes, or without an option before it, how it is
-/// given.
+/// Whether a text can be shown in quotes.
+fn can_be_quoted(text: &str) -> bool {
+    text.len() <= MAX_QUOTED && !text.chars().any(|one| one == '\'' || one.is_control())
+}
+
+/// Whether a text is suggested as the expression of these arguments: it is one, or, of `check`, it reads on past its first word.
+fn is_suggested<S: AsStr>(alloc: Global, words: &[S], text: &str) -> Result<bool, AllocError> {
+    if !can_be_quoted(text) {
+        Ok(false)
+    } else if is_check(words) {
+        reads_on(alloc, text, 0)
+    } else {
+        is_whole(alloc, text)
+    }
+}
+
+/// Hints on the arguments among these that look like an expression.
+fn hint_expression_in<S: AsStr, E: HintSink>(
+    alloc: Global,
+    words: &[S],
+    expression: &[S],
+    err: &mut E,
+) -> Result<(), AllocError>
+    ensures quiet { E.takes_hints err.old ≡ false → err.new ≡ err.old }
+{
+    let text = join(alloc, expression)?;
+    match (is_suggested(alloc, words, text.as_str())?, lacks_option(words)) {
+        (true, true) => give_hint(
+            format_args!("an expression goes after -e, in quotes: -e '{text}'"),
+            err,
+        ),
+        (false, true) => give_hint(
+            "an expression goes after -e, in quotes, as -e 'tcp port 80'",
+            err,
+        ),
+        (true, false) => give_hint(
+            format_args!("an expression is one word, in quotes: '{text}'"),
+            err,
+        ),
+        (false, false) => give_hint(
+            "an expression is one word, in quotes, as 'tcp port 80'",
+            err,
+        ),
+    }
+    Ok(())
+}
+
+/// A hint on arguments that are refused: if they look like an expression without quotes, or without an option before it, how it is
+/// given. Without memory for it there is none.
 pub fn hint_unquoted<S: AsStr, E: HintSink>(alloc: Global, words: &[S], err: &mut E)
     ensures quiet { E.takes_hints err.old ≡ false → err.new ≡ err.old }
 {
-    let Some(expression) = expression_in(alloc, words) else {
+    let Ok(expression) = expression_in(alloc, words) else {
         return;
     };
-    if !expression.is_empty() && lacks_option(words) {
-        give_hint(
-            format_args!(
-                "an expression stands behind -e, in quotes: -e '{}'",
-                Joined(expression)
-            ),
-            err,
-        )
-    } else if expression.len() > 1 {
-        give_hint(
-            format_args!(
-                "an expression is one word, in quotes: '{}'",
-                Joined(expression)
-            ),
-            err,
-        )
+    let lacks_quotes = expression.len() > 1;
+    if lacks_quotes || (!expression.is_empty() && lacks_option(words)) {
+        let _ = hint_expression_in(alloc, words, expression, err);
     }
 }

@@ -141,6 +141,25 @@ fn hint_not_savefile<E: HintSink>(first: &[u8], err: &mut E)
     }
 }
 
+/// Whether the magic number of a header says that fractions of a second are nanoseconds.
+fn has_nanos(header: &[u8; 24]) -> bool {
+    header[0] == 0x4d || header[3] == 0x4d
+}
+
+/// A hint on a record whose fraction of a second is too great for the unit of its header.
+fn hint_bad_fraction<E: HintSink>(header: &[u8; 24], err: &mut E)
+    ensures quiet { E.takes_hints err.old ≡ false → err.new ≡ err.old }
+{
+    give_hint(
+        if has_nanos(header) {
+            "its fraction of a second is above 999999999: the file is damaged"
+        } else {
+            "its fraction of a second is above 999999: the file is damaged, or it has nanoseconds and the magic number of microseconds"
+        },
+        err,
+    )
+}
+
 /// Hints on the fault of a capture whose first bytes are these, the 24 of a header where it has so many.
 pub fn hint_capture_fault<E: HintSink>(first: &[u8], fault: Fault, err: &mut E)
     ensures quiet { E.takes_hints err.old ≡ false → err.new ≡ err.old }
@@ -158,6 +177,11 @@ pub fn hint_capture_fault<E: HintSink>(first: &[u8], fault: Fault, err: &mut E)
         (Fault::Version, Some(header)) => hint_version(header, err),
         (Fault::TornRecord(_), _) => give_hint(
             "the file ends inside this record: was it broken off, or is it still written?",
+            err,
+        ),
+        (Fault::BadFraction(_), Some(header)) => hint_bad_fraction(header, err),
+        (Fault::TooLong(_), _) => give_hint(
+            "it has more than 262144 captured bytes: the file is damaged from this record on",
             err,
         ),
         _ => {}

@@ -22,7 +22,7 @@ pub const LISTENERS_OF_RUN: &str =
 pub const SCRIPT: &str = "`arrive`, `flush L`, `read L` or `close L`";
 
 /// The form of a line of LISTING.
-pub const LISTING: &str = "CODE JT JF K, four numbers, behind a first line with how many there are";
+pub const LISTING: &str = "CODE JT JF K, four numbers, after a first line with how many there are";
 
 /// Why a file could not be opened, read, made or written, as the system says it.
 pub fn hint_reason<E: HintSink>(error: &io::Error, err: &mut E)
@@ -31,8 +31,8 @@ pub fn hint_reason<E: HintSink>(error: &io::Error, err: &mut E)
     give_hint(*error, err)
 }
 
-/// A line of a text, counted from 1, without the byte 10 at its end; nothing where there are fewer lines.
-fn line_at(text: &[u8], number: usize) -> &[u8] {
+/// A line of a text, counted from 1, without the byte 10 at its end; empty if there are fewer lines.
+pub fn line_at(text: &[u8], number: usize) -> &[u8] {
     let mut rest = text;
     for _ in 1..number {
         (_, rest) = first_line(rest);
@@ -41,8 +41,18 @@ fn line_at(text: &[u8], number: usize) -> &[u8] {
     line
 }
 
-/// Hints on a line that has not its form: the line itself, and the form.
-pub fn hint_bad_line<E: HintSink>(text: &[u8], number: usize, form: &str, err: &mut E)
+/// How many lines a text has, the last of which may lack its end.
+pub fn count_lines(text: &[u8]) -> usize {
+    let ended = text.iter().filter(|byte| **byte == b'\n').count();
+    if text.is_empty() || text.ends_with(b"\n") {
+        ended
+    } else {
+        ended.saturating_add(1)
+    }
+}
+
+/// A hint that shows a line, counted from 1.
+pub fn show_line<E: HintSink>(text: &[u8], number: usize, err: &mut E)
     ensures quiet { E.takes_hints err.old ≡ false → err.new ≡ err.old }
 {
     let line = line_at(text, number);
@@ -51,7 +61,14 @@ pub fn hint_bad_line<E: HintSink>(text: &[u8], number: usize, form: &str, err: &
     } else {
         give_hint(format_args!("line {number} is: {}", Shown(line)), err);
     }
-    if line.ends_with(b"\r") {
+}
+
+/// Hints on a line that has not its form: the line itself, and the form.
+pub fn hint_bad_line<E: HintSink>(text: &[u8], number: usize, form: &str, err: &mut E)
+    ensures quiet { E.takes_hints err.old ≡ false → err.new ≡ err.old }
+{
+    show_line(text, number, err);
+    if line_at(text, number).ends_with(b"\r") {
         give_hint(
             "it ends in a carriage return: take that away, as by tr -d '\\r'",
             err,

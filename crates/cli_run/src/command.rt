@@ -3,7 +3,7 @@
 ghost use Rattle.std.specs.Prelude.{◌≡◌, ◌<◌, All, IfOk, length};
 
 use crate::faults::RunFaultText;
-use crate::hints::{hint_run, hint_unopened};
+use crate::hints::{hint_refused, hint_run};
 use crate::paths::{LateFiles, check_paths, late_files};
 use crate::plan::{RunLine, fault_text, read_plan};
 use crate::run::{refuse, replay_plan};
@@ -96,7 +96,7 @@ fn replay_files<R: Threads + Wait + Sync + AllocGlobal, O: Write, E: HintSink>(
         }
         Err(fault) => {
             let outcome = refuse(RunFaultText(fault), err);
-            hint_unopened(alloc, listeners, words.inputs.len(), fault, err);
+            hint_refused(alloc, listeners, words.inputs.len(), fault, err);
             Err(outcome.status)
         }
     }

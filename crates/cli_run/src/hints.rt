@@ -9,21 +9,44 @@ use cli_report::probe::ProbedInput;
 use cli_report::stream::give_hint;
 use cli_report::{FailureProbe, HintSink};
 use listener::OpenFault;
-use replay_types::{InterfaceEnd, InterfaceReport, ListenerReport, MAX_SPARES, RunFault, TaskEnd};
+use replay_types::{
+    InterfaceEnd, InterfaceReport, ListenerReport, MAX_CAPTURES, MAX_INTERFACES, MAX_SPARES,
+    MAX_TASKS, RunFault, TaskEnd,
+};
 use std::alloc::Global;
 use std::io::Write;
 
-/// Hints on a listener that is not opened.
-pub(crate) fn hint_unopened<E: HintSink>(
+/// Hints on why there is no replay.
+pub(crate) fn hint_refused<E: HintSink>(
     alloc: Global,
     listeners: &[u8],
     interfaces: usize,
     fault: RunFault,
     err: &mut E,
 ) {
-    let RunFault::Open(interface, listener, OpenFault::BadCapacity) = fault else {
-        return;
-    };
+    match fault {
+        RunFault::TooMany => give_hint(
+            format_args!(
+                "a run takes at most {MAX_INTERFACES} interfaces, each of {MAX_TASKS} listeners and {MAX_CAPTURES} captures"
+            ),
+            err,
+        ),
+        RunFault::Open(interface, listener, OpenFault::BadCapacity) => {
+            hint_unopened(alloc, listeners, interfaces, interface, listener, err);
+        }
+        _ => {}
+    }
+}
+
+/// Hints on the listener, by its interface and its number there, that is not opened.
+fn hint_unopened<E: HintSink>(
+    alloc: Global,
+    listeners: &[u8],
+    interfaces: usize,
+    interface: u32,
+    listener: u32,
+    err: &mut E,
+) {
     let lines: Result<Vec<RunLine<'_>>, PlanFault> = read_lines(
         alloc,
         listeners,

@@ -1,5 +1,5 @@
 -- The file LINES.
-use Rattle.std.specs.Prelude.{◌≡◌, ℕ, List, ◌∷◌, ◌++◌}
+use Rattle.std.specs.Prelude.{◌≡◌, ℕ, ◌<◌, List, ◌∷◌, ◌++◌, length}
 use Rattle.bpfvm.specs.Listing.{space}
 use Rattle.bpfvm.specs.declared.insn.Insn.{Insn}
 use Rattle.cli_text.specs.Fields.{IsWord, IsSnap}
@@ -7,7 +7,7 @@ use Rattle.cli_text.specs.Files.{IsFileOf}
 use Rattle.cli_filter.specs.Plan as plan
 use Rattle.cli_filter.specs.Plan.{AreLastFields}
 use Rattle.cli_filter.specs.declared.plan.PlanFault.{PlanFault}
-use Rattle.cli_filter.specs.declared.plan.PlanFault.TheVariants.{Line, Expression, NoMemory}
+use Rattle.cli_filter.specs.declared.plan.PlanFault.TheVariants.{Line, Expression, TooMany, NoMemory}
 use Rattle.cli_split.specs.declared.plan.SplitLine.{SplitLine}
 
 -- `SNAP OUT EXPRESSION`, with one space after SNAP
@@ -35,9 +35,11 @@ IsFirstBadLine text n = plan.IsFirstBadLine IsSplitLine (λ line. line.output.no
 abbrev pub IsCompiled : SplitLine → List Insn → Type 0
 IsCompiled asked program = plan.IsCompiled (λ (line : SplitLine). line.expression.now) (λ line. line.snap) asked program
 
--- Why captures are not split as LINES asks: its first bad line; else its first expression that has no program; or out of memory.
+-- Why captures are not split as LINES asks: its first bad line; else that it has more than 1,024; else its first expression that has no
+-- program; or out of memory.
 abbrev pub IsRefusedPlan : List ℕ → PlanFault → Type 0
 IsRefusedPlan text (Line n) = IsFirstBadLine text n
 IsRefusedPlan text (Expression n why) =
     (lines : List SplitLine) × AreSplitLines text lines × plan.IsFirstUncompiled (λ line. line.expression.now) (λ line. line.snap) lines n why
+IsRefusedPlan text TooMany = (lines : List SplitLine) × AreSplitLines text lines × (1024 < length lines)
 IsRefusedPlan text NoMemory = Unit {0}

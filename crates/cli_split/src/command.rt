@@ -3,18 +3,19 @@
 use crate::hints::hint_split;
 use crate::part::{Part, PartEnd};
 use crate::paths::{SplitOutput, check_paths, parts};
-use crate::plan::{SplitLine, fault_text, read_plan};
+use crate::plan::{MAX_LINES, SplitLine, fault_text, read_plan};
 use crate::report::report_split;
 use crate::split::{SplitEnd, split};
 use bpfvm::Program;
 use cli_args::split::SplitWords;
 use cli_files::captures::{Input, inputs, output_buffer};
 use cli_files::reading::read_file;
-use cli_filter::plan::Plan;
+use cli_filter::plan::{Plan, PlanFault};
 use cli_filter::plan_hints::hint_plan;
 use cli_report::HintSink;
 use cli_report::failures::hint_printed;
 use cli_report::files::LINES;
+use cli_report::stream::give_hint;
 use cli_text::Status;
 use cli_text::report::report_fault;
 use savefile::{Counted, Fault, Order, Source, Unit};
@@ -34,6 +35,12 @@ fn plan_of<'p, E: HintSink>(
         Err(fault) => {
             let status = report_fault(fault_text(fault), Status::Refused, err);
             hint_plan::<SplitLine<'_>, E>(alloc, text, (), LINES, fault, err);
+            if fault == PlanFault::TooMany {
+                give_hint(
+                    format_args!("LINES has at most {MAX_LINES} lines: split several times"),
+                    err,
+                );
+            }
             Err(status)
         }
     }

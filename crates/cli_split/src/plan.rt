@@ -1,13 +1,17 @@
 //! What LINES of `bpftap split` asks for: the captures to write, and the program of each line's expression.
 
-ghost use Rattle.std.specs.Prelude.{◌≡◌, IfErr, IfOk, codes, length};
+ghost use Rattle.std.specs.Prelude.{◌≡◌, ◌≤◌, IfErr, IfOk, codes, length};
 ghost use Rattle.std.specs.List.{AllZip};
 ghost use Rattle.cli_split.specs.Lines.{AreSplitLines, IsCompiled, IsRefusedPlan, IsSplitLine};
 
-use cli_filter::plan;
-use cli_filter::plan::{Plan, PlanFault, PlanFaultText, PlanLine, output_and_expression};
+use cli_filter::plan::{
+    Plan, PlanFault, PlanFaultText, PlanLine, compile_lines, output_and_expression, read_lines,
+};
 use cli_text::fields::{snapshot_length, split_once};
 use std::alloc::Global;
+
+/// How many lines LINES has at most: each OUT is an open file with a buffer in front of it.
+pub const MAX_LINES: usize = 1024;
 
 /// The capture that a line asks for.
 #[derive(Clone, Copy, Debug)]
@@ -72,14 +76,21 @@ pub fn fault_text(fault: PlanFault) -> PlanFaultText
 /// SNAP is decimal, at most 262,144. OUT has a byte at least and no space, and no other line has it. EXPRESSION is the rest of the
 /// line; if it is empty, the space before it may be missing. Both are UTF-8.
 ///
-/// [`PlanFault::Line`] names the first line, from 1, that lacks this form; else [`PlanFault::Expression`] the first line, from 0, whose
-/// expression has no program. [`PlanFault::NoMemory`] says that memory ran out.
+/// [`PlanFault::Line`] names the first line, from 1, that lacks this form; else [`PlanFault::TooMany`] says that there are more than
+/// [`MAX_LINES`], and then no expression is compiled; else [`PlanFault::Expression`] names the first line, from 0, whose expression has no
+/// program. [`PlanFault::NoMemory`] says that memory ran out.
 pub fn read_plan(alloc: Global, text: &[u8]) -> Result<Plan<SplitLine<'_>>, PlanFault>
     ensures lines { IfOk result (λ plan. AreSplitLines text.now plan.lines.items) }
+    ensures few { IfOk result (λ plan. length plan.lines.items ≤ MAX_LINES) }
     ensures programs { IfOk result (λ plan. AllZip IsCompiled plan.lines.items plan.programs.items) }
     ensures fault { IfErr result (λ fault. IsRefusedPlan text.now fault) }
     // What a split of the plan wants.
     ensures all { IfOk result (λ plan. length plan.programs.items ≡ length plan.lines.items) }
 {
-    plan::read_plan(alloc, text, (), usize::MAX)
+    let lines = read_lines(alloc, text, (), MAX_LINES + 1)?;
+    if lines.len() > MAX_LINES {
+        return Err(PlanFault::TooMany);
+    }
+    let programs = compile_lines(alloc, lines.as_slice())?;
+    Ok(Plan { lines, programs })
 }

@@ -184,7 +184,14 @@ fn play_and_report<R: Files + AllocGlobal, O: Write, E: HintSink>(
     };
     let captures = captures.as_slice();
     let (outcome, replayed) = play(rt.alloc(), plan, captures, detail_of(words), out, err);
-    hint_replay(script.as_slice(), plan, captures, &replayed, err);
+    hint_replay(
+        rt.alloc(),
+        script.as_slice(),
+        plan,
+        captures,
+        &replayed,
+        err,
+    );
     let drawn = draw_wanted(rt, words, plan, replayed, err);
     outcome.status.max(drawn)
 }

@@ -8,10 +8,12 @@ use cli_report::captures::hint_capture_fault;
 use cli_report::files::{
     LISTENERS_OF_STEPS, SCRIPT, hint_bad_line, hint_capacity, hint_no_listener,
 };
+use cli_report::stream::give_hint;
 use cli_text::LineFault;
 use listener::OpenFault;
 use savefile::Fault;
-use tap::{Filter, Spec};
+use std::alloc::Global;
+use tap::{Filter, MAX_CAPTURES, MAX_LISTENERS, Spec};
 
 /// Hints on a line of LISTENERS or SCRIPT that is refused.
 pub fn hint_line<E: HintSink>(listeners: &[u8], script: &[u8], fault: LineFault, err: &mut E) {
@@ -22,11 +24,19 @@ pub fn hint_line<E: HintSink>(listeners: &[u8], script: &[u8], fault: LineFault,
     }
 }
 
+/// A hint on too many listeners or captures.
+pub(crate) fn hint_too_many<E: HintSink>(err: &mut E) {
+    give_hint(
+        format_args!("a replay takes at most {MAX_LISTENERS} listeners and {MAX_CAPTURES} captures"),
+        err,
+    )
+}
+
 /// Hints on a listener that is refused.
-fn hint_listener<E: HintSink>(spec: &Spec, fault: tap::Fault, err: &mut E) {
+fn hint_listener<E: HintSink>(alloc: Global, spec: &Spec, fault: tap::Fault, err: &mut E) {
     match (fault, &spec.filter) {
         (tap::Fault::Expression(_, fault), Filter::Text(text)) => {
-            hint_text_fault(text.as_str(), fault, err);
+            hint_text_fault(alloc, text.as_str(), fault, err);
         }
         (tap::Fault::Compile(_, refusal), _) => hint_refusal(refusal, err),
         (tap::Fault::Open(_, OpenFault::BadCapacity), _) => {
@@ -44,6 +54,7 @@ fn hint_capture<E: HintSink>(captures: &[&[u8]], capture: u32, fault: Fault, err
 
 /// Hints on why there is no replay.
 fn hint_fault<E: HintSink>(
+    alloc: Global,
     script: &[u8],
     plan: &StepsPlan,
     captures: &[&[u8]],
@@ -55,15 +66,17 @@ fn hint_fault<E: HintSink>(
         tap::Fault::NoListener(step) => hint_no_listener(script, step, plan.specs.len(), err),
         tap::Fault::Expression(l, _) | tap::Fault::Compile(l, _) | tap::Fault::Open(l, _) => {
             if let Some(spec) = plan.specs.get(l as usize) {
-                hint_listener(spec, fault, err);
+                hint_listener(alloc, spec, fault, err);
             }
         }
-        tap::Fault::TooMany | tap::Fault::NoMemory => {}
+        tap::Fault::TooMany => hint_too_many(err),
+        tap::Fault::NoMemory => {}
     }
 }
 
 /// Hints on why there is no replay, or on the record that a capture ended at.
 pub fn hint_replay<E: HintSink>(
+    alloc: Global,
     script: &[u8],
     plan: &StepsPlan,
     captures: &[&[u8]],
@@ -79,6 +92,6 @@ pub fn hint_replay<E: HintSink>(
                 hint_capture(captures, capture, fault, err);
             }
         }
-        Err(fault) => hint_fault(script, plan, captures, *fault, err),
+        Err(fault) => hint_fault(alloc, script, plan, captures, *fault, err),
     }
 }
