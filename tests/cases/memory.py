@@ -123,6 +123,44 @@ def no_answer_stands_for_want_of_memory(scene):
             check_beginning(scene, what, (seen, files), (whole, texts))
 
 
+def call_on(scene, words, name, part):
+    """Which call of this name, from 1, is the first that has a part in its line; the program runs undisturbed."""
+    calls = scene.folder / "calls"
+    command = ["strace", "-qq", "-o", calls, "-e", f"trace={name}", PROGRAM, *words_of(words)]
+    subprocess.run(command, cwd=scene.folder, stdin=subprocess.DEVNULL, capture_output=True, timeout=LIMIT)
+    return next(number for number, line in enumerate(calls.read_text().splitlines(), 1) if part in line)
+
+
+# Words, a file that they read, and a part of its first line.
+READ_WHOLE = [
+    ("check -f ip.bpf", "ip.bpf", "4\\n40 0"),
+    ("explain -f ip.bpf in.pcap", "ip.bpf", "4\\n40 0"),
+    ("cut -s 0 -f ip.bpf in.pcap out.pcap", "ip.bpf", "4\\n40 0"),
+    ("split lines.txt in.pcap", "lines.txt", "64 out.pcap"),
+    ("steps listeners.txt script.txt in.pcap", "listeners.txt", "64 128 tcp"),
+    ("steps listeners.txt script.txt in.pcap", "script.txt", "arrive"),
+    ("steps listeners.txt script.txt in.pcap", "in.pcap", "\\324\\303"),
+    ("run word.txt in.pcap", "word.txt", "0 0 64 96"),
+]
+
+
+@case
+def memory_that_the_system_wants_is_a_fault_of_the_file(scene):
+    """The system has no memory to open or read a file: the file is told, with status 3, and the reason is a hint."""
+    if not can_trace():
+        return scene.leave("strace can't trace here")
+    scene.start(FILES)
+    refused = [(words, path, "openat", f'"{path}"') for words, path, _ in READ_WHOLE]
+    refused += [(words, path, "read", part) for words, path, part in READ_WHOLE]
+    refused += [(f"{words} in.pcap{out}", "in.pcap", "openat", '"in.pcap"') for words, out in [("cut -s 0", " out.pcap"), ("explain -e ip", "")]]
+    for words, path, name, part in refused:
+        scene.start(FILES)
+        inject = f"strace -qq -o calls -e trace={name} -e inject={name}:error=ENOMEM:when={call_on(scene, words, name, part)}"
+        seen = scene.run(f"--hints {words}", first=f'exec {inject} "$0" "$@"')
+        wanted = f"bpftap: Device {path}\n  Cannot allocate memory (os error 12)\n"
+        scene.check(f"told by {words}, {name} of {path} refused", (seen.out, seen.err.decode(), seen.status), (b"", wanted, 3))
+
+
 @case
 def hints_say_nothing_else(scene):
     """One block is refused: that is told, or the fault, and no hint that does not stand there undisturbed."""

@@ -4,7 +4,7 @@ use cli_args::command_line::CutWords;
 use cli_files::captures::with_buffer;
 use cli_files::late::LateFile;
 use cli_files::opening::open_input;
-use cli_files::paths::refuse_shared_files;
+use cli_files::paths::{Opening, STANDARD_OUTPUT, refuse_shared_files};
 use cli_files::reading::report_io;
 use cli_files::retried::Retried;
 use cli_report::probe::{ProbedInput, ProbedOutput};
@@ -23,8 +23,17 @@ pub(crate) fn open_apart<R: Files + AllocGlobal, E: HintSink>(
 ) -> Result<ProbedInput<Retried<R::File>>, Status> {
     let listing = words.listing.unwrap_or(words.input);
     let read = [listing, words.input];
-    refuse_shared_files(rt, None, &read, &[words.output], err)?;
+    refuse_shared_files(rt, Opening::First, None, &read, &[words.output], err)?;
     open_input(rt, words.input, err)
+}
+
+/// Refuses a listing that is the file which its program is printed to.
+pub(crate) fn check_listing<R: Files + AllocGlobal, E: HintSink>(
+    rt: &R,
+    path: &str,
+    err: &mut E,
+) -> Result<(), Status> {
+    refuse_shared_files(rt, Opening::First, Some(STANDARD_OUTPUT), &[path], &[], err)
 }
 
 /// OUT, which is made at its first write.

@@ -1,5 +1,6 @@
 //! The program that the arguments of `cut` or `check` ask for.
 
+use crate::paths::check_listing;
 use bpfvm::Program;
 use cli_args::check::CheckWords;
 use cli_args::command_line::CutWords;
@@ -22,14 +23,17 @@ pub(crate) fn read_filter<R: Files + AllocGlobal, E: HintSink>(
     }
 }
 
-/// The program that `check` prints: a listing's file, or an expression's.
+/// The program that `check` prints: that of a listing's file, which is not the one that is printed to, or an expression's.
 pub(crate) fn read_program<R: Files + AllocGlobal, E: HintSink>(
     rt: &R,
     words: &CheckWords<'_>,
     err: &mut E,
 ) -> Result<Program, Status> {
     match words.listing {
-        Some(path) => program_of_file(rt, path, err),
+        Some(path) => {
+            check_listing(rt, path, err)?;
+            program_of_file(rt, path, err)
+        }
         None => program_of_expression(rt, words.expr, words.snap, err),
     }
 }

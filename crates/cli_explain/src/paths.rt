@@ -2,7 +2,7 @@
 
 use cli_args::explain::ExplainWords;
 use cli_files::opening::open_input;
-use cli_files::paths::{STANDARD_OUTPUT, refuse_shared_files};
+use cli_files::paths::{Opening, STANDARD_OUTPUT, refuse_shared_files};
 use cli_files::retried::Retried;
 use cli_report::HintSink;
 use cli_report::probe::ProbedInput;
@@ -17,6 +17,6 @@ pub(crate) fn open_apart<R: Files + AllocGlobal, E: HintSink>(
 ) -> Result<ProbedInput<Retried<R::File>>, Status> {
     let listing = words.listing.unwrap_or(words.input);
     let read = [listing, words.input];
-    refuse_shared_files(rt, Some(STANDARD_OUTPUT), &read, &[], err)?;
+    refuse_shared_files(rt, Opening::First, Some(STANDARD_OUTPUT), &read, &[], err)?;
     open_input(rt, words.input, err)
 }

@@ -3,11 +3,12 @@
 
 use crate::reading::report_io;
 use cli_report::HintSink;
+use cli_report::stream::give_hint;
 use cli_text::Status;
 use cli_text::report::{EscapedPath, report_fault};
 use savefile::Fault;
 use std::alloc::{AllocError, AllocFailed, Global};
-use std::collections::BTreeSet;
+use std::collections::{BTreeMap, BTreeSet};
 use std::fs::{Files, Metadata};
 use std::io::ErrorKind;
 use std::os::unix::fs::{FileTypeExt, MetadataExt};
@@ -40,11 +41,43 @@ pub enum Target {
     New(FileId, String),
 }
 
+/// When a command opens the files that it reads.
+#[derive(Clone, Copy, Debug, PartialEq, Eq)]
+pub enum Opening {
+    /// Before it makes a file. One that is not there is a fault of its own then, and none that could be lost.
+    First,
+    /// One after the other, while it writes: so it could read what it has made.
+    Late,
+}
+
+/// What a command uses a file for.
+#[derive(Clone, Copy, Debug, PartialEq, Eq)]
+enum Use {
+    Read,
+    Written,
+    StandardOutput,
+    StandardError,
+}
+
+impl Use {
+    /// Why a file of this use is no OUT.
+    fn objection(self) -> &'static str {
+        match self {
+            Use::Read => "this command reads that file: name another OUT",
+            Use::Written => "it is the OUT of an earlier line: name another one",
+            Use::StandardOutput => "standard output goes to that file: name another OUT",
+            Use::StandardError => "standard error goes to that file: name another OUT",
+        }
+    }
+}
+
 /// Why the files of a command are refused.
 #[derive(Drop)]
 enum PathFault<'a> {
-    /// This path and another one are one file.
-    Same(&'a str),
+    /// This path is no OUT, since its file has this use too.
+    Same(&'a str, Use),
+    /// This path is read, and standard output goes to its file.
+    Printed(&'a str),
     /// The system does not tell where this path leads.
     Untold(&'a str, io::Error),
     NoMemory,
@@ -163,6 +196,14 @@ fn named_target<'a, R: Files + AllocGlobal>(
     }
 }
 
+/// Whether nothing stands where a path that is read leads.
+fn is_missing<'a, R: Files>(rt: &R, path: &'a str) -> Result<bool, PathFault<'a>> {
+    match metadata_of(rt, path) {
+        Ok(metadata) => Ok(metadata.is_none()),
+        Err(error) => Err(PathFault::Untold(path, error)),
+    }
+}
+
 /// The regular file that standard error goes to. What is told in a pipe loses nothing of what goes there too.
 fn error_file<R: Files>(rt: &R) -> Result<Option<Target>, PathFault<'static>> {
     match metadata_of(rt, STANDARD_ERROR) {
@@ -175,23 +216,26 @@ fn error_file<R: Files>(rt: &R) -> Result<Option<Target>, PathFault<'static>> {
 /// The files of a command that no further one may be.
 #[derive(Drop)]
 struct Taken<'a> {
+    /// The paths that are read.
     texts: BTreeSet<&'a str>,
-    targets: BTreeSet<Target>,
+    /// The files, each with its latest use.
+    targets: BTreeMap<Target, Use>,
 }
 
 impl<'a> Taken<'a> {
     fn new(alloc: Global) -> Taken<'a> {
         Taken {
             texts: BTreeSet::new(alloc),
-            targets: BTreeSet::new(alloc),
+            targets: BTreeMap::new(alloc),
         }
     }
 
     /// Takes files that are read, which may be one, but none of them the one that is printed to; then that one, and the one that
-    /// faults are told to.
+    /// faults are reported to.
     fn add_read<R: Files + AllocGlobal>(
         &mut self,
         rt: &R,
+        opening: Opening,
         standard_output: Option<&'a str>,
         paths: &[&'a str],
     ) -> Result<(), PathFault<'a>> {
@@ -200,15 +244,18 @@ impl<'a> Taken<'a> {
             None => None,
         };
         for path in paths {
+            if opening == Opening::First && is_missing(rt, *path)? {
+                continue;
+            }
             self.texts.insert(*path)?;
             let target = named_target(rt, *path)?;
             if target.is_some() && target == standard_output {
-                return Err(PathFault::Same(*path));
+                return Err(PathFault::Printed(*path));
             }
-            self.add(target)?;
+            self.add(target, Use::Read)?;
         }
-        self.add(standard_output)?;
-        self.add(error_file(rt)?)?;
+        self.add(standard_output, Use::StandardOutput)?;
+        self.add(error_file(rt)?, Use::StandardError)?;
         Ok(())
     }
 
@@ -220,52 +267,71 @@ impl<'a> Taken<'a> {
     ) -> Result<(), PathFault<'b>> {
         for path in paths {
             let target = named_target(rt, *path)?;
-            if self.texts.contains(*path) || !self.add(target)? {
-                return Err(PathFault::Same(*path));
+            if self.texts.contains(*path) {
+                return Err(PathFault::Same(*path, Use::Read));
+            }
+            if let Some(earlier) = self.add(target, Use::Written)? {
+                return Err(PathFault::Same(*path, earlier));
             }
         }
         Ok(())
     }
 
-    /// Takes a target, and answers whether it was not taken yet.
-    fn add(&mut self, target: Option<Target>) -> Result<bool, AllocFailed<Target>> {
+    /// Takes a target for a use, and returns what it was taken for already.
+    fn add(
+        &mut self,
+        target: Option<Target>,
+        taken_for: Use,
+    ) -> Result<Option<Use>, AllocFailed<(Target, Use)>> {
         match target {
-            Some(target) => self.targets.insert(target),
-            None => Ok(true),
+            Some(target) => self.targets.insert(target, taken_for),
+            None => Ok(None),
         }
     }
 }
 
-/// Tells why files are refused, and answers the exit status.
+/// Reports that a path is the file of something else, and why that is refused.
+fn report_same<E: HintSink>(path: &str, objection: &str, err: &mut E) -> Status {
+    let status = report_fault(
+        format_args!("SameFile {}", EscapedPath(path)),
+        Status::Refused,
+        err,
+    );
+    give_hint(objection, err);
+    status
+}
+
+/// Reports why files are refused, and returns the exit status.
 fn report_path<E: HintSink>(fault: &PathFault<'_>, err: &mut E) -> Status {
     match fault {
-        PathFault::Same(path) => {
-            report_fault(
-                format_args!("SameFile {}", EscapedPath(*path)),
-                Status::Refused,
-                err,
-            )
-        }
+        PathFault::Same(path, taken_for) => report_same(*path, taken_for.objection(), err),
+        PathFault::Printed(path) => report_same(
+            *path,
+            "this command reads that file, and standard output goes to it",
+            err,
+        ),
         PathFault::Untold(path, error) => report_io(error, path, err),
         PathFault::NoMemory => report_fault(Fault::NoMemory, Status::Refused, err),
     }
 }
 
-/// Looks that no file that is written is one that is read, the file of an earlier path that is written, or the one that is
-/// printed to or that standard error goes to; and that none that is read is the one that is printed to. Else that is told, with
-/// the exit status.
+/// Checks that no file that is written is one that is read, the file of an earlier path that is written, or the one that is
+/// printed to or that standard error goes to; and that none that is read is the one that is printed to. Else it reports that, and
+/// returns the exit status.
 ///
-/// Two paths are one file where they lead to one regular file or fifo, or to one new file; one that is read and one that is
-/// written also where they have the same text. `standard_output` is its path, where the command prints there.
+/// Two paths are one file if they lead to one regular file or fifo, or to one new file; one that is read and one that is
+/// written also if they have the same text. `standard_output` is its path, if the command prints there. With [`Opening::First`] a
+/// path that is read and leads to nothing is passed over: the command can't open it.
 pub fn refuse_shared_files<R: Files + AllocGlobal, E: HintSink>(
     rt: &R,
+    opening: Opening,
     standard_output: Option<&str>,
     read: &[&str],
     written: &[&str],
     err: &mut E,
 ) -> Result<(), Status> {
     let mut taken = Taken::new(rt.alloc());
-    if let Err(fault) = taken.add_read(rt, standard_output, read) {
+    if let Err(fault) = taken.add_read(rt, opening, standard_output, read) {
         return Err(report_path(&fault, err));
     }
     match taken.add_written(rt, written) {

@@ -1,4 +1,4 @@
-//! What is told of files that can't be read.
+//! What is reported of files that can't be read.
 
 use cli_report::HintSink;
 use cli_report::files::hint_reason;
@@ -9,9 +9,15 @@ use std::fs::Files;
 use std::io::ErrorKind;
 use std::{fs, io};
 
-/// Tells that a file could not be opened or read, or that memory was refused.
+/// Whether memory was refused to this program. An error that the system gave for a file has a number, also where it is that of
+/// memory (`ENOMEM`).
+fn is_refused_memory(error: &io::Error) -> bool {
+    error.kind() == ErrorKind::OutOfMemory && error.raw_os_error().is_none()
+}
+
+/// Reports that a file could not be opened or read, or that memory was refused.
 pub fn report_io<E: HintSink>(error: &io::Error, path: &str, err: &mut E) -> Status {
-    if error.kind() == ErrorKind::OutOfMemory {
+    if is_refused_memory(error) {
         report_fault(Fault::NoMemory, Status::Refused, err)
     } else {
         let status = report_device(path, err);
@@ -20,7 +26,7 @@ pub fn report_io<E: HintSink>(error: &io::Error, path: &str, err: &mut E) -> Sta
     }
 }
 
-/// The bytes of a file, or, told on `err`, why there are none, and the exit status.
+/// The bytes of a file; or reports why there are none, and returns the exit status.
 pub fn read_file<R: Files + AllocGlobal, E: HintSink>(
     rt: &R,
     path: &str,

@@ -4,7 +4,7 @@ ghost use Rattle.std.specs.Prelude.{◌≡◌, IfOk, length, vec_len};
 ghost use Rattle.std.specs.List.{AllZip};
 
 use crate::plan::PlanLine;
-use cli_files::paths::{STANDARD_OUTPUT, refuse_shared_files};
+use cli_files::paths::{Opening, STANDARD_OUTPUT, refuse_shared_files};
 use cli_report::HintSink;
 use cli_text::Status;
 use cli_text::report::report_fault;
@@ -23,7 +23,14 @@ pub fn check_outputs<'a, R: Files + AllocGlobal, L: PlanLine<'a>, E: HintSink>(
     let Ok(outputs) = outputs_of(rt.alloc(), lines) else {
         return Err(report_fault(Fault::NoMemory, Status::Refused, err));
     };
-    refuse_shared_files(rt, Some(STANDARD_OUTPUT), read, outputs.as_slice(), err)
+    refuse_shared_files(
+        rt,
+        Opening::Late,
+        Some(STANDARD_OUTPUT),
+        read,
+        outputs.as_slice(),
+        err,
+    )
 }
 
 /// The OUT of each line.

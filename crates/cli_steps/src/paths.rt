@@ -1,8 +1,9 @@
 //! The files of `bpftap steps`: which are compared, and the captures.
 
 use crate::faults::FaultText;
+use crate::hints::hint_too_many;
 use cli_args::steps::StepsWords;
-use cli_files::paths::{STANDARD_OUTPUT, refuse_shared_files};
+use cli_files::paths::{Opening, STANDARD_OUTPUT, refuse_shared_files};
 use cli_files::reading::read_file;
 use cli_report::HintSink;
 use cli_text::Status;
@@ -27,13 +28,22 @@ pub fn check_paths<R: Files + AllocGlobal, E: HintSink>(
     err: &mut E,
 ) -> Result<(), Status> {
     if words.inputs.len() > MAX_CAPTURES {
-        return Err(report_fault(FaultText(tap::Fault::TooMany), Status::Refused, err));
+        let status = report_fault(FaultText(tap::Fault::TooMany), Status::Refused, err);
+        hint_too_many(err);
+        return Err(status);
     }
     let Ok(read) = read_paths(rt.alloc(), words) else {
         return Err(report_fault(Fault::NoMemory, Status::Refused, err));
     };
     let picture = words.picture.as_slice();
-    refuse_shared_files(rt, Some(STANDARD_OUTPUT), read.as_slice(), picture, err)
+    refuse_shared_files(
+        rt,
+        Opening::First,
+        Some(STANDARD_OUTPUT),
+        read.as_slice(),
+        picture,
+        err,
+    )
 }
 
 /// Reads all captures. `Err` is the exit status of a fault that was reported.

@@ -13,13 +13,13 @@ use std::process::Abort;
 /// What is told of a path that can't be read, and the status.
 fn is_told(
     rt: &(impl Abort + AllocGlobal),
-    kind: ErrorKind,
+    error: io::Error,
     path: &str,
     line: &str,
     status: Status,
 ) {
     let mut err: Vec<u8> = Vec::new(rt.alloc());
-    let found = report_io(&io::Error::from(kind), path, &mut err);
+    let found = report_io(&error, path, &mut err);
     same(rt, (err.as_slice(), found), (line.as_bytes(), status));
 }
 
@@ -27,10 +27,24 @@ fn is_told(
 fn want_of_memory_is_told_by_its_name(rt: HostRuntime) {
     is_told(
         &rt,
-        ErrorKind::OutOfMemory,
+        io::Error::from(ErrorKind::OutOfMemory),
         "in.pcap",
         "bpftap: NoMemory\n",
         Status::Refused,
+    );
+}
+
+/// The system's number for memory that it lacks.
+const ENOMEM: i32 = 12;
+
+#[test]
+fn memory_that_the_system_lacks_is_a_fault_of_the_file(rt: HostRuntime) {
+    is_told(
+        &rt,
+        io::Error::from_raw_os_error(ENOMEM),
+        "in.pcap",
+        "bpftap: Device in.pcap\n",
+        Status::Failed,
     );
 }
 
@@ -52,7 +66,7 @@ fn control_characters_of_a_path_are_escaped(rt: HostRuntime) {
     let line = "bpftap: Device a\\n\\u{1b}[1mé b\n";
     is_told(
         &rt,
-        ErrorKind::NotFound,
+        io::Error::from(ErrorKind::NotFound),
         "a\n\u{1b}[1mé b",
         line,
         Status::Failed,

@@ -3,7 +3,7 @@
 use crate::same::same;
 use crate::system::{NONE, System, TORN, Table};
 use cli_files::late::{LateFile, LateInput, reserve_std_fd};
-use cli_files::paths::refuse_shared_files;
+use cli_files::paths::{Opening, refuse_shared_files};
 use cli_text::Status;
 use std::fs::Files;
 use std::io::{Read, Write};
@@ -60,7 +60,14 @@ fn ends_untold(rt: &(impl Abort + AllocGlobal), table: &Table) {
     let system = (System { table }, rt.alloc());
     let mut err: Vec<u8> = Vec::new(rt.alloc());
     let read = ["all.bpf", "in.pcap"];
-    let ended = refuse_shared_files(&system, None, &read, &["out.pcap"], &mut err);
+    let ended = refuse_shared_files(
+        &system,
+        Opening::First,
+        None,
+        &read,
+        &["out.pcap"],
+        &mut err,
+    );
     let line = b"bpftap: Device all.bpf\n";
     same(
         rt,
