@@ -38,6 +38,19 @@ def a_refused_expression_is_told(scene):
         scene.refuse(words, 1, fault)
 
 
+# Expressions that begin with `-`, and how they are printed as they were read; one that has it elsewhere is printed as it is.
+DASHED = [("-1 = 1", "(-1 = 1)"), ("-len < 5 and tcp", "(-len < 5 and tcp)"), ("(-1 = 1)", "(-1 = 1)"), ("1 = -1", "1 = -1")]
+
+
+@case
+def what_was_read_can_be_given_back(scene):
+    """An expression that begins with `-` is printed in parentheses, and a command takes that, with the same program."""
+    for text, read in DASHED:
+        scene.expect(["check", "-x", "--", text], out=f"{read}\n")
+        scene.expect(["check", "-x", read], out=f"{read}\n")
+        scene.check(f"programs of {text}", scene.run(["check", read]), scene.run(["check", "--", text]))
+
+
 @case
 def a_line_of_any_length_goes_out_whole(scene):
     """A path of so many bytes is told as it is."""

@@ -47,14 +47,25 @@ def out_is_no_file_that_is_read(scene):
     os.symlink("in.pcap", scene.folder / "symbolic.pcap")
     for out in ["in.pcap", "./in.pcap", "linked.pcap", "symbolic.pcap", "all.bpf", "./all.bpf", "linked.bpf"]:
         scene.refuse(f"cut -s 0 -f all.bpf in.pcap {out}", 1, f"SameFile {out}")
-    # Also where neither is there, and a fifo, which nobody opens.
-    os.symlink("new.pcap", scene.folder / "link")
+    # Also a fifo, which nobody opens.
     os.mkfifo(scene.folder / "fifo")
-    for read, out in [("new.pcap", "./new.pcap"), ("new.pcap", "link"), ("link", "new.pcap"), ("fifo", "./fifo")]:
-        scene.refuse(f"cut -s 0 {read} {out}", 1, f"SameFile {out}")
+    scene.refuse("cut -s 0 fifo ./fifo", 1, "SameFile ./fifo")
+    # An IN that is not there cannot be opened, whatever OUT is.
+    os.symlink("new.pcap", scene.folder / "link")
+    for read, out in [("new.pcap", "new.pcap"), ("new.pcap", "./new.pcap"), ("new.pcap", "link"), ("link", "new.pcap")]:
+        scene.refuse(f"cut -s 0 {read} {out}", 3, f"Device {read}")
     # What is no regular file loses nothing, so that the capture's own fault is told; but the same text is one file.
     scene.refuse("cut -s 0 -f all.bpf /dev/null /dev/./null", 1, "ShortHeader")
     scene.refuse("cut -s 0 -f all.bpf /dev/null /dev/null", 1, "SameFile /dev/null")
+
+
+@case
+def the_count_comes_after_the_hints(scene):
+    """With -c the count is the last line: below a fault come its hints first."""
+    scene.put({"torn.pcap": TORN})
+    hint = "  the file ends inside this record: was it broken off, or is it still written?\n"
+    scene.expect("--hints cut -s 0 -c torn.pcap out.pcap", 2, told("TornRecord 1") + hint + "1 of 1 packets\n")
+    scene.expect("cut -s 0 -c torn.pcap out.pcap", 2, told("TornRecord 1") + "1 of 1 packets\n")
 
 
 # Options of a cut of one IPv4 record, and what OUT has then.

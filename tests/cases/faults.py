@@ -64,6 +64,11 @@ REFUSED = [
     ("cut -s 0 in.pcap none/out.pcap", "Device none/out.pcap", 3),
     ("cut -s 0 . out.pcap", "Device .", 3),
     ("cut -s 0 in.pcap ./in.pcap", "SameFile ./in.pcap", 1),
+    # A file that is not there is no file that could be lost: it cannot be opened.
+    ("cut -s 0 none.pcap none.pcap", "Device none.pcap", 3),
+    ("cut -s 0 none.pcap ./none.pcap", "Device none.pcap", 3),
+    ("cut -s 0 none/in.pcap none/in.pcap", "Device none/in.pcap", 3),
+    ("steps -p none.pcap one.txt arrive.txt none.pcap", "Device none.pcap", 3),
     ("steps one.txt arrive.txt none.pcap", "Device none.pcap", 3),
     ("steps comment.txt arrive.txt in.pcap", "Listeners 1", 1),
     ("steps crlf.txt arrive.txt in.pcap", "Listeners 1", 1),
@@ -111,6 +116,7 @@ SPLITS = [
     ("0 out.pcap\n262145 other.pcap\n", "in.pcap", "Lines 2", 1),
     ("0 out.pcap\n0 out.pcap\n", "in.pcap", "Lines 2", 1),
     ("0 in.pcap\n", "in.pcap", "SameFile in.pcap", 1),
+    ("".join(f"0 {n}.pcap\n" for n in range(1025)), "none.pcap", "TooMany", 1),
     ("0 none/out.pcap\n", "in.pcap", "Device none/out.pcap", 3),
 ]
 

@@ -18,6 +18,14 @@ REFUSED = [
     # A bad line goes before an expression, and that before a path.
     ("0 kept.pcap tcp and 80\nx", "none.pcap", "Lines 2"),
     ("0 new.pcap\n0 t.pcap tcp and 80", "t.pcap", "Expression 1 NoQualifier 8"),
+    # 1,025 lines: a bad line goes before that, and that before an expression and a path.
+    ("".join(f"0 {n}.pcap\n" for n in range(1025)), "none.pcap", "TooMany"),
+    ("".join(f"0 {n}.pcap tcp and 80\n" for n in range(1025)), "none.pcap", "TooMany"),
+    ("".join(f"0 {n % 1024}.pcap\n" for n in range(1025)), "none.pcap", "Lines 1025"),
+    ("0 t.pcap\n" + "".join(f"0 {n}.pcap\n" for n in range(3000)) + "x\n", "t.pcap", "Lines 3002"),
+    # 1,024 lines are read: the next fault is told, an expression's, or that of the first capture.
+    ("".join(f"0 {n}.pcap\n" for n in range(1023)) + "0 last.pcap tcp and 80\n", "none.pcap", "Expression 1023 NoQualifier 8"),
+    ("".join(f"0 {n}.pcap\n" for n in range(1024)), "empty.pcap", "Capture 0 ShortHeader"),
     # An OUT that is a file that is read, or the OUT of another line.
     ("0 t.pcap\n", "t.pcap", "SameFile t.pcap"),
     ("0 new.pcap\n0 ./kept.pcap\n", "t.pcap tu.pcap kept.pcap", "SameFile ./kept.pcap"),

@@ -1,5 +1,7 @@
 """Standard streams that are closed or full: no file of a command gets what is told or printed there."""
 import itertools
+import shutil
+import subprocess
 
 from .common import ALL, HEADER, IP, TCP_RECORD, TORN, UDP_RECORD, WHOLE, Seen, as_bytes, case, header, told
 from .steps import EXPLAINED, REPORT
@@ -22,6 +24,12 @@ COMMANDS = [
     ("run r.txt whole.pcap", RAN, [], 0, {"out.pcap": WHOLE}),
     ("run r.txt torn.pcap", RAN, ["Interface 0 Capture 0 TornRecord 1"], 2, {"out.pcap": WHOLE}),
 ]
+
+
+def can_refuse():
+    """Whether a call of a program can be refused here."""
+    words = ["strace", "-qq", "-e", "trace=write", "-e", "inject=write:error=ENOSPC:when=1000", "true"]
+    return shutil.which("strace") is not None and subprocess.run(words, capture_output=True).returncode == 0
 
 
 def closings():
@@ -72,14 +80,53 @@ def a_full_device_is_told(scene):
 
 @case
 def a_pipe_that_nobody_reads_is_no_fault_to_tell(scene):
-    """What a broken pipe does not take ends with status 3, of which nothing is told; other faults are."""
+    """What a broken pipe does not take ends with status 3, of which nothing is told, also of an OUT of `cut`; other faults are."""
     scene.put(FILES)
     steps = ["steps l.txt s.txt whole.pcap", "steps -v l.txt s.txt whole.pcap"]
     for words in ["--help", "check ip", *steps, "run r.txt whole.pcap"]:
         scene.check(f"{words} |", scene.run_unread(words), Seen(b"", b"", 3))
     scene.check("OUT", scene.read("out.pcap"), WHOLE)
+    for words in ["cut -s 0 whole.pcap /dev/stdout", "--hints cut -s 0 -c torn.pcap /dev/stdout"]:
+        scene.check(f"{words} |", scene.run_unread(words), Seen(b"", b"", 3))
     torn = as_bytes(told("Capture 0 TornRecord 1"))
     scene.check("steps of a torn capture |", scene.run_unread("steps l.txt s.txt torn.pcap"), Seen(b"", torn, 3))
+
+
+def refused_once(scene, words, call):
+    """What is printed and told, and the status, where this call of write fails, from 1, and no later one."""
+    inject = f"strace -qq -o calls -e trace=write -e inject=write:error=ENOSPC:when={call}"
+    return scene.run(words, first=f'exec {inject} "$0" "$@"')
+
+
+# Words that print all at once, and how many writes come before: those of OUT.
+PRINTED_ONCE = [
+    ("check ip", 0), ("check -x ip", 0), ("explain -e ip whole.pcap", 0), ("explain -p 0 -e ip whole.pcap", 0),
+    ("steps l.txt s.txt whole.pcap", 0), ("steps -v l.txt s.txt whole.pcap", 0), ("split lines.txt whole.pcap", 1),
+]
+
+
+@case
+def nothing_is_printed_after_a_failed_write(scene):
+    """One write of standard output fails, and later ones would not: that is told, and nothing is printed then."""
+    scene.put({**FILES, "lines.txt": "0 out.pcap\n"})
+    if not can_refuse():
+        return scene.leave("strace can't trace here")
+    for words, before in PRINTED_ONCE:
+        seen = refused_once(scene, words, before + 1)
+        scene.check(f"{words}, one write refused", seen, Seen(b"", as_bytes(told(FULL)), 3))
+
+
+@case
+def no_hint_stands_without_its_fault(scene):
+    """The line of a fault is not taken, and later ones would be: no hint comes then, and the status tells the fault."""
+    scene.put(FILES)
+    if not can_refuse():
+        return scene.leave("strace can't trace here")
+    for words, status in [("check 'src prot 17'", 1), ("cut -s 0 none.pcap out.pcap", 3), ("steps none.txt s.txt whole.pcap", 3),
+                          ("check -f none.bpf", 3), ("explain -e ip torn.pcap", 2)]:
+        writes = 2 if status == 2 else 1
+        seen = refused_once(scene, f"--hints {words}", writes)
+        scene.check(f"{words}, its line refused", (seen.err, seen.status), (b"", status))
 
 
 # Words whose OUT, or a file of theirs that is read, is a file that a stream goes to; the stream, and the fault.
@@ -94,6 +141,10 @@ SHARED = [
     ("steps l.txt s.txt whole.pcap", ">>l.txt", "l.txt"),
     ("steps l.txt s.txt whole.pcap", ">>s.txt", "s.txt"),
     ("steps l.txt s.txt torn.pcap whole.pcap", ">>./whole.pcap", "whole.pcap"),
+    ("explain -f all.bpf whole.pcap", ">>all.bpf", "all.bpf"),
+    ("explain -e ip whole.pcap", ">>whole.pcap", "whole.pcap"),
+    ("check -f all.bpf", ">>all.bpf", "all.bpf"),
+    ("check -d -f ./all.bpf", ">>all.bpf", "./all.bpf"),
 ]
 
 

@@ -1,5 +1,5 @@
 -- What `bpftap check` prints.
-use Rattle.std.specs.Prelude.{ℕ, List, ◌++◌, Option}
+use Rattle.std.specs.Prelude.{ℕ, Bool, false, List, [], ◌∷◌, ◌++◌, ◌==◌, if◌then◌else◌, Option}
 use Rattle.std.specs.Io.KnownBytes.{Appends, Keeps}
 use Rattle.bpfvm.specs.declared.insn.Insn.{Insn}
 use Rattle.bpfvm.specs.Listing.{listing_of}
@@ -22,9 +22,18 @@ use Rattle.cli_cut.specs.declared.print.PrintFault.TheVariants as print
 abbrev pub Prints : Option (List ℕ) → Option (List ℕ) → List ℕ → Type 0
 Prints old new text = (program : List Insn) × IsProgramOf text MAX_SNAP program × Appends old new (listing_of program)
 
--- what is printed of an expression as it was read: the canonical text of the tree that it reads as, on a line
+-- whether a text begins with `-`
+abbrev pub begins_with_minus : List ℕ → Bool
+begins_with_minus [] = false
+begins_with_minus (byte ∷ bytes) = byte == 45
+
+-- how a text is given back on a command line: one that begins with `-` in parentheses
+abbrev pub given_back : List ℕ → List ℕ
+given_back text = if begins_with_minus text then 40 ∷ text ++ 41 ∷ [] else text
+
+-- what is printed of an expression as it was read: the canonical text of the tree that it reads as, as it is given back, on a line
 abbrev pub PrintsRead : Option (List ℕ) → Option (List ℕ) → List ℕ → Type 0
-PrintsRead old new text = (tree : Tree) × ReadsAs text tree × Appends old new (canonical tree ++ end_of_line)
+PrintsRead old new text = (tree : Tree) × ReadsAs text tree × Appends old new (given_back (canonical tree) ++ end_of_line)
 
 -- Why an expression is not printed so: it reads as no tree, and nothing was taken; or it reads as one, but memory for its text
 -- was wanting, or the writer failed, which took a beginning of it.
@@ -32,7 +41,7 @@ abbrev pub IsUnread : Option (List ℕ) → Option (List ℕ) → List ℕ → P
 IsUnread old new text (print.Expression (faults.Text fault)) = IsRefusalOf text fault × Keeps old new
 IsUnread old new text (print.Expression (faults.Tree refusal)) = ⊥
 IsUnread old new text print.NoMemory = (tree : Tree) × ReadsAs text tree × Keeps old new
-IsUnread old new text (print.Output error) = (tree : Tree) × ReadsAs text tree × TakesPart old new (canonical tree ++ end_of_line)
+IsUnread old new text (print.Output error) = (tree : Tree) × ReadsAs text tree × TakesPart old new (given_back (canonical tree) ++ end_of_line)
 
 -- a program as numbers, by the names of its instructions, or as an array of C
 abbrev pub program_text : ProgramForm → List Insn → List ℕ

@@ -17,7 +17,7 @@ use pcap_cut::cut::{CutEnd, End, cut};
 use savefile::{Counted, Fault};
 use std::alloc::Global;
 use std::fs::Files;
-use std::io::{Read, Write};
+use std::io::{ErrorKind, Read, Write};
 
 /// What a cut needs: its filter, IN, and OUT.
 struct Job<I, O> {
@@ -56,7 +56,28 @@ fn flush<R, W: Write>(mut end: CutEnd<R, Counted<W>>) -> CutEnd<R, Counted<W>> {
     end
 }
 
-/// Cuts IN, and reports how that ended.
+/// Whether OUT is a pipe that nobody reads any more, as `/dev/stdout` before `| head`.
+fn is_unread<R, W: Write + Drop>(end: &CutEnd<R, ProbedOutput<W>>) -> bool {
+    match (end.end, end.sink.inner.get_ref().failure()) {
+        (End::Output(_), Some(error)) => error.kind() == ErrorKind::BrokenPipe,
+        _ => false,
+    }
+}
+
+/// Reports how a cut ended, and returns the exit status. That nobody reads OUT any more is not reported, as of standard output.
+fn report_end<R, W: Write + Drop, E: HintSink>(
+    end: &CutEnd<R, ProbedOutput<W>>,
+    words: &CutWords<'_>,
+    err: &mut E,
+) -> Status {
+    if is_unread(end) {
+        Status::Failed
+    } else {
+        report_cut(end, words.input, words.output, err)
+    }
+}
+
+/// Cuts IN, and reports how that ended. The count comes after the fault and its hints.
 fn cut_and_report<R: Read + Drop, W: Write + Drop, E: HintSink>(
     alloc: Global,
     words: &CutWords<'_>,
@@ -78,11 +99,11 @@ fn cut_and_report<R: Read + Drop, W: Write + Drop, E: HintSink>(
         output,
     );
     let end = flush(end);
-    let status = report_cut(&end, words.input, words.output, err);
+    let status = report_end(&end, words, err);
+    hint_cut(&end, err);
     if words.counted {
         let _ = report_count(&end, err);
     }
-    hint_cut(&end, err);
     status
 }
 

@@ -5,7 +5,7 @@ ghost use Rattle.std.specs.Io.KnownBytes.{Appends};
 ghost use Rattle.filterlang.specs.Trees.{tree_of};
 ghost use Rattle.cli_text.specs.Telling.{end_of_line};
 ghost use Rattle.filter_print.specs.Canonical.{canonical};
-ghost use Rattle.cli_cut.specs.Printing.{Prints, PrintsRead, IsPart, IsUnchecked, IsUnprinted, IsUnread, IsUnshown, program_text};
+ghost use Rattle.cli_cut.specs.Printing.{Prints, PrintsRead, IsPart, IsUnchecked, IsUnprinted, IsUnread, IsUnshown, begins_with_minus, given_back, program_text};
 
 use bpf_asm::write_array;
 use bpfvm::{NoMemory, Program, write_image, write_listing};
@@ -97,19 +97,34 @@ pub fn show<O: Write>(
     }
 }
 
+/// Whether a text begins with `-`, so that a command line takes it for options.
+fn begins_with_minus(text: &[u8]) -> bool
+    ensures { result ≡ begins_with_minus text.now }
+{
+    match text.first() {
+        Some(first) => *first == b'-',
+        None => false,
+    }
+}
+
 /// The line of an expression as it was read.
 fn read_line(alloc: Global, expr: &Expr) -> Result<String, NoMemory>
-    ensures { IfOk result (λ line. string_bytes line ≡ canonical (tree_of expr.now) ++ end_of_line) }
+    ensures { IfOk result (λ line. string_bytes line ≡ given_back (canonical (tree_of expr.now)) ++ end_of_line) }
 {
+    let text = Canonical(expr).to_string(alloc)?;
     let mut line = String::new(alloc);
-    writeln!(line, "{}", Canonical(expr))?;
+    if begins_with_minus(text.as_bytes()) {
+        writeln!(line, "({text})")?;
+    } else {
+        writeln!(line, "{text}")?;
+    }
     Ok(line)
 }
 
 /// Prints an expression on a line.
 fn print_read<O: Write>(alloc: Global, expr: &Expr, out: &mut O) -> Result<(), PrintFault>
-    ensures printed { OnOk result (Appends (O.contents out.old) (O.contents out.new) (canonical (tree_of expr.now) ++ end_of_line)) }
-    ensures fault { IfErr result (IsUnprinted (O.contents out.old) (O.contents out.new) (canonical (tree_of expr.now) ++ end_of_line)) }
+    ensures printed { OnOk result (Appends (O.contents out.old) (O.contents out.new) (given_back (canonical (tree_of expr.now)) ++ end_of_line)) }
+    ensures fault { IfErr result (IsUnprinted (O.contents out.old) (O.contents out.new) (given_back (canonical (tree_of expr.now)) ++ end_of_line)) }
 {
     match read_line(alloc, expr) {
         Ok(line) => print(line.as_bytes(), out),
@@ -117,8 +132,8 @@ fn print_read<O: Write>(alloc: Global, expr: &Expr, out: &mut O) -> Result<(), P
     }
 }
 
-/// Prints an expression as it was read, on one line: its canonical text, in which all that was inherited is written out. It need
-/// not compile.
+/// Prints an expression as it was read, on one line: its canonical text, in which all that was inherited is written out. One that
+/// begins with `-` is printed in parentheses, so that it can be given back on a command line. It need not compile.
 ///
 /// The fault is that of a text which is no expression; or [`PrintFault::NoMemory`], and then nothing was printed; or
 /// [`PrintFault::Output`]: `out` failed, and took a beginning of the line and no more.
