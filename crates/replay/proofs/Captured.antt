@@ -40,19 +40,19 @@ pub none-writable : All IsWritable []
 none-writable = λ k d below. absurd (omega (arith, below))
 
 -- why a capture could not be opened, of which no packet arrived
-pub not-opened : (start : Option (List ℕ)) (broke : Type 0) (why : Fault) → WasRefused start why ⊎ (why ≡ fault.Device) ⊎ (why ≡ fault.NoMemory)
-    → (why ≡ fault.Device → broke) → (why ≢ fault.Failed) × (why ≢ fault.CountFull) × IsStopped start broke [] why
-not-opened start broke why (inl refused) broken = (
+pub not-opened : (start : Option (List ℕ)) (source_failed : Type 0) (why : Fault) → WasRefused start why ⊎ (why ≡ fault.Device) ⊎ (why ≡ fault.NoMemory)
+    → (why ≡ fault.Device → source_failed) → (why ≢ fault.Failed) × (why ≢ fault.CountFull) × IsStopped start source_failed [] why
+not-opened start source_failed why (inl refused) broken = (
   (λ e. subst (λ (f : Fault). RefusesHeader refused.text f) e refused.refused),
   (λ e. subst (λ (f : Fault). RefusesHeader refused.text f) e refused.refused),
   inl (refused, refl),
 )
-not-opened start broke why (inr (inl device)) broken = (
+not-opened start source_failed why (inr (inl device)) broken = (
   (λ e. let bad = sym device ∙ e in cc),
   (λ e. let bad = sym device ∙ e in cc),
   inr (inr (inl (device, broken device, inl refl))),
 )
-not-opened start broke why (inr (inr none)) broken = (
+not-opened start source_failed why (inr (inr none)) broken = (
   (λ e. let bad = sym none ∙ e in cc),
   (λ e. let bad = sym none ∙ e in cc),
   inr (inr (inr (none, refl))),

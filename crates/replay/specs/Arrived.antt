@@ -9,8 +9,8 @@ use Rattle.replay.specs.declared.player.Player.{Player}
 use Rattle.replay_types.specs.declared.report.InterfaceEnd.{InterfaceEnd}
 
 -- Packets of a capture arrived at the listeners, each writable, numbered from 0; and that is how it ended.
-pub record HasGivenPackets (start : Option (List ℕ)) (broke : Type 0) (capture : ℕ) (old new : Player) (end : Option InterfaceEnd) : Type 0 where
+pub record HasGivenPackets (start : Option (List ℕ)) (source_failed : Type 0) (capture : ℕ) (old new : Player) (end : Option InterfaceEnd) : Type 0 where
   pub packets : List Packet
   pub writable : All IsWritable packets
   pub arrive : (starts : List Line) (playlist : List Arrival) → HasArrived starts playlist old → HasArrived starts (playlist ++ arrivals_from capture 0 packets) new
-  pub ends : EndsSo start broke capture new.arrived packets end
+  pub ends : EndsSo start source_failed capture new.arrived packets end

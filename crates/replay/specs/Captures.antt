@@ -18,19 +18,19 @@ arrivals_from capture place (p ∷ ps) = arrival capture place p ∷ arrivals_fr
 -- Why a capture ended before its end, behind these packets: its header is refused; a record's fault stands behind them; its
 -- source failed, and they begin what it holds; or memory was refused, and it gave nothing.
 abbrev pub IsStopped : Option (List ℕ) → Type 0 → List Packet → Fault → Type 0
-IsStopped start broke packets why =
+IsStopped start source_failed packets why =
     (WasRefused start why × (packets ≡ []))
     ⊎ ((header : Header) × WasRead start header packets (Some why))
-    ⊎ ((why ≡ fault.Device) × broke × ((packets ≡ []) ⊎ ((header : Header) × WasBegun start header packets)))
+    ⊎ ((why ≡ fault.Device) × source_failed × ((packets ≡ []) ⊎ ((header : Header) × WasBegun start header packets)))
     ⊎ ((why ≡ fault.NoMemory) × (packets ≡ []))
 
 -- How a capture ended, of which these packets arrived: it was read whole; it has a fault; or no more arrivals can be counted.
 abbrev pub EndsSo : Option (List ℕ) → Type 0 → ℕ → ℕ → List Packet → Option InterfaceEnd → Type 0
-EndsSo start broke capture arrived packets None = (header : Header) × WasRead start header packets None
-EndsSo start broke capture arrived packets (Some Clean) = ⊥
-EndsSo start broke capture arrived packets (Some (Capture n why)) =
-    (n ≡ capture) × (why ≢ fault.Failed) × (why ≢ fault.CountFull) × IsStopped start broke packets why
-EndsSo start broke capture arrived packets (Some CountFull) = (arrived ≡ 2 ^ 64 - 2) × (header : Header) × WasBegun start header packets
+EndsSo start source_failed capture arrived packets None = (header : Header) × WasRead start header packets None
+EndsSo start source_failed capture arrived packets (Some Clean) = ⊥
+EndsSo start source_failed capture arrived packets (Some (Capture n why)) =
+    (n ≡ capture) × (why ≢ fault.Failed) × (why ≢ fault.CountFull) × IsStopped start source_failed packets why
+EndsSo start source_failed capture arrived packets (Some CountFull) = (arrived ≡ 2 ^ 64 - 2) × (header : Header) × WasBegun start header packets
 
 -- A source that was read comes back: bytes were taken of what it had left, and no others; and it did not fail in between, unless
 -- the capture ended so.

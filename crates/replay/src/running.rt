@@ -83,9 +83,9 @@ fn replay_laid<
 /// Replays the captures of each interface to its listeners, in threads, and writes what each listener keeps as a savefile.
 ///
 /// One thread for each interface reads its captures in order, gives each packet to all its listeners, and flushes those that are
-/// due. Two threads for each listener read its buffers and write its savefile. All have ended when the call returns. It answers
-/// a report for each interface, in order, with the sources, and in it one for each listener, in order, with the sinks. The
-/// sources that were not read come back as they were.
+/// due. Two threads for each listener read its buffers and write its savefile. The call returns a report for each interface, in
+/// order, with the sources, and in it one for each listener, in order, with the sinks. The sources that were not read come back as
+/// they were.
 ///
 /// What is promised, whatever the order of the threads. *Of an interface*: the packets that arrive are those of its captures,
 /// one capture behind the other, each with its capture's number and its place there, from 0; the first capture with a fault

@@ -1,6 +1,6 @@
 //! What is left once the threads of a task have ended.
 
-ghost use Rattle.std.specs.Prelude.{◌≡◌, ◌↔◌, ◌⊎◌, List, [], ◌++◌, length, true, false, All, IfSome};
+ghost use Rattle.std.specs.Prelude.{◌≡◌, ◌↔◌, ◌⊎◌, List, [], ◌++◌, length, true, false, All, IfSome, None};
 ghost use Rattle.handover.specs.Asks.{asks};
 ghost use Rattle.handover.specs.Rule.{profile_of};
 ghost use Rattle.listener.specs.LookingBack.{all_accepted};
@@ -126,7 +126,7 @@ fn report<W: Sink>(
 }
 
 /// Settles the two ends. What the writer thread left is written: buffers in the ring of what was read, the hold, and the rest. Where
-/// no thread broke off, it has left nothing.
+/// no thread broke off, it has left nothing. An end that was not handed over comes before all that [`end_of`] tells.
 pub(crate) fn settled<W: Sink + Drop>(
     link: TaskLink,
     ending: Ending,
@@ -140,6 +140,7 @@ pub(crate) fn settled<W: Sink + Drop>(
     ensures report { IsReported W.taken W.failures done.task.value ending.feed.feeds done.read.drain.takes result }
     ensures past { (result.past.pair ≡ done.read.drain.pair) × (result.past.feeds ≡ ending.feed.feeds) × (result.past.takes ≡ done.read.drain.takes)
         × (result.past.profile ≡ ending.feed.profile) }
+    ensures handed_over { done.read.finished ≡ None → result.end ≡ TaskEnd.Unfinished }
 {
     let Ending { feed, rest_in } = ending;
     let Done {

@@ -1,4 +1,4 @@
-use Rattle.std.proofs.Common.{◌≡◌, List, sym, ◌∙◌, subst, IfSome}
+use Rattle.std.proofs.Common.{◌≡◌, List, sym, ◌∙◌, subst, IfSome, Option, Some, None}
 use Rattle.rtrb.specs.Ring.{all_sent, known_items, received, sent, IsFinishedOf}
 use Rattle.listener.specs.declared.message.Message.{Message}
 use Rattle.handover.specs.History.{LegalHistory, batches_of, merge}
@@ -69,3 +69,6 @@ returns-clause-report g c =
     (subst (λ (ms : List Message). Writes T F o ms w) all four)
     (λ e. let ends = c.end_of-end.ensures.clean (sym told.end ∙ e) in (ends.1, whole.unclosed (c.requires.done.ended ends.0)))
     (λ n e. let breaks = c.end_of-end.ensures.broke n (sym told.end ∙ e) in (breaks.0, breaks.1 ∙ c.sent.ensures))
+
+pub returns-clause-handed_over : goal.returns-clause-handed_over
+returns-clause-handed_over g c = λ none. let (f, is, fifo, count) = c.in-Some.ensures.full in let clash = sym is ∙ none in absurd cc
