@@ -9,3 +9,4 @@ mod Putting
 mod Beyond
 mod Ending
 mod Told
+mod Agreeing

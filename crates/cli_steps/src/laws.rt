@@ -1,6 +1,6 @@
-//! Laws of the files LISTENERS and SCRIPT.
+//! Laws of the files LISTENERS and SCRIPT, and of the reasons for answers.
 
-ghost use Rattle.cli_steps.specs.Laws.{NoneIsBad, FirstBadIsOne};
+ghost use Rattle.cli_steps.specs.Laws.{NoneIsBad, FirstBadIsOne, FlushReasonsAgree, ReadReasonsAgree};
 ghost use Rattle.cli_steps.specs.Listeners.{IsListenerLine};
 ghost use Rattle.cli_steps.specs.Script.{IsStepLine};
 
@@ -14,4 +14,11 @@ pub fn none_is_bad()
 pub fn first_bad_is_one()
     ensures listeners { FirstBadIsOne IsListenerLine }
     ensures script { FirstBadIsOne IsStepLine }
+{}
+
+/// The reasons of a flush and of a read are given by the listener's state before it alone. If the answer is right, they say the same:
+/// that the store became the hold, or that the hold was taken, or that it was not.
+pub fn reasons_agree()
+    ensures flushes { FlushReasonsAgree }
+    ensures reads { ReadReasonsAgree }
 {}
