@@ -11,6 +11,8 @@ mod explained;
 #[cfg(test)]
 mod files_told;
 #[cfg(test)]
+mod in_time;
+#[cfg(test)]
 mod late;
 #[cfg(test)]
 mod paths;
@@ -22,3 +24,5 @@ mod split;
 mod system;
 #[cfg(test)]
 mod telling;
+#[cfg(test)]
+mod unflushed;

@@ -12,6 +12,7 @@ use std::process::Abort;
 use std::test::Fail;
 
 mod caller;
+mod dropped;
 mod past;
 mod threads;
 

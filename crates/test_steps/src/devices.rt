@@ -3,32 +3,14 @@
 use crate::same::same;
 use cli_steps::plan::{StepsPlan, read_plan};
 use cli_steps::steps::{Detail, play_plan};
-use std::io;
-use std::io::{ErrorKind, Write};
 use std::process::Abort;
 use test_fixtures::captures::{HEADER, bytes_of};
-
-/// A writer that takes all, and cannot send on what it has gathered.
-#[derive(Drop)]
-struct Unflushed {
-    taken: Vec<u8>,
-}
-
-impl Write for Unflushed {
-    fn write(&mut self, buf: &[u8]) -> io::Result<usize> {
-        self.taken.extend_from_slice(buf)?;
-        Ok(buf.len())
-    }
-
-    fn flush(&mut self) -> io::Result<()> {
-        Err(io::Error::from(ErrorKind::Other))
-    }
-}
+use test_fixtures::devices::UnflushedWriter;
 
 /// What `steps` prints is a device fault where it is not sent on, and was taken.
 fn is_a_fault(rt: &(impl Abort + AllocGlobal), plan: &StepsPlan, header: &[u8], detail: Detail) {
     let taken = Vec::new(rt.alloc());
-    let mut out = Unflushed { taken };
+    let mut out = UnflushedWriter { taken };
     let mut err: Vec<u8> = Vec::new(rt.alloc());
     let (outcome, _) = play_plan(rt.alloc(), plan, &[header], detail, &mut out, &mut err);
     let line = b"bpftap: Device standard output\n";

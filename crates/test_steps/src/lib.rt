@@ -12,3 +12,5 @@ mod faults;
 mod replays;
 #[cfg(test)]
 mod same;
+#[cfg(test)]
+mod told;

@@ -9,3 +9,5 @@ mod run_plan;
 mod same;
 #[cfg(test)]
 mod tally;
+#[cfg(test)]
+mod told;

@@ -12,7 +12,7 @@ use std::sync::atomic::AtomicU64;
 use std::sync::atomic::Ordering::SeqCst;
 use std::thread::Threads;
 use test_fixtures::captures::{HEADER, TCP, UDP, concat};
-use test_fixtures::devices::{BreakingWriter, PiecesReader};
+use test_fixtures::devices::{BreakingWriter, PiecesReader, UnflushedWriter};
 
 /// The n-th item, which is there.
 fn item<'a, T>(rt: &'a impl Abort, items: &'a [T], n: usize) -> &'a T {
@@ -325,4 +325,14 @@ fn an_output_that_breaks_is_a_device_fault(rt: HostRuntime) {
     for room in [0, 5, 69] {
         is_not_taken(&rt, torn.as_slice(), room);
     }
+}
+
+#[test]
+fn lines_that_are_not_sent_on_are_a_device_fault(rt: HostRuntime) {
+    let whole = concat(rt.alloc(), &[HEADER, TCP]).expect(&rt, "memory");
+    let taken = Vec::new(rt.alloc());
+    let mut out = UnflushedWriter { taken };
+    let broken = run_broken(&rt, &[(whole.as_slice(), false)], &[AMPLE], &mut out);
+    told(&rt, &broken, "bpftap: Device standard output\n", 3);
+    is_clean(&rt, out.taken.as_slice(), 1);
 }

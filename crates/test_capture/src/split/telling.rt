@@ -11,7 +11,7 @@ use savefile::Fault;
 use std::alloc::Global;
 use std::io::Write;
 use std::process::Abort;
-use test_fixtures::devices::BreakingWriter;
+use test_fixtures::devices::{BreakingWriter, UnflushedWriter};
 
 const LINES: &[u8] = b"0 a.pcap\n0 b.pcap tcp\n";
 
@@ -146,6 +146,21 @@ fn standard_output_that_fails_is_told_first(rt: HostRuntime) {
     let (status, err) = told(&rt, end, &mut out);
     same(&rt, out.taken.as_slice(), b"a.pcap 0 o".as_slice());
     let wanted = b"bpftap: Device standard output\nbpftap: Capture 0 TooLong 9\n";
+    same(
+        &rt,
+        (err.as_slice(), status),
+        (wanted.as_slice(), Status::Failed),
+    );
+}
+
+#[test]
+fn lines_that_are_not_sent_on_are_a_device_fault(rt: HostRuntime) {
+    let taken = Vec::new(rt.alloc());
+    let mut out = UnflushedWriter { taken };
+    let end = end_of(&rt, [Ok(()), Ok(())], Ok(()));
+    let (status, err) = told(&rt, end, &mut out);
+    same(&rt, out.taken.as_slice(), BOTH.as_bytes());
+    let wanted = b"bpftap: Device standard output\n";
     same(
         &rt,
         (err.as_slice(), status),
