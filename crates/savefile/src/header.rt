@@ -34,7 +34,7 @@ pub struct Header {
 }
 
 /// The bytes of a file header.
-pub(crate) const HEADER_LEN: usize = 24;
+pub const HEADER_LEN: usize = 24;
 
 const MAGIC_MICRO: u32 = 0xa1b2_c3d4;
 

@@ -13,6 +13,7 @@
 //!
 //! [`Reader`] reads a savefile packet by packet from a [`Source`], in memory that does not grow, and lends each packet
 //! without a copy. [`read_all`] reads a whole one from memory. [`Writer`] writes one packet by packet into a [`Sink`].
+//! [`header_of`] and [`record_of`] read one piece from memory, and [`file_header`] and [`record_header`] make one.
 //! [`laws`] has what follows from the definitions alone.
 #![tactic(auto)]
 
@@ -29,9 +30,9 @@ mod writing;
 
 pub use device::{Broken, Counted, Sink, Source};
 pub use fault::Fault;
-pub use header::{Header, Order, Unit, header_of};
+pub use header::{HEADER_LEN, Header, Order, Unit, header_of};
 pub use packet::{Data, Packet, PacketRef};
 pub use reader::Reader;
 pub use reading::read_all;
-pub use record::MAX_SNAP;
-pub use writing::Writer;
+pub use record::{MAX_SNAP, RECORD_HEADER_LEN, record_of};
+pub use writing::{Writer, file_header, record_header};

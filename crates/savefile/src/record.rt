@@ -1,11 +1,12 @@
 //! The header of a record.
 
-ghost use Rattle.std.specs.Prelude.{◌≡◌, ◌<◌, ◌≤◌, ◌⊎◌, ◌++◌, List, [], length, Some, IfErr, OnOk};
-ghost use Rattle.savefile.specs.Savefile.{first_fault, number_in};
+ghost use Rattle.std.specs.Prelude.{◌≡◌, ◌+◌, ◌<◌, ◌≤◌, ◌⊎◌, ◌++◌, List, [], length, drop, Some, IfErr, IfNone, IfOk, IfSome, OnOk};
+ghost use Rattle.savefile.specs.Savefile.{first_fault, number_in, IsRecord, IsWritable};
 ghost use Rattle.savefile.specs.RecordHeader.{IsRecordHeader};
 
 use crate::fault::Fault;
-use crate::header::{Order, Unit};
+use crate::header::{Header, Order, Unit};
+use crate::packet::PacketRef;
 use byteorder::{BigEndian, ByteOrder, LittleEndian};
 
 /// What the header of a record says.
@@ -18,7 +19,7 @@ pub(crate) struct RecordHeader {
 }
 
 /// The bytes of a record's header.
-pub(crate) const RECORD_HEADER_LEN: usize = 16;
+pub const RECORD_HEADER_LEN: usize = 16;
 
 /// The most bytes that are captured of a packet, so that a record may have, read or written: libpcap's `MAXIMUM_SNAPLEN`.
 pub const MAX_SNAP: u32 = 262_144;
@@ -82,4 +83,36 @@ impl RecordHeader {
         self.len = B::read_u32(&text[12..]);
         Ok(())
     }
+}
+
+/// The packet of the record that a text begins with, whose bytes it lends; `None` exactly if the text is empty. The record takes
+/// [`RECORD_HEADER_LEN`] bytes and then those that were captured.
+///
+/// `place` counts the record in its savefile, from 0. The error is [`Fault::TornRecord`], [`Fault::BadFraction`] or
+/// [`Fault::TooLong`] with this place, as [`Reader::advance`](crate::Reader::advance) names it. No memory is taken.
+#[inline]
+pub fn record_of(header: Header, place: u64, text: &[u8]) -> Result<Option<PacketRef<'_>>, Fault>
+    ensures packet { IfOk result (λ next. IfSome next (λ p.
+        IsRecord header.order header.unit text.now p (drop (16 + length p.bytes) text.now))) }
+    ensures writable { IfOk result (λ next. IfSome next IsWritable) }
+    ensures end { IfOk result (λ next. IfNone next (text.now ≡ [])) }
+    ensures fault { IfErr result (λ fault. first_fault header.order header.unit place text.now ≡ Some fault) }
+{
+    if text.is_empty() {
+        return Ok(None);
+    }
+    let mut head = RecordHeader::EMPTY;
+    if let Err(fault) = head.read(header.order, header.unit, place, text) {
+        return Err(fault);
+    }
+    let size = RECORD_HEADER_LEN + head.captured as usize;
+    if text.len() < size {
+        return Err(Fault::TornRecord(place));
+    }
+    Ok(Some(PacketRef {
+        sec: head.sec,
+        nanos: head.nanos,
+        len: head.len,
+        bytes: &text[RECORD_HEADER_LEN..size],
+    }))
 }

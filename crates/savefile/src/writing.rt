@@ -1,12 +1,12 @@
 //! Writing a savefile, packet by packet.
 
-ghost use Rattle.std.specs.Prelude.{◌≡◌, ◌≢◌, ℕ, List, [], ◌∷◌, ◌++◌, Option, true, false, ◌+◌, ◌^◌, ◌<◌, ◌≤◌, ◌↔◌, ◌⊎◌, length, IfErr, OnOk, OnErr};
+ghost use Rattle.std.specs.Prelude.{◌≡◌, ◌≢◌, ℕ, List, [], ◌∷◌, ◌++◌, Option, true, false, ◌+◌, ◌/◌, ◌^◌, ◌<◌, ◌≤◌, ◌↔◌, ◌⊎◌, length, IfErr, OnOk, OnErr};
 ghost use Rattle.std.specs.Io.KnownBytes.{Keeps};
 ghost use Rattle.savefile.specs.declared.record.TheConstants.{MAX_SNAP};
 ghost use Rattle.savefile.specs.declared.packet.Packet.{Packet};
 ghost use Rattle.savefile.specs.Device.{CountsFailure};
 ghost use Rattle.savefile.specs.Filling.{Fills};
-ghost use Rattle.savefile.specs.Savefile.{bytes_in, header_text, packet, record_header_text};
+ghost use Rattle.savefile.specs.Savefile.{bytes_in, header_text, nanos_in, packet, record_header_text};
 ghost use Rattle.savefile.specs.Sending.{Sends, SendsPart};
 ghost use Rattle.savefile.specs.Writer.{HasWritten, HasWrittenPart};
 
@@ -48,7 +48,8 @@ fn file_header_in<B: ByteOrder>(unit: Unit, snap: u32) -> [u8; HEADER_LEN]
     text
 }
 
-fn file_header(order: Order, unit: Unit, snap: u32) -> [u8; HEADER_LEN]
+/// The header of a savefile as [`Writer::open`] writes it, for callers that gather a savefile in their own memory.
+pub fn file_header(order: Order, unit: Unit, snap: u32) -> [u8; HEADER_LEN]
     ensures { result ≡ header_text order unit snap }
 {
     match order {
@@ -74,15 +75,20 @@ fn record_header_in<B: ByteOrder>(
     text
 }
 
-fn record_header(
+/// The header of a record as [`Writer::put`] writes it before the `captured` bytes of a packet. With microseconds the nanoseconds are
+/// divided by 1,000 and the rest is dropped.
+#[inline]
+pub fn record_header(
     order: Order,
+    unit: Unit,
     sec: u32,
-    fraction: u32,
+    nanos: u32,
     captured: u32,
     len: u32,
 ) -> [u8; RECORD_HEADER_LEN]
-    ensures { result ≡ record_header_text order sec fraction captured len }
+    ensures { result ≡ record_header_text order sec (nanos / nanos_in unit) captured len }
 {
+    let fraction = nanos / unit.nanos();
     match order {
         Order::Little => record_header_in::<LittleEndian>(sec, fraction, captured, len),
         Order::Big => record_header_in::<BigEndian>(sec, fraction, captured, len),
@@ -249,8 +255,8 @@ impl<W: Sink> Writer<W> {
         if u64::MAX - self.sent < (RECORD_HEADER_LEN + bytes.len()) as u64 {
             return Err(Fault::CountFull);
         }
-        let fraction = nanos / self.unit.nanos();
-        let header = record_header(self.order, sec, fraction, bytes.len() as u32, len);
+        let captured = bytes.len() as u32;
+        let header = record_header(self.order, self.unit, sec, nanos, captured, len);
         self.send_both(&header, bytes)
     }
 

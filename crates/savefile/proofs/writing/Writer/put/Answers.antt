@@ -10,7 +10,7 @@ returns-clause-ok g c =
     let w = c.self.inside in
     let old = writing w.sink w.order w.unit w.sent w.failed in
     let p = packet c.args.sec c.args.nanos c.args.len c.args.bytes.now in
-    let e : c.record_header-header.result ++ c.args.bytes.now ≡ record_text w.order w.unit p = rw (c.record_header-header.ensures, c.nanos.ensures) refl in
+    let e : c.record_header-header.result ++ c.args.bytes.now ≡ record_text w.order w.unit p = rw c.record_header-header.ensures refl in
     rw (← c.self.view_is) (λ start order unit snap packets h.
     on_ok c.send_both.result _ _ (λ s. writes_packet g.W.Sink.taken start order unit snap packets p old c.send_both.new.self h s.0 s.1) (rw (e, ← c.self.view_is) at c.send_both.ensures.ok))
 
@@ -20,7 +20,7 @@ returns-clause-broke_off g c =
     let w = c.self.inside in
     let old = writing w.sink w.order w.unit w.sent w.failed in
     let p = packet c.args.sec c.args.nanos c.args.len c.args.bytes.now in
-    let e : c.record_header-header.result ++ c.args.bytes.now ≡ record_text w.order w.unit p = rw (c.record_header-header.ensures, c.nanos.ensures) refl in
+    let e : c.record_header-header.result ++ c.args.bytes.now ≡ record_text w.order w.unit p = rw c.record_header-header.ensures refl in
     rw (← c.self.view_is) (λ start order unit snap packets h is.
     let s = at_err c.send_both.result _ _ is (rw (e, ← c.self.view_is) at c.send_both.ensures.err) in
     breaks_off g.W.Sink.taken start order unit snap packets p old c.send_both.new.self h s)
