@@ -1,0 +1,53 @@
+#!/usr/bin/env python3
+"""Measures the library for C beside libpcap, and the batches of the Python package.
+
+  bench/library.py        nanoseconds a packet, of 10 million of 100 bytes: libpcap's program by bpf_filter, and ours by it and by each call
+                          of the library; bpftap_next beside a plain loop in C; then run_each of Python on 100,000 packets
+
+It builds the library first (`./build bpftap_c`), and needs gcc and libpcap's header; without these only Python is measured.
+"""
+import pathlib
+import shutil
+import subprocess
+import sys
+import tempfile
+import time
+
+ROOT = pathlib.Path(__file__).resolve().parent.parent
+
+PORTS = [20, 21, 22, 23, 25, 53, 67, 68, 69, 80, 110, 111, 123, 135, 137, 138, 139, 143, 161, 389, 443, 445, 465, 514, 587, 636, 993, 995, 1433, 3306]
+EXPRESSIONS = ["tcp port 80", "host 10.0.0.1 or host 10.0.0.2", " or ".join(f"port {port}" for port in PORTS)]
+
+
+def measure_c():
+    with tempfile.TemporaryDirectory() as folder:
+        program = pathlib.Path(folder) / "library"
+        words = ["gcc", "-O2", f"-I{ROOT / 'include'}", ROOT / "bench" / "library" / "library.c", ROOT / "out" / "lib" / "libbpftap.a", "-lpcap", "-o", program]
+        if not shutil.which("gcc") or subprocess.run(words).returncode:
+            print("gcc or libpcap is not there: C is not measured")
+            return
+        for expression in EXPRESSIONS:
+            subprocess.run([program, expression], check=True)
+
+
+def measure_python():
+    sys.path.insert(0, str(ROOT / "bindings" / "python"))
+    import bpftap
+
+    packets = [bytes(12) + b"\x08\x00\x45" + bytes(8) + bytes([6 if n % 2 else 17]) + bytes(76) for n in range(100_000)]
+    tcp = bpftap.Filter("tcp port 80")
+    memory = b"".join(packets)
+    spans = (bpftap._library.Span * len(packets))(*[(100 * n, 100, 100) for n in range(len(packets))])
+    for what, call in (("run_each", lambda: tcp.run_each(packets)), ("run_spans", lambda: tcp.run_spans(memory, spans))):
+        best = 1e9
+        for _ in range(20):
+            began = time.process_time()
+            call()
+            best = min(best, time.process_time() - began)
+        print(f"  Python, {what:28} {best * 1e9 / len(packets):7.2f}")
+
+
+if __name__ == "__main__":
+    subprocess.run([ROOT / "build", "bpftap_c"], check=True)
+    measure_c()
+    measure_python()

@@ -1,0 +1,142 @@
+/* What a packet costs by the library, beside libpcap's program by bpf_filter in the same process.
+ *
+ *     library EXPRESSION
+ *
+ * 10 million packets of 100 bytes, 1,024 different ones; best of three; nanoseconds of processor time for a packet. */
+#include <pcap/pcap.h>
+#define BPFTAP_INSN struct bpf_insn
+#include <bpftap.h>
+#include <stdio.h>
+#include <stdlib.h>
+#include <string.h>
+#include <time.h>
+
+enum { PACKETS = 10000000, KINDS = 1024, SIZE = 100, ROUNDS = PACKETS / KINDS };
+
+static uint8_t memory[KINDS * SIZE], *capture;
+static struct bpftap_span spans[KINDS];
+static struct bpftap_packet packets[KINDS];
+static uint32_t answers[KINDS];
+static struct bpf_insn ours[BPFTAP_MAX_INSNS];
+static struct bpf_program theirs;
+static struct bpftap_program *program;
+static size_t size, capture_size;
+static volatile uint64_t sum;
+
+static double now(void) {
+    struct timespec time;
+    clock_gettime(CLOCK_PROCESS_CPUTIME_ID, &time);
+    return (double)time.tv_sec + (double)time.tv_nsec * 1e-9;
+}
+
+/* IPv4 frames: three of four are TCP, a half of these from or to port 80. */
+static void make_packets(void) {
+    srand(1);
+    for (int i = 0; i < KINDS; i++) {
+        uint8_t *packet = memory + i * SIZE;
+        for (int k = 0; k < SIZE; k++) packet[k] = (uint8_t)rand();
+        packet[12] = 8, packet[13] = 0, packet[14] = 0x45, packet[20] = 0x40, packet[21] = 0;
+        int kind = rand() % 4;
+        packet[23] = kind == 3 ? 17 : 6;
+        if (kind == 0) packet[36] = 0, packet[37] = 80;
+        if (kind == 1) packet[34] = 0, packet[35] = 80;
+        packets[i] = (struct bpftap_packet){packet, SIZE, SIZE};
+        spans[i] = (struct bpftap_span){(uint64_t)i * SIZE, SIZE, SIZE};
+    }
+}
+
+/* The same packets as a capture of a hundred rounds. */
+static void make_capture(void) {
+    capture = malloc(24 + 100 * KINDS * (SIZE + 16));
+    capture_size = bpftap_put_header(0, 0, 262144, capture, 24).size;
+    for (int i = 0; i < 100 * KINDS; i++) {
+        struct bpftap_record record = {.seconds = (uint32_t)i, .wire = SIZE};
+        capture_size += bpftap_put(0, 0, &record, memory + i % KINDS * SIZE, SIZE, capture + capture_size, SIZE + 16).size;
+    }
+}
+
+static void libpcap(const struct bpf_insn *insns) {
+    for (int i = 0; i < PACKETS; i++) sum += bpf_filter(insns, memory + i % KINDS * SIZE, SIZE, SIZE);
+}
+
+static void by_libpcap(void) { libpcap(theirs.bf_insns); }
+
+static void ours_by_libpcap(void) { libpcap(ours); }
+
+static void by_run(void) {
+    for (int i = 0; i < PACKETS; i++) sum += bpftap_program_run(program, memory + i % KINDS * SIZE, SIZE, SIZE);
+}
+
+static void by_each(void) {
+    for (int i = 0; i < ROUNDS; i++) sum += bpftap_run_each(ours, size, packets, KINDS, answers, KINDS).size + answers[i % KINDS];
+}
+
+static void by_spans(void) {
+    for (int i = 0; i < ROUNDS; i++)
+        sum += bpftap_run_spans(ours, size, memory, sizeof memory, spans, KINDS, answers, KINDS).size + answers[i % KINDS];
+}
+
+static void by_next(void) {
+    for (int i = 0; i < ROUNDS / 100; i++) {
+        struct bpftap_reader reader = bpftap_open(capture, capture_size);
+        struct bpftap_record record;
+        while ((record = bpftap_next(capture, capture_size, &reader)).fault == BPFTAP_OK) sum += capture[record.offset] + record.wire;
+    }
+}
+
+static uint32_t word(const uint8_t *at) {
+    uint32_t number;
+    memcpy(&number, at, 4);
+    return number;
+}
+
+/* A plain loop over the same capture that makes the same tests. */
+static void by_plain_loop(void) {
+    for (int i = 0; i < ROUNDS / 100; i++) {
+        size_t at = 24;
+        while (capture_size - at >= 16) {
+            uint32_t captured = word(capture + at + 8);
+            if (word(capture + at + 4) >= 1000000 || captured > 262144 || capture_size - at - 16 < captured) break;
+            sum += capture[at + 16] + word(capture + at + 12);
+            at += 16 + captured;
+        }
+    }
+}
+
+static void measure(const char *what, void (*run)(void)) {
+    double best = 1e9;
+    for (int i = 0; i < 3; i++) {
+        double began = now();
+        run();
+        if (now() - began < best) best = now() - began;
+    }
+    printf("  %-36s %7.2f\n", what, best * 1e9 / PACKETS);
+}
+
+int main(int argc, char **argv) {
+    if (argc != 2) return 2;
+    make_packets();
+    make_capture();
+    struct bpftap_result made = bpftap_compile(argv[1], strlen(argv[1]), 262144, ours, BPFTAP_MAX_INSNS);
+    if (made.fault) return 3;
+    size = made.size;
+    program = malloc(bpftap_program_size());
+    if (bpftap_program_init(program, ours, size)) return 3;
+    pcap_t *dead = pcap_open_dead(DLT_EN10MB, 262144);
+    if (pcap_compile(dead, &theirs, argv[1], 1, PCAP_NETMASK_UNKNOWN)) return 3;
+    if (!bpf_validate(ours, (int)size)) return 4;
+    for (int i = 0; i < KINDS; i++) {
+        uint32_t answer = bpf_filter(theirs.bf_insns, memory + i * SIZE, SIZE, SIZE);
+        if (answer != bpf_filter(ours, memory + i * SIZE, SIZE, SIZE)) return 5;
+        if (answer != bpftap_program_run(program, memory + i * SIZE, SIZE, SIZE)) return 5;
+    }
+    printf("%.60s: %zu instructions, libpcap's %u\n", argv[1], size, theirs.bf_len);
+    measure("libpcap's program, bpf_filter", by_libpcap);
+    measure("our program, bpf_filter", ours_by_libpcap);
+    measure("our program, bpftap_program_run", by_run);
+    measure("our program, bpftap_run_each", by_each);
+    measure("our program, bpftap_run_spans", by_spans);
+    measure("bpftap_next", by_next);
+    measure("a plain loop over records", by_plain_loop);
+    return 0;
+}

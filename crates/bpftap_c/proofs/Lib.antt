@@ -1,0 +1,5 @@
+pub mod EndedText
+pub mod FoundCut
+pub mod Prepared
+pub mod Rejecting
+pub mod UnreadText

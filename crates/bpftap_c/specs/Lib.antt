@@ -1,0 +1,11 @@
+pub mod Outcome
+pub mod Memory
+pub mod Insns
+pub mod Filters
+pub mod Listings
+pub mod Batches
+pub mod Programs
+pub mod Reasons
+pub mod Texts
+pub mod Captures
+pub mod Cuts

@@ -1,0 +1,102 @@
+//! Many packets in one call.
+
+ghost use Rattle.std.specs.Prelude.{◌≡◌, length, map};
+ghost use Rattle.bpftap_c.specs.Batches.{packet_in, answer_in, answer_to, Answers};
+ghost use Rattle.bpftap_c.specs.Insns.{insns_of};
+
+use crate::insns::{BpftapInsn, program_of};
+use crate::outcome::{BpftapResult, Failure, done, failed};
+use bpfvm::{Program, run};
+
+/// A packet: its captured bytes, and its length on the wire. In C a pointer, a length and a number.
+#[repr(C)]
+#[derive(Clone, Copy)]
+pub struct BpftapPacket<'a> {
+    pub bytes: &'a [u8],
+    pub wire: u32,
+}
+
+/// Where a packet lies in a memory: `captured` bytes from `offset` on; and its length on the wire.
+#[repr(C)]
+#[derive(Clone, Copy, Debug)]
+pub struct BpftapSpan {
+    pub offset: u64,
+    pub captured: u32,
+    pub wire: u32,
+}
+
+/// The bytes of a packet; what would lie past the memory is not captured.
+#[inline]
+fn packet_in<'a>(memory: &'a [u8], span: &BpftapSpan) -> &'a [u8]
+    ensures { result.now ≡ packet_in memory.now span.now }
+{
+    let offset = span.offset.min(memory.len() as u64) as usize;
+    let rest = &memory[offset..];
+    let captured = (span.captured as usize).min(rest.len());
+    &rest[..captured]
+}
+
+/// Fills an array with what a program answers to each of some packets.
+fn fill_answers(program: &Program, packets: &[BpftapPacket<'_>], answers: &mut [u32])
+    requires { length answers.old ≡ length packets.now }
+    ensures { answers.new ≡ map (answer_to program.now) packets.now }
+{
+    for place in 0..packets.len() {
+        let packet = packets[place];
+        answers[place] = run(program, packet.bytes, packet.wire);
+    }
+}
+
+/// Fills an array with what a program answers to each packet of a memory.
+fn fill_answers_in(program: &Program, memory: &[u8], spans: &[BpftapSpan], answers: &mut [u32])
+    requires { length answers.old ≡ length spans.now }
+    ensures { answers.new ≡ map (answer_in program.now memory.now) spans.now }
+{
+    for place in 0..spans.len() {
+        let span = &spans[place];
+        answers[place] = run(program, packet_in(memory, span), span.wire);
+    }
+}
+
+/// Validates instructions once, and puts what they answer to each packet into the front of the caller's array.
+#[unsafe(no_mangle)]
+pub extern "C" fn bpftap_run_each(
+    insns: &[BpftapInsn],
+    packets: &[BpftapPacket<'_>],
+    answers: &mut [u32],
+) -> BpftapResult
+    ensures { Answers (insns_of insns.now) (map (answer_to (insns_of insns.now)) packets.now) answers.old answers.new result }
+{
+    let program = match program_of(insns) {
+        Ok(program) => program,
+        Err(fault) => return failed(Failure::Program(fault)),
+    };
+    let size = packets.len();
+    if answers.len() < size {
+        return failed(Failure::NoRoom(size));
+    }
+    fill_answers(&program, packets, &mut answers[..size]);
+    done(size)
+}
+
+/// Validates instructions once, and puts what they answer to each packet of a memory into the front of the caller's array.
+#[unsafe(no_mangle)]
+pub extern "C" fn bpftap_run_spans(
+    insns: &[BpftapInsn],
+    memory: &[u8],
+    spans: &[BpftapSpan],
+    answers: &mut [u32],
+) -> BpftapResult
+    ensures { Answers (insns_of insns.now) (map (answer_in (insns_of insns.now) memory.now) spans.now) answers.old answers.new result }
+{
+    let program = match program_of(insns) {
+        Ok(program) => program,
+        Err(fault) => return failed(Failure::Program(fault)),
+    };
+    let size = spans.len();
+    if answers.len() < size {
+        return failed(Failure::NoRoom(size));
+    }
+    fill_answers_in(&program, memory, spans, &mut answers[..size]);
+    done(size)
+}

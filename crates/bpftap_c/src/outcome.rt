@@ -1,0 +1,236 @@
+//! What a call returns: 0 or the number of a fault, a size and a place.
+
+ghost use Rattle.std.specs.Prelude.{◌≡◌};
+ghost use Rattle.bpftap_c.specs.Outcome.{invalid_code, invalid_place, listing_code, listing_place, text_code, text_place, tree_code, capture_code, capture_place, code_of, place_of, size_of, done, failed};
+
+use bpfvm::{Invalid, ListingFault};
+use filtergen::{ExpressionFault, Refusal};
+
+/// What most calls return.
+#[repr(C)]
+#[derive(Clone, Copy, Debug, PartialEq, Eq)]
+pub struct BpftapResult {
+    /// 0, or the number of a fault.
+    pub fault: u32,
+    /// How many items the call put into the caller's memory, or how many there are, if they found no room.
+    pub size: usize,
+    /// Where the fault is.
+    pub place: usize,
+}
+
+/// Why a call did not do what it was asked.
+#[derive(Clone, Copy, Debug, PartialEq, Eq)]
+pub enum Failure {
+    /// Memory was refused.
+    NoMemory,
+    /// The caller's memory has no room for this many items.
+    NoRoom(usize),
+    /// From this byte on the text is not UTF-8.
+    NotText(usize),
+    /// The instructions are no program.
+    Program(Invalid),
+    /// The text is not the listing of a program.
+    Listing(ListingFault),
+    /// The text is not an expression, or has no program.
+    Expression(ExpressionFault),
+    /// The bytes are not a capture, or not a further record of one.
+    Capture(savefile::Fault),
+}
+
+fn invalid_code(fault: Invalid) -> u32
+    ensures { result ≡ invalid_code fault }
+{
+    match fault {
+        Invalid::Empty => 16,
+        Invalid::TooMany => 17,
+        Invalid::UnknownCode(_) => 18,
+        Invalid::JumpOut(_) => 19,
+        Invalid::Cell(_) => 20,
+        Invalid::ZeroDivisor(_) => 21,
+        Invalid::NoReturn => 22,
+    }
+}
+
+fn invalid_place(fault: Invalid) -> usize
+    ensures { result ≡ invalid_place fault }
+{
+    match fault {
+        Invalid::Empty | Invalid::TooMany | Invalid::NoReturn => 0,
+        Invalid::UnknownCode(place) => place,
+        Invalid::JumpOut(place) => place,
+        Invalid::Cell(place) => place,
+        Invalid::ZeroDivisor(place) => place,
+    }
+}
+
+fn listing_code(fault: ListingFault) -> u32
+    ensures { result ≡ listing_code fault }
+{
+    match fault {
+        ListingFault::BadLine(_) => 24,
+        ListingFault::Count => 25,
+        ListingFault::Program(invalid) => invalid_code(invalid),
+    }
+}
+
+fn listing_place(fault: ListingFault) -> usize
+    ensures { result ≡ listing_place fault }
+{
+    match fault {
+        ListingFault::BadLine(line) => line,
+        ListingFault::Count => 0,
+        ListingFault::Program(invalid) => invalid_place(invalid),
+    }
+}
+
+fn text_code(fault: filterlang::Fault) -> u32
+    ensures { result ≡ text_code fault }
+{
+    match fault {
+        filterlang::Fault::NoMemory => 1,
+        filterlang::Fault::TextTooLong => 32,
+        filterlang::Fault::BadByte(_) => 33,
+        filterlang::Fault::BadWord(_) => 34,
+        filterlang::Fault::BadNumber(_) => 35,
+        filterlang::Fault::Syntax(_) => 36,
+        filterlang::Fault::NoQualifier(_) => 37,
+        filterlang::Fault::BadQualifier(_) => 38,
+        filterlang::Fault::BadIdentifier(_) => 39,
+        filterlang::Fault::NetBits(_) => 40,
+        filterlang::Fault::OutOfRange(_) => 41,
+        filterlang::Fault::DivideByZero(_) => 42,
+        filterlang::Fault::TooNested(_) => 43,
+    }
+}
+
+fn text_place(fault: filterlang::Fault) -> usize
+    ensures { result ≡ text_place fault }
+{
+    match fault {
+        filterlang::Fault::NoMemory | filterlang::Fault::TextTooLong => 0,
+        filterlang::Fault::BadByte(place) => place,
+        filterlang::Fault::BadWord(place) => place,
+        filterlang::Fault::BadNumber(place) => place,
+        filterlang::Fault::Syntax(place) => place,
+        filterlang::Fault::NoQualifier(place) => place,
+        filterlang::Fault::BadQualifier(place) => place,
+        filterlang::Fault::BadIdentifier(place) => place,
+        filterlang::Fault::NetBits(place) => place,
+        filterlang::Fault::OutOfRange(place) => place,
+        filterlang::Fault::DivideByZero(place) => place,
+        filterlang::Fault::TooNested(place) => place,
+    }
+}
+
+fn tree_code(refusal: Refusal) -> u32
+    ensures { result ≡ tree_code refusal }
+{
+    match refusal {
+        Refusal::NoMemory => 1,
+        Refusal::TooLong => 48,
+        Refusal::TooDeep => 49,
+        Refusal::BadSnap => 50,
+    }
+}
+
+fn capture_code(fault: savefile::Fault) -> u32
+    ensures { result ≡ capture_code fault }
+{
+    match fault {
+        savefile::Fault::NoMemory => 1,
+        savefile::Fault::ShortHeader => 64,
+        savefile::Fault::NotSavefile => 65,
+        savefile::Fault::Version => 66,
+        savefile::Fault::LinkType => 67,
+        savefile::Fault::TornRecord(_) => 68,
+        savefile::Fault::BadFraction(_) => 69,
+        savefile::Fault::TooLong(_) => 70,
+        savefile::Fault::Device => 71,
+        savefile::Fault::Failed => 72,
+        savefile::Fault::CountFull => 73,
+    }
+}
+
+fn capture_place(fault: savefile::Fault) -> usize
+    ensures { result ≡ capture_place fault }
+{
+    match fault {
+        savefile::Fault::TornRecord(place) => place as usize,
+        savefile::Fault::BadFraction(place) => place as usize,
+        savefile::Fault::TooLong(place) => place as usize,
+        savefile::Fault::ShortHeader
+        | savefile::Fault::NotSavefile
+        | savefile::Fault::Version
+        | savefile::Fault::LinkType
+        | savefile::Fault::NoMemory
+        | savefile::Fault::Device
+        | savefile::Fault::Failed
+        | savefile::Fault::CountFull => 0,
+    }
+}
+
+/// The number of a fault, which stays from version to version.
+pub(crate) fn code_of(failure: Failure) -> u32
+    ensures { result ≡ code_of failure }
+{
+    match failure {
+        Failure::NoMemory => 1,
+        Failure::NoRoom(_) => 2,
+        Failure::NotText(_) => 3,
+        Failure::Program(fault) => invalid_code(fault),
+        Failure::Listing(fault) => listing_code(fault),
+        Failure::Expression(ExpressionFault::Text(fault)) => text_code(fault),
+        Failure::Expression(ExpressionFault::Tree(refusal)) => tree_code(refusal),
+        Failure::Capture(fault) => capture_code(fault),
+    }
+}
+
+fn place_of(failure: Failure) -> usize
+    ensures { result ≡ place_of failure }
+{
+    match failure {
+        Failure::NoMemory | Failure::NoRoom(_) => 0,
+        Failure::NotText(place) => place,
+        Failure::Program(fault) => invalid_place(fault),
+        Failure::Listing(fault) => listing_place(fault),
+        Failure::Expression(ExpressionFault::Text(fault)) => text_place(fault),
+        Failure::Expression(ExpressionFault::Tree(_)) => 0,
+        Failure::Capture(fault) => capture_place(fault),
+    }
+}
+
+fn size_of(failure: Failure) -> usize
+    ensures { result ≡ size_of failure }
+{
+    match failure {
+        Failure::NoRoom(size) => size,
+        Failure::NoMemory
+        | Failure::NotText(_)
+        | Failure::Program(_)
+        | Failure::Listing(_)
+        | Failure::Expression(_)
+        | Failure::Capture(_) => 0,
+    }
+}
+
+/// The result of a call that put this many items.
+pub(crate) fn done(size: usize) -> BpftapResult
+    ensures { result ≡ done size }
+{
+    BpftapResult {
+        fault: 0,
+        size,
+        place: 0,
+    }
+}
+
+/// The result of a call that failed.
+pub(crate) fn failed(failure: Failure) -> BpftapResult
+    ensures { result ≡ failed failure }
+{
+    BpftapResult {
+        fault: code_of(failure),
+        size: size_of(failure),
+        place: place_of(failure),
+    }
+}

@@ -1,0 +1,97 @@
+//! A program that is kept in the caller's memory.
+
+ghost use Rattle.std.specs.Prelude.{◌≡◌, List};
+ghost use Rattle.std.specs.Borrow.{full_share, sem};
+ghost use Rattle.std.specs.Ptr.{lies_at, room_at};
+ghost use Rattle.bpfvm.specs.declared.insn.Insn.{Insn};
+ghost use Rattle.bpfvm.specs.Machine.{verdict};
+ghost use Rattle.bpfvm.specs.Validity.{IsValidProgram, IsRefusedAs};
+ghost use Rattle.bpfvm.specs.contracts.program.Program.{the_row};
+ghost use Rattle.bpftap_c.specs.Insns.{insns_of};
+ghost use Rattle.bpftap_c.specs.Programs.{reject_all, IsPrepared, Prepares, HasFault};
+
+use crate::insns::{BpftapInsn, program_of};
+use crate::outcome::{Failure, code_of};
+use bpfvm::{Insn, Program, code, run};
+
+/// What C sees of a program: nothing.
+#[repr(C)]
+#[derive(Drop)]
+pub struct BpftapProgram {
+    hidden: u8,
+}
+
+/// How many bytes a program takes.
+#[unsafe(no_mangle)]
+pub extern "C" fn bpftap_program_size() -> usize {
+    std::mem::size_of::<Program>()
+}
+
+/// The program that rejects every packet.
+fn reject_all() -> Program
+    ensures { result ≡ reject_all }
+{
+    Program::new(&[Insn {
+        code: code::RET_K,
+        jt: 0,
+        jf: 0,
+        k: 0,
+    }])
+    .unwrap()
+}
+
+/// The program that instructions are, or the one that rejects every packet.
+fn prepared(insns: &[BpftapInsn]) -> Program
+    ensures { IsPrepared (insns_of insns.now) result }
+{
+    match program_of(insns) {
+        Ok(program) => program,
+        Err(_) => reject_all(),
+    }
+}
+
+/// 0, or the number of what is wrong with instructions.
+fn fault_in(insns: &[BpftapInsn]) -> u32
+    ensures { HasFault (insns_of insns.now) result }
+{
+    match program_of(insns) {
+        Ok(_) => 0,
+        Err(fault) => code_of(Failure::Program(fault)),
+    }
+}
+
+/// Puts the program that instructions are into the caller's memory, of `bpftap_program_size` bytes, and returns 0; or the number of what
+/// is wrong with them, and then the program in the memory rejects every packet.
+#[unsafe(no_mangle)]
+pub unsafe extern "C" fn bpftap_program_init(at: *mut BpftapProgram, insns: &[BpftapInsn]) -> u32
+    requires* { sem 𝓛 (room_at the_row at) }
+    ensures* { ∃ₛ (λ (program : List Insn). sem 𝓛 (lies_at the_row full_share at program)
+        ∗ ⌜ Prepares (insns_of insns.now) program result ⌝) }
+{
+    let to = at as *mut Program;
+    let fault = fault_in(insns);
+    to.write(prepared(insns));
+    fault
+}
+
+/// What a program answers to a packet.
+fn answer(program: &Program, packet: &[u8], wire: u32) -> u32
+    ensures { result ≡ verdict program.now packet.now wire }
+{
+    run(program, packet, wire)
+}
+
+/// What the program in the caller's memory answers to a packet.
+#[unsafe(no_mangle)]
+pub unsafe extern "C" fn bpftap_program_run(
+    program: *const BpftapProgram,
+    packet: &[u8],
+    wire: u32,
+) -> u32
+    ghost insns: { List Insn }
+    requires* { sem 𝓛 (lies_at the_row full_share program insns) }
+    ensures* { sem 𝓛 (lies_at the_row full_share program insns) ∗ ⌜ result ≡ verdict insns packet.now wire ⌝ }
+{
+    let at = program as *const Program;
+    answer(&*at, packet, wire)
+}

@@ -1,0 +1,154 @@
+//! Texts for people: expressions, faults and the version.
+
+ghost use Rattle.std.specs.Prelude.{◌≡◌, IfErr, IfOk, Result, List, ℕ};
+ghost use Rattle.bpftap_c.specs.declared.outcome.Failure.{Failure};
+ghost use Rattle.bpftap_c.specs.Memory.{DeliversText, PutsText};
+ghost use Rattle.bpftap_c.specs.Texts.{IsPrinted, MayLackMemory};
+
+use crate::filters::text_of;
+use crate::memory::put_text;
+use crate::outcome::{BpftapResult, Failure, failed};
+use filter_print::Canonical;
+use filtergen::ExpressionFault;
+use filterlang::parse;
+use std::alloc::{AllocError, Global};
+
+/// The canonical text of an expression, or why there is none.
+fn printed(alloc: Global, text: &[u8]) -> Result<String, Failure>
+    ensures ok { IfOk result (λ line. IsPrinted text.now (Result.Ok (Rattle.std.specs.Prelude.string_bytes line))) }
+    ensures err { IfErr result (λ failure. IsPrinted text.now (Result.Err failure)) }
+{
+    let text = match text_of(text) {
+        Ok(text) => text,
+        Err(failure) => return Err(failure),
+    };
+    let expr = match parse(alloc, text) {
+        Ok(expr) => expr,
+        Err(fault) => return Err(Failure::Expression(ExpressionFault::Text(fault))),
+    };
+    let mut line = String::new(alloc);
+    match write!(line, "{}", Canonical(&expr)) {
+        Ok(()) => Ok(line),
+        Err(_) => Err(Failure::NoMemory),
+    }
+}
+
+/// Writes the canonical text of an expression.
+#[unsafe(no_mangle)]
+pub extern "C" fn bpftap_print(alloc: Global, text: &[u8], to: &mut [u8]) -> BpftapResult
+    ensures { (made : Result (List ℕ) Failure) × IsPrinted text.now made × DeliversText made to.old to.new result }
+{
+    match printed(alloc, text) {
+        Ok(line) => put_text(line.as_bytes(), to),
+        Err(failure) => failed(failure),
+    }
+}
+
+/// The version of the library.
+const VERSION: &str = "0.1.0";
+
+/// Writes the version.
+#[unsafe(no_mangle)]
+pub extern "C" fn bpftap_version(to: &mut [u8]) -> BpftapResult
+    ensures { (text : List ℕ) × PutsText text to.old to.new result }
+{
+    put_text(VERSION.as_bytes(), to)
+}
+
+/// The name of a fault.
+fn fault_name(fault: u32) -> &'static str {
+    match fault {
+        0 => "Ok",
+        1 => "NoMemory",
+        2 => "NoRoom",
+        3 => "NotText",
+        4 => "End",
+        16..=22 => program_fault_name(fault),
+        24 => "BadLine",
+        25 => "Count",
+        32..=50 => expression_fault_name(fault),
+        64..=73 => capture_fault_name(fault),
+        _ => "Unknown",
+    }
+}
+
+fn program_fault_name(fault: u32) -> &'static str {
+    match fault {
+        16 => "Empty",
+        17 => "TooMany",
+        18 => "UnknownCode",
+        19 => "JumpOut",
+        20 => "Cell",
+        21 => "ZeroDivisor",
+        _ => "NoReturn",
+    }
+}
+
+fn expression_fault_name(fault: u32) -> &'static str {
+    match fault {
+        32 => "TextTooLong",
+        33 => "BadByte",
+        34 => "BadWord",
+        35 => "BadNumber",
+        36 => "Syntax",
+        37 => "NoQualifier",
+        38 => "BadQualifier",
+        39 => "BadIdentifier",
+        40 => "NetBits",
+        41 => "OutOfRange",
+        42 => "DivideByZero",
+        43 => "TooNested",
+        48 => "TooLong",
+        49 => "TooDeep",
+        50 => "BadSnap",
+        _ => "Unknown",
+    }
+}
+
+fn capture_fault_name(fault: u32) -> &'static str {
+    match fault {
+        64 => "ShortHeader",
+        65 => "NotSavefile",
+        66 => "Version",
+        67 => "LinkType",
+        68 => "TornRecord",
+        69 => "BadFraction",
+        70 => "TooLong",
+        71 => "Device",
+        72 => "Failed",
+        _ => "CountFull",
+    }
+}
+
+/// Whether a fault has a place.
+fn has_place(fault: u32) -> bool {
+    matches!(fault, 3 | 18..=21 | 24 | 33..=43 | 68..=70)
+}
+
+/// The line of a fault: its name, and its place where it has one.
+fn fault_line(alloc: Global, fault: u32, place: usize) -> Result<String, AllocError> {
+    let mut line = String::new(alloc);
+    let name = fault_name(fault);
+    if has_place(fault) {
+        write!(line, "{name} {place}")?;
+    } else {
+        write!(line, "{name}")?;
+    }
+    Ok(line)
+}
+
+/// Writes the name of a fault, and its place where it has one, as the program prints it.
+#[unsafe(no_mangle)]
+pub extern "C" fn bpftap_fault_text(
+    alloc: Global,
+    fault: u32,
+    place: usize,
+    to: &mut [u8],
+) -> BpftapResult
+    ensures { (made : Result (List ℕ) Failure) × MayLackMemory made × DeliversText made to.old to.new result }
+{
+    match fault_line(alloc, fault, place) {
+        Ok(line) => put_text(line.as_bytes(), to),
+        Err(_) => failed(Failure::NoMemory),
+    }
+}

@@ -1,0 +1,253 @@
+/* bpftap.h: the proved filter compiler, filter machine and capture cutter of bpftap, for C and C++.
+ *
+ *     cc tool.c $(pkg-config --cflags --libs bpftap)
+ *
+ * The library is for 64-bit Linux on x86-64 and needs the C library only.
+ *
+ * What every call has in common
+ *
+ *   - A text, a capture or an array is a pointer and the number of its items. A text need not end with a zero byte.
+ *   - What a call writes goes into memory of the caller. It takes that memory as a pointer and the number of items that it has room
+ *     for, and writes nothing past those. A call that fails writes nothing, but for bpftap_cut at a record that cannot be read.
+ *   - A text that a call writes is followed by a zero byte. `size` does not count that byte, but there has to be room for it.
+ *   - Nothing is kept between calls, and nothing that is allocated is handed out. There is no global state, and nothing is printed.
+ *     Calls may run at the same time in different threads.
+ *
+ * What the caller owes
+ *
+ *   - Each pointer is not NULL, aligned for its type, and valid for its whole number of items, even if that number is 0.
+ *   - Memory that a call writes does not overlap any other memory that the same call is given.
+ *   - Memory that a call reads has been initialised, and a program by bpftap_program_init, a reader by bpftap_open.
+ *   - `malloc`, `realloc` and `free` come from one allocator, and no call is made from a signal handler.
+ */
+#ifndef BPFTAP_H
+#define BPFTAP_H
+
+#include <stddef.h>
+#include <stdint.h>
+
+#ifdef __cplusplus
+extern "C" {
+#endif
+
+/* The numbers of faults. They stay from version to version. docs/FAULTS.md explains each of them. */
+enum bpftap_fault {
+    BPFTAP_OK = 0,
+    BPFTAP_NO_MEMORY = 1, /* malloc or realloc returned NULL */
+    BPFTAP_NO_ROOM = 2,   /* `size` items do not fit into the caller's memory */
+    BPFTAP_NOT_TEXT = 3,  /* the text is not UTF-8 from byte `place` on */
+    BPFTAP_END = 4,       /* bpftap_next: the capture has no further record */
+
+    /* The instructions are no program; `place` counts instructions from 0. */
+    BPFTAP_EMPTY = 16,        /* there is no instruction */
+    BPFTAP_TOO_MANY = 17,     /* there are more than BPFTAP_MAX_INSNS */
+    BPFTAP_UNKNOWN_CODE = 18, /* instruction `place` has a code that is not known */
+    BPFTAP_JUMP_OUT = 19,     /* instruction `place` jumps out of the program */
+    BPFTAP_CELL = 20,         /* instruction `place` names a cell beyond the 16 of scratch memory */
+    BPFTAP_ZERO_DIVISOR = 21, /* instruction `place` divides by the constant 0 */
+    BPFTAP_NO_RETURN = 22,    /* the last instruction is not a return */
+
+    /* The text is not a listing. */
+    BPFTAP_BAD_LINE = 24, /* line `place`, from 1, is not `code jt jf k`; line 1 is not a number */
+    BPFTAP_COUNT = 25,    /* the first line is not the number of the other lines */
+
+    /* The text is not a filter expression; `place` counts its bytes from 0. */
+    BPFTAP_TEXT_TOO_LONG = 32, /* it has more than 8,192 bytes */
+    BPFTAP_BAD_BYTE = 33,
+    BPFTAP_BAD_WORD = 34,
+    BPFTAP_BAD_NUMBER = 35,
+    BPFTAP_SYNTAX = 36,
+    BPFTAP_NO_QUALIFIER = 37,
+    BPFTAP_BAD_QUALIFIER = 38,
+    BPFTAP_BAD_IDENTIFIER = 39,
+    BPFTAP_NET_BITS = 40,
+    BPFTAP_OUT_OF_RANGE = 41,
+    BPFTAP_DIVIDE_BY_ZERO = 42,
+    BPFTAP_TOO_NESTED = 43,
+
+    /* The expression has no program. */
+    BPFTAP_TOO_LONG = 48, /* its program may not fit into BPFTAP_MAX_INSNS */
+    BPFTAP_TOO_DEEP = 49, /* a relation needs more than 16 words of scratch memory */
+    BPFTAP_BAD_SNAP = 50, /* the snapshot length is 0 or above BPFTAP_MAX_SNAP */
+
+    /* The bytes are not a capture; `place` counts records from 0. */
+    BPFTAP_SHORT_HEADER = 64,
+    BPFTAP_NOT_SAVEFILE = 65,
+    BPFTAP_VERSION = 66,
+    BPFTAP_LINK_TYPE = 67,
+    BPFTAP_TORN_RECORD = 68,     /* the memory ends inside record `place` */
+    BPFTAP_BAD_FRACTION = 69,    /* the fraction of a second of record `place` is a second or more */
+    BPFTAP_RECORD_TOO_LONG = 70, /* record `place` has more than BPFTAP_MAX_SNAP captured bytes */
+    BPFTAP_COUNT_FULL = 73       /* 2^64 - 1 records were read */
+};
+
+#define BPFTAP_MAX_INSNS 512   /* instructions of a program */
+#define BPFTAP_MAX_SNAP 262144 /* captured bytes of a packet */
+
+/* What most calls return. */
+struct bpftap_result {
+    uint32_t fault; /* BPFTAP_OK or a fault */
+    size_t size;    /* the number of items that were written; with BPFTAP_NO_ROOM, how many there are */
+    size_t place;   /* where the fault is, if it has a place; else 0 */
+};
+
+/* ---- Filters ---- */
+
+/* An instruction of the filter machine. The layout is that of `struct bpf_insn` (bpf(4), libpcap) and of `struct sock_filter` (Linux).
+ * A program that includes one of those headers may define BPFTAP_INSN as that struct before it includes this file, and then needs no
+ * cast:
+ *
+ *     #include <linux/filter.h>
+ *     #define BPFTAP_INSN struct sock_filter
+ *     #include <bpftap.h>
+ */
+#ifndef BPFTAP_INSN
+#define BPFTAP_INSN struct bpftap_insn
+struct bpftap_insn {
+    uint16_t code;
+    uint8_t jt, jf;
+    uint32_t k;
+};
+#endif
+
+/* Compiles a filter expression (docs/LANGUAGE.md) into `insns`. The program returns `snap` if the expression accepts the packet, and
+ * else 0. `snap` is from 1 to BPFTAP_MAX_SNAP. BPFTAP_MAX_INSNS instructions are always room enough.
+ * Faults: any of an expression, NO_ROOM, NOT_TEXT, NO_MEMORY. */
+struct bpftap_result bpftap_compile(const char *text, size_t text_size, uint32_t snap, BPFTAP_INSN *insns, size_t room);
+
+/* Says whether instructions are a program: `size` is their number then. Faults: those of instructions. */
+struct bpftap_result bpftap_check(const BPFTAP_INSN *insns, size_t size);
+
+/* Reads a listing, the form of `tcpdump -ddd`, into `insns`. Faults: BAD_LINE, COUNT, those of instructions, NO_ROOM. */
+struct bpftap_result bpftap_read_listing(const char *text, size_t text_size, BPFTAP_INSN *insns, size_t room);
+
+/* Writes the listing of a program, or its instructions by their names, as `tcpdump -d` prints them. 16 KiB are always room enough
+ * for a listing, 64 KiB for an image. Faults: those of instructions, NO_ROOM, NO_MEMORY. */
+struct bpftap_result bpftap_write_listing(const BPFTAP_INSN *insns, size_t size, char *to, size_t room);
+struct bpftap_result bpftap_image(const BPFTAP_INSN *insns, size_t size, char *to, size_t room);
+
+/* Writes a filter expression in its canonical form, which shows how it was read. Faults: any of an expression but TOO_LONG, TOO_DEEP and
+ * BAD_SNAP; NO_ROOM, NOT_TEXT, NO_MEMORY. */
+struct bpftap_result bpftap_print(const char *text, size_t text_size, char *to, size_t room);
+
+/* ---- Programs that are run ---- */
+
+/* A program in memory of the caller: bpftap_program_size() bytes, aligned as malloc aligns. It needs no clean-up.
+ *
+ * bpftap_program_init checks the instructions once and puts them there. If it returns a fault (those of instructions), the program
+ * in the memory rejects every packet. bpftap_program_run may be called after it, any number of times and by several threads at
+ * once, until the memory is used for something else. */
+struct bpftap_program;
+size_t bpftap_program_size(void);
+uint32_t bpftap_program_init(struct bpftap_program *program, const BPFTAP_INSN *insns, size_t size);
+
+/* What a program answers to a packet: how many of its bytes to keep, 0 if it rejects the packet. `wire` is the packet's length on the
+ * wire. A load past the captured bytes ends the program with 0. */
+uint32_t bpftap_program_run(const struct bpftap_program *program, const uint8_t *packet, size_t captured, uint32_t wire);
+
+/* A packet: its captured bytes and its length on the wire. */
+struct bpftap_packet {
+    const uint8_t *bytes;
+    size_t captured;
+    uint32_t wire;
+};
+
+/* A packet that lies in a memory: `captured` bytes from byte `offset` on. Bytes past the memory are not captured. */
+struct bpftap_span {
+    uint64_t offset;
+    uint32_t captured;
+    uint32_t wire;
+};
+
+/* Check instructions once, and put what they answer to each packet into `answers`. Faults: those of instructions, NO_ROOM. */
+struct bpftap_result bpftap_run_each(const BPFTAP_INSN *insns, size_t size, const struct bpftap_packet *packets, size_t count,
+                                     uint32_t *answers, size_t room);
+struct bpftap_result bpftap_run_spans(const BPFTAP_INSN *insns, size_t size, const uint8_t *memory, size_t memory_size,
+                                      const struct bpftap_span *spans, size_t count, uint32_t *answers, size_t room);
+
+/* ---- Why ---- */
+
+enum bpftap_verdict { BPFTAP_NO = 0, BPFTAP_YES = 1, BPFTAP_ABORT = 2 };
+
+struct bpftap_reason {
+    uint32_t fault;
+    uint32_t verdict; /* BPFTAP_NO with a fault other than BPFTAP_NO_ROOM */
+    size_t size;
+    size_t place;
+};
+
+/* Says what an expression answers to a packet, and writes the answer and the primitive or relation that decides: `No tcp port 80`.
+ * ABORT means that a byte past the captured ones was wanted, or that a divisor was 0; a filter rejects the packet then.
+ * Faults: those of bpftap_print. */
+struct bpftap_reason bpftap_why(const char *text, size_t text_size, const uint8_t *packet, size_t captured, uint32_t wire, char *to,
+                                size_t room);
+
+/* ---- Captures ---- */
+
+/* How far a capture in memory was read. The capture is a pcap file (pcap-savefile(5)) of Ethernet frames, in either byte order, with
+ * microseconds or nanoseconds. */
+struct bpftap_reader {
+    size_t offset;  /* where the next record begins in the memory */
+    uint64_t place; /* the number of records before it */
+    uint32_t fault; /* BPFTAP_OK, or why the header is refused */
+    uint32_t order; /* 0 little-endian, 1 big-endian */
+    uint32_t unit;  /* 0 microseconds, 1 nanoseconds */
+    uint32_t snap;  /* the snapshot length */
+};
+
+struct bpftap_record {
+    size_t offset;     /* where the captured bytes begin in the memory */
+    uint64_t place;    /* the number of records before this one */
+    uint32_t fault;    /* BPFTAP_OK, BPFTAP_END, or why the record cannot be read; the numbers below are 0 then */
+    uint32_t seconds;  /* since 1970 */
+    uint32_t nanos;    /* below 1,000,000,000 */
+    uint32_t captured; /* the number of captured bytes, at most BPFTAP_MAX_SNAP */
+    uint32_t wire;     /* the number of bytes on the wire */
+};
+
+/* Reads the header of a capture. Faults: SHORT_HEADER, NOT_SAVEFILE, VERSION, LINK_TYPE.
+ *
+ *     struct bpftap_reader reader = bpftap_open(memory, size);
+ *     struct bpftap_record record;
+ *     while ((record = bpftap_next(memory, size, &reader)).fault == BPFTAP_OK)
+ *         use(memory + record.offset, record.captured, record.wire);
+ *     if (record.fault != BPFTAP_END) complain(record.fault, record.place);
+ */
+struct bpftap_reader bpftap_open(const uint8_t *memory, size_t size);
+
+/* Reads the next record and moves the reader past it. If there is none, or it cannot be read, the reader stays where it is.
+ * Faults: END, TORN_RECORD, BAD_FRACTION, RECORD_TOO_LONG, COUNT_FULL.
+ *
+ * The memory may be a window of a longer capture: at TORN_RECORD, move the bytes from reader.offset on to its front, append further
+ * ones, set reader.offset to 0, and call again. */
+struct bpftap_record bpftap_next(const uint8_t *memory, size_t size, struct bpftap_reader *reader);
+
+/* Write the header of a capture, 24 bytes, and the record of a packet: 16 bytes and then `bytes`. The record has the time and the
+ * wire length of `packet`, whose other members are not used but for `place` as the place of a fault. With microseconds the
+ * nanoseconds are divided by 1,000 and the rest is dropped.
+ * Faults: NO_ROOM; of a record also RECORD_TOO_LONG (more than BPFTAP_MAX_SNAP bytes) and BAD_FRACTION (nanos is a second or more). */
+struct bpftap_result bpftap_put_header(uint32_t order, uint32_t unit, uint32_t snap, uint8_t *to, size_t room);
+struct bpftap_result bpftap_put(uint32_t order, uint32_t unit, const struct bpftap_record *packet, const uint8_t *bytes, size_t captured,
+                                uint8_t *to, size_t room);
+
+/* Writes the packets of a capture that a program accepts, each cut to the least of `snap`, the program's answer and its captured length,
+ * as a capture in the same byte order and unit of time. 0 for `snap` stands for BPFTAP_MAX_SNAP.
+ * If a record cannot be read (TORN_RECORD, BAD_FRACTION, RECORD_TOO_LONG), the packets before it are written, and `size` is that of what
+ * was written. Room for the whole capture is always room enough.
+ * Other faults: those of instructions and of bpftap_open, NO_ROOM, NO_MEMORY; nothing is written then. */
+struct bpftap_result bpftap_cut(const uint8_t *capture, size_t capture_size, const BPFTAP_INSN *insns, size_t size, uint32_t snap,
+                                uint8_t *to, size_t room);
+
+/* ---- Texts ---- */
+
+/* Writes a fault as the program prints it: its name, and its place if it has one, as `BadWord 4`. */
+struct bpftap_result bpftap_fault_text(uint32_t fault, size_t place, char *to, size_t room);
+
+/* Writes the version of the library, as `1.0.0`. */
+struct bpftap_result bpftap_version(char *to, size_t room);
+
+#ifdef __cplusplus
+}
+#endif
+
+#endif
