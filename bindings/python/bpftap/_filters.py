@@ -1,0 +1,168 @@
+"""Filters."""
+from __future__ import annotations
+
+import ctypes
+import enum
+from array import array
+from collections.abc import Iterable, Sequence
+from itertools import accumulate
+from typing import Any
+
+from ._errors import Fault, raise_fault
+from ._library import MAX_INSNS, MAX_SNAP, Insn, lib, text
+
+
+class FilterError(Fault):
+    """An expression, a listing or a program is refused."""
+
+
+class Verdict(enum.IntEnum):
+    """What an expression answers to a packet. `ABORT`: a byte past the captured ones was wanted, or a divisor was 0; the packet is
+    rejected then."""
+    NO = 0
+    YES = 1
+    ABORT = 2
+
+
+def _raised(result):
+    raise_fault(FilterError, result.fault, result.place)
+    return result
+
+
+def _wire(packet: bytes, wire: int | None) -> int:
+    return len(packet) if wire is None else wire
+
+
+# How many packets are handed over at once: what they take stays in the processor's cache.
+BATCH = 1024
+
+
+def _spans_of(packets: Sequence[bytes]) -> array[int]:
+    """Where packets lie that stand one after the other: of each an offset of 64 bits, and twice its length."""
+    sizes = array("I", map(len, packets))
+    spans = array("I", bytes(16 * len(sizes)))
+    # A batch is below 4 GiB: packets of 262,144 bytes at most, and the upper half of each offset is 0.
+    spans[0::4] = array("I", accumulate(sizes, initial=0))[:-1]
+    spans[2::4] = spans[3::4] = sizes
+    return spans
+
+
+class Filter:
+    """A filter: an expression as of pcap-filter(7), compiled.
+
+    `snap` is the most bytes of a packet that the filter keeps. `Filter.from_listing` takes a program in the form of `tcpdump -ddd`,
+    and `Filter.from_program` one as instructions.
+    """
+
+    def __init__(self, expression: str, snap: int = MAX_SNAP):
+        insns = (Insn * MAX_INSNS)()
+        code = expression.encode()
+        size = _raised(lib.bpftap_compile(code, len(code), snap, insns, MAX_INSNS)).size
+        self._keep(insns, size, expression)
+
+    @classmethod
+    def from_listing(cls, listing: str) -> Filter:
+        insns = (Insn * MAX_INSNS)()
+        code = listing.encode()
+        return cls._of(insns, _raised(lib.bpftap_read_listing(code, len(code), insns, MAX_INSNS)).size)
+
+    @classmethod
+    def from_program(cls, program: Iterable[Sequence[int]]) -> Filter:
+        """Of instructions, each `(code, jt, jf, k)`."""
+        rows = [tuple(insn) for insn in program]
+        insns = (Insn * max(1, len(rows)))(*rows)
+        _raised(lib.bpftap_check(insns, len(rows)))
+        return cls._of(insns, len(rows))
+
+    @classmethod
+    def _of(cls, insns, size):
+        made = cls.__new__(cls)
+        made._keep(insns, size, None)
+        return made
+
+    def _keep(self, insns, size, expression):
+        self.expression = expression
+        self._insns, self._size = insns, size
+        self._program = ctypes.create_string_buffer(lib.bpftap_program_size() + 16)
+        # A buffer of ctypes is aligned to 16 bytes already; the room beside it costs nothing and makes sure.
+        self._at = (ctypes.addressof(self._program) + 15) & ~15
+        raise_fault(FilterError, lib.bpftap_program_init(self._at, insns, size), 0)
+
+    def __repr__(self):
+        return f"Filter({self.expression!r})" if self.expression is not None else f"<Filter of {self._size} instructions>"
+
+    def run(self, packet: bytes, wire: int | None = None) -> int:
+        """How many bytes of a packet the filter keeps, 0 if it rejects it. `wire` is the packet's length on the wire, if that is
+        not the number of captured bytes."""
+        return lib.bpftap_program_run(self._at, packet, len(packet), _wire(packet, wire))
+
+    def matches(self, packet: bytes, wire: int | None = None) -> bool:
+        """Whether the filter accepts a packet."""
+        return self.run(packet, wire) != 0
+
+    def run_each(self, packets: Sequence[bytes]) -> array[int]:
+        """What the filter answers to each of many packets; each has all its bytes."""
+        answers = array("I")
+        for begin in range(0, len(packets), BATCH):
+            part = packets[begin : begin + BATCH]
+            answers += self.run_spans(b"".join(part), _spans_of(part))
+        return answers
+
+    def run_spans(self, memory: bytes, spans: Any) -> array[int]:
+        """What the filter answers to each packet of a memory. `spans` is a buffer with 16 bytes for each: where it begins (64 bits), and
+        how many of its bytes were captured and were on the wire (32 bits each)."""
+        where = bytes(spans)
+        count = len(where) // 16
+        answers = array("I", bytes(4 * count))
+        if count:
+            _raised(lib.bpftap_run_spans(self._insns, self._size, memory, len(memory), where, count, answers.buffer_info()[0], count))
+        return answers
+
+    def decide(self, packet: bytes, wire: int | None = None) -> tuple[Verdict, str]:
+        """What the expression answers to a packet, and the primitive or relation that decides."""
+        if self.expression is None:
+            raise TypeError("a program has no expression to explain")
+        code, verdict = self.expression.encode(), Verdict.NO
+
+        def call(to, room):
+            return lib.bpftap_why(code, len(code), packet, len(packet), _wire(packet, wire), to, room)
+
+        reason, line = text(call)
+        _raised(reason)
+        verdict = Verdict(reason.verdict)
+        return verdict, line.decode().partition(" ")[2]
+
+    def why(self, packet: bytes, wire: int | None = None) -> str:
+        """What the expression answers to a packet and what decides, as `No tcp port 80`."""
+        verdict, part = self.decide(packet, wire)
+        return f"{verdict.name.capitalize()} {part}"
+
+    @property
+    def program(self) -> list[tuple[int, int, int, int]]:
+        """The instructions, each `(code, jt, jf, k)`."""
+        return [(insn.code, insn.jt, insn.jf, insn.k) for insn in self._insns[: self._size]]
+
+    @property
+    def listing(self) -> str:
+        """The program in the form of `tcpdump -ddd`."""
+        return self._text(lib.bpftap_write_listing)
+
+    @property
+    def image(self) -> str:
+        """The program by the names of its instructions, as `tcpdump -d` prints it."""
+        return self._text(lib.bpftap_image)
+
+    def _text(self, call):
+        result, found = text(lambda to, room: call(self._insns, self._size, to, room))
+        _raised(result)
+        return found.decode()
+
+    @property
+    def canonical(self) -> str:
+        """The expression in its canonical form, which shows how it was read."""
+        if self.expression is None:
+            raise TypeError("a program has no expression to print")
+        code = self.expression.encode()
+        result, found = text(lambda to, room: lib.bpftap_print(code, len(code), to, room))
+        _raised(result)
+        return found.decode()

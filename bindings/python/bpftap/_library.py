@@ -1,0 +1,104 @@
+"""The C library through ctypes: its types, its functions, and where it is found."""
+import ctypes
+import ctypes.util
+import os
+import pathlib
+from ctypes import POINTER, c_char_p, c_size_t, c_uint8, c_uint16, c_uint32, c_uint64, c_void_p
+
+MAX_INSNS = 512
+MAX_SNAP = 262144
+
+OK, NO_MEMORY, NO_ROOM, END = 0, 1, 2, 4
+
+
+class Insn(ctypes.Structure):
+    """An instruction: `struct bpf_insn` of bpf(4), `struct sock_filter` of Linux."""
+    _fields_ = [("code", c_uint16), ("jt", c_uint8), ("jf", c_uint8), ("k", c_uint32)]
+
+
+class Result(ctypes.Structure):
+    _fields_ = [("fault", c_uint32), ("size", c_size_t), ("place", c_size_t)]
+
+
+class Reason(ctypes.Structure):
+    _fields_ = [("fault", c_uint32), ("verdict", c_uint32), ("size", c_size_t), ("place", c_size_t)]
+
+
+class Span(ctypes.Structure):
+    _fields_ = [("offset", c_uint64), ("captured", c_uint32), ("wire", c_uint32)]
+
+
+class Reader(ctypes.Structure):
+    _fields_ = [("offset", c_size_t), ("place", c_uint64), ("fault", c_uint32), ("order", c_uint32), ("unit", c_uint32),
+                ("snap", c_uint32)]
+
+
+class Record(ctypes.Structure):
+    _fields_ = [("offset", c_size_t), ("place", c_uint64), ("fault", c_uint32), ("seconds", c_uint32), ("nanos", c_uint32),
+                ("captured", c_uint32), ("wire", c_uint32)]
+
+
+def _candidates():
+    """Where the library may be: as BPFTAP_LIBRARY says, in the package, in the repository's out/lib, and where the system looks."""
+    named = os.environ.get("BPFTAP_LIBRARY")
+    if named:
+        yield named
+        return
+    here = pathlib.Path(__file__).resolve().parent
+    for path in (here / "libbpftap.so.1", here.parents[2] / "out" / "lib" / "libbpftap.so.1"):
+        if path.is_file():
+            yield str(path)
+    yield "libbpftap.so.1"
+
+
+def _load():
+    for path in _candidates():
+        try:
+            return ctypes.CDLL(path)
+        except OSError as error:
+            last = error
+    raise ImportError(f"the C library of bpftap cannot be loaded: {last}")
+
+
+lib = _load()
+
+_BYTES = [c_char_p, c_size_t]
+_ROOM = [c_void_p, c_size_t]
+_INSNS = [POINTER(Insn), c_size_t]
+
+# Each function: what it returns, and what it takes.
+_FUNCTIONS = {
+    "compile": (Result, [*_BYTES, c_uint32, *_INSNS]),
+    "check": (Result, _INSNS),
+    "read_listing": (Result, [*_BYTES, *_INSNS]),
+    "write_listing": (Result, [*_INSNS, *_ROOM]),
+    "image": (Result, [*_INSNS, *_ROOM]),
+    "print": (Result, [*_BYTES, *_ROOM]),
+    "program_size": (c_size_t, []),
+    "program_init": (c_uint32, [c_void_p, *_INSNS]),
+    "program_run": (c_uint32, [c_void_p, *_BYTES, c_uint32]),
+    "run_spans": (Result, [*_INSNS, *_BYTES, c_void_p, c_size_t, c_void_p, c_size_t]),
+    "why": (Reason, [*_BYTES, *_BYTES, c_uint32, *_ROOM]),
+    "open": (Reader, _BYTES),
+    "next": (Record, [*_BYTES, POINTER(Reader)]),
+    "put_header": (Result, [c_uint32, c_uint32, c_uint32, *_ROOM]),
+    "put": (Result, [c_uint32, c_uint32, POINTER(Record), *_BYTES, *_ROOM]),
+    "cut": (Result, [*_BYTES, *_INSNS, c_uint32, *_ROOM]),
+    "fault_text": (Result, [c_uint32, c_size_t, *_ROOM]),
+    "version": (Result, _ROOM),
+}
+
+for _name, (_returns, _takes) in _FUNCTIONS.items():
+    _function = getattr(lib, f"bpftap_{_name}")
+    _function.restype, _function.argtypes = _returns, _takes
+
+
+def text(call, room=4096):
+    """The text that a call writes, by a function from memory and its size to the call's result. It is called again where the memory
+    was too small."""
+    while True:
+        memory = ctypes.create_string_buffer(room)
+        result = call(memory, room)
+        if result.fault != NO_ROOM:
+            return result, memory.raw[: result.size]
+        room = result.size + 1

@@ -1,0 +1,129 @@
+"""The package, by Python's own unittest: what its page says, and every error."""
+import ctypes
+import pathlib
+import tempfile
+import unittest
+
+import bpftap
+from bpftap import CaptureError, Filter, FilterError, Packet, Verdict
+
+# Frames of 38 bytes from 10.0.0.1 to 10.0.0.2, from port 53 to port 53.
+TCP = bytes.fromhex("ffffffffffff 000102030405 0800 45000018 00000000 40060000 0a000001 0a000002 00350035")
+UDP = bytes.fromhex("ffffffffffff 000102030405 0800 45000018 00000000 40110000 0a000001 0a000002 00350035")
+
+# `tcpdump -ddd ip` with a snapshot length of 96, and `tcpdump -d` of the same.
+LISTING = "4\n40 0 0 12\n21 0 1 2048\n6 0 0 96\n6 0 0 0\n"
+IMAGE = "(000) ldh      [12]\n(001) jeq      #0x800           jt 2\tjf 3\n(002) ret      #96\n(003) ret      #0\n"
+
+
+class Filters(unittest.TestCase):
+    def test_an_expression_accepts_and_rejects(self):
+        udp = Filter("udp port 53", snap=100)
+        self.assertTrue(udp.matches(UDP))
+        self.assertFalse(udp.matches(TCP))
+        self.assertEqual(udp.run(UDP), 100)
+        self.assertEqual(repr(udp), "Filter('udp port 53')")
+
+    def test_the_wire_length_is_the_one_that_is_passed(self):
+        long = Filter("len > 1000")
+        self.assertFalse(long.matches(UDP))
+        self.assertTrue(long.matches(UDP, wire=1500))
+
+    def test_why_says_what_decides(self):
+        tcp = Filter("ip and tcp port 80")
+        self.assertEqual(tcp.why(UDP), "No tcp port 80")
+        self.assertEqual(tcp.decide(UDP[:20]), (Verdict.ABORT, "tcp port 80, byte 23 is not captured"))
+        self.assertEqual(Filter("udp").decide(UDP), (Verdict.YES, "udp"))
+
+    def test_a_refused_expression_has_a_name_and_a_place(self):
+        for text, name, place in [("port http", "BadWord", 5), ("tcp host 10.0.0.1", "BadQualifier", 0), (" " * 8193, "TextTooLong", None)]:
+            with self.assertRaises(FilterError) as caught:
+                Filter(text)
+            self.assertEqual((caught.exception.name, caught.exception.place), (name, place))
+        with self.assertRaisesRegex(FilterError, "^BadSnap$"):
+            Filter("ip", snap=0)
+
+    def test_programs_and_listings(self):
+        listed = Filter.from_listing(LISTING)
+        self.assertEqual(listed.program, [(40, 0, 0, 12), (21, 0, 1, 2048), (6, 0, 0, 96), (6, 0, 0, 0)])
+        self.assertEqual(listed.listing, LISTING)
+        self.assertEqual(listed.image, IMAGE)
+        self.assertEqual(Filter.from_program(listed.program).run(UDP), 96)
+        with self.assertRaisesRegex(FilterError, "^JumpOut 1$"):
+            Filter.from_program(listed.program[:2])
+        with self.assertRaisesRegex(FilterError, "^Empty$"):
+            Filter.from_program([])
+        with self.assertRaisesRegex(FilterError, "^Count$"):
+            Filter.from_listing("3\n6 0 0 0\n")
+        for call in (lambda: listed.why(UDP), lambda: listed.canonical):
+            self.assertRaises(TypeError, call)
+
+    def test_the_canonical_form(self):
+        self.assertEqual(Filter("tcp dst port 80 or 443").canonical, "tcp dst port 80 or tcp dst port 443")
+
+    def test_batches(self):
+        udp = Filter("udp", snap=7)
+        self.assertEqual(list(udp.run_each([UDP, TCP, b"", UDP])), [7, 0, 0, 7])
+        self.assertEqual(list(udp.run_each([])), [])
+        spans = (bpftap._library.Span * 2)((38, 38, 38), (38, 20, 38))
+        self.assertEqual(list(udp.run_spans(TCP + UDP, spans)), [7, 0])
+
+    def test_long_texts_are_whole(self):
+        longest = Filter.from_program([(6, 0, 0, 262144)] * 512)
+        self.assertEqual(longest.listing, "512\n" + "6 0 0 262144\n" * 512)
+        self.assertEqual(longest.image.count("\n"), 512)
+
+
+class Captures(unittest.TestCase):
+    PACKETS = [Packet(TCP, 60, 1, 7000), Packet(UDP, 38, 2, 999_999_000)]
+
+    def test_what_is_written_is_read(self):
+        for form in ({}, {"nanoseconds": True}, {"big_endian": True, "snap": 100}):
+            with tempfile.TemporaryDirectory() as folder:
+                path = pathlib.Path(folder) / "x.pcap"
+                bpftap.write(path, self.PACKETS, **form)
+                capture = bpftap.read(path)
+                self.assertEqual(list(capture), self.PACKETS)
+                self.assertEqual(list(capture), self.PACKETS)
+                self.assertEqual(capture.nanoseconds, form.get("nanoseconds", False))
+                self.assertEqual(capture.big_endian, form.get("big_endian", False))
+                self.assertEqual(capture.snap, form.get("snap", bpftap.MAX_SNAP))
+
+    def test_a_torn_record_comes_after_the_packets_before_it(self):
+        content = bpftap._captures.encode(self.PACKETS)
+        capture, seen = bpftap.Capture(content[:-1]), []
+        with self.assertRaisesRegex(CaptureError, "^TornRecord 1$") as caught:
+            seen.extend(iter(capture))
+        self.assertEqual(caught.exception.place, 1)
+        self.assertEqual(next(iter(capture)), self.PACKETS[0])
+        with self.assertRaisesRegex(CaptureError, "^ShortHeader$"):
+            bpftap.Capture(b"")
+
+    def test_cut(self):
+        content = bpftap._captures.encode(self.PACKETS)
+        self.assertEqual(list(bpftap.Capture(bpftap.cut(content, Filter("udp")))), self.PACKETS[1:])
+        self.assertEqual([packet.data for packet in bpftap.Capture(bpftap.cut(content, Filter("ip"), 20))], [TCP[:20], UDP[:20]])
+        with self.assertRaisesRegex(CaptureError, "^TornRecord 1$") as caught:
+            bpftap.cut(content[:-1], Filter("ip"))
+        self.assertEqual(list(bpftap.Capture(caught.exception.written)), self.PACKETS[:1])
+
+    def test_what_may_not_be_written(self):
+        for packet, name in [(Packet(b"", 0, 0, 10**9), "BadFraction"), (Packet(bytes(262145), 0), "TooLong")]:
+            with self.assertRaises(CaptureError) as caught:
+                bpftap._captures.encode([self.PACKETS[0], packet])
+            self.assertEqual((caught.exception.name, caught.exception.place), (name, 1))
+
+
+class Assertions(unittest.TestCase):
+    def test_assert_all_match_says_why(self):
+        bpftap.assert_all_match([UDP, Packet(TCP, 60)], "ip")
+        with self.assertRaises(AssertionError) as caught:
+            bpftap.assert_all_match([UDP, TCP], "udp")
+        self.assertEqual(str(caught.exception), "not 'udp':\n  packet 1: No udp")
+
+    def test_the_version(self):
+        self.assertRegex(bpftap.version(), r"^\d+\.\d+\.\d+")
+
+
+if __name__ == "__main__":
+    unittest.main()
