@@ -1,0 +1,46 @@
+//! The crate over the real capture of `examples/`, and its errors.
+use bpftap::{Filter, Packets};
+
+/// 253 Ethernet frames; tcpdump counts 67 with UDP port 5353.
+const VETH: &[u8] = include_bytes!("../../../examples/veth.pcap");
+
+const UDP: [u8; 38] = [
+    0xff, 0xff, 0xff, 0xff, 0xff, 0xff, 0, 1, 2, 3, 4, 5, 8, 0, 0x45, 0, 0, 0x18, 0, 0, 0, 0, 0x40, 17, 0, 0, 10, 0, 0, 1, 10, 0, 0, 2, 0, 53,
+    0, 53,
+];
+
+#[test]
+fn packets_are_filtered() {
+    let dns = Filter::new("udp port 5353").unwrap();
+    let packets: Vec<_> = Packets::new(VETH).unwrap().collect::<Result<_, _>>().unwrap();
+    assert_eq!(packets.len(), 253);
+    assert_eq!(packets.iter().filter(|packet| dns.matches(packet.data, packet.wire)).count(), 67);
+}
+
+#[test]
+fn a_torn_record_is_the_last_item() {
+    let mut packets = Packets::new(&VETH[..200]).unwrap();
+    assert!(packets.next().unwrap().is_ok() && packets.next().unwrap().is_ok());
+    assert_eq!(packets.next().unwrap().unwrap_err().to_string(), "TornRecord 2");
+    assert!(packets.next().is_none());
+    assert_eq!(Packets::new(&VETH[..23]).unwrap_err().to_string(), "ShortHeader");
+    assert_eq!(Packets::new(&[]).unwrap_err().to_string(), "ShortHeader");
+}
+
+#[test]
+fn errors_have_a_name_and_a_place() {
+    let error = Filter::new("port http").unwrap_err();
+    assert_eq!((error.fault, error.place, error.to_string()), (34, 5, "BadWord 5".to_owned()));
+    assert_eq!(Filter::with_snap("ip", 0).unwrap_err().to_string(), "BadSnap");
+}
+
+#[test]
+fn answers_have_a_reason() {
+    let udp = Filter::with_snap("udp", 20).unwrap();
+    assert_eq!((udp.run(&UDP, 38), udp.run(&[], 38)), (20, 0));
+    assert_eq!(udp.why(&UDP, 38).unwrap(), "Yes udp");
+    assert_eq!(udp.why(&UDP[..23], 38).unwrap(), "Abort udp, byte 23 is not captured");
+    assert_eq!(udp.program().len(), udp.image().unwrap().lines().count());
+    let many = (0..40).map(|n| format!("port {n}")).collect::<Vec<_>>().join(" or ");
+    assert!(Filter::new(&many).unwrap().image().unwrap().len() > 256);
+}
