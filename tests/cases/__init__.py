@@ -2,11 +2,11 @@
 from . import (
     memory, hints, words, check, language, readings, compiled, machine, image, assembly, explain, cut, captures, frames, split, steps,
     stepping, replays, picture, run, running, streams, tcpdump, examples, manual, completions, release, install, build, scale, faults,
-    pages, sources)
+    pages, sources, library)
 
 # Those that take longest begin first.
 MODULES = [
     memory, hints, replays, words, check, language, readings, compiled, machine, image, assembly, explain, cut, captures, frames, split,
     steps, stepping, picture, run, running, streams, tcpdump, examples, manual, completions, release, install, build, scale, faults, pages,
-    sources]
+    sources, library]
 GROUPS = {module.__name__.rpartition(".")[2]: module for module in MODULES}

@@ -1,0 +1,64 @@
+/* Keeps the packets of a capture that a filter accepts: filter EXPRESSION IN OUT
+ *
+ *     cc -o filter filter.c -lbpftap
+ *     ./filter 'udp port 5353' examples/veth.pcap dns.pcap
+ */
+#include <bpftap.h>
+#include <stdio.h>
+#include <stdlib.h>
+#include <string.h>
+
+static int fail(const char *what, uint32_t fault, size_t place) {
+    char text[64];
+    bpftap_fault_text(fault, place, text, sizeof text);
+    fprintf(stderr, "filter: %s: %s\n", what, text);
+    return 1;
+}
+
+/* The bytes of a file, and how many there are. */
+static uint8_t *read_file(const char *path, size_t *size) {
+    FILE *file = fopen(path, "rb");
+    uint8_t *bytes = NULL;
+    if (file && fseek(file, 0, SEEK_END) == 0) {
+        *size = (size_t)ftell(file);
+        rewind(file);
+        bytes = malloc(*size + 1);
+        if (bytes && fread(bytes, 1, *size, file) != *size) *size = 0;
+    }
+    if (file) fclose(file);
+    return bytes;
+}
+
+int main(int argc, char **argv) {
+    if (argc != 4) return fprintf(stderr, "usage: filter EXPRESSION IN OUT\n"), 1;
+    struct bpftap_insn insns[BPFTAP_MAX_INSNS];
+    struct bpftap_result compiled = bpftap_compile(argv[1], strlen(argv[1]), BPFTAP_MAX_SNAP, insns, BPFTAP_MAX_INSNS);
+    if (compiled.fault) return fail(argv[1], compiled.fault, compiled.place);
+    struct bpftap_program *program = malloc(bpftap_program_size());
+    size_t size = 0;
+    uint8_t *memory = read_file(argv[2], &size);
+    FILE *out = fopen(argv[3], "wb");
+    if (!program || !memory || !out) return perror("filter"), 1;
+    bpftap_program_init(program, insns, compiled.size);
+
+    struct bpftap_reader reader = bpftap_open(memory, size);
+    if (reader.fault) return fail(argv[2], reader.fault, 0);
+    uint8_t header[24];
+    bpftap_put_header(reader.order, reader.unit, reader.snap, header, sizeof header);
+    fwrite(header, 1, sizeof header, out);
+    struct bpftap_record record;
+    unsigned long kept = 0;
+    while ((record = bpftap_next(memory, size, &reader)).fault == BPFTAP_OK) {
+        const uint8_t *packet = memory + record.offset;
+        if (bpftap_program_run(program, packet, record.captured, record.wire)) {
+            /* The record as it stands: its header of 16 bytes and the captured bytes. */
+            fwrite(packet - 16, 1, 16 + record.captured, out);
+            kept++;
+        }
+    }
+    if (record.fault != BPFTAP_END) fail(argv[2], record.fault, record.place);
+    printf("%lu of %llu packets\n", kept, (unsigned long long)record.place);
+    free(memory);
+    free(program);
+    return fclose(out) != 0 || record.fault != BPFTAP_END;
+}

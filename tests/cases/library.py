@@ -1,0 +1,284 @@
+"""The library for C and Python: its calls, what it exports, memory that is refused, and that it answers as the program does."""
+import os
+import pathlib
+import random
+import re
+import subprocess
+import sys
+
+from .common import LIMIT, ROOT, VETH, as_bytes, case, records
+
+SOURCES = ROOT / "tests" / "library"
+LIBRARY = pathlib.Path(os.environ.get("BPFTAP_LIBRARY") or ROOT / "out" / "lib" / "libbpftap.so.1").resolve()
+ARCHIVE = LIBRARY.with_name("libbpftap.a")
+STRICT = ["-Wall", "-Wextra", "-Werror"]
+
+# How the tests of calls are compiled: each compiler, plain and with the sanitizers of both memory and arithmetic.
+WAYS = [[compiler, *flags] for compiler in ("gcc", "clang")
+        for flags in (["-std=c11", "-O2"], ["-std=c11", "-O1", "-g", "-fsanitize=address,undefined", "-fno-sanitize-recover"])]
+
+# The capture that the answers of random expressions are compared on has frames of each kind, and some that are cut short.
+PARTS = ["ip", "arp", "rarp", "tcp", "udp", "icmp", "host 10.0.0.{}", "src host 10.0.0.{}", "dst net 10.0.0.0/30", "port {}", "src port 53",
+         "tcp dst port {}", "udp src port {}", "portrange 50-{}", "ether proto {}", "ip proto {}", "less {}", "greater {}", "ip broadcast",
+         "ether multicast", "ip multicast", "ip[{}] = {}", "ip[0] & 15 = 5", "udp[0:2] = {}", "tcp[13] & 2 != 0", "len > {}", "ether[{}] < {}",
+         "(len - {}) / (len - 60) = 1", "ip[ip[0] & 15] = 0"]
+
+
+def is_there(scene):
+    """Whether the library was built."""
+    if not LIBRARY.is_file():
+        scene.leave(f"{LIBRARY} is not there: ./build bpftap_c makes it")
+    return LIBRARY.is_file()
+
+
+def done(scene, words, **how):
+    """Runs words in the scene's folder; what was printed, and the status."""
+    ended = subprocess.run(words, cwd=scene.folder, stdout=subprocess.PIPE, stderr=subprocess.STDOUT, timeout=LIMIT, **how)
+    return ended.stdout.decode(errors="replace"), ended.returncode
+
+
+def compiled(scene, words, name, *flags):
+    """Compiles a test against the archive; its path, or nothing where that failed."""
+    program = scene.folder / name
+    words = [*words, *STRICT, f"-I{ROOT / 'include'}", SOURCES / f"{name}.c", ARCHIVE, *flags, "-o", program]
+    said, status = done(scene, words)
+    scene.check(f"{' '.join(map(str, words[:4]))} {name}.c", (said, status), ("", 0))
+    return program if status == 0 else None
+
+
+def passes(scene, words, **how):
+    scene.check(" ".join(map(str, words)), done(scene, words, **how), ("", 0))
+
+
+@case
+def calls_do_what_the_header_says(scene):
+    """Each call, its faults and memory that is one item short: by gcc and clang, with their sanitizers, and by valgrind."""
+    if not is_there(scene):
+        return
+    scene.start({})
+    for words in WAYS:
+        if scene.has(words[0]):
+            program = compiled(scene, words, "calls")
+            if program:
+                passes(scene, [program])
+    if scene.has("gcc", "valgrind"):
+        program = compiled(scene, ["gcc", "-std=c11", "-g"], "calls")
+        passes(scene, ["valgrind", "-q", "--error-exitcode=9", "--leak-check=full", program])
+
+
+@case
+def threads_do_not_meet(scene):
+    """Two threads with a program each, and with one that both run."""
+    if is_there(scene) and scene.has("gcc"):
+        scene.start({})
+        for flags in (["-O2"], ["-O1", "-g", "-fsanitize=thread"]):
+            program = compiled(scene, ["gcc", "-std=c11", *flags], "threads", "-pthread")
+            if program:
+                passes(scene, [program])
+
+
+@case
+def refused_memory_is_told(scene):
+    """Where malloc or realloc fails, whichever call of it, a call returns NO_MEMORY and has written nothing."""
+    if is_there(scene) and scene.has("gcc"):
+        scene.start({})
+        program = compiled(scene, ["gcc", "-std=c11", "-O1"], "memory", "-Wl,--wrap=malloc,--wrap=realloc")
+        if program:
+            passes(scene, [program])
+
+
+@case
+def header_is_cplusplus_too(scene):
+    """The header by itself, in C++ and in C, with the instruction of Linux."""
+    scene.start({"in.cpp": '#include <bpftap.h>\nint main() { return bpftap_program_size() == 0; }\n',
+                 "in.c": '#include <linux/filter.h>\n#define BPFTAP_INSN struct sock_filter\n#include <bpftap.h>\nint main(void) { return 0; }\n'})
+    for compiler, name in (("g++", "in.cpp"), ("clang++", "in.cpp"), ("gcc", "in.c"), ("clang", "in.c")):
+        if scene.has(compiler):
+            passes(scene, [compiler, *STRICT, "-pedantic", f"-I{ROOT / 'include'}", "-fsyntax-only", name])
+
+
+@case
+def only_its_own_names_are_exported(scene):
+    """The shared library exports the functions of the header and nothing else, has its soname, and needs only the C library."""
+    if not is_there(scene) or not scene.has("nm", "readelf"):
+        return
+    header = (ROOT / "include" / "bpftap.h").read_text()
+    declared = sorted({word.split("(")[0] for word in header.replace("*", " ").split() if word.startswith("bpftap_") and "(" in word
+                       and not word.startswith("bpftap_program_init.")})
+    said, _ = done(scene, ["nm", "-D", "--defined-only", LIBRARY])
+    scene.check("exports", sorted(line.split()[-1] for line in said.splitlines()), declared)
+    said, _ = done(scene, ["readelf", "-d", LIBRARY])
+    tagged = lambda tag: [line.split("[")[1].rstrip("]") for line in said.splitlines() if f"({tag})" in line]
+    scene.check("soname", tagged("SONAME"), ["libbpftap.so.1"])
+    scene.check("needs", tagged("NEEDED"), ["libc.so.6"])
+
+
+def frames():
+    """A capture of frames of each kind, some of them cut short."""
+    whole = records(VETH.read_bytes())
+    chance = random.Random(5)
+    chosen = chance.sample(whole, 50)
+    short = []
+    for record in chosen[:25]:
+        captured = chance.randrange(len(record) - 16)
+        short.append(record[:8] + captured.to_bytes(4, "little") + record[12 : 16 + captured])
+    return VETH.read_bytes()[:24] + b"".join(chosen + short)
+
+
+def expression(chance, depth=0):
+    """An expression that looks random; some are refused."""
+    kind = chance.random()
+    if depth < 3 and kind < 0.25:
+        return f"{expression(chance, depth + 1)} {chance.choice(['and', 'or'])} {expression(chance, depth + 1)}"
+    if depth < 3 and kind < 0.35:
+        return f"not ({expression(chance, depth + 1)})"
+    part = chance.choice(PARTS)
+    while "{}" in part:
+        part = part.replace("{}", str(chance.choice([0, 1, 2, 6, 17, 53, 60, 80, 443, 2048, 5353])), 1)
+    return part
+
+
+@case
+def answers_as_the_program_does(scene):
+    """10,000 expressions over a capture: C, Python and `bpftap split` accept the same packets, and refuse the same expressions for the same fault."""
+    if not is_there(scene) or not scene.has("gcc"):
+        return
+    scene.start({"in.pcap": frames()})
+    chance = random.Random(7)
+    texts = [expression(chance) for _ in range(10_000)]
+    program = compiled(scene, ["gcc", "-std=c11", "-O2"], "answers")
+    said = subprocess.run([program, "in.pcap"], cwd=scene.folder, input="\n".join(texts).encode() + b"\n", stdout=subprocess.PIPE, timeout=LIMIT)
+    answers = said.stdout.decode().splitlines()
+    scene.check("status and lines of C", (said.returncode, len(answers)), (0, len(texts)))
+    seen = python(scene, "answers.py", ["in.pcap"], "\n".join(texts) + "\n")
+    scene.check("Python's answers beside C's", differing(texts, seen.splitlines(), answers), [])
+    # Of the program, a hundred expressions in one run; those that are refused, one by one.
+    good = [place for place, answer in enumerate(answers) if set(answer) <= {"0", "1"}]
+    packets = records((scene.folder / "in.pcap").read_bytes())
+    for begin in range(0, len(good), 100):
+        part = good[begin : begin + 100]
+        scene.put({"lines.txt": "".join(f"0 {place}.pcap {texts[place]}\n" for place in part)})
+        ended = scene.run("split lines.txt in.pcap")
+        kept = [scene.read(f"{place}.pcap")[24:] for place in part]
+        wanted = [b"".join(packet for packet, answer in zip(packets, answers[place]) if answer == "1") for place in part]
+        scene.check("split's status", ended.status, 0)
+        scene.check("split's packets beside C's", [texts[place] for place, one, other in zip(part, kept, wanted) if one != other], [])
+        for place in part:
+            (scene.folder / f"{place}.pcap").unlink()
+    refused = [place for place in range(len(texts)) if place not in set(good)]
+    for place in refused[:300]:
+        scene.check(f"check {texts[place]}", scene.run(["check", texts[place]]).err, as_bytes(f"bpftap: {answers[place]}\n"))
+    scene.check("some are accepted and some refused", (len(good) > 5000, len(refused) > 100), (True, True))
+
+
+def differing(texts, seen, wanted):
+    """The first ten texts whose answers differ."""
+    return [text for text, one, other in zip(texts, seen, wanted) if one != other][:10] or [] if len(seen) == len(wanted) else ["the number of lines"]
+
+
+def python(scene, name, words, given=""):
+    """What a script of these tests prints, with the package of this repository."""
+    environment = {**os.environ, "PYTHONPATH": str(ROOT / "bindings" / "python"), "BPFTAP_LIBRARY": str(LIBRARY), "PYTHONDONTWRITEBYTECODE": "1"}
+    ended = subprocess.run([sys.executable, SOURCES / name, *words], cwd=scene.folder, input=given.encode(), stdout=subprocess.PIPE,
+                           stderr=subprocess.PIPE, timeout=LIMIT, env=environment)
+    scene.check(f"{name}: standard error", (ended.stderr.decode(), ended.returncode), ("", 0))
+    return ended.stdout.decode()
+
+
+@case
+def cuts_as_the_program_does(scene):
+    """Captures of each form, whole and torn at each of many bytes: Python's `cut` writes what `bpftap cut` writes, and names the same fault."""
+    if not is_there(scene):
+        return
+    scene.start({"in.pcap": frames()})
+    whole = scene.read("in.pcap")
+    captures = {f"{size}.pcap": whole[:size] for size in [*range(0, 60), *range(1000, len(whole), 977), len(whole)]}
+    scene.put(captures)
+    texts = python(scene, "cuts.py", ["udp or arp", *captures]).splitlines()
+    for name, text in zip(captures, texts):
+        scene.put({"out.pcap": b""})
+        ended = scene.run(["cut", "-s", "64", "-e", "udp or arp", name, "out.pcap"])
+        fault, _, written = text.partition("\t")
+        scene.check(f"{name}: the fault", ended.err.decode(), f"bpftap: {fault}\n" if fault else "")
+        scene.check(f"{name}: what was written", scene.read("out.pcap").hex(), written)
+
+
+@case
+def package_does_what_its_page_says(scene):
+    """The tests of the Python package, by unittest, and its wheel, which pip installs without a network."""
+    if not is_there(scene):
+        return
+    scene.start({})
+    environment = {**os.environ, "PYTHONPATH": str(ROOT / "bindings" / "python"), "BPFTAP_LIBRARY": str(LIBRARY), "PYTHONDONTWRITEBYTECODE": "1"}
+    said, status = done(scene, [sys.executable, "-m", "unittest", "discover", "-s", ROOT / "bindings" / "python" / "tests"], env=environment)
+    scene.check("unittest", (said.splitlines()[-1:], status), (["OK"], 0))
+    said, status = done(scene, [sys.executable, "-m", "venv", "--without-pip", "there"])
+    if status or not scene.has("pip3"):
+        return
+    into = scene.folder / "site"
+    words = [sys.executable, "-m", "pip", "install", "--quiet", "--no-index", "--no-deps", "--target", into, ROOT / "bindings" / "python"]
+    said, status = done(scene, words, env={**os.environ, "BPFTAP_LIBRARY": str(LIBRARY), "PIP_DISABLE_PIP_VERSION_CHECK": "1"})
+    if "No module named pip" in said:
+        scene.leave("pip can't be found")
+        return
+    scene.check("pip install", status, 0)
+    bare = {key: value for key, value in os.environ.items() if key not in ("BPFTAP_LIBRARY", "PYTHONPATH")}
+    said, status = done(scene, [sys.executable, "-c", "import bpftap; print(bpftap.Filter('ip').matches(bytes(12) + b'\\x08\\x00'))"],
+                        env={**bare, "PYTHONPATH": str(into)})
+    scene.check("the installed package", (said, status), ("True\n", 0))
+
+
+# Names that no fault line of the program has: of memory and of texts, the end of a capture, and a snapshot length that the command line
+# does not let through.
+OWN = {"Ok", "NoRoom", "NotText", "End", "BadSnap"}
+
+
+@case
+def numbers_have_the_names_of_faults(scene):
+    """Each number of the header prints as its name, which docs/FAULTS.md explains."""
+    if not is_there(scene):
+        return
+    scene.start({})
+    header = (ROOT / "include" / "bpftap.h").read_text().partition("enum bpftap_fault {")[2].partition("};")[0]
+    numbers = {int(number): name for name, number in re.findall(r"BPFTAP_(\w+) = (\d+)", header)}
+    camel = {number: "".join(word.capitalize() for word in name.removeprefix("RECORD_").split("_")) for number, name in numbers.items()}
+    seen = python(scene, "names.py", map(str, camel)).splitlines()
+    scene.check("names", seen, list(camel.values()))
+    explained = set(re.findall(r"\w+", (ROOT / "docs" / "FAULTS.md").read_text()))
+    scene.check("names that docs/FAULTS.md lacks", [name for name in camel.values() if name not in explained | OWN], [])
+
+
+@case
+def examples_do_what_they_say(scene):
+    """The examples in C and Python: the filter keeps what `bpftap cut` keeps, and the kernel takes a program."""
+    if not is_there(scene):
+        return
+    scene.start({})
+    if scene.has("gcc"):
+        for name in ("filter", "attach"):
+            words = ["gcc", "-std=gnu11", "-O2", *STRICT, f"-I{ROOT / 'include'}", ROOT / "examples" / "c" / f"{name}.c", ARCHIVE, "-o", name]
+            passes(scene, words)
+        scene.check("filter", done(scene, ["./filter", "udp port 5353", VETH, "dns.pcap"]), ("67 of 253 packets\n", 0))
+        scene.run(["cut", "-s", "0", "-e", "udp port 5353", str(VETH), "cut.pcap"])
+        scene.check("what it kept", scene.read("dns.pcap") == scene.read("cut.pcap"), True)
+        scene.check("a refused expression", done(scene, ["./filter", "port http", VETH, "x"]), ("filter: port http: BadWord 5\n", 1))
+        said, status = done(scene, ["./attach", "tcp port 80"])
+        scene.check("attach", (re.sub(r"\d+", "N", said), status), ("the kernel took N instructions\n", 0))
+    environment = {**os.environ, "PYTHONPATH": str(ROOT / "bindings" / "python"), "BPFTAP_LIBRARY": str(LIBRARY), "PYTHONDONTWRITEBYTECODE": "1"}
+    said, status = done(scene, [sys.executable, ROOT / "examples" / "python" / "test_bench.py"], env=environment)
+    scene.check("test_bench.py", (said.count("passed "), status), (3, 0))
+    said, status = done(scene, [sys.executable, ROOT / "examples" / "python" / "lesson.py"], env=environment)
+    scene.check("lesson.py", (said.splitlines()[-4:], status), (
+        ["No tcp dst port 443", "Yes tcp dst port 80", "96 bytes are kept", "Abort tcp dst port 80, byte 36 is not captured"], 0))
+
+
+@case
+def crate_of_rust_passes_its_tests(scene):
+    """`cargo test --offline` of bindings/rust."""
+    if is_there(scene) and scene.has("cargo"):
+        scene.start({})
+        words = ["cargo", "test", "--offline", "--quiet", "--manifest-path", ROOT / "bindings" / "rust" / "Cargo.toml"]
+        said, status = done(scene, words, env={**os.environ, "CARGO_TARGET_DIR": str(scene.folder / "target"), "BPFTAP_LIB": str(ARCHIVE.parent)})
+        scene.check("cargo test", status, 0)
+        if status:
+            scene.check("what it said", said, "")
