@@ -6,6 +6,7 @@ import random
 import re
 
 from .common import IP, ROOT, case, told
+from .machine import FRAME
 
 VECTORS = ROOT / "tests" / "vectors"
 
@@ -16,7 +17,7 @@ PROGRAMS = [
     # TCP over IPv4
     ("ldh [12]\njne #0x800, drop\nldb [23]\njneq #6, drop\nret #-1\ndrop: ret #0\n",
      "40 0 0 12|21 0 3 2048|48 0 0 23|21 0 1 6|6 0 0 4294967295|6 0 0 0"),
-    # TCP to or from port 22, but for fragments behind the first
+    # TCP to or from port 22, but no fragments after the first
     ("""
       ldh [12]
       jeq #0x800, ipv4, drop    ; IPv4
@@ -143,7 +144,7 @@ def what_tcpdump_prints_is_read(scene):
         expression, _, prints = block.partition("\n")
         want, image = re.fullmatch(r"([^(]*)(\(000\).*)", prints, re.S).groups()
         scene.put({"image.txt": image})
-        scene.check(expression, scene.run("check -f image.txt").out.decode(), want)
+        scene.check(expression, scene.run("check -f image.txt").out.decode(), plain(want))
 
 
 def random_program(choose):
@@ -186,3 +187,28 @@ def digits_in_front_are_a_listing(scene):
         scene.refuse("check -f program.bpf", 1, fault)
     scene.put({"ip.bpf": IP})
     scene.expect("check -f ip.bpf", out=IP)
+
+
+@case
+def a_program_is_printed_as_an_array_of_c(scene):
+    """`-dd` prints what `tcpdump -dd` prints: here of ARP, as Linux's page of bpf_asm has it; `-ddd` prints the listing."""
+    scene.put({"program.bpf": PROGRAMS[0][0]})
+    scene.expect("check -dd -f program.bpf", out=(
+        "{ 0x28, 0, 0, 0x0000000c },\n{ 0x15, 0, 1, 0x00000806 },\n{ 0x6, 0, 0, 0xffffffff },\n{ 0x6, 0, 0, 0x00000000 },\n"))
+    scene.expect("check -ddd -f program.bpf", out=listing(PROGRAMS[0][1].split("|")))
+    scene.expect("check -d -d ip", out=(
+        "{ 0x28, 0, 0, 0x0000000c },\n{ 0x15, 0, 1, 0x00000800 },\n{ 0x6, 0, 0, 0x00040000 },\n{ 0x6, 0, 0, 0x00000000 },\n"))
+
+
+@case
+def each_command_takes_assembly(scene):
+    """`cut`, `explain` and `check` read it, and a hint shows the line that is refused."""
+    scene.start({"in.pcap": FRAME, "program.bpf": "ldh [12]\njne #0x800, drop\nret #20\ndrop: ret #0\n", "bad.bpf": "ldh [12]\nret #x\n"})
+    scene.expect("cut -s 0 -f program.bpf in.pcap out.pcap")
+    scene.check("kept", len(scene.read("out.pcap")), 24 + 16 + 20)
+    seen = scene.run("explain -f program.bpf in.pcap")
+    scene.check("explained", seen.out.decode().splitlines()[-1], "1 packets: 1 Yes, 0 No, 0 Abort")
+    for words in "cut -s 0 -f bad.bpf in.pcap out.pcap", "explain -f bad.bpf in.pcap", "check -f bad.bpf":
+        seen = scene.run(f"--hints {words}")
+        scene.check(f"hints of {words}", (seen.err.decode(), seen.status), (
+            "bpftap: BadOperand 2\n  line 2 is: ret #x\n  its form is: LABEL: NAME OPERAND, as docs/ASSEMBLY.md has it\n", 1))

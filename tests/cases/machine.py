@@ -93,12 +93,12 @@ LISTINGS = [
     # spaces, carriage returns, signs
     ("1\n6 0 0 1 ", "BadLine 2"), ("1\n 6 0 0 1", "BadLine 2"), ("1\n6  0 0 1", "BadLine 2"),
     ("1\n6\t0 0 1", "BadLine 2"), ("1\r\n6 0 0 1", "BadLine 1"), ("1\n6 0 0 1\r\n", "BadLine 2"),
-    ("+1\n6 0 0 1", "BadLine 1"), ("1\n6 0 0 +1", "BadLine 2"), ("1\n6 0 0 -1", "BadLine 2"), ("1\n6 0 0", "BadLine 2"),
+    ("1+\n6 0 0 1", "BadLine 1"), ("1\n6 0 0 +1", "BadLine 2"), ("1\n6 0 0 -1", "BadLine 2"), ("1\n6 0 0", "BadLine 2"),
     ("1\n6 0 0 1 1", "BadLine 2"), ("1\n6 0 0 0x1", "BadLine 2"),
     # leading zeros
     ("01\n06 00 000 007", None), ("1\n6 0 0 00000000000000000000000000007", None),
     # the order
-    ("2\n6 0 0 x", "BadLine 2"), ("3\n255 0 0 0", "Count"), ("x\ny", "BadLine 1"), ("2\n6 0 0 1\ny\nz", "BadLine 3"),
+    ("2\n6 0 0 x", "BadLine 2"), ("3\n255 0 0 0", "Count"), ("0x\ny", "BadLine 1"), ("2\n6 0 0 1\ny\nz", "BadLine 3"),
 ]
 
 

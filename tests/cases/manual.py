@@ -65,7 +65,7 @@ def help_options(parts):
     """The options that `--help` tells, each with the name of its value, or nothing."""
     found = {}
     for line in parts["Options"]:
-        told = re.match(r" +(-\w)?(?:, )?(--[\w-]+)?(?:[ =]<(\w+)>)?(?:  |$)", line)
+        told = re.match(r" +(-\w)?(?:, )?(--[\w-]+)?(?:[ =]<(\w+)>|\.\.\.)?(?:  |$)", line)
         if told and (told[1] or told[2]):
             found.update({name: told[3] or "" for name in (told[1], told[2]) if name})
     return found
