@@ -13,7 +13,8 @@ use std::convert::AsStr;
 const EXPR_OPTION: &str = "-e";
 
 /// What a word after `-e` is that begins with `-`.
-const EXPR_WANTED: &str = "-e takes an expression; put one that begins with - in parentheses, as -e '(-1 + len > 60)', or write -e='-1 + len > 60'";
+const EXPR_WANTED: &str =
+    "-e takes an expression; put one that begins with - in parentheses, as -e '(-1 + len > 60)', or write -e='-1 + len > 60'";
 
 /// Whether `-e` stands before a word that begins with `-`.
 fn has_dashed_expression<S: AsStr>(words: &[S]) -> bool {

@@ -21,12 +21,7 @@ use std::fs::Files;
 const ASSEMBLY: &str = "LABEL: NAME OPERAND, as docs/ASSEMBLY.md has it";
 
 /// Hints on an expression that has no program.
-pub fn hint_expression<E: HintSink>(
-    alloc: Global,
-    text: &str,
-    fault: ExpressionFault,
-    err: &mut E,
-)
+pub fn hint_expression<E: HintSink>(alloc: Global, text: &str, fault: ExpressionFault, err: &mut E)
     ensures quiet { E.takes_hints err.old ≡ false → err.new ≡ err.old }
 {
     match fault {

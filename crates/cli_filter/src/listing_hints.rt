@@ -64,7 +64,10 @@ fn hint_invalid<E: HintSink>(listing: &[u8], fault: Invalid, err: &mut E)
     ensures quiet { E.takes_hints err.old ≡ false → err.new ≡ err.old }
 {
     match fault {
-        Invalid::Empty => give_hint("a program has 1 to 512 instructions, the last one a return", err),
+        Invalid::Empty => give_hint(
+            "a program has 1 to 512 instructions, the last one a return",
+            err,
+        ),
         Invalid::TooMany => give_hint(
             "a program has at most 512 instructions: write a shorter filter, or several",
             err,

@@ -317,7 +317,9 @@ fn operand_of(last: &[u8]) -> Option<&'static str> {
     } else if last == b"net".as_slice() {
         Some("write an address after `net`, as `net 192.0.2.0/24`")
     } else if last == PROTO {
-        Some("write a number after `proto`, as `proto 17`, or a name with a backslash, as `proto \\udp`")
+        Some(
+            "write a number after `proto`, as `proto 17`, or a name with a backslash, as `proto \\udp`",
+        )
     } else if BEFORE_ADDRESSES.contains(&last) {
         Some("write an address after `src` and `dst`, or `host`, `net` or `port` before it")
     } else {

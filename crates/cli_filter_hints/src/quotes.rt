@@ -118,7 +118,10 @@ fn hint_expression_in<S: AsStr, E: HintSink>(
     ensures quiet { E.takes_hints err.old ≡ false → err.new ≡ err.old }
 {
     let text = join(alloc, expression)?;
-    match (is_suggested(alloc, words, text.as_str())?, lacks_option(words)) {
+    match (
+        is_suggested(alloc, words, text.as_str())?,
+        lacks_option(words),
+    ) {
         (true, true) => give_hint(
             format_args!("an expression goes after -e, in quotes: -e '{text}'"),
             err,

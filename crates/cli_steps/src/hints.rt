@@ -27,7 +27,9 @@ pub fn hint_line<E: HintSink>(listeners: &[u8], script: &[u8], fault: LineFault,
 /// A hint on too many listeners or captures.
 pub(crate) fn hint_too_many<E: HintSink>(err: &mut E) {
     give_hint(
-        format_args!("a replay takes at most {MAX_LISTENERS} listeners and {MAX_CAPTURES} captures"),
+        format_args!(
+            "a replay takes at most {MAX_LISTENERS} listeners and {MAX_CAPTURES} captures"
+        ),
         err,
     )
 }

@@ -83,8 +83,8 @@ both_by : (p r : Packet) (a : Result Bool AbortCause) (l : List Look) (t s' t' :
 both_by p r (Ok true) l t s' t' v w Z first second = record {
   meant = second.meant ∙ ap (λ (x : Verdict). and_then x w) first.meant;
   same = λ agree.
-    ap (λ (s : Asked). both s t') (first.same (all_front (IsSameAt p r) l t.looks agree))
-    ∙ ap (λ (u : Asked). both (asked (Ok true) l) u) (second.same (all_back (IsSameAt p r) l t.looks agree));
+      ap (λ (s : Asked). both s t') (first.same (all_front (IsSameAt p r) l t.looks agree))
+      ∙ ap (λ (u : Asked). both (asked (Ok true) l) u) (second.same (all_back (IsSameAt p r) l t.looks agree));
   ends = ends_behind p l t.answer t.looks first.ends second.ends;
   zero = second.zero;
 }
@@ -109,8 +109,8 @@ either_by : (p r : Packet) (a : Result Bool AbortCause) (l : List Look) (t s' t'
 either_by p r (Ok false) l t s' t' v w Z first second = record {
   meant = second.meant ∙ ap (λ (x : Verdict). or_else x w) first.meant;
   same = λ agree.
-    ap (λ (s : Asked). either s t') (first.same (all_front (IsSameAt p r) l t.looks agree))
-    ∙ ap (λ (u : Asked). either (asked (Ok false) l) u) (second.same (all_back (IsSameAt p r) l t.looks agree));
+      ap (λ (s : Asked). either s t') (first.same (all_front (IsSameAt p r) l t.looks agree))
+      ∙ ap (λ (u : Asked). either (asked (Ok false) l) u) (second.same (all_back (IsSameAt p r) l t.looks agree));
   ends = ends_behind p l t.answer t.looks first.ends second.ends;
   zero = second.zero;
 }
@@ -141,8 +141,8 @@ then_by : (p r : Packet) (a : Result ℕ AbortCause) (l : List Look) (g : Found)
 then_by p r (Ok n) l g next next' m v Z first second = record {
   meant = (second n).meant ∙ ap (λ (x : Option ℕ). checked x v) first.meant;
   same = λ agree.
-    ap (λ (f : Found). then_asked f next') (first.same (all_front (IsSameAt p r) l (next n).looks agree))
-    ∙ ap (λ (u : Asked). asked u.answer (l ++ u.looks)) ((second n).same (all_back (IsSameAt p r) l (next n).looks agree));
+      ap (λ (f : Found). then_asked f next') (first.same (all_front (IsSameAt p r) l (next n).looks agree))
+      ∙ ap (λ (u : Asked). asked u.answer (l ++ u.looks)) ((second n).same (all_back (IsSameAt p r) l (next n).looks agree));
   ends = ends_behind p l (next n).answer (next n).looks first.ends (second n).ends;
   zero = (second n).zero;
 }
@@ -165,8 +165,8 @@ found_by p r (Ok n) l g next next' m k Z first second =
     record {
       meant = later.meant ∙ ap (λ (x : Option ℕ). option_and_then k x) first.meant;
       same = λ agree.
-        ap (λ (f : Found). then_found f next') (first.same (all_front (IsSameAt p r) l (next n).looks agree))
-        ∙ ap (λ (u : Found). found u.number (l ++ u.looks)) (later.same (all_back (IsSameAt p r) l (next n).looks agree));
+          ap (λ (f : Found). then_found f next') (first.same (all_front (IsSameAt p r) l (next n).looks agree))
+          ∙ ap (λ (u : Found). found u.number (l ++ u.looks)) (later.same (all_back (IsSameAt p r) l (next n).looks agree));
       ends = ends_behind p l (next n).number (next n).looks first.ends later.ends;
       zero = later.zero;
     }
@@ -207,8 +207,8 @@ pub bytes_good : (p r : Packet) → length p.captured ≡ length r.captured → 
 bytes_good p r long o n Z = record {
   meant = number_back (first_uncaptured o p) (number_at p.captured o n);
   same = λ agree.
-    ap (λ (l : ℕ). found (or_cause (NotCaptured (max o l)) (number_at r.captured o n)) (Bytes o n ∷ [])) (sym long)
-    ∙ ap (λ (m : Option ℕ). found (or_cause (first_uncaptured o p) m) (Bytes o n ∷ [])) (sym agree.0);
+      ap (λ (l : ℕ). found (or_cause (NotCaptured (max o l)) (number_at r.captured o n)) (Bytes o n ∷ [])) (sym long)
+      ∙ ap (λ (m : Option ℕ). found (or_cause (first_uncaptured o p) m) (Bytes o n ∷ [])) (sym agree.0);
   ends = bytes_end o n p;
   zero = uncaptured_only (max o (length p.captured)) (number_at p.captured o n) Z;
 }

@@ -50,12 +50,7 @@ fn ask(part: &Expr, frame: &Frame<'_>, notes: &mut Notes) -> Answer
 ///
 /// `packet` is the captured bytes, and `wire` the packet's length on the wire. The answer depends on nothing else:
 /// `answers_by_looks` in [`laws`](crate::laws). `NoMemory` if memory for the list is refused.
-pub fn looks_of(
-    alloc: Global,
-    part: &Expr,
-    packet: &[u8],
-    wire: u32,
-) -> Result<Vec<Look>, NoMemory>
+pub fn looks_of(alloc: Global, part: &Expr, packet: &[u8], wire: u32) -> Result<Vec<Look>, NoMemory>
     ensures { IfOk result (λ found. found.items ≡ looks (tree_of part.now) (packet_of packet.now wire)) }
 {
     let frame = Frame {

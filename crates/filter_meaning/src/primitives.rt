@@ -233,7 +233,13 @@ pub(crate) fn primitive(primitive: Primitive, frame: &Frame<'_>, notes: &mut Not
             direction,
             address,
             mask,
-        } => is_in_any_net(network, direction, Side::Address { address, mask }, frame, notes),
+        } => is_in_any_net(
+            network,
+            direction,
+            Side::Address { address, mask },
+            frame,
+            notes,
+        ),
         Primitive::EtherHost { direction, address } => {
             Side::Ether(address).is_of(direction, (6, 0), frame, notes)
         }

@@ -89,12 +89,7 @@ fn write_description<O: Write>(steps: usize, listeners: usize, out: &mut O) -> i
 }
 
 /// The size of the picture, what it is, the colours and what they mean.
-fn write_head<O: Write>(
-    width: u64,
-    steps: usize,
-    listeners: usize,
-    out: &mut O,
-) -> io::Result<()> {
+fn write_head<O: Write>(width: u64, steps: usize, listeners: usize, out: &mut O) -> io::Result<()> {
     let wide = page_width(width);
     let high = (listeners as u64).saturating_mul(LANE).saturating_add(HEAD);
     writeln!(

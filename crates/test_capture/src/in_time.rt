@@ -60,11 +60,7 @@ impl Write for CallWriter<'_> {
 
 /// A capture of three packets. Its header comes with the first call, and each packet with one more.
 fn three(rt: &(impl Abort + AllocGlobal)) -> Vec<u8> {
-    concat(
-        rt.alloc(),
-        &[HEADER, ARP_RECORD, ARP_RECORD, ARP_RECORD],
-    )
-    .expect(rt, "memory")
+    concat(rt.alloc(), &[HEADER, ARP_RECORD, ARP_RECORD, ARP_RECORD]).expect(rt, "memory")
 }
 
 /// The program that accepts all packets.
@@ -102,7 +98,15 @@ fn cut_writes_each_packet_before_it_reads_on(rt: HostRuntime) {
     });
     let sink = Counted::new(writer_of(&rt, &calls));
     let program = accept_all(&rt);
-    let end = cut(rt.alloc(), source, &program, 0, Order::Little, Unit::Micro, sink);
+    let end = cut(
+        rt.alloc(),
+        source,
+        &program,
+        0,
+        Order::Little,
+        Unit::Micro,
+        sink,
+    );
     same(&rt, end.sink.inner.seen.as_slice(), [1, 2, 3, 4].as_slice());
 }
 
@@ -127,6 +131,10 @@ fn split_writes_each_packet_to_all_before_it_reads_on(rt: HostRuntime) {
     }
     let end = split(rt.alloc(), captures, parts, Order::Little, Unit::Micro).expect(&rt, "memory");
     for part in end.parts.iter() {
-        same(&rt, part.sink.inner.seen.as_slice(), [1, 2, 3, 4].as_slice());
+        same(
+            &rt,
+            part.sink.inner.seen.as_slice(),
+            [1, 2, 3, 4].as_slice(),
+        );
     }
 }

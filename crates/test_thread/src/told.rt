@@ -16,7 +16,11 @@ type Replayed = (&'static str, &'static str, &'static str);
 
 static REPLAYED: [Replayed; 5] = [
     ("0 0 0 1048576 2 a", TCP, ""),
-    ("0 0 0 1048576 2 a", "00", "bpftap: Interface 0 Capture 0 TornRecord 0\n"),
+    (
+        "0 0 0 1048576 2 a",
+        "00",
+        "bpftap: Interface 0 Capture 0 TornRecord 0\n",
+    ),
     ("0 0 0", TCP, "bpftap: Listeners 1\n"),
     ("0 0 64 96 1 a x", TCP, "bpftap: Expression 0 BadWord 0\n"),
     ("0 0 64 95 1 a", TCP, "bpftap: Open 0 0 BadCapacity\n"),
@@ -24,7 +28,9 @@ static REPLAYED: [Replayed; 5] = [
 
 /// The first bytes of a text, of which there are so many.
 fn front<'a>(rt: &'a impl Abort, text: &'a str, n: usize) -> &'a [u8] {
-    text.as_bytes().get(..n).expect(rt, "there are so many bytes")
+    text.as_bytes()
+        .get(..n)
+        .expect(rt, "there are so many bytes")
 }
 
 /// A standard error of so much room.

@@ -13,13 +13,15 @@ use std::process::Abort;
 const ARP: &str = "ldh [12]\njne #0x806, drop\nret #-1\ndrop: ret #0\n";
 
 /// As `tcpdump -d` prints it.
-const IMAGE: &str = "(000) ldh      [12]\n(001) jeq      #0x806           jt 2\tjf 3\n(002) ret      #-1\n(003) ret      #0\n";
+const IMAGE: &str =
+    "(000) ldh      [12]\n(001) jeq      #0x806           jt 2\tjf 3\n(002) ret      #-1\n(003) ret      #0\n";
 
 /// As `tcpdump -ddd` prints it.
 const LISTING: &str = "4\n40 0 0 12\n21 0 1 2054\n6 0 0 4294967295\n6 0 0 0\n";
 
 /// As `tcpdump -dd` prints it.
-const ARRAY: &str = "{ 0x28, 0, 0, 0x0000000c },\n{ 0x15, 0, 1, 0x00000806 },\n{ 0x6, 0, 0, 0xffffffff },\n{ 0x6, 0, 0, 0x00000000 },\n";
+const ARRAY: &str =
+    "{ 0x28, 0, 0, 0x0000000c },\n{ 0x15, 0, 1, 0x00000806 },\n{ 0x6, 0, 0, 0xffffffff },\n{ 0x6, 0, 0, 0x00000000 },\n";
 
 #[test]
 fn one_program_in_four_notations(rt: HostRuntime) {
@@ -59,10 +61,7 @@ fn a_digit_begins_a_listing(rt: HostRuntime) {
     same(
         &rt,
         read_program(rt.alloc(), b"x").err(),
-        Some(ProgramTextFault::Assembly(AssemblyFault::Line(
-            1,
-            Cause::UnknownName,
-        ))),
+        Some(ProgramTextFault::Assembly(AssemblyFault::Line(1, Cause::UnknownName))),
     );
     same(
         &rt,
