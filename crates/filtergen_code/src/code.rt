@@ -87,7 +87,7 @@ impl Code {
         self.insns.len()
     }
 
-    /// `Full` if there is no room for so many more instructions.
+    /// `Full` if there is no room for `more` instructions.
     pub fn room(&self, more: usize) -> Result<(), Full>
         requires { more ≤ 40 }
         ensures { MatchResult result (λ _. length self.now + more ≤ MAX_CODE) (λ _. MAX_CODE < length self.now + more) }

@@ -91,7 +91,7 @@ impl Targets {
         }
     }
 
-    /// The target of an answer.
+    /// The target for Yes or No.
     pub fn for_answer(self, holds: bool) -> Entry
         ensures { result ≡ for_answer holds self }
     {

@@ -595,7 +595,7 @@ impl Code {
         self.emit_ip_guard(next, targets.no.other)
     }
 
-    /// Emits the test for a wire length of at most so many bytes.
+    /// Emits the test for a wire length of at most `bytes`.
     fn emit_less(&mut self, bytes: u32, exits: Exits) -> usize
         requires room { length self.old + 4 ≤ MAX_CODE }
         requires exits { AreExits self.old exits }

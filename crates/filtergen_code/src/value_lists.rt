@@ -393,14 +393,8 @@ impl Code {
         ensures { EmitsGiven known (list_cost kind.form (length ranges.now)) (any_of (kind_test kind) ranges.now) targets
             self.old self.new result }
     {
-        let ListKind {
-            form,
-            sides,
-            mask,
-            head,
-            bytes,
-        } = kind;
-        match form {
+        let (sides, mask) = (kind.sides, kind.mask);
+        match kind.form {
             Form::Net => self.emit_net_list(known, sides, mask, ranges, targets),
             Form::IpNet => self.emit_ip_net_list(known, sides, mask, ranges, targets),
             Form::ArpNet => self.emit_arp_net_list(ARP, sides, mask, ranges, targets),
@@ -430,8 +424,8 @@ impl Code {
             Form::TcpOrUdpPorts => self.emit_tcp_or_udp_port_list(known, sides, ranges, targets),
             Form::IpProto => self.emit_protocol_list(known, ranges, targets),
             Form::EtherProto => self.emit_type_list(ranges, targets),
-            Form::EtherHost => self.emit_ethernet_list(sides, head, ranges, targets),
-            Form::Bytes => self.emit_bytes_list(known, bytes, ranges, targets),
+            Form::EtherHost => self.emit_ethernet_list(sides, kind.head, ranges, targets),
+            Form::Bytes => self.emit_bytes_list(known, kind.bytes, ranges, targets),
         }
     }
 }

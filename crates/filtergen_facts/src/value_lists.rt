@@ -175,7 +175,7 @@ impl OtherMembers {
         }
     }
 
-    /// Takes at most so many links from the right end of an expression, and returns what is left of it.
+    /// Takes at most `most` links from the right end of an expression, and returns what is left of it.
     fn take_links<'a>(&mut self, chain: Chain, expr: &'a Expr, most: usize) -> Option<&'a Expr>
         ensures { MatchOption result
             (Takes chain (tree_of expr.now) None self.old.members.items self.new.members.items)
@@ -366,7 +366,7 @@ impl ValueLists {
         }
     }
 
-    /// The lists of the last link and of so many links to its left.
+    /// The lists of the last link and of `more` links to its left.
     #[inline(never)]
     fn of_links<'a>(
         chain: Chain,

@@ -15,20 +15,20 @@ pub const MAX_CODE: usize = 552;
 // Clauses and definitions name the constant: it is this number.
 const _: () = prove!(MAX_CODE == 552);
 
-/// Where a run goes on behind an instruction.
+/// Where a run goes on after an instruction.
 #[derive(Clone, Copy)]
 enum Onward {
     /// Nowhere: it ends.
     Nowhere,
     /// At the instruction that follows.
     Next,
-    /// Past so many of those that follow.
+    /// After this number of further instructions.
     Jump(u32),
-    /// Past so many of them, or past so many.
+    /// After one of these numbers of further instructions.
     Either(u8, u8),
 }
 
-/// Where a run goes on behind an instruction. Each code of a jump has an arm of its own, since the proof goes by the code.
+/// Where a run goes on after an instruction. Each opcode of a jump has its own arm, since the proof goes by the opcode.
 fn onward_of(insn: Insn) -> Onward
     requires { IsSound insn }
     ensures { result ≡ onward_of insn }
@@ -66,7 +66,7 @@ fn mark_next(next: Onward, place: usize, marks: &mut [bool])
     }
 }
 
-/// Marks the places of code that are reached: jumps lead forward alone, so that one walk finds them.
+/// Marks the places of code that are reached. Jumps only lead forward, so one walk finds them.
 fn mark_reached(insns: &[Insn], marks: &mut [bool])
     requires code { IsSoundCode insns.now }
     requires room { length insns.now ≤ length marks.old }
@@ -82,7 +82,7 @@ fn mark_reached(insns: &[Insn], marks: &mut [bool])
     }
 }
 
-/// How many of the first so many places are marked.
+/// How many of the first `passed` places are marked.
 fn count_marked(after: &[bool], passed: usize) -> usize
     requires { passed ≤ length after.now }
     ensures value { result ≡ count_marked passed after.now }
@@ -97,7 +97,7 @@ fn count_marked(after: &[bool], passed: usize) -> usize
     count
 }
 
-/// The instruction, which passes only what is kept of those behind it.
+/// The instruction, made to pass only those after it that are kept.
 fn shorten_jumps(insn: Insn, after: &[bool]) -> Insn
     requires sound { IsSound insn }
     requires inside { (n : ℕ) → MayGo (onward_of insn) n → n ≤ length after.now }
