@@ -32,7 +32,7 @@ GATE, APART = "must-fail", "more-must-fail"
 PARTS = ("src", "specs", "proofs")
 
 # A head of a function or of an impl, in rt fmt's layout: what it opens ends at the next `}` that stands as far in.
-HEAD = re.compile(r"^( *)(?:pub(?:\([a-z]+\))? )?(?:const )?fn (\w+)|^()((?:unsafe )?impl\b.*|(?:pub )?trait .*)\{$", re.M)
+HEAD = re.compile(r'^( *)(?:pub(?:\([a-z]+\))? )?(?:const )?(?:unsafe )?(?:extern "C" )?fn (\w+)|^()((?:unsafe )?impl\b.*|(?:pub )?trait .*)\{$', re.M)
 # What the check says of an item that is not proved, and of one that only calls such an item.
 UNPROVED = re.compile(r"^(?:fn|struct|enum|impl|trait|const) (\S+): (not proved.*|no proof.*)$", re.M)
 CALLS_UNPROVED = "no proof: it calls "

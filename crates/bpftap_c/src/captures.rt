@@ -157,7 +157,7 @@ pub extern "C" fn bpftap_next(memory: &[u8], reader: &mut BpftapReader) -> Bpfta
     if reader.place == u64::MAX {
         return unread(reader, code_of(Failure::Capture(Fault::CountFull)));
     }
-    if reader.offset >= memory.len() {
+    if reader.offset > memory.len() {
         return unread(reader, END);
     }
     match record_of(header_in(reader), reader.place, &memory[reader.offset..]) {
