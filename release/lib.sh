@@ -5,8 +5,8 @@
 # release/SHA256SUMS has the checksum of each of these files. Its comments have the key of the sources, the toolchain that built them, and
 # the checksum of the archive.
 archive=release/bpftap-x86_64-linux.tar.gz sums=release/SHA256SUMS
-# A program is unpacked and noted in `out`, or here if that is read-only.
-cache=${XDG_CACHE_HOME:-${HOME:-/dev/null}/.cache}/bpftap
+# A program is unpacked and noted in `out`, or here if that is read-only. A relative path would be another folder at each call.
+case ${XDG_CACHE_HOME-} in /*) cache=$XDG_CACHE_HOME/bpftap ;; *) cache=${HOME:-/dev/null}/.cache/bpftap ;; esac
 
 # One line, and a status that is none of the program's own.
 refuse() { echo "bpftap: $*" >&2; exit 125; }
@@ -21,7 +21,7 @@ checksum() { sha256sum -- "$1" | cut -c 1-64; }
 texts() ( # FORM [MORE..]
   form=$1
   shift
-  cd -- "$root" && exec find "$@" crates/*/src crates/*/specs -type f -not -path 'crates/test_*' -printf "$form" 2>/dev/null
+  cd -- "$root" && exec find -L "$@" crates/*/src crates/*/specs -type f -not -path 'crates/test_*' -printf "$form" 2>/dev/null
 )
 
 # The released files that a build makes, and those that no build makes, such as a header.
@@ -41,18 +41,21 @@ sources_key() (
 # Whether the release is of the sources with this key.
 is_release_of() { [ -f "$root/$archive" ] && [ "$1" = "$(said sources)" ]; }
 
-# Shows that no file was changed since this was noted: the paths, inodes, sizes and times of the sources and of the release.
-state() { texts '%p %i %s %T@ %C@\n' crates.txt release $(others); }
+# Shows that no file was changed since this was noted: the paths, inodes, sizes and times of the sources and of the release, and first of a
+# program if one is named.
+state() { texts '%p %i %s %T@ %C@\n' "$@" crates.txt release $(others); }
 
 # Sets `program` to the path of this folder's program, and `origin` to how it came there. They are noted with the state, so that the next
 # call need not read the files.
 find_program() {
   for place in "$root/out" "$cache"; do
     { IFS= read -r program && IFS= read -r origin; } 2>/dev/null <"$place/noted" && [ -x "$program" ] || continue
-    { printf '%s\n' "$program" "$origin" && state; } | cmp -s - "$place/noted" && return
+    { printf '%s\n' "$program" "$origin" && state "$program"; } | cmp -s - "$place/noted" && return
   done
   noted=$(state)
   choose_program
+  noted="$(state "$program" | head -n 1)
+$noted"
   for place in "$root/out" "$cache"; do
     mkdir -p -- "$place" && printf '%s\n' "$program" "$origin" "$noted" >"$place/noted.$$" && mv -- "$place/noted.$$" "$place/noted" && return
   done 2>/dev/null
@@ -81,6 +84,9 @@ choose_released() {
   "$program" --version >/dev/null 2>&1 || refuse "the released program does not run here: it is for glibc 2.34 and later. $build"
 }
 
+# The checksums of a folder's files. A link is none.
+contents() (cd -- "$1" && find . -type f -printf '%P\0' | LC_ALL=C sort -z | xargs -0 sha256sum)
+
 # Prints the path of this folder's program.
 program_path() { find_program && echo "$program"; }
 
@@ -90,7 +96,7 @@ unpack() {
   [ "$sum" = "$(said archive)" ] || refuse "$archive is damaged: its SHA-256 is not the one in $sums"
   unpack_in "$root/out/released/$sum" || unpack_in "$cache/released/$sum" ||
     refuse "no program can be put in $root/out or $cache: set XDG_CACHE_HOME to a folder of yours"
-  (cd -- "$unpacked" && sha256sum --status -c "$root/$sums") 2>/dev/null || refuse "$unpacked is not what $sums says"
+  [ "$(contents "$unpacked")" = "$(grep -v '^#' -- "$root/$sums")" ] || refuse "$unpacked is not what $sums says"
 }
 
 # Unpacks in a folder, which is there at once or not at all: another call may be doing the same.
@@ -118,10 +124,11 @@ keep() { # KEY
 compare() {
   key=$(sources_key) kit=$(rt version)
   is_release_of "$key" || { echo 'the release is not of these sources: make it by ./build --release, and commit it'; return 1; }
+  [ -n "$kit" ] && [ -n "$(said toolchain)" ] || { echo "no toolchain is here, or none is named in $sums"; return 1; }
   unpack
   if [ "$kit" != "$(said toolchain)" ]; then
     echo "the released program is not compared: it was built by $(said toolchain), and here is $kit"
-  elif diff -rq -- "$unpacked" "$root/out/built/$key"; then
+  elif diff -rq --no-dereference -- "$unpacked" "$root/out/built/$key"; then
     echo 'the released program is what these sources give'
   else
     echo 'the released program is not what these sources give'
@@ -138,10 +145,10 @@ pack() {
   { echo "# sources $key"
     echo "# toolchain $(rt version)"
     echo "# archive $(checksum "$root/$archive")"
-    cd -- "$built" && find . -type f -printf '%P\0' | LC_ALL=C sort -z | xargs -0 sha256sum
+    contents "$built"
   } >"$root/$sums"
   echo "$archive has $(stat -c %s "$root/$archive") bytes; $sums says:"
   cat -- "$root/$sums"
 }
 
-case ${0##*/} in lib.sh) root=$(cd -- "$(dirname -- "$0")/.." && pwd) && "$@" ;; esac
+case ${0##*/} in lib.sh) root=$(CDPATH= cd -- "$(dirname -- "$0")/.." && pwd) && "$@" ;; esac
