@@ -1,14 +1,21 @@
-use Rattle.std.proofs.Common.{◌<◌, ◌^◌, ◌-◌, length, rules}
-use Rattle.std.proofs.lemmas.Result.{IfOk-weaker, IfErr-weaker}
-use Rattle.cli_split.proofs.Planned.{all_lines, refused}
+use Rattle.std.proofs.Common.{◌≤◌, length, rules, sym}
+use Rattle.cli_filter.proofs.Planned.{zip-length}
+use Rattle.cli_split.specs.Lines.{IsCompiled}
+use Rattle.cli_split.proofs.Planned.{all_few, too_many, uncompiled}
 use Rattle.cli_split.proofs.plan.read_plan.Goals as goal
 
-pub returns-clause-lines : goal.returns-clause-lines
-returns-clause-lines c =
-    let many : length c.args.text.now < 2 ^ 64 - 1 = search rules in
-    IfOk-weaker c.read_plan.result _ _ (λ plan are. all_lines (2 ^ 64 - 1) c.args.text.now plan.lines.items many are) c.read_plan.ensures.lines
+pub returns-then-len-gt-MAX_LINES-clause-fault : goal.returns-then-len-gt-MAX_LINES-clause-fault
+returns-then-len-gt-MAX_LINES-clause-fault c = too_many c.args.text.now c.in_ok-lines.lines.items (search rules) c.in_ok-lines.ensures.ok
 
-pub returns-clause-fault : goal.returns-clause-fault
-returns-clause-fault c =
-    let many : length c.args.text.now < 2 ^ 64 - 1 = search rules in
-    IfErr-weaker c.read_plan.result _ _ (λ fault why. refused (2 ^ 64 - 1) c.args.text.now fault many why) c.read_plan.ensures.fault
+pub returns-in_err-programs-clause-fault : goal.returns-in_err-programs-clause-fault
+returns-in_err-programs-clause-fault c =
+    let few : length c.in_ok-lines.lines.items ≤ 1024 = search rules in
+    let are = all_few c.args.text.now c.in_ok-lines.lines.items few c.in_ok-lines.ensures.ok in
+    let why = uncompiled c.args.text.now c.in_ok-lines.lines.items c.in_err-programs.field-0.0 are (rw c.as_slice.ensures.value at c.in_err-programs.ensures.fault) in
+    search rules
+
+pub returns-clause-lines : goal.returns-clause-lines
+returns-clause-lines c = all_few c.args.text.now c.in_ok-lines.lines.items (search rules) c.in_ok-lines.ensures.ok
+
+pub returns-clause-all : goal.returns-clause-all
+returns-clause-all c = sym (zip-length IsCompiled c.in_ok-lines.lines.items c.in_ok-programs.programs.items (rw c.as_slice.ensures.value at c.in_ok-programs.ensures.programs))
