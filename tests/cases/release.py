@@ -80,6 +80,17 @@ def the_program_is_that_of_the_sources(scene):
     more.write_text("")
     scene.check("a new file", clone.call(), lack)
     more.unlink()
+    specs = clone.folder / "crates" / "low" / "specs"
+    specs.mkdir()
+    (specs / "Lib.antt").write_text("pub mod Low\n")
+    scene.check("a definition", clone.call(), lack)
+    shutil.rmtree(specs)
+    scene.check("without it", clone.call(), clone.answer())
+    sums = clone.folder / "release" / "SHA256SUMS"
+    named = sums.read_text()
+    sums.write_text(named.replace("# sources ", "# sources 0"))
+    scene.check("a release of other sources", clone.call(), lack)
+    sums.write_text(named)
     crates.write_text(crates.read_text().replace("middle: low", "middle: low thiserror"))
     scene.check("another crates.txt", clone.call(), lack)
 
@@ -145,6 +156,55 @@ def a_damaged_archive_is_refused(scene):
     seen = clone.call("check", "ip")
     scene.check("another checksum of the program", (seen.err.endswith(b" is not what release/SHA256SUMS says\n"), seen.status), (True, 125))
     scene.check("run", (clone.home / "ran").exists(), False)
+
+
+@case
+def a_program_that_was_changed_is_not_run(scene):
+    """What was unpacked is looked at before each call, also if it was changed after the first one."""
+    clone = Clone(scene)
+    clone.call()
+    program = next((clone.folder / "out").glob("released/*/bin/bpftap"))
+    program.write_text(MARKS)
+    seen = clone.call("check", "ip")
+    scene.check("changed", (seen.err.endswith(b" is not what release/SHA256SUMS says\n"), seen.status), (True, 125))
+    scene.check("run", (clone.home / "ran").exists(), False)
+    program.write_text(MADE)
+    scene.check("put back", clone.call(), clone.answer())
+
+
+@case
+def an_archive_has_what_is_listed_and_no_more(scene):
+    """A program that the list does not name, and a link in place of the program, are not run."""
+    clone = Clone(scene, MARKS)
+    sums = clone.folder / "release" / "SHA256SUMS"
+    named = sums.read_text()
+    sums.write_text("".join(line for line in named.splitlines(True) if line.startswith("#")))
+    seen = clone.call("check", "ip")
+    scene.check("not listed", (seen.err.endswith(b" is not what release/SHA256SUMS says\n"), seen.status), (True, 125))
+    sums.write_text(named)
+    shutil.rmtree(clone.folder / "out")
+    tree = scene.folder / "tree"
+    (tree / "bin").mkdir(parents=True)
+    (clone.home / "elsewhere").write_text(MARKS)
+    (clone.home / "elsewhere").chmod(0o755)
+    (tree / "bin" / "bpftap").symlink_to(clone.home / "elsewhere")
+    subprocess.run(["tar", "-czf", clone.folder / ARCHIVE, "-C", tree, "."], check=True, timeout=LIMIT)
+    digest = clone.lib("checksum", str(clone.folder / ARCHIVE)).out.decode().strip()
+    sums.write_text("".join(f"# archive {digest}\n" if line.startswith("# archive") else line for line in named.splitlines(True)))
+    seen = clone.call("check", "ip")
+    scene.check("a link", (seen.err.endswith(b" is not what release/SHA256SUMS says\n"), seen.status), (True, 125))
+    scene.check("run", (clone.home / "ran").exists(), False)
+
+
+@case
+def an_edit_during_the_first_call_is_seen(scene):
+    """A source that is edited while the first call unpacks and tries the program is newer than what that call notes."""
+    edits = MADE.replace("#!/bin/sh\n", '#!/bin/sh\n[ ! -f "$HOME/source" ] || { cat "$HOME/edit" >>"$(cat "$HOME/source")"; rm "$HOME/source"; }\n')
+    clone = Clone(scene, edits)
+    (clone.home / "edit").write_text("// more\n")
+    (clone.home / "source").write_text(str(clone.src("low") / "lib.rt"))
+    clone.call("--version")
+    scene.check("the next call", clone.call(), Seen(b"", b"bpftap: the toolchain's command 'rt' is not on the PATH\n", 125))
 
 
 @case
@@ -312,3 +372,12 @@ def the_gate_compares(scene):
     scene.check("another toolchain", gate(clone), ("8 passed, 0 failed", told, 0))
     clone.edit("low")
     scene.check("other sources", gate(clone), ("7 passed, 1 failed", STALE, 1))
+    clone.release()
+    (clone.kit / "version").write_text("kit 1\n")
+    left = clone.folder / "crates" / "bpftap" / "out" / "bpftap"
+    left.parent.mkdir(parents=True, exist_ok=True)
+    left.write_text(MADE)
+    left.chmod(0o755)
+    rt = clone.kit / "bin" / "rt"
+    rt.write_text(rt.read_text().replace('cp "$KIT/program" crates/bpftap/out/bpftap; ', ""))
+    scene.check("nothing built, over what an earlier gate left", gate(clone)[2], 1)
