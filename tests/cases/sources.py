@@ -6,9 +6,10 @@ from .common import ROOT, case
 # A comment, up to the end of its line.
 COMMENT = re.compile(r"//.*")
 
-# What a call that waits without `Wait` is made of: a loop; a lock or an atomic of the standard library, or what it has of threads; a load of
-# `atomic_table` that needs no seat, and so stands in no list of steps.
-WAITS = re.compile(r"\bfor\b.*\bin\b|\b(?:while|loop)\b|\bstd::(?:sync|thread|hint)\b|\bpeek\b")
+# What a call that waits without `Wait` is made of: a loop, or an iterator that runs one; a lock or an atomic of the standard library, or
+# what it has of threads, however it is imported; a load of `atomic_table` that needs no seat, and so stands in no list of steps.
+WAITS = re.compile(
+    r"\bfor\b.*\bin\b|\b(?:while|loop|sync|thread|hint|Mutex|try_lock|peek)\b|\.(?:any|all|find|position|fold|for_each)\(")
 
 
 def waiting_lines(text):
@@ -24,5 +25,6 @@ def calls_of_handover_do_not_wait(scene):
     for source in sources:
         scene.check(f"{source.name}: lines that could wait", waiting_lines(source.read_text()), [])
     # The search finds what it is for.
-    for line in ["for _ in 0..u64::MAX {", "let x = loop {", "while full {", "use std::sync::Mutex;", "table.peek(TURN)"]:
+    for line in ["for _ in 0..u64::MAX {", "let x = loop {", "while full {", "use std::sync::Mutex;", "use std::{mem, sync::Mutex};",
+                 "(0..u64::MAX).any(|_| is_free(&lock))", "table.peek(TURN)"]:
         scene.check(line, waiting_lines(line), [line])
