@@ -19,7 +19,7 @@ def listed(folder):
 # Below the prefix: the program, the pages, the completions, and the documents, in the order in which they are put.
 PUT = {
     "bin/bpftap": None,
-    **{f"share/man/man1/{page.name}": f"man/{page.name}" for page in PAGES},
+    **{f"share/man/man{page.suffix[1:]}/{page.name}": f"man/{page.name}" for page in sorted((ROOT / "man").iterdir())},
     "share/bash-completion/completions/bpftap": "completions/bpftap.bash",
     "share/zsh/site-functions/_bpftap": "completions/_bpftap",
     "share/fish/vendor_completions.d/bpftap.fish": "completions/bpftap.fish",

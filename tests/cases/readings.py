@@ -42,7 +42,7 @@ TREES = [
     ("ether[0] = 1", "ether[0] = 1"), ("ip[0] = 1", "ip[0] = 1"), ("arp[0:1] = 1", "arp[0] = 1"),
     ("rarp[0:2] = 1", "rarp[0:2] = 1"), ("tcp[0:4] = 1", "tcp[0:4] = 1"), ("udp[0:0x4] = 1", "udp[0:4] = 1"),
     ("icmp [ 0 : 02 ] = 1", "icmp[0:2] = 1"), ("10 - 4 - 3 = len", "(10 - 4 - 3) = len"),
-    ("len = 1 + 2 * 3", "len = (1 + (2 * 3))"), ("-1 = 4294967295", "-1 = 4294967295"), ("(tcp-syn) < icmptype", "2 < 0"),
+    ("len = 1 + 2 * 3", "len = (1 + (2 * 3))"), ("-1 = 4294967295", "(-1 = 4294967295)"), ("(tcp-syn) < icmptype", "2 < 0"),
 ]
 
 # The same, of all that is printed in another form than it is written, and of what is joined.
@@ -62,11 +62,11 @@ PRINTED = [
     ("port (80 or not 443)", "port 80 or not port 443"), ("not tcp[0] = 1", "not (tcp[0] = 1)"), ("len > 60", "len > 60"),
     ("tcp[tcpflags] & tcp-syn != 0", "(tcp[13] & 2) != 0"), ("1 + 2 * 3 - 4 == len", "(1 + (2 * 3) - 4) = len"),
     ("(1 - 2) - 3 < 4", "(1 - 2 - 3) < 4"), ("1 - (2 - 3) >= 4", "(1 - (2 - 3)) >= 4"),
-    ("8 / (4 / 2) != 1", "(8 / (4 / 2)) != 1"), ("-(-1 + len) <= - -1", "-(-1 + len) <= --1"),
+    ("8 / (4 / 2) != 1", "(8 / (4 / 2)) != 1"), ("-(-1 + len) <= - -1", "(-(-1 + len) <= --1)"),
     ("ip[ip[0:1]:2] % 7 << 1 | 2 ^ 3 >> 4 > 0", "(((ip[ip[0]:2] % 7) << 1) | (2 ^ (3 >> 4))) > 0"),
     ("icmp[len / 2:4] > 0", "icmp[len / 2:4] > 0"),
     ("ether[0] + arp[1:2] = rarp[2:4] + udp[3]", "(ether[0] + arp[1:2]) = (rarp[2:4] + udp[3])"),
-    ("not port 80 and tcp or port (1 or 2)", "(not port 80 and tcp) or (port 1 or port 2)"), ("-len = ip[1]", "-len = ip[1]"),
+    ("not port 80 and tcp or port (1 or 2)", "(not port 80 and tcp) or (port 1 or port 2)"), ("-len = ip[1]", "(-len = ip[1])"),
 ]
 
 # Two texts that read as the same tree, the second with each phrase written.
