@@ -55,32 +55,43 @@ only_protocol protocol = record { protocol = Some protocol; direction = None; ty
 abbrev pub is_written : Phrase → Bool
 is_written phrase = is_some phrase.protocol || is_some phrase.direction || is_some phrase.type_word
 
--- a primitive that is no relation and has no group, and what it has to give
+-- A primitive that is no relation and has no group, and what it has to give. Above each constructor stands the line of the grammar that it is.
 pub data Prim : Option Qualifiers → List Kind → Primitive → Option Qualifiers → List Kind → Type 0 where
+  -- prim := ip | arp | rarp | tcp | udp | icmp | sctp
   prim_plain : {q : Option Qualifiers} {ts rest : List Kind} {protocol : Protocol} {p : Plain}
       → phrase_at ts ≡ (only_protocol protocol, rest) → stands_alone protocol rest ≡ true → plain_of protocol ≡ Some p
       → Prim q ts (primitives.Protocol p) None rest
+  -- prim := broadcast
   prim_broadcast : {q : Option Qualifiers} {rest : List Kind}
       → Prim q (kind.Broadcast ∷ rest) primitives.EtherBroadcast None rest
+  -- prim := ether broadcast
   prim_ether_broadcast : {q : Option Qualifiers} {rest : List Kind}
       → Prim q (kind.Protocol protocols.Ether ∷ kind.Broadcast ∷ rest) primitives.EtherBroadcast None rest
+  -- prim := multicast
   prim_multicast : {q : Option Qualifiers} {rest : List Kind}
       → Prim q (kind.Multicast ∷ rest) primitives.EtherMulticast None rest
+  -- prim := ether multicast
   prim_ether_multicast : {q : Option Qualifiers} {rest : List Kind}
       → Prim q (kind.Protocol protocols.Ether ∷ kind.Multicast ∷ rest) primitives.EtherMulticast None rest
+  -- prim := ip multicast
   prim_ip_multicast : {q : Option Qualifiers} {rest : List Kind}
       → Prim q (kind.Protocol protocols.Ip ∷ kind.Multicast ∷ rest) primitives.IpMulticast None rest
+  -- prim := less NUMBER
   prim_less : {q : Option Qualifiers} {rest : List Kind} {n : ℕ}
       → Prim q (kind.Less ∷ kind.Number n ∷ rest) (primitives.Less n) None rest
+  -- prim := greater NUMBER
   prim_greater : {q : Option Qualifiers} {rest : List Kind} {n : ℕ}
       → Prim q (kind.Greater ∷ kind.Number n ∷ rest) (primitives.Greater n) None rest
+  -- prim := phrase id
   prim_phrase : {q : Option Qualifiers} {ts mid rest : List Kind} {phrase : Phrase} {g : Qualifiers} {id : Identifier} {p : Primitive}
       → phrase_at ts ≡ (phrase, mid) → is_written phrase ≡ true → qualifiers_of phrase ≡ Some g
       → identifier_at mid ≡ Some (id, rest) → identified g id ≡ Some p
       → Prim q ts p (Some g) rest
+  -- prim := id
   prim_inherited : {ts rest : List Kind} {g : Qualifiers} {id : Identifier} {p : Primitive}
       → identifier_at ts ≡ Some (id, rest) → identified g id ≡ Some p
       → Prim (Some g) ts p (Some g) rest
+  -- prim := [proto] [dir] portrange NUMBER "-" NUMBER
   prim_portrange : {q : Option Qualifiers} {ts rest : List Kind} {phrase : Phrase} {t : Option Transport} {a b : ℕ} {p : Primitive}
       → phrase_at ts ≡ (phrase, kind.PortRange ∷ kind.Number a ∷ kind.Operator Minus ∷ kind.Number b ∷ rest)
       → phrase.type_word ≡ None → transport_of phrase.protocol ≡ Some t

@@ -12,20 +12,27 @@ use Rattle.filterlang.specs.Numbers.{number_or_dotted_at, ethernet_at}
 abbrev pub is_blank : ℕ → Bool
 is_blank b = b == 32 || b == 9 || b == 13 || b == 10
 
--- the first value, where there is one
+abbrev pub is_backslash : ℕ → Bool
+is_backslash b = b == 92
+
+-- what is found, or else another answer
 abbrev pub found_or : {A E : Type 0} → Option A → Result A E → Result A E
 found_or (Some x) other = Ok x
 found_or None other = other
 
--- The token at the front of a text, and how many bytes it has, by the first rule that applies: an Ethernet
--- address; at a digit a number or dotted address; at a letter a word; at a backslash a name; else the
--- longest sign. Where there is none: why.
+-- The token at the front of a text and how many bytes it has, by the first rule that applies. If that rule finds none, there is
+-- no token, and the rule says why: no later one is asked.
 unfoldable pub token_at : List ℕ → Result (Kind × ℕ) Cause
 token_at text =
+    -- 1. if an Ethernet address is written there, it is that;
     found_or (ethernet_at text)
+    -- 2. at a digit, a number or a dotted address;
     (if begins is_ascii_digit text then ok_or (number_or_dotted_at text) BadNumber
+    -- 3. at a letter, a word or a named value;
     else (if begins is_ascii_alphabetic text then ok_or (whole_word words text) BadWord
-    else (if begins (λ b. b == 92) text then ok_or (option_map (λ name. (name.0, name.1 + 1)) (whole_word names (drop 1 text))) BadWord
+    -- 4. at a backslash, a name, which has one byte more than its word;
+    else (if begins is_backslash text then ok_or (option_map (λ name. (name.0, name.1 + 1)) (whole_word names (drop 1 text))) BadWord
+    -- 5. else a sign, the longest that is there.
     else ok_or (standing signs text) BadByte)))
 
 -- a token, or why there is none

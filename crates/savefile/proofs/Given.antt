@@ -61,7 +61,7 @@ gives_packet left start h ps a b g same counts ended failed passes =
     record {
       text = g.text ++ alone.0;
       reads = IsSavefile-push g.text alone.0 [] h.order h.unit h.snap ps b.lent g.reads alone.2;
-      passed = passed_more start (left a.source) (left b.source) a.ahead b.ahead g.text passes.0 alone.0 g.passed passes.1 alone.1;
+      still_to_pass = passed_more start (left a.source) (left b.source) a.ahead b.ahead g.text passes.0 alone.0 g.still_to_pass passes.1 alone.1;
       told = same ∙ g.told;
       counts = omega (arith, counts, g.counts, length-append ps (b.lent ∷ []));
       goes_on = (ended ∙ g.goes_on.0, failed ∙ g.goes_on.1);
@@ -74,7 +74,7 @@ pub gives_all : {R : Type 0} (left : R → Option (List ℕ)) (start : Option (L
 gives_all left start h ps a source waiting g (grows, nothing, end) =
     let rest = waiting ++ [] in
     let none : rest ≡ [] = append-nil waiting ∙ nothing in
-    let passed = passed_more start (left a.source) (left source) a.ahead waiting g.text grows.0 [] g.passed grows.2 (sym grows.1) in
+    let passed = passed_more start (left a.source) (left source) a.ahead waiting g.text grows.0 [] g.still_to_pass grows.2 (sym grows.1) in
     let all = rw append-nil at passed in
     record {
       text = g.text ++ rest;
@@ -96,7 +96,7 @@ pub gives_fault : {R : Type 0} (left : R → Option (List ℕ)) (start : Option 
     → IsCause start (left source) h ps fault
 gives_fault left start h ps a source waiting fault g (grows, why) =
     let header : a.header ≡ h = g.told in
-    let passed = passed_more start (left a.source) (left source) a.ahead waiting g.text grows.0 [] g.passed grows.2 (sym grows.1) in
+    let passed = passed_more start (left a.source) (left source) a.ahead waiting g.text grows.0 [] g.still_to_pass grows.2 (sym grows.1) in
     let all = rw append-nil at passed in
     elim why [
       | inl broke ↦ inr (inl (
@@ -159,7 +159,7 @@ begins_all left start h ps r g =
       first_fault order h.unit (length (ps ++ all.0)) all.1,
       record {
         text = g.text ++ rest;
-        told = whole_text start (left r.source) r.ahead g.text (unwrap_or (left r.source) []) g.passed (left_told (left r.source));
+        told = whole_text start (left r.source) r.ahead g.text (unwrap_or (left r.source) []) g.still_to_pass (left_told (left r.source));
         holds = record {
           rest = all.1;
           reads = record { header = front.header; records = records };

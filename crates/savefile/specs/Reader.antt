@@ -44,11 +44,11 @@ Lends r = GoesOn r × (0 < r.given)
 -- ---- Whole readings
 
 -- A reader has given these packets and goes on: what it passed is a savefile of exactly these packets. Its source had
--- `start` left before.
+-- `start` left before. What it read ahead, and what its source has left now, is still to be passed.
 pub record HasGiven {R : Type 0} (left : R → Option (List ℕ)) (start : Option (List ℕ)) (header : Header) (packets : List Packet) (r : Reading R) : Type 0 where
   pub text : List ℕ
   pub reads : IsSavefile text header.order header.unit header.snap packets []
-  pub passed : Consumes start (prepend_known r.ahead (left r.source)) text
+  pub still_to_pass : Consumes start (prepend_known r.ahead (left r.source)) text
   pub told : r.header ≡ header
   pub counts : r.given ≡ length packets
   pub goes_on : GoesOn r

@@ -36,6 +36,8 @@ pub struct Header {
 /// The bytes of a file header.
 pub const HEADER_LEN: usize = 24;
 
+const _: () = prove!(HEADER_LEN == 24);
+
 const MAGIC_MICRO: u32 = 0xa1b2_c3d4;
 
 const MAGIC_NANO: u32 = 0xa1b2_3c4d;

@@ -21,6 +21,8 @@ pub(crate) struct RecordHeader {
 /// The bytes of a record's header.
 pub const RECORD_HEADER_LEN: usize = 16;
 
+const _: () = prove!(RECORD_HEADER_LEN == 16);
+
 /// The most bytes that are captured of a packet, so that a record may have, read or written: libpcap's `MAXIMUM_SNAPLEN`.
 pub const MAX_SNAP: u32 = 262_144;
 

@@ -12,7 +12,7 @@ returns-in-Ok-read_header-clause-ok g c =
     record {
       text = text;
       reads = savefile;
-      passed = passed_first _ _ more text (waiting_in c.read_header.new.ahead) (subst (λ (s : g.row.R.Denot). Consumes (g.R.Source.left s) (g.R.Source.left c.read_header.new.ahead.source) more) c.in-Ok.ensures.source consumes) first;
+      still_to_pass = passed_first _ _ more text (waiting_in c.read_header.new.ahead) (subst (λ (s : g.row.R.Denot). Consumes (g.R.Source.left s) (g.R.Source.left c.read_header.new.ahead.source) more) c.in-Ok.ensures.source consumes) first;
       told = refl;
       counts = refl;
       goes_on = (refl, refl);
