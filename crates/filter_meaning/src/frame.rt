@@ -65,14 +65,26 @@ impl Notes {
         self.kept
     }
 
-    /// Notes one more look.
-    fn note(&mut self, look: Look)
+    /// Keeps one more look.
+    #[cold]
+    #[inline(never)]
+    fn keep(&mut self, look: Look)
         ensures { Noted self.old self.new (look ∷ []) }
     {
         if let Some(mut kept) = self.kept.take() {
             if kept.push(look).is_ok() {
                 self.kept = Some(kept);
             }
+        }
+    }
+
+    /// Notes one more look.
+    #[inline]
+    fn note(&mut self, look: Look)
+        ensures { Noted self.old self.new (look ∷ []) }
+    {
+        if self.kept.is_some() {
+            self.keep(look);
         }
     }
 }
