@@ -19,7 +19,7 @@ use Rattle.handover.specs.declared.calls.Take.TheVariants.{Full, Nothing, Ended}
 use Rattle.handover.specs.declared.view.Role.TheVariants.{Joined, Spent}
 use Rattle.handover.specs.declared.view.Profile.{Profile}
 use Rattle.handover.specs.declared.view.Sight.{Sight}
-use Rattle.handover.specs.Orders.{HasOneOrder}
+use Rattle.handover.specs.Orders.{HasOneOrder, last_given}
 use Rattle.handover.specs.Allowed.{AllFit}
 use Rattle.handover.specs.Asks.{asks}
 use Rattle.handover.specs.Ends.{FeedingEnded, feeding_ended, Draining, draining, AreCountsOf, AreCountsOfCalls}
@@ -72,9 +72,10 @@ ends_well p id v w u ws xs y is calm idle (s, seen, _, _, values) there =
     let f : k.feeder ≡ joint v w = at.0 ∙ is in
     let d : k.drain ≡ joint v w = at.1 ∙ is in
     let same : p ≡ v.view.profile = sym k.feeder_profile ∙ ap (λ (o : Sight). o.view.profile) f in
-    let facts : Facts (terms_of v.view.profile) k.full k.home (joint v w).view (joint v w).view =
-    subst (λ (x : Profile). Facts (terms_of x) k.full k.home (joint v w).view (joint v w).view) same
-    (subst (λ (o : Sight). Facts (terms_of p) k.full k.home (joint v w).view o.view) d (subst (λ (o : Sight). Facts (terms_of p) k.full k.home o.view k.drain.view) f k.facts)) in
+    let given : List Message = last_given k.order in
+    let facts : Facts (terms_of v.view.profile) k.full k.home given (joint v w).view (joint v w).view =
+    subst (λ (x : Profile). Facts (terms_of x) k.full k.home given (joint v w).view (joint v w).view) same
+    (subst (λ (o : Sight). Facts (terms_of p) k.full k.home given (joint v w).view o.view) d (subst (λ (o : Sight). Facts (terms_of p) k.full k.home given o.view k.drain.view) f k.facts)) in
     let place : BufferFollowsTurn v.view.profile.capacity k.full false None k.home (hold_of (last v.view.feeds w.view.takes)) =
     subst (λ (x : Option (List Message)). BufferFollowsTurn v.view.profile.capacity k.full false x k.home (hold_of (last v.view.feeds w.view.takes))) idle
     (subst (λ (b : Bool). BufferFollowsTurn v.view.profile.capacity k.full b w.view.taking k.home (hold_of (last v.view.feeds w.view.takes))) calm facts.place) in
@@ -133,7 +134,7 @@ ends_whole p fs ts hold rest counts e r c =
     let left : hold.messages ++ rest ≡ l.pending =
     ap (λ (x : Filled). x.messages ++ rest) e.hold ∙ (ap (λ (x : List Message). hold_of l ++ x) r ∙ take-append-drop l.in_hold l.pending) in
     let steps = requests (events (merge fs ts)) in
-    let same : all_accepted steps ≡ all_accepted (asks fs) = accepted_is (merge fs ts) ∙ ap (λ (x : List Feed). all_accepted (asks x)) (feeds_in-merge false fs ts) in
+    let same : all_accepted steps ≡ all_accepted (asks fs) = accepted_is (merge fs ts) ∙ ap (λ (x : List Feed). all_accepted (asks x)) (feeds_in-merge fs ts) in
     let k = kept_counts p fs ts hold e in
     let all : (read ++ hold.messages) ++ rest ≡ read ++ l.pending =
     append_assoc read hold.messages rest ∙ ap (λ (x : List Message). read ++ x) left in

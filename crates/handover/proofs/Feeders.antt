@@ -9,17 +9,19 @@ use Rattle.listener.specs.declared.message.Message.{Message}
 use Rattle.listener.specs.declared.mode.Mode.{Mode}
 use Rattle.listener.specs.Buffers.{Filled}
 use Rattle.listener.specs.Listening.{InRange}
-use Rattle.listener.specs.Messages.{Arrival, cut_to, Keeps}
+use Rattle.listener.specs.Messages.{arrival, cut_to, Keeps}
 use Rattle.listener.proofs.ArriveSteps.{size_cut}
 use Rattle.handover.specs.declared.calls.Feed.{Feed}
 use Rattle.handover.specs.declared.calls.Feed.TheVariants.{Arrive, Flush, FlushClosed}
 use Rattle.handover.specs.declared.calls.WordStep.{WordStep}
 use Rattle.handover.specs.declared.calls.EndStep.{EndStep}
+use Rattle.handover.specs.declared.stand.Accepted.{Accepted}
+use Rattle.handover.specs.declared.stand.Stand.{Stand}
 use Rattle.handover.specs.declared.view.View.{View}
 use Rattle.handover.specs.Ends.{feeding, own_list, HasOwnRun, AreCountsOf, AreCountsOfCalls}
 use Rattle.handover.specs.Own.{received_in, matched_in, dropped_in}
-use Rattle.handover.specs.Rule.{Sat, terms_of, IsLegalWithReads}
-use Rattle.handover.specs.Seated.{IsFeeder, Offers, Went}
+use Rattle.handover.specs.Rule.{Sat, terms_of, known, IsLegalWithReads}
+use Rattle.handover.specs.Seated.{IsFeeder, IsStand, IsOffered, Went}
 use Rattle.handover.specs.Steps.{FlushAnswers}
 use Rattle.handover.proofs.Paths.{capacity_is}
 use Rattle.handover.proofs.Owns.{own_legal, own_store}
@@ -157,13 +159,13 @@ fields_after m n b c f es snap mode counts h range is w counted = (
 )
 
 -- what the code's numbers say of a packet that the filter accepts
-pub offered : (m : Sat) (b : Filled) (snap : ℕ) (program : List Insn) (a : Arrival) (kept : ℕ) → IsFeeder m b false → InRange snap b.capacity → Keeps program snap a kept
-    → Offers m b (cut_to kept a) a kept
-offered m b snap program a kept h range k =
-    let size = size_cut a kept k.captured in
-    let cap = capacity_is m b h in
+pub offered : (pair : TableId) (s : Stand) (snap : ℕ) (program : List Insn) (p : Accepted) → IsStand pair s → InRange snap s.store.capacity
+    → Keeps program snap (arrival p.capture p.place p.packet.now) p.kept → IsOffered pair s p (cut_to p.kept (arrival p.capture p.place p.packet.now))
+offered pair s snap program p h range k =
+    let size = size_cut (arrival p.capture p.place p.packet.now) p.kept k.captured in
+    let cap = capacity_is (known s.seat.me) s.store h.feeder in
     record {
-      feeder = h;
+      stand = h;
       message = refl;
       captured = k.captured;
       writable = omega (arith, k.within, range.most);

@@ -4,7 +4,7 @@ use Rattle.std.specs.Prelude.{slice_index}
 use mathlib.Core.List.{IsPrefix}
 use Rattle.handover.specs.declared.calls.Word.TheVariants.{Turn, Closed, Ended}
 use Rattle.handover.specs.declared.calls.WordStep.{WordStep}
-use Rattle.handover.specs.declared.calls.WordStep.TheVariants.{Load, Store}
+use Rattle.handover.specs.declared.calls.WordStep.TheVariants.{Load, Store, Give}
 use Rattle.handover.specs.declared.calls.EndStep.{EndStep}
 use Rattle.handover.specs.declared.calls.EndStep.TheVariants.{OfFeeder, OfDrain}
 use Rattle.handover.specs.Fresh.{NoSightSuitsBoth}
@@ -40,6 +40,7 @@ stays a b (OfDrain (Load w n) ∷ ms) none quiet = stays a b ms none quiet
 stays a b (OfDrain (Store Turn n) ∷ ms) none quiet = stays n b ms none quiet
 stays a b (OfDrain (Store Closed n) ∷ ms) none quiet = stays a n ms none quiet
 stays a b (OfDrain (Store Ended n) ∷ ms) none quiet = absurd (cc (quiet))
+stays a b (OfDrain (Give given) ∷ ms) none quiet = stays 1 b ms none quiet
 
 -- behind the feeder's store to `ended`, where the drain makes none
 ends : (a b c : ℕ) (ms : List EndStep) (fs : List WordStep) → of_feeder ms ≡ fs ++ Store Ended 1 ∷ [] → store_to Ended (of_drain ms) ≡ false
@@ -50,6 +51,7 @@ ends a b c (OfDrain (Load w n) ∷ ms) fs own quiet = ends a b c ms fs own quiet
 ends a b c (OfDrain (Store Turn n) ∷ ms) fs own quiet = ends n b c ms fs own quiet
 ends a b c (OfDrain (Store Closed n) ∷ ms) fs own quiet = ends a n c ms fs own quiet
 ends a b c (OfDrain (Store Ended n) ∷ ms) fs own quiet = absurd (cc (quiet))
+ends a b c (OfDrain (Give given) ∷ ms) fs own quiet = ends 1 b c ms fs own quiet
 ends a b c (OfFeeder e ∷ ms) [] own quiet =
     let is : e ≡ Store Ended 1 = cc (own) in
     subst (λ (x : WordStep). EndIsSet (words_from (behind (a ∷ b ∷ c ∷ []) x) ms)) (sym is) (stays a b ms (cc (own)) quiet)
@@ -57,6 +59,7 @@ ends a b c (OfFeeder (Load w n) ∷ ms) (f ∷ fs) own quiet = ends a b c ms fs 
 ends a b c (OfFeeder (Store Turn n) ∷ ms) (f ∷ fs) own quiet = ends n b c ms fs (cc (own)) quiet
 ends a b c (OfFeeder (Store Closed n) ∷ ms) (f ∷ fs) own quiet = ends a n c ms fs (cc (own)) quiet
 ends a b c (OfFeeder (Store Ended n) ∷ ms) (f ∷ fs) own quiet = ends a b n ms fs (cc (own)) quiet
+ends a b c (OfFeeder (Give given) ∷ ms) (f ∷ fs) own quiet = ends 1 b c ms fs (cc (own)) quiet
 
 -- the drain's own store to `ended` is no step of these
 not_stored : (n : ℕ) (x : WordStep) (r : List WordStep) → Store Ended n ≡ x → store_to Ended (x ∷ r) ≡ false → ⊥
@@ -80,6 +83,8 @@ never a b (OfDrain (Store Turn n) ∷ ms) (x ∷ r) later none is quiet fresh =
 never a b (OfDrain (Store Closed n) ∷ ms) (x ∷ r) later none is quiet fresh =
     never a n ms r later none (cc (is)) (neither (is_store_to Ended x) (store_to Ended r) quiet).1 fresh.1
 never a b (OfDrain (Store Ended n) ∷ ms) (x ∷ r) later none is quiet fresh = not_stored n x r (cc (is)) quiet
+never a b (OfDrain (Give given) ∷ ms) (x ∷ r) later none is quiet fresh =
+    never 1 b ms r later none (cc (is)) (neither (is_store_to Ended x) (store_to Ended r) quiet).1 fresh.1
 
 fresh_behind : (ws : List ℕ) (xs ys : List EndStep) → IsFreshFrom ws (xs ++ ys) → IsFreshFrom (words_from ws xs) ys
 fresh_behind ws [] ys fresh = fresh

@@ -12,16 +12,16 @@ use Rattle.handover.specs.declared.calls.WordStep.{WordStep}
 use Rattle.handover.specs.declared.calls.Take.{Take}
 use Rattle.handover.specs.declared.calls.Take.TheVariants.{Full, Nothing, Ended}
 use Rattle.handover.specs.declared.view.View.{View}
-use Rattle.handover.specs.History.{Happening, fed, got, shut, event_of, events, merge, finds, ended_in, EndedIsLast, feeds_in, takes_in, past_turn, kind, by_kind, Kind, plain, stores, finds_closed}
+use Rattle.handover.specs.History.{Happening, fed, got, shut, event_of, events, merge, finds, ended_in, EndedIsLast, feeds_in, takes_in, turns_of, reads_of, later_turns, kind, by_kind, Kind, plain, stores, finds_closed}
 use Rattle.handover.specs.Allowed.{Quiet, Busy, Loud, handed, AllFit}
-use Rattle.handover.specs.Tidy.{by_kind_type, Ends, Begins, Tidy, AllFind}
+use Rattle.handover.specs.Tidy.{by_kind_type, HasTurn, AreLeft, Tidy, AllFind}
 use Rattle.handover.specs.Own.{store_of, store_from}
 use Rattle.handover.specs.Rule.{Home, IsHeld, BufferFollowsTurn, last, Facts, with_feeds, with_takes, idle}
 use Rattle.handover.proofs.Runs.{run_more, legal_join, legal_front, legal_back, within_run, stored_run, open_run, fed_open, quiet_right, swap_all, Keeps, quiet_state, busy_state, loud_state, late_state}
 use Rattle.handover.proofs.Merges.{plain_before, store_last, shut_last, closed_last, Answers, read_last, feeds_in-merge, takes_in-merge}
 
 pub store_is : (t : Terms) (fs : List Feed) (ts : List Take) → Legal t empty (events (merge fs ts)) → stored (last fs ts) ≡ store_of fs
-store_is t fs ts legal = stored_run t empty (merge fs ts) (omega arith) legal ∙ ap (λ (l : List Feed). store_from [] l) (feeds_in-merge false fs ts)
+store_is t fs ts legal = stored_run t empty (merge fs ts) (omega arith) legal ∙ ap (λ (l : List Feed). store_from [] l) (feeds_in-merge fs ts)
 
 feeds_in_reads : (ts : List Take) → feeds_in (map got ts) ≡ []
 feeds_in_reads [] = refl
@@ -118,21 +118,21 @@ quiet_plain t store FlushClosed q = absurd q
 plain_stays : (f : Feed) → kind f ≡ plain → by_kind (kind f) false false true ≡ false
 plain_stays f is = ap (λ (k : Kind). by_kind k false false true) is
 
-plain_tidy : (after : Bool) (fs : List Feed) (ts : List Take) (f : Feed) (full : Bool) → kind f ≡ plain → finds fs ≡ false → Tidy after fs ts full → Tidy after (fs ++ f ∷ []) ts full
-plain_tidy after [] ts f full is n h = subst (λ (b : Kind). by_kind_type b (Ends after full ts) (Begins after ts × Ends true full (past_turn after ts)) (Ends after full ts × Unit {0})) (sym is) h
-plain_tidy after (g ∷ fs) ts f full is n h =
-    elim (kind g) as (λ b. by_kind b (finds fs) (finds fs) true ≡ false → by_kind_type b (Tidy after fs ts full) (Begins after ts × Tidy true fs (past_turn after ts) full) (Ends after full ts × AllFind fs)
-    → by_kind_type b (Tidy after (fs ++ f ∷ []) ts full) (Begins after ts × Tidy true (fs ++ f ∷ []) (past_turn after ts) full) (Ends after full ts × AllFind (fs ++ f ∷ []))) [
-      | plain ↦ λ m k. plain_tidy after fs ts f full is m k
-      | stores ↦ λ m k. (k.0, plain_tidy true fs (past_turn after ts) f full is m k.1)
+plain_tidy : (us : List (List Take)) (fs : List Feed) (f : Feed) (full : Bool) → kind f ≡ plain → finds fs ≡ false → Tidy us fs full → Tidy us (fs ++ f ∷ []) full
+plain_tidy us [] f full is n h = subst (λ (b : Kind). by_kind_type b (AreLeft full us) (HasTurn us × AreLeft full (later_turns us)) (AreLeft full us × Unit {0})) (sym is) h
+plain_tidy us (g ∷ fs) f full is n h =
+    elim (kind g) as (λ b. by_kind b (finds fs) (finds fs) true ≡ false → by_kind_type b (Tidy us fs full) (HasTurn us × Tidy (later_turns us) fs full) (AreLeft full us × AllFind fs)
+    → by_kind_type b (Tidy us (fs ++ f ∷ []) full) (HasTurn us × Tidy (later_turns us) (fs ++ f ∷ []) full) (AreLeft full us × AllFind (fs ++ f ∷ []))) [
+      | plain ↦ λ m k. plain_tidy us fs f full is m k
+      | stores ↦ λ m k. (k.0, plain_tidy (later_turns us) fs f full is m k.1)
       | finds_closed ↦ λ m k. absurd (true≢false m)
     ] n h
 
-quiet_run : (t : Terms) (full : Bool) (fs : List Feed) (ts : List Take) (f : Feed) → finds fs ≡ false → (last fs ts).closed ≡ false → Tidy false fs ts full
+quiet_run : (t : Terms) (full : Bool) (fs : List Feed) (ts : List Take) (f : Feed) → finds fs ≡ false → (last fs ts).closed ≡ false → Tidy (turns_of ts) fs full
     → Legal t empty (events (merge fs ts)) → Quiet t (store_of fs) f
     → Legal t empty (events (merge (fs ++ f ∷ []) ts)) × (last (fs ++ f ∷ []) ts ≡ next (last fs ts) (event_of (fed f)))
 quiet_run t full fs ts f none unshut tidy legal q =
-    let b = plain_before false fs ts f full (quiet_plain t (store_of fs) f q) none tidy in
+    let b = plain_before (turns_of ts) fs f full (quiet_plain t (store_of fs) f q) none tidy in
     let s : PlainList = run empty (events b.front) in
     let reads : List Happening = map got b.reads in
     let whole : Legal t empty (events (b.front ++ reads)) = subst (λ (l : List Happening). Legal t empty (events l)) b.was legal in
@@ -148,30 +148,31 @@ quiet_run t full fs ts f none unshut tidy legal q =
     )
 
 -- what a call that neither stores nor finds the pair closed owes
-plain_facts : (t : Terms) (full : Bool) (home : Home) (v d : View) (f : Feed) (e : WordStep) → kind f ≡ plain → v.rotating ≡ false → v.ended ≡ false → finds v.feeds ≡ false
-    → AllFit t.capacity (f ∷ []) → Facts t full home v d
+plain_facts : (t : Terms) (full : Bool) (home : Home) (given : List Message) (v d : View) (f : Feed) (e : WordStep) → kind f ≡ plain → v.rotating ≡ false → v.ended ≡ false → finds v.feeds ≡ false
+    → AllFit t.capacity (f ∷ []) → Facts t full home given v d
     → Legal t empty (events (merge (v.feeds ++ f ∷ []) d.takes)) → last (v.feeds ++ f ∷ []) d.takes ≡ next (last v.feeds d.takes) (event_of (fed f))
-    → Keeps (last v.feeds d.takes) (next (last v.feeds d.takes) (event_of (fed f))) → Facts t full home (with_feeds v (f ∷ []) e false) d
-plain_facts t full home v d f e is calm going none fit k legal ends keeps = record {
+    → Keeps (last v.feeds d.takes) (next (last v.feeds d.takes) (event_of (fed f))) → Facts t full home given (with_feeds v (f ∷ []) e false) d
+plain_facts t full home given v d f e is calm going none fit k legal ends keeps = record {
   fits = fits_more t.capacity v.feeds f fit k.fits;
   legal = legal;
   is_open = ap (λ (u : PlainList). u.closed) ends ∙ (fed_open (last v.feeds d.takes) f ∙ (k.is_open ∙ (none ∙ sym (finds_more v.feeds f false (plain_stays f is) none))));
   closer = λ _. finds_more v.feeds f false (plain_stays f is) none;
   in_hold = subst (IsHeld full) (keeps.in_hold ∙ ap (λ (u : PlainList). u.in_hold) (sym ends)) k.in_hold;
-  tidy = plain_tidy false v.feeds d.takes f full is none k.tidy;
-  late = no_ended (merge (v.feeds ++ f ∷ []) d.takes) (ap ended_in (takes_in-merge false (v.feeds ++ f ∷ []) d.takes) ∙ k.ender going);
+  tidy = plain_tidy (turns_of d.takes) v.feeds f full is none k.tidy;
+  late = no_ended (merge (v.feeds ++ f ∷ []) d.takes) (ap ended_in (takes_in-merge (v.feeds ++ f ∷ []) d.takes) ∙ k.ender going);
   ender = k.ender;
   unclosed = λ _. finds_more v.feeds f false (plain_stays f is) none;
   seen = k.seen;
   place = subst (BufferFollowsTurn t.capacity full false d.taking home) (keeps.hold ∙ ap hold_of (sym ends)) (subst (λ (x : Bool). BufferFollowsTurn t.capacity full x d.taking home (hold_of (last v.feeds d.takes))) calm k.place);
+  held_given = λ y. ap hold_of ends ∙ (sym keeps.hold ∙ k.held_given y);
 }
 
-pub quiet_keeps : (t : Terms) (full : Bool) (home : Home) (v d : View) (f : Feed) (e : WordStep) → v.rotating ≡ false → v.ended ≡ false → finds v.feeds ≡ false
-    → AllFit t.capacity (f ∷ []) → Quiet t (store_of v.feeds) f → Facts t full home v d → Facts t full home (with_feeds v (f ∷ []) e false) d
-quiet_keeps t full home v d f e calm going none fit q k =
+pub quiet_keeps : (t : Terms) (full : Bool) (home : Home) (given : List Message) (v d : View) (f : Feed) (e : WordStep) → v.rotating ≡ false → v.ended ≡ false → finds v.feeds ≡ false
+    → AllFit t.capacity (f ∷ []) → Quiet t (store_of v.feeds) f → Facts t full home given v d → Facts t full home given (with_feeds v (f ∷ []) e false) d
+quiet_keeps t full home given v d f e calm going none fit q k =
     let r = quiet_run t full v.feeds d.takes f none (k.is_open ∙ none) k.tidy k.legal q in
     let q' : Quiet t (stored (last v.feeds d.takes)) f = subst (λ (l : List Message). Quiet t l f) (sym (store_is t v.feeds d.takes k.legal)) q in
-    plain_facts t full home v d f e (quiet_plain t (store_of v.feeds) f q) calm going none fit k r.0 r.1 (quiet_state t (last v.feeds d.takes) f (within_run (merge v.feeds d.takes)) q')
+    plain_facts t full home given v d f e (quiet_plain t (store_of v.feeds) f q) calm going none fit k r.0 r.1 (quiet_state t (last v.feeds d.takes) f (within_run (merge v.feeds d.takes)) q')
 
 -- ---- Calls that found the hold full
 
@@ -192,19 +193,19 @@ busy_plain t store (Arrive (Some m) Closed) q = absurd q
 busy_plain t store (Flush true) q = absurd q
 busy_plain t store FlushClosed q = absurd q
 
-pub busy_keeps : (t : Terms) (home : Home) (v d : View) (f : Feed) (e : WordStep) → v.rotating ≡ false → v.ended ≡ false → finds v.feeds ≡ false
-    → AllFit t.capacity (f ∷ []) → Busy t (store_of v.feeds) f → Facts t true home v d → Facts t true home (with_feeds v (f ∷ []) e false) d
-busy_keeps t home v d f e calm going none fit q k =
+pub busy_keeps : (t : Terms) (home : Home) (given : List Message) (v d : View) (f : Feed) (e : WordStep) → v.rotating ≡ false → v.ended ≡ false → finds v.feeds ≡ false
+    → AllFit t.capacity (f ∷ []) → Busy t (store_of v.feeds) f → Facts t true home given v d → Facts t true home given (with_feeds v (f ∷ []) e false) d
+busy_keeps t home given v d f e calm going none fit q k =
     let fs : List Feed = v.feeds in let ts : List Take = d.takes in
     let is = busy_plain t (store_of fs) f q in
-    let b = plain_before false fs ts f true is none k.tidy in
+    let b = plain_before (turns_of ts) fs f true is none k.tidy in
     let grown : merge (fs ++ f ∷ []) ts ≡ merge fs ts ++ fed f ∷ [] =
     b.is ∙ (ap (λ (l : List Take). b.front ++ fed f ∷ map got l) (b.none refl)
     ∙ ap (λ (l : List Happening). l ++ fed f ∷ []) (sym (b.was ∙ (ap (λ (l : List Take). b.front ++ map got l) (b.none refl) ∙ append-nil b.front)))) in
     let q' : Busy t (stored (last fs ts)) f = subst (λ (l : List Message). Busy t l f) (sym (store_is t fs ts k.legal)) q in
     let s = busy_state t (last fs ts) f (k.is_open ∙ none) (within_run (merge fs ts)) k.in_hold q' in
     let r = ends_with t (merge fs ts) (merge (fs ++ f ∷ []) ts) (fed f) grown k.legal s.0 in
-    plain_facts t true home v d f e is calm going none fit k r.0 r.1 s.1
+    plain_facts t true home given v d f e is calm going none fit k r.0 r.1 s.1
 
 -- ---- Calls that make the store the hold
 
@@ -225,28 +226,31 @@ loud_stores t store (Arrive (Some m) Closed) q = absurd q
 loud_stores t store (Flush false) q = absurd q
 loud_stores t store FlushClosed q = absurd q
 
-pub loud_keeps : (t : Terms) (home : Home) (v d : View) (f : Feed) (e : WordStep) → v.ended ≡ false → finds v.feeds ≡ false → d.taking ≡ None
-    → AllFit t.capacity (f ∷ []) → Loud t (store_of v.feeds) f → Facts t false home v d → Facts t true (some (filled t.capacity (handed (store_of v.feeds) f))) (with_feeds v (f ∷ []) e false) d
-loud_keeps t home v d f e going none idle fit q k =
+pub loud_keeps : (t : Terms) (home : Home) (given : List Message) (v d : View) (f : Feed) (e : WordStep) → v.ended ≡ false → finds v.feeds ≡ false → d.taking ≡ None
+    → AllFit t.capacity (f ∷ []) → Loud t (store_of v.feeds) f → Facts t false home given v d
+    → Facts t true (some (filled t.capacity (handed (store_of v.feeds) f))) (handed (store_of v.feeds) f) (with_feeds v (f ∷ []) e false) d
+loud_keeps t home given v d f e going none idle fit q k =
     let fs : List Feed = v.feeds in let ts : List Take = d.takes in
     let is = loud_stores t (store_of fs) f q in
     let stays : by_kind (kind f) false false true ≡ false = ap (λ (k : Kind). by_kind k false false true) is in
-    let g = store_last false fs ts f is none k.tidy in
+    let g = store_last (turns_of ts) fs f is none k.tidy in
     let store = store_is t fs ts k.legal in
     let s = loud_state t (last fs ts) f (k.is_open ∙ none) k.in_hold (subst (λ (l : List Message). Loud t l f) (sym store) q) in
-    let r = ends_with t (merge fs ts) (merge (fs ++ f ∷ []) ts) (fed f) g.0 k.legal s.0 in record {
+    let r = ends_with t (merge fs ts) (merge (fs ++ f ∷ []) ts) (fed f) g.0 k.legal s.0 in
+    let held : handed (store_of fs) f ≡ hold_of (last (fs ++ f ∷ []) ts) = ap (λ (l : List Message). handed l f) (sym store) ∙ (s.2 ∙ ap hold_of (sym r.1)) in record {
       fits = fits_more t.capacity fs f fit k.fits;
       legal = r.0;
       is_open = ap (λ (u : PlainList). u.closed) r.1 ∙ (fed_open (last fs ts) f ∙ (k.is_open ∙ (none ∙ sym (finds_more fs f false stays none))));
       closer = λ _. finds_more fs f false stays none;
       in_hold = subst (IsHeld true) (ap (λ (u : PlainList). u.in_hold) (sym r.1)) s.1;
       tidy = g.1;
-      late = no_ended (merge (fs ++ f ∷ []) ts) (ap ended_in (takes_in-merge false (fs ++ f ∷ []) ts) ∙ k.ender going);
+      late = no_ended (merge (fs ++ f ∷ []) ts) (ap ended_in (takes_in-merge (fs ++ f ∷ []) ts) ∙ k.ender going);
       ender = k.ender;
       unclosed = λ _. finds_more fs f false stays none;
       seen = k.seen;
       place = subst (λ (x : Option (List Message)). BufferFollowsTurn t.capacity true false x (some (filled t.capacity (handed (store_of fs) f))) (hold_of (last (fs ++ f ∷ []) ts))) (sym idle)
-          (ap (λ (l : List Message). some (filled t.capacity l)) (ap (λ (l : List Message). handed l f) (sym store) ∙ (s.2 ∙ ap hold_of (sym r.1))));
+          (ap (λ (l : List Message). some (filled t.capacity l)) held);
+      held_given = λ _. sym held;
     }
 
 -- ---- Calls that found the pair closed
@@ -259,13 +263,13 @@ pub record Later (t : Terms) (full : Bool) (fs : List Feed) (ts : List Take) (f 
   pub legal : Legal t empty (events (merge (fs ++ f ∷ []) ts))
   pub closes : (last (fs ++ f ∷ []) ts).closed ≡ true
   pub keeps : Keeps (last fs ts) (last (fs ++ f ∷ []) ts)
-  pub tidy : Tidy false (fs ++ f ∷ []) ts full
+  pub tidy : Tidy (turns_of ts) (fs ++ f ∷ []) full
   pub found : finds (fs ++ f ∷ []) ≡ true
 
-first_late : (t : Terms) (full : Bool) (fs : List Feed) (ts : List Take) (f : Feed) → kind f ≡ finds_closed → finds fs ≡ false → Tidy false fs ts full
+first_late : (t : Terms) (full : Bool) (fs : List Feed) (ts : List Take) (f : Feed) → kind f ≡ finds_closed → finds fs ≡ false → Tidy (turns_of ts) fs full
     → Legal t empty (events (merge fs ts)) → Later t full fs ts f
 first_late t full fs ts f is none tidy legal =
-    let g = shut_last false fs ts f full is none tidy in
+    let g = shut_last (turns_of ts) fs f full is none tidy in
     let s : PlainList = last fs ts in
     let u : PlainList = next s closed in
     let l = late_state t u f is refl in
@@ -277,10 +281,10 @@ first_late t full fs ts f is none tidy legal =
       found = finds_more fs f true (late_finds f is) none;
     }
 
-next_late : (t : Terms) (full : Bool) (fs : List Feed) (ts : List Take) (f : Feed) → kind f ≡ finds_closed → finds fs ≡ true → (last fs ts).closed ≡ true → Tidy false fs ts full
+next_late : (t : Terms) (full : Bool) (fs : List Feed) (ts : List Take) (f : Feed) → kind f ≡ finds_closed → finds fs ≡ true → (last fs ts).closed ≡ true → Tidy (turns_of ts) fs full
     → Legal t empty (events (merge fs ts)) → Later t full fs ts f
 next_late t full fs ts f is had shut' tidy legal =
-    let g = closed_last false fs ts f full is had tidy in
+    let g = closed_last (turns_of ts) fs f full is had tidy in
     let l = late_state t (last fs ts) f is shut' in
     let r = ends_with t (merge fs ts) (merge (fs ++ f ∷ []) ts) (fed f) g.0 legal l.0 in
     let ends : last (fs ++ f ∷ []) ts ≡ last fs ts = r.1 ∙ l.1 in record {
@@ -291,7 +295,7 @@ next_late t full fs ts f is had shut' tidy legal =
       found = found_more fs f had;
     }
 
-later : (t : Terms) (full : Bool) (fs : List Feed) (ts : List Take) (f : Feed) → kind f ≡ finds_closed → (last fs ts).closed ≡ finds fs → Tidy false fs ts full
+later : (t : Terms) (full : Bool) (fs : List Feed) (ts : List Take) (f : Feed) → kind f ≡ finds_closed → (last fs ts).closed ≡ finds fs → Tidy (turns_of ts) fs full
     → Legal t empty (events (merge fs ts)) → Later t full fs ts f
 later t full fs ts f is o tidy legal = by (finds fs) refl
   where
@@ -299,9 +303,9 @@ later t full fs ts f is o tidy legal = by (finds fs) refl
     by true e = next_late t full fs ts f is e (o ∙ e) tidy legal
     by false e = first_late t full fs ts f is e tidy legal
 
-pub late_keeps : (t : Terms) (full : Bool) (home : Home) (v d : View) (f : Feed) (e : WordStep) → v.rotating ≡ false → v.ended ≡ false → d.closed ≡ true → kind f ≡ finds_closed
-    → AllFit t.capacity (f ∷ []) → Facts t full home v d → Facts t full home (with_feeds v (f ∷ []) e false) d
-late_keeps t full home v d f e calm going shut' is fit k =
+pub late_keeps : (t : Terms) (full : Bool) (home : Home) (given : List Message) (v d : View) (f : Feed) (e : WordStep) → v.rotating ≡ false → v.ended ≡ false → d.closed ≡ true → kind f ≡ finds_closed
+    → AllFit t.capacity (f ∷ []) → Facts t full home given v d → Facts t full home given (with_feeds v (f ∷ []) e false) d
+late_keeps t full home given v d f e calm going shut' is fit k =
     let l = later t full v.feeds d.takes f is k.is_open k.tidy k.legal in record {
       fits = fits_more t.capacity v.feeds f fit k.fits;
       legal = l.legal;
@@ -309,11 +313,12 @@ late_keeps t full home v d f e calm going shut' is fit k =
       closer = λ n. absurd (true≢false (sym shut' ∙ n));
       in_hold = subst (IsHeld full) l.keeps.in_hold k.in_hold;
       tidy = l.tidy;
-      late = no_ended (merge (v.feeds ++ f ∷ []) d.takes) (ap ended_in (takes_in-merge false (v.feeds ++ f ∷ []) d.takes) ∙ k.ender going);
+      late = no_ended (merge (v.feeds ++ f ∷ []) d.takes) (ap ended_in (takes_in-merge (v.feeds ++ f ∷ []) d.takes) ∙ k.ender going);
       ender = k.ender;
       unclosed = λ n. absurd (true≢false (sym n ∙ k.ender going));
       seen = k.seen;
       place = subst (BufferFollowsTurn t.capacity full false d.taking home) l.keeps.hold (subst (λ (x : Bool). BufferFollowsTurn t.capacity full x d.taking home (hold_of (last v.feeds d.takes))) calm k.place);
+      held_given = λ y. sym l.keeps.hold ∙ k.held_given y;
     }
 
 -- ---- Reads
@@ -331,12 +336,12 @@ idle_ender : (v d : View) (b : Bool) → d.sees_end ≡ b → (d.sees_end ≡ tr
 idle_ender v d true e seen ender n = absurd (true≢false (sym (seen e) ∙ n))
 idle_ender v d false e seen ender n = ended_same d.takes Nothing refl ∙ ender n
 
-pub idle_keeps : (t : Terms) (home : Home) (v d : View) (e : WordStep) → d.closed ≡ false → d.taking ≡ None → Facts t false home v d
-    → Facts t false home v (with_takes d (idle d.sees_end ∷ []) e None)
-idle_keeps t home v d e unshut calm k =
+pub idle_keeps : (t : Terms) (home : Home) (given : List Message) (v d : View) (e : WordStep) → d.closed ≡ false → d.taking ≡ None → Facts t false home given v d
+    → Facts t false home given v (with_takes d (idle d.sees_end ∷ []) e None)
+idle_keeps t home given v d e unshut calm k =
     let fs : List Feed = v.feeds in let ts : List Take = d.takes in let r : Take = idle d.sees_end in
     let none = k.closer unshut in
-    let g = read_last false fs ts r false (idle_answers d.sees_end) none k.tidy in
+    let g = read_last fs ts r false (idle_answers d.sees_end) none k.tidy in
     let i = idle_right t (last fs ts) d.sees_end k.in_hold in
     let l = ends_with t (merge fs ts) (merge fs (ts ++ r ∷ [])) (got r) g.0 k.legal i.0 in
     let ends : last fs (ts ++ r ∷ []) ≡ last fs ts = l.1 ∙ i.1 in record {
@@ -351,16 +356,17 @@ idle_keeps t home v d e unshut calm k =
       unclosed = λ _. none;
       seen = k.seen;
       place = subst (BufferFollowsTurn t.capacity false v.rotating None home) (ap hold_of (sym ends)) (subst (λ (x : Option (List Message)). BufferFollowsTurn t.capacity false v.rotating x home (hold_of (last fs ts))) calm k.place);
+      held_given = λ y. absurd (true≢false (sym y));
     }
 
-pub full_keeps : (t : Terms) (home : Home) (v d : View) (batch : List Message) (e : WordStep) → d.closed ≡ false → d.taking ≡ Some batch → v.rotating ≡ false → Facts t true home v d
-    → Facts t false (some (filled t.capacity [])) v (with_takes d (Full batch ∷ []) e None)
-full_keeps t home v d batch e unshut busy calm k =
+pub full_keeps : (t : Terms) (home : Home) (given : List Message) (v d : View) (batch : List Message) (e : WordStep) → d.closed ≡ false → d.taking ≡ Some batch → v.rotating ≡ false → Facts t true home given v d
+    → Facts t false (some (filled t.capacity [])) given v (with_takes d (Full batch ∷ []) e None)
+full_keeps t home given v d batch e unshut busy calm k =
     let fs : List Feed = v.feeds in let ts : List Take = d.takes in let r : Take = Full batch in
     let none = k.closer unshut in
     let place : BufferFollowsTurn t.capacity true false (Some batch) home (hold_of (last fs ts)) =
     subst (λ (x : Option (List Message)). BufferFollowsTurn t.capacity true false x home (hold_of (last fs ts))) busy (subst (λ (x : Bool). BufferFollowsTurn t.capacity true x d.taking home (hold_of (last fs ts))) calm k.place) in
-    let g = read_last false fs ts r true refl none k.tidy in
+    let g = read_last fs ts r true refl none k.tidy in
     let l = ends_with t (merge fs ts) (merge fs (ts ++ r ∷ [])) (got r) g.0 k.legal (k.is_open ∙ none, k.in_hold, place.1) in record {
       fits = k.fits;
       legal = l.0;
@@ -373,4 +379,5 @@ full_keeps t home v d batch e unshut busy calm k =
       unclosed = λ _. none;
       seen = k.seen;
       place = subst (λ (x : Bool). BufferFollowsTurn t.capacity false x None (some (filled t.capacity [])) (hold_of (last fs (ts ++ r ∷ [])))) (sym calm) refl;
+      held_given = λ y. absurd (true≢false (sym y));
     }

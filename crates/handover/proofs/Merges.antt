@@ -4,27 +4,10 @@ use Rattle.std.proofs.lemmas.List.{map-append}
 use Rattle.handover.specs.declared.calls.Feed.{Feed}
 use Rattle.handover.specs.declared.calls.Take.{Take}
 use Rattle.handover.specs.declared.calls.Take.TheVariants.{Full, Nothing, Ended}
-use Rattle.handover.specs.History.{Happening, fed, got, shut, Kind, plain, stores, finds_closed, kind, by_kind, finds, lull, past_lull, turn_of, past_turn, merge_from, feeds_in, takes_in}
-use Rattle.handover.specs.Tidy.{by_kind_type, Lulled, FullFirst, Ends, Begins, Tidy, AllFind}
+use Rattle.handover.specs.History.{Happening, fed, got, shut, Kind, plain, stores, finds_closed, kind, by_kind, finds, with_read, turns_of, reads_of, first_turn, later_turns, deal, merge, feeds_in, takes_in}
+use Rattle.handover.specs.Tidy.{by_kind_type, HasTurn, AreLeft, Tidy, AllFind}
 
-lull_all : (ts : List Take) → Lulled ts → (lull ts ≡ ts) × (past_lull ts ≡ [])
-lull_all [] h = (refl, refl)
-lull_all (Full b ∷ ts) h = absurd h
-lull_all (Nothing ∷ ts) h = let r = lull_all ts h in (ap (λ (l : List Take). Nothing ∷ l) r.0, r.1)
-lull_all (Ended ∷ ts) h = let r = lull_all ts h in (ap (λ (l : List Take). Ended ∷ l) r.0, r.1)
-
-abbrev pub Answers : Take → Bool → Type 0
-Answers (Full b) full = full ≡ true
-Answers Nothing full = full ≡ false
-Answers Ended full = full ≡ false
-
-lulled_more : (ts : List Take) (t : Take) → Answers t false → Lulled ts → Lulled (ts ++ t ∷ [])
-lulled_more [] (Full b) a h = true≢false (sym a)
-lulled_more [] Nothing a h = tt
-lulled_more [] Ended a h = tt
-lulled_more (Full b ∷ ts) t a h = h
-lulled_more (Nothing ∷ ts) t a h = lulled_more ts t a h
-lulled_more (Ended ∷ ts) t a h = lulled_more ts t a h
+-- ---- One call more of the feeder
 
 -- a call that stores nothing goes before the reads of this turn
 pub record Before (f : Feed) (full : Bool) (m n : List Happening) : Type 0 where
@@ -43,74 +26,68 @@ behind f full p m n e r = record {
   none = r.none;
 }
 
-ends_none : (after : Bool) (ts : List Take) → Ends after true ts → ts ≡ []
-ends_none false ts e = absurd (true≢false e.0)
-ends_none true [] e = refl
-ends_none true (Full b ∷ ts) e = absurd (true≢false e.0)
-ends_none true (Nothing ∷ ts) e = absurd e
-ends_none true (Ended ∷ ts) e = absurd e
+none_left : (us : List (List Take)) → AreLeft true us → reads_of us ≡ []
+none_left [] h = refl
+none_left (u ∷ []) h = absurd (true≢false h)
+none_left (u ∷ v ∷ us) h = absurd h
 
-pub plain_before : (after : Bool) (fs : List Feed) (ts : List Take) (f : Feed) (full : Bool) → kind f ≡ plain → finds fs ≡ false → Tidy after fs ts full
-    → Before f full (merge_from after fs ts) (merge_from after (fs ++ f ∷ []) ts)
-plain_before after [] ts f full is none h = record {
+pub plain_before : (us : List (List Take)) (fs : List Feed) (f : Feed) (full : Bool) → kind f ≡ plain → finds fs ≡ false → Tidy us fs full
+    → Before f full (deal us fs) (deal us (fs ++ f ∷ []))
+plain_before us [] f full is none h = record {
   front = [];
-  reads = ts;
+  reads = reads_of us;
   was = refl;
-  is = ap (λ (b : Kind). by_kind b (fed f ∷ map got ts) (map got (turn_of after ts) ++ fed f ∷ map got (past_turn after ts)) (map got ts ++ shut ∷ fed f ∷ [])) is;
-  none = λ y. ends_none after ts (subst (λ (b : Bool). Ends after b ts) y h);
+  is = ap (λ (b : Kind). by_kind b (fed f ∷ map got (reads_of us)) (map got (first_turn us) ++ fed f ∷ map got (reads_of (later_turns us))) (map got (reads_of us) ++ shut ∷ fed f ∷ [])) is;
+  none = λ y. none_left us (subst (λ (b : Bool). AreLeft b us) y h);
 }
-plain_before after (g ∷ fs) ts f full is none h =
-    elim (kind g) as (λ b. by_kind b (finds fs) (finds fs) true ≡ false → by_kind_type b (Tidy after fs ts full) (Begins after ts × Tidy true fs (past_turn after ts) full) (Ends after full ts × AllFind fs)
-    → Before f full (by_kind b (fed g ∷ merge_from after fs ts) (map got (turn_of after ts) ++ fed g ∷ merge_from true fs (past_turn after ts)) (map got ts ++ shut ∷ fed g ∷ map fed fs))
-    (by_kind b (fed g ∷ merge_from after (fs ++ f ∷ []) ts) (map got (turn_of after ts) ++ fed g ∷ merge_from true (fs ++ f ∷ []) (past_turn after ts)) (map got ts ++ shut ∷ fed g ∷ map fed (fs ++ f ∷ [])))) [
-      | plain ↦ λ n k. behind f full [] _ _ (fed g) (plain_before after fs ts f full is n k)
-      | stores ↦ λ n k. behind f full (map got (turn_of after ts)) _ _ (fed g) (plain_before true fs (past_turn after ts) f full is n k.1)
+plain_before us (g ∷ fs) f full is none h =
+    elim (kind g) as (λ b. by_kind b (finds fs) (finds fs) true ≡ false → by_kind_type b (Tidy us fs full) (HasTurn us × Tidy (later_turns us) fs full) (AreLeft full us × AllFind fs)
+    → Before f full (by_kind b (fed g ∷ deal us fs) (map got (first_turn us) ++ fed g ∷ deal (later_turns us) fs) (map got (reads_of us) ++ shut ∷ fed g ∷ map fed fs))
+    (by_kind b (fed g ∷ deal us (fs ++ f ∷ [])) (map got (first_turn us) ++ fed g ∷ deal (later_turns us) (fs ++ f ∷ [])) (map got (reads_of us) ++ shut ∷ fed g ∷ map fed (fs ++ f ∷ [])))) [
+      | plain ↦ λ n k. behind f full [] _ _ (fed g) (plain_before us fs f full is n k)
+      | stores ↦ λ n k. behind f full (map got (first_turn us)) _ _ (fed g) (plain_before (later_turns us) fs f full is n k.1)
       | finds_closed ↦ λ n k. absurd (true≢false n)
     ] none h
 
--- a call that stores 1 goes to the end
-store_ends : (after : Bool) (ts : List Take) (f : Feed) → Ends after false ts
-    → (map got (turn_of after ts) ++ fed f ∷ map got (past_turn after ts) ≡ map got ts ++ fed f ∷ []) × (Begins after ts × Ends true true (past_turn after ts))
-store_ends false ts f h = let r = lull_all ts h.1 in
-    ((λ i. map got (r.0 i) ++ fed f ∷ map got (r.1 i)), (tt, subst (λ (l : List Take). Ends true true l) (sym r.1) refl))
-store_ends true [] f h = absurd (true≢false (sym h))
-store_ends true (Full b ∷ ts) f h = let r = lull_all ts h.1 in
-    ((λ i. got (Full b) ∷ (map got (r.0 i) ++ fed f ∷ map got (r.1 i))), (tt, subst (λ (l : List Take). Ends true true l) (sym r.1) refl))
-store_ends true (Nothing ∷ ts) f h = absurd h
-store_ends true (Ended ∷ ts) f h = absurd h
+-- a call that stores 1 takes the turn that is left, and goes to the end
+store_ends : (us : List (List Take)) (f : Feed) → AreLeft false us
+    → (map got (first_turn us) ++ fed f ∷ map got (reads_of (later_turns us)) ≡ map got (reads_of us) ++ fed f ∷ []) × (HasTurn us × AreLeft true (later_turns us))
+store_ends [] f h = absurd (true≢false (sym h))
+store_ends (u ∷ []) f h = (ap (λ (l : List Take). map got l ++ fed f ∷ []) (sym (append-nil u)), (tt, refl))
+store_ends (u ∷ v ∷ us) f h = absurd h
 
-pub store_last : (after : Bool) (fs : List Feed) (ts : List Take) (f : Feed) → kind f ≡ stores → finds fs ≡ false → Tidy after fs ts false
-    → (merge_from after (fs ++ f ∷ []) ts ≡ merge_from after fs ts ++ fed f ∷ []) × Tidy after (fs ++ f ∷ []) ts true
-store_last after [] ts f is none h = let r = store_ends after ts f h in (
-  ap (λ (b : Kind). by_kind b (fed f ∷ map got ts) (map got (turn_of after ts) ++ fed f ∷ map got (past_turn after ts)) (map got ts ++ shut ∷ fed f ∷ [])) is ∙ r.0,
-  subst (λ (b : Kind). by_kind_type b (Ends after true ts) (Begins after ts × Ends true true (past_turn after ts)) (Ends after true ts × Unit {0})) (sym is) r.1,
+pub store_last : (us : List (List Take)) (fs : List Feed) (f : Feed) → kind f ≡ stores → finds fs ≡ false → Tidy us fs false
+    → (deal us (fs ++ f ∷ []) ≡ deal us fs ++ fed f ∷ []) × Tidy us (fs ++ f ∷ []) true
+store_last us [] f is none h = let r = store_ends us f h in (
+  ap (λ (b : Kind). by_kind b (fed f ∷ map got (reads_of us)) (map got (first_turn us) ++ fed f ∷ map got (reads_of (later_turns us))) (map got (reads_of us) ++ shut ∷ fed f ∷ [])) is ∙ r.0,
+  subst (λ (b : Kind). by_kind_type b (AreLeft true us) (HasTurn us × AreLeft true (later_turns us)) (AreLeft true us × Unit {0})) (sym is) r.1,
 )
-store_last after (g ∷ fs) ts f is none h =
-    elim (kind g) as (λ b. by_kind b (finds fs) (finds fs) true ≡ false → by_kind_type b (Tidy after fs ts false) (Begins after ts × Tidy true fs (past_turn after ts) false) (Ends after false ts × AllFind fs)
-    → (by_kind b (fed g ∷ merge_from after (fs ++ f ∷ []) ts) (map got (turn_of after ts) ++ fed g ∷ merge_from true (fs ++ f ∷ []) (past_turn after ts)) (map got ts ++ shut ∷ fed g ∷ map fed (fs ++ f ∷ []))
-    ≡ by_kind b (fed g ∷ merge_from after fs ts) (map got (turn_of after ts) ++ fed g ∷ merge_from true fs (past_turn after ts)) (map got ts ++ shut ∷ fed g ∷ map fed fs) ++ fed f ∷ [])
-    × by_kind_type b (Tidy after (fs ++ f ∷ []) ts true) (Begins after ts × Tidy true (fs ++ f ∷ []) (past_turn after ts) true) (Ends after true ts × AllFind (fs ++ f ∷ []))) [
-      | plain ↦ λ n k. let r = store_last after fs ts f is n k in (ap (λ (l : List Happening). fed g ∷ l) r.0, r.1)
-      | stores ↦ λ n k. let r = store_last true fs (past_turn after ts) f is n k.1 in
-          (ap (λ (l : List Happening). map got (turn_of after ts) ++ fed g ∷ l) r.0 ∙ sym (append_assoc (map got (turn_of after ts)) (fed g ∷ merge_from true fs (past_turn after ts)) (fed f ∷ [])), (k.0, r.1))
+store_last us (g ∷ fs) f is none h =
+    elim (kind g) as (λ b. by_kind b (finds fs) (finds fs) true ≡ false → by_kind_type b (Tidy us fs false) (HasTurn us × Tidy (later_turns us) fs false) (AreLeft false us × AllFind fs)
+    → (by_kind b (fed g ∷ deal us (fs ++ f ∷ [])) (map got (first_turn us) ++ fed g ∷ deal (later_turns us) (fs ++ f ∷ [])) (map got (reads_of us) ++ shut ∷ fed g ∷ map fed (fs ++ f ∷ []))
+    ≡ by_kind b (fed g ∷ deal us fs) (map got (first_turn us) ++ fed g ∷ deal (later_turns us) fs) (map got (reads_of us) ++ shut ∷ fed g ∷ map fed fs) ++ fed f ∷ [])
+    × by_kind_type b (Tidy us (fs ++ f ∷ []) true) (HasTurn us × Tidy (later_turns us) (fs ++ f ∷ []) true) (AreLeft true us × AllFind (fs ++ f ∷ []))) [
+      | plain ↦ λ n k. let r = store_last us fs f is n k in (ap (λ (l : List Happening). fed g ∷ l) r.0, r.1)
+      | stores ↦ λ n k. let r = store_last (later_turns us) fs f is n k.1 in
+          (ap (λ (l : List Happening). map got (first_turn us) ++ fed g ∷ l) r.0 ∙ sym (append_assoc (map got (first_turn us)) (fed g ∷ deal (later_turns us) fs) (fed f ∷ [])), (k.0, r.1))
       | finds_closed ↦ λ n k. absurd (true≢false n)
     ] none h
 
 -- the first call that found `closed` brings the Close before it, both at the end
-pub shut_last : (after : Bool) (fs : List Feed) (ts : List Take) (f : Feed) (full : Bool) → kind f ≡ finds_closed → finds fs ≡ false → Tidy after fs ts full
-    → (merge_from after (fs ++ f ∷ []) ts ≡ merge_from after fs ts ++ shut ∷ fed f ∷ []) × Tidy after (fs ++ f ∷ []) ts full
-shut_last after [] ts f full is none h = (
-  ap (λ (b : Kind). by_kind b (fed f ∷ map got ts) (map got (turn_of after ts) ++ fed f ∷ map got (past_turn after ts)) (map got ts ++ shut ∷ fed f ∷ [])) is,
-  subst (λ (b : Kind). by_kind_type b (Ends after full ts) (Begins after ts × Ends true full (past_turn after ts)) (Ends after full ts × Unit {0})) (sym is) (h, tt),
+pub shut_last : (us : List (List Take)) (fs : List Feed) (f : Feed) (full : Bool) → kind f ≡ finds_closed → finds fs ≡ false → Tidy us fs full
+    → (deal us (fs ++ f ∷ []) ≡ deal us fs ++ shut ∷ fed f ∷ []) × Tidy us (fs ++ f ∷ []) full
+shut_last us [] f full is none h = (
+  ap (λ (b : Kind). by_kind b (fed f ∷ map got (reads_of us)) (map got (first_turn us) ++ fed f ∷ map got (reads_of (later_turns us))) (map got (reads_of us) ++ shut ∷ fed f ∷ [])) is,
+  subst (λ (b : Kind). by_kind_type b (AreLeft full us) (HasTurn us × AreLeft full (later_turns us)) (AreLeft full us × Unit {0})) (sym is) (h, tt),
 )
-shut_last after (g ∷ fs) ts f full is none h =
-    elim (kind g) as (λ b. by_kind b (finds fs) (finds fs) true ≡ false → by_kind_type b (Tidy after fs ts full) (Begins after ts × Tidy true fs (past_turn after ts) full) (Ends after full ts × AllFind fs)
-    → (by_kind b (fed g ∷ merge_from after (fs ++ f ∷ []) ts) (map got (turn_of after ts) ++ fed g ∷ merge_from true (fs ++ f ∷ []) (past_turn after ts)) (map got ts ++ shut ∷ fed g ∷ map fed (fs ++ f ∷ []))
-    ≡ by_kind b (fed g ∷ merge_from after fs ts) (map got (turn_of after ts) ++ fed g ∷ merge_from true fs (past_turn after ts)) (map got ts ++ shut ∷ fed g ∷ map fed fs) ++ shut ∷ fed f ∷ [])
-    × by_kind_type b (Tidy after (fs ++ f ∷ []) ts full) (Begins after ts × Tidy true (fs ++ f ∷ []) (past_turn after ts) full) (Ends after full ts × AllFind (fs ++ f ∷ []))) [
-      | plain ↦ λ n k. let r = shut_last after fs ts f full is n k in (ap (λ (l : List Happening). fed g ∷ l) r.0, r.1)
-      | stores ↦ λ n k. let r = shut_last true fs (past_turn after ts) f full is n k.1 in
-          (ap (λ (l : List Happening). map got (turn_of after ts) ++ fed g ∷ l) r.0 ∙ sym (append_assoc (map got (turn_of after ts)) (fed g ∷ merge_from true fs (past_turn after ts)) (shut ∷ fed f ∷ [])), (k.0, r.1))
+shut_last us (g ∷ fs) f full is none h =
+    elim (kind g) as (λ b. by_kind b (finds fs) (finds fs) true ≡ false → by_kind_type b (Tidy us fs full) (HasTurn us × Tidy (later_turns us) fs full) (AreLeft full us × AllFind fs)
+    → (by_kind b (fed g ∷ deal us (fs ++ f ∷ [])) (map got (first_turn us) ++ fed g ∷ deal (later_turns us) (fs ++ f ∷ [])) (map got (reads_of us) ++ shut ∷ fed g ∷ map fed (fs ++ f ∷ []))
+    ≡ by_kind b (fed g ∷ deal us fs) (map got (first_turn us) ++ fed g ∷ deal (later_turns us) fs) (map got (reads_of us) ++ shut ∷ fed g ∷ map fed fs) ++ shut ∷ fed f ∷ [])
+    × by_kind_type b (Tidy us (fs ++ f ∷ []) full) (HasTurn us × Tidy (later_turns us) (fs ++ f ∷ []) full) (AreLeft full us × AllFind (fs ++ f ∷ []))) [
+      | plain ↦ λ n k. let r = shut_last us fs f full is n k in (ap (λ (l : List Happening). fed g ∷ l) r.0, r.1)
+      | stores ↦ λ n k. let r = shut_last (later_turns us) fs f full is n k.1 in
+          (ap (λ (l : List Happening). map got (first_turn us) ++ fed g ∷ l) r.0 ∙ sym (append_assoc (map got (first_turn us)) (fed g ∷ deal (later_turns us) fs) (shut ∷ fed f ∷ [])), (k.0, r.1))
       | finds_closed ↦ λ n k. absurd (true≢false n)
     ] none h
 
@@ -119,87 +96,144 @@ all_more [] f is h = (is, tt)
 all_more (g ∷ fs) f is h = (h.0, all_more fs f is h.1)
 
 -- a later one goes to the end
-pub closed_last : (after : Bool) (fs : List Feed) (ts : List Take) (f : Feed) (full : Bool) → kind f ≡ finds_closed → finds fs ≡ true → Tidy after fs ts full
-    → (merge_from after (fs ++ f ∷ []) ts ≡ merge_from after fs ts ++ fed f ∷ []) × Tidy after (fs ++ f ∷ []) ts full
-closed_last after [] ts f full is some h = absurd (true≢false (sym some))
-closed_last after (g ∷ fs) ts f full is some h =
-    elim (kind g) as (λ b. by_kind b (finds fs) (finds fs) true ≡ true → by_kind_type b (Tidy after fs ts full) (Begins after ts × Tidy true fs (past_turn after ts) full) (Ends after full ts × AllFind fs)
-    → (by_kind b (fed g ∷ merge_from after (fs ++ f ∷ []) ts) (map got (turn_of after ts) ++ fed g ∷ merge_from true (fs ++ f ∷ []) (past_turn after ts)) (map got ts ++ shut ∷ fed g ∷ map fed (fs ++ f ∷ []))
-    ≡ by_kind b (fed g ∷ merge_from after fs ts) (map got (turn_of after ts) ++ fed g ∷ merge_from true fs (past_turn after ts)) (map got ts ++ shut ∷ fed g ∷ map fed fs) ++ fed f ∷ [])
-    × by_kind_type b (Tidy after (fs ++ f ∷ []) ts full) (Begins after ts × Tidy true (fs ++ f ∷ []) (past_turn after ts) full) (Ends after full ts × AllFind (fs ++ f ∷ []))) [
-      | plain ↦ λ n k. let r = closed_last after fs ts f full is n k in (ap (λ (l : List Happening). fed g ∷ l) r.0, r.1)
-      | stores ↦ λ n k. let r = closed_last true fs (past_turn after ts) f full is n k.1 in
-          (ap (λ (l : List Happening). map got (turn_of after ts) ++ fed g ∷ l) r.0 ∙ sym (append_assoc (map got (turn_of after ts)) (fed g ∷ merge_from true fs (past_turn after ts)) (fed f ∷ [])), (k.0, r.1))
-      | finds_closed ↦ λ n k. (ap (λ (l : List Happening). map got ts ++ shut ∷ fed g ∷ l) (map-append fed fs (f ∷ [])) ∙ sym (append_assoc (map got ts) (shut ∷ fed g ∷ map fed fs) (fed f ∷ [])), (k.0, all_more fs f is k.1))
+pub closed_last : (us : List (List Take)) (fs : List Feed) (f : Feed) (full : Bool) → kind f ≡ finds_closed → finds fs ≡ true → Tidy us fs full
+    → (deal us (fs ++ f ∷ []) ≡ deal us fs ++ fed f ∷ []) × Tidy us (fs ++ f ∷ []) full
+closed_last us [] f full is some h = absurd (true≢false (sym some))
+closed_last us (g ∷ fs) f full is some h =
+    elim (kind g) as (λ b. by_kind b (finds fs) (finds fs) true ≡ true → by_kind_type b (Tidy us fs full) (HasTurn us × Tidy (later_turns us) fs full) (AreLeft full us × AllFind fs)
+    → (by_kind b (fed g ∷ deal us (fs ++ f ∷ [])) (map got (first_turn us) ++ fed g ∷ deal (later_turns us) (fs ++ f ∷ [])) (map got (reads_of us) ++ shut ∷ fed g ∷ map fed (fs ++ f ∷ []))
+    ≡ by_kind b (fed g ∷ deal us fs) (map got (first_turn us) ++ fed g ∷ deal (later_turns us) fs) (map got (reads_of us) ++ shut ∷ fed g ∷ map fed fs) ++ fed f ∷ [])
+    × by_kind_type b (Tidy us (fs ++ f ∷ []) full) (HasTurn us × Tidy (later_turns us) (fs ++ f ∷ []) full) (AreLeft full us × AllFind (fs ++ f ∷ []))) [
+      | plain ↦ λ n k. let r = closed_last us fs f full is n k in (ap (λ (l : List Happening). fed g ∷ l) r.0, r.1)
+      | stores ↦ λ n k. let r = closed_last (later_turns us) fs f full is n k.1 in
+          (ap (λ (l : List Happening). map got (first_turn us) ++ fed g ∷ l) r.0 ∙ sym (append_assoc (map got (first_turn us)) (fed g ∷ deal (later_turns us) fs) (fed f ∷ [])), (k.0, r.1))
+      | finds_closed ↦ λ n k. (ap (λ (l : List Happening). map got (reads_of us) ++ shut ∷ fed g ∷ l) (map-append fed fs (f ∷ [])) ∙ sym (append_assoc (map got (reads_of us)) (shut ∷ fed g ∷ map fed fs) (fed f ∷ [])), (k.0, all_more fs f is k.1))
     ] some h
 
-abbrev Stops : Take → List Take → Type 0
-Stops (Full b) ts = Unit {0}
-Stops Nothing ts = FullFirst ts
-Stops Ended ts = FullFirst ts
+-- ---- One read more
 
-lull_more : (ts : List Take) (t : Take) → Stops t (past_lull ts) → (lull (ts ++ t ∷ []) ≡ lull ts) × (past_lull (ts ++ t ∷ []) ≡ past_lull ts ++ t ∷ [])
-lull_more [] (Full b) h = (refl, refl)
-lull_more [] Nothing h = absurd h
-lull_more [] Ended h = absurd h
-lull_more (Full b ∷ ts) t h = (refl, refl)
-lull_more (Nothing ∷ ts) t h = let r = lull_more ts t h in (ap (λ (l : List Take). Nothing ∷ l) r.0, r.1)
-lull_more (Ended ∷ ts) t h = let r = lull_more ts t h in (ap (λ (l : List Take). Ended ∷ l) r.0, r.1)
+abbrev pub Answers : Take → Bool → Type 0
+Answers (Full b) full = full ≡ true
+Answers Nothing full = full ≡ false
+Answers Ended full = full ≡ false
 
-turn_more : (after : Bool) (ts : List Take) (t : Take) → Begins after ts → Stops t (past_turn after ts)
-    → (turn_of after (ts ++ t ∷ []) ≡ turn_of after ts) × (past_turn after (ts ++ t ∷ []) ≡ past_turn after ts ++ t ∷ []) × Begins after (ts ++ t ∷ [])
-turn_more false ts t b h = let r = lull_more ts t h in (r.0, r.1, tt)
-turn_more true [] t b h = absurd b
-turn_more true (Full x ∷ ts) t b h = let r = lull_more ts t h in (ap (λ (l : List Take). Full x ∷ l) r.0, r.1, tt)
-turn_more true (Nothing ∷ ts) t b h = absurd b
-turn_more true (Ended ∷ ts) t b h = absurd b
+-- a read behind the last of these turns
+abbrev into_last : Take → List (List Take) → List (List Take)
+into_last t [] = (t ∷ []) ∷ []
+into_last t (u ∷ []) = (u ++ t ∷ []) ∷ []
+into_last t (u ∷ v ∷ us) = u ∷ into_last t (v ∷ us)
 
-full_first : (fs : List Feed) (ts : List Take) → finds fs ≡ false → Tidy true fs ts false → FullFirst ts
-full_first [] [] n h = absurd (true≢false (sym h))
-full_first [] (Full b ∷ ts) n h = tt
-full_first [] (Nothing ∷ ts) n h = absurd h
-full_first [] (Ended ∷ ts) n h = absurd h
-full_first (g ∷ fs) ts n h = elim (kind g) as (λ b. by_kind b (finds fs) (finds fs) true ≡ false → by_kind_type b (Tidy true fs ts false) (FullFirst ts × Tidy true fs (past_turn true ts) false) (Ends true false ts × AllFind fs) → FullFirst ts) [
-  | plain ↦ λ m k. full_first fs ts m k
+-- the turns with one read more: a Full begins one
+abbrev add_read : Take → List (List Take) → List (List Take)
+add_read (Full b) us = us ++ (Full b ∷ []) ∷ []
+add_read Nothing us = into_last Nothing us
+add_read Ended us = into_last Ended us
+
+has_read : (t : Take) (us : List (List Take)) → HasTurn (with_read t us)
+has_read t [] = tt
+has_read t (u ∷ us) = tt
+
+has_turns : (ts : List Take) → HasTurn (turns_of ts)
+has_turns [] = tt
+has_turns (Full b ∷ ts) = tt
+has_turns (Nothing ∷ ts) = has_read Nothing (turns_of ts)
+has_turns (Ended ∷ ts) = has_read Ended (turns_of ts)
+
+-- a read in front of the first turn, and one behind the last
+both_ends : (r t : Take) (us : List (List Take)) → HasTurn us → with_read r (add_read t us) ≡ add_read t (with_read r us)
+both_ends r t [] h = absurd h
+both_ends r (Full b) (u ∷ us) h = refl
+both_ends r Nothing (u ∷ []) h = refl
+both_ends r Nothing (u ∷ v ∷ us) h = refl
+both_ends r Ended (u ∷ []) h = refl
+both_ends r Ended (u ∷ v ∷ us) h = refl
+
+behind_turn : (u : List Take) (t : Take) (us : List (List Take)) → HasTurn us → u ∷ add_read t us ≡ add_read t (u ∷ us)
+behind_turn u t [] h = absurd h
+behind_turn u (Full b) (v ∷ us) h = refl
+behind_turn u Nothing (v ∷ us) h = refl
+behind_turn u Ended (v ∷ us) h = refl
+
+turns_nil : (t : Take) → turns_of (t ∷ []) ≡ add_read t ([] ∷ [])
+turns_nil (Full b) = refl
+turns_nil Nothing = refl
+turns_nil Ended = refl
+
+turns_more : (ts : List Take) (t : Take) → turns_of (ts ++ t ∷ []) ≡ add_read t (turns_of ts)
+turns_more [] t = turns_nil t
+turns_more (Full b ∷ ts) t =
+    ap (λ (us : List (List Take)). [] ∷ with_read (Full b) us) (turns_more ts t)
+    ∙ (ap (λ (us : List (List Take)). [] ∷ us) (both_ends (Full b) t (turns_of ts) (has_turns ts)) ∙ behind_turn [] t (with_read (Full b) (turns_of ts)) (has_read (Full b) (turns_of ts)))
+turns_more (Nothing ∷ ts) t = ap (with_read Nothing) (turns_more ts t) ∙ both_ends Nothing t (turns_of ts) (has_turns ts)
+turns_more (Ended ∷ ts) t = ap (with_read Ended) (turns_more ts t) ∙ both_ends Ended t (turns_of ts) (has_turns ts)
+
+-- where the hold is empty, a turn is left
+some_left : (us : List (List Take)) (fs : List Feed) → finds fs ≡ false → Tidy us fs false → HasTurn us
+some_left [] [] n h = absurd (true≢false (sym h))
+some_left (u ∷ us) [] n h = tt
+some_left us (g ∷ fs) n h = elim (kind g) as (λ b. by_kind b (finds fs) (finds fs) true ≡ false → by_kind_type b (Tidy us fs false) (HasTurn us × Tidy (later_turns us) fs false) (AreLeft false us × AllFind fs) → HasTurn us) [
+  | plain ↦ λ m k. some_left us fs m k
   | stores ↦ λ m k. k.0
   | finds_closed ↦ λ m k. absurd (true≢false m)
 ] n h
 
-stops : (fs : List Feed) (ts : List Take) (t : Take) (full : Bool) → Answers t full → finds fs ≡ false → Tidy true fs ts full → Stops t ts
-stops fs ts (Full b) full a n h = tt
-stops fs ts Nothing full a n h = full_first fs ts n (subst (λ (b : Bool). Tidy true fs ts b) a h)
-stops fs ts Ended full a n h = full_first fs ts n (subst (λ (b : Bool). Tidy true fs ts b) a h)
+-- a read of an empty hold belongs to a turn that is left
+abbrev Belongs : Take → List (List Take) → Type 0
+Belongs (Full b) us = Unit {0}
+Belongs Nothing us = HasTurn us
+Belongs Ended us = HasTurn us
 
-read_ends : (after : Bool) (ts : List Take) (t : Take) (full : Bool) → Answers t full → Ends after full ts → Ends after false (ts ++ t ∷ [])
-read_ends false ts (Full b) full a h = absurd (true≢false (sym a ∙ h.0))
-read_ends false ts Nothing full a h = (refl, lulled_more ts Nothing refl h.1)
-read_ends false ts Ended full a h = (refl, lulled_more ts Ended refl h.1)
-read_ends true [] (Full b) full a h = (refl, tt)
-read_ends true [] Nothing full a h = absurd (true≢false (sym h ∙ a))
-read_ends true [] Ended full a h = absurd (true≢false (sym h ∙ a))
-read_ends true (Full x ∷ ts) (Full b) full a h = absurd (true≢false (sym a ∙ h.0))
-read_ends true (Full x ∷ ts) Nothing full a h = (refl, lulled_more ts Nothing refl h.1)
-read_ends true (Full x ∷ ts) Ended full a h = (refl, lulled_more ts Ended refl h.1)
-read_ends true (Nothing ∷ ts) t full a h = absurd h
-read_ends true (Ended ∷ ts) t full a h = absurd h
+belongs : (us : List (List Take)) (fs : List Feed) (t : Take) (full : Bool) → Answers t full → finds fs ≡ false → Tidy us fs full → Belongs t us
+belongs us fs (Full b) full a n h = tt
+belongs us fs Nothing full a n h = some_left us fs n (subst (λ (b : Bool). Tidy us fs b) a h)
+belongs us fs Ended full a n h = some_left us fs n (subst (λ (b : Bool). Tidy us fs b) a h)
 
-pub read_last : (after : Bool) (fs : List Feed) (ts : List Take) (t : Take) (full : Bool) → Answers t full → finds fs ≡ false → Tidy after fs ts full
-    → (merge_from after fs (ts ++ t ∷ []) ≡ merge_from after fs ts ++ got t ∷ []) × Tidy after fs (ts ++ t ∷ []) false
-read_last after [] ts t full a n h = (map-append got ts (t ∷ []), read_ends after ts t full a h)
-read_last after (g ∷ fs) ts t full a n h =
-    elim (kind g) as (λ b. by_kind b (finds fs) (finds fs) true ≡ false → by_kind_type b (Tidy after fs ts full) (Begins after ts × Tidy true fs (past_turn after ts) full) (Ends after full ts × AllFind fs)
-    → (by_kind b (fed g ∷ merge_from after fs (ts ++ t ∷ [])) (map got (turn_of after (ts ++ t ∷ [])) ++ fed g ∷ merge_from true fs (past_turn after (ts ++ t ∷ []))) (map got (ts ++ t ∷ []) ++ shut ∷ fed g ∷ map fed fs)
-    ≡ by_kind b (fed g ∷ merge_from after fs ts) (map got (turn_of after ts) ++ fed g ∷ merge_from true fs (past_turn after ts)) (map got ts ++ shut ∷ fed g ∷ map fed fs) ++ got t ∷ [])
-    × by_kind_type b (Tidy after fs (ts ++ t ∷ []) false) (Begins after (ts ++ t ∷ []) × Tidy true fs (past_turn after (ts ++ t ∷ [])) false) (Ends after false (ts ++ t ∷ []) × AllFind fs)) [
-      | plain ↦ λ n k. let r = read_last after fs ts t full a n k in (ap (λ (l : List Happening). fed g ∷ l) r.0, r.1)
-      | stores ↦ λ n k. let m = turn_more after ts t k.0 (stops fs (past_turn after ts) t full a n k.1) in let r = read_last true fs (past_turn after ts) t full a n k.1 in (
-        (λ i. map got (m.0 i) ++ fed g ∷ merge_from true fs (m.1 i))
-            ∙ (ap (λ (l : List Happening). map got (turn_of after ts) ++ fed g ∷ l) r.0
-            ∙ sym (append_assoc (map got (turn_of after ts)) (fed g ∷ merge_from true fs (past_turn after ts)) (got t ∷ []))),
-        (m.2, subst (λ (l : List Take). Tidy true fs l false) (sym m.1) r.1),
+-- so it leaves the first turn as it is
+turn_more : (us : List (List Take)) (t : Take) → HasTurn us → Belongs t (later_turns us)
+    → (first_turn (add_read t us) ≡ first_turn us) × (later_turns (add_read t us) ≡ add_read t (later_turns us)) × HasTurn (add_read t us)
+turn_more [] t h b = absurd h
+turn_more (u ∷ us) (Full x) h b = (refl, refl, tt)
+turn_more (u ∷ []) Nothing h b = absurd b
+turn_more (u ∷ v ∷ us) Nothing h b = (refl, refl, tt)
+turn_more (u ∷ []) Ended h b = absurd b
+turn_more (u ∷ v ∷ us) Ended h b = (refl, refl, tt)
+
+one_turn : (u : List Take) (t : Take) → map got ((u ++ t ∷ []) ++ []) ≡ map got (u ++ []) ++ got t ∷ []
+one_turn u t = ap (map got) (append-nil (u ++ t ∷ [])) ∙ (map-append got u (t ∷ []) ∙ ap (λ (l : List Take). map got l ++ got t ∷ []) (sym (append-nil u)))
+
+read_ends : (us : List (List Take)) (t : Take) (full : Bool) → Answers t full → AreLeft full us
+    → (map got (reads_of (add_read t us)) ≡ map got (reads_of us) ++ got t ∷ []) × AreLeft false (add_read t us)
+read_ends [] (Full b) full a h = (refl, refl)
+read_ends [] Nothing full a h = absurd (true≢false (sym h ∙ a))
+read_ends [] Ended full a h = absurd (true≢false (sym h ∙ a))
+read_ends (u ∷ []) (Full b) full a h = absurd (true≢false (sym a ∙ h))
+read_ends (u ∷ []) Nothing full a h = (one_turn u Nothing, refl)
+read_ends (u ∷ []) Ended full a h = (one_turn u Ended, refl)
+read_ends (u ∷ v ∷ us) t full a h = absurd h
+
+dealt_more : (us : List (List Take)) (fs : List Feed) (t : Take) (full : Bool) → Answers t full → finds fs ≡ false → Tidy us fs full
+    → (deal (add_read t us) fs ≡ deal us fs ++ got t ∷ []) × Tidy (add_read t us) fs false
+dealt_more us [] t full a n h = read_ends us t full a h
+dealt_more us (g ∷ fs) t full a n h =
+    elim (kind g) as (λ b. by_kind b (finds fs) (finds fs) true ≡ false → by_kind_type b (Tidy us fs full) (HasTurn us × Tidy (later_turns us) fs full) (AreLeft full us × AllFind fs)
+    → (by_kind b (fed g ∷ deal (add_read t us) fs) (map got (first_turn (add_read t us)) ++ fed g ∷ deal (later_turns (add_read t us)) fs) (map got (reads_of (add_read t us)) ++ shut ∷ fed g ∷ map fed fs)
+    ≡ by_kind b (fed g ∷ deal us fs) (map got (first_turn us) ++ fed g ∷ deal (later_turns us) fs) (map got (reads_of us) ++ shut ∷ fed g ∷ map fed fs) ++ got t ∷ [])
+    × by_kind_type b (Tidy (add_read t us) fs false) (HasTurn (add_read t us) × Tidy (later_turns (add_read t us)) fs false) (AreLeft false (add_read t us) × AllFind fs)) [
+      | plain ↦ λ m k. let r = dealt_more us fs t full a m k in (ap (λ (l : List Happening). fed g ∷ l) r.0, r.1)
+      | stores ↦ λ m k. let w = turn_more us t k.0 (belongs (later_turns us) fs t full a m k.1) in let r = dealt_more (later_turns us) fs t full a m k.1 in (
+        (λ i. map got (w.0 i) ++ fed g ∷ deal (w.1 i) fs)
+            ∙ (ap (λ (l : List Happening). map got (first_turn us) ++ fed g ∷ l) r.0
+            ∙ sym (append_assoc (map got (first_turn us)) (fed g ∷ deal (later_turns us) fs) (got t ∷ []))),
+        (w.2, subst (λ (l : List (List Take)). Tidy l fs false) (sym w.1) r.1),
       )
-      | finds_closed ↦ λ n k. absurd (true≢false n)
+      | finds_closed ↦ λ m k. absurd (true≢false m)
     ] n h
+
+pub read_last : (fs : List Feed) (ts : List Take) (t : Take) (full : Bool) → Answers t full → finds fs ≡ false → Tidy (turns_of ts) fs full
+    → (merge fs (ts ++ t ∷ []) ≡ merge fs ts ++ got t ∷ []) × Tidy (turns_of (ts ++ t ∷ [])) fs false
+read_last fs ts t full a n h =
+    let r = dealt_more (turns_of ts) fs t full a n h in
+    let is = turns_more ts t in (ap (λ (us : List (List Take)). deal us fs) is ∙ r.0, subst (λ (us : List (List Take)). Tidy us fs false) (sym is) r.1)
 
 -- ---- The merged list has the calls of both, in their orders
 
@@ -219,29 +253,39 @@ takes_fed : (fs : List Feed) → takes_in (map fed fs) ≡ []
 takes_fed [] = refl
 takes_fed (f ∷ fs) = takes_fed fs
 
-lull_whole : (ts : List Take) → lull ts ++ past_lull ts ≡ ts
-lull_whole [] = refl
-lull_whole (Full b ∷ ts) = refl
-lull_whole (Nothing ∷ ts) = ap (λ (l : List Take). Nothing ∷ l) (lull_whole ts)
-lull_whole (Ended ∷ ts) = ap (λ (l : List Take). Ended ∷ l) (lull_whole ts)
+pub reads_with : (t : Take) (us : List (List Take)) → reads_of (with_read t us) ≡ t ∷ reads_of us
+reads_with t [] = refl
+reads_with t (u ∷ us) = refl
 
-turn_whole : (after : Bool) (ts : List Take) → turn_of after ts ++ past_turn after ts ≡ ts
-turn_whole false ts = lull_whole ts
-turn_whole true [] = refl
-turn_whole true (t ∷ ts) = ap (λ (l : List Take). t ∷ l) (lull_whole ts)
+-- cut into turns, no read is lost
+pub reads_whole : (ts : List Take) → reads_of (turns_of ts) ≡ ts
+reads_whole [] = refl
+reads_whole (Full b ∷ ts) = reads_with (Full b) (turns_of ts) ∙ ap (λ (l : List Take). Full b ∷ l) (reads_whole ts)
+reads_whole (Nothing ∷ ts) = reads_with Nothing (turns_of ts) ∙ ap (λ (l : List Take). Nothing ∷ l) (reads_whole ts)
+reads_whole (Ended ∷ ts) = reads_with Ended (turns_of ts) ∙ ap (λ (l : List Take). Ended ∷ l) (reads_whole ts)
 
-pub feeds_in-merge : (after : Bool) (fs : List Feed) (ts : List Take) → feeds_in (merge_from after fs ts) ≡ fs
-feeds_in-merge after [] ts = ap feeds_in (sym (append-nil (map got ts))) ∙ feeds_got ts []
-feeds_in-merge after (g ∷ fs) ts = elim (kind g) as (λ b. feeds_in (by_kind b (fed g ∷ merge_from after fs ts) (map got (turn_of after ts) ++ fed g ∷ merge_from true fs (past_turn after ts)) (map got ts ++ shut ∷ fed g ∷ map fed fs)) ≡ g ∷ fs) [
-  | plain ↦ ap (λ (l : List Feed). g ∷ l) (feeds_in-merge after fs ts)
-  | stores ↦ feeds_got (turn_of after ts) (fed g ∷ merge_from true fs (past_turn after ts)) ∙ ap (λ (l : List Feed). g ∷ l) (feeds_in-merge true fs (past_turn after ts))
-  | finds_closed ↦ feeds_got ts (shut ∷ fed g ∷ map fed fs) ∙ ap (λ (l : List Feed). g ∷ l) (feeds_fed fs)
+first_whole : (us : List (List Take)) → first_turn us ++ reads_of (later_turns us) ≡ reads_of us
+first_whole [] = refl
+first_whole (u ∷ us) = refl
+
+feeds_in-deal : (us : List (List Take)) (fs : List Feed) → feeds_in (deal us fs) ≡ fs
+feeds_in-deal us [] = ap feeds_in (sym (append-nil (map got (reads_of us)))) ∙ feeds_got (reads_of us) []
+feeds_in-deal us (g ∷ fs) = elim (kind g) as (λ b. feeds_in (by_kind b (fed g ∷ deal us fs) (map got (first_turn us) ++ fed g ∷ deal (later_turns us) fs) (map got (reads_of us) ++ shut ∷ fed g ∷ map fed fs)) ≡ g ∷ fs) [
+  | plain ↦ ap (λ (l : List Feed). g ∷ l) (feeds_in-deal us fs)
+  | stores ↦ feeds_got (first_turn us) (fed g ∷ deal (later_turns us) fs) ∙ ap (λ (l : List Feed). g ∷ l) (feeds_in-deal (later_turns us) fs)
+  | finds_closed ↦ feeds_got (reads_of us) (shut ∷ fed g ∷ map fed fs) ∙ ap (λ (l : List Feed). g ∷ l) (feeds_fed fs)
 ]
 
-pub takes_in-merge : (after : Bool) (fs : List Feed) (ts : List Take) → takes_in (merge_from after fs ts) ≡ ts
-takes_in-merge after [] ts = ap takes_in (sym (append-nil (map got ts))) ∙ (takes_got ts [] ∙ append-nil ts)
-takes_in-merge after (g ∷ fs) ts = elim (kind g) as (λ b. takes_in (by_kind b (fed g ∷ merge_from after fs ts) (map got (turn_of after ts) ++ fed g ∷ merge_from true fs (past_turn after ts)) (map got ts ++ shut ∷ fed g ∷ map fed fs)) ≡ ts) [
-  | plain ↦ takes_in-merge after fs ts
-  | stores ↦ takes_got (turn_of after ts) (fed g ∷ merge_from true fs (past_turn after ts)) ∙ (ap (λ (l : List Take). turn_of after ts ++ l) (takes_in-merge true fs (past_turn after ts)) ∙ turn_whole after ts)
-  | finds_closed ↦ takes_got ts (shut ∷ fed g ∷ map fed fs) ∙ (ap (λ (l : List Take). ts ++ l) (takes_fed fs) ∙ append-nil ts)
+takes_in-deal : (us : List (List Take)) (fs : List Feed) → takes_in (deal us fs) ≡ reads_of us
+takes_in-deal us [] = ap takes_in (sym (append-nil (map got (reads_of us)))) ∙ (takes_got (reads_of us) [] ∙ append-nil (reads_of us))
+takes_in-deal us (g ∷ fs) = elim (kind g) as (λ b. takes_in (by_kind b (fed g ∷ deal us fs) (map got (first_turn us) ++ fed g ∷ deal (later_turns us) fs) (map got (reads_of us) ++ shut ∷ fed g ∷ map fed fs)) ≡ reads_of us) [
+  | plain ↦ takes_in-deal us fs
+  | stores ↦ takes_got (first_turn us) (fed g ∷ deal (later_turns us) fs) ∙ (ap (λ (l : List Take). first_turn us ++ l) (takes_in-deal (later_turns us) fs) ∙ first_whole us)
+  | finds_closed ↦ takes_got (reads_of us) (shut ∷ fed g ∷ map fed fs) ∙ (ap (λ (l : List Take). reads_of us ++ l) (takes_fed fs) ∙ append-nil (reads_of us))
 ]
+
+pub feeds_in-merge : (fs : List Feed) (ts : List Take) → feeds_in (merge fs ts) ≡ fs
+feeds_in-merge fs ts = feeds_in-deal (turns_of ts) fs
+
+pub takes_in-merge : (fs : List Feed) (ts : List Take) → takes_in (merge fs ts) ≡ ts
+takes_in-merge fs ts = takes_in-deal (turns_of ts) fs ∙ reads_whole ts

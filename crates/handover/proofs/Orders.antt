@@ -1,13 +1,14 @@
 -- One step more at the end of an order.
 use Rattle.std.proofs.Common.{◌≡◌, ℕ, Bool, true, false, ◌||◌, ◌⊎◌, inl, inr, List, [], ◌∷◌, ◌++◌, refl, sym, ap, ◌∙◌, subst, append-nil, append_assoc}
 use mathlib.Core.List.{IsPrefix}
+use Rattle.listener.specs.declared.message.Message.{Message}
 use Rattle.handover.specs.declared.calls.Word.{Word}
 use Rattle.handover.specs.declared.calls.WordStep.{WordStep}
 use Rattle.handover.specs.declared.calls.EndStep.{EndStep}
 use Rattle.handover.specs.declared.calls.EndStep.TheVariants.{OfFeeder, OfDrain}
 use Rattle.handover.specs.declared.view.View.{View}
 use Rattle.handover.specs.declared.view.Sight.{Sight}
-use Rattle.handover.specs.Orders.{Finds, behind, step_of, words_from, IsFreshFrom, zeros, words_after, IsFresh, is_store_to, store_to, of_feeder, of_drain}
+use Rattle.handover.specs.Orders.{Finds, behind, step_of, words_from, IsFreshFrom, zeros, words_after, IsFresh, is_store_to, store_to, of_feeder, of_drain, given_by, given_from}
 use Rattle.handover.specs.Rule.{IsOrder, FeederSees, DrainSees}
 
 words_snoc : (ws : List ℕ) (ms : List EndStep) (m : EndStep) → words_from ws (ms ++ m ∷ []) ≡ behind (words_from ws ms) (step_of m)
@@ -41,7 +42,7 @@ drain_same (OfDrain x ∷ ms) e = ap (λ (l : List WordStep). x ∷ l) (drain_sa
 prefix_more : (xs ys zs : List EndStep) → IsPrefix xs ys → IsPrefix xs (ys ++ zs)
 prefix_more xs ys zs p = (p.0 ++ zs, sym (append_assoc xs p.0 zs) ∙ ap (λ (l : List EndStep). l ++ zs) p.1)
 
-prefix_trans : (xs ys zs : List EndStep) → IsPrefix xs ys → IsPrefix ys zs → IsPrefix xs zs
+pub prefix_trans : (xs ys zs : List EndStep) → IsPrefix xs ys → IsPrefix ys zs → IsPrefix xs zs
 prefix_trans xs ys zs p q = subst (IsPrefix xs) q.1 (prefix_more xs ys q.0 p)
 
 -- a seat behind a step of the feeder or of the drain
@@ -183,6 +184,12 @@ silent_step_is_still order more ws vs f d g e k l saw also feeds takes =
     (sym (drain_parts order p.0) ∙ (ap of_drain p.1 ∙ (l.drain ∙ (takes ∙ (sym k.drain ∙ sym (append-nil (of_drain order))))))) in
     let is : more ≡ order = sym p.1 ∙ (ap (λ (r : List EndStep). order ++ r) (none_added p.0 none neither) ∙ append-nil order) in
     l.words ∙ (ap words_after is ∙ sym k.words)
+
+-- ---- What was handed over last
+
+pub given_more : (given : List Message) (ms : List EndStep) (m : EndStep) → given_from given (ms ++ m ∷ []) ≡ given_by m (given_from given ms)
+given_more given [] m = refl
+given_more given (x ∷ ms) m = given_more (given_by x given) ms m
 
 -- ---- A store stays among the steps
 

@@ -10,7 +10,7 @@ use Rattle.listener.specs.Laws.{HeldIsWithin}
 use Rattle.handover.specs.declared.calls.Feed.{Feed}
 use Rattle.handover.specs.declared.calls.Feed.TheVariants.{Arrive, Flush, FlushClosed}
 use Rattle.handover.specs.declared.calls.Take.{Take}
-use Rattle.handover.specs.History.{Happening, fed, got, shut, event_of, events, feeds_in, plain, stores, finds_closed, kind, by_kind, turn_of, past_turn, merge_from, merge}
+use Rattle.handover.specs.History.{Happening, fed, got, shut, event_of, events, feeds_in, plain, stores, finds_closed, kind, by_kind, reads_of, turns_of, first_turn, later_turns, deal, merge}
 use Rattle.handover.specs.Own.{reads_hold, own_from, own, store_from, store_of}
 use Rattle.handover.specs.Allowed.{AllFit}
 use Rattle.handover.proofs.Runs.{legal_back, within_next, stored_run, fed_open, got_open, full_list}
@@ -170,8 +170,8 @@ twin t f z v w x e o q a b p = record {
 }
 
 -- what the rest of the calls owes, behind a call that stores 1
-abbrev More : Terms → List Feed → List Take → Type 0
-More t fs ts = (z v : PlainList) → Twin true z v → Legal t z (events (merge_from true fs ts)) → Legal t v (events (own_from true v fs))
+abbrev More : Terms → List Feed → List (List Take) → Type 0
+More t fs us = (z v : PlainList) → Twin true z v → Legal t z (events (deal us fs)) → Legal t v (events (own_from true v fs))
 
 -- the own list of a call that stores 1 and the calls behind it
 abbrev own_storing : Bool → PlainList → Feed → List Feed → List Happening
@@ -179,12 +179,12 @@ own_storing after u f fs = cond after
     (reads_hold u ∷ fed f ∷ own_from true (next (next u (event_of (reads_hold u))) (event_of (fed f))) fs)
     (fed f ∷ own_from true (next u (event_of (fed f))) fs)
 
-storing : (t : Terms) (after : Bool) (f : Feed) (fs : List Feed) (ts : List Take) (s u : PlainList) → AllFit t.capacity (f ∷ []) → More t fs (past_turn after ts) → Twin after s u → kind f ≡ stores
-    → Legal t s (events (map got (turn_of after ts) ++ fed f ∷ merge_from true fs (past_turn after ts))) → Legal t u (events (own_storing after u f fs))
-storing t true f fs ts s u fit more w is k =
-    let turn : List Take = turn_of true ts in
+storing : (t : Terms) (after : Bool) (f : Feed) (fs : List Feed) (us : List (List Take)) (s u : PlainList) → AllFit t.capacity (f ∷ []) → More t fs (later_turns us) → Twin after s u → kind f ≡ stores
+    → Legal t s (events (map got (first_turn us) ++ fed f ∷ deal (later_turns us) fs)) → Legal t u (events (own_storing after u f fs))
+storing t true f fs us s u fit more w is k =
+    let turn : List Take = first_turn us in
     let z : PlainList = run s (events (map got turn)) in
-    let r = legal_back t s (map got turn) (fed f ∷ merge_from true fs (past_turn true ts)) k in
+    let r = legal_back t s (map got turn) (fed f ∷ deal (later_turns us) fs) k in
     let x : HeldIsWithin z = reads_within s turn w.left in
     let v : PlainList = next u (event_of (reads_hold u)) in
     let y : HeldIsWithin v = within_next u (event_of (reads_hold u)) w.right in
@@ -192,10 +192,10 @@ storing t true f fs ts s u fit more w is k =
     let o : z.closed ≡ false = reads_open s turn w.left_open in
     let p = store_step t z v f is e refl w.right_open fit r.0 in
     ((w.right_open, w.holds, refl), (p.0, more (next z (event_of (fed f))) (next v (event_of (fed f))) (twin t f z v x y e o w.right_open r.0 p.0 p.1) r.1))
-storing t false f fs ts s u fit more w is k =
-    let turn : List Take = turn_of false ts in
+storing t false f fs us s u fit more w is k =
+    let turn : List Take = first_turn us in
     let z : PlainList = run s (events (map got turn)) in
-    let r = legal_back t s (map got turn) (fed f ∷ merge_from true fs (past_turn false ts)) k in
+    let r = legal_back t s (map got turn) (fed f ∷ deal (later_turns us) fs) k in
     let x : HeldIsWithin z = reads_within s turn w.left in
     let e : stored z ≡ stored u = reads_store t s turn w.left (reads_legal t s turn _ k) ∙ w.same in
     let o : z.closed ≡ false = reads_open s turn w.left_open in
@@ -209,16 +209,16 @@ closing t f fs ts s u k =
     let r = legal_back t s (map got ts) (shut ∷ fed f ∷ map fed fs) k in
     (tt, all_closed t (f ∷ fs) (next z closed) (next u closed) refl refl r.1)
 
-pub owns : (t : Terms) (after : Bool) (fs : List Feed) (ts : List Take) (s u : PlainList) → AllFit t.capacity fs → Twin after s u → Legal t s (events (merge_from after fs ts)) → Legal t u (events (own_from after u fs))
-owns t after [] ts s u fits w h = tt
-owns t after (f ∷ fs) ts s u fits w h =
+owns : (t : Terms) (after : Bool) (fs : List Feed) (us : List (List Take)) (s u : PlainList) → AllFit t.capacity fs → Twin after s u → Legal t s (events (deal us fs)) → Legal t u (events (own_from after u fs))
+owns t after [] us s u fits w h = tt
+owns t after (f ∷ fs) us s u fits w h =
     let fit = fits_head t.capacity f fs fits in
     elim (kind f) as (λ b. kind f ≡ b
-    → Legal t s (events (by_kind b (fed f ∷ merge_from after fs ts) (map got (turn_of after ts) ++ fed f ∷ merge_from true fs (past_turn after ts)) (map got ts ++ shut ∷ fed f ∷ map fed fs)))
+    → Legal t s (events (by_kind b (fed f ∷ deal us fs) (map got (first_turn us) ++ fed f ∷ deal (later_turns us) fs) (map got (reads_of us) ++ shut ∷ fed f ∷ map fed fs)))
     → Legal t u (events (by_kind b (fed f ∷ own_from after (next u (event_of (fed f))) fs) (own_storing after u f fs) (shut ∷ map fed (f ∷ fs))))) [
       | plain ↦ λ is k. let p = plain_step t after s u f is w k.0 in (
         p.0,
-        owns t after fs ts (next s (event_of (fed f))) (next u (event_of (fed f))) fit.1 (record {
+        owns t after fs us (next s (event_of (fed f))) (next u (event_of (fed f))) fit.1 (record {
           left = within_next s (event_of (fed f)) w.left;
           right = within_next u (event_of (fed f)) w.right;
           same = stored_state t s u f w.left w.right w.same k.0 p.0;
@@ -228,12 +228,12 @@ owns t after (f ∷ fs) ts s u fits w h =
           right_open = fed_open u f ∙ w.right_open;
         }) k.1,
       )
-      | stores ↦ λ is k. storing t after f fs ts s u fit.0 (λ z v. owns t true fs (past_turn after ts) z v fit.1) w is k
-      | finds_closed ↦ λ is k. closing t f fs ts s u k
+      | stores ↦ λ is k. storing t after f fs us s u fit.0 (λ z v. owns t true fs (later_turns us) z v fit.1) w is k
+      | finds_closed ↦ λ is k. closing t f fs (reads_of us) s u k
     ] refl h
 
 pub own_legal : (t : Terms) (fs : List Feed) (ts : List Take) → AllFit t.capacity fs → Legal t empty (events (merge fs ts)) → Legal t empty (events (own fs))
-own_legal t fs ts fits h = owns t false fs ts empty empty fits (record { left = omega arith; right = omega arith; same = refl; idle = λ _. refl; holds = refl; left_open = refl; right_open = refl }) h
+own_legal t fs ts fits h = owns t false fs (turns_of ts) empty empty fits (record { left = omega arith; right = omega arith; same = refl; idle = λ _. refl; holds = refl; left_open = refl; right_open = refl }) h
 
 pub feeds_in-own : (after : Bool) (s : PlainList) (fs : List Feed) → feeds_in (own_from after s fs) ≡ fs
 feeds_in-own after s [] = refl

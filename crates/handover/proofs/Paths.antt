@@ -3,6 +3,7 @@
 use Rattle.std.proofs.Common.{◌≡◌, ◌≢◌, ℕ, zero, suc, ◌+◌, ◌<◌, ◌≤◌, Bool, true, false, List, [], ◌∷◌, ◌++◌, length, IsTrue, refl, sym, ap, ◌∙◌, subst, arith}
 use Rattle.std.specs.Bool.{OnTrue}
 use Rattle.listener.specs.declared.message.Message.{Message}
+use Rattle.listener.specs.declared.mode.Mode.{Mode}
 use Rattle.listener.specs.Buffers.{Filled, filled, with_message}
 use Rattle.listener.specs.Messages.{Arrival, cut_to, size_of, size, room}
 use Rattle.listener.proofs.Rooms.{room_nil}
@@ -10,14 +11,16 @@ use Rattle.listener.proofs.ArriveSteps.{size_cut, on_true}
 use Rattle.handover.specs.declared.calls.Feed.{Feed}
 use Rattle.handover.specs.declared.calls.Feed.TheVariants.{Flush, FlushClosed}
 use Rattle.handover.specs.declared.calls.Word.TheVariants as word
-use Rattle.handover.specs.declared.calls.WordStep.TheVariants.{Load, Store}
+use Rattle.handover.specs.declared.calls.WordStep.TheVariants.{Load, Give}
 use Rattle.handover.specs.declared.view.Profile.{Profile}
+use Rattle.handover.specs.declared.view.Sight.{Sight}
 use Rattle.handover.specs.Allowed.{handed}
 use Rattle.handover.specs.History.{finds}
 use Rattle.handover.specs.Own.{store_of}
-use Rattle.handover.specs.Rule.{Sat, with_feeds, saw_closed, saw_turn, set_turn, IsLegalWithReads}
-use Rattle.handover.specs.Seated.{IsFeeder, IsGiving, Went, WentByFlush}
-use Rattle.handover.specs.Steps.{open_alone, found_closed, found_full, gave, kept_steps, flush_steps}
+use Rattle.handover.specs.Rule.{Sat, with_feeds, saw_closed, saw_turn, set_turn, IsLegalWithReads, FeederSees}
+use Rattle.handover.specs.Seated.{IsFeeder, IsGiving, Went}
+use Rattle.handover.specs.Steps.{open_alone, found_closed, found_full, gave, stored_steps, kept_steps, call_steps, FlushAnswers}
+use Rattle.handover.proofs.Orders.{prefix_trans}
 use Rattle.handover.proofs.Seats.{after_call, one_step, looked, looked_unclosed, longer, Holds, holds, gave_turn}
 
 -- the store has the profile's capacity
@@ -93,9 +96,23 @@ pub gives : (n p : Sat) (b x : Filled) (f : Feed) → Holds n p b x → x ≡ fi
 gives n p b x f h is = subst (IsGiving p) (is ∙ λ i. filled (h.capacity i) (handed (sym h.store i) f)) h.giving
 
 pub went_loud : (m n o p q : Sat) (b x c : Filled) (f g : Feed) (found : ℕ) → Opened m n b → saw_turn g n found o → found ≡ 0 → p ≡ (o.0, (0, x) ∷ [])
-    → set_turn f p 1 q → IsLegalWithReads q.0 → c ≡ after_call b f → Went m q c f gave
+    → set_turn f p 1 q → IsLegalWithReads q.0 → c ≡ after_call b f → Went m q c f (gave (handed b.messages f))
 went_loud m n o p q b x c f g found at saw is swapped set owned new =
-    longer m n q c f (Load word.Closed 0) (Load word.Turn 0 ∷ Store word.Turn 1 ∷ []) at.is (gave_turn n o p q b x c f at.feeder (saw.0 is) swapped set owned new)
+    let given : List Message = handed (store_of p.0.feeds) f in
+    let h = handing m n o p b x g found at saw is swapped in
+    subst (λ (l : List Message). Went m q c f (gave (handed l f))) h.store
+    (longer m n q c f (Load word.Closed 0) (Load word.Turn 0 ∷ Give given ∷ []) at.is (gave_turn n o p q b x c f given at.feeder (saw.0 is) swapped set owned new))
+
+-- what was seen over several steps, between the last two of which the buffers were exchanged
+pub sees_on : (a b c : Sight) → FeederSees a b → FeederSees b c → FeederSees a c
+sees_on a b c p q = record { earlier = prefix_trans a.feeder_saw b.feeder_saw c.feeder_saw p.earlier q.earlier; fresh = q.fresh; own = q.own }
+
+pub gave_sees : (a b c d e : Sight) → FeederSees a b → FeederSees b c → d ≡ c → FeederSees d e → FeederSees a e
+gave_sees a b c d e p q same r = sees_on a b e p (sees_on b c e q (subst (λ (s : Sight). FeederSees s e) same r))
+
+-- the steps of a packet that is stored, by the mode
+pub stored_so : (m n : Sat) (b : Filled) (f : Feed) (was is : Mode) → was ≡ is → Went m n b f (stored_steps is) → Went m n b f (stored_steps was)
+stored_so m n b f was is same w = subst (λ (x : Mode). Went m n b f (stored_steps x)) (sym same) w
 
 -- ---- Putting a packet into a store that has room
 
@@ -121,12 +138,18 @@ first_fits b x m fresh small =
 
 -- ---- Flushes
 
+-- the seat went on by a flush that answered `full`, of a store with these messages
+pub record WentByFlush (m n : Sat) (old : List Message) (b : Filled) (full : Bool) : Type 0 where
+  pub call : Feed
+  pub answer : FlushAnswers full call
+  pub went : Went m n b call (call_steps m.0.profile.mode old call)
+
 pub flushed_nothing : (m n : Sat) (b : Filled) (found : ℕ) → IsFeeder m b false → saw_closed (Flush false ∷ []) FlushClosed m found n → IsLegalWithReads n.0 → b.messages ≡ []
     → WentByFlush m n b.messages b false
 flushed_nothing m n b zero h saw owned none = record {
   call = Flush false;
   answer = refl;
-  went = subst (λ (l : List Message). Went m n b (Flush false) (flush_steps l (Flush false))) (sym none) (went_quiet m n b b (Flush false) FlushClosed zero h saw refl owned refl);
+  went = subst (λ (l : List Message). Went m n b (Flush false) (call_steps m.0.profile.mode l (Flush false))) (sym none) (went_quiet m n b b (Flush false) FlushClosed zero h saw refl owned refl);
 }
 flushed_nothing m n b (suc k) h saw owned none = record {
   call = FlushClosed;

@@ -9,7 +9,7 @@ use Rattle.handover.specs.declared.calls.Take.{Take}
 use Rattle.handover.specs.declared.calls.Take.TheVariants as take
 use Rattle.handover.specs.declared.calls.Word.TheVariants as word
 use Rattle.handover.specs.declared.calls.WordStep.{WordStep}
-use Rattle.handover.specs.declared.calls.WordStep.TheVariants.{Load, Store}
+use Rattle.handover.specs.declared.calls.WordStep.TheVariants.{Load, Store, Give}
 use Rattle.handover.specs.declared.view.Role.TheVariants.{Drains}
 use Rattle.handover.specs.History.{event_of, fed, finds}
 use Rattle.handover.specs.Own.{store_from, store_of}
@@ -83,21 +83,21 @@ pub came_out : (n o : Sat) (b c : Filled) → IsFeeder n b false → o ≡ (with
 came_out n o b c h taken is = is ∙ (ap (λ (u : Sat). filled u.0.profile.capacity []) taken ∙ ap (λ (k : Filled). filled k.capacity []) (sym h.store))
 
 -- a call that made the store the hold
-pub gave_turn : (n o p q : Sat) (b x c : Filled) (f : Feed) → IsFeeder n b false
+pub gave_turn : (n o p q : Sat) (b x c : Filled) (f : Feed) (given : List Message) → IsFeeder n b false
     → o ≡ (with_feeds n.0 [] (Load word.Turn 0) true, (0, filled n.0.profile.capacity []) ∷ n.1) → p ≡ (o.0, (0, x) ∷ [])
-    → q ≡ (with_feeds p.0 (f ∷ []) (Store word.Turn 1) false, rest p.1) → IsLegalWithReads q.0 → c ≡ after_call b f
-    → Went n q c f (Load word.Turn 0 ∷ Store word.Turn 1 ∷ [])
-gave_turn n o p q b x c f h taken swapped gave owned new =
-    let P : Sat → Type 0 = λ u. IsLegalWithReads u.0 → Went n u c f (Load word.Turn 0 ∷ Store word.Turn 1 ∷ []) in
-    let Q : Sat → Type 0 = λ u. P (with_feeds u.0 (f ∷ []) (Store word.Turn 1) false, rest u.1) in
+    → q ≡ (with_feeds p.0 (f ∷ []) (Give given) false, rest p.1) → IsLegalWithReads q.0 → c ≡ after_call b f
+    → Went n q c f (Load word.Turn 0 ∷ Give given ∷ [])
+gave_turn n o p q b x c f given h taken swapped gave owned new =
+    let P : Sat → Type 0 = λ u. IsLegalWithReads u.0 → Went n u c f (Load word.Turn 0 ∷ Give given ∷ []) in
+    let Q : Sat → Type 0 = λ u. P (with_feeds u.0 (f ∷ []) (Give given) false, rest u.1) in
     let store : c ≡ filled n.0.profile.capacity (store_of ((n.0.feeds ++ []) ++ f ∷ [])) =
     new ∙ (ap (λ (k : Filled). after_call k f) h.store ∙ ap (filled n.0.profile.capacity)
     (sym (store_from-append [] (n.0.feeds ++ []) (f ∷ []) ∙ ap (λ (l : List Feed). store_after (store_of l) (event_of (fed f))) (append-nil n.0.feeds)))) in
-    subst P (sym gave) (subst Q (sym swapped) (subst (λ (u : Sat). Q (u.0, (0, x) ∷ [])) (sym taken) (λ (o' : IsLegalWithReads (with_feeds (with_feeds n.0 [] (Load word.Turn 0) true) (f ∷ []) (Store word.Turn 1) false)). record {
+    subst P (sym gave) (subst Q (sym swapped) (subst (λ (u : Sat). Q (u.0, (0, x) ∷ [])) (sym taken) (λ (o' : IsLegalWithReads (with_feeds (with_feeds n.0 [] (Load word.Turn 0) true) (f ∷ []) (Give given) false)). record {
       feeder = record { role = h.role; calm = refl; ended = h.ended; home = refl; store = store; owned = o' };
       profile = refl;
       feeds = ap (λ (l : List Feed). l ++ f ∷ []) (append-nil n.0.feeds);
-      steps = append_assoc n.0.feed_steps (Load word.Turn 0 ∷ []) (Store word.Turn 1 ∷ []);
+      steps = append_assoc n.0.feed_steps (Load word.Turn 0 ∷ []) (Give given ∷ []);
     }))) owned
 
 -- ---- The drain's seat
@@ -154,11 +154,11 @@ bit_small : (b : Bool) → bit b ≤ 1
 bit_small false = omega arith
 bit_small true = omega arith
 
--- the hold was read
-pub took_hold : (m n o p q : Sat) (seen : Bool) (b : Filled) (batch : List Message) → IsDrain m false → b ≡ filled m.0.profile.capacity [] → n ≡ (saw_end m.0 seen, m.1)
-    → o ≡ (with_takes n.0 [] (Load word.Turn 1) (Some batch), (0, filled n.0.profile.capacity batch) ∷ n.1) → p ≡ (o.0, (0, b) ∷ rest o.1) → cleared p 0 q
-    → Took m q (take.Full batch)
-took_hold m n o p q seen b batch h empty looked took swapped gave =
+-- the hold was read, and it is what was handed over last
+took_hold : (m n o p q : Sat) (seen : Bool) (b : Filled) (given batch : List Message) → IsDrain m false → b ≡ filled m.0.profile.capacity [] → n ≡ (saw_end m.0 seen, m.1)
+    → o ≡ (with_takes n.0 [] (Load word.Turn 1) (Some batch), (0, filled n.0.profile.capacity batch) ∷ n.1) → p ≡ (o.0, (0, b) ∷ rest o.1) → cleared given p 0 q
+    → Took m q (take.Full batch) × (batch ≡ given)
+took_hold m n o p q seen b given batch h empty looked took swapped gave =
     let P : Sat → Type 0 = λ u. Took m u (take.Full batch) in
     let Q : Sat → Type 0 = λ u. P (with_takes u.0 (take.Full batch ∷ []) (Store word.Turn 0) None, rest u.1) in
     let R : Sat → Type 0 = λ u. Q (u.0, (0, b) ∷ rest u.1) in
@@ -166,12 +166,15 @@ took_hold m n o p q seen b batch h empty looked took swapped gave =
     let at = brought m n o p seen b batch h empty looked took swapped in
     let steps : GrewByRead (take.Full batch) m.0.take_steps (((m.0.take_steps ++ Load word.Ended (bit seen) ∷ []) ++ Load word.Turn 1 ∷ []) ++ Store word.Turn 0 ∷ []) =
     (bit seen, bit_small seen, append_assoc (m.0.take_steps ++ Load word.Ended (bit seen) ∷ []) (Load word.Turn 1 ∷ []) (Store word.Turn 0 ∷ []) ∙ append_assoc m.0.take_steps (Load word.Ended (bit seen) ∷ []) (Load word.Turn 1 ∷ Store word.Turn 0 ∷ [])) in
-    subst P (sym (gave batch at.taking)) (subst Q (sym swapped) (subst R (sym took) (subst S (sym looked) (record {
-      drain = record { role = h.role; calm = refl; closed = h.closed; home = h.home };
-      profile = refl;
-      takes = ap (λ (l : List Take). l ++ take.Full batch ∷ []) (append-nil m.0.takes);
-      steps = steps;
-    }))))
+    let cleared_so = gave batch at.taking in (
+      subst P (sym cleared_so.1) (subst Q (sym swapped) (subst R (sym took) (subst S (sym looked) (record {
+        drain = record { role = h.role; calm = refl; closed = h.closed; home = h.home };
+        profile = refl;
+        takes = ap (λ (l : List Take). l ++ take.Full batch ∷ []) (append-nil m.0.takes);
+        steps = steps;
+      })))),
+      cleared_so.0,
+    )
 
 pub took_none : (m n o : Sat) (found full : ℕ) → IsDrain m false → looked_ended m found n → looked_turn n full o → full ≡ 0 → found ≡ 0 → Took m o take.Nothing
 took_none m n o found full h ended turn none is = took_nothing m n o false h (ended.0 is) (turn.0 none)
@@ -188,16 +191,17 @@ pub closed_seat : (m n : Sat) → IsDrain m false → n ≡ (closed_by m.0, m.1)
 closed_seat m n h is = subst (λ (u : Sat). IsDrain u true) (sym is) (record { role = h.role; calm = h.calm; closed = refl; home = h.home })
 
 -- the hold came out of the slot, and is what was read
-pub took_full : (m n o p q : Sat) (found full : ℕ) (empty hold : Filled) → IsDrain m false → empty ≡ filled m.0.profile.capacity []
-    → looked_ended m found n → looked_turn n full o → full ≢ 0 → o.1 ≡ (0, hold) ∷ rest o.1 → p ≡ (o.0, (0, empty) ∷ rest o.1) → cleared p 0 q
-    → Took m q (take.Full hold.messages) × (hold.capacity ≡ m.0.profile.capacity)
-took_full m n o p q found full empty hold h none ended turn ne out swapped gave =
+pub took_full : (m n o p q : Sat) (found full : ℕ) (given : List Message) (empty hold : Filled) → IsDrain m false → empty ≡ filled m.0.profile.capacity []
+    → looked_ended m found n → looked_turn n full o → full ≢ 0 → o.1 ≡ (0, hold) ∷ rest o.1 → p ≡ (o.0, (0, empty) ∷ rest o.1) → cleared given p 0 q
+    → Took m q (take.Full hold.messages) × (hold.capacity ≡ m.0.profile.capacity) × (hold.messages ≡ given)
+took_full m n o p q found full given empty hold h none ended turn ne out swapped gave =
     let seen = ended_seen m n found ended in
     let t = (turn.1 ne).1 in
     let slot : (0, hold) ∷ rest o.1 ≡ (0, filled n.0.profile.capacity t.0) ∷ n.1 = sym out ∙ ap (λ (u : Sat). u.1) t.1 in
     let is : hold ≡ filled n.0.profile.capacity t.0 = ap (λ (l : List (ℕ × Filled)). (get_or l 0 (0, hold)).1) slot in
-    let same : n.0.profile.capacity ≡ m.0.profile.capacity = ap (λ (u : Sat). u.0.profile.capacity) seen.2 in (
-      subst (λ (l : List Message). Took m q (take.Full l)) (sym (ap (λ (b : Filled). b.messages) is))
-          (took_hold m n o p q seen.0 empty t.0 h none seen.2 t.1 swapped gave),
+    let same : n.0.profile.capacity ≡ m.0.profile.capacity = ap (λ (u : Sat). u.0.profile.capacity) seen.2 in
+    let was = took_hold m n o p q seen.0 empty given t.0 h none seen.2 t.1 swapped gave in (
+      subst (λ (l : List Message). Took m q (take.Full l)) (sym (ap (λ (b : Filled). b.messages) is)) was.0,
       ap (λ (b : Filled). b.capacity) is ∙ same,
+      ap (λ (b : Filled). b.messages) is ∙ was.1,
     )

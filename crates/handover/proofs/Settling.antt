@@ -9,7 +9,7 @@ use Rattle.handover.specs.declared.calls.Feed.{Feed}
 use Rattle.handover.specs.declared.calls.Feed.TheVariants.{Arrive, Flush, FlushClosed}
 use Rattle.handover.specs.declared.calls.Take.{Take}
 use Rattle.handover.specs.declared.calls.Take.TheVariants.{Full, Nothing, Ended}
-use Rattle.handover.specs.History.{Happening, fed, got, shut, event_of, events, feeds_in, takes_in, plain, stores, finds_closed, kind, by_kind, OnlyFeeds, CloseIsPlaced, turn_of, past_turn, merge_from, merge, batches_of}
+use Rattle.handover.specs.History.{Happening, fed, got, shut, event_of, events, feeds_in, takes_in, plain, stores, finds_closed, kind, by_kind, OnlyFeeds, CloseIsPlaced, reads_of, turns_of, first_turn, later_turns, deal, merge, batches_of}
 use Rattle.handover.specs.Own.{own, received_in, matched_in, dropped_in}
 use Rattle.handover.specs.Allowed.{AllFit}
 use Rattle.handover.specs.Rule.{last}
@@ -33,17 +33,17 @@ only_feeds : (fs : List Feed) → OnlyFeeds (map fed fs)
 only_feeds [] = tt
 only_feeds (f ∷ fs) = only_feeds fs
 
-pub close_placed : (after : Bool) (fs : List Feed) (ts : List Take) → CloseIsPlaced (merge_from after fs ts)
-close_placed after [] ts = close_reads ts
-close_placed after (g ∷ fs) ts = elim (kind g) as (λ b. kind g ≡ b →
-    CloseIsPlaced (by_kind b (fed g ∷ merge_from after fs ts) (map got (turn_of after ts) ++ fed g ∷ merge_from true fs (past_turn after ts)) (map got ts ++ shut ∷ fed g ∷ map fed fs))) [
-      | plain ↦ λ e. ((λ is. let no : plain ≡ finds_closed = sym e ∙ is in cc), close_placed after fs ts)
-      | stores ↦ λ e. close_got (turn_of after ts) (fed g ∷ merge_from true fs (past_turn after ts)) ((λ is. let no : stores ≡ finds_closed = sym e ∙ is in cc), close_placed true fs (past_turn after ts))
-      | finds_closed ↦ λ e. close_got ts (shut ∷ fed g ∷ map fed fs) (e, only_feeds fs)
+close_placed : (us : List (List Take)) (fs : List Feed) → CloseIsPlaced (deal us fs)
+close_placed us [] = close_reads (reads_of us)
+close_placed us (g ∷ fs) = elim (kind g) as (λ b. kind g ≡ b →
+    CloseIsPlaced (by_kind b (fed g ∷ deal us fs) (map got (first_turn us) ++ fed g ∷ deal (later_turns us) fs) (map got (reads_of us) ++ shut ∷ fed g ∷ map fed fs))) [
+      | plain ↦ λ e. ((λ is. let no : plain ≡ finds_closed = sym e ∙ is in cc), close_placed us fs)
+      | stores ↦ λ e. close_got (first_turn us) (fed g ∷ deal (later_turns us) fs) ((λ is. let no : stores ≡ finds_closed = sym e ∙ is in cc), close_placed (later_turns us) fs)
+      | finds_closed ↦ λ e. close_got (reads_of us) (shut ∷ fed g ∷ map fed fs) (e, only_feeds fs)
     ] refl
 
 pub merges_have_both : MergesHaveBoth
-merges_have_both fs ts = record { feeds = feeds_in-merge false fs ts; takes = takes_in-merge false fs ts; close = close_placed false fs ts }
+merges_have_both fs ts = record { feeds = feeds_in-merge fs ts; takes = takes_in-merge fs ts; close = close_placed (turns_of ts) fs }
 
 -- ---- The counts
 
@@ -107,15 +107,15 @@ batches_are (shut ∷ hs) = batches_are hs
 pub histories_are_kept : (t : Terms) (fs : List Feed) (ts : List Take) → AllFit t.capacity fs → Legal t empty (events (merge fs ts))
     → IsKept t (requests (events (merge fs ts))) (batches (events (merge fs ts))) (last fs ts)
 histories_are_kept t fs ts fits legal =
-    runs_are_kept t (events (merge fs ts)) (all_fit t (merge fs ts) (subst (AllFit t.capacity) (sym (feeds_in-merge false fs ts)) fits)) legal
+    runs_are_kept t (events (merge fs ts)) (all_fit t (merge fs ts) (subst (AllFit t.capacity) (sym (feeds_in-merge fs ts)) fits)) legal
 
 pub histories_are_settled : HistoriesAreSettled
 histories_are_settled t fs ts fits legal =
     let hs : List Happening = merge fs ts in
-    let fed_is : feeds_in hs ≡ fs = feeds_in-merge false fs ts in
+    let fed_is : feeds_in hs ≡ fs = feeds_in-merge fs ts in
     let k = histories_are_kept t fs ts fits legal in
     let c = counts_run t empty hs legal in
-    let bs : batches (events hs) ≡ batches_of ts = batches_are hs ∙ ap batches_of (takes_in-merge false fs ts) in
+    let bs : batches (events hs) ≡ batches_of ts = batches_are hs ∙ ap batches_of (takes_in-merge fs ts) in
     let a : received_in (feeds_in hs) ≡ received_in fs = ap received_in fed_is in
     let m : matched_in (feeds_in hs) ≡ matched_in fs = ap matched_in fed_is in
     let d : dropped_in (feeds_in hs) ≡ dropped_in fs = ap dropped_in fed_is in
@@ -198,7 +198,7 @@ own_runs_are_right t fs ts fits legal =
     let right = own_legal t fs ts fits legal in
     let one = counts_run t empty (own fs) right in
     let other = counts_run t empty (merge fs ts) legal in
-    let same : feeds_in (own fs) ≡ feeds_in (merge fs ts) = feeds_in-own false empty fs ∙ sym (feeds_in-merge false fs ts) in
+    let same : feeds_in (own fs) ≡ feeds_in (merge fs ts) = feeds_in-own false empty fs ∙ sym (feeds_in-merge fs ts) in
     let a : received_in (feeds_in (own fs)) ≡ received_in (feeds_in (merge fs ts)) = ap received_in same in
     let m : matched_in (feeds_in (own fs)) ≡ matched_in (feeds_in (merge fs ts)) = ap matched_in same in
     let d : dropped_in (feeds_in (own fs)) ≡ dropped_in (feeds_in (merge fs ts)) = ap dropped_in same in

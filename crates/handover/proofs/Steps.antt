@@ -14,20 +14,20 @@ use Rattle.handover.specs.declared.calls.Take.{Take}
 use Rattle.handover.specs.declared.calls.Take.TheVariants.{Full}
 use Rattle.handover.specs.declared.calls.Word.TheVariants as word
 use Rattle.handover.specs.declared.calls.WordStep.{WordStep}
-use Rattle.handover.specs.declared.calls.WordStep.TheVariants.{Load, Store}
+use Rattle.handover.specs.declared.calls.WordStep.TheVariants.{Load, Store, Give}
 use Rattle.handover.specs.declared.view.Role.TheVariants.{Whole, Feeds, Drains, Joined, Spent}
 use Rattle.handover.specs.declared.view.Profile.{Profile}
 use Rattle.handover.specs.declared.view.View.{View}
 use Rattle.handover.specs.declared.view.Sight.{Sight}
 use Rattle.handover.specs.declared.calls.EndStep.{EndStep}
 use Rattle.handover.specs.declared.calls.EndStep.TheVariants.{OfFeeder, OfDrain}
-use Rattle.handover.specs.History.{events, merge, EndedIsLast, ended_in, finds, kind, finds_closed}
+use Rattle.handover.specs.History.{events, merge, turns_of, EndedIsLast, ended_in, finds, kind, finds_closed}
 use Rattle.handover.specs.Tidy.{Tidy}
 use Rattle.handover.specs.Allowed.{IsQuiet, Busy, Loud, handed, AllFit}
 use Rattle.handover.specs.Own.{store_of}
 use Rattle.handover.specs.Rule.{Home, IsHeld, bit, terms_of, last, BufferFollowsTurn, Facts, Seats, whole, apart, joined, AllSpent, witness, KeepsRule, first, for_feeder, for_drain, joint, spent, IsOrder, FeederSees, DrainSees, Sitting, known, with_feeds, with_takes, ended_by, saw_end, closed_by, idle, AreLegalWithReads, IsLegalWithReads, Sat, saw_closed, saw_turn, set_turn, set_ended, looked_ended, looked_turn, cleared, set_closed}
-use Rattle.handover.specs.Orders.{Finds, behind, is_store_to, store_to}
-use Rattle.handover.proofs.Orders.{feeder_at_step, drain_at_step, by_feeder, by_drain, same_latest, flag_more}
+use Rattle.handover.specs.Orders.{Finds, behind, is_store_to, store_to, given_by, last_given}
+use Rattle.handover.proofs.Orders.{feeder_at_step, drain_at_step, by_feeder, by_drain, given_more, same_latest, flag_more}
 use Rattle.handover.proofs.Keeps.{quiet_keeps, busy_keeps, loud_keeps, late_keeps, idle_keeps, full_keeps}
 
 -- ---- The feeder's seat
@@ -46,7 +46,7 @@ by_stores : (ws : List ℕ) (full : Bool) (f d : View) → ws ≡ words_of full 
 by_stores ws full f d is closed ended = is ∙ (λ i. bit full ∷ bit (closed i) ∷ bit (ended i) ∷ [])
 
 -- what a step of the feeder owes, where its view and the drain's are known
-pub record FeedStep (me : Sat) (i : ℕ) (f : ℕ → ℕ) (then : ℕ → Sat → Type 0) (full : Bool) (home : Home) (d : View) : Type 0 where
+pub record FeedStep (me : Sat) (i : ℕ) (f : ℕ → ℕ) (then : ℕ → Sat → Type 0) (full : Bool) (home : Home) (given : List Message) (d : View) : Type 0 where
   pub view : View
   pub act : Act Filled
   pub full_after : Bool
@@ -61,7 +61,7 @@ pub record FeedStep (me : Sat) (i : ℕ) (f : ℕ → ℕ) (then : ℕ → Sat �
   pub leaves : words_of full_after view d ≡ behind (words_of full me.0 d) made
   pub ends : view.ended ≡ (is_store_to word.Ended made || me.0.ended)
   pub homes : homes_after (home ∷ []) me.1 act ≡ home_after ∷ []
-  pub facts : Facts (terms_of me.0.profile) full_after home_after view d
+  pub facts : Facts (terms_of me.0.profile) full_after home_after (given_by (OfFeeder made) given) view d
   pub told : then (slice_index (words_of full me.0 d) i) (view, carried_after me.1 act)
 
 pub spent_at : (os : List Sight) (k : ℕ) (v : Sight) → AllSpent os → get_elem? os k ≡ some v → v.view.role ≡ Spent
@@ -89,16 +89,17 @@ feeder_at f d v vs id (joined os p q s) at r = absurd (two id at)
     two (suc k) e = let t : v.view.role ≡ Spent = spent_at os k v s e in cc
 
 pub feeder_allows : (p : Profile) (slots id : ℕ) (me : Sitting) (i : ℕ) (f : ℕ → ℕ) (then : ℕ → Sat → Type 0) → me.0.view.role ≡ Feeds
-    → ((full : Bool) (home : Home) (d : View) → Facts (terms_of me.0.view.profile) full home me.0.view d → FeedStep (known me) i f then full home d)
+    → ((full : Bool) (home : Home) (given : List Message) (d : View) → Facts (terms_of me.0.view.profile) full home given me.0.view d → FeedStep (known me) i f then full home given d)
     → Allows (KeepsRule p) slots id me i f (λ r n. then r (known n) × IsLegalWithReads n.0.view × FeederSees me.0 n.0)
 feeder_allows p slots id me i f then role go s k _ at _ =
     let a = feeder_at k.feeder k.drain me.0 s.views id k.seats at role in
     let same : k.feeder.view.profile ≡ me.0.view.profile = ap (λ (v : Sight). v.view.profile) a.2 in
-    let facts : Facts (terms_of me.0.view.profile) k.full k.home me.0.view k.drain.view =
-    subst (λ (v : Sight). Facts (terms_of v.view.profile) k.full k.home v.view k.drain.view) a.2
-    (subst (λ (x : Profile). Facts (terms_of x) k.full k.home k.feeder.view k.drain.view) (sym k.feeder_profile) k.facts) in
+    let given : List Message = last_given k.order in
+    let facts : Facts (terms_of me.0.view.profile) k.full k.home given me.0.view k.drain.view =
+    subst (λ (v : Sight). Facts (terms_of v.view.profile) k.full k.home given v.view k.drain.view) a.2
+    (subst (λ (x : Profile). Facts (terms_of x) k.full k.home given k.feeder.view k.drain.view) (sym k.feeder_profile) k.facts) in
     let words : s.words ≡ words_of k.full me.0.view k.drain.view = by_flags s.words k.full k.feeder.view k.drain.view k.words k.closed k.ended ∙ ap (λ (v : Sight). words_of k.full v.view k.drain.view) a.2 in
-    let g = go k.full k.home k.drain.view facts in
+    let g = go k.full k.home given k.drain.view facts in
     let is : me.0.view.profile ≡ p = sym same ∙ k.feeder_profile in
     let after : set s.words i (f (slice_index s.words i)) ≡ words_of g.full_after g.view k.drain.view = ap (λ (ws : List ℕ). set ws i (f (slice_index ws i))) words ∙ g.words in
     let steps : IsOrder k.order s.words me.0 k.drain = subst (λ (v : Sight). IsOrder k.order s.words v k.drain) a.2 k.steps in
@@ -123,7 +124,8 @@ feeder_allows p slots id me i f then role go s k _ at _ =
         seats = subst (Seats next k.drain) (λ j. set (sym a.0 j) (sym a.1 j) next) (apart g.role a.3);
         feeder_profile = g.profile ∙ is;
         drain_profile = k.drain_profile;
-        facts = subst (λ (x : Profile). Facts (terms_of x) g.full_after g.home_after g.view k.drain.view) is g.facts;
+        facts = subst (λ (x : Profile). Facts (terms_of x) g.full_after g.home_after (last_given (k.order ++ OfFeeder g.made ∷ [])) g.view k.drain.view) is
+            (subst (λ (l : List Message). Facts (terms_of me.0.view.profile) g.full_after g.home_after l g.view k.drain.view) (sym (given_more [] k.order (OfFeeder g.made))) g.facts);
         steps = order.0;
       },
       (
@@ -155,7 +157,7 @@ drain_at f d v vs id (joined os p q s) at r = absurd (two id at)
     two (suc k) e = let t : v.view.role ≡ Spent = spent_at os k v s e in cc
 
 -- what a step of the drain owes, where its view and the feeder's are known
-pub record DrainStep (me : Sat) (i : ℕ) (f : ℕ → ℕ) (then : ℕ → Sat → Type 0) (full : Bool) (home : Home) (v : View) : Type 0 where
+pub record DrainStep (me : Sat) (i : ℕ) (f : ℕ → ℕ) (then : List Message → ℕ → Sat → Type 0) (full : Bool) (home : Home) (given : List Message) (v : View) : Type 0 where
   pub view : View
   pub act : Act Filled
   pub full_after : Bool
@@ -170,20 +172,21 @@ pub record DrainStep (me : Sat) (i : ℕ) (f : ℕ → ℕ) (then : ℕ → Sat 
   pub leaves : words_of full_after v view ≡ behind (words_of full v me.0) made
   pub closes : view.closed ≡ (is_store_to word.Closed made || me.0.closed)
   pub homes : homes_after (home ∷ []) me.1 act ≡ home_after ∷ []
-  pub facts : Facts (terms_of me.0.profile) full_after home_after v view
-  pub told : then (slice_index (words_of full v me.0) i) (view, carried_after me.1 act)
+  pub facts : Facts (terms_of me.0.profile) full_after home_after given v view
+  pub told : then given (slice_index (words_of full v me.0) i) (view, carried_after me.1 act)
 
-pub drain_allows : (p : Profile) (slots id : ℕ) (me : Sitting) (i : ℕ) (f : ℕ → ℕ) (then : ℕ → Sat → Type 0) → me.0.view.role ≡ Drains
-    → ((full : Bool) (home : Home) (v : View) → Facts (terms_of me.0.view.profile) full home v me.0.view → DrainStep (known me) i f then full home v)
-    → Allows (KeepsRule p) slots id me i f (λ r n. then r (known n) × DrainSees me.0 n.0)
+pub drain_allows : (p : Profile) (slots id : ℕ) (me : Sitting) (i : ℕ) (f : ℕ → ℕ) (then : List Message → ℕ → Sat → Type 0) → me.0.view.role ≡ Drains
+    → ((full : Bool) (home : Home) (given : List Message) (v : View) → Facts (terms_of me.0.view.profile) full home given v me.0.view → DrainStep (known me) i f then full home given v)
+    → Allows (KeepsRule p) slots id me i f (λ r n. then (last_given n.0.drain_saw) r (known n) × DrainSees me.0 n.0)
 drain_allows p slots id me i f then role go s k _ at _ =
     let a = drain_at k.feeder k.drain me.0 s.views id k.seats at role in
     let same : k.drain.view.profile ≡ me.0.view.profile = ap (λ (v : Sight). v.view.profile) a.2 in
-    let facts : Facts (terms_of me.0.view.profile) k.full k.home k.feeder.view me.0.view =
-    subst (λ (v : Sight). Facts (terms_of v.view.profile) k.full k.home k.feeder.view v.view) a.2
-    (subst (λ (x : Profile). Facts (terms_of x) k.full k.home k.feeder.view k.drain.view) (sym k.drain_profile) k.facts) in
+    let given : List Message = last_given k.order in
+    let facts : Facts (terms_of me.0.view.profile) k.full k.home given k.feeder.view me.0.view =
+    subst (λ (v : Sight). Facts (terms_of v.view.profile) k.full k.home given k.feeder.view v.view) a.2
+    (subst (λ (x : Profile). Facts (terms_of x) k.full k.home given k.feeder.view k.drain.view) (sym k.drain_profile) k.facts) in
     let words : s.words ≡ words_of k.full k.feeder.view me.0.view = by_flags s.words k.full k.feeder.view k.drain.view k.words k.closed k.ended ∙ ap (λ (v : Sight). words_of k.full k.feeder.view v.view) a.2 in
-    let g = go k.full k.home k.feeder.view facts in
+    let g = go k.full k.home given k.feeder.view facts in
     let is : me.0.view.profile ≡ p = sym same ∙ k.drain_profile in
     let after : set s.words i (f (slice_index s.words i)) ≡ words_of g.full_after k.feeder.view g.view = ap (λ (ws : List ℕ). set ws i (f (slice_index ws i))) words ∙ g.words in
     let steps : IsOrder k.order s.words k.feeder me.0 = subst (λ (v : Sight). IsOrder k.order s.words k.feeder v) a.2 k.steps in
@@ -191,6 +194,7 @@ drain_allows p slots id me i f then role go s k _ at _ =
     (after ∙ (g.leaves ∙ ap (λ (ws : List ℕ). behind ws g.made) (sym words))) g.steps in
     let mine : me.0.view.closed ≡ store_to word.Closed me.0.view.take_steps = subst (λ (v : Sight). v.view.closed ≡ store_to word.Closed v.view.take_steps) a.2 k.closed in
     let closed : g.view.closed ≡ store_to word.Closed g.view.take_steps = flag_more word.Closed me.0.view.take_steps g.view.take_steps g.made me.0.view.closed g.view.closed g.steps mine g.closes in
+    let same_given : last_given (k.order ++ OfDrain g.made ∷ []) ≡ given = given_more [] k.order (OfDrain g.made) in
     let next : Sight = drain_at_step me.0 g.view (k.order ++ OfDrain g.made ∷ []) in (
       next,
       g.act,
@@ -208,42 +212,49 @@ drain_allows p slots id me i f then role go s k _ at _ =
         seats = subst (Seats k.feeder next) (λ j. set (sym a.0 j) (sym a.1 j) next) (apart a.3 g.role);
         feeder_profile = k.feeder_profile;
         drain_profile = g.profile ∙ is;
-        facts = subst (λ (x : Profile). Facts (terms_of x) g.full_after g.home_after k.feeder.view g.view) is g.facts;
+        facts = subst (λ (x : Profile). Facts (terms_of x) g.full_after g.home_after (last_given (k.order ++ OfDrain g.made ∷ [])) k.feeder.view g.view) is
+            (subst (λ (l : List Message). Facts (terms_of me.0.view.profile) g.full_after g.home_after l k.feeder.view g.view) (sym same_given) g.facts);
         steps = order.0;
       },
-      (subst (λ (ws : List ℕ). then (slice_index ws i) (g.view, carried_after me.1 g.act)) (sym words) g.told, order.1),
+      (
+        subst (λ (l : List Message). then l (slice_index s.words i) (g.view, carried_after me.1 g.act)) (sym same_given)
+            (subst (λ (ws : List ℕ). then given (slice_index ws i) (g.view, carried_after me.1 g.act)) (sym words) g.told),
+        order.1,
+      ),
     )
 
 -- ---- The feeder's load of `closed`
 
 -- a load that ends no call
-looks_on : (t : Terms) (full : Bool) (home : Home) (v d w : View) → w.feeds ≡ v.feeds ++ [] → w.ended ≡ v.ended → w.rotating ≡ v.rotating → Facts t full home v d → Facts t full home w d
-looks_on t full home v d w same going turning k =
+looks_on : (t : Terms) (full : Bool) (home : Home) (given : List Message) (v d w : View) → w.feeds ≡ v.feeds ++ [] → w.ended ≡ v.ended → w.rotating ≡ v.rotating → Facts t full home given v d
+    → Facts t full home given w d
+looks_on t full home given v d w same going turning k =
     let fs : w.feeds ≡ v.feeds = same ∙ append-nil v.feeds in record {
       fits = subst (AllFit t.capacity) (sym fs) k.fits;
       legal = subst (λ (l : List Feed). Legal t empty (events (merge l d.takes))) (sym fs) k.legal;
       is_open = subst (λ (l : List Feed). (last l d.takes).closed ≡ finds l) (sym fs) k.is_open;
       closer = subst (λ (l : List Feed). d.closed ≡ false → finds l ≡ false) (sym fs) k.closer;
       in_hold = subst (λ (l : List Feed). IsHeld full (last l d.takes).in_hold) (sym fs) k.in_hold;
-      tidy = subst (λ (l : List Feed). Tidy false l d.takes full) (sym fs) k.tidy;
+      tidy = subst (λ (l : List Feed). Tidy (turns_of d.takes) l full) (sym fs) k.tidy;
       late = subst (λ (l : List Feed). EndedIsLast (merge l d.takes)) (sym fs) k.late;
       ender = subst (λ (b : Bool). b ≡ false → ended_in d.takes ≡ false) (sym going) k.ender;
       unclosed = subst (λ (l : List Feed). ended_in d.takes ≡ true → finds l ≡ false) (sym fs) k.unclosed;
       seen = subst (λ (b : Bool). d.sees_end ≡ true → b ≡ true) (sym going) k.seen;
       place = subst (λ (l : List Feed). BufferFollowsTurn t.capacity full w.rotating d.taking home (hold_of (last l d.takes))) (sym fs)
           (subst (λ (b : Bool). BufferFollowsTurn t.capacity full b d.taking home (hold_of (last v.feeds d.takes))) (sym turning) k.place);
+      held_given = λ y. ap (λ (l : List Feed). hold_of (last l d.takes)) fs ∙ k.held_given y;
     }
 
-quiet_list : (t : Terms) (full : Bool) (home : Home) (v d : View) (gs : List Feed) (e : WordStep) → v.rotating ≡ false → v.ended ≡ false → finds v.feeds ≡ false
-    → IsQuiet t v.feeds gs → Facts t full home v d → Facts t full home (with_feeds v gs e false) d
-quiet_list t full home v d [] e calm going yet q k = looks_on t full home v d (with_feeds v [] e false) refl refl (sym calm) k
-quiet_list t full home v d (f ∷ []) e calm going yet q k = quiet_keeps t full home v d f e calm going yet q.1 q.0 k
-quiet_list t full home v d (f ∷ g ∷ gs) e calm going yet q k = absurd q
+quiet_list : (t : Terms) (full : Bool) (home : Home) (given : List Message) (v d : View) (gs : List Feed) (e : WordStep) → v.rotating ≡ false → v.ended ≡ false → finds v.feeds ≡ false
+    → IsQuiet t v.feeds gs → Facts t full home given v d → Facts t full home given (with_feeds v gs e false) d
+quiet_list t full home given v d [] e calm going yet q k = looks_on t full home given v d (with_feeds v [] e false) refl refl (sym calm) k
+quiet_list t full home given v d (f ∷ []) e calm going yet q k = quiet_keeps t full home given v d f e calm going yet q.1 q.0 k
+quiet_list t full home given v d (f ∷ g ∷ gs) e calm going yet q k = absurd q
 
 closed_step : (me : Sat) (gs : List Feed) (f : Feed) → me.0.role ≡ Feeds → me.0.rotating ≡ false → me.0.ended ≡ false → IsQuiet (terms_of me.0.profile) me.0.feeds gs
     → kind f ≡ finds_closed → AllFit me.0.profile.capacity (f ∷ [])
-    → (full : Bool) (home : Home) (d : View) (b : Bool) → d.closed ≡ b → Facts (terms_of me.0.profile) full home me.0 d → FeedStep me 1 (λ n. n) (saw_closed gs f me) full home d
-closed_step me gs f role calm going q is fit full home d false at k = record {
+    → (full : Bool) (home : Home) (given : List Message) (d : View) (b : Bool) → d.closed ≡ b → Facts (terms_of me.0.profile) full home given me.0 d → FeedStep me 1 (λ n. n) (saw_closed gs f me) full home given d
+closed_step me gs f role calm going q is fit full home given d false at k = record {
   view = with_feeds me.0 gs (Load word.Closed 0) false;
   act = keeps;
   full_after = full;
@@ -258,10 +269,10 @@ closed_step me gs f role calm going q is fit full home d false at k = record {
   leaves = refl;
   ends = refl;
   homes = refl;
-  facts = quiet_list (terms_of me.0.profile) full home me.0 d gs (Load word.Closed 0) calm going (k.closer at) q k;
+  facts = quiet_list (terms_of me.0.profile) full home given me.0 d gs (Load word.Closed 0) calm going (k.closer at) q k;
   told = ((λ _. (refl, k.closer at)), (λ ne. absurd (ne (ap bit at))));
 }
-closed_step me gs f role calm going q is fit full home d true at k = record {
+closed_step me gs f role calm going q is fit full home given d true at k = record {
   view = with_feeds me.0 (f ∷ []) (Load word.Closed 1) false;
   act = keeps;
   full_after = full;
@@ -276,7 +287,7 @@ closed_step me gs f role calm going q is fit full home d true at k = record {
   leaves = refl;
   ends = refl;
   homes = refl;
-  facts = late_keeps (terms_of me.0.profile) full home me.0 d f (Load word.Closed 1) calm going at is fit k;
+  facts = late_keeps (terms_of me.0.profile) full home given me.0 d f (Load word.Closed 1) calm going at is fit k;
   told = ((λ z. let o : bit true ≡ 0 = ap bit (sym at) ∙ z in absurd (omega (arith, o))), (λ _. (ap bit at, refl)));
 }
 
@@ -284,14 +295,15 @@ pub sees_closed : (p : Profile) (slots id : ℕ) (me : Sitting) (gs : List Feed)
     → IsQuiet (terms_of me.0.view.profile) me.0.view.feeds gs → kind f ≡ finds_closed → AllFit me.0.view.profile.capacity (f ∷ [])
     → Allows (KeepsRule p) slots id me 1 (λ n. n) (λ r n. saw_closed gs f (known me) r (known n) × IsLegalWithReads n.0.view × FeederSees me.0 n.0)
 sees_closed p slots id me gs f role calm going q is fit = feeder_allows p slots id me 1 (λ n. n) (saw_closed gs f (known me)) role
-    (λ full home d k. closed_step (known me) gs f role calm going q is fit full home d d.closed refl k)
+    (λ full home given d k. closed_step (known me) gs f role calm going q is fit full home given d d.closed refl k)
 
 -- ---- The feeder's load of `turn`
 
 turn_step : (me : Sat) (f : Feed) → me.0.role ≡ Feeds → me.0.rotating ≡ false → me.0.ended ≡ false → finds me.0.feeds ≡ false → Busy (terms_of me.0.profile) (store_of me.0.feeds) f
     → AllFit me.0.profile.capacity (f ∷ [])
-    → (full : Bool) (home : Home) (d : View) (x : Option (List Message)) → d.taking ≡ x → Facts (terms_of me.0.profile) full home me.0 d → FeedStep me 0 (λ n. n) (saw_turn f me) full home d
-turn_step me f role calm going yet q fit true home d x at k = record {
+    → (full : Bool) (home : Home) (given : List Message) (d : View) (x : Option (List Message)) → d.taking ≡ x → Facts (terms_of me.0.profile) full home given me.0 d
+    → FeedStep me 0 (λ n. n) (saw_turn f me) full home given d
+turn_step me f role calm going yet q fit true home given d x at k = record {
   view = with_feeds me.0 (f ∷ []) (Load word.Turn 1) false;
   act = keeps;
   full_after = true;
@@ -306,15 +318,15 @@ turn_step me f role calm going yet q fit true home d x at k = record {
   leaves = refl;
   ends = refl;
   homes = refl;
-  facts = busy_keeps (terms_of me.0.profile) home me.0 d f (Load word.Turn 1) calm going yet fit q k;
+  facts = busy_keeps (terms_of me.0.profile) home given me.0 d f (Load word.Turn 1) calm going yet fit q k;
   told = ((λ e. absurd (omega arith)), (λ _. (refl, refl)));
 }
-turn_step me f role calm going yet q fit false home d None at k =
+turn_step me f role calm going yet q fit false home given d None at k =
     let t : Terms = terms_of me.0.profile in
     let place : home ≡ some (filled t.capacity []) =
     subst (λ (x : Option (List Message)). BufferFollowsTurn t.capacity false false x home (hold_of (last me.0.feeds d.takes))) at
     (subst (λ (b : Bool). BufferFollowsTurn t.capacity false b d.taking home (hold_of (last me.0.feeds d.takes))) calm k.place) in
-    let out : Facts t false home (with_feeds me.0 [] (Load word.Turn 0) false) d = looks_on t false home me.0 d (with_feeds me.0 [] (Load word.Turn 0) false) refl refl (sym calm) k in record {
+    let out : Facts t false home given (with_feeds me.0 [] (Load word.Turn 0) false) d = looks_on t false home given me.0 d (with_feeds me.0 [] (Load word.Turn 0) false) refl refl (sym calm) k in record {
       view = with_feeds me.0 [] (Load word.Turn 0) true;
       act = takes 0 (filled t.capacity []);
       full_after = false;
@@ -341,10 +353,11 @@ turn_step me f role calm going yet q fit false home d None at k =
         unclosed = out.unclosed;
         seen = out.seen;
         place = subst (λ (x : Option (List Message)). BufferFollowsTurn t.capacity false true x none (hold_of (last (me.0.feeds ++ []) d.takes))) (sym at) refl;
+        held_given = out.held_given;
       };
       told = ((λ _. refl), (λ ne. absurd (ne refl)));
     }
-turn_step me f role calm going yet q fit false home d (Some batch) at k =
+turn_step me f role calm going yet q fit false home given d (Some batch) at k =
     let t : Terms = terms_of me.0.profile in
     absurd (subst (λ (x : Option (List Message)). BufferFollowsTurn t.capacity false false x home (hold_of (last me.0.feeds d.takes))) at
     (subst (λ (b : Bool). BufferFollowsTurn t.capacity false b d.taking home (hold_of (last me.0.feeds d.takes))) calm k.place))
@@ -353,19 +366,20 @@ pub sees_turn : (p : Profile) (slots id : ℕ) (me : Sitting) (f : Feed) → me.
     → Busy (terms_of me.0.view.profile) (store_of me.0.view.feeds) f → AllFit me.0.view.profile.capacity (f ∷ [])
     → Allows (KeepsRule p) slots id me 0 (λ n. n) (λ r n. saw_turn f (known me) r (known n) × IsLegalWithReads n.0.view × FeederSees me.0 n.0)
 sees_turn p slots id me f role calm going yet q fit = feeder_allows p slots id me 0 (λ n. n) (saw_turn f (known me)) role
-    (λ full home d k. turn_step (known me) f role calm going yet q fit full home d d.taking refl k)
+    (λ full home given d k. turn_step (known me) f role calm going yet q fit full home given d d.taking refl k)
 
 -- ---- The feeder's stores
 
 set_step : (me : Sat) (f : Feed) → me.0.role ≡ Feeds → me.0.rotating ≡ true → me.0.ended ≡ false → finds me.0.feeds ≡ false → Loud (terms_of me.0.profile) (store_of me.0.feeds) f
     → AllFit me.0.profile.capacity (f ∷ []) → me.1 ≡ (0, filled me.0.profile.capacity (handed (store_of me.0.feeds) f)) ∷ []
-    → (full : Bool) (home : Home) (d : View) (x : Option (List Message)) → d.taking ≡ x → Facts (terms_of me.0.profile) full home me.0 d → FeedStep me 0 (λ _. 1) (λ _. set_turn f me 1) full home d
-set_step me f role busy going yet q fit carries true home d x at k =
+    → (full : Bool) (home : Home) (given : List Message) (d : View) (x : Option (List Message)) → d.taking ≡ x → Facts (terms_of me.0.profile) full home given me.0 d
+    → FeedStep me 0 (λ _. 1) (λ _. set_turn f me 1) full home given d
+set_step me f role busy going yet q fit carries true home given d x at k =
     absurd (subst (λ (b : Bool). BufferFollowsTurn me.0.profile.capacity true b d.taking home (hold_of (last me.0.feeds d.takes))) busy k.place)
-set_step me f role busy going yet q fit carries false home d (Some batch) at k =
+set_step me f role busy going yet q fit carries false home given d (Some batch) at k =
     absurd (subst (λ (x : Option (List Message)). BufferFollowsTurn me.0.profile.capacity false me.0.rotating x home (hold_of (last me.0.feeds d.takes))) at k.place)
-set_step me f role busy going yet q fit carries false home d None at k = record {
-  view = with_feeds me.0 (f ∷ []) (Store word.Turn 1) false;
+set_step me f role busy going yet q fit carries false home given d None at k = record {
+  view = with_feeds me.0 (f ∷ []) (Give (handed (store_of me.0.feeds) f)) false;
   act = gives;
   full_after = true;
   home_after = some (filled me.0.profile.capacity (handed (store_of me.0.feeds) f));
@@ -373,13 +387,13 @@ set_step me f role busy going yet q fit carries false home d None at k = record 
   role = role;
   profile = refl;
   words = refl;
-  made = Store word.Turn 1;
+  made = Give (handed (store_of me.0.feeds) f);
   steps = refl;
   finds = tt;
   leaves = refl;
   ends = refl;
   homes = ap (λ (c : List (ℕ × Filled)). put_back (home ∷ []) c) carries;
-  facts = loud_keeps (terms_of me.0.profile) home me.0 d f (Store word.Turn 1) going yet at fit q k;
+  facts = loud_keeps (terms_of me.0.profile) home given me.0 d f (Give (handed (store_of me.0.feeds) f)) going yet at fit q k;
   told = refl;
 }
 
@@ -388,12 +402,12 @@ pub sets_turn : (p : Profile) (slots id : ℕ) (me : Sitting) (f : Feed) → me.
     → me.1 ≡ (0, filled me.0.view.profile.capacity (handed (store_of me.0.view.feeds) f)) ∷ []
     → Allows (KeepsRule p) slots id me 0 (λ _. 1) (λ _ n. set_turn f (known me) 1 (known n) × IsLegalWithReads n.0.view × FeederSees me.0 n.0)
 sets_turn p slots id me f role busy going yet q fit carries = feeder_allows p slots id me 0 (λ _. 1) (λ _. set_turn f (known me) 1) role
-    (λ full home d k. set_step (known me) f role busy going yet q fit carries full home d d.taking refl k)
+    (λ full home given d k. set_step (known me) f role busy going yet q fit carries full home given d d.taking refl k)
 
 pub sets_ended : (p : Profile) (slots id : ℕ) (me : Sitting) → me.0.view.role ≡ Feeds → me.0.view.ended ≡ false
     → Allows (KeepsRule p) slots id me 2 (λ _. 1) (λ _ n. set_ended (known me) 1 (known n) × IsLegalWithReads n.0.view × FeederSees me.0 n.0)
 sets_ended p slots id me role going = feeder_allows p slots id me 2 (λ _. 1) (λ _. set_ended (known me) 1) role
-    (λ full home d k. record {
+    (λ full home given d k. record {
       view = ended_by me.0.view;
       act = keeps;
       full_after = full;
@@ -420,15 +434,16 @@ sets_ended p slots id me role going = feeder_allows p slots id me 2 (λ _. 1) (�
         unclosed = k.unclosed;
         seen = λ _. refl;
         place = k.place;
+        held_given = k.held_given;
       };
       told = refl;
     })
 
 -- ---- The drain's steps
 
-ended_step : (me : Sat) → me.0.role ≡ Drains → (full : Bool) (home : Home) (v : View) (b : Bool) → v.ended ≡ b → Facts (terms_of me.0.profile) full home v me.0
-    → DrainStep me 2 (λ n. n) (looked_ended me) full home v
-ended_step me role full home v b at k = record {
+ended_step : (me : Sat) → me.0.role ≡ Drains → (full : Bool) (home : Home) (given : List Message) (v : View) (b : Bool) → v.ended ≡ b → Facts (terms_of me.0.profile) full home given v me.0
+    → DrainStep me 2 (λ n. n) (λ _. looked_ended me) full home given v
+ended_step me role full home given v b at k = record {
   view = saw_end me.0 b;
   act = keeps;
   full_after = full;
@@ -455,6 +470,7 @@ ended_step me role full home v b at k = record {
     unclosed = k.unclosed;
     seen = λ e. at ∙ e;
     place = k.place;
+    held_given = k.held_given;
   };
   told = by b at;
 }
@@ -464,11 +480,11 @@ ended_step me role full home v b at k = record {
     by false e = ((λ _. refl), (λ ne. absurd (ne (ap bit e))))
 
 pub looks_ended : (p : Profile) (slots id : ℕ) (me : Sitting) → me.0.view.role ≡ Drains → Allows (KeepsRule p) slots id me 2 (λ n. n) (λ r n. looked_ended (known me) r (known n) × DrainSees me.0 n.0)
-looks_ended p slots id me role = drain_allows p slots id me 2 (λ n. n) (looked_ended (known me)) role (λ full home v k. ended_step (known me) role full home v v.ended refl k)
+looks_ended p slots id me role = drain_allows p slots id me 2 (λ n. n) (λ _. looked_ended (known me)) role (λ full home given v k. ended_step (known me) role full home given v v.ended refl k)
 
-look_step : (me : Sat) → me.0.role ≡ Drains → me.0.closed ≡ false → me.0.taking ≡ None → (full : Bool) (home : Home) (v : View) (b : Bool) → v.rotating ≡ b
-    → Facts (terms_of me.0.profile) full home v me.0 → DrainStep me 0 (λ n. n) (looked_turn me) full home v
-look_step me role unshut calm false home v b at k = record {
+look_step : (me : Sat) → me.0.role ≡ Drains → me.0.closed ≡ false → me.0.taking ≡ None → (full : Bool) (home : Home) (given : List Message) (v : View) (b : Bool) → v.rotating ≡ b
+    → Facts (terms_of me.0.profile) full home given v me.0 → DrainStep me 0 (λ n. n) (λ _. looked_turn me) full home given v
+look_step me role unshut calm false home given v b at k = record {
   view = with_takes me.0 (idle me.0.sees_end ∷ []) (Load word.Turn 0) None;
   act = keeps;
   full_after = false;
@@ -483,10 +499,10 @@ look_step me role unshut calm false home v b at k = record {
   leaves = refl;
   closes = refl;
   homes = refl;
-  facts = idle_keeps (terms_of me.0.profile) home v me.0 (Load word.Turn 0) unshut calm k;
+  facts = idle_keeps (terms_of me.0.profile) home given v me.0 (Load word.Turn 0) unshut calm k;
   told = ((λ _. refl), (λ ne. absurd (ne refl)));
 }
-look_step me role unshut calm true home v false at k =
+look_step me role unshut calm true home given v false at k =
     let t : Terms = terms_of me.0.profile in
     let batch : List Message = hold_of (last v.feeds me.0.takes) in
     let place : home ≡ some (filled t.capacity batch) = subst (λ (x : Option (List Message)). BufferFollowsTurn t.capacity true false x home batch) calm
@@ -512,27 +528,28 @@ look_step me role unshut calm true home v false at k =
         is_open = subst (λ (l : List Take). (last v.feeds l).closed ≡ finds v.feeds) ts k.is_open;
         closer = k.closer;
         in_hold = subst (λ (l : List Take). IsHeld true (last v.feeds l).in_hold) ts k.in_hold;
-        tidy = subst (λ (l : List Take). Tidy false v.feeds l true) ts k.tidy;
+        tidy = subst (λ (l : List Take). Tidy (turns_of l) v.feeds true) ts k.tidy;
         late = subst (λ (l : List Take). EndedIsLast (merge v.feeds l)) ts k.late;
         ender = subst (λ (l : List Take). v.ended ≡ false → ended_in l ≡ false) ts k.ender;
         unclosed = subst (λ (l : List Take). ended_in l ≡ true → finds v.feeds ≡ false) ts k.unclosed;
         seen = k.seen;
         place = subst (λ (x : Bool). BufferFollowsTurn t.capacity true x (Some batch) none (hold_of (last v.feeds (me.0.takes ++ [])))) (sym at)
             (refl, ap (λ (l : List Take). hold_of (last v.feeds l)) ts);
+        held_given = λ y. ap (λ (l : List Take). hold_of (last v.feeds l)) (sym ts) ∙ k.held_given y;
       };
       told = ((λ e. absurd (omega arith)), (λ _. (refl, (batch, refl))));
     }
-look_step me role unshut calm true home v true at k =
+look_step me role unshut calm true home given v true at k =
     absurd (subst (λ (x : Bool). BufferFollowsTurn me.0.profile.capacity true x me.0.taking home (hold_of (last v.feeds me.0.takes))) at k.place)
 
 pub looks_turn : (p : Profile) (slots id : ℕ) (me : Sitting) → me.0.view.role ≡ Drains → me.0.view.closed ≡ false → me.0.view.taking ≡ None → Allows (KeepsRule p) slots id me 0 (λ n. n) (λ r n. looked_turn (known me) r (known n) × DrainSees me.0 n.0)
-looks_turn p slots id me role unshut calm = drain_allows p slots id me 0 (λ n. n) (looked_turn (known me)) role
-    (λ full home v k. look_step (known me) role unshut calm full home v v.rotating refl k)
+looks_turn p slots id me role unshut calm = drain_allows p slots id me 0 (λ n. n) (λ _. looked_turn (known me)) role
+    (λ full home given v k. look_step (known me) role unshut calm full home given v v.rotating refl k)
 
 clear_step : (me : Sat) (batch : List Message) → me.0.role ≡ Drains → me.0.closed ≡ false → me.0.taking ≡ Some batch → me.1 ≡ (0, filled me.0.profile.capacity []) ∷ []
-    → (full : Bool) (home : Home) (v : View) (b : Bool) → v.rotating ≡ b → Facts (terms_of me.0.profile) full home v me.0
-    → DrainStep me 0 (λ _. 0) (λ _. cleared me 0) full home v
-clear_step me batch role unshut busy carries true home v false at k = record {
+    → (full : Bool) (home : Home) (given : List Message) (v : View) (b : Bool) → v.rotating ≡ b → Facts (terms_of me.0.profile) full home given v me.0
+    → DrainStep me 0 (λ _. 0) (λ l _. cleared l me 0) full home given v
+clear_step me batch role unshut busy carries true home given v false at k = record {
   view = with_takes me.0 (Full batch ∷ []) (Store word.Turn 0) None;
   act = gives;
   full_after = false;
@@ -547,22 +564,27 @@ clear_step me batch role unshut busy carries true home v false at k = record {
   leaves = refl;
   closes = refl;
   homes = ap (λ (c : List (ℕ × Filled)). put_back (home ∷ []) c) carries;
-  facts = full_keeps (terms_of me.0.profile) home v me.0 batch (Store word.Turn 0) unshut busy at k;
-  told = λ other is. let same : batch ≡ other = let e : Some batch ≡ Some other = sym busy ∙ is in cc in ap (λ (l : List Message). (with_takes me.0 (Full l ∷ []) (Store word.Turn 0) None, rest me.1)) same;
+  facts = full_keeps (terms_of me.0.profile) home given v me.0 batch (Store word.Turn 0) unshut busy at k;
+  told = λ other is.
+      let same : batch ≡ other = let e : Some batch ≡ Some other = sym busy ∙ is in cc in
+      let place : BufferFollowsTurn me.0.profile.capacity true false (Some batch) home (hold_of (last v.feeds me.0.takes)) =
+      subst (λ (x : Option (List Message)). BufferFollowsTurn me.0.profile.capacity true false x home (hold_of (last v.feeds me.0.takes))) busy
+      (subst (λ (x : Bool). BufferFollowsTurn me.0.profile.capacity true x me.0.taking home (hold_of (last v.feeds me.0.takes))) at k.place) in
+      (sym same ∙ (place.1 ∙ k.held_given refl), ap (λ (l : List Message). (with_takes me.0 (Full l ∷ []) (Store word.Turn 0) None, rest me.1)) same);
 }
-clear_step me batch role unshut busy carries true home v true at k =
+clear_step me batch role unshut busy carries true home given v true at k =
     absurd (subst (λ (x : Bool). BufferFollowsTurn me.0.profile.capacity true x me.0.taking home (hold_of (last v.feeds me.0.takes))) at k.place)
-clear_step me batch role unshut busy carries false home v b at k =
+clear_step me batch role unshut busy carries false home given v b at k =
     absurd (subst (λ (x : Option (List Message)). BufferFollowsTurn me.0.profile.capacity false v.rotating x home (hold_of (last v.feeds me.0.takes))) busy k.place)
 
 pub clears : (p : Profile) (slots id : ℕ) (me : Sitting) (batch : List Message) → me.0.view.role ≡ Drains → me.0.view.closed ≡ false → me.0.view.taking ≡ Some batch
-    → me.1 ≡ (0, filled me.0.view.profile.capacity []) ∷ [] → Allows (KeepsRule p) slots id me 0 (λ _. 0) (λ _ n. cleared (known me) 0 (known n) × DrainSees me.0 n.0)
-clears p slots id me batch role unshut busy carries = drain_allows p slots id me 0 (λ _. 0) (λ _. cleared (known me) 0) role
-    (λ full home v k. clear_step (known me) batch role unshut busy carries full home v v.rotating refl k)
+    → me.1 ≡ (0, filled me.0.view.profile.capacity []) ∷ [] → Allows (KeepsRule p) slots id me 0 (λ _. 0) (λ _ n. cleared (last_given n.0.drain_saw) (known me) 0 (known n) × DrainSees me.0 n.0)
+clears p slots id me batch role unshut busy carries = drain_allows p slots id me 0 (λ _. 0) (λ l _. cleared l (known me) 0) role
+    (λ full home given v k. clear_step (known me) batch role unshut busy carries full home given v v.rotating refl k)
 
 pub sets_closed : (p : Profile) (slots id : ℕ) (me : Sitting) → me.0.view.role ≡ Drains → Allows (KeepsRule p) slots id me 1 (λ _. 1) (λ _ n. set_closed (known me) 1 (known n) × DrainSees me.0 n.0)
-sets_closed p slots id me role = drain_allows p slots id me 1 (λ _. 1) (λ _. set_closed (known me) 1) role
-    (λ full home v k. record {
+sets_closed p slots id me role = drain_allows p slots id me 1 (λ _. 1) (λ _ _. set_closed (known me) 1) role
+    (λ full home given v k. record {
       view = closed_by me.0.view;
       act = keeps;
       full_after = full;
@@ -589,6 +611,7 @@ sets_closed p slots id me role = drain_allows p slots id me 1 (λ _. 1) (λ _. s
         unclosed = k.unclosed;
         seen = k.seen;
         place = k.place;
+        held_given = k.held_given;
       };
       told = refl;
     })
@@ -615,12 +638,13 @@ opens p = record {
     is_open = refl;
     closer = λ _. refl;
     in_hold = refl;
-    tidy = (refl, tt);
+    tidy = refl;
     late = tt;
     ender = λ _. refl;
     unclosed = λ _. refl;
     seen = λ n. absurd (true≢false (sym n));
     place = refl;
+    held_given = λ y. absurd (true≢false (sym y));
   };
   steps = record { fresh = tt; words = refl; feeder = refl; drain = refl; feeder_saw = ([], refl); drain_saw = ([], refl); latest = inl refl };
 }
@@ -644,15 +668,15 @@ whole_at f d v vs id (joined os p q s) at r = absurd (two id at)
     two (suc k) e = let t : v.view.role ≡ Spent = spent_at os k v s e in cc
 
 -- facts do not read what a seat is for
-recast : (t : Terms) (full : Bool) (home : Home) (v w x y : View) → x.feeds ≡ v.feeds → x.rotating ≡ v.rotating → x.ended ≡ v.ended
-    → y.takes ≡ w.takes → y.taking ≡ w.taking → y.sees_end ≡ w.sees_end → y.closed ≡ w.closed → Facts t full home v w → Facts t full home x y
-recast t full home v w x y a b c g h i j k = record {
+recast : (t : Terms) (full : Bool) (home : Home) (given : List Message) (v w x y : View) → x.feeds ≡ v.feeds → x.rotating ≡ v.rotating → x.ended ≡ v.ended
+    → y.takes ≡ w.takes → y.taking ≡ w.taking → y.sees_end ≡ w.sees_end → y.closed ≡ w.closed → Facts t full home given v w → Facts t full home given x y
+recast t full home given v w x y a b c g h i j k = record {
   fits = subst (AllFit t.capacity) (sym a) k.fits;
   legal = subst (λ (l : List Feed). Legal t empty (events (merge l y.takes))) (sym a) (subst (λ (l : List Take). Legal t empty (events (merge v.feeds l))) (sym g) k.legal);
   is_open = subst (λ (l : List Feed). (last l y.takes).closed ≡ finds l) (sym a) (subst (λ (l : List Take). (last v.feeds l).closed ≡ finds v.feeds) (sym g) k.is_open);
   closer = λ n. ap finds a ∙ k.closer (sym j ∙ n);
   in_hold = subst (λ (l : List Feed). IsHeld full (last l y.takes).in_hold) (sym a) (subst (λ (l : List Take). IsHeld full (last v.feeds l).in_hold) (sym g) k.in_hold);
-  tidy = subst (λ (l : List Feed). Tidy false l y.takes full) (sym a) (subst (λ (l : List Take). Tidy false v.feeds l full) (sym g) k.tidy);
+  tidy = subst (λ (l : List Feed). Tidy (turns_of y.takes) l full) (sym a) (subst (λ (l : List Take). Tidy (turns_of l) v.feeds full) (sym g) k.tidy);
   late = subst (λ (l : List Feed). EndedIsLast (merge l y.takes)) (sym a) (subst (λ (l : List Take). EndedIsLast (merge v.feeds l)) (sym g) k.late);
   ender = λ n. ap ended_in g ∙ k.ender (sym c ∙ n);
   unclosed = λ n. ap finds a ∙ k.unclosed (ap ended_in (sym g) ∙ n);
@@ -661,6 +685,7 @@ recast t full home v w x y a b c g h i j k = record {
       (subst (λ (l : List Take). BufferFollowsTurn t.capacity full x.rotating y.taking home (hold_of (last v.feeds l))) (sym g)
       (subst (λ (r : Bool). BufferFollowsTurn t.capacity full r y.taking home (hold_of (last v.feeds w.takes))) (sym b)
       (subst (λ (o : Option (List Message)). BufferFollowsTurn t.capacity full v.rotating o home (hold_of (last v.feeds w.takes))) (sym h) k.place)));
+  held_given = λ n. (λ i. hold_of (last (a i) (g i))) ∙ k.held_given n;
 }
 
 -- nor does the order
@@ -690,7 +715,7 @@ cuts p id v role s k at = let a = whole_at k.feeder k.drain v s.views id k.seats
   seats = subst (Seats (for_feeder v) (for_drain v)) (λ j. set (sym a.0 j) (sym a.1 j) (for_feeder v) ++ for_drain v ∷ []) (apart refl refl);
   feeder_profile = ap (λ (u : Sight). u.view.profile) (sym a.2) ∙ k.feeder_profile;
   drain_profile = ap (λ (u : Sight). u.view.profile) (sym a.2) ∙ k.feeder_profile;
-  facts = recast (terms_of p) k.full k.home k.feeder.view k.drain.view (for_feeder v).view (for_drain v).view
+  facts = recast (terms_of p) k.full k.home (last_given k.order) k.feeder.view k.drain.view (for_feeder v).view (for_drain v).view
       (λ i. (sym a.2 i).view.feeds) (λ i. (sym a.2 i).view.rotating) (λ i. (sym a.2 i).view.ended)
       (λ i. (sym a.3 i).view.takes) (λ i. (sym a.3 i).view.taking) (λ i. (sym a.3 i).view.sees_end) (λ i. (sym a.3 i).view.closed) k.facts;
   steps = reordered k.order s.words k.feeder k.drain (for_feeder v) (for_drain v)
@@ -713,7 +738,7 @@ joins p id v other w role role' s k at apart_ there = let a = feeder_at k.feeder
       seats = subst (Seats (joint v w) (joint v w)) (λ j. set (sym views j) (sym q.0 j) spent) (joined (spent ∷ []) refl refl (refl, tt));
       feeder_profile = ap (λ (u : Sight). u.view.profile) (sym a.2) ∙ k.feeder_profile;
       drain_profile = ap (λ (u : Sight). u.view.profile) (sym a.2) ∙ k.feeder_profile;
-      facts = recast (terms_of p) k.full k.home k.feeder.view k.drain.view (joint v w).view (joint v w).view
+      facts = recast (terms_of p) k.full k.home (last_given k.order) k.feeder.view k.drain.view (joint v w).view (joint v w).view
           (λ i. (sym a.2 i).view.feeds) (λ i. (sym a.2 i).view.rotating) (λ i. (sym a.2 i).view.ended)
           (λ i. (sym q.1 i).view.takes) (λ i. (sym q.1 i).view.taking) (λ i. (sym q.1 i).view.sees_end) (λ i. (sym q.1 i).view.closed) k.facts;
       steps = reordered k.order s.words k.feeder k.drain (joint v w) (joint v w)
@@ -764,6 +789,6 @@ copies p id v role s k at = let a = joined_first k.feeder k.drain v s.views id k
   seats = subst (Seats v v) (λ j. set (sym a.1 j) (sym a.2 j) v ++ witness v ∷ []) (joined (a.0 ++ witness v ∷ []) refl role (one_more a.0 (witness v) a.5 refl));
   feeder_profile = ap (λ (u : Sight). u.view.profile) (sym a.3) ∙ k.feeder_profile;
   drain_profile = ap (λ (u : Sight). u.view.profile) (sym a.3) ∙ k.feeder_profile;
-  facts = subst (λ (u : Sight). Facts (terms_of p) k.full k.home u.view v.view) a.3 (subst (λ (u : Sight). Facts (terms_of p) k.full k.home k.feeder.view u.view) a.4 k.facts);
+  facts = subst (λ (u : Sight). Facts (terms_of p) k.full k.home (last_given k.order) u.view v.view) a.3 (subst (λ (u : Sight). Facts (terms_of p) k.full k.home (last_given k.order) k.feeder.view u.view) a.4 k.facts);
   steps = subst (λ (u : Sight). IsOrder k.order s.words u v) a.3 (subst (λ (u : Sight). IsOrder k.order s.words k.feeder u) a.4 k.steps);
 }

@@ -13,7 +13,7 @@ use Rattle.handover.specs.declared.view.Profile.{Profile}
 use Rattle.handover.specs.History.{events}
 use Rattle.handover.specs.Own.{own, received_in, matched_in, dropped_in}
 use Rattle.handover.specs.Rule.{terms_of}
-use Rattle.handover.specs.Steps.{flush_steps, FlushAnswers}
+use Rattle.handover.specs.Steps.{call_steps, FlushAnswers}
 
 -- A feeder: its pair, its filter, its calls with their answers, the steps of its seat, the steps of both ends that it has seen,
 -- and its store.
@@ -106,4 +106,4 @@ pub record Flushed (full : Bool) (old new : Feeding) : Type 0 where
   pub call : Feed
   pub answer : FlushAnswers full call
   pub feeds : new.feeds ≡ old.feeds ++ call ∷ []
-  pub steps : new.steps ≡ old.steps ++ flush_steps old.store call
+  pub steps : new.steps ≡ old.steps ++ call_steps old.profile.mode old.store call

@@ -108,47 +108,48 @@ pub record LegalHistory (t : Terms) (fs : List Feed) (ts : List Take) (hs : List
   pub ended : EndedIsLast hs
   pub answers : Legal t empty (events hs)
 
--- the reads before the next Full, and those from it on
-abbrev pub lull : List Take → List Take
-lull [] = []
-lull (Full batch ∷ ts) = []
-lull (Nothing ∷ ts) = Nothing ∷ lull ts
-lull (Ended ∷ ts) = Ended ∷ lull ts
+-- ---- The history made by counting
 
-abbrev pub past_lull : List Take → List Take
-past_lull [] = []
-past_lull (Full batch ∷ ts) = Full batch ∷ ts
-past_lull (Nothing ∷ ts) = past_lull ts
-past_lull (Ended ∷ ts) = past_lull ts
+-- a read goes in front of the first of these turns
+abbrev pub with_read : Take → List (List Take) → List (List Take)
+with_read t [] = (t ∷ []) ∷ []
+with_read t (turn ∷ turns) = (t ∷ turn) ∷ turns
 
--- The reads of a turn: those from a Full to before the next one, and at the start those before the first.
-abbrev pub turn_of : Bool → List Take → List Take
-turn_of false ts = lull ts
-turn_of true [] = []
-turn_of true (t ∷ ts) = t ∷ lull ts
+-- The reads cut into turns: those before the first Full, and then those from each Full to before the next one.
+abbrev pub turns_of : List Take → List (List Take)
+turns_of [] = [] ∷ []
+turns_of (Full batch ∷ ts) = [] ∷ with_read (Full batch) (turns_of ts)
+turns_of (Nothing ∷ ts) = with_read Nothing (turns_of ts)
+turns_of (Ended ∷ ts) = with_read Ended (turns_of ts)
 
--- the reads behind them
-abbrev pub past_turn : Bool → List Take → List Take
-past_turn false ts = past_lull ts
-past_turn true [] = []
-past_turn true (t ∷ ts) = past_lull ts
+-- the reads of some turns
+abbrev pub reads_of : List (List Take) → List Take
+reads_of [] = []
+reads_of (turn ∷ turns) = turn ++ reads_of turns
 
--- Five calls, for example: the feeder's arrivals are answered Stored, Rotated and Dropped, the drain's reads Nothing and then
--- Full. Rotated alone stores 1 to `turn`. Directly before it stands the read before the Full, and the Full stands at the end:
--- Stored, Nothing, Rotated, Dropped, Full. If the third arrival is answered Rotated too, the Full stands directly before that.
---
--- `after` tells that a call before these stored 1 to `turn`.
-abbrev pub merge_from : Bool → List Feed → List Take → List Happening
-merge_from after [] ts = map got ts
-merge_from after (f ∷ fs) ts = by_kind (kind f)
-    (fed f ∷ merge_from after fs ts)
-    (map got (turn_of after ts) ++ fed f ∷ merge_from true fs (past_turn after ts))
-    (map got ts ++ shut ∷ fed f ∷ map fed fs)
+abbrev pub first_turn : List (List Take) → List Take
+first_turn [] = []
+first_turn (turn ∷ turns) = turn
 
--- The history made by counting: the reads of each turn stand directly before the call that stores 1 to `turn` behind them.
--- Where there is none they stand before the close, or at the end.
+abbrev pub later_turns : List (List Take) → List (List Take)
+later_turns [] = []
+later_turns (turn ∷ turns) = turns
+
+-- The turns dealt out to the feeder's calls: each call that stores 1 to `turn` takes one, which stands directly before it. Those that
+-- are left stand before the close, or at the end.
+abbrev pub deal : List (List Take) → List Feed → List Happening
+deal turns [] = map got (reads_of turns)
+deal turns (f ∷ fs) = by_kind (kind f)
+    (fed f ∷ deal turns fs)
+    (map got (first_turn turns) ++ fed f ∷ deal (later_turns turns) fs)
+    (map got (reads_of turns) ++ shut ∷ fed f ∷ map fed fs)
+
+-- The history made by counting. Five calls, for example: the feeder's arrivals are answered Stored, Rotated and Dropped, the drain's
+-- reads Nothing and then Full. So the turns are [Nothing] and [Full], and Rotated alone stores 1 to `turn` and takes the first one:
+-- Stored, Nothing, Rotated, Dropped, Full. If the third arrival is answered Rotated too, it takes the second turn, and the Full stands
+-- directly before it.
 abbrev pub merge : List Feed → List Take → List Happening
-merge fs ts = merge_from false fs ts
+merge fs ts = deal (turns_of ts) fs
 
 -- whether a read answered Ended
 abbrev pub ended_in : List Take → Bool

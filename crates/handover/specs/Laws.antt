@@ -15,6 +15,7 @@ use Rattle.handover.specs.declared.view.Sight.{Sight}
 use Rattle.handover.specs.History.{Happening, LegalHistory, events, feeds_in, takes_in, merge, CloseIsPlaced, batches_of, finds, kind, finds_closed}
 use Rattle.handover.specs.Own.{own, store_of, received_in, matched_in, dropped_in}
 use Rattle.handover.specs.Allowed.{AllFit, IsQuiet, Busy, Loud, handed}
+use Rattle.handover.specs.Orders.{last_given}
 use Rattle.handover.specs.Settling.{stored_in, undropped_in}
 use Rattle.handover.specs.Rule.{last, terms_of, KeepsRule, first, for_feeder, for_drain, joint, witness, spent, IsLegalWithReads, Sitting, known, FeederSees, DrainSees, saw_closed, saw_turn, set_turn, set_ended, looked_ended, looked_turn, cleared, set_closed}
 
@@ -112,10 +113,10 @@ abbrev pub DrainLooksAtTurn : Type 0
 DrainLooksAtTurn = (p : Profile) (slots id : ℕ) (me : Sitting) → me.0.view.role ≡ Drains → me.0.view.closed ≡ false → me.0.view.taking ≡ None
     → Allows (KeepsRule p) slots id me 0 (λ n. n) (λ r n. looked_turn (known me) r (known n) × DrainSees me.0 n.0)
 
--- The drain's store to `turn` brings an empty buffer home, and ends the read.
+-- The drain's store to `turn` brings an empty buffer home, and ends the read of what was handed over last.
 abbrev pub DrainClears : Type 0
 DrainClears = (p : Profile) (slots id : ℕ) (me : Sitting) (batch : List Message) → me.0.view.role ≡ Drains → me.0.view.closed ≡ false → me.0.view.taking ≡ Some batch
-    → me.1 ≡ (0, filled me.0.view.profile.capacity []) ∷ [] → Allows (KeepsRule p) slots id me 0 (λ _. 0) (λ _ n. cleared (known me) 0 (known n) × DrainSees me.0 n.0)
+    → me.1 ≡ (0, filled me.0.view.profile.capacity []) ∷ [] → Allows (KeepsRule p) slots id me 0 (λ _. 0) (λ _ n. cleared (last_given n.0.drain_saw) (known me) 0 (known n) × DrainSees me.0 n.0)
 
 abbrev pub DrainCloses : Type 0
 DrainCloses = (p : Profile) (slots id : ℕ) (me : Sitting) → me.0.view.role ≡ Drains → Allows (KeepsRule p) slots id me 1 (λ _. 1) (λ _ n. set_closed (known me) 1 (known n) × DrainSees me.0 n.0)

@@ -1,10 +1,11 @@
 -- The steps of both ends in one order, and what the words are behind them.
 use Rattle.std.specs.Prelude.{◌≡◌, ℕ, Bool, true, false, ◌||◌, ◌⊎◌, List, [], ◌∷◌, slice_index, slice_set}
 use mathlib.Core.List.{IsPrefix}
+use Rattle.listener.specs.declared.message.Message.{Message}
 use Rattle.handover.specs.declared.calls.Word.{Word}
 use Rattle.handover.specs.declared.calls.Word.TheVariants.{Turn, Closed, Ended}
 use Rattle.handover.specs.declared.calls.WordStep.{WordStep}
-use Rattle.handover.specs.declared.calls.WordStep.TheVariants.{Load, Store}
+use Rattle.handover.specs.declared.calls.WordStep.TheVariants.{Load, Store, Give}
 use Rattle.handover.specs.declared.calls.EndStep.{EndStep}
 use Rattle.handover.specs.declared.calls.EndStep.TheVariants.{OfFeeder, OfDrain}
 
@@ -18,11 +19,13 @@ index_of Ended = 2
 abbrev pub Finds : List ℕ → WordStep → Type 0
 Finds words (Load w n) = slice_index words (index_of w) ≡ n
 Finds words (Store w n) = Unit {0}
+Finds words (Give given) = Unit {0}
 
 -- the words behind a step
 abbrev pub behind : List ℕ → WordStep → List ℕ
 behind words (Load w n) = words
 behind words (Store w n) = slice_set words (index_of w) n
+behind words (Give given) = slice_set words (index_of Turn) 1
 
 abbrev pub step_of : EndStep → WordStep
 step_of (OfFeeder e) = e
@@ -51,6 +54,7 @@ words_after order = words_from zeros order
 -- a store to this word, and whether some steps have one
 abbrev pub is_store_to : Word → WordStep → Bool
 is_store_to Turn (Store Turn n) = true
+is_store_to Turn (Give given) = true
 is_store_to Closed (Store Closed n) = true
 is_store_to Ended (Store Ended n) = true
 is_store_to w e = false
@@ -69,6 +73,21 @@ abbrev pub of_drain : List EndStep → List WordStep
 of_drain [] = []
 of_drain (OfFeeder e ∷ ms) = of_drain ms
 of_drain (OfDrain e ∷ ms) = e ∷ of_drain ms
+
+-- the messages that were handed over last, where these were before the step
+abbrev pub given_by : EndStep → List Message → List Message
+given_by (OfFeeder (Load w n)) given = given
+given_by (OfFeeder (Store w n)) given = given
+given_by (OfFeeder (Give now)) given = now
+given_by (OfDrain e) given = given
+
+abbrev pub given_from : List Message → List EndStep → List Message
+given_from given [] = given
+given_from given (m ∷ ms) = given_from (given_by m given) ms
+
+-- what the feeder's last store of 1 to `turn` handed over, of these steps
+abbrev pub last_given : List EndStep → List Message
+last_given seen = given_from [] seen
 
 -- What an end has seen goes on from what it had seen, by steps of both ends; each load in it is fresh; and the end's own steps
 -- in it (mine) are all that it made.

@@ -15,16 +15,17 @@ use Rattle.handover.specs.declared.calls.Take.{Take}
 use Rattle.handover.specs.declared.calls.Take.TheVariants.{Full, Nothing, Ended}
 use Rattle.handover.specs.declared.calls.Word.TheVariants as word
 use Rattle.handover.specs.declared.calls.WordStep.{WordStep}
-use Rattle.handover.specs.declared.calls.WordStep.TheVariants.{Load, Store}
+use Rattle.handover.specs.declared.calls.WordStep.TheVariants.{Load, Store, Give}
 use Rattle.handover.specs.declared.view.Role.TheVariants.{Whole, Feeds, Drains, Joined, Spent}
 use Rattle.handover.specs.declared.view.Profile.{Profile}
 use Rattle.handover.specs.declared.view.View.{View}
 use Rattle.handover.specs.declared.view.Sight.{Sight}
 use Rattle.handover.specs.declared.calls.EndStep.{EndStep}
-use Rattle.handover.specs.History.{events, merge, finds, ended_in, EndedIsLast}
-use Rattle.handover.specs.Allowed.{AllFit}
+use Rattle.handover.specs.History.{events, merge, turns_of, finds, ended_in, EndedIsLast}
+use Rattle.handover.specs.Allowed.{AllFit, handed}
+use Rattle.handover.specs.Own.{store_of}
 use Rattle.handover.specs.Tidy.{Tidy}
-use Rattle.handover.specs.Orders.{IsFresh, words_after, store_to, of_feeder, of_drain, SightGoesOn}
+use Rattle.handover.specs.Orders.{IsFresh, words_after, store_to, of_feeder, of_drain, last_given, SightGoesOn}
 
 abbrev pub profile_of : ℕ → Mode → Profile
 profile_of capacity mode = record { capacity = capacity; mode = mode }
@@ -58,19 +59,20 @@ BufferFollowsTurn capacity true true taking home in_hold = ⊥
 abbrev pub last : List Feed → List Take → PlainList
 last fs ts = run empty (events (merge fs ts))
 
--- what holds of the two views, of `turn` and of the slot
-pub record Facts (t : Terms) (full : Bool) (home : Home) (f d : View) : Type 0 where
+-- what holds of the two views, of `turn`, of the slot, and of what was handed over last
+pub record Facts (t : Terms) (full : Bool) (home : Home) (given : List Message) (f d : View) : Type 0 where
   pub fits : AllFit t.capacity f.feeds
   pub legal : Legal t empty (events (merge f.feeds d.takes))
   pub is_open : (last f.feeds d.takes).closed ≡ finds f.feeds
   pub closer : d.closed ≡ false → finds f.feeds ≡ false
   pub in_hold : IsHeld full (last f.feeds d.takes).in_hold
-  pub tidy : Tidy false f.feeds d.takes full
+  pub tidy : Tidy (turns_of d.takes) f.feeds full
   pub late : EndedIsLast (merge f.feeds d.takes)
   pub ender : f.ended ≡ false → ended_in d.takes ≡ false
   pub unclosed : ended_in d.takes ≡ true → finds f.feeds ≡ false
   pub seen : d.sees_end ≡ true → f.ended ≡ true
   pub place : BufferFollowsTurn t.capacity full f.rotating d.taking home (hold_of (last f.feeds d.takes))
+  pub held_given : full ≡ true → hold_of (last f.feeds d.takes) ≡ given
 
 -- seats that make no step any more
 abbrev pub AllSpent : List Sight → Type 0
@@ -94,8 +96,8 @@ pub record IsOrder (order : List EndStep) (numbers : List ℕ) (f d : Sight) : T
   pub drain_saw : IsPrefix d.drain_saw order
   pub latest : (order ≡ f.feeder_saw) ⊎ (order ≡ d.drain_saw)
 
--- The rule: the merged list is a legal history whose hold is full exactly where `turn` is 1; the buffer is at home but where one
--- seat has it; `closed` and `ended` are 1 exactly where the drain and the feeder have made that store; and all steps have one
+-- The rule: the merged list is a legal history whose hold is full exactly where `turn` is 1, and then has what was handed over last;
+-- the buffer is at home but where one seat has it; `closed` and `ended` are 1 exactly where the drain and the feeder have made that store; and all steps have one
 -- order, in which each load answered what its word was, and which left the words as they are.
 pub record KeepsRule (p : Profile) (s : State Filled Sight) : Type 0 where
   pub full : Bool
@@ -110,7 +112,7 @@ pub record KeepsRule (p : Profile) (s : State Filled Sight) : Type 0 where
   pub seats : Seats feeder drain s.views
   pub feeder_profile : feeder.view.profile ≡ p
   pub drain_profile : drain.view.profile ≡ p
-  pub facts : Facts (terms_of p) full home feeder.view drain.view
+  pub facts : Facts (terms_of p) full home (last_given order) feeder.view drain.view
   pub steps : IsOrder order s.words feeder drain
 
 -- ---- Views
@@ -207,8 +209,9 @@ saw_turn f m r n =
     (r ≡ 0 → n ≡ (with_feeds m.0 [] (Load word.Turn 0) true, (0, filled m.0.profile.capacity []) ∷ m.1))
     × (r ≢ 0 → (r ≡ 1) × (n ≡ (with_feeds m.0 (f ∷ []) (Load word.Turn 1) false, m.1)))
 
+-- The feeder's store to `turn` hands over what the call f makes the hold, and ends it.
 abbrev pub set_turn : Feed → Sat → ℕ → Sat → Type 0
-set_turn f m r n = n ≡ (with_feeds m.0 (f ∷ []) (Store word.Turn 1) false, rest m.1)
+set_turn f m r n = n ≡ (with_feeds m.0 (f ∷ []) (Give (handed (store_of m.0.feeds) f)) false, rest m.1)
 
 abbrev pub set_ended : Sat → ℕ → Sat → Type 0
 set_ended m r n = n ≡ (ended_by m.0, m.1)
@@ -222,8 +225,9 @@ looked_turn m r n =
     (r ≡ 0 → n ≡ (with_takes m.0 (idle m.0.sees_end ∷ []) (Load word.Turn 0) None, m.1))
     × (r ≢ 0 → (r ≡ 1) × ((batch : List Message) × (n ≡ (with_takes m.0 [] (Load word.Turn 1) (Some batch), (0, filled m.0.profile.capacity batch) ∷ m.1))))
 
-abbrev pub cleared : Sat → ℕ → Sat → Type 0
-cleared m r n = (batch : List Message) → m.0.taking ≡ Some batch → n ≡ (with_takes m.0 (Full batch ∷ []) (Store word.Turn 0) None, rest m.1)
+-- The drain's store to `turn` ends the read of a batch: what was handed over last.
+abbrev pub cleared : List Message → Sat → ℕ → Sat → Type 0
+cleared given m r n = (batch : List Message) → m.0.taking ≡ Some batch → (batch ≡ given) × (n ≡ (with_takes m.0 (Full batch ∷ []) (Store word.Turn 0) None, rest m.1))
 
 abbrev pub set_closed : Sat → ℕ → Sat → Type 0
 set_closed m r n = n ≡ (closed_by m.0, m.1)

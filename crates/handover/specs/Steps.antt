@@ -1,6 +1,5 @@
 -- The steps of each call, in order, each with its number.
 use Rattle.std.specs.Prelude.{◌≡◌, ℕ, ◌≤◌, Bool, true, false, List, [], ◌∷◌, ◌++◌}
-use Rattle.listener.specs.declared.answer.Fed.{Fed}
 use Rattle.listener.specs.declared.answer.Fed.TheVariants.{Passed, Stored, Held, Rotated, Dropped, Closed}
 use Rattle.listener.specs.declared.mode.Mode.{Mode}
 use Rattle.listener.specs.declared.mode.Mode.TheVariants.{Buffered, Immediate}
@@ -11,7 +10,8 @@ use Rattle.handover.specs.declared.calls.Take.{Take}
 use Rattle.handover.specs.declared.calls.Take.TheVariants.{Full, Nothing, Ended}
 use Rattle.handover.specs.declared.calls.Word.TheVariants as word
 use Rattle.handover.specs.declared.calls.WordStep.{WordStep}
-use Rattle.handover.specs.declared.calls.WordStep.TheVariants.{Load, Store}
+use Rattle.handover.specs.declared.calls.WordStep.TheVariants.{Load, Store, Give}
+use Rattle.handover.specs.Allowed.{handed}
 
 -- the call found the pair open, and nothing else was asked
 abbrev pub open_alone : List WordStep
@@ -21,9 +21,9 @@ open_alone = Load word.Closed 0 ∷ []
 abbrev pub found_full : List WordStep
 found_full = Load word.Closed 0 ∷ Load word.Turn 1 ∷ []
 
--- it found the pair open and the hold empty, and made the store the hold
-abbrev pub gave : List WordStep
-gave = Load word.Closed 0 ∷ Load word.Turn 0 ∷ Store word.Turn 1 ∷ []
+-- it found the pair open and the hold empty, and made these messages the hold
+abbrev pub gave : List Message → List WordStep
+gave given = Load word.Closed 0 ∷ Load word.Turn 0 ∷ Give given ∷ []
 
 -- it found the pair closed
 abbrev pub found_closed : List WordStep
@@ -33,25 +33,22 @@ abbrev pub stored_steps : Mode → List WordStep
 stored_steps Buffered = open_alone
 stored_steps Immediate = found_full
 
-abbrev pub arrive_steps : Mode → Fed → List WordStep
-arrive_steps mode Passed = open_alone
-arrive_steps mode Stored = stored_steps mode
-arrive_steps mode Held = gave
-arrive_steps mode Rotated = gave
-arrive_steps mode Dropped = found_full
-arrive_steps mode Closed = found_closed
-
 -- of a flush that leaves this store as it was
 abbrev pub kept_steps : List Message → List WordStep
 kept_steps [] = open_alone
 kept_steps (m ∷ ms) = found_full
 
--- of a flush, by the store that it found
-abbrev pub flush_steps : List Message → Feed → List WordStep
-flush_steps store (Flush true) = gave
-flush_steps store (Flush false) = kept_steps store
-flush_steps store FlushClosed = found_closed
-flush_steps store (Arrive m fed) = []
+-- the steps of a call of the feeder, by the mode and the store that it found
+abbrev pub call_steps : Mode → List Message → Feed → List WordStep
+call_steps mode store (Arrive m Passed) = open_alone
+call_steps mode store (Arrive m Stored) = stored_steps mode
+call_steps mode store (Arrive m Held) = gave (handed store (Arrive m Held))
+call_steps mode store (Arrive m Rotated) = gave store
+call_steps mode store (Arrive m Dropped) = found_full
+call_steps mode store (Arrive m Closed) = found_closed
+call_steps mode store (Flush true) = gave store
+call_steps mode store (Flush false) = kept_steps store
+call_steps mode store FlushClosed = found_closed
 
 -- what a flush answered
 abbrev pub FlushAnswers : Bool → Feed → Type 0

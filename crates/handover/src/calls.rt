@@ -33,12 +33,14 @@ pub enum Word {
     Ended,
 }
 
-/// One atomic step on a word, with the number that it found or left.
+/// One atomic step on a word, with the number that it found or left, or what it handed over.
 pub enum WordStep {
     /// A load, and what it answered.
     Load(Word, u64),
     /// A store.
     Store(Word, u64),
+    /// A store of 1 to `turn`, with the messages that it hands over: the hold from then on.
+    Give(LinkedList<Message>),
 }
 
 /// A step, and which end made it.

@@ -6,7 +6,7 @@ ghost use Rattle.handover.specs.declared.calls.WordStep.TheVariants.{Store};
 ghost use Rattle.handover.specs.declared.calls.Word.TheVariants as word;
 ghost use Rattle.handover.specs.Ends.{draining, IsSameDrain};
 ghost use Rattle.handover.specs.Orders.{SightGoesOn, of_drain};
-ghost use Rattle.handover.specs.Reads.{take_of, HasBuffer};
+ghost use Rattle.handover.specs.Reads.{take_of, HasBuffer, IsLastGiven};
 ghost use Rattle.handover.specs.Steps.{GrewByRead};
 
 use crate::link::Link;
@@ -82,7 +82,8 @@ impl Drain {
     /// Takes the whole hold, and leaves the empty buffer that was brought, which has the pair's capacity, in its place.
     /// Where there is nothing to read, that buffer is given back, with [`Read::Ended`] where the feeder had ended.
     ///
-    /// It waits for nobody, and takes no memory. What it answers stood at its own load of `turn`.
+    /// It waits for nobody, and takes no memory. What it answers was so at its own load of `turn`, and a batch is unchanged since the
+    /// feeder handed it over: of all that the drain has seen it is what was handed over last.
     pub fn read(&mut self, link: &Link, empty: Buffer) -> Read
         requires pair { self.old.pair ≡ link.now }
         requires empty { empty ≡ filled self.old.profile.capacity [] }
@@ -91,6 +92,7 @@ impl Drain {
         ensures steps { GrewByRead (take_of result) self.old.steps self.new.steps }
         ensures order { SightGoesOn of_drain self.old.seen self.new.seen self.new.steps }
         ensures buffer { HasBuffer self.old.profile.capacity result }
+        ensures taken { IsLastGiven result self.new.seen }
     {
         let shared = &link.table.shared;
         let ended = shared.load::<LookedEnded>(&mut self.seat, ENDED);

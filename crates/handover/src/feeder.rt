@@ -11,7 +11,7 @@ ghost use Rattle.handover.specs.declared.calls.Word.TheVariants as word;
 ghost use Rattle.handover.specs.Ends.{feeding_ended, IsSameFeeder, HasOwnRun, AreCountsOf, AreCountsOfCalls, Flushed, own_list};
 ghost use Rattle.handover.specs.Orders.{SightGoesOn, of_feeder};
 ghost use Rattle.handover.specs.Own.{received_in, matched_in, dropped_in};
-ghost use Rattle.handover.specs.Steps.{arrive_steps};
+ghost use Rattle.handover.specs.Steps.{call_steps};
 
 use crate::link::Link;
 use crate::rule::{ENDED, PairSeat, SetEnded};
@@ -112,7 +112,8 @@ impl Feeder {
         ensures same { IsSameFeeder self.old self.new }
         ensures call { self.new.feeds ≡ self.old.feeds ++
             Arrive (kept_by self.old.program self.old.snap (arrival capture place packet.now)) result ∷ [] }
-        ensures steps { self.new.steps ≡ self.old.steps ++ arrive_steps self.old.profile.mode result }
+        ensures steps { self.new.steps ≡ self.old.steps ++ call_steps self.old.profile.mode self.old.store
+            (Arrive (kept_by self.old.program self.old.snap (arrival capture place packet.now)) result) }
         ensures order { SightGoesOn of_feeder self.old.seen self.new.seen self.new.steps }
         ensures own { HasOwnRun self.new }
     {

@@ -3,6 +3,7 @@
 ghost use Rattle.std.specs.Prelude.{List, [], false};
 ghost use Rattle.handover.specs.declared.calls.Feed.{Feed};
 ghost use Rattle.handover.specs.declared.calls.Feed.TheVariants.{Flush, FlushClosed};
+ghost use Rattle.handover.specs.Orders.{last_given};
 ghost use Rattle.handover.specs.Rule.{KeepsRule, first, for_feeder, for_drain, joint, witness, spent, saw_closed, saw_turn, set_turn, set_ended, looked_ended, looked_turn, cleared, set_closed, IsLegalWithReads, known, FeederSees, DrainSees};
 
 use crate::view::{Profile, Sight};
@@ -132,7 +133,7 @@ impl Play<Buffer, Sight> for LookedTurn {
 pub struct Cleared;
 
 impl Play<Buffer, Sight> for Cleared {
-    ghost then = { λ step me found after. cleared (known me) found (known after) × DrainSees me.0 after.0 };
+    ghost then = { λ step me found after. cleared (last_given after.0.drain_saw) (known me) found (known after) × DrainSees me.0 after.0 };
 }
 
 /// The drain's store to `closed`.

@@ -1,9 +1,8 @@
 //! The feeder's seat with its store, and each way on which a call goes over the words.
 
 ghost use Rattle.std.specs.Prelude.{◌≡◌, ◌≢◌, ◌+◌, ◌<◌, ◌≤◌, [], ◌∷◌, ◌++◌, true, false, length, Some, None};
-ghost use Rattle.listener.specs.Buffers.{Filled, filled};
-ghost use Rattle.listener.specs.Messages.{arrival, room, size_of};
-ghost use Rattle.listener.specs.declared.answer.Fed.TheVariants as fed;
+ghost use Rattle.listener.specs.Buffers.{filled};
+ghost use Rattle.listener.specs.Messages.{room, size_of};
 ghost use Rattle.listener.specs.declared.mode.Mode.TheVariants as mode;
 ghost use Rattle.listener.specs.declared.message.Message.{Message};
 ghost use Rattle.handover.specs.declared.calls.Feed.{Feed};
@@ -13,8 +12,7 @@ ghost use Rattle.handover.specs.Allowed.{AllFit, IsQuiet, Busy, Loud, handed};
 ghost use Rattle.handover.specs.History.{kind, finds, finds_closed};
 ghost use Rattle.handover.specs.Own.{store_of};
 ghost use Rattle.handover.specs.Rule.{terms_of, saw_closed, saw_turn, set_turn, IsLegalWithReads, known, FeederSees};
-ghost use Rattle.handover.specs.Seated.{IsFeeder, IsGiving, Offers, Went, WentByFlush};
-ghost use Rattle.handover.specs.Steps.{arrive_steps};
+ghost use Rattle.handover.specs.Seated.{IsGiving, IsStand, IsOffered, HasCalled, HasFlushed};
 
 use crate::link::Link;
 use crate::rule::{CLOSED, Call, GaveTurn, Opening, PairSeat, SLOT, SawClosed, SawTurn, TURN};
@@ -100,12 +98,8 @@ impl Stand {
 
     /// A packet that the filter rejects.
     pub(crate) fn pass(&mut self, link: &Link) -> Fed
-        requires pair { self.old.seat.table_id ≡ link.now }
-        requires feeder { IsFeeder (known self.old.seat.me) self.old.store false }
-        ensures pair { self.new.seat.table_id ≡ self.old.seat.table_id }
-        ensures went { Went (known self.old.seat.me) (known self.new.seat.me) self.new.store (Arrive None result)
-            (arrive_steps self.old.seat.me.0.view.profile.mode result) }
-        ensures order { FeederSees self.old.seat.me.0 self.new.seat.me.0 }
+        requires { IsStand link.now self.old }
+        ensures { HasCalled self.old self.new (Arrive None result) }
     {
         if see_closed::<Brand>(link, &mut self.seat) == 0 {
             Fed::Passed
@@ -117,15 +111,10 @@ impl Stand {
     /// A packet for which the store has room, where the store becomes the hold only for want of room.
     fn keep(&mut self, link: &Link, packet: &Accepted<'_>) -> Fed
         ghost message: { Message }
-        requires offers { Offers (known self.old.seat.me) self.old.store message
-            (arrival packet.now.capture packet.now.place packet.now.packet.now) packet.now.kept }
+        requires offered { IsOffered link.now self.old packet.now message }
         requires fits { room self.old.store.messages + size_of message ≤ self.old.seat.me.0.view.profile.capacity }
         requires mode { self.old.seat.me.0.view.profile.mode ≡ mode.Buffered }
-        requires pair { self.old.seat.table_id ≡ link.now }
-        ensures pair { self.new.seat.table_id ≡ self.old.seat.table_id }
-        ensures went { Went (known self.old.seat.me) (known self.new.seat.me) self.new.store (Arrive (Some message) result)
-            (arrive_steps mode.Buffered result) }
-        ensures order { FeederSees self.old.seat.me.0 self.new.seat.me.0 }
+        ensures { HasCalled self.old self.new (Arrive (Some message) result) }
     {
         if see_closed::<Brand>(link, &mut self.seat) != 0 {
             return Fed::Closed;
@@ -139,15 +128,10 @@ impl Stand {
     /// A packet for which the store has room, where the store becomes the hold at once.
     fn hand_over(&mut self, link: &Link, packet: &Accepted<'_>) -> Fed
         ghost message: { Message }
-        requires offers { Offers (known self.old.seat.me) self.old.store message
-            (arrival packet.now.capture packet.now.place packet.now.packet.now) packet.now.kept }
+        requires offered { IsOffered link.now self.old packet.now message }
         requires fits { room self.old.store.messages + size_of message ≤ self.old.seat.me.0.view.profile.capacity }
         requires mode { self.old.seat.me.0.view.profile.mode ≡ mode.Immediate }
-        requires pair { self.old.seat.table_id ≡ link.now }
-        ensures pair { self.new.seat.table_id ≡ self.old.seat.table_id }
-        ensures went { Went (known self.old.seat.me) (known self.new.seat.me) self.new.store (Arrive (Some message) result)
-            (arrive_steps mode.Immediate result) }
-        ensures order { FeederSees self.old.seat.me.0 self.new.seat.me.0 }
+        ensures { HasCalled self.old self.new (Arrive (Some message) result) }
     {
         if see_closed::<Brand>(link, &mut self.seat) != 0 {
             return Fed::Closed;
@@ -167,14 +151,9 @@ impl Stand {
     /// A packet for which the store has no room.
     fn rotate(&mut self, link: &Link, packet: &Accepted<'_>) -> Fed
         ghost message: { Message }
-        requires offers { Offers (known self.old.seat.me) self.old.store message
-            (arrival packet.now.capture packet.now.place packet.now.packet.now) packet.now.kept }
+        requires offered { IsOffered link.now self.old packet.now message }
         requires over { self.old.seat.me.0.view.profile.capacity < room self.old.store.messages + size_of message }
-        requires pair { self.old.seat.table_id ≡ link.now }
-        ensures pair { self.new.seat.table_id ≡ self.old.seat.table_id }
-        ensures went { Went (known self.old.seat.me) (known self.new.seat.me) self.new.store (Arrive (Some message) result)
-            (arrive_steps self.old.seat.me.0.view.profile.mode result) }
-        ensures order { FeederSees self.old.seat.me.0 self.new.seat.me.0 }
+        ensures { HasCalled self.old self.new (Arrive (Some message) result) }
     {
         if see_closed::<Brand>(link, &mut self.seat) != 0 {
             return Fed::Closed;
@@ -193,14 +172,9 @@ impl Stand {
     /// A packet that the filter accepts.
     pub(crate) fn take(&mut self, link: &Link, mode: Mode, packet: &Accepted<'_>) -> Fed
         ghost message: { Message }
-        requires offers { Offers (known self.old.seat.me) self.old.store message
-            (arrival packet.now.capture packet.now.place packet.now.packet.now) packet.now.kept }
+        requires offered { IsOffered link.now self.old packet.now message }
         requires mode { self.old.seat.me.0.view.profile.mode ≡ mode }
-        requires pair { self.old.seat.table_id ≡ link.now }
-        ensures pair { self.new.seat.table_id ≡ self.old.seat.table_id }
-        ensures went { Went (known self.old.seat.me) (known self.new.seat.me) self.new.store (Arrive (Some message) result)
-            (arrive_steps mode result) }
-        ensures order { FeederSees self.old.seat.me.0 self.new.seat.me.0 }
+        ensures { HasCalled self.old self.new (Arrive (Some message) result) }
     {
         if !self.store.fits(packet.kept) {
             return self.rotate(link, packet);
@@ -213,12 +187,9 @@ impl Stand {
 
     /// A flush of an empty store.
     pub(crate) fn flush_nothing(&mut self, link: &Link) -> bool
-        requires pair { self.old.seat.table_id ≡ link.now }
-        requires feeder { IsFeeder (known self.old.seat.me) self.old.store false }
+        requires stand { IsStand link.now self.old }
         requires store { self.old.store.messages ≡ [] }
-        ensures pair { self.new.seat.table_id ≡ self.old.seat.table_id }
-        ensures went { WentByFlush (known self.old.seat.me) (known self.new.seat.me) self.old.store.messages self.new.store result }
-        ensures order { FeederSees self.old.seat.me.0 self.new.seat.me.0 }
+        ensures { HasFlushed self.old self.new result }
     {
         see_closed::<Brand>(link, &mut self.seat);
         false
@@ -226,12 +197,9 @@ impl Stand {
 
     /// A flush of a store that has something.
     pub(crate) fn flush_store(&mut self, link: &Link) -> bool
-        requires pair { self.old.seat.table_id ≡ link.now }
-        requires feeder { IsFeeder (known self.old.seat.me) self.old.store false }
+        requires stand { IsStand link.now self.old }
         requires store { 0 < length self.old.store.messages }
-        ensures pair { self.new.seat.table_id ≡ self.old.seat.table_id }
-        ensures went { WentByFlush (known self.old.seat.me) (known self.new.seat.me) self.old.store.messages self.new.store result }
-        ensures order { FeederSees self.old.seat.me.0 self.new.seat.me.0 }
+        ensures { HasFlushed self.old self.new result }
     {
         if see_closed::<Brand>(link, &mut self.seat) != 0 {
             return false;

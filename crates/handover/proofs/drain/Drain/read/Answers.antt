@@ -44,13 +44,13 @@ store-requires c =
 pub invariant_of-self : goal.invariant_of-self
 invariant_of-self c =
     let none = c.requires.empty ∙ ap (λ d. filled d.profile.capacity []) (sym c.self.view_is) in
-    let k = took_full _ _ _ _ _ _ _ _ c.exchange-hold.result c.self.invariant.0 none c.load-ended.ensures.2.0 c.load-full.ensures.2.0 c.if-full-ne0.true c.exchange-hold.ensures.2 (ap known c.exchange-hold.ensures.3) c.store.ensures.2.0 in
+    let k = took_full _ _ _ _ _ _ _ _ _ c.exchange-hold.result c.self.invariant.0 none c.load-ended.ensures.2.0 c.load-full.ensures.2.0 c.if-full-ne0.true c.exchange-hold.ensures.2 (ap known c.exchange-hold.ensures.3) c.store.ensures.2.0 in
     (k.0.drain, c.self.invariant.1 ∙ sym (ap (λ p. p.capacity) k.0.profile))
 
 pub returns-then-full-ne0-clause-same : goal.returns-then-full-ne0-clause-same
 returns-then-full-ne0-clause-same c =
     let none = c.requires.empty ∙ ap (λ d. filled d.profile.capacity []) (sym c.self.view_is) in
-    let k = took_full _ _ _ _ _ _ _ _ c.exchange-hold.result c.self.invariant.0 none c.load-ended.ensures.2.0 c.load-full.ensures.2.0 c.if-full-ne0.true c.exchange-hold.ensures.2 (ap known c.exchange-hold.ensures.3) c.store.ensures.2.0 in
+    let k = took_full _ _ _ _ _ _ _ _ _ c.exchange-hold.result c.self.invariant.0 none c.load-ended.ensures.2.0 c.load-full.ensures.2.0 c.if-full-ne0.true c.exchange-hold.ensures.2 (ap known c.exchange-hold.ensures.3) c.store.ensures.2.0 in
     record {
       pair = c.store.ensures.0 ∙ c.exchange-hold.ensures.0 ∙ c.load-full.ensures.0 ∙ c.load-ended.ensures.0 ∙ ap (λ d. d.pair) c.self.view_is;
       profile = k.0.profile ∙ ap (λ d. d.profile) c.self.view_is;
@@ -59,17 +59,23 @@ returns-then-full-ne0-clause-same c =
 pub returns-then-full-ne0-clause-call : goal.returns-then-full-ne0-clause-call
 returns-then-full-ne0-clause-call c =
     let none = c.requires.empty ∙ ap (λ d. filled d.profile.capacity []) (sym c.self.view_is) in
-    let k = took_full _ _ _ _ _ _ _ _ c.exchange-hold.result c.self.invariant.0 none c.load-ended.ensures.2.0 c.load-full.ensures.2.0 c.if-full-ne0.true c.exchange-hold.ensures.2 (ap known c.exchange-hold.ensures.3) c.store.ensures.2.0 in
+    let k = took_full _ _ _ _ _ _ _ _ _ c.exchange-hold.result c.self.invariant.0 none c.load-ended.ensures.2.0 c.load-full.ensures.2.0 c.if-full-ne0.true c.exchange-hold.ensures.2 (ap known c.exchange-hold.ensures.3) c.store.ensures.2.0 in
     k.0.takes ∙ ap (λ d. d.takes ++ take.Full c.exchange-hold.result.messages ∷ []) c.self.view_is
 
 pub returns-then-full-ne0-clause-steps : goal.returns-then-full-ne0-clause-steps
 returns-then-full-ne0-clause-steps c =
     let none = c.requires.empty ∙ ap (λ d. filled d.profile.capacity []) (sym c.self.view_is) in
-    let k = took_full _ _ _ _ _ _ _ _ c.exchange-hold.result c.self.invariant.0 none c.load-ended.ensures.2.0 c.load-full.ensures.2.0 c.if-full-ne0.true c.exchange-hold.ensures.2 (ap known c.exchange-hold.ensures.3) c.store.ensures.2.0 in
+    let k = took_full _ _ _ _ _ _ _ _ _ c.exchange-hold.result c.self.invariant.0 none c.load-ended.ensures.2.0 c.load-full.ensures.2.0 c.if-full-ne0.true c.exchange-hold.ensures.2 (ap known c.exchange-hold.ensures.3) c.store.ensures.2.0 in
     subst (λ (d : Draining). GrewByRead (take.Full c.exchange-hold.result.messages) d.steps c.store.new.seat.me.0.view.take_steps) c.self.view_is k.0.steps
 
 pub returns-then-full-ne0-clause-buffer : goal.returns-then-full-ne0-clause-buffer
 returns-then-full-ne0-clause-buffer c =
     let none = c.requires.empty ∙ ap (λ d. filled d.profile.capacity []) (sym c.self.view_is) in
-    let k = took_full _ _ _ _ _ _ _ _ c.exchange-hold.result c.self.invariant.0 none c.load-ended.ensures.2.0 c.load-full.ensures.2.0 c.if-full-ne0.true c.exchange-hold.ensures.2 (ap known c.exchange-hold.ensures.3) c.store.ensures.2.0 in
+    let k = took_full _ _ _ _ _ _ _ _ _ c.exchange-hold.result c.self.invariant.0 none c.load-ended.ensures.2.0 c.load-full.ensures.2.0 c.if-full-ne0.true c.exchange-hold.ensures.2 (ap known c.exchange-hold.ensures.3) c.store.ensures.2.0 in
     k.1 ∙ ap (λ d. d.profile.capacity) c.self.view_is
+
+pub returns-then-full-ne0-clause-taken : goal.returns-then-full-ne0-clause-taken
+returns-then-full-ne0-clause-taken c =
+    let none = c.requires.empty ∙ ap (λ d. filled d.profile.capacity []) (sym c.self.view_is) in
+    let k = took_full _ _ _ _ _ _ _ _ _ c.exchange-hold.result c.self.invariant.0 none c.load-ended.ensures.2.0 c.load-full.ensures.2.0 c.if-full-ne0.true c.exchange-hold.ensures.2 (ap known c.exchange-hold.ensures.3) c.store.ensures.2.0 in
+    k.2

@@ -17,10 +17,16 @@ count-requires-2-clause-ordered c =
     let fs = c.self.inside.stand.seat.me.0.view.feeds in
     (omega (arith, k.all_received, k.all_matched, matches_most fs), omega (arith, k.all_dropped, k.all_matched, drops_most fs))
 
+pub pass-requires : goal.pass-requires
+pass-requires c = record { pair = ap (λ f. f.pair) c.self.view_is ∙ c.requires.pair; feeder = c.self.invariant.0 }
+
 pub take-requires : goal.take-requires
 take-requires c =
-    let k = c.in-Some.ensures.kept c.args.capture c.args.place in
-    (offered (known c.self.inside.stand.seat.me) c.self.inside.stand.store c.self.inside.snap c.self.inside.program _ c.in-Some.kept c.self.invariant.0 c.self.invariant.1 k, (c.self.invariant.2, ap (λ f. f.pair) c.self.view_is ∙ c.requires.pair))
+    let kept = c.in-Some.ensures.kept c.args.capture c.args.place in (
+      offered _ c.self.inside.stand c.self.inside.snap c.self.inside.program _ (record { pair = ap (λ f. f.pair) c.self.view_is ∙ c.requires.pair; feeder = c.self.invariant.0 })
+          c.self.invariant.1 kept,
+      c.self.invariant.2,
+    )
 
 pub invariant_of-self : goal.invariant_of-self
 invariant_of-self c =
