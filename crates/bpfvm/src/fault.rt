@@ -31,10 +31,10 @@ pub enum Invalid {
     NoReturn,
 }
 
-/// Why a text is no listing of a program, the first that stands in this order.
+/// Why a text is no listing of a program: the first that applies, in this order.
 #[derive(Clone, Copy, Debug, PartialEq, Eq, Error)]
 pub enum ListingFault {
-    /// This line, counted from 1, is the first that has not its form.
+    /// This line, counted from 1, is the first that is malformed.
     #[error("BadLine {0}")]
     BadLine(usize),
     /// The first line is not the number of the lines that follow it.

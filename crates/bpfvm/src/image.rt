@@ -46,7 +46,7 @@ enum OperandForm {
 
 /// The name of a code.
 ///
-/// Codes that follow one another stand in arms of their own, since the proof goes by the code.
+/// Codes that follow one another have arms of their own, since the proof goes by the code.
 fn name_of(code: u16) -> &'static str
     ensures { result.now ≡ name_of (operation_of code) }
 {
@@ -85,7 +85,7 @@ fn name_of(code: u16) -> &'static str
 
 /// How the operand of a code is written.
 ///
-/// Codes that follow one another stand in arms of their own, since the proof goes by the code.
+/// Codes that follow one another have arms of their own, since the proof goes by the code.
 fn form_of(code: u16) -> OperandForm
     ensures { Forms code result }
 {
@@ -233,8 +233,8 @@ fn write_insn<W: Write>(f: &mut Formatter<W>, next: u64, insn: &Insn) -> fmt::Re
 
 /// An instruction as `tcpdump -d` prints it, without its place: `ldh      [12]`, `jeq      #0x800           jt 0\tjf 5`.
 ///
-/// Since an instruction alone has no place, a jump has how many instructions it passes. A code that is not known is `unimp`
-/// with its number.
+/// An instruction without its program has no place, so a jump is printed with how many instructions it passes. An unknown
+/// code is `unimp` with its number.
 impl Display for Insn {
     ghost output = { λ insn. Some (insn_text 0 insn) };
 
@@ -243,8 +243,8 @@ impl Display for Insn {
     }
 }
 
-/// An instruction by its name and its operand alone, with one space between them: `ldh [12]`, `ret`. A conditional jump is
-/// without the places where it goes on.
+/// An instruction's name and operand, with one space between them: `ldh [12]`, `ret`. A conditional jump is printed
+/// without the places it leads to.
 #[derive(Clone, Copy)]
 pub struct Brief<'a>(pub &'a Insn);
 

@@ -14,7 +14,7 @@ use crate::program::{MAX_INSNS, Program};
 use arrayvec::ArrayVec;
 use std::alloc::Global;
 
-/// What stands before the first such byte, and what behind it.
+/// The text before the first such byte, and the text after it.
 fn split_once(text: &[u8], at: u8) -> Option<(&[u8], &[u8])>
     ensures parts { IfSome result (λ parts. text.now ≡ parts.0.now ++ at ∷ parts.1.now) }
     ensures first { IfSome result (λ parts. All (λ byte. byte ≢ at) parts.0.now) }
@@ -24,7 +24,7 @@ fn split_once(text: &[u8], at: u8) -> Option<(&[u8], &[u8])>
     Some((&text[..place], &text[place + 1..]))
 }
 
-/// The first line of a text, without its end, and what stands behind it.
+/// The first line of a text, without its end, and the text after it.
 fn first_line(text: &[u8]) -> (&[u8], &[u8])
     ensures first { lines_of text.now ≡ result.0.now ∷ further_lines result.1.now }
     ensures shorter { text.now ≢ [] → length result.1.now < length text.now }
@@ -100,7 +100,7 @@ fn keep(kept: &mut ArrayVec<Insn, MAX_INSNS>, insn: Insn)
     }
 }
 
-/// Reads further lines. Where one is no instruction, the error is how many stand before it.
+/// Reads further lines. If one is no instruction, the error is the number of lines before it.
 fn read_lines(text: &[u8]) -> Result<Listed, usize>
     ensures ok { IfOk result (λ listed. (insns : List Insn) × AreLines (further_lines text.now) insns
         × (listed.count ≡ length insns) × (listed.insns.items ≡ take MAX_INSNS insns)) }
@@ -126,11 +126,11 @@ fn read_lines(text: &[u8]) -> Result<Listed, usize>
 
 /// Reads a listing: the number of the instructions on the first line, and `code jt jf k` on each other one, in decimal.
 ///
-/// Lines end with byte 10, which the last one may lack. Leading zeros are read. No other space, no sign and no carriage
-/// return is. It takes no memory.
+/// Lines end with byte 10, which the last one may lack. A number may have leading zeros, but no sign. No other space and
+/// no carriage return is accepted. It takes no memory.
 ///
-/// `BadLine` names the first line, from 1, that has not its form; then comes `Count`, where the first line is not the
-/// number of the further ones; then `Program`, as [`Program::new`] says.
+/// `BadLine` names the first malformed line, counted from 1; then comes `Count`, if the first line is not the number of
+/// the further ones; then `Program`, as [`Program::new`] says.
 pub fn read_listing(text: &[u8]) -> Result<Program, ListingFault>
     ensures ok { IfOk result (λ program. IsListing text.now program × IsValidProgram program) }
     ensures only { (program : List Insn) → IsListing text.now program → IsValidProgram program → result ≡ Ok program }

@@ -21,14 +21,14 @@ pub struct Stored {
     pub value: u32,
 }
 
-/// An instruction that was executed, and what the machine holds behind it.
+/// An instruction that was executed, and what the machine holds after it.
 #[derive(Clone, Copy, Debug, PartialEq, Eq)]
 pub struct Executed {
-    /// Where the instruction stands in its program, counted from 0.
+    /// The instruction's place in its program, counted from 0.
     pub place: usize,
-    /// The accumulator behind it.
+    /// The accumulator after it.
     pub accumulator: u32,
-    /// The index register behind it.
+    /// The index register after it.
     pub index: u32,
     pub stored: Option<Stored>,
 }
@@ -42,7 +42,7 @@ pub struct Traced {
     pub answer: u32,
 }
 
-/// What an instruction stored, by the registers behind it.
+/// What an instruction stored, from the registers after it.
 fn stored_by(insn: &Insn, registers: Registers) -> Option<Stored>
     ensures { (operation : Operation) (memory : List ℕ) → operation_of insn.now.code ≡ Some operation
         → result ≡ stored_by operation insn.now (with_memory registers memory) }
@@ -60,7 +60,7 @@ fn stored_by(insn: &Insn, registers: Registers) -> Option<Stored>
     }
 }
 
-/// The entry of an instruction at a place, by the registers behind it.
+/// The entry of an instruction at a place, from the registers after it.
 fn entry(place: usize, insn: &Insn, registers: Registers) -> Executed
     ensures { (operation : Operation) (memory : List ℕ) → operation_of insn.now.code ≡ Some operation
         → result ≡ entry place operation insn.now (with_memory registers memory) }
@@ -73,13 +73,13 @@ fn entry(place: usize, insn: &Insn, registers: Registers) -> Executed
     }
 }
 
-/// The run of a program on a packet: what [`run`](crate::run) executes, one instruction after the other, and its answer.
+/// The run of a program on a packet: the instructions that [`run`](crate::run) executes, in order, and its answer.
 ///
-/// `packet` is the captured bytes, and `wire` the packet's length on the wire. Of each instruction it tells the place, both
-/// registers behind it and what it stored. The last one ended the run: a return, or a load past the captured bytes, a
+/// `packet` is the captured bytes, and `wire` the packet's original length. Each instruction is listed with its place, both
+/// registers after it and what it stored. The last one ended the run: a return, or a load past the captured bytes, a
 /// division or a modulo by X = 0, which leave the registers as they were.
 ///
-/// `NoMemory` where memory for this was refused. It takes at most some 16 KB, since a run executes no instruction twice.
+/// `NoMemory` if memory for this was refused. It takes at most some 16 KB, since a run executes no instruction twice.
 pub fn trace(alloc: Global, program: &Program, packet: &[u8], wire: u32) -> Result<Traced, NoMemory>
     ensures steps { IfOk result (λ run. Runs program.now packet.now wire beginning run.executed.items run.answer) }
     ensures answer { IfOk result (λ run. run.answer ≡ verdict program.now packet.now wire) }

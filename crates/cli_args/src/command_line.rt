@@ -193,7 +193,7 @@ fn steps_request_of<'a>(
     Ok(steps_words(alloc, words)?.map(Request::Steps))
 }
 
-/// The same of `run`.
+/// What the words of `run` ask for; nothing if one is missing.
 fn run_request_of<'a>(
     alloc: Global,
     words: &ArgMatches<'a>,
@@ -201,7 +201,7 @@ fn run_request_of<'a>(
     Ok(run_words(alloc, words)?.map(Request::Run))
 }
 
-/// The same of `split`.
+/// What the words of `split` ask for; nothing if one is missing.
 fn split_request_of<'a>(
     alloc: Global,
     words: &ArgMatches<'a>,
@@ -223,8 +223,8 @@ fn request_of<'a>(
     }
 }
 
-/// What is wrong with words of a subcommand that `clap` took: of `cut` and `check` the snapshot length, of `explain` that or the
-/// place; of the others a word is missing, which `clap` has told.
+/// The error of words that `clap` took and a subcommand refuses. For `cut` and `check` it is the snapshot length, for `explain`
+/// that or the place. For the others a word is missing, which `clap` has reported.
 fn bad_words(
     alloc: Global,
     name: &str,
@@ -285,7 +285,7 @@ pub fn read_words<'a, S: AsStr>(alloc: Global, words: &'a [S]) -> Result<Request
 /// What a snapshot length is.
 const SNAP_WANTED: &str = "-s takes a number from 0 to 262144";
 
-/// The error of a snapshot length that is not digits alone, with the usage of its subcommand.
+/// The error of a snapshot length that has more than digits, with the usage of its subcommand.
 fn bad_snap(alloc: Global, name: &str) -> Result<Error, AllocError> {
     match name {
         "check" => bad_value(check_usage(alloc), "bpftap check", SNAP_WANTED),

@@ -15,7 +15,7 @@ pub struct ExplainWords<'a> {
     pub expr: Option<&'a str>,
     /// The path of the listing, where `-f` is given.
     pub listing: Option<&'a str>,
-    /// The place of the packet that is told in full, where `-p` is given.
+    /// The place of the packet to explain in full, if `-p` is given.
     pub place: Option<u64>,
     /// The path of the capture.
     pub input: &'a str,
@@ -111,7 +111,7 @@ fn range_of_value(matches: &ArgMatches<'_>) -> &'static str {
     }
 }
 
-/// The error of a snapshot length or a place that is not digits alone.
+/// The error of a snapshot length or a place that has more than digits.
 pub fn bad_explain_words(alloc: Global, matches: &ArgMatches<'_>) -> Result<Error, AllocError> {
     bad_value(
         explain_usage(alloc),

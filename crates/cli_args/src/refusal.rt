@@ -16,7 +16,7 @@ const EXPR_OPTION: &str = "-e";
 const EXPR_WANTED: &str =
     "-e takes an expression; put one that begins with - in parentheses, as -e '(-1 + len > 60)', or write -e='-1 + len > 60'";
 
-/// Whether `-e` stands before a word that begins with `-`.
+/// Whether `-e` comes before a word that begins with `-`.
 fn has_dashed_expression<S: AsStr>(words: &[S]) -> bool {
     let mut after_option = false;
     for word in words {

@@ -1,4 +1,4 @@
-//! What is told of words that are refused, and of a call for help.
+//! What is printed for arguments that are refused, and for a call for help.
 
 use clap::Error;
 use clap::error::ErrorKind;

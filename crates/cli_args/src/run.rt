@@ -14,7 +14,7 @@ pub struct RunWords<'a> {
     pub inputs: Vec<Vec<&'a str>>,
 }
 
-/// The word that the captures of the next interface begin behind.
+/// The word after which the captures of the next interface begin.
 const NEXT_INTERFACE: &str = "+";
 
 const RUN_EXAMPLES: &str =
@@ -58,7 +58,7 @@ pub fn run_usage<'a>(alloc: Global) -> Result<Command<'a>, AllocError> {
     )
 }
 
-/// Whether the captures of the next interface begin behind a word.
+/// Whether the captures of the next interface begin after a word.
 fn is_next_interface(word: &&str) -> bool {
     *word == NEXT_INTERFACE
 }

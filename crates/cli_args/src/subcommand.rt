@@ -5,7 +5,7 @@ use clap::error::ErrorKind;
 use clap::{Command, Error};
 use std::alloc::{AllocError, Global};
 
-/// The same subcommand with one argument more.
+/// The subcommand with one more argument.
 fn with_argument<'a>(
     alloc: Global,
     command: Command<'a>,

@@ -35,9 +35,9 @@ pub enum PrintFault {
 
 /// Prints the listing of an expression's program at the largest snapshot length, 262,144.
 ///
-/// The fault is the one that stands: [`PrintFault::Expression`] of a text which is no expression, or is too deep or too long to
-/// compile; of an expression it may also be `NoMemory`. Where there is a program, [`PrintFault::NoMemory`] where memory for its
-/// listing was refused, and [`PrintFault::Output`] where `out` fails, which then took a beginning of the listing and no more.
+/// The fault is the one that applies: [`PrintFault::Expression`] of a text which is no expression, or is too deep or too long to
+/// compile, or, with `NoMemory`, if memory for that ran out. If there is a program: [`PrintFault::NoMemory`] if memory for its
+/// listing was refused, and [`PrintFault::Output`] if `out` fails, which then took a prefix of the listing and no more.
 pub fn check<O: Write>(alloc: Global, expr: &str, out: &mut O) -> Result<(), PrintFault>
     ensures printed { OnOk result (Prints (O.contents out.old) (O.contents out.new) expr.now) }
     ensures fault { IfErr result (IsUnchecked (O.contents out.old) (O.contents out.new) expr.now) }

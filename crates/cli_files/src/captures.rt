@@ -1,4 +1,4 @@
-//! The captures that a command reads and writes, each behind what a hint asks of it, and none of them opened before it is needed.
+//! The captures that a command reads and writes, each wrapped to note what a hint needs, and none of them opened before it is needed.
 
 use crate::late::LateInput;
 use cli_report::probe::ProbedInput;

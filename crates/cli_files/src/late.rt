@@ -7,19 +7,18 @@ use std::fs::Files;
 use std::io::{ErrorKind, Read, Write};
 use std::{fs, io};
 
-/// What is read here is empty, and nothing can be written, since it is opened for reading alone.
+/// A read here is empty, and nothing can be written, since it is opened only for reading.
 const NULL_DEVICE: &str = "/dev/null";
 
-/// Opens the null device, which takes the place of the first standard stream that is closed; where none is, another
-/// number does no harm. As long as three are held no file that is opened is given a stream's number, and so none gets
-/// what is told there.
+/// Opens the null device, which takes the number of the first standard stream that is closed; if none is, another number does
+/// no harm. While three are held, no file that is opened gets a stream's number, so no report of a fault goes into a file.
 pub fn reserve_std_fd<R: Files>(rt: &R) -> Option<R::File> {
     fs::open(rt, NULL_DEVICE).ok()
 }
 
-/// A file that is made at its first write, so that what stood there stays where nothing is written. Once a call has
-/// failed, or taken nothing of what it was given, every later one fails and touches nothing: nothing is written behind a
-/// fault that was told.
+/// A file that is made at its first write, so that what was there stays if nothing is written. Once a call has failed, or
+/// taken nothing of what it was given, every later one fails and touches nothing: nothing is written after a fault that was
+/// reported.
 #[derive(Drop)]
 pub struct LateFile<'r, 'p, R: Files> {
     rt: &'r R,

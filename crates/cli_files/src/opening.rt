@@ -9,7 +9,7 @@ use savefile::Counted;
 use std::fs;
 use std::fs::Files;
 
-/// Opens the capture at a path, or tells why that can't be opened.
+/// Opens the capture at a path, or reports why it can't be opened.
 pub fn open_input<R: Files, E: HintSink>(
     rt: &R,
     path: &str,

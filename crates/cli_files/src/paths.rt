@@ -14,7 +14,7 @@ use std::io::ErrorKind;
 use std::os::unix::fs::{FileTypeExt, MetadataExt};
 use std::{fs, io};
 
-/// The names of what the program prints and tells on.
+/// The names of the streams that the program prints and reports on.
 pub const STANDARD_OUTPUT: &str = "/dev/stdout";
 
 const STANDARD_ERROR: &str = "/dev/stderr";
@@ -25,7 +25,7 @@ const MAX_LINKS: usize = 40;
 /// The system's error where a folder may not be entered.
 const NO_ACCESS: i32 = 13;
 
-/// What tells a file or a folder from each other one of the system.
+/// What distinguishes a file or a folder from every other one of the system.
 #[derive(Clone, Copy, Debug, PartialEq, Eq, PartialOrd, Ord)]
 pub struct FileId {
     pub device: u64,
@@ -78,7 +78,7 @@ enum PathFault<'a> {
     Same(&'a str, Use),
     /// This path is read, and standard output goes to its file.
     Printed(&'a str),
-    /// The system does not tell where this path leads.
+    /// The system does not say where this path leads.
     Untold(&'a str, io::Error),
     NoMemory,
 }
@@ -114,7 +114,7 @@ fn is_no_way(error: &io::Error) -> bool {
     }
 }
 
-/// What stands at a path, its symbolic links followed; nothing where there is no way to it.
+/// The file at a path, with symbolic links followed; nothing if no way leads to it.
 fn metadata_of<R: Files>(rt: &R, path: &str) -> io::Result<Option<Metadata>> {
     match fs::metadata(rt, path) {
         Ok(metadata) => Ok(Some(metadata)),
@@ -132,7 +132,7 @@ fn folder_and_name(path: &str) -> (&str, &str) {
     }
 }
 
-/// Where the symbolic link at a path leads; nothing where none stands there.
+/// Where the symbolic link at a path leads; nothing if there is none.
 fn link_target<R: Files + AllocGlobal>(rt: &R, path: &str) -> io::Result<Option<String>> {
     match fs::symlink_metadata(rt, path) {
         Ok(metadata) if metadata.is_symlink() => {}
@@ -149,7 +149,7 @@ fn link_target<R: Files + AllocGlobal>(rt: &R, path: &str) -> io::Result<Option<
     }
 }
 
-/// Where a file would be made by a path at which none stands: a symbolic link at its end is followed.
+/// Where a file would be made by a path at which there is none: a symbolic link at its end is followed.
 fn new_file<R: Files + AllocGlobal>(rt: &R, path: &str) -> io::Result<Option<Target>> {
     let mut path = String::from_str(rt.alloc(), path)?;
     for _ in 0..MAX_LINKS {
@@ -173,8 +173,8 @@ fn in_folder<R: Files + AllocGlobal>(rt: &R, path: &str) -> io::Result<Option<Ta
     }
 }
 
-/// Where a path leads; nothing where no file stands or can be made, and at a device or a folder, which lose nothing. An error
-/// says that the system does not tell.
+/// Where a path leads. Nothing if there is no file and none can be made, and for a device or a folder, which lose nothing. An
+/// error means that the system does not say.
 pub fn target_of<R: Files + AllocGlobal>(rt: &R, path: &str) -> io::Result<Option<Target>> {
     match metadata_of(rt, path)? {
         Some(metadata) => {
@@ -185,7 +185,7 @@ pub fn target_of<R: Files + AllocGlobal>(rt: &R, path: &str) -> io::Result<Optio
     }
 }
 
-/// The same, with the path in the error.
+/// Finds [`target_of`] a path, with the path in the error.
 fn named_target<'a, R: Files + AllocGlobal>(
     rt: &R,
     path: &'a str,
@@ -196,7 +196,7 @@ fn named_target<'a, R: Files + AllocGlobal>(
     }
 }
 
-/// Whether nothing stands where a path that is read leads.
+/// Whether a path that is read leads to no file.
 fn is_missing<'a, R: Files>(rt: &R, path: &'a str) -> Result<bool, PathFault<'a>> {
     match metadata_of(rt, path) {
         Ok(metadata) => Ok(metadata.is_none()),
@@ -204,7 +204,7 @@ fn is_missing<'a, R: Files>(rt: &R, path: &'a str) -> Result<bool, PathFault<'a>
     }
 }
 
-/// The regular file that standard error goes to. What is told in a pipe loses nothing of what goes there too.
+/// The regular file that standard error goes to. A pipe loses nothing if another stream goes there too.
 fn error_file<R: Files>(rt: &R) -> Result<Option<Target>, PathFault<'static>> {
     match metadata_of(rt, STANDARD_ERROR) {
         Ok(Some(metadata)) if metadata.is_file() => Ok(Some(Target::File(id_of(&metadata)))),

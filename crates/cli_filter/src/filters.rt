@@ -1,4 +1,4 @@
-//! The filters of the commands, each of a listing's file or of an expression, and what is told where there is none.
+//! The filters of the commands, each of a listing's file or of an expression, and what is reported if there is none.
 
 ghost use Rattle.std.specs.Prelude.{◌≡◌, false, Ok, IfErr, IfOk, IsErr};
 ghost use Rattle.cli_text.specs.declared.status.Status.TheVariants.{Refused};
@@ -47,7 +47,7 @@ fn hint_filter<E: HintSink>(
     }
 }
 
-/// Tells why there is no filter of a listing or an expression, if there is none, and answers the exit status then.
+/// Reports why a listing or an expression gives no filter, if it gives none, and returns the exit status then.
 pub fn filter_or_report<E: HintSink>(
     alloc: Global,
     listing: Option<&[u8]>,

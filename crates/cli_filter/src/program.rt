@@ -10,7 +10,7 @@ use filtergen::{ExpressionFault, compile_text};
 use std::alloc::Global;
 use thiserror::Error;
 
-/// Why a command has no filter. It is told by the fault's own name.
+/// Why a command has no filter. It prints as the inner fault does.
 #[derive(Clone, Copy, Debug, PartialEq, Eq, Error)]
 pub enum FilterFault {
     /// Both a listing and an expression are given.
@@ -27,12 +27,13 @@ pub enum FilterFault {
     Expression(ExpressionFault),
 }
 
-/// The filter that a listing, assembly or an image is, or that stands for an expression: it answers the snapshot length where the expression
-/// accepts a packet. Without either it is that of the empty expression, which accepts every packet.
+/// The filter of a program's text (a listing, assembly or an image) or of an expression. An expression's filter returns the
+/// snapshot length if the expression accepts a packet. Without either it is that of the empty expression, which accepts every
+/// packet.
 ///
-/// The fault is the one that stands: [`FilterFault::Twice`] where both are given; the fault of a text that is no valid
-/// program in its notation; or that of an expression which is refused, or too deep or too long to compile, or of a snapshot length
-/// above 262,144. Of an expression it may also be `NoMemory`.
+/// The fault is the one that applies: [`FilterFault::Twice`] if both are given; the fault of a text that is no valid program in
+/// its notation; or that of an expression which is refused, or too deep or too long to compile, or of a snapshot length
+/// above 262,144. An expression may also give `NoMemory`.
 pub fn filter(
     alloc: Global,
     listing: Option<&[u8]>,

@@ -1,4 +1,4 @@
-//! Why there is no filter, as it is told.
+//! Reports why there is no filter.
 
 ghost use Rattle.std.specs.Prelude.{◌≡◌, Ok, IfOk, IfErr, IsErr};
 ghost use Rattle.cli_text.specs.declared.status.Status.TheVariants.{Refused};
@@ -9,7 +9,7 @@ use cli_text::Status;
 use cli_text::report::report_fault;
 use std::io::Write;
 
-/// Tells why there is no filter, if there is none, and answers the exit status then.
+/// Reports why there is no filter, if there is none, and returns the exit status then.
 pub fn report_filter<E: Write>(
     found: Result<Program, FilterFault>,
     err: &mut E,

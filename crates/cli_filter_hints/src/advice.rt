@@ -88,13 +88,13 @@ static OTHER_FLAGS: [OtherFlag; 2] = [
     },
 ];
 
-/// Words after which the number of a port stands.
+/// Words that the number of a port follows.
 static BEFORE_PORTS: [&[u8]; 2] = [b"port", b"portrange"];
 
-/// Words after which an address stands.
+/// Words that an address follows.
 static BEFORE_ADDRESSES: [&[u8]; 4] = [b"host", b"net", b"src", b"dst"];
 
-/// The word after which the number or the name of a protocol stands.
+/// The word that the number or the name of a protocol follows.
 const PROTO: &[u8] = b"proto";
 
 /// What helps to fix an expression.
@@ -102,7 +102,7 @@ const PROTO: &[u8] = b"proto";
 pub(crate) enum Advice<'a> {
     /// A sentence that is the same for each such fault.
     Said(&'static str),
-    /// A sentence round a word, which stands between backquotes.
+    /// A sentence around a word in backquotes.
     Round(&'static str, &'a [u8], &'static str),
     /// What is written here for a word, which has a backslash before it or not.
     Written(&'static str, &'static str, &'a [u8]),
@@ -306,7 +306,7 @@ fn of_number<'a>(word: &[u8]) -> Advice<'a> {
     }
 }
 
-/// What stands after a word that takes a number or an address, and after no other one.
+/// What to write after a word that takes a number or an address; nothing for other words.
 fn operand_of(last: &[u8]) -> Option<&'static str> {
     if last == b"portrange".as_slice() {
         Some("write two numbers after `portrange`, as `portrange 20-30`")
@@ -362,7 +362,7 @@ fn of_token<'a>(alloc: Global, spot: Spot<'a>) -> Result<Advice<'a>, AllocError>
     })
 }
 
-/// What helps where no expression can go on with what stands at a place, or at its end.
+/// What helps if no expression can go on with the text at a place, or end there.
 fn of_syntax<'a>(alloc: Global, spot: Spot<'a>) -> Result<Advice<'a>, AllocError> {
     if !spot.rest().is_empty() {
         return of_token(alloc, spot);

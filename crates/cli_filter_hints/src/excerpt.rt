@@ -6,10 +6,10 @@ use cli_report::shown::visible;
 use std::fmt;
 use std::fmt::{Display, Formatter};
 
-/// At most so many bytes of a text are shown before a place, and as many behind it.
+/// At most this many bytes of a text are shown before a place, and as many after it.
 const AROUND: usize = 36;
 
-/// What stands where a text goes on before or behind the part that is shown.
+/// What is shown in place of the text before or after the part that is shown.
 const CUT: &str = "..";
 
 /// The part of a text that is shown: bytes `start` to `end`, and a place among them or at their end.
@@ -24,7 +24,7 @@ pub(crate) struct Excerpt<'a> {
 }
 
 impl<'a> Excerpt<'a> {
-    /// The part of a text round a place; round its end for a place that lies behind.
+    /// The part of a text around a place; around its end for a place past it.
     pub(crate) fn new(text: &'a str, place: usize) -> Excerpt<'a>
         ensures before { result.place ≤ result.start + AROUND }
         ensures behind { result.end ≤ result.place + AROUND }

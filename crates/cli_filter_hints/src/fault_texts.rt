@@ -1,5 +1,5 @@
-//! How the faults of expressions, of their compiler and of listeners that are not opened read: what `cli_steps` and `cli_run` tell of
-//! these.
+//! The texts of the faults of expressions, of their compiler and of listeners that are not opened, as `cli_steps` and `cli_run`
+//! print them.
 ghost use Rattle.std.specs.Prelude.{Some};
 ghost use Rattle.cli_filter_hints.specs.Faults.{expression_fault_text, compile_fault_text, open_fault_text};
 
@@ -9,7 +9,7 @@ use listener::OpenFault;
 use std::fmt;
 use std::fmt::{Display, Formatter};
 
-/// The fault of an expression as it is told, by a contract that names each of its bytes: the same text as the fault's own.
+/// Prints the fault of an expression, by a contract that names each byte: the same text as the fault's own.
 #[derive(Clone, Copy)]
 pub struct ExpressionFaultText(pub Fault);
 

@@ -18,24 +18,24 @@ impl<'a> Spot<'a> {
         }
     }
 
-    /// What stands before the place.
+    /// The text before the place.
     pub(crate) fn before(&self) -> &'a [u8] {
         let text = self.text.as_bytes();
         &text[..self.place.min(text.len())]
     }
 
-    /// What stands from the place on.
+    /// The text from the place on.
     pub(crate) fn rest(&self) -> &'a [u8] {
         let text = self.text.as_bytes();
         &text[self.place.min(text.len())..]
     }
 
-    /// The word before the place, whatever blanks stand between.
+    /// The word before the place, whatever blanks are between.
     pub(crate) fn last(&self) -> &'a [u8] {
         last_word(self.before())
     }
 
-    /// Whether a backslash stands at the place.
+    /// Whether a backslash is at the place.
     pub(crate) fn has_backslash(&self) -> bool {
         self.rest().starts_with(b"\\")
     }
@@ -56,7 +56,7 @@ impl<'a> Spot<'a> {
         }
     }
 
-    /// What stands after the word at the place.
+    /// The text after the word at the place.
     pub(crate) fn after_word(&self) -> &'a [u8] {
         let rest = self.rest();
         rest.get(self.len_of_name()..).unwrap_or(&[])

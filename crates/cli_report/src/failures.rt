@@ -20,7 +20,7 @@ pub fn hint_failure<T, E: HintSink>(noted: &FailureProbe<T>, err: &mut E)
     }
 }
 
-/// Hints on why standard output failed. Where nobody reads it any more, nothing was told either.
+/// Hints on why standard output failed. If nobody reads it any more, nothing was reported either.
 pub fn hint_unprinted<E: HintSink>(error: &io::Error, err: &mut E)
     ensures quiet { E.takes_hints err.old ≡ false → err.new ≡ err.old }
 {
@@ -38,7 +38,7 @@ pub fn hint_output<T, E: HintSink>(noted: &FailureProbe<T>, err: &mut E)
     }
 }
 
-/// Hints on standard output that failed, if it did, where other files are told of too.
+/// Hints on standard output that failed, if it did, among the reports of other files.
 pub fn hint_printed<T, E: HintSink>(noted: &FailureProbe<T>, err: &mut E)
     ensures quiet { E.takes_hints err.old ≡ false → err.new ≡ err.old }
 {

@@ -63,7 +63,7 @@ pub fn show_line<E: HintSink>(text: &[u8], number: usize, err: &mut E)
     }
 }
 
-/// Hints on a line that has not its form: the line itself, and the form.
+/// Hints on a malformed line: the line itself, and the form.
 pub fn hint_bad_line<E: HintSink>(text: &[u8], number: usize, form: &str, err: &mut E)
     ensures quiet { E.takes_hints err.old ≡ false → err.new ≡ err.old }
 {
@@ -95,7 +95,7 @@ pub fn hint_no_listener<E: HintSink>(script: &[u8], step: usize, listeners: usiz
     )
 }
 
-/// The bytes of a record that keeps so many of a packet, the least capacity with this snapshot length.
+/// The size of a record that keeps `snap` bytes of a packet: the least capacity with this snapshot length.
 fn least_capacity(snap: u32) -> u64
     ensures { result ≡ size snap }
 {

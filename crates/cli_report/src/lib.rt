@@ -1,4 +1,4 @@
-//! Hints on failures of files, streams and captures: what stands below the line of a fault and helps to fix it, each a line that is
+//! Hints on failures of files, streams and captures: the lines below the line of a fault that help to fix it, each
 //! indented by two blanks. No filter is known here.
 #![tactic(auto)]
 

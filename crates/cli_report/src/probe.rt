@@ -26,7 +26,7 @@ pub struct FailureProbe<T> {
 /// A capture that is read, whose first bytes and failure are noted.
 pub type ProbedInput<R> = Counted<FailureProbe<R>>;
 
-/// A capture that is written, behind a buffer, whose failure is noted.
+/// A buffered output for a capture, whose failure is noted.
 pub type ProbedOutput<W> = Counted<BufWriter<FailureProbe<W>>>;
 
 impl<T> FailureProbe<T> {

@@ -6,10 +6,10 @@ ghost use Rattle.std.specs.Char.{is_control};
 use std::fmt::{Display, Formatter};
 use std::{fmt, str};
 
-/// At most so many characters of a text are shown.
+/// At most this many characters of a text are shown.
 const MAX_SHOWN: usize = 60;
 
-/// What stands for a character on a terminal, in one column as a rule: a blank for a tab or the end of a line, and `?` for each
+/// What is shown for a character on a terminal, in one column as a rule: a blank for a tab or the end of a line, and `?` for each
 /// other control character, so that no text of a file or of the command line controls the terminal.
 pub fn visible(character: char) -> char
     ensures { is_control result ≡ false }

@@ -13,7 +13,7 @@ use std::fmt::Display;
 use std::io;
 use std::io::{ErrorKind, Write};
 
-/// What faults are told to, with whether hints are wanted below their lines.
+/// Where faults are reported, and whether hints are wanted below their lines.
 pub trait HintSink: Write {
     /// Whether hints are wanted.
     ghost takes_hints: { Self → Bool };
@@ -76,7 +76,7 @@ impl<W: Write> HintSink for ErrorStream<W> {
     }
 }
 
-/// Memory takes the lines of faults alone.
+/// Memory takes the lines of faults, and no hints.
 impl HintSink for Vec<u8> {
     ghost takes_hints = { λ _. false };
 
@@ -102,10 +102,10 @@ fn write_line<D: Display + Drop, W: Write>(hint: D, out: &mut W) -> io::Result<(
     send(line.as_bytes(), out)
 }
 
-/// Gives a hint in a line of its own, indented by two blanks, where hints are wanted. One that standard error does not take, or
-/// that has more than 509 bytes, is left out.
+/// Prints a hint in a line of its own, indented by two blanks, if hints are wanted. A hint that standard error does not take,
+/// or that has more than 509 bytes, is left out.
 pub fn give_hint<D: Display + Drop, E: HintSink>(hint: D, err: &mut E)
-    // Where none are wanted nothing is written.
+    // If none are wanted, nothing is written.
     ensures quiet { E.takes_hints err.old ≡ false → err.new ≡ err.old }
 {
     if err.takes_hints() {

@@ -21,7 +21,7 @@ use savefile::{Fault, Order, PacketRef, Sink, Unit, Writer};
 pub struct Part<W> {
     /// The filter: it accepts a packet if its answer is not 0.
     pub program: Program,
-    /// How many bytes of a packet are kept at most; 0 stands for 262,144. The written header has this number too.
+    /// How many bytes of a packet are kept at most; 0 means 262,144. The written header has this number too.
     pub snap: u32,
     /// What the capture is written to.
     pub sink: W,
@@ -153,7 +153,7 @@ pub(crate) fn close_all<W: Sink + Drop>(
     ends
 }
 
-/// The ends of parts that were not begun.
+/// The ends of parts that were not started.
 pub(crate) fn leave_all<W: Sink + Drop>(parts: Vec<Part<W>>, ends: &mut Vec<PartEnd<W>>)
     requires room { (length ends.old.items ≡ 0) × (length parts.items ≤ vec_capacity ends.old) }
     ensures { AllZip IsLeft parts.items ends.new.items }

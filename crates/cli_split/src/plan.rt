@@ -35,7 +35,7 @@ impl<'a> PlanLine<'a> for SplitLine<'a> {
 
     ghost snap_of = { λ asked. asked.snap };
 
-    /// `SNAP OUT EXPRESSION`: SNAP is decimal, at most 262,144, and 0 stands for that.
+    /// `SNAP OUT EXPRESSION`: SNAP is decimal, at most 262,144, and 0 means that.
     fn read(line: &'a [u8], _terms: ()) -> Option<SplitLine<'a>> {
         let (snap, rest) = split_once(line, b' ')?;
         let snap = snapshot_length(snap)?;

@@ -68,7 +68,7 @@ fn write_parts<W, O: Write>(
     Ok(())
 }
 
-/// Whether the parts were begun.
+/// Whether the parts were started.
 fn was_begun(end: Result<(), Stop>) -> bool
     ensures { result ≡ passes_header end }
 {
@@ -78,7 +78,7 @@ fn was_begun(end: Result<(), Stop>) -> bool
     }
 }
 
-/// Prints the lines of all parts that were begun, and all that the writer has gathered of them.
+/// Prints the lines of all parts that were started, and all that the writer has gathered of them.
 fn print_split<R, W, O: Write>(
     lines: &[SplitLine<'_>],
     end: &SplitEnd<R, W>,

@@ -254,7 +254,7 @@ fn split_first<R: Source + Drop, W: Sink + Drop>(
 ///
 /// Each capture is read once, packet by packet, up to the first fault: its own header's, a torn or bad record, or its source's. The
 /// fault ends the reading, and what was read before it is written. The captures may differ in byte order and in unit of time: the parts
-/// are written in those given. The parts are begun once the header of the first capture was read. If that fails, or if there is no
+/// are written in those given. The parts are started once the header of the first capture is read. If that fails, or if there is no
 /// capture, all sinks are as they were.
 ///
 /// A part whose sink fails ends there, with a prefix of its text and [`Fault::Device`]; so does one whose text has 2^64 bytes or more,

@@ -25,8 +25,7 @@ use tap_steps::{Answer, Answered, PlacedPacket, Spec, Step};
 /// The bytes that a line has room for, beside what decides of a rejected packet.
 const LINE_ROOM: usize = 512;
 
-/// Puts the answer of the l-th listener, and why it was given, in place of what the line has. The record of an arrival has, or
-/// would have, so many bytes.
+/// Replaces the line by the l-th listener's answer and why it was given. `size` is the size of an arrival's record, kept or not.
 fn put_answer(
     line: &mut String,
     l: usize,
@@ -323,7 +322,7 @@ fn write_named<O: Write>(
     write_one(all, l, line, out)
 }
 
-/// The same, and goes over the answer.
+/// Writes what [`write_named`] writes, and goes past the answer.
 fn write_own<O: Write>(
     n: usize,
     word: &str,

@@ -16,8 +16,8 @@ pub fn first_bad_is_one()
     ensures script { FirstBadIsOne IsStepLine }
 {}
 
-/// The reasons of a flush and of a read are given by the listener's state before it alone. If the answer is right, they say the same:
-/// that the store became the hold, or that the hold was taken, or that it was not.
+/// The reasons of a flush and of a read follow from the listener's state before it. If the answer is right, they agree with it:
+/// the store became the hold, or the hold was taken, or not.
 pub fn reasons_agree()
     ensures flushes { FlushReasonsAgree }
     ensures reads { ReadReasonsAgree }

@@ -140,7 +140,7 @@ pub enum FlushEnd {
     /// The hold is full.
     NotRead(FullHold),
     NothingStored,
-    /// The hold takes what is stored, so many bytes of records.
+    /// The hold takes what is stored, this many bytes of records.
     Takes(usize),
 }
 
@@ -157,7 +157,7 @@ impl Display for FlushEnd {
     }
 }
 
-/// What a flush comes to, from how the listener stands.
+/// How a flush ends, from the listener's state.
 pub fn flush_end(before: &ListenerState) -> FlushEnd
     ensures { result ≡ flush_end before.now }
 {
@@ -193,7 +193,7 @@ impl Display for ReadEnd {
     }
 }
 
-/// What a read comes to, from how the listener stands.
+/// How a read ends, from the listener's state.
 pub fn read_end(before: &ListenerState) -> ReadEnd
     ensures { result ≡ read_end before.now }
 {

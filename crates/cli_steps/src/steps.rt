@@ -207,11 +207,11 @@ pub fn steps_told<O: Write, E: Write>(
 /// and what its buffers hold.
 ///
 /// A line of LISTENERS is `SNAP CAPACITY EXPRESSION`, with an `i` after CAPACITY for the mode Immediate; SNAP is 0 to
-/// 262,144 bytes, and 0 stands for the largest. A line of SCRIPT is `arrive`, `flush L`, `read L` or `close L`. The first
+/// 262,144 bytes, and 0 means the largest. A line of SCRIPT is `arrive`, `flush L`, `read L` or `close L`. The first
 /// bad line is reported as `Listeners N` or `Script N`, N from 1.
 ///
-/// The exit status is 0 where all went well; 1 for a refusal or out of memory, where nothing is printed on `out`; 2 where a
-/// capture ended with a record fault, which is reported after the reports; 3 where `out` failed. What is printed are the reports of
+/// The exit status is 0 if all went well; 1 for a refusal or out of memory, with nothing printed on `out`; 2 if a
+/// capture ended with a record fault, which is reported after the reports; 3 if `out` failed. It prints the reports of
 /// [`tap::replay`], whole for 0 and 2.
 pub fn steps<O: Write, E: Write>(
     alloc: Global,

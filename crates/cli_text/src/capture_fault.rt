@@ -7,7 +7,7 @@ use savefile::Fault;
 use std::fmt;
 use std::fmt::{Display, Formatter};
 
-/// The fault of a capture as it is told, by a contract that names each of its bytes: the same text as the fault's own.
+/// Prints the fault of a capture, by a contract that names each byte: the same text as the fault's own.
 #[derive(Clone, Copy)]
 pub struct CaptureFaultText(pub Fault);
 

@@ -11,9 +11,9 @@ use std::fmt::{Display, Formatter};
 /// Why the files LISTENERS and SCRIPT are not taken. A line is counted from 1.
 #[derive(Clone, Copy, Debug, PartialEq, Eq)]
 pub enum LineFault {
-    /// A line of LISTENERS that has not its form.
+    /// A malformed line of LISTENERS.
     Listeners(usize),
-    /// A line of SCRIPT that has not its form.
+    /// A malformed line of SCRIPT.
     Script(usize),
     NoMemory,
 }

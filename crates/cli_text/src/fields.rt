@@ -8,7 +8,7 @@ ghost use Rattle.cli_text.specs.Fields.{IsSnap, IsCapacity};
 use crate::snapshot::{MAX_SNAP, effective_snaplen};
 use listener::Mode;
 
-/// What stands before the first such byte, and what stands behind it.
+/// The text before the first such byte, and the text after it.
 pub fn split_once(text: &[u8], at: u8) -> Option<(&[u8], &[u8])>
     ensures parts { IfSome result (λ parts. text.now ≡ parts.0.now ++ at ∷ parts.1.now) }
     ensures first { IfSome result (λ parts. All (λ byte. byte ≢ at) parts.0.now) }
@@ -18,7 +18,7 @@ pub fn split_once(text: &[u8], at: u8) -> Option<(&[u8], &[u8])>
     Some((&text[..place], &text[place + 1..]))
 }
 
-/// The first line of a text, without the byte 10 at its end, which the last line may lack, and what stands behind it.
+/// The first line of a text, without the byte 10 at its end, which the last line may lack, and the text after it.
 pub fn first_line(text: &[u8]) -> (&[u8], &[u8])
     ensures first { text.now ≢ [] → further_lines text.now ≡ result.0.now ∷ further_lines result.1.now }
     ensures shorter { text.now ≢ [] → length result.1.now < length text.now }
@@ -29,7 +29,7 @@ pub fn first_line(text: &[u8]) -> (&[u8], &[u8])
     }
 }
 
-/// A number up to the greatest one. It is decimal digits alone, leading zeros or not: a sign, a blank or nothing is none.
+/// A number up to the greatest one, in decimal digits only. Leading zeros are fine; a sign, a blank or no digit is refused.
 pub fn number(text: &[u8], most: u64) -> Option<u64>
     ensures some { IfSome result (λ n. IsNumber most text.now n) }
     ensures none { IfNone result ((n : ℕ) → IsNumber most text.now n → ⊥) }
@@ -50,7 +50,7 @@ pub fn number(text: &[u8], most: u64) -> Option<u64>
     Some(n as u64)
 }
 
-/// A snapshot length of 0 to 262,144 bytes, where 0 stands for the largest.
+/// A snapshot length of 0 to 262,144 bytes; 0 means the largest.
 pub fn snapshot_length(text: &[u8]) -> Option<u32>
     ensures some { IfSome result (λ snap. IsSnap text.now snap) }
     ensures none { IfNone result ((snap : ℕ) → IsSnap text.now snap → ⊥) }
@@ -59,7 +59,7 @@ pub fn snapshot_length(text: &[u8]) -> Option<u32>
     Some(effective_snaplen(snap as u32))
 }
 
-/// A capacity in bytes. Behind its digits an `i` stands for the mode Immediate.
+/// A capacity in bytes. An `i` after its digits means the mode Immediate.
 pub fn capacity_and_mode(text: &[u8]) -> Option<(usize, Mode)>
     ensures some { IfSome result (λ terms. IsCapacity text.now terms.0 terms.1) }
     ensures none { IfNone result ((capacity : ℕ) (mode : Mode) → IsCapacity text.now capacity mode → ⊥) }

@@ -1,4 +1,4 @@
-//! The lines that the program reads, prints and tells: the lines of a file and their fields, texts that are sent to a writer,
+//! The lines that the program reads and prints: the lines of a file and their fields, texts that are sent to a writer,
 //! the line of a fault on standard error, and the exit statuses.
 #![tactic(auto)]
 

@@ -9,8 +9,8 @@ use std::io;
 use std::io::ErrorKind;
 use std::marker::Model;
 
-/// A line that is put together before it is sent, by `write!` and `writeln!`: at most 512 bytes. It takes no memory, want of
-/// which may be what the line tells.
+/// A line that is put together before it is sent, by `write!` and `writeln!`: at most 512 bytes. It takes no memory, since it
+/// may have to report that memory ran out.
 #[derive(Drop)]
 pub struct Line {
     text: ArrayString<512>,

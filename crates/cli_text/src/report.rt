@@ -31,8 +31,8 @@ fn line_of<D: Display + Drop>(fault: D) -> io::Result<Line>
     Ok(line)
 }
 
-/// Tells a fault in a line of its own, which goes out in one piece. Where standard error fails it took a beginning of the line.
-/// A line of more than 512 bytes is not told.
+/// Reports a fault in a line of its own, which goes out in one piece. If standard error fails, it took a prefix of the line.
+/// A line of more than 512 bytes is not reported.
 pub fn report_line<E: Write, D: Display + Drop>(fault: D, err: &mut E) -> io::Result<()>
     ensures { IfSome (D.output fault) (λ text. Takes (E.contents err.old) (E.contents err.new) result (told_line text)) }
 {
@@ -40,8 +40,8 @@ pub fn report_line<E: Write, D: Display + Drop>(fault: D, err: &mut E) -> io::Re
     send(line.as_bytes(), err)
 }
 
-/// Tells a fault in a line of its own, whatever its length, and gives the status back. Where standard error itself fails, the
-/// status is all that is left to tell.
+/// Reports a fault in a line of its own, whatever its length, and gives the status back. If standard error itself fails, only
+/// the status is left.
 pub fn report_fault<E: Write, D: Display + Drop>(fault: D, status: Status, err: &mut E) -> Status
     ensures { result ≡ status }
 {
@@ -52,7 +52,7 @@ pub fn report_fault<E: Write, D: Display + Drop>(fault: D, status: Status, err: 
     status
 }
 
-/// Tells why the words of the command line could not be taken.
+/// Reports why the arguments of the command line could not be taken.
 pub fn report_words<E: Write>(error: io::Error, err: &mut E) -> Status
     ensures { result ≡ Refused }
 {
@@ -84,7 +84,7 @@ impl Display for EscapedPath<'_> {
     }
 }
 
-/// Tells that the file or device of a path failed.
+/// Reports that the file or device of a path failed.
 pub fn report_device<E: Write>(path: &str, err: &mut E) -> Status
     ensures { result ≡ Failed }
 {
@@ -138,15 +138,15 @@ pub fn print_status(printed: &io::Result<()>) -> Status
     }
 }
 
-/// Whether it is that nobody reads what is printed any more, as behind `| head`.
+/// Whether nobody reads any more what is printed, as after `| head`.
 fn is_unread(kind: ErrorKind) -> bool
     ensures { result ≡ is_unread kind }
 {
     matches!(kind, ErrorKind::BrokenPipe)
 }
 
-/// Tells that standard output failed, if it did, in a line `bpftap: Device standard output`. Where nobody reads what is printed any
-/// more, there is nobody to tell it to either.
+/// Reports that standard output failed, if it did, in a line `bpftap: Device standard output`. If nobody reads what is printed
+/// any more, it reports nothing.
 pub fn report_output<E: Write>(printed: &io::Result<()>, err: &mut E) -> io::Result<()>
     ensures { Takes (E.contents err.old) (E.contents err.new) result (output_line printed.now) }
 {

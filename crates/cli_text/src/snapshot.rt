@@ -5,7 +5,7 @@ ghost use Rattle.cli_text.specs.Snapshot.{effective_snaplen};
 
 pub use savefile::MAX_SNAP;
 
-/// The snapshot length that is meant: 0 stands for the largest.
+/// The effective snapshot length: 0 means the largest.
 pub fn effective_snaplen(snap: u32) -> u32
     ensures { result ≡ effective_snaplen snap }
 {

@@ -14,9 +14,9 @@ use std::alloc::Global;
 /// A primitive or a relation that was asked, and what it answered.
 #[derive(Clone, Copy, Debug)]
 pub struct AskedPart<'a> {
-    /// The primitive or the relation, as it stands in the expression; or the empty expression.
+    /// The primitive or the relation, as the expression has it; or the empty expression.
     pub part: &'a Expr,
-    /// An odd number of `not` stand over it.
+    /// An odd number of `not` apply to it.
     pub negated: bool,
     /// Its own answer, which no `not` has turned.
     pub verdict: Verdict,
@@ -40,7 +40,7 @@ pub(crate) fn cause_of(
     }
 }
 
-/// Asks a primitive or a relation, and tells its answer behind the others.
+/// Asks a primitive or a relation, and appends its answer.
 fn ask_part<'a>(
     part: &'a Expr,
     negated: bool,
@@ -74,7 +74,7 @@ pub(crate) fn opposite(verdict: Verdict) -> Verdict
     }
 }
 
-/// Asks the parts of an expression, and tells their answers behind the others.
+/// Asks the parts of an expression, and appends their answers.
 fn ask<'a>(
     expr: &'a Expr,
     negated: bool,
@@ -110,11 +110,11 @@ fn ask<'a>(
 /// The primitives and relations of an expression that a packet is asked, from left to right, each with its answer and why it
 /// aborts.
 ///
-/// `packet` is the captured bytes, and `wire` the packet's length on the wire. The right operand of `and` is asked only behind a
-/// Yes, that of `or` only behind a No. Of the empty expression, which answers Yes, that is told. The last one decides: its answer,
-/// turned where it is negated, is what [`evaluate`](filtergen::evaluate) answers of the expression.
+/// `packet` is the captured bytes, and `wire` the packet's original length. The right operand of `and` is asked only after a
+/// Yes, that of `or` only after a No. The empty expression is listed itself, with its answer Yes. The last one decides: its
+/// answer, turned if it is negated, is what [`evaluate`](filtergen::evaluate) returns for the expression.
 ///
-/// `NoMemory` where memory for the list was refused.
+/// `NoMemory` if memory for the list was refused.
 pub fn explain<'a>(
     alloc: Global,
     expr: &'a Expr,

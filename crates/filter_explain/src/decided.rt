@@ -22,14 +22,14 @@ impl AskedPart<'_> {
     }
 }
 
-/// A part of an expression that decides of a packet, and what the part of the expression answers in which it stands.
+/// The part of an expression that decides on a packet, and what the larger part that holds it answers.
 #[derive(Clone, Copy)]
 struct Decided<'a> {
     asked: AskedPart<'a>,
     verdict: Verdict,
 }
 
-/// A primitive or a relation decides of itself.
+/// A primitive or a relation decides for itself.
 fn decide_part<'a>(part: &'a Expr, negated: bool, packet: &[u8], wire: u32) -> Decided<'a>
     ensures asked { question_of result.asked ≡ question negated (tree_of part.now) (packet_of packet.now wire) }
     ensures verdict { result.verdict ≡ meaning (tree_of part.now) (packet_of packet.now wire) }
@@ -81,11 +81,11 @@ fn decide_in<'a>(expr: &'a Expr, negated: bool, packet: &[u8], wire: u32) -> Dec
     }
 }
 
-/// The primitive or relation of an expression that decides of a packet: the last one of those that
-/// [`explain`](crate::explain) tells. It takes no memory.
+/// The primitive or relation of an expression that decides on a packet: the last one that
+/// [`explain`](crate::explain) lists. It takes no memory.
 ///
-/// `packet` is the captured bytes, and `wire` the packet's length on the wire. What [`AskedPart::answer`] answers of it is what
-/// [`evaluate`](filtergen::evaluate) answers of the whole expression.
+/// `packet` is the captured bytes, and `wire` the packet's original length. Its [`AskedPart::answer`] is what
+/// [`evaluate`](filtergen::evaluate) returns for the whole expression.
 pub fn decide<'a>(expr: &'a Expr, packet: &[u8], wire: u32) -> AskedPart<'a>
     ensures last { IsLast (question_of result) (questions false (tree_of expr.now) (packet_of packet.now wire)) }
     ensures decides { meaning (tree_of expr.now) (packet_of packet.now wire) ≡ turned result.negated result.verdict }

@@ -24,8 +24,8 @@ pub fn verdict_text(verdict: Verdict) -> &'static str
     }
 }
 
-/// Appends a primitive or a relation in its canonical form, behind `not` where that stands over it. It fails where memory is refused, and
-/// then nothing is promised of the line.
+/// Appends a primitive or a relation in its canonical form, with `not` before it if it is negated. It fails if memory is refused; the
+/// line is then unspecified.
 pub fn put_part(line: &mut String, part: &Expr, negated: bool) -> Result<(), AllocError>
     ensures { OnOk result (string_bytes line.new ≡ string_bytes line.old ++ part_text negated (tree_of part.now)) }
 {

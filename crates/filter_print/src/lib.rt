@@ -22,9 +22,9 @@ use std::fmt::{Display, Formatter, Write};
 /// The most signs that a text may have open within one another, as `filterlang` reads them.
 const MAX_NESTING: usize = 64;
 
-/// An expression that is to be printed, for a person or another program to read: `{}` writes its canonical text, in the
-/// words of pcap-filter(7). Where that answers Ok, exactly the bytes of this text were written, be they more than the 8,192
-/// that `parse` takes. An error is the writer's, as want of memory in `to_string`; no clause says so.
+/// An expression to print, for a person or another program to read: `{}` writes its canonical text, in the words of
+/// pcap-filter(7). If it returns `Ok`, it wrote the bytes of this text and no others, even more than the 8,192 that
+/// `parse` takes. An error is the writer's, such as running out of memory in `to_string`; no clause says so.
 #[derive(Clone, Copy)]
 pub struct Canonical<'a>(pub &'a Expr);
 

@@ -1,4 +1,4 @@
-//! Where parentheses stand, and how deep they and the other signs lie within one another.
+//! Where parentheses are written, and how deep they and the other signs nest.
 
 ghost use Rattle.std.specs.Prelude.{◌≡◌, ◌&&◌};
 ghost use Rattle.filter_tree.specs.Trees.{amount_of, tree_of};
@@ -12,7 +12,7 @@ use filterlang::{Expr, Joint, Operator, Value};
 pub(crate) enum Parentheses {
     /// All that show what binds to what.
     All,
-    /// Those alone that the grammar needs.
+    /// Only those that the grammar needs.
     Needed,
 }
 
@@ -37,7 +37,7 @@ pub(crate) fn is_binary(value: &Value) -> bool
     matches!(value, Value::Binary(..))
 }
 
-/// Whether the left side of an operator stands in parentheses.
+/// Whether the left side of an operator is in parentheses.
 pub(crate) fn left_enclosed(parentheses: Parentheses, operator: Operator, left: &Value) -> bool
     ensures { result ≡ left_enclosed parentheses operator (amount_of left.now) }
 {
@@ -50,7 +50,7 @@ pub(crate) fn left_enclosed(parentheses: Parentheses, operator: Operator, left: 
     }
 }
 
-/// Whether the right side of an operator stands in parentheses.
+/// Whether the right side of an operator is in parentheses.
 pub(crate) fn right_enclosed(parentheses: Parentheses, operator: Operator, right: &Value) -> bool
     ensures { result ≡ right_enclosed parentheses operator (amount_of right.now) }
 {
@@ -63,7 +63,7 @@ pub(crate) fn right_enclosed(parentheses: Parentheses, operator: Operator, right
     }
 }
 
-/// Whether a side of a comparison stands in parentheses.
+/// Whether a side of a comparison is in parentheses.
 pub(crate) fn side_enclosed(parentheses: Parentheses, side: &Value) -> bool
     ensures { result ≡ side_enclosed parentheses (amount_of side.now) }
 {
@@ -73,14 +73,14 @@ pub(crate) fn side_enclosed(parentheses: Parentheses, side: &Value) -> bool
     }
 }
 
-/// Whether `and` or `or` stands between two expressions.
+/// Whether an expression is two with `and` or `or` between them.
 pub(crate) fn is_joined(expr: &Expr) -> bool
     ensures { result ≡ is_joined (tree_of expr.now) }
 {
     matches!(expr, Expr::And(..) | Expr::Or(..))
 }
 
-/// Whether what stands to the left of `and` or `or` stands in parentheses.
+/// Whether the expression to the left of `and` or `or` is in parentheses.
 pub(crate) fn first_enclosed(parentheses: Parentheses, joint: Joint, first: &Expr) -> bool
     ensures { result ≡ first_enclosed parentheses joint (tree_of first.now) }
 {
@@ -91,7 +91,7 @@ pub(crate) fn first_enclosed(parentheses: Parentheses, joint: Joint, first: &Exp
     }
 }
 
-/// Whether what stands behind `not` stands in parentheses.
+/// Whether the expression after `not` is in parentheses.
 pub(crate) fn negated_enclosed(parentheses: Parentheses, expr: &Expr) -> bool
     ensures { result ≡ negated_enclosed parentheses (tree_of expr.now) }
 {
@@ -101,7 +101,7 @@ pub(crate) fn negated_enclosed(parentheses: Parentheses, expr: &Expr) -> bool
     }
 }
 
-/// How many more signs may be open behind one that is, or where there is none; nothing where none may.
+/// How many more signs may be open inside, be it in parentheses or not; nothing if parentheses may not open.
 #[tactic(auto, using(crate::proofs::Levels::behind_none, crate::proofs::Levels::behind_less))]
 fn behind(enclosed: bool, levels: usize) -> Option<usize>
     ensures { result ≡ behind enclosed levels }
@@ -115,7 +115,7 @@ fn behind(enclosed: bool, levels: usize) -> Option<usize>
     }
 }
 
-/// Whether at most so many signs of a value are open within one another.
+/// Whether the signs of a value nest at most this deep.
 #[tactic(auto, unfolding(crate::specs::Parentheses::value_fits), using(crate::proofs::Levels::never))]
 fn value_fits(parentheses: Parentheses, value: &Value, levels: usize) -> bool
     ensures { result ≡ value_fits parentheses (amount_of value.now) levels }
@@ -149,7 +149,7 @@ fn value_fits(parentheses: Parentheses, value: &Value, levels: usize) -> bool
     }
 }
 
-/// Whether at most so many signs of two sides are open within one another.
+/// Whether the signs of two sides nest at most this deep.
 fn sides_fit(parentheses: Parentheses, left: &Value, right: &Value, levels: usize) -> bool
     ensures { result ≡ fits_behind (value_fits parentheses (amount_of left.now)) (behind (side_enclosed parentheses (amount_of left.now)) levels)
         && fits_behind (value_fits parentheses (amount_of right.now)) (behind (side_enclosed parentheses (amount_of right.now)) levels) }
@@ -163,7 +163,7 @@ fn sides_fit(parentheses: Parentheses, left: &Value, right: &Value, levels: usiz
     value_fits(parentheses, left, first) && value_fits(parentheses, right, second)
 }
 
-/// Whether at most so many signs of an expression are open within one another.
+/// Whether the signs of an expression nest at most this deep.
 #[tactic(auto, unfolding(crate::specs::Parentheses::fits), using(crate::proofs::Levels::never))]
 pub(crate) fn fits(parentheses: Parentheses, expr: &Expr, levels: usize) -> bool
     ensures { result ≡ fits parentheses (tree_of expr.now) levels }

@@ -9,7 +9,7 @@ use filterlang::{Direction, EthernetAddress, Network, Plain, Primitive, Transpor
 use std::fmt;
 use std::fmt::{Display, Formatter, Write};
 
-/// A protocol word alone.
+/// A protocol word without a phrase or an identifier.
 fn plain_text(plain: Plain) -> &'static str
     ensures { result.now ≡ plain_text plain }
 {
@@ -24,7 +24,7 @@ fn plain_text(plain: Plain) -> &'static str
     }
 }
 
-/// The protocol of hosts and nets with a space behind it, or nothing.
+/// The protocol of hosts and nets, followed by a space, or nothing.
 fn network_text(network: Option<Network>) -> &'static str
     ensures { result.now ≡ network_text network }
 {
@@ -36,7 +36,7 @@ fn network_text(network: Option<Network>) -> &'static str
     }
 }
 
-/// The protocol of ports with a space behind it, or nothing.
+/// The protocol of ports, followed by a space, or nothing.
 fn transport_text(transport: Option<Transport>) -> &'static str
     ensures { result.now ≡ transport_text transport }
 {
@@ -48,7 +48,7 @@ fn transport_text(transport: Option<Transport>) -> &'static str
     }
 }
 
-/// A direction with a space behind it; source or destination is not written out.
+/// A direction, followed by a space; source or destination is not written out.
 fn direction_text(direction: Direction) -> &'static str
     ensures { result.now ≡ direction_text direction }
 {
@@ -60,7 +60,7 @@ fn direction_text(direction: Direction) -> &'static str
     }
 }
 
-/// The mask of so many bits.
+/// The mask with this many leading one bits.
 fn mask_of(bits: u32) -> u32
     requires { bits ≤ 32 }
     ensures { result ≡ mask_of bits }

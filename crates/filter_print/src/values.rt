@@ -43,7 +43,7 @@ pub(crate) fn comparison_text(comparison: Comparison) -> &'static str
     }
 }
 
-/// A layer with the bracket behind it.
+/// A layer, followed by its bracket.
 fn layer_text(layer: Layer) -> &'static str
     ensures { result.now ≡ layer_text layer }
 {
@@ -58,7 +58,7 @@ fn layer_text(layer: Layer) -> &'static str
     }
 }
 
-/// The size of an accessor with the bracket behind it; one byte is not written out.
+/// The size of an accessor, followed by its bracket; one byte is not written out.
 fn size_text(size: Size) -> &'static str
     ensures { result.now ≡ size_text size }
 {
@@ -83,7 +83,7 @@ pub(crate) fn write_close<W: Write>(f: &mut Formatter<W>, enclosed: bool) -> fmt
     f.write_str(if enclosed { ")" } else { "" })
 }
 
-/// Writes what stands between two sides, each of them in parentheses or not.
+/// Writes the operator between two sides, each of them in parentheses or not.
 #[tactic(auto, unfolding(crate::specs::Parentheses::between))]
 pub(crate) fn write_between<W: Write>(
     f: &mut Formatter<W>,

@@ -72,7 +72,7 @@ pub enum Plain {
 /// A test of a packet that is no relation.
 #[derive(Clone, Copy, Debug, PartialEq, Eq)]
 pub enum Primitive {
-    /// A protocol word alone.
+    /// A protocol word without a phrase or an identifier.
     Protocol(Plain),
     /// A host or a net: the address under the mask. A host has a mask of ones.
     Net {
@@ -100,9 +100,9 @@ pub enum Primitive {
     EtherBroadcast,
     EtherMulticast,
     IpMulticast,
-    /// A wire length of at most so many bytes.
+    /// An original length of at most this many bytes.
     Less(u32),
-    /// A wire length of at least so many bytes.
+    /// An original length of at least this many bytes.
     Greater(u32),
 }
 

@@ -14,7 +14,7 @@ use filterlang::{Fault, parse};
 use std::alloc::Global;
 use thiserror::Error;
 
-/// Why an expression has no program. It is told by the fault's own name.
+/// Why an expression has no program. It prints as the inner fault does.
 #[derive(Clone, Copy, Debug, PartialEq, Eq, Error)]
 pub enum ExpressionFault {
     /// The text is refused: no tree reads it, or memory is wanting.
@@ -25,12 +25,12 @@ pub enum ExpressionFault {
     Tree(Refusal),
 }
 
-/// The program of an expression: it answers the snapshot length where the expression accepts a packet, and else 0. Some
+/// The program of an expression: it returns the snapshot length if the expression accepts a packet, and else 0. Some
 /// path of jumps leads from its first instruction to each of the others.
 ///
-/// The text is read first, and refused as [`parse`] refuses it, for want of memory too: exactly a text of more than 8,192
-/// bytes is refused as too long. Its tree is refused as [`compile`] refuses it, and only where it reads: the first that
-/// stands of `BadSnap`, `TooDeep` and `TooLong`.
+/// The text is read first, and refused as [`parse`] refuses it, also if memory runs out. A text is refused as too long
+/// if and only if it has more than 8,192 bytes. If it reads, its tree is refused as [`compile`] refuses it: the first
+/// that applies of `BadSnap`, `TooDeep` and `TooLong`.
 pub fn compile_text(alloc: Global, text: &str, snap: u32) -> Result<Program, ExpressionFault>
     ensures program { IfOk result (λ program. IsProgramOf text.now snap program) }
     ensures reached { IfOk result IsAllReached }

@@ -119,7 +119,7 @@ impl Sides {
         }
     }
 
-    /// Whether an IPv4 address of the other sides is captured if one of these is: the destination stands after the source.
+    /// Whether an IPv4 address of the other sides is captured if one of these is: the destination comes after the source.
     fn reaches(self, other: Sides) -> bool
         ensures { OnTrue result (Reaches self other) }
     {

@@ -1,4 +1,4 @@
-//! Finds the lists at the right end of a chain. Members of different lists may stand mixed.
+//! Finds the lists at the right end of a chain. Members of different lists may be mixed.
 
 ghost use Rattle.std.specs.Prelude.{◌≡◌, ◌<◌, ◌⊎◌, ◌++◌, All, length, option_to_list, [], IfSome, IfNone, MatchOption, Some, None};
 ghost use Rattle.std.specs.Bool.{OnTrue, OnFalse};
@@ -70,7 +70,7 @@ fn chain_settles(chain: Chain, expr: &Expr, kind: ListKind, links: u32) -> bool
     }
 }
 
-/// Whether no test of a kind aborts after the first member and what stands to its left.
+/// Whether no test of a kind aborts after the first member and what is to its left.
 fn is_settled(chain: Chain, left: Option<&Expr>, first: Member, kind: ListKind) -> bool
     ensures { OnTrue result (MatchOption left.entry (Settles chain None first kind) (λ t. Settles chain (Some (tree_of t.now)) first kind)) }
 {
@@ -113,7 +113,7 @@ fn count_kind(kinds: &mut ArrayVec<ListKind, MAX_KINDS>, kind: ListKind) -> bool
 }
 
 /// Whether the last link of a chain may be the first member although tests of this kind can abort after it. All members of its own kind may
-/// then be tested first. Members of these two kinds, and of no other, have to stand to its right, some of its own kind among them.
+/// then be tested first. Only members of these two kinds may be to its right, and some of its own kind must be among them.
 fn may_lead(chain: Chain, expr: &Expr, kind: ListKind, kinds: &[ListKind]) -> bool {
     let Some(first) = Member::of_link(chain, chain.last_of(expr)) else {
         return false;
@@ -209,7 +209,7 @@ impl OtherMembers {
         }
     }
 
-    /// Whether none of these aborts after the first member and what stands to its left.
+    /// Whether none of these aborts after the first member and what is to its left.
     fn are_settled(&self, chain: Chain, left: Option<&Expr>, first: Member) -> bool
         ensures { OnTrue result (MatchOption left.entry
             (All (λ m. Settles chain None first m.kind) self.now.members.items)
@@ -238,7 +238,7 @@ impl OtherMembers {
         kind.is_apart(last.kind)
     }
 
-    /// Whether these may be tested kind by kind after the first member and what stands to its left.
+    /// Whether these may be tested kind by kind after the first member and what is to its left.
     fn are_free(&self, chain: Chain, left: Option<&Expr>, first: Member) -> bool
         ensures { OnTrue result (MatchOption left.entry
             (AreFreeAfter chain None first self.now.members.items)
@@ -347,7 +347,7 @@ impl OtherMembers {
 }
 
 impl ValueLists {
-    /// The lists at the right end of a chain of these two, if there are any, and what stands to their left.
+    /// The lists at the right end of a chain of these two, if there are any, and what is to their left.
     pub fn at_end<'a>(
         chain: Chain,
         left: &'a Expr,

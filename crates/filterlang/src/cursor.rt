@@ -62,7 +62,7 @@ impl<'a> Cursor<'a> {
         }
     }
 
-    /// Goes on behind what was read, or refuses where that breaks off.
+    /// Goes on after what was read, or refuses at the token where the reading broke off.
     pub fn past<X: Copy>(&mut self, read: Result<(X, &'a [Token]), &'a [Token]>) -> Result<X, Fault>
         ensures { Gives {Y = X × List Kind} (λ x. (x, kinds self.new.rest.now)) result
             (option_map (λ found. (found.0, kinds found.1.now)) (result_ok read.entry)) }
@@ -83,7 +83,7 @@ impl<'a> Cursor<'a> {
         self.past(close_at(self.rest))
     }
 
-    /// Goes past the `)` behind what was read.
+    /// Goes past the `)` that closes what was read.
     pub fn close_after<T: Drop>(&mut self, read: T) -> Result<T, Fault>
         ensures { Gives {Y = T × List Kind} (λ t. (t, kinds self.new.rest.now)) result
             (option_map (λ behind. (read, behind.1)) (close_at (kinds self.old.rest.now))) }
@@ -101,13 +101,12 @@ impl<'a> Cursor<'a> {
         port_of(number).map_err(|_| Fault::OutOfRange(place))
     }
 
-    /// Two port numbers with a `-` between them, whichever comes first, in these tokens, which stand behind the
-    /// phrase and `portrange`.
+    /// Two port numbers with a `-` between them, in either order, in the tokens after the phrase and `portrange`.
     #[tactic(auto, unfolding(crate::specs::Reading::portrange_at))]
     pub fn portrange(&mut self, phrase: Phrase, behind: &'a [Token]) -> Result<Primitive, Fault>
         ensures { Gives (λ p. (p, kinds self.new.rest.now)) result (portrange_at phrase (kinds behind.now)) }
     {
-        // The cursor stands at the phrase still, where its fault has its place.
+        // The cursor is still at the phrase, the place of its fault.
         let Some(transport) = transport_of(phrase.protocol) else {
             return Err(Fault::BadQualifier(self.place()));
         };
@@ -123,7 +122,7 @@ impl<'a> Cursor<'a> {
         })
     }
 
-    /// Goes past the sign at the front, which is `not`, `(`, `[` or a unary `-`: so many levels are left for what it
+    /// Goes past the sign at the front, `not`, `(`, `[` or a unary `-`, and returns the levels that are left for what it
     /// holds open.
     pub fn deeper(&mut self, levels: usize) -> Result<usize, Fault>
         ensures { Gives (λ left. (left, kinds self.new.rest.now)) result
@@ -153,8 +152,8 @@ impl<'a> Cursor<'a> {
         }
     }
 
-    /// The fault of an identifier, which these tokens begin with. What stands behind its `mask` or `/` has a place of
-    /// its own.
+    /// The fault of the identifier that these tokens begin with. A fault in its `mask` or its `/` part has that part's
+    /// place.
     fn misfit(&self, misfit: Misfit, id: Identifier, tokens: &[Token]) -> Fault
         ensures { is_misreading result ≡ true }
     {

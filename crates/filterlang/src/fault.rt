@@ -6,7 +6,7 @@ ghost use Rattle.filterlang.specs.declared.fault.Fault.TheVariants.{NoMemory};
 use std::alloc::{AllocError, AllocFailed};
 use thiserror::Error;
 
-/// Why a text is no filter expression. A number is the byte of the text that the fault stands at, from 0.
+/// Why a text is no filter expression. A number is the place of the fault: a byte of the text, counted from 0.
 #[derive(Clone, Copy, Debug, PartialEq, Eq, Error)]
 pub enum Fault {
     /// The text has more than 8,192 bytes.
@@ -15,7 +15,7 @@ pub enum Fault {
     /// No token begins with this byte.
     #[error("BadByte {0}")]
     BadByte(usize),
-    /// A word that the language has not, or a name behind a backslash; the place of that is the backslash.
+    /// A word, or a name after a backslash, that the language lacks; the place of a name is its backslash.
     #[error("BadWord {0}")]
     BadWord(usize),
     /// A number or dotted address that is misspelled or too great, at its first digit.
@@ -24,8 +24,7 @@ pub enum Fault {
     /// A token, or the end of the text, with which no expression can go on.
     #[error("Syntax {0}")]
     Syntax(usize),
-    /// An identifier without a phrase, where the nearest primitive to its left has no qualifiers to give, or none
-    /// stands there.
+    /// An identifier without a phrase, if the nearest primitive to its left has no qualifiers to give, or there is none.
     #[error("NoQualifier {0}")]
     NoQualifier(usize),
     /// A phrase whose qualifiers do not go together, at its first word.

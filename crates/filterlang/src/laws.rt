@@ -1,4 +1,4 @@
-//! Laws of the language's definitions, which no code stands on: each is a function that does nothing and
+//! Laws of the language's definitions. No code relies on them: each is a function that does nothing and
 //! whose contract is the law.
 
 ghost use Rattle.std.specs.Prelude.{◌≡◌, ◌≤◌, ◌⊎◌, ℕ, List, Some, true, length};
@@ -33,14 +33,13 @@ pub fn one_or_the_other()
         ((xs : List Token) × Lexes text 0 xs) ⊎ ((c : Cause) × (p : ℕ) × Stuck text 0 c p) }
 {}
 
-/// No sign that stands at the front of a text is longer than the one that is read there.
+/// No sign that a text begins with is longer than the one that is read there.
 pub fn longest_sign()
     ensures { (text : List ℕ) (kind : Kind) (n : ℕ) → standing signs text ≡ Some (kind, n) →
         AllByRecursion (λ sign. stands text sign.0 ≡ true → length sign.0 ≤ n) signs }
 {}
 
-/// No word that stands at the front of a text, with no letter or digit behind it, is longer than the one that
-/// is read there.
+/// No word that a text begins with, and that no letter or digit follows, is longer than the one that is read there.
 pub fn longest_word()
     ensures { (text : List ℕ) (kind : Kind) (n : ℕ) → whole_word words text ≡ Some (kind, n) →
         AllByRecursion (λ word. stands_whole text word.0 ≡ true → length word.0 ≤ n) words }

@@ -32,7 +32,7 @@ pub enum Cause {
     BadNumber,
 }
 
-/// What stands at the front of a text: nothing more, a blank, a token of so many bytes, or what is none.
+/// What a text begins with: nothing more, a blank, a token and its length in bytes, or no token.
 #[derive(Clone, Copy)]
 pub(crate) enum Front {
     End,
@@ -59,7 +59,7 @@ fn is_blank(byte: u8) -> bool
     byte == b' ' || byte == b'\t' || byte == b'\r' || byte == b'\n'
 }
 
-/// The name behind a backslash, and how many bytes the two have.
+/// The name after a backslash, and how many bytes the two have.
 fn behind_backslash(text: &[u8]) -> Option<(Kind, usize)>
     requires { length text.now < 2 ^ 64 - 1 }
     ensures { result ≡ option_map (λ name. (name.0, name.1 + 1)) (whole_word names text.now) }
@@ -90,7 +90,7 @@ fn token_at(text: &[u8]) -> Result<(Kind, usize), Cause>
     }
 }
 
-/// What stands at the front of a text.
+/// What a text begins with.
 #[tactic(auto, unfolding(crate::specs::Tokens::front))]
 fn at_front(text: &[u8]) -> Front
     ensures value { result ≡ front text.now }

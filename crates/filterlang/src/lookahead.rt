@@ -61,7 +61,7 @@ fn operator_follows(tokens: &[Token]) -> bool
     )
 }
 
-/// What stands behind the `)` that matches a `(` before these tokens; nothing where none does.
+/// The tokens after the `)` that matches a `(` before these; none if no `)` does.
 fn after_matching(tokens: &[Token]) -> &[Token]
     ensures { kinds result.now ≡ after_matching 0 (kinds tokens.now) }
 {

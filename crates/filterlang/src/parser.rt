@@ -28,8 +28,7 @@ use std::alloc::Global;
 /// operand is complete.
 const MAX_NESTING: usize = 64;
 
-/// What stands at the front of a term that is neither negated nor in parentheses: a whole primitive, or the
-/// phrase before a group.
+/// What begins a term that is neither negated nor in parentheses: a whole primitive, or the phrase before a group.
 #[derive(Clone, Copy)]
 pub(crate) enum Start {
     Primitive(Primitive),
@@ -76,7 +75,7 @@ impl<'a> Parser<'a> {
         Ok(relation)
     }
 
-    /// A negated term, an expression in parentheses, a primitive, or a group behind its phrase.
+    /// A negated term, an expression in parentheses, a primitive, or a phrase and its group.
     #[tactic(auto, using(crate::proofs::Turns::logical_not, crate::proofs::Turns::logical_parenthesis, crate::proofs::Turns::logical_start))]
     #[cycle(expr)]
     fn logical(&mut self, alloc: Global, levels: usize) -> Result<Expr, Fault>
@@ -98,7 +97,7 @@ impl<'a> Parser<'a> {
         }
     }
 
-    /// A primitive, or a group behind its phrase.
+    /// A primitive, or a phrase and its group.
     fn primitive_or_group(&mut self, alloc: Global, levels: usize) -> Result<Expr, Fault>
         ensures { Gives (λ e. (tree_of e, self.new.nearest, kinds self.new.cursor.rest.now)) result
             (started_at levels self.old.nearest (kinds self.old.cursor.rest.now)) }
@@ -167,12 +166,12 @@ impl<'a> Parser<'a> {
         }
     }
 
-    /// What these tokens are, which stand behind a phrase.
+    /// What the tokens after a phrase are.
     fn qualified_start(&mut self, phrase: Phrase, rest: &'a [Token]) -> Result<Start, Fault>
         ensures { Gives (λ s. (s, self.new.nearest, kinds self.new.cursor.rest.now)) result
             (qualified_at phrase (kinds rest.now)) }
     {
-        // The cursor stands at the phrase still, where its fault has its place.
+        // The cursor is still at the phrase, the place of its fault.
         let Some(qualifiers) = qualifiers_of(phrase) else {
             return Err(Fault::BadQualifier(self.cursor.place()));
         };

@@ -1,4 +1,4 @@
-//! What stands at the front of the tokens: phrases, identifiers, single words and signs.
+//! What the tokens begin with: phrases, identifiers, single words and signs.
 
 ghost use Rattle.std.specs.Prelude.{◌≡◌, option_map};
 ghost use Rattle.std.specs.Result.{result_ok};
@@ -71,7 +71,7 @@ fn side_at(tokens: &[Token]) -> Option<(Side, &[Token])>
     }
 }
 
-/// What goes on with a direction behind its first word: `and` or `or`, and then the other word.
+/// What joins a direction's first word to another: `and` or `or`, and then the other word.
 fn joined_at(first: Side, tokens: &[Token]) -> Option<(Direction, &[Token])>
     ensures { option_map (λ found. (found.0, kinds found.1.now)) result ≡ joined_at first (kinds tokens.now) }
 {
@@ -147,7 +147,7 @@ fn address_at(tokens: &[Token]) -> Result<(u32, Parts, &[Token]), &[Token]>
     }
 }
 
-/// What stands behind a dotted address in its identifier, and what follows; or the place where it breaks off.
+/// What follows a dotted address within its identifier, and the tokens after that; or the place where it breaks off.
 fn dotted_at(
     address: u32,
     parts: Parts,
@@ -230,7 +230,7 @@ pub(crate) fn close_at(tokens: &[Token]) -> Result<((), &[Token]), &[Token]>
     }
 }
 
-/// What follows `portrange` at the front, if that stands there behind a phrase without a type.
+/// The tokens after `portrange`, if they begin with it and the phrase before has no type.
 pub(crate) fn range_at(phrase: Phrase, tokens: &[Token]) -> Option<&[Token]>
     ensures { option_map (λ rest. kinds rest.now) result ≡ range_at phrase (kinds tokens.now) }
 {

@@ -67,7 +67,7 @@ pub enum Kind {
     /// A dotted IPv4 address in network order; missing parts on the right are zero.
     Dotted { address: u32, parts: Parts },
     Ethernet(EthernetAddress),
-    /// A name behind a backslash.
+    /// A name after a backslash.
     Name(Protocol),
     Operator(Operator),
     Comparison(Comparison),

@@ -59,7 +59,7 @@ impl<'a> Cursor<'a> {
         Ok(Expr::Relation(comparison, left, right))
     }
 
-    /// A value, and what operators up to this precedence join to it, from the left; 0 stands for no operator.
+    /// A value and what operators up to this precedence join to it, from the left; precedence 0 joins nothing.
     #[tactic(auto, using(crate::proofs::ValueTurns::arith_none, crate::proofs::ValueTurns::arith_some))]
     #[cycle(arith)]
     fn arith(&mut self, alloc: Global, levels: usize, precedence: usize) -> Result<Value, Fault>
@@ -164,7 +164,7 @@ impl<'a> Cursor<'a> {
         }
     }
 
-    /// The size of an accessor, which may stand behind its index: one byte, if it does not.
+    /// The size of an accessor, if one follows its index; else one byte.
     fn size(&mut self) -> Result<Size, Fault>
         ensures { Gives (λ size. (size, kinds self.new.rest.now)) result (size_at (kinds self.old.rest.now)) }
     {

@@ -33,14 +33,14 @@ const _: () = prove!(MIN_CAPACITY == 40);
 
 const _: () = prove!(MAX_CAPACITY == 1_048_576);
 
-/// The bytes of the record of so many bytes of data.
+/// The size in bytes of a record with this many bytes of data.
 pub(crate) fn size(kept: u32) -> usize
     ensures { result ≡ size kept }
 {
     FIELDS_LEN + (kept as usize + 7) / 8 * 8
 }
 
-/// Writes a number of four bytes behind the front of a text.
+/// Writes a number as four bytes at an offset of a text.
 #[inline(always)]
 fn fill_u32(text: &mut [u8], at: usize, n: u32)
     requires { at + 4 ≤ length text.old }
@@ -49,7 +49,7 @@ fn fill_u32(text: &mut [u8], at: usize, n: u32)
     LittleEndian::write_u32(&mut text[at..], n);
 }
 
-/// Writes a number of eight bytes behind the front of a text.
+/// Writes a number as eight bytes at an offset of a text.
 #[inline(always)]
 fn fill_u64(text: &mut [u8], at: usize, n: u64)
     requires { at + 8 ≤ length text.old }
@@ -86,7 +86,7 @@ fn append(to: &mut Vec<u8>, more: &[u8])
     to.extend_from_slice(more).unwrap();
 }
 
-/// A buffer of records: the messages that a listener stores or holds, as bytes one behind the other.
+/// A buffer of records: the messages that a listener stores or holds, as bytes, one record after the other.
 ///
 /// Contracts see its capacity and the list of its messages. Only [`Buffer::new`] takes memory.
 #[derive(Drop)]
@@ -108,9 +108,9 @@ impl Model for Buffer {
 }
 
 impl Buffer {
-    /// An empty buffer with room for so many bytes of records, 40 to 1,048,576.
+    /// An empty buffer with room for this many bytes of records, 40 to 1,048,576.
     ///
-    /// [`OpenFault::BadCapacity`] comes exactly where the capacity is out of that range.
+    /// It returns [`OpenFault::BadCapacity`] if and only if the capacity is out of that range.
     pub fn new(alloc: Global, capacity: usize) -> Result<Buffer, OpenFault>
         ensures ok { IfOk result (λ buffer. buffer ≡ filled capacity []) }
         ensures in_range { OnOk result ((MIN_CAPACITY ≤ capacity) × (capacity ≤ MAX_CAPACITY)) }
@@ -173,17 +173,17 @@ impl Buffer {
         self.bytes.as_slice()
     }
 
-    /// Whether there is room for a message with so many bytes of data.
+    /// Whether there is room for a message with this many bytes of data.
     pub fn fits(&self, kept: u32) -> bool
         ensures { IsTrue result ↔ (room self.now.messages + size kept ≤ self.now.capacity) }
     {
         size(kept) <= self.capacity - self.bytes.len()
     }
 
-    /// Puts a packet behind the messages, with its first bytes, where there is room for it: room that it just fills is
-    /// enough. Else it changes nothing and answers false.
+    /// Appends a message with the packet's first bytes, if there is room for it; it may just fill the buffer. Else it
+    /// changes nothing and returns false.
     ///
-    /// `kept` is at most the number of bytes that were captured of the packet, and at most 262,144.
+    /// `kept` is at most the packet's captured length, and at most 262,144.
     pub fn put(&mut self, capture: u32, place: u64, packet: &PacketRef<'_>, kept: u32) -> bool
         requires captured { kept ≤ length packet.now.bytes }
         requires writable { kept ≤ MAX_SNAP }

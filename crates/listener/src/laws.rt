@@ -40,7 +40,7 @@ pub fn counts()
     ensures ordered { CountsStayOrdered }
 {}
 
-/// A read and an event that the store alone decides may stand in either order.
+/// A read commutes with an event that only the store decides.
 pub fn reads()
     ensures { ReadsCommute }
 {}
@@ -51,8 +51,8 @@ pub fn looking_back()
     ensures { RunsAreKept }
 {}
 
-/// Looking back by positions is the same: what is still in the store, whether the hold is full, and what is a drop, told by
-/// which earlier steps they come from.
+/// Looking back by positions gives the same: what is still in the store, whether the hold is full, and what is a drop follow
+/// from which earlier steps they come from.
 pub fn positions()
     ensures load { LoadIsByPositions }
     ensures held { HoldIsByPositions }

@@ -93,10 +93,10 @@ impl Listener {
         Listener::open_as(alloc, program, snap, capacity, Mode::Buffered)
     }
 
-    /// Opens a listener: a filter program, at most so many bytes of a packet, so many bytes of records in each of the two
-    /// buffers, and when the store becomes the hold.
+    /// Opens a listener. It takes a filter program, how many bytes of a packet are kept at most, the size in bytes of
+    /// each of the two buffers, and when the store becomes the hold.
     ///
-    /// [`OpenFault::BadSnap`] and [`OpenFault::BadCapacity`] come exactly where [`check_range`] answers them.
+    /// It returns [`OpenFault::BadSnap`] or [`OpenFault::BadCapacity`] if and only if [`check_range`] does.
     pub fn open_as(
         alloc: Global,
         program: Program,
@@ -190,7 +190,7 @@ impl Listener {
         Some(size(kept))
     }
 
-    /// Makes a nonempty store the hold where the hold is empty, and tells whether it did: what the read timeout of bpf(4)
+    /// Makes a nonempty store the hold if the hold is empty, and returns whether it did: what the read timeout of bpf(4)
     /// does.
     pub fn flush(&mut self) -> bool
         ensures { TakesStep self.old (flushed result) self.new }

@@ -5,7 +5,7 @@
 pub enum Mode {
     /// Where a packet finds no room in the store, and at a flush.
     Buffered,
-    /// Also directly behind each packet that is stored while the hold is empty, so that it can be read at once. This
+    /// Also directly after each packet that is stored while the hold is empty, so that it can be read at once. This
     /// mode is this project's own, and not BIOCIMMEDIATE of bpf(4).
     Immediate,
 }

@@ -60,10 +60,10 @@ pub struct CutEnd<R, W> {
 
 /// Writes the packets of a capture that a program accepts, each cut, as a capture of its own.
 ///
-/// A packet is kept with the least of the snapshot length, the program's answer and the captured length as its number
-/// of bytes; its time and its length on the wire stay. The new header has the snapshot length, and 0 stands for
-/// 262,144. The capture is a savefile of pcap-savefile(5), in any byte order and unit; it is written in those given.
-/// Each packet is written before the next one is read.
+/// Of a packet it keeps as many bytes as the least of the snapshot length, the program's answer and the captured length;
+/// its time and its original length stay. The new header has the snapshot length, and 0 means 262,144. The capture is a
+/// savefile of pcap-savefile(5), in any byte order and unit; it is written in those given. Each packet is written before
+/// the next one is read.
 ///
 /// The end is [`End::Clean`] if the whole capture was read and written. It is [`End::Input`]
 ///
@@ -87,7 +87,7 @@ pub fn cut<R: Source, W: Sink>(
     // What stood in the source, what it gave of it, what the sink took, and how that ended.
     ensures cuts { Cuts R.left W.taken from to program.now snap order unit result }
 
-    // A device's fault is told exactly where the device failed.
+    // A device's fault is returned if and only if the device failed.
     ensures source_broke { (result.end ≡ End.Input Fault.Device) ↔ (R.failures result.source ≢ R.failures from) }
     ensures sink_broke { (result.end ≡ End.Output Fault.Device) ↔ (W.failures result.sink ≢ W.failures to) }
 {
@@ -194,11 +194,11 @@ fn copy_accepted<R: Source, W: Sink>(
     }
 }
 
-/// Writes a packet, cut, where a program accepts it, as [`cut`] does, and counts it: one step of a cut, for who reads the packets
-/// himself. Nothing is kept beyond `snap` bytes, which is taken as it stands.
+/// Writes a packet, cut, if a program accepts it, as [`cut`] does, and counts it: one step of a cut, for callers that read
+/// packets themselves. At most `snap` bytes are kept; here 0 means 0.
 ///
-/// The error is [`Fault::Device`] exactly where the sink failed; [`Fault::CountFull`] where the text has 2^64 bytes or more. The
-/// sink then took a beginning of the text with this packet.
+/// The error is [`Fault::Device`] if and only if the sink failed, or [`Fault::CountFull`] if the text has 2^64 bytes or
+/// more. The sink then took a prefix of the text with this packet.
 #[inline]
 pub fn put_accepted<W: Sink>(
     writer: &mut Writer<W>,

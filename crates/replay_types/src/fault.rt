@@ -7,7 +7,7 @@ use listener::OpenFault;
 use std::alloc::{AllocError, AllocFailed};
 use thiserror::Error;
 
-/// Why a replay gives no reports: the first that stands, in this order. Interfaces and their tasks are counted from 0.
+/// Why a replay gives no reports: the first that applies, in this order. Interfaces and their tasks are counted from 0.
 #[derive(Clone, Copy, Debug, PartialEq, Eq, Error)]
 pub enum RunFault {
     /// There are over 16 interfaces, or one has over 64 tasks or over 65,536 captures.

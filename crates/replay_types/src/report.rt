@@ -1,4 +1,4 @@
-//! What is told of a replay.
+//! What a replay reports.
 
 use handover::Past;
 use savefile::Fault;
@@ -8,7 +8,7 @@ use savefile::Fault;
 pub enum TaskEnd {
     /// All that the listener kept was written, and no write of the sink failed. Of its flushes nothing is said.
     Clean,
-    /// The sink failed, or the savefile would have 2^64 bytes or more, behind so many bytes.
+    /// The sink failed, or the savefile would have 2^64 bytes or more, after this many bytes.
     Write(u64),
     /// A ring between the threads did not hand over its end, or handed back a buffer of another capacity.
     Unfinished,
@@ -38,8 +38,8 @@ pub struct ListenerReport<W> {
 pub enum InterfaceEnd {
     /// All captures were read to their end.
     Clean,
-    /// This capture has this fault, behind all packets of the captures before it and those of its own before the fault; with
-    /// [`Fault::Device`] a beginning of its own, and with [`Fault::NoMemory`] none.
+    /// This capture has this fault, after all packets of the captures before it and its own before the fault; with
+    /// [`Fault::Device`] after a prefix of its own, and with [`Fault::NoMemory`] none.
     Capture(u32, Fault),
     /// 2^64 - 2 packets arrived, the most that are counted.
     CountFull,

@@ -9,7 +9,7 @@ use savefile::{Order, Unit};
 pub struct Task<W> {
     /// The filter: a packet is accepted where its answer is not 0.
     pub program: Program,
-    /// At most so many bytes are kept of a packet, 1 to 262,144; the written header has this number too.
+    /// At most this many bytes of a packet are kept, 1 to 262,144; the written header has this number too.
     pub snap: u32,
     /// How many bytes of records each of the listener's buffers has room for.
     pub capacity: usize,
@@ -27,7 +27,7 @@ pub struct Task<W> {
     pub sink: W,
 }
 
-/// The captures that arrive at one interface, one behind the other, and its listeners.
+/// The captures that arrive at one interface, one after the other, and its listeners.
 #[derive(Drop)]
 pub struct Interface<R, W> {
     /// What the savefiles are read from.

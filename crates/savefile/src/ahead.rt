@@ -48,7 +48,7 @@ fn zeros(alloc: Global) -> Result<Vec<u8>, AllocError>
     vec![in alloc; 0; MEMORY]
 }
 
-/// Reads once behind the front of a slice.
+/// Reads once into a slice, past its first `waiting` bytes.
 fn read_behind<R: Source>(
     source: &mut R,
     memory: &mut [u8],
@@ -154,7 +154,7 @@ impl<R: Source> Ahead<R> {
         }
     }
 
-    /// Reads once behind what waits, which goes to the front first, and answers how many bytes there were.
+    /// Moves the waiting bytes to the front, reads once after them, and returns how many bytes came.
     fn read_more(&mut self) -> Result<usize, Broken>
         ensures grows { Grows R.left self.old self.new }
         ensures count { IfOk result (λ n. self.new.end - self.new.start ≡ self.old.end - self.old.start + n) }
@@ -186,7 +186,7 @@ impl<R: Source> Ahead<R> {
         Ok(())
     }
 
-    /// Reads until so many bytes wait, or the input ends. The source is asked only where they do not.
+    /// Reads until this many bytes wait, or the input ends. It asks the source only if fewer wait.
     #[inline]
     pub(crate) fn fill(&mut self, want: usize) -> Result<(), Broken>
         requires { want ≤ MAX_AHEAD }

@@ -12,7 +12,7 @@ pub struct Broken;
 
 /// What bytes are read from.
 pub trait Source {
-    /// The bytes left, where the type tells them.
+    /// The bytes left, if the type knows them.
     ghost left: { Self → Option (List ℕ) } = { λ _. None };
 
     /// How often it failed so far, modulo 2^64.
@@ -29,7 +29,7 @@ pub trait Source {
 
 /// What bytes are written to.
 pub trait Sink {
-    /// The bytes taken so far, where the type tells them.
+    /// The bytes taken so far, if the type knows them.
     ghost taken: { Self → Option (List ℕ) } = { λ _. None };
 
     /// How often it failed so far, modulo 2^64.
@@ -43,8 +43,8 @@ pub trait Sink {
         ensures bytes { WriteAppends (taken self.old) (taken self.new) result from.now }
         ensures failures { CountsFailure (failures self.old) (failures self.new) result };
 
-    /// Hands on what the sink has gathered of what it took, where it gathers; where not, it does nothing. What can't be handed on
-    /// stays gathered, and no failure is told: whoever empties the sink in the end finds it.
+    /// Hands on what a sink that gathers has gathered; another sink does nothing. What can't be handed on stays
+    /// gathered, and no failure is reported here: whoever empties the sink at the end finds it.
     #[tactic(auto, using(crate::proofs::Gathering::keeps_itself))]
     fn flush(&mut self)
         ensures bytes { Keeps (taken self.old) (taken self.new) }
@@ -68,8 +68,8 @@ impl Source for &[u8] {
 
 /// Makes a [`Source`] of any [`Read`] and a [`Sink`] of any [`Write`], and counts the failures.
 ///
-/// Its bytes are told where those of `T` are: over memory, and not over a file. An error, and a
-/// write of no byte of a slice that is not empty, are [`Broken`]. No call is tried again. An error of a flush is not told.
+/// Contracts know its bytes if they know those of `T`: over memory, and not over a file. An error, and a
+/// write of no byte of a slice that is not empty, are [`Broken`]. No call is tried again. An error of a flush is not reported.
 #[derive(Debug, Drop)]
 pub struct Counted<T> {
     pub inner: T,

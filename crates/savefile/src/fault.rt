@@ -39,8 +39,8 @@ pub enum Fault {
     /// The device failed in this very call.
     #[error("Device")]
     Device,
-    /// An earlier call ended the reading or writing, by a device that failed, and in a reader also by a torn or bad
-    /// record or for want of memory; nothing was done.
+    /// An earlier call ended the reading or writing: a device failed, or, in a reader, a record was torn or bad or
+    /// memory ran out. Nothing was done.
     #[error("Failed")]
     Failed,
     /// A count is full: a reader has given 2^64 - 1 packets, or what a writer sent would pass 2^64 - 1 bytes; nothing

@@ -82,7 +82,7 @@ impl Unit {
     }
 }
 
-/// The number of two bytes that stands in a text at an offset.
+/// The number of two bytes at an offset of a text.
 fn u16_at(order: Order, text: &[u8], at: usize) -> u16
     requires { at + 2 ≤ length text.now }
     ensures { result ≡ field order text.now at 2 }
@@ -93,7 +93,7 @@ fn u16_at(order: Order, text: &[u8], at: usize) -> u16
     }
 }
 
-/// The number of four bytes that stands in a text at an offset.
+/// The number of four bytes at an offset of a text.
 fn u32_at(order: Order, text: &[u8], at: usize) -> u32
     requires { at + 4 ≤ length text.now }
     ensures { result ≡ field order text.now at 4 }

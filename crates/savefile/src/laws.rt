@@ -1,4 +1,4 @@
-//! What follows from the definitions alone. Each function does nothing: its contract is the law.
+//! What follows from the definitions. Each function does nothing: its contract is the law.
 
 ghost use Rattle.savefile.specs.Laws.{ReadsInOneWay, HoldsOneList, RefusesForOneFault, RefusedHoldsNothing, IsRefusedOrHolds, EndsCleanly, ReadsAgain, BeginsMore, AddsARecord, RecordsTakeRoom, WrittenTakesRoom, GivesABeginning};
 
@@ -15,7 +15,7 @@ pub fn one_content()
     ensures { HoldsOneList }
 {}
 
-/// A header is refused for one fault alone, and a text with such a header holds nothing.
+/// A header is refused for at most one fault, and a text with such a header holds nothing.
 pub fn one_refusal()
     ensures fault { RefusesForOneFault }
     ensures nothing { RefusedHoldsNothing }

@@ -6,15 +6,14 @@
 //!
 //! Some of what is read is this project's own profile and not in pcap-savefile(5). Only version 2.4 and
 //! link type 1, Ethernet, are read, and a link type with further bits set is refused. A fraction that
-//! makes a second or more ends the packets, as does a captured length above 262,144 bytes, whatever the snapshot
-//! length. The reserved fields and the snapshot length are never a reason to refuse, and a record may
-//! have more bytes than the snapshot length or than the packet had on the wire. What is written has
-//! zeros in the reserved fields.
+//! makes a second or more ends the packets. So does a captured length above 262,144 bytes, whatever the snapshot
+//! length. The reserved fields and the snapshot length are never a reason to refuse. A record may have more bytes
+//! than the snapshot length or than the packet's original length. What is written has zeros in the reserved fields.
 //!
 //! [`Reader`] reads a savefile packet by packet from a [`Source`], in memory that does not grow, and lends each packet
 //! without a copy. [`read_all`] reads a whole one from memory. [`Writer`] writes one packet by packet into a [`Sink`].
 //! [`header_of`] and [`record_of`] read one piece from memory, and [`file_header`] and [`record_header`] make one.
-//! [`laws`] has what follows from the definitions alone.
+//! [`laws`] has what follows from the definitions.
 #![tactic(auto)]
 
 mod ahead;

@@ -23,7 +23,7 @@ enum State {
     Reading,
     /// It met the clean end.
     Ended,
-    /// It told a fault, behind which it cannot read.
+    /// It reported a fault, after which it cannot read.
     Broken,
 }
 
@@ -33,8 +33,8 @@ enum State {
 /// out of the reader's own memory, without a copy. [`Reader::next`] gives a copy of its own.
 ///
 /// It reads what [`read_all`](crate::read_all) reads, in whatever pieces the source gives its bytes. It asks the source
-/// only where the next record is not whole in what it has taken already, for as many bytes as it has room for; how many
-/// these are no clause says. So a fault, of the source too, stands behind all packets that came whole.
+/// only if the next record is not whole in what it has taken already, and then for as many bytes as it has room for; no
+/// clause says how many. So a fault, the source's too, comes after all packets that came whole.
 ///
 /// Contracts see its source, the header of its savefile, how many packets it has given, the one that it lends, the bytes
 /// that it took from the source ahead of the packets to come, whether it has ended, and whether it has failed.
@@ -150,13 +150,13 @@ impl<R: Source> Reader<R> {
         self.header
     }
 
-    /// Goes on to the next packet, which [`Reader::packet`] then lends. `false` is the clean end, and repeats.
+    /// Goes on to the next packet, which [`Reader::packet`] then lends. `false` is the complete end, and repeats.
     ///
     /// A torn or bad record ends the packets: [`Fault::TornRecord`], [`Fault::BadFraction`] or [`Fault::TooLong`], with
-    /// its place, comes behind all packets before it. [`Fault::Device`] comes exactly where the source failed in this
-    /// call, and behind all packets that came whole in what was taken from the source. After each of these every call
-    /// answers [`Fault::Failed`], which comes nowhere else, and reads nothing. [`Fault::CountFull`] comes exactly after
-    /// 2^64 - 1 packets, reads nothing, and repeats. No memory is taken.
+    /// its place, comes after all packets before it. [`Fault::Device`] comes if and only if the source failed in this
+    /// call, and after all packets that came whole in what was taken from the source. After each of these every call
+    /// returns [`Fault::Failed`], which comes nowhere else, and reads nothing. [`Fault::CountFull`] comes if and only if
+    /// 2^64 - 1 packets were given; it reads nothing, and repeats. No memory is taken.
     #[inline(always)]
     pub fn advance(&mut self) -> Result<bool, Fault>
         // One packet more, the end, or why there is none. What was given so far begins what the text holds, whatever

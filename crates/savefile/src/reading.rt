@@ -13,9 +13,9 @@ use std::alloc::Global;
 /// Reads a whole savefile: its header, its packets in order, and the fault that ended them, if any.
 ///
 /// The outer error is [`Fault::ShortHeader`], [`Fault::NotSavefile`], [`Fault::Version`] or
-/// [`Fault::LinkType`], exactly where that is the first check of the header to fail, or
+/// [`Fault::LinkType`], if and only if that is the first check of the header to fail, or
 /// [`Fault::NoMemory`]. A torn or bad record ends the packets; its fault, [`Fault::TornRecord`],
-/// [`Fault::BadFraction`] or [`Fault::TooLong`], stands beside those before it.
+/// [`Fault::BadFraction`] or [`Fault::TooLong`], is returned with the packets before it.
 pub fn read_all(alloc: Global, text: &[u8]) -> Result<(Header, Vec<Packet>, Option<Fault>), Fault>
     // What is read is what the savefile holds, and all that it holds.
     ensures holds { IfOk result (λ r. Holds text.now r.0.order r.0.unit r.0.snap r.1.items r.2) }

@@ -38,7 +38,7 @@ impl RecordHeader {
         len: 0,
     };
 
-    /// Reads the header of the record that a text begins with, or tells its first fault. The place is that of the
+    /// Reads the header of the record that a text begins with, or returns its first fault. The place is that of the
     /// record.
     #[inline]
     pub(crate) fn read(

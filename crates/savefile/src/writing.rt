@@ -17,7 +17,7 @@ use crate::record::RECORD_HEADER_LEN;
 use byteorder::{BigEndian, ByteOrder, LittleEndian};
 use std::marker::Model;
 
-/// Writes a number of two bytes behind the front of a text.
+/// Writes a number as two bytes at an offset of a text.
 fn fill_u16<B: ByteOrder>(text: &mut [u8], at: usize, n: u16)
     requires { at + 2 ≤ length text.old }
     ensures { Fills at text.old (B.bytes_of 2 n) text.new }
@@ -25,7 +25,7 @@ fn fill_u16<B: ByteOrder>(text: &mut [u8], at: usize, n: u16)
     B::write_u16(&mut text[at..], n);
 }
 
-/// Writes a number of four bytes behind the front of a text.
+/// Writes a number as four bytes at an offset of a text.
 fn fill_u32<B: ByteOrder>(text: &mut [u8], at: usize, n: u32)
     requires { at + 4 ≤ length text.old }
     ensures { Fills at text.old (B.bytes_of 4 n) text.new }
@@ -242,7 +242,7 @@ impl<W: Sink> Writer<W> {
             ((self.old.failed ≡ false) × (2 ^ 64 ≤ self.old.sent + 16 + length bytes.now)) }
         ensures only { IfErr result (λ fault. (fault ≡ Fault.Device) ⊎ (fault ≡ Fault.Failed) ⊎ (fault ≡ Fault.CountFull)) }
 
-        // After Device the writer has failed, and after Ok it has not.
+        // Device means that the writer failed; Ok means that it did not.
         ensures fails { result ≡ Err Fault.Device → self.new.failed ≡ true }
         ensures works { OnOk result (self.new.failed ≡ false) }
 

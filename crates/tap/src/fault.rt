@@ -10,7 +10,7 @@ use std::alloc::{AllocError, AllocFailed};
 use tap_steps::PlaylistFault;
 use thiserror::Error;
 
-/// Why a replay gives no report: the first that stands, in this order, and of `Expression`, `Compile` and `Open` the first
+/// Why a replay gives no report: the first that applies, in this order, and of `Expression`, `Compile` and `Open` the first
 /// listener's. Captures, listeners and steps are counted from 0.
 #[derive(Clone, Copy, Debug, PartialEq, Eq, Error)]
 pub enum Fault {

@@ -55,21 +55,21 @@ fn play_all(
     })
 }
 
-/// Replays captures to listeners, step by step, and reports what each listener came to.
+/// Replays captures to listeners, step by step, and reports what each listener got.
 ///
 /// For every list of captures, accepted expression, snapshot length and list of steps, what a listener has read followed
 /// by what its buffers hold is exactly the packets that its expression accepts before its close, cut, with capture and
 /// place, in order of arrival, each once, without those that found no room; its received, matched and dropped counts are
 /// exact.
 ///
-/// The reports stand in the order of `specs`. For a filter that is a program, a packet is accepted where the program
-/// does not answer 0, and the answer cuts it too. The packets are those of the captures in order; the first capture that
-/// ends with a record fault gives its packets before that fault and no capture behind it gives any. Its number and the
-/// fault are the second part of what is answered.
+/// The reports are in the order of `specs`. If a filter is a program, it accepts a packet if it does not answer 0, and the
+/// answer cuts the packet too. The packets are those of the captures in order. The first capture that ends with a record
+/// fault gives its packets before that fault, and no later capture gives any. Its number and the fault are the second part
+/// of the result.
 ///
-/// The faults are looked for in this order, and the first that stands is answered: [`Fault::TooMany`] where there are
+/// The faults are looked for in this order, and the first that applies is returned: [`Fault::TooMany`] if there are
 /// over [`MAX_LISTENERS`] listeners or over [`MAX_CAPTURES`] captures; [`Fault::NoListener`] with the first step that
-/// names a listener that there is not; [`Fault::Capture`] with the first capture whose header is refused; then listener
+/// names a listener that does not exist; [`Fault::Capture`] with the first capture whose header is refused; then listener
 /// by listener [`Fault::Expression`], [`Fault::Compile`] and [`Fault::Open`]. [`Fault::NoMemory`] can come at any point.
 /// A fault gives no report.
 pub fn replay(
@@ -80,7 +80,7 @@ pub fn replay(
 ) -> Result<(Vec<Report>, Option<(u32, savefile::Fault)>), Fault>
     // The headline.
     ensures tells { IfOk result (λ r. (playlist : List PlacedPacket) × Replays (map (λ c. c.now) captures.now) specs.now steps.now playlist r.1 r.0.items) }
-    // No fault stands where there are reports, and each fault is the first that stands.
+    // Reports mean that no fault applies, and each fault is the first that applies.
     ensures stands { OnOk result (NoneStands (map (λ c. c.now) captures.now) specs.now steps.now) }
     ensures first { IfErr result (IsFirst (map (λ c. c.now) captures.now) specs.now steps.now) }
 {
@@ -96,24 +96,24 @@ pub fn replay(
     Ok((reports, playlist.record_fault))
 }
 
-/// Replays captures as [`replay`] does, with the same faults, and also returns the packets that arrived, what each listener
-/// answered to each of its steps, with how it stood before it, and each listener's expression.
+/// Replays captures as [`replay`] does, with the same faults. It also returns the packets that arrived, each listener's
+/// expression, its answer to each of its steps, and its state before each.
 ///
-/// Each step has one right answer, that of the plain list, and this is the one told. The answers take memory for each step, so
-/// that [`Fault::NoMemory`] can come where [`replay`] gives reports, or tells another fault.
+/// Each step has one right answer, that of the plain list, and this is the one returned. The answers take memory for each
+/// step, so [`Fault::NoMemory`] can come where [`replay`] gives reports or another fault.
 pub fn trace(
     alloc: Global,
     captures: &[&[u8]],
     specs: &[Spec],
     steps: &[Step],
 ) -> Result<Trace, Fault>
-    // The headline, over the playlist that is told.
+    // The headline, over the playlist that is returned.
     ensures tells { IfOk result (λ r. Replays (map (λ c. c.now) captures.now) specs.now steps.now r.playlist.items r.record_fault r.reports.items) }
     // The answers, over the same playlist.
     ensures answers { IfOk result (λ r. Traces (map (λ c. c.now) captures.now) specs.now steps.now r.playlist.items r.record_fault (map (λ a. a.items) r.answers.items)) }
     // The expressions, each of which its listener's filter reads as.
     ensures expressions { IfOk result (λ r. AreExpressionsOf specs.now r.expressions.items) }
-    // No fault stands where there are reports, and each fault is the first that stands.
+    // Reports mean that no fault applies, and each fault is the first that applies.
     ensures stands { OnOk result (NoneStands (map (λ c. c.now) captures.now) specs.now steps.now) }
     ensures first { IfErr result (IsFirst (map (λ c. c.now) captures.now) specs.now steps.now) }
 {

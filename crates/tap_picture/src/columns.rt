@@ -22,7 +22,7 @@ pub struct Column<'a> {
     pub more: u64,
 }
 
-/// How a listener stands between the steps of a replay.
+/// The state of a listener between the steps of a replay.
 #[derive(Drop)]
 pub struct Columns<'a> {
     listener: u32,
@@ -74,7 +74,7 @@ impl<'a> Columns<'a> {
         column
     }
 
-    /// How the buffers stand behind a step.
+    /// The buffers after a step.
     fn go_on(&mut self, column: &Column<'a>) {
         let (load, more) = (column.load, column.more);
         match column.answer {

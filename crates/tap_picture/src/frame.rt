@@ -1,4 +1,4 @@
-//! Where things stand in the picture. All lengths are in pixels.
+//! Where things are in the picture. All lengths are in pixels.
 
 /// The room left of the lanes, which has their names.
 pub const MARGIN: u64 = 150;
@@ -6,7 +6,7 @@ pub const MARGIN: u64 = 150;
 pub const BARS: u64 = 150;
 /// The height of a lane, with its head and the names of its steps.
 pub const LANE: u64 = 210;
-/// The height of what stands above the lanes.
+/// The height of the part above the lanes.
 pub const HEAD: u64 = 60;
 
 /// The least width of the picture, which the legend takes.

@@ -34,12 +34,12 @@ impl Scale {
         }
     }
 
-    /// Where the bars of the hold stand.
+    /// The floor of the hold's bars.
     fn hold_floor(&self) -> u64 {
         self.mark.saturating_mul(2).saturating_add(self.drawn)
     }
 
-    /// Where the bars of the store stand.
+    /// The floor of the store's bars.
     fn store_floor(&self) -> u64 {
         let room = self.drawn / 2;
         self.hold_floor()
@@ -65,7 +65,7 @@ fn class_of(answer: Answer) -> &'static str {
     }
 }
 
-/// A bar that stands on a floor.
+/// A bar on a floor.
 fn write_bar<O: Write>(
     class: &str,
     column: &Column<'_>,
@@ -146,7 +146,7 @@ fn write_room<O: Write>(width: u64, floor: u64, scale: &Scale, out: &mut O) -> i
     )
 }
 
-/// The bars of all steps, in a frame of so many pixels.
+/// The bars of all steps, in a frame of this many pixels.
 pub fn write_bars<O: Write>(
     mut columns: Columns<'_>,
     steps: &[Step],

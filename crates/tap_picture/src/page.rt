@@ -37,10 +37,10 @@ static LEGEND: [(&str, &str); 8] = [
 /// How many characters of a filter are shown at least.
 const LEAST_SHOWN: u64 = 8;
 
-/// What stands at the end of a filter that is cut.
+/// What ends a filter that is cut.
 const CUT: &str = "..";
 
-/// What stands for a character in XML, where it does not stand for itself.
+/// The escape of a character in XML, if it needs one.
 fn escape_of(character: char) -> Option<&'static str> {
     match character {
         '<' => Some("&lt;"),
@@ -120,7 +120,7 @@ impl Write for Length {
     }
 }
 
-/// What stands for the filter of a listener.
+/// The text shown for the filter of a listener.
 fn filter_text(filter: &Filter) -> &str {
     match filter {
         Filter::Text(text) if text.is_empty() => "all packets",
@@ -216,12 +216,12 @@ fn write_lane<O: Write>(
 }
 
 /// Writes a picture of a replay as SVG: for each listener a lane over the steps, with what each step found in the store and in
-/// the hold, and a mark of what became of it. `trace` is what [`tap::trace`] answers for these listeners and steps.
+/// the hold, and a mark of what became of it. `trace` is what [`tap::trace`] returns for these listeners and steps.
 ///
-/// In a lane the height of a bar is a number of bytes (`viewBox`), so bars of listeners of different capacities are scaled
-/// apart; if little of a buffer is ever filled, only its lower part is drawn. Each step has a `title` with its line of SCRIPT, its
-/// packet, and both loads. With at most 60 steps the place of each packet stands below it. The picture has a `title` and a `desc`
-/// that say what it shows. An error is that of `out`.
+/// In a lane the height of a bar is a number of bytes (`viewBox`), so listeners of different capacities have scales of their
+/// own; if little of a buffer is ever filled, only its lower part is drawn. Each step has a `title` with its line of SCRIPT, its
+/// packet, and both loads. With at most 60 steps the place of each packet is printed below it. The picture has a `title` and a
+/// `desc` that say what it shows. An error is that of `out`.
 pub fn write_picture<O: Write>(
     specs: &[Spec],
     steps: &[Step],

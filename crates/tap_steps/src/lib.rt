@@ -1,8 +1,8 @@
 //! Steps, played over opened listeners and the packets of captures.
 //!
 //! [`read_playlist`] reads the packets of captures in order, [`play`] plays steps over them, and [`report_all`] and
-//! [`trace_all`] tell what each listener came to. How listeners are opened is `tap`'s: nothing here knows what an
-//! expression means, so that this is proved beside the compiler and not behind it.
+//! [`trace_all`] report what each listener got. `tap` opens the listeners: nothing here knows what an expression means,
+//! so this crate is proved beside the compiler and need not wait for it.
 #![tactic(auto)]
 
 mod answer;

@@ -67,7 +67,7 @@ fn close_one(watched: &mut Vec<Watched>, l: usize) -> Result<(), AllocError>
     one.close()
 }
 
-/// One step. What is left of the playlist behind it.
+/// Plays one step, and returns the rest of the playlist.
 fn play_step<'a>(
     alloc: Global,
     watched: &mut Vec<Watched>,

@@ -27,7 +27,7 @@ pub struct Playlist {
 }
 
 impl Playlist {
-    /// Reads the next capture. Behind one with a record fault only the header is looked at: it gives no packets.
+    /// Reads the next capture. After one with a record fault only the header is read: it gives no packets.
     fn read_next(&mut self, alloc: Global, n: u32, text: &[u8]) -> Result<(), PlaylistFault>
         ensures packets { OnOk result (AllPackets self.old.arrivals.items → AllPackets self.new.arrivals.items) }
         ensures more { OnOk result ((texts : List (List ℕ)) → length texts ≡ n → IsPlaylist 0 texts self.old.arrivals.items self.old.record_fault →
@@ -54,7 +54,7 @@ fn record_fault_at(n: u32, fault: Option<savefile::Fault>) -> Option<(u32, savef
     }
 }
 
-/// Packets with their places, behind what is there.
+/// Appends packets with their places.
 fn place(to: &mut Vec<PlacedPacket>, capture: u32, packets: Vec<Packet>) -> Result<(), AllocError>
     ensures items { OnOk result (to.new.items ≡ to.old.items ++ placed capture 0 packets.items) }
     ensures packets { OnOk result (AllPackets to.old.items → AllPackets to.new.items) }
@@ -111,7 +111,7 @@ pub const MAX_CAPTURES: usize = 65_536;
 // Clauses and definitions name the constant: it is this number.
 const _: () = prove!(MAX_CAPTURES == 65_536);
 
-/// Reads all captures. Those behind one with a record fault give no packets, but their headers count.
+/// Reads all captures. Those after one with a record fault give no packets, but their headers count.
 pub fn read_playlist(alloc: Global, captures: &[&[u8]]) -> Result<Playlist, PlaylistFault>
     requires { length captures.now ≤ 65536 }
     ensures ok { IfOk result (λ p. IsPlaylist 0 (map (λ c. c.now) captures.now) p.arrivals.items p.record_fault) }

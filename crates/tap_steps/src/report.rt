@@ -1,11 +1,11 @@
-//! What a replay tells.
+//! What a replay reports.
 
 use crate::answer::Answered;
 use crate::playlist::PlacedPacket;
 use filter_tree::Expr;
 use listener::Message;
 
-/// What a replay tells of one listener.
+/// What a replay reports of one listener.
 #[derive(Debug, Drop)]
 pub struct Report {
     /// The batches that were read, in order.
@@ -20,7 +20,7 @@ pub struct Report {
     pub dropped: u64,
 }
 
-/// What a replay tells where its steps are followed too.
+/// What a replay returns if its steps are followed too.
 #[derive(Debug, Drop)]
 pub struct Trace {
     /// A report for each listener.

@@ -42,7 +42,7 @@ impl Model for Watched {
     ghost invariant = { λ w. ForSome w.spare (λ b. b ≡ filled w.listener.terms.capacity []) × (w.closed ≡ w.listener.list.closed) };
 }
 
-/// How a listener stands before a step.
+/// The state of a listener before a step.
 #[derive(Clone, Copy)]
 struct Before {
     closed: bool,
@@ -228,7 +228,7 @@ fn held_by(alloc: Global, listener: &Listener) -> Result<Vec<Message>, AllocErro
     Ok(held)
 }
 
-/// Copies the messages of a buffer behind those that are there.
+/// Appends copies of the messages of a buffer.
 fn copy(alloc: Global, buffer: &Buffer, to: &mut Vec<Message>) -> Result<(), AllocError>
     ensures { OnOk result (to.new.items ≡ to.old.items ++ buffer.now.messages) }
 {
