@@ -2,7 +2,7 @@
 
 _bpftap_commands='check explain cut split steps run help'
 
-# Whether the value of an option is wanted behind it, and then what it may be: words, the name of a file, or anything.
+# Whether a value has to follow an option, and what it may be then: words, the name of a file, or anything.
 _bpftap_value() {
   case $1,$2 in
     cut,-o | split,-o) mapfile -t COMPREPLY < <(compgen -W 'little big' -- "$3") ;;
@@ -13,7 +13,7 @@ _bpftap_value() {
   esac
 }
 
-# The options of a command, or of the program where there is none so far.
+# The options of a command, or of the program if there is none so far.
 _bpftap_options() {
   case $1 in
     '') echo '--hints -h --help -V --version' ;;

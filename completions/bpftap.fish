@@ -1,11 +1,11 @@
 # Completions of bpftap for fish.
 
 complete -c bpftap -f
-complete -c bpftap -n __fish_use_subcommand -l hints -d 'Tell below a fault what helps to mend it'
+complete -c bpftap -n __fish_use_subcommand -l hints -d 'Explain errors, as on a terminal'
 complete -c bpftap -n __fish_use_subcommand -s h -l help -d 'Print help'
 complete -c bpftap -n __fish_use_subcommand -s V -l version -d 'Print the version'
 complete -c bpftap -n __fish_use_subcommand -a check -d 'Print the program of an expression'
-complete -c bpftap -n __fish_use_subcommand -a explain -d 'Tell why packets are accepted or rejected'
+complete -c bpftap -n __fish_use_subcommand -a explain -d 'Say why packets are accepted or rejected'
 complete -c bpftap -n __fish_use_subcommand -a cut -d 'Write what the filter accepts, cut'
 complete -c bpftap -n __fish_use_subcommand -a split -d 'Write several captures in one pass'
 complete -c bpftap -n __fish_use_subcommand -a steps -d 'Play a script to listeners'
@@ -24,16 +24,16 @@ complete -c bpftap -n '__fish_seen_subcommand_from explain; and not __fish_seen_
 complete -c bpftap -n '__fish_seen_subcommand_from explain; and not __fish_seen_subcommand_from help' -s s -x -d 'Snapshot length that the program answers'
 complete -c bpftap -n '__fish_seen_subcommand_from explain; and not __fish_seen_subcommand_from help' -s e -x -d 'Filter expression'
 complete -c bpftap -n '__fish_seen_subcommand_from explain; and not __fish_seen_subcommand_from help' -s f -r -F -d 'Filter program'
-complete -c bpftap -n '__fish_seen_subcommand_from explain; and not __fish_seen_subcommand_from help' -s p -x -d 'Tell this packet alone, in full'
+complete -c bpftap -n '__fish_seen_subcommand_from explain; and not __fish_seen_subcommand_from help' -s p -x -d 'Explain only this packet, in full'
 complete -c bpftap -n '__fish_seen_subcommand_from explain; and not __fish_seen_subcommand_from help' -s h -l help -d 'Print help'
 
 complete -c bpftap -n '__fish_seen_subcommand_from cut; and not __fish_seen_subcommand_from help' -F
-complete -c bpftap -n '__fish_seen_subcommand_from cut; and not __fish_seen_subcommand_from help' -s s -x -d 'Keep at most so many bytes of a packet; 0 means 262144'
+complete -c bpftap -n '__fish_seen_subcommand_from cut; and not __fish_seen_subcommand_from help' -s s -x -d 'Keep at most this many bytes of a packet; 0 means 262144'
 complete -c bpftap -n '__fish_seen_subcommand_from cut; and not __fish_seen_subcommand_from help' -s e -x -d 'Filter expression'
 complete -c bpftap -n '__fish_seen_subcommand_from cut; and not __fish_seen_subcommand_from help' -s f -r -F -d 'Filter program'
 complete -c bpftap -n '__fish_seen_subcommand_from cut; and not __fish_seen_subcommand_from help' -s o -x -a 'little big' -d 'Byte order of OUT'
 complete -c bpftap -n '__fish_seen_subcommand_from cut; and not __fish_seen_subcommand_from help' -s u -x -a 'micro nano' -d 'Unit of the time stamps of OUT'
-complete -c bpftap -n '__fish_seen_subcommand_from cut; and not __fish_seen_subcommand_from help' -s c -d 'Tell how many packets were written'
+complete -c bpftap -n '__fish_seen_subcommand_from cut; and not __fish_seen_subcommand_from help' -s c -d 'Print how many packets were written'
 complete -c bpftap -n '__fish_seen_subcommand_from cut; and not __fish_seen_subcommand_from help' -s h -l help -d 'Print help'
 
 complete -c bpftap -n '__fish_seen_subcommand_from split; and not __fish_seen_subcommand_from help' -F

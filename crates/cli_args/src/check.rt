@@ -27,20 +27,20 @@ const CHECK_EXAMPLES: &str = "Examples:
   bpftap check -d 'tcp dst port 80 or 443'    the same program, for a person to read
   bpftap check -x 'tcp dst port 80 or 443'    what was read: tcp dst port 80 or tcp dst port 443
   tcpdump -y EN10MB -ddd 'udp port 53' | bpftap check -d -f /dev/stdin
-  bpftap check -f examples/ssh.asm    the numbers of a program that is written by hand
+  bpftap check -f examples/ssh.asm    the numbers of a program written by hand
   bpftap check 'tcp and 80'       prints bpftap: NoQualifier 8
   bpftap check ''                 the empty expression accepts every packet
 
-What is printed is a line with the number of instructions, and a line code jt jf k for each:
-tcpdump -ddd prints the same form, and cut -f reads it. With -d it is a line for each
-instruction by its name, as tcpdump -d prints it, and with -dd an array of C. The file of -f has
-any of the three but the array, or assembly (docs/ASSEMBLY.md). With -x it is the expression as it was read, on
-one line, also where its program is too long. -s is for an expression alone. An expression that
-begins with - is written in parentheses, and so -x prints it. The number behind a fault's name is the byte of the
-expression that it stands at, from 0; docs/LANGUAGE.md has the language.
+check prints a line with the number of instructions, then a line code jt jf k for each:
+tcpdump -ddd prints this form, and cut -f reads it. -d prints a line for each instruction with
+its name, as tcpdump -d does, and -dd an array of C. -f reads either form but the array, or
+assembly (docs/ASSEMBLY.md). -x prints the expression as it was read, on one line, even if its
+program is too long. -s applies to an expression, not to a listing. Write an expression that
+begins with - in parentheses; -x prints it so. The number after a fault's name is the byte of the
+expression at fault, from 0; docs/LANGUAGE.md has the language.
 
 Exit status: 0 the program is printed; 1 the expression or listing is refused or the program is
-too long, wrong words, or want of memory; 3 a file or standard output failed.";
+too long, bad usage, or out of memory; 3 a file or standard output failed.";
 
 static ARGUMENTS: [Argument; 5] = [
     Argument::Count(
@@ -64,7 +64,7 @@ pub fn check_usage<'a>(alloc: Global) -> Result<Command<'a>, AllocError> {
     subcommand(
         alloc,
         "check",
-        "Print the program of a filter expression, or tell what is wrong with it",
+        "Print the program of a filter expression, or say what is wrong with it",
         CHECK_EXAMPLES,
         &ARGUMENTS,
     )

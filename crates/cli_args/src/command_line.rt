@@ -59,19 +59,19 @@ const EXAMPLES: &str = "Examples:
   bpftap steps -v examples/steps/listeners.txt examples/steps/script.txt examples/veth.pcap
   bpftap run examples/run/listeners.txt examples/veth.pcap
 
-Exit status: 0 clean; 1 wrong words, a refused expression, file or listing, or want of memory;
-2 a torn or bad record, after the packets before it; 3 a file or device failed.";
+Exit status: 0 clean; 1 bad usage, invalid input, or out of memory; 2 a torn or bad record, after
+the packets before it; 3 a file or device failed.";
 
 const CUT_EXAMPLES: &str = "Examples:
   bpftap cut -s 0 -e 'udp port 5353' examples/veth.pcap dns.pcap
   bpftap cut -s 0 -f examples/ip.bpf examples/veth.pcap ip.pcap
   bpftap cut -s 64 examples/veth.pcap headers.pcap     the first 64 bytes of every packet
 
--e and -f exclude each other. An expression that begins with - is written in parentheses, or
-after -e=, as -e='-1 + len > 60'.
+-e and -f exclude each other. Write an expression that begins with - in parentheses, or after
+-e=, as in -e='-1 + len > 60'.
 
-Exit status: 0 clean; 1 wrong words, a refused expression, file or listing, or want of memory;
-2 a torn or bad record, after the packets before it; 3 a file or device failed.";
+Exit status: 0 clean; 1 bad usage, invalid input, or out of memory; 2 a torn or bad record, after
+the packets before it; 3 a file or device failed.";
 
 /// The subcommands, in the order of the help.
 static SUBCOMMANDS: [&str; 6] = ["check", "explain", "cut", "split", "steps", "run"];
@@ -94,14 +94,14 @@ static CUT: [Argument; 8] = [
         "expr",
         'e',
         "EXPR",
-        "Filter expression of pcap-filter(7), as one word; without -e and -f every packet is taken",
+        "Filter expression of pcap-filter(7), as one word; without -e and -f every packet is kept",
     ),
     Argument::Order,
     Argument::Unit,
     Argument::Flag(
         "counted",
         'c',
-        "Tell on standard error how many of how many packets were written",
+        "Print on standard error how many of the packets were written",
     ),
     Argument::Path(
         "IN",
@@ -109,7 +109,7 @@ static CUT: [Argument; 8] = [
     ),
     Argument::Path(
         "OUT",
-        "Capture to write; made once the filter and the header of IN are accepted",
+        "Capture to write; created once the filter and the header of IN are accepted",
     ),
 ];
 
@@ -117,7 +117,7 @@ pub(crate) fn cut_usage<'a>(alloc: Global) -> Result<Command<'a>, AllocError> {
     subcommand(
         alloc,
         "cut",
-        "Write each packet of IN that the filter accepts, cut, to OUT",
+        "Write each packet of IN that the filter accepts, cut to N bytes, to OUT",
         CUT_EXAMPLES,
         &CUT,
     )
@@ -127,7 +127,7 @@ fn hints_arg<'a>(alloc: Global) -> Arg<'a> {
     Arg::new(alloc, "hints")
         .long(HINTS)
         .action(ArgAction::SetTrue)
-        .help("Say below a fault what helps to mend it, as where it is told on a terminal")
+        .help("Explain errors, as on a terminal")
 }
 
 /// The program without its subcommands.

@@ -26,16 +26,16 @@ const EXPLAIN_EXAMPLES: &str = "Examples:
   bpftap explain -p 2 -e 'tcp dst port 80 or 443' examples/veth.pcap
   tcpdump -y EN10MB -ddd 'udp port 53' | bpftap explain -f /dev/stdin examples/veth.pcap
 
-For each packet a line is printed with its place, time and lengths; Yes, No or Abort; and the
-primitive or relation that decided, behind not where it stands under one. Abort: a byte past the
-captured ones was wanted, or a divisor was 0, and no not turns that. For a listing it is the number
-that the program returned, and the place and name of the instruction where its run ended; -s is for
-an expression alone. At the end stand the counts. With -p that packet is told in full: how the
-expression was read, what each primitive looked at, and the program's run. Places count from 0
-here; tcpdump and Wireshark count packets from 1.
+explain prints a line for each packet: its place, time and lengths; Yes, No or Abort; and the
+primitive or relation that decided, after not if one applies to it. Abort means that a test needed
+a byte past the captured bytes, or a divisor was 0; not does not turn it. For a listing the line
+has the number that the program returned, and the place and name of the instruction where its run
+ended; -s applies to an expression, not to a listing. The counts come last. -p explains one packet
+in full: how the expression was read, what each primitive looked at, and the program's run. Places
+count from 0; tcpdump and Wireshark count packets from 1.
 
-Exit status: 0 clean; 1 wrong words, a refused expression, file or listing, no packet at PLACE, or
-want of memory; 2 a torn or bad record, after the packets before it; 3 a file or device failed.";
+Exit status: 0 clean; 1 bad usage, invalid input, no packet at PLACE, or out of memory; 2 a torn or
+bad record, after the packets before it; 3 a file or device failed.";
 
 /// A filter is wanted: an expression, a listing, or both.
 fn filter_group<'a>(alloc: Global) -> Result<ArgGroup<'a>, AllocError> {
@@ -59,7 +59,7 @@ static ARGUMENTS: [Argument; 5] = [
         "place",
         'p',
         "PLACE",
-        "Tell this packet alone, counted from 0, in full",
+        "Explain only this packet, counted from 0, in full",
     ),
     Argument::Path(
         "IN",
@@ -72,7 +72,7 @@ fn bare_command<'a>(alloc: Global) -> Result<Command<'a>, AllocError> {
     subcommand(
         alloc,
         "explain",
-        "Tell of each packet of IN whether the filter accepts it, and what decided",
+        "Say for each packet of IN whether the filter accepts it, and what decided",
         EXPLAIN_EXAMPLES,
         &ARGUMENTS,
     )

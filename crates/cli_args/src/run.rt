@@ -19,22 +19,22 @@ const NEXT_INTERFACE: &str = "+";
 
 const RUN_EXAMPLES: &str =
     "LISTENERS has a line INTERFACE FLUSH SNAP CAPACITY SPARES OUT EXPRESSION for each listener: the
-number of its interface, from 0; after every so many packets what is stored can be read (0: not
-before the buffer is full); the most bytes that are kept of a packet (0 means 262144); the bytes
-of each of its buffers; how many buffers go round between the listener and its writer, 1 to 64;
-the capture that it writes; and its filter, which may be empty. An i behind CAPACITY makes the
-listener Immediate: a packet that is stored can be read at once.
+number of its interface, from 0; after how many packets its store becomes readable (0: only when
+it is full); the snapshot length (0 means 262144); the size in bytes of each of its buffers; how
+many buffers go round between the listener and its writer, 1 to 64; the capture that it writes;
+and its filter, which may be empty. An i after CAPACITY makes the listener Immediate: a packet
+that is stored can be read at once.
 
-A word + among IN begins the captures of the next interface. What a listener hands over is written
-to its OUT as soon as its writer has nothing more to write, so an OUT can be followed: with FLUSH 1,
++ separates the captures of one interface from the next. What a listener hands over is written to
+its OUT as soon as its writer has nothing more to write, so an OUT can be followed: with FLUSH 1,
 or with an i, packet by packet. Threads that wait for captures take no processor.
 
 Examples:
   bpftap run examples/run/listeners.txt examples/veth.pcap
   bpftap run examples/run/two.txt examples/veth.pcap + examples/veth-big-nano.pcap
 
-Exit status: 0 clean; 1 wrong words, a refused line, expression or file, an Unfinished listener, or want of memory;
-2 a torn or bad record, after the packets before it; 3 a file or device failed.";
+Exit status: 0 clean; 1 bad usage, invalid input, an Unfinished listener, or out of memory; 2 a
+torn or bad record, after the packets before it; 3 a file or device failed.";
 
 static ARGUMENTS: [Argument; 2] = [
     Argument::Path(
@@ -43,7 +43,7 @@ static ARGUMENTS: [Argument; 2] = [
     ),
     Argument::Paths(
         "IN",
-        "Captures to replay, in order, with + between those of two interfaces",
+        "Captures to replay, in order; + separates one interface from the next",
     ),
 ];
 

@@ -21,26 +21,26 @@ pub struct SplitWords<'a> {
 }
 
 const SPLIT_EXAMPLES: &str =
-    "LINES has a line SNAP OUT EXPRESSION for each capture that is written: the most bytes that are kept of
-a packet (0 means 262144), the path, and the filter, which may be empty. Each OUT is what cut would
-write of all IN, one behind the other, up to the first fault; each IN is read once. A packet that
-several lines accept goes into each of their OUTs, and one that none accepts into none.
+    "LINES has a line SNAP OUT EXPRESSION for each capture to write: the snapshot length (0 means
+262144), the path, and the filter, which may be empty. Each OUT is what cut would write for all IN,
+one after the other, up to the first fault; each IN is read once. A packet that several lines
+accept goes into each of their OUTs, and one that none accepts into none.
 
-Printed is a line OUT 67 of 253 for each: how many of how many packets were written.
+split prints a line OUT 67 of 253 for each: 67 of the 253 packets were written.
 
 Examples:
   bpftap split examples/split/lines.txt examples/veth.pcap
   bpftap split examples/split/lines.txt examples/veth.pcap examples/veth-big-nano.pcap
 
-Exit status: 0 clean; 1 wrong words, a refused line, expression or file, or want of memory;
-2 a torn or bad record, after the packets before it; 3 a file or device failed.";
+Exit status: 0 clean; 1 bad usage, invalid input, or out of memory; 2 a torn or bad record, after
+the packets before it; 3 a file or device failed.";
 
 static ARGUMENTS: [Argument; 4] = [
     Argument::Order,
     Argument::Unit,
     Argument::Path(
         "LINES",
-        "File with a line SNAP OUT EXPRESSION for each capture that is written",
+        "File with a line SNAP OUT EXPRESSION for each capture to write",
     ),
     Argument::Paths(
         "IN",
@@ -53,7 +53,7 @@ pub fn split_usage<'a>(alloc: Global) -> Result<Command<'a>, AllocError> {
     subcommand(
         alloc,
         "split",
-        "Write the packets of captures to several OUT, each by a filter of its own, in one pass",
+        "Write the packets of captures to several OUT, each with its own filter, in one pass",
         SPLIT_EXAMPLES,
         &ARGUMENTS,
     )

@@ -21,10 +21,9 @@ pub struct StepsWords<'a> {
 }
 
 const STEPS_EXAMPLES: &str =
-    "LISTENERS has a line SNAP CAPACITY EXPRESSION for each listener: the most bytes that are kept of
-a packet (0 means 262144), the bytes of each of its two buffers, and its filter. An i behind
-CAPACITY makes the listener Immediate: a packet that is stored can be read at once, where nothing
-is held.
+    "LISTENERS has a line SNAP CAPACITY EXPRESSION for each listener: the snapshot length (0 means
+262144), the size in bytes of each of its two buffers, and its filter. An i after CAPACITY makes
+the listener Immediate: a packet that is stored can be read at once, if nothing is held.
 
 SCRIPT has a line for each step: arrive, flush L, read L or close L. Listeners and packets are
 counted from 0.
@@ -34,14 +33,14 @@ Examples:
   bpftap steps -v examples/steps/listeners.txt examples/steps/script.txt examples/veth.pcap
   bpftap steps -p steps.svg examples/steps/listeners.txt examples/steps/script.txt examples/veth.pcap
 
-Exit status: 0 clean; 1 wrong words, a refused line, expression or file, or want of memory;
-2 a torn or bad record, after the reports; 3 a file or device failed.";
+Exit status: 0 clean; 1 bad usage, invalid input, or out of memory; 2 a torn or bad record, after
+the reports; 3 a file or device failed.";
 
 static ARGUMENTS: [Argument; 5] = [
     Argument::Flag(
         "explained",
         'v',
-        "Print each step's answers first, and why they were given",
+        "Print each step's answers first, with the reasons",
     ),
     Argument::Text(
         "picture",
