@@ -75,7 +75,7 @@ fn hint_invalid<E: HintSink>(listing: &[u8], fault: Invalid, err: &mut E)
         Invalid::UnknownCode(n) => hint_insn(
             listing,
             n,
-            "its code is not one of bpf(4): extensions of other systems, as of Linux, are not run",
+            "its code is not one of bpf(4): extensions such as Linux's are not supported",
             err,
         ),
         Invalid::JumpOut(n) => hint_insn(
@@ -90,7 +90,7 @@ fn hint_invalid<E: HintSink>(listing: &[u8], fault: Invalid, err: &mut E)
             "its K is a cell of the scratch memory, which has cells 0 to 15",
             err,
         ),
-        Invalid::ZeroDivisor(n) => hint_insn(listing, n, "its K is the divisor, and 0", err),
+        Invalid::ZeroDivisor(n) => hint_insn(listing, n, "its K is the divisor, and it is 0", err),
         Invalid::NoReturn => hint_insn(
             listing,
             count_lines(listing).saturating_sub(FIRST_INSN),

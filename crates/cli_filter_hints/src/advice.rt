@@ -185,7 +185,7 @@ fn of_protocol<'a>(alloc: Global, spot: Spot<'a>, protocol: &ByNumber) -> Found<
     }
     if spot.after_word().starts_with(b"[") {
         return Ok(Some(Advice::Said(
-            "`[..]` stands after `ether`, `ip`, `arp`, `rarp`, `tcp`, `udp` and `icmp` only",
+            "write `[..]` only after `ether`, `ip`, `arp`, `rarp`, `tcp`, `udp` or `icmp`",
         )));
     }
     Ok(None)
@@ -226,22 +226,22 @@ fn of_spelling<'a>(alloc: Global, spot: Spot<'a>) -> Found<'a> {
 fn of_name<'a>(spot: Spot<'a>) -> Advice<'a> {
     let (before, name) = (spot.last(), spot.word());
     if spot.has_backslash() {
-        Advice::Said("a backslash stands before `tcp`, `udp`, `icmp`, `ip`, `arp` and `rarp` only")
+        Advice::Said("write a backslash only before `tcp`, `udp`, `icmp`, `ip`, `arp` or `rarp`")
     } else if BEFORE_PORTS.contains(&before) {
         Advice::Round(
-            "names of services are not read: write a number, as `port 80`, for `",
+            "service names are not supported: write a number, as in `port 80`, for `",
             name,
             "`",
         )
     } else if before == PROTO {
         Advice::Round(
-            "names of protocols are not read: write a number, as `proto 17`, for `",
+            "protocol names are not supported here: write a number, as in `proto 17`, for `",
             name,
             "`",
         )
     } else if BEFORE_ADDRESSES.contains(&before) || name.contains(&b'.') {
         Advice::Round(
-            "names of hosts and nets are not read: write the address of `",
+            "names of hosts and nets are not supported: write the address of `",
             name,
             "`",
         )
@@ -249,7 +249,7 @@ fn of_name<'a>(spot: Spot<'a>) -> Advice<'a> {
         Advice::Round(
             "`",
             name,
-            "` is no word of the language, and names are not read",
+            "` is no word of the language, and names are not supported",
         )
     }
 }
@@ -261,9 +261,9 @@ fn of_word<'a>(alloc: Global, spot: Spot<'a>) -> Result<Advice<'a>, AllocError> 
     }
     if OTHER_LINKS.contains(&spot.word()) {
         return Ok(Advice::Round(
-            "this profile is Ethernet with IPv4: `",
+            "only Ethernet with IPv4 is supported, not `",
             spot.word(),
-            "` is not read",
+            "`",
         ));
     }
     if let Some(advice) = of_other_word(alloc, spot)? {
@@ -283,7 +283,7 @@ fn begins_with_quote(text: &[u8]) -> bool {
 /// What helps where no token begins.
 fn of_byte<'a>(spot: Spot<'a>) -> Advice<'a> {
     if begins_with_quote(spot.rest()) {
-        Advice::Said("quotes are for the shell: they are no part of an expression")
+        Advice::Said("quotes are for the shell, not part of an expression")
     } else if spot.rest().is_empty() {
         Advice::Said("no word, number or sign begins here")
     } else {
@@ -301,7 +301,7 @@ fn of_number<'a>(word: &[u8]) -> Advice<'a> {
         )
     } else {
         Advice::Said(
-            "a number is at most 4294967295; no name begins with a digit, and IPv6 is not read",
+            "a number is at most 4294967295; no name begins with a digit, and IPv6 is not supported",
         )
     }
 }
@@ -309,16 +309,16 @@ fn of_number<'a>(word: &[u8]) -> Advice<'a> {
 /// What to write after a word that takes a number or an address; nothing for other words.
 fn operand_of(last: &[u8]) -> Option<&'static str> {
     if last == b"portrange".as_slice() {
-        Some("write two numbers after `portrange`, as `portrange 20-30`")
+        Some("write two numbers after `portrange`, as in `portrange 20-30`")
     } else if BEFORE_PORTS.contains(&last) {
-        Some("write a number after `port`, as `port 80`")
+        Some("write a number after `port`, as in `port 80`")
     } else if last == b"host".as_slice() {
-        Some("write an address after `host`, as `host 192.0.2.1`")
+        Some("write an address after `host`, as in `host 192.0.2.1`")
     } else if last == b"net".as_slice() {
-        Some("write an address after `net`, as `net 192.0.2.0/24`")
+        Some("write an address after `net`, as in `net 192.0.2.0/24`")
     } else if last == PROTO {
         Some(
-            "write a number after `proto`, as `proto 17`, or a name with a backslash, as `proto \\udp`",
+            "write a number after `proto`, as in `proto 17`, or a name with a backslash, as in `proto \\udp`",
         )
     } else if BEFORE_ADDRESSES.contains(&last) {
         Some("write an address after `src` and `dst`, or `host`, `net` or `port` before it")
@@ -358,7 +358,7 @@ fn of_token<'a>(alloc: Global, spot: Spot<'a>) -> Result<Advice<'a>, AllocError>
     Ok(match (advice, operand_of(spot.last())) {
         (Some(advice), _) => advice,
         (None, Some(said)) => Advice::Said(said),
-        (None, None) => Advice::Round("no expression goes on with `", spot.token(), "` here"),
+        (None, None) => Advice::Round("unexpected `", spot.token(), "`"),
     })
 }
 
@@ -378,7 +378,7 @@ fn of_no_qualifier<'a>(before: &[u8]) -> Advice<'a> {
     let left = without_blanks(before);
     let term = without_blanks(&left[..left.len() - joint.len().min(left.len())]);
     if term.ends_with(b")") {
-        Advice::Said("after `(a or b)` write the qualifier again, as `(tcp or udp) or port 53`")
+        Advice::Said("after `(a or b)` write the qualifier again, as in `(tcp or udp) or port 53`")
     } else {
         Advice::Said("no qualifier to inherit: write `port 80` or `host 192.0.2.1` in full")
     }
@@ -411,7 +411,7 @@ fn sentence(fault: Fault) -> Option<Advice<'static>> {
             "ports are 0 to 65535, protocols 0 to 255, `ether proto` 1501 to 65535, masks 0 to 32, sizes 1, 2 or 4",
         Fault::DivideByZero(_) => "division by zero",
         Fault::TooNested(_) =>
-            "at most 64 of `(`, `[`, `not` and `-` are open at once: take parentheses away",
+            "at most 64 of `(`, `[`, `not` and `-` may be open at once: remove parentheses",
         _ => return None,
     };
     Some(Advice::Said(said))

@@ -10,29 +10,29 @@ use std::io::Write;
 use std::{fmt, io};
 
 /// What is done with a capture that is no savefile.
-const ANOTHER_FORMAT: &str = "this is a capture of another format: editcap -F pcap IN OUT";
+const ANOTHER_FORMAT: &str = "this is another capture format: convert it with editcap -F pcap IN OUT";
 
 /// What files of other formats begin with, and what is done with them.
 static OTHER_FORMATS: [(&[u8], &str); 8] = [
     (
         &[0x0a, 0x0d, 0x0d, 0x0a],
-        "this is pcapng: editcap -F pcap IN OUT",
+        "this is pcapng: convert it with editcap -F pcap IN OUT",
     ),
     (
         &[0x1f, 0x8b],
-        "this is compressed: gzip -dc IN, and /dev/stdin for IN",
+        "this is compressed: unpack it with gzip -dc IN, and read it from /dev/stdin",
     ),
     (
         &[0x28, 0xb5, 0x2f, 0xfd],
-        "this is compressed: zstd -dc IN, and /dev/stdin for IN",
+        "this is compressed: unpack it with zstd -dc IN, and read it from /dev/stdin",
     ),
     (
         &[0xfd, b'7', b'z', b'X', b'Z'],
-        "this is compressed: xz -dc IN, and /dev/stdin for IN",
+        "this is compressed: unpack it with xz -dc IN, and read it from /dev/stdin",
     ),
     (
         b"BZh",
-        "this is compressed: bzip2 -dc IN, and /dev/stdin for IN",
+        "this is compressed: unpack it with bzip2 -dc IN, and read it from /dev/stdin",
     ),
     (&[0x34, 0xcd, 0xb2, 0xa1], ANOTHER_FORMAT),
     (&[0xa1, 0xb2, 0xcd, 0x34], ANOTHER_FORMAT),
@@ -80,10 +80,10 @@ fn link_type(header: &[u8; 24]) -> u32 {
 /// What a link type is called that is met often.
 fn link_name(number: u32) -> &'static str {
     match number {
-        0 | 108 => ", loopback of BSD",
-        12 | 14 | 101 => ", raw IP",
-        105 | 127 => ", wireless",
-        113 | 276 => ", Linux cooked, as of the interface `any`",
+        0 | 108 => " (BSD loopback)",
+        12 | 14 | 101 => " (raw IP)",
+        105 | 127 => " (wireless)",
+        113 | 276 => " (Linux cooked, as from the interface `any`)",
         _ => "",
     }
 }
@@ -94,13 +94,13 @@ fn hint_link_type<E: HintSink>(header: &[u8; 24], err: &mut E)
     let number = link_type(header);
     if number % 65_536 == 1 {
         return give_hint(
-            "its link type is 1, Ethernet, with a frame check sequence, which is not read",
+            "link type 1 (Ethernet) with a frame check sequence, which is not supported",
             err,
         );
     }
     give_hint(
         format_args!(
-            "its link type is {number}{}: 1, Ethernet, alone is read",
+            "link type {number}{}; only Ethernet (1) is supported",
             link_name(number)
         ),
         err,
@@ -123,7 +123,7 @@ fn hint_version<E: HintSink>(header: &[u8; 24], err: &mut E)
     };
     give_hint(
         format_args!(
-            "its version is {major}.{minor}: 2.4 alone is read, which editcap -F pcap IN OUT writes"
+            "version {major}.{minor}; only 2.4 is supported: convert it with editcap -F pcap IN OUT"
         ),
         err,
     )
@@ -135,7 +135,7 @@ fn hint_not_savefile<E: HintSink>(first: &[u8], err: &mut E)
     match other_format(first) {
         Some(format) => give_hint(format, err),
         None => give_hint(
-            format_args!("it begins with{}, and no classic savefile does", Hex(first)),
+            format_args!("not a classic pcap file: it starts with{}", Hex(first)),
             err,
         ),
     }
@@ -168,7 +168,7 @@ pub fn hint_capture_fault<E: HintSink>(first: &[u8], fault: Fault, err: &mut E)
         (Fault::NotSavefile, _) => hint_not_savefile(first, err),
         (Fault::ShortHeader, _) => give_hint(
             format_args!(
-                "it has {} bytes, and the header of a capture 24",
+                "it has {} bytes; the header of a capture has 24",
                 first.len()
             ),
             err,
@@ -176,7 +176,7 @@ pub fn hint_capture_fault<E: HintSink>(first: &[u8], fault: Fault, err: &mut E)
         (Fault::LinkType, Some(header)) => hint_link_type(header, err),
         (Fault::Version, Some(header)) => hint_version(header, err),
         (Fault::TornRecord(_), _) => give_hint(
-            "the file ends inside this record: was it broken off, or is it still written?",
+            "the file ends inside this record: was it cut off, or is it still being written?",
             err,
         ),
         (Fault::BadFraction(_), Some(header)) => hint_bad_fraction(header, err),

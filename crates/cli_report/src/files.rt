@@ -70,7 +70,7 @@ pub fn hint_bad_line<E: HintSink>(text: &[u8], number: usize, form: &str, err: &
     show_line(text, number, err);
     if line_at(text, number).ends_with(b"\r") {
         give_hint(
-            "it ends in a carriage return: take that away, as by tr -d '\\r'",
+            "it ends in a carriage return: remove it, for example with tr -d '\\r'",
             err,
         );
     }
@@ -109,7 +109,7 @@ pub fn hint_capacity<E: HintSink>(snap: u32, capacity: usize, err: &mut E)
     let least = least_capacity(snap);
     give_hint(
         format_args!(
-            "with SNAP {snap} the CAPACITY is {least} to 1048576 bytes, and not {capacity}"
+            "with SNAP {snap}, CAPACITY is {least} to 1048576 bytes, not {capacity}"
         ),
         err,
     )

@@ -63,7 +63,7 @@ fn hint_unopened<E: HintSink>(
     if let Some(line) = found {
         if line.spares < 1 || line.spares > MAX_SPARES {
             give_hint(
-                format_args!("SPARES is 1 to {MAX_SPARES}, and not {}", line.spares),
+                format_args!("SPARES is 1 to {MAX_SPARES}, not {}", line.spares),
                 err,
             );
         } else {
