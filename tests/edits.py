@@ -6,14 +6,14 @@
   tests/edits.py --all [NAME..]    those in crates/NAME/must-fail/ too, which `rt ci` tries one by one
   tests/edits.py --list [NAME..]   prints the batches, and says which edits can't be applied; it tries nothing
 
-An edit puts one wrong body into one function. Here many of them, in functions that don't call one another, go into one copy
-of the crate, which is checked once: each of these functions has to come back as not proved, with a goal of its own. An edit
-that does not come back so is tried alone, and so is one that changes something else than one function. An edit that is
-still proved is a failure: then a contract says too little, or the edit is none. So is one that is refused only since a
-proof names what it takes away: that tells nothing of the contract.
+An edit puts one wrong body into one function. Many edits, of functions that don't call one another, go into one copy of the
+crate, which is checked once: each of these functions has to come back as not proved, with a goal of its own. An edit that does
+not come back so is tried by itself, and so is one that changes more than one function. An edit that is still proved is a
+failure: a contract says too little, or the edit changes no meaning. So is one that is refused only since a proof names what it
+takes away: that says nothing about the contract.
 
-Each lane has a copy of the crate in a temporary folder, with what `./build` and `./build --check NAME` kept of it and of those below;
-what is not kept is proved first. Edit and build nothing while it runs. The last line is `N passed, M failed`.
+Each lane has a copy of the crate in a temporary folder, with what `./build` and `./build --check NAME` kept of it and of its
+libraries; what is not kept is proved first. Edit and build nothing while it runs. The last line is `N passed, M failed`.
 """
 import argparse
 import collections
@@ -31,19 +31,19 @@ ROOT = pathlib.Path(__file__).resolve().parent.parent
 GATE, APART = "must-fail", "more-must-fail"
 PARTS = ("src", "specs", "proofs")
 
-# A head of a function or of an impl, in rt fmt's layout: what it opens ends at the next `}` that stands as far in.
+# The head of a function or of an impl, in rt fmt's layout: its block ends at the next `}` with the same indentation.
 HEAD = re.compile(r'^( *)(?:pub(?:\([a-z]+\))? )?(?:const )?(?:unsafe )?(?:extern "C" )?fn (\w+)|^()((?:unsafe )?impl\b.*|(?:pub )?trait .*)\{$', re.M)
 # What the check says of an item that is not proved, and of one that only calls such an item.
 UNPROVED = re.compile(r"^(?:fn|struct|enum|impl|trait|const) (\S+): (not proved.*|no proof.*)$", re.M)
 CALLS_UNPROVED = "no proof: it calls "
-# An error says that a text can't be read, where it stands in the code and names no goal, or says one of these.
+# An error says that a text can't be read if its place is in the code and it names no goal, or if it says one of these.
 UNREAD = re.compile(r"is not in scope|has no field|is no name|operand is missing|expected the end|cannot continue")
-# An error of a proof that names what an edit took away, or that cites such a proof: it tells nothing of a goal.
+# An error of a proof that names what an edit took away, or that cites such a proof: it says nothing about a goal.
 NAMES_GONE = re.compile(r"has no field|is not in scope|has no `|was not admitted")
 
 
 class Function:
-    """A function of a crate: where it stands, and how the check names it."""
+    """A function of a crate: where it is, and how the check names it."""
 
     def __init__(self, crate, path, text, head, owner, pattern):
         self.name, self.owner, self.path, self.start = head[2], owner, path, head.start()
@@ -52,7 +52,7 @@ class Function:
         self.end = line if is_line else re.compile(rf"^{head[1]}\{{?\}}$", re.M).search(text, line).end()
         self.text = text[self.start : self.end]
         self.lines = range(text.count("\n", 0, self.start) + 1, text.count("\n", 0, self.end) + 2)
-        # A method is named by its type's file, any other function by its own, a closure by the function that it stands in.
+        # A method is named by its type's file, any other function by its own, a closure by the function that it is in.
         modules = "" if path in ("src/lib.rt", "src/main.rt") else path[len("src/") : -len(".rt")].replace("/", "::") + "::"
         where = rf"(?:\w+::)*(?:fn::)?{pattern}::" if owner else rf"{modules}(?:fn::)?"
         self.pattern = re.compile(rf"{crate}::{where}{self.name}(?:::.*)?")
@@ -89,7 +89,7 @@ def functions_of(crate):
 
 
 class Edit:
-    """An edit: its changed files, and the function that it changes, if it changes one alone."""
+    """An edit: its changed files, and the function that it changes, if it changes only one."""
 
     def __init__(self, crate, file, functions):
         self.crate, self.file, self.name = crate, file, file.stem
@@ -115,22 +115,22 @@ class Edit:
                 old = rest
             elif word == "new":
                 if not old or texts[path].count(old) != 1:
-                    raise ValueError(f"`{old}` does not stand once in {path}")
+                    raise ValueError(f"`{old}` is not exactly once in {path}")
                 texts[path], old = texts[path].replace(old, rest), ""
         if not texts:
             raise ValueError("it has no line `file:`")
         return texts
 
     def changed(self, functions):
-        """The one function in which all that it changes stands. What it puts there is kept with its place."""
+        """The one function that has all of the changes. What the edit puts there is kept with its place."""
         if len(self.texts) != 1:
             return None
         [(path, new)] = self.texts.items()
         old = (ROOT / "crates" / self.crate / path).read_text()
         start = len(os.path.commonprefix([old, new]))
-        behind = len(os.path.commonprefix([old[start:][::-1], new[start:][::-1]]))
-        self.place = path, start, len(old) - behind, new[start : len(new) - behind]
-        own = [it for it in functions if it.path == path and it.start <= start and len(old) - behind <= it.end]
+        rest = len(os.path.commonprefix([old[start:][::-1], new[start:][::-1]]))
+        self.place = path, start, len(old) - rest, new[start : len(new) - rest]
+        own = [it for it in functions if it.path == path and it.start <= start and len(old) - rest <= it.end]
         # A function within a function is the inner one's text, and the outer one's.
         return max(own, key=lambda it: it.start, default=None)
 
@@ -147,7 +147,7 @@ def edits_of(crate):
 
 def called(function, functions):
     """What a function may call: by `.name(` each method of that name, by `Type::name` that type's, by `name` the others. A
-    name behind a trait or a type parameter, as in `Sink::write`, may be that of any method."""
+    name after a trait or a type parameter, as in `Sink::write`, may be that of any method."""
     text = re.sub(r"//.*|^ *(?:requires|ensures|ghost)\b.*", "", function.text.partition(function.name)[2], flags=re.M)
     owners = {it.owner for it in functions}
     of_types = re.findall(r"\b([A-Z]\w*)(?:::<[^()]*?>)?::([a-z]\w*)", re.sub(r"\bSelf\b", function.owner, text))
@@ -170,9 +170,9 @@ def reached(functions):
 
 
 def batches_of(edits, functions):
-    """Puts the edits into batches of functions that don't call one another; alone, what is no body of one function."""
+    """Puts the edits into batches of functions that don't call one another; an edit of more than one body has its own batch."""
     calls = reached(functions)
-    alone, shared = [[it] for it in edits if not it.function], []
+    single, shared = [[it] for it in edits if not it.function], []
     belong = lambda one, other: one is other or one in calls[other] or other in calls[one]
     for edit in (it for it in edits if it.function):
         for batch in shared:
@@ -181,7 +181,7 @@ def batches_of(edits, functions):
                 break
         else:
             shared.append([edit])
-    return shared + alone
+    return shared + single
 
 
 def texts_of(batch):
@@ -196,7 +196,7 @@ def texts_of(batch):
 
 
 def listed():
-    """The lines of crates.txt by the crate's name, and what each crate stands on."""
+    """The lines of crates.txt by the crate's name, and the libraries of each crate."""
     lines, below = {}, {}
     for line in (ROOT / "crates.txt").read_text().splitlines():
         head, is_line, words = line.partition("#")[0].partition(":")
@@ -212,7 +212,7 @@ def work_of(crate):
 
 
 class Copy:
-    """A copy of a crate and of the libraries that it stands on, with what `./build` kept of them."""
+    """A copy of a crate and of the libraries that it uses, with what `./build` kept of them."""
 
     def __init__(self, crate, room):
         lines, below = listed()
@@ -242,7 +242,7 @@ class Copy:
         try:
             words = [self.room / "build", "--check", self.crate]
             how = {"stdin": subprocess.DEVNULL, "stdout": subprocess.PIPE, "stderr": subprocess.STDOUT, "errors": "replace"}
-            # What goes on in a next line stands further in.
+            # A line that goes on is indented further.
             return re.sub(r"\n  (?=\S)", " ", subprocess.run(words, cwd=folder, **how).stdout)
         finally:
             for path, text in were.items():
@@ -259,7 +259,7 @@ def is_unread(log, texts):
 
 
 def own_goals(log, name, why, others):
-    """The goals of an item that are not proved, where `others` stand beside it and are not proved either."""
+    """The goals of an item that are not proved; `others` in its module are not proved either."""
     front, _, own = name.rpartition("::")
     answers = re.search(r"expected answers in \S*/\+(\w+)/", why)
     asked = re.findall(r"`([^`]*)`", why.partition("did not prove")[2].partition("; it calls")[0])
@@ -267,15 +267,15 @@ def own_goals(log, name, why, others):
     wrong = re.findall(rf"^\./proofs/{at}/(?:\+(\w+)|{re.escape(own)})/\S+ error: `([^`]*)`: (.*)", log, re.M)
     goals = [(answers and answers[1], goal) for goal in asked]
     goals += [(group, goal) for group, goal, said in wrong if not NAMES_GONE.search(said)]
-    # Functions that call themselves or one another have one folder of proofs, as `+value`. Where it has several, each of
-    # them comes back as not proved, and a goal begins with the name of its own.
+    # Functions that call themselves or one another have one folder of proofs, as `+value`. If it has several, each of them
+    # comes back as not proved, and a goal begins with the name of its own.
     of_others = tuple(f"{it}-" for it in others)
     is_own = lambda group, goal: goal.startswith(f"{own}-") or group == own and not goal.startswith(of_others)
     return list(dict.fromkeys(goal for group, goal in goals if not group or is_own(group, goal)))
 
 
 def refusals(log):
-    """The items that are refused for themselves, each with its goals that are not proved."""
+    """The items that are refused for goals of their own, each with these goals."""
     unproved, found = dict(UNPROVED.findall(log)), {}
     for name, why in unproved.items():
         front = name.rpartition("::")[0]
@@ -286,8 +286,8 @@ def refusals(log):
     return found
 
 
-def told(log, function, goals):
-    """The goals that are not proved: those of clauses, which have `returns` in their names; else in words what one asks."""
+def text_of(log, function, goals):
+    """The goals that are not proved: those of clauses, which have `returns` in their names; else what one asks, in words."""
     clauses = [it for it in goals if re.search(r"(^|-)returns(-|$)", it)]
     if clauses:
         return f"ensures ({', '.join(clauses)})"
@@ -348,24 +348,24 @@ class Trial:
 
     def try_batch(self, copy, batch):
         if len(batch) == 1:
-            return self.try_alone(copy, batch[0])
-        self.say(f"{copy.crate}: {len(batch)} edits in one check, {len(self.waiting[copy.crate])} checks behind it")
+            return self.try_single(copy, batch[0])
+        self.say(f"{copy.crate}: {len(batch)} edits in one check, {len(self.waiting[copy.crate])} checks after it")
         texts = texts_of(batch)
         log = self.check(copy, texts, "+".join(it.name for it in batch))
         found = {} if is_unread(log, texts) else refusals(log)
         for edit in batch:
             goals = [goal for name in found if edit.function.pattern.fullmatch(name) for goal in found[name]]
             if goals:
-                self.end(edit, True, f"{edit.function} {told(log, edit.function, goals)}")
+                self.end(edit, True, f"{edit.function} {text_of(log, edit.function, goals)}")
             else:
-                self.try_alone(copy, edit)
+                self.try_single(copy, edit)
 
-    def try_alone(self, copy, edit):
+    def try_single(self, copy, edit):
         if self.is_stopped:
             return
         if edit.why:
             return self.end(edit, False, edit.why)
-        self.say(f"{copy.crate}: {edit.name} alone")
+        self.say(f"{copy.crate}: only {edit.name}")
         log = self.check(copy, edit.texts, edit.name)
         found = refusals(log)
         if is_unread(log, edit.texts):
@@ -380,7 +380,7 @@ class Trial:
         else:
             own = [name for name in found if edit.function and edit.function.pattern.fullmatch(name)]
             name = (own or list(found))[0]
-            self.end(edit, True, f"{edit.function if own else name} {told(log, edit.function, found[name])}")
+            self.end(edit, True, f"{edit.function if own else name} {text_of(log, edit.function, found[name])}")
 
     def check(self, copy, texts, name):
         log = copy.check(texts)
@@ -395,7 +395,7 @@ def parsed():
     parser.add_argument("names", nargs="*", metavar="NAME", help="a crate, or one edit of it as NAME/EDIT")
     parser.add_argument("--all", action="store_true", help=f"the edits of {GATE}/ too")
     parser.add_argument("--list", action="store_true", help="print the batches, and try nothing")
-    parser.add_argument("--jobs", type=int, default=1, metavar="N", help="so many checks at once (1; each takes up to 4 GB)")
+    parser.add_argument("--jobs", type=int, default=1, metavar="N", help="run N checks at once (1; each takes up to 4 GB)")
     parser.add_argument("--logs", type=pathlib.Path, metavar="FOLDER", help="keep what the check says of each batch there")
     return parser.parse_args()
 
@@ -419,11 +419,11 @@ def chosen(given):
 
 
 def build_below(waiting):
-    """Has what is missing of the libraries below these crates proved, once for all lanes."""
+    """Proves the libraries of these crates that are not proved yet, once for all lanes."""
     lines, below = listed()
     names = sorted({it for crate in waiting for it in below[crate] if it in lines})
     if names and subprocess.run([ROOT / "build", *names]).returncode:
-        sys.exit("what stands below is not proved")
+        sys.exit("a library of these crates is not proved")
 
 
 def show(waiting):
@@ -455,7 +455,7 @@ def main():
                 trial.is_stopped = True
     if trial.failed:
         print(f"FAILED: {' '.join(trial.failed)}")
-    # An edit that was left untried has not passed.
+    # An edit that was left untried did not pass.
     failed = trial.count - trial.passed
     print(f"{trial.passed} passed, {failed} failed")
     return 1 if failed else 0

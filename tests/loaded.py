@@ -2,7 +2,7 @@
 """Runs the tests of threads again and again under load: beside a busy loop on each processor, all of it under `nice`.
 
   tests/loaded.py [ROUNDS]          20 rounds of each test of test_listener, test_replay and test_thread
-  tests/loaded.py --built [ROUNDS]  the same of those that `./test` has built
+  tests/loaded.py --built [ROUNDS]  20 rounds of the tests that `./test` has built
 
 Without --built they are proved and built first, over what `./build` keeps. The last line is `N passed, M failed`.
 """
@@ -45,7 +45,7 @@ def main():
         tests += [(str(program), line.removesuffix(": test")) for line in listed if line.endswith(": test")]
     # Tests and busy loops alike: a test that yields to all loops would take a hundred times as long, and show no more.
     os.nice(10)
-    # The busy loops end with this script, also where a signal ends it.
+    # The busy loops end with this script, even if a signal ends it.
     signal.signal(signal.SIGTERM, lambda *_: sys.exit(1))
     busy = [subprocess.Popen([sys.executable, "-c", "while True: pass"]) for _ in range(len(os.sched_getaffinity(0)))]
     try:

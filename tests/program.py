@@ -1,14 +1,14 @@
 #!/usr/bin/env python3
-"""Runs the built program as a shell would: what it prints and tells, its exit status, and what becomes of its files.
+"""Runs the built program as a shell would: what it prints, its exit status, and what becomes of its files.
 
   tests/program.py            all groups of cases; the program is unpacked or built first if it has to be
-  tests/program.py cut run    these groups alone
+  tests/program.py cut run    only these groups
   tests/program.py --list     the groups and their cases, with what each one shows
 
   BPFTAP=bpftap tests/program.py    tests another program in place of the repository's own: a path, or a word of the PATH
 
-The last line is `N passed, M failed`; the status is 1 where something failed. What wants a tool that is not here is not tried, and
-that is told. Each case runs in a folder of its own, and as many side by side as there are processors, 4 at most.
+The last line is `N passed, M failed`; the status is 1 if something failed. A check that needs a missing tool is not tried, and a
+line says so. Each case runs in a folder of its own, and as many side by side as there are processors, 4 at most.
 """
 import argparse
 import concurrent.futures
@@ -48,8 +48,8 @@ LANES = min(4, len(os.sched_getaffinity(0)))
 
 
 def run_case(name, number, folder):
-    """Runs a case of a group in a folder of its own. How much passed, a line of each failure, of which a case that breaks off is one, and
-    why something was not tried."""
+    """Runs a case of a group in a folder of its own. Returns how many checks passed, a line for each failure (a case that breaks off is
+    one), and why something was not tried."""
     folder.mkdir(parents=True)
     scene = Scene(folder)
     try:
@@ -60,7 +60,7 @@ def run_case(name, number, folder):
 
 
 def run_groups(groups):
-    """Runs groups, each case in a temporary folder, and prints what failed or was not tried. How much passed, and how much did not."""
+    """Runs groups, each case in a temporary folder, and prints what failed or was not tried. Returns how many checks passed and failed."""
     passed = failed = 0
     with tempfile.TemporaryDirectory() as top, concurrent.futures.ProcessPoolExecutor(LANES) as pool:
         started = [

@@ -5,7 +5,7 @@ worked out by hand from bpf(4). What libpcap and tcpdump print stands in `tests/
 import random
 import re
 
-from .common import IP, ROOT, case, told
+from .common import IP, ROOT, case, fault_lines
 from .machine import FRAME
 
 VECTORS = ROOT / "tests" / "vectors"
@@ -127,12 +127,12 @@ def each_instruction_has_its_forms(scene):
 
 
 @case
-def the_first_fault_of_assembly_is_told(scene):
+def the_first_fault_of_assembly_is_reported(scene):
     """With its line."""
     for text, fault in FAULTY:
         scene.put({"program.bpf": text.encode("latin-1")})
         seen = scene.run("check -f program.bpf")
-        scene.check(f"fault of {text[:60]!r}", (seen.out, seen.err.decode(), seen.status), (b"", told(fault), 1))
+        scene.check(f"fault of {text[:60]!r}", (seen.out, seen.err.decode(), seen.status), (b"", fault_lines(fault), 1))
 
 
 @case

@@ -8,10 +8,10 @@ import time
 
 from .common import LIMIT, ROOT, Seen, as_bytes, case
 
-# What stands on what. `side` is no part of the program.
+# Which crate uses which. `side` is no part of the program.
 CRATES = "# A comment.\nlow: thiserror\nmiddle: low\nother: low\nbpftap: middle other\nside: low\n"
 
-# A toolchain: `rt` tells its version and where it lies, `rattle` notes each call, and fails or waits where a file says so.
+# A toolchain: `rt` prints its version and where it is; `rattle` notes each call, and fails or waits if a file says so.
 RT = """#!/bin/sh
 case $1 in version) cat "$KIT/version" ;; doc) echo "$KIT/START-HERE.md" ;; esac
 """
@@ -38,7 +38,7 @@ LINK = """#!/bin/sh
 cat "$KIT/program" >"$6"
 chmod +x "$6"
 """
-# What is printed of a release that is missing, or of other sources.
+# What is printed if the release is missing, or was made from other sources.
 STALE = "the release is not of these sources: make it by ./build --release, and commit it"
 # The program that they make.
 MADE = """#!/bin/sh
@@ -94,21 +94,21 @@ class Source:
         return seen
 
     def noted(self, name="calls"):
-        """What was noted since it was asked last: of each call its crate, or all its words."""
+        """What was noted since the last call: the crate of each call, or all its words."""
         file = self.kit / name
         lines = file.read_text().split("\n")[:-1] if file.exists() else []
         file.unlink(missing_ok=True)
         return lines
 
     def calls(self):
-        """The crates that were built or checked since it was asked last."""
+        """The crates that were built or checked since the last call."""
         return [call.removeprefix("build ") for call in self.noted()]
 
     def src(self, crate):
         return self.folder / "crates" / crate / "src"
 
     def edit(self, crate):
-        """Changes what a crate is."""
+        """Changes a crate's source."""
         with open(next(self.src(crate).iterdir()), "a") as source:
             source.write("// more\n")
 
@@ -119,7 +119,7 @@ def on_one_processor():
 
 @case
 def crates_are_proved_once_and_the_lowest_first(scene):
-    """Each crate is built behind those that it stands on, each is told with its number, and no other one is built."""
+    """Each crate is built after those that it uses, each is reported with its number, and no other one is built."""
     source = Source(scene)
     seen = source.run()
     calls = source.calls()
@@ -165,11 +165,11 @@ def what_is_proved_is_kept(scene):
     scene.check("a second call", (source.run(), source.calls()), (Seen(b"", f"{STALE}\n".encode(), 0), []))
     (source.src("other") / "lib.rt").write_text("// another\n")
     source.run()
-    scene.check("behind an edit", source.calls(), ["other", "bpftap"])
+    scene.check("after an edit", source.calls(), ["other", "bpftap"])
     (source.folder / "crates" / "low" / "proofs").mkdir()
     (source.folder / "crates" / "low" / "proofs" / "Lib.antt").write_text("-- a proof\n")
     source.run("middle")
-    scene.check("behind a new proof, what is named alone", source.calls(), ["low", "middle"])
+    scene.check("after a new proof, only what is named", source.calls(), ["low", "middle"])
     source.run()
     scene.check("and then the rest", sorted(source.calls()), ["bpftap", "other"])
     shutil.rmtree(source.folder / "out" / "build" / "other.rlib")
@@ -181,36 +181,36 @@ def what_is_proved_is_kept(scene):
 
 
 @case
-def a_crate_that_is_not_proved_is_told(scene):
-    """The build ends at it with its errors and the place of the log, and goes on there once it is mended. The launcher's status is 125."""
+def a_crate_that_is_not_proved_is_reported(scene):
+    """The build ends at it with its errors and the path of the log, and goes on there once it is fixed. The launcher's status is 125."""
     source = Source(scene)
     (source.kit / "fails").write_text("middle")
-    told = b"bpftap: building: src/lib.rt:1:1: error: not proved: too little\n"
+    error = b"bpftap: building: src/lib.rt:1:1: error: not proved: too little\n"
     place = b"bpftap: building: the build failed at middle: it is not proved; out/build/middle.log has all that was said\n"
     seen = source.run()
-    scene.check("told", (told + place in seen.err, seen.status), (True, 1))
+    scene.check("printed", (error + place in seen.err, seen.status), (True, 1))
     scene.check("calls", "bpftap" in source.calls(), False)
     seen = source.run(program="bpftap")
-    scene.check("told by the launcher, and its status", (place in seen.err, seen.out, seen.status), (True, b"", 125))
+    scene.check("printed by the launcher, and its status", (place in seen.err, seen.out, seen.status), (True, b"", 125))
     scene.check("low is kept", "low" in source.calls(), False)
     (source.kit / "fails").unlink()
-    scene.check("mended", source.run().status, 0)
+    scene.check("fixed", source.run().status, 0)
     scene.check("what was left", ("middle" in (calls := source.calls()), calls[-1], "low" in calls), (True, "bpftap", False))
 
 
 @case
-def a_program_that_is_not_linked_is_told(scene):
+def a_program_that_is_not_linked_is_reported(scene):
     """The build ends with what the linker said."""
     source = Source(scene)
     (source.kit / "bin" / "rattle-link").write_text("#!/bin/sh\necho no space left >&2\nexit 1\n")
     seen = source.run()
-    told = b"bpftap: building: no space left\nbpftap: building: the build failed at bpftap: it is not linked; out/build/bpftap.log has all that was said\n"
-    scene.check("told, and the status", (seen.err.endswith(told), seen.status), (True, 1))
+    wanted = b"bpftap: building: no space left\nbpftap: building: the build failed at bpftap: it is not linked; out/build/bpftap.log has all that was said\n"
+    scene.check("standard error, and the status", (seen.err.endswith(wanted), seen.status), (True, 1))
 
 
 @case
 def what_runs_beside_a_failure_is_kept(scene):
-    """Behind a crate that is not proved none is begun, and one that runs beside it is proved to its end and kept. On one processor
+    """After a crate that is not proved no other is started, and one that runs beside it is proved to its end and kept. On one processor
     none runs beside it."""
     source = Source(scene)
     beside = ["other"] if int(source.run("--lanes").out) > 1 else []
@@ -263,8 +263,8 @@ def the_longest_chain_goes_first(scene):
 
 
 @case
-def what_crates_stand_on_is_seen(scene):
-    """Behind an edit of crates.txt a crate that stands on another one is proved again, by the launcher too."""
+def a_change_of_what_a_crate_uses_is_seen(scene):
+    """After an edit of crates.txt a crate that uses one more library is proved again, by the launcher too."""
     source = Source(scene)
     source.run()
     source.calls()
@@ -274,13 +274,13 @@ def what_crates_stand_on_is_seen(scene):
 
 
 @case
-def a_long_proof_is_told_each_minute(scene):
+def a_long_proof_is_reported_each_minute(scene):
     """Here each third of a second, by a script that differs in that number."""
     source = Source(scene)
     script = (ROOT / "build").read_text()
-    (source.folder / "build").write_text(script.replace("told >= 60", "told >= 0.3"))
+    (source.folder / "build").write_text(script.replace("reported >= 60", "reported >= 0.3"))
     (source.kit / "takes").write_text("low")
-    scene.check("told", b"bpftap: building: still at low (0 min so far)\n" in source.run().err, True)
+    scene.check("printed", b"bpftap: building: still at low (0 min so far)\n" in source.run().err, True)
 
 
 def ends(process):
@@ -313,36 +313,36 @@ def waits(source, program, ignored=None, crate="bpftap"):
 
 
 def interrupted(scene, number, program, times):
-    """A source whose build was broken off by signals at its last crate, and what was told of it. No check is left running."""
+    """A source whose build was interrupted by signals at its last crate, and what it printed. No check is left running."""
     source = Source(scene)
     process, check = waits(source, program)
     for _ in range(times):
         os.killpg(process.pid, number)
-    told = process.communicate(timeout=LIMIT)[1].splitlines()
+    lines = process.communicate(timeout=LIMIT)[1].splitlines()
     # A shell that is sent the signal too ends by it, once the build has ended.
     status = 128 - process.returncode if process.returncode < 0 else process.returncode
     scene.check(f"status of {program} after {number.name}", status, 128 + number)
-    scene.check(f"told behind {number.name}", told[-1].startswith(b"bpftap: building: interrupted; what is proved is kept"), True)
-    scene.check(f"ended behind {number.name}", ends(check), True)
+    scene.check(f"printed after {number.name}", lines[-1].startswith(b"bpftap: building: interrupted; what is proved is kept"), True)
+    scene.check(f"ended after {number.name}", ends(check), True)
     (source.kit / "waits").unlink()
     return source
 
 
 @case
 def an_interrupted_build_goes_on(scene):
-    """Behind a signal, or several, the way on is told, and the next call begins with what was not proved."""
+    """After one or more signals the build says how to go on, and the next call begins with what was not proved."""
     for number, program, times in [(signal.SIGINT, "build", 1), (signal.SIGINT, "build", 5), (signal.SIGINT, "bpftap", 1), (signal.SIGTERM, "build", 1),
                                    (signal.SIGHUP, "build", 1)]:
         source = interrupted(scene, number, program, times)
         source.calls()
-        scene.check(f"the next call behind {number.name}", (source.run().status, source.calls()), (0, ["bpftap"]))
+        scene.check(f"the next call after {number.name}", (source.run().status, source.calls()), (0, ["bpftap"]))
         shutil.rmtree(source.folder)
         shutil.rmtree(source.kit)
 
 
 @case
 def a_build_broken_off_keeps_nothing_above(scene):
-    """Where a library was gone and the build was broken off behind it, all that stands on it is proved again."""
+    """If a library was gone and the build was interrupted after proving it, all that uses it is proved again."""
     source = Source(scene)
     source.run()
     shutil.rmtree(source.folder / "out" / "build" / "low.rlib")
@@ -357,7 +357,7 @@ def a_build_broken_off_keeps_nothing_above(scene):
 
 @case
 def a_check_that_outlives_its_build_keeps_others_out(scene):
-    """Where a build is killed its check goes on, and the next build begins when that has ended."""
+    """If a build is killed, its check goes on, and the next build begins when that has ended."""
     source = Source(scene)
     process, check = waits(source, "build")
     process.kill()
@@ -374,21 +374,21 @@ def a_check_that_outlives_its_build_keeps_others_out(scene):
 
 @case
 def a_build_under_nohup_outlives_its_terminal(scene):
-    """A signal that is ignored as the build begins does not end it."""
+    """A signal that is ignored when the build begins does not end it."""
     source = Source(scene)
     process, check = waits(source, "build", ignored=signal.SIGHUP)
     os.killpg(process.pid, signal.SIGHUP)
     time.sleep(0.3)
     scene.check("goes on", process.poll(), None)
     os.kill(int(check), signal.SIGTERM)
-    told = process.communicate(timeout=LIMIT)[1].splitlines()
+    lines = process.communicate(timeout=LIMIT)[1].splitlines()
     last = b"bpftap: building: bpftap is proved, 4 of 4 (0 min so far)"
-    scene.check("printed last, and the status", (told[-2:], process.returncode), ([last, STALE.encode()], 0))
+    scene.check("printed last, and the status", (lines[-2:], process.returncode), ([last, STALE.encode()], 0))
 
 
 @case
-def a_folder_that_keeps_nothing_is_told(scene):
-    """Where no folder can be made for what is kept, a line says so."""
+def a_folder_that_keeps_nothing_is_reported(scene):
+    """If no folder can be made for what is kept, a line says so."""
     source = Source(scene)
     (source.folder / "out").write_text("a file\n")
     scene.check("printed", source.run(), Seen(b"", f"bpftap: {source.folder}/out/build: Not a directory\n".encode(), 1))
@@ -396,21 +396,21 @@ def a_folder_that_keeps_nothing_is_told(scene):
 
 @case
 def two_builds_wait_for_each_other(scene):
-    """A second build begins when the first one has ended, and then finds all kept."""
+    """A second build begins when the first one has ended, and then finds everything kept."""
     source = Source(scene)
     (source.kit / "takes").write_text("low")
     first = subprocess.Popen([source.folder / "build"], env=source.environment(), stdin=subprocess.DEVNULL, stderr=subprocess.DEVNULL)
     while not (source.kit / "calls").exists():
         time.sleep(0.02)
     seen = source.run()
-    told = f"bpftap: building: waiting for another build in this folder\n{STALE}\n"
-    scene.check("printed", seen, Seen(b"", told.encode(), 0))
+    wanted = f"bpftap: building: waiting for another build in this folder\n{STALE}\n"
+    scene.check("printed", seen, Seen(b"", wanted.encode(), 0))
     scene.check("the first one", (first.wait(timeout=LIMIT), len(source.calls())), (0, 4))
 
 
 @case
 def one_crate_is_checked(scene):
-    """`--check` builds what stands below a crate, and checks it with the flags that are given."""
+    """`--check` builds the libraries that a crate uses, and checks it with the flags that are given."""
     source = Source(scene)
     seen = source.run("--check", "middle", "--only", "middle::f")
     scene.check("printed, and the status", (b"--progress --only middle::f --jobs" in seen.out, seen.status), (True, 0))
@@ -420,7 +420,7 @@ def one_crate_is_checked(scene):
 
 @case
 def tests_of_one_crate_are_run(scene):
-    """`--test` builds what stands below a crate, and then its tests, and ends as these do."""
+    """`--test` builds the libraries that a crate uses, and then its tests, and ends as these do."""
     source = Source(scene)
     seen = source.run("--test", "middle")
     scene.check("passed", (seen.out, seen.status), (b"tests of middle_tests\n", 0))
@@ -433,8 +433,8 @@ def tests_of_one_crate_are_run(scene):
 
 
 @case
-def wrong_words_are_refused(scene):
-    """A crate that there is not, an option that there is not, and a PATH with no toolchain."""
+def bad_usage_is_refused(scene):
+    """A crate or an option that does not exist, and a PATH with no toolchain."""
     source = Source(scene)
     scene.check("no such crate", source.run("none"), Seen(b"", b"bpftap: crates.txt has no crate none\n", 1))
     for words in [("-x",), ("--check",), ("--test",), ("--test", "low", "middle"), ("low", "--check", "low"), ("--lanes", "low"), ("--release", "low")]:

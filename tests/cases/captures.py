@@ -1,5 +1,5 @@
 """`bpftap cut` over captures of each form: what is read of them, where they end, and how they are written."""
-from .common import ALL, ARP_RECORD, HEADER, IP, IP_RECORD, case, header, told
+from .common import ALL, ARP_RECORD, HEADER, IP, IP_RECORD, case, fault_lines, header
 
 NANO_HEADER = bytes.fromhex("4d3cb2a1") + HEADER[4:]
 BIG_HEADER = bytes.fromhex("a1b2c3d4 00020004 00000000 00000000 00040000 00000001")
@@ -13,7 +13,7 @@ def fields(*numbers, order="little"):
 # A record of two bytes, in both byte orders, and one with more captured than there was on the wire.
 TWO, BIG_TWO, ODD = fields(1, 5, 2, 60) + b"\7\10", fields(1, 5, 2, 60, order="big") + b"\7\10", fields(0, 0, 2, 1) + b"\7\10"
 
-# What begins a capture, and its fault: nothing is written.
+# The first bytes of a capture, and its fault: nothing is written.
 REFUSED = [
     (b"", "ShortHeader"), (HEADER[:23], "ShortHeader"), (b"no savefile", "ShortHeader"),
     (bytes.fromhex("0a0d0d0a") + HEADER[4:], "NotSavefile"),
@@ -27,7 +27,7 @@ REFUSED = [
     (HEADER[:20] + fields(113), "LinkType"), (HEADER[:20] + bytes.fromhex("01000024"), "LinkType"),
 ]
 
-# A capture, how it is written as little-endian nanoseconds behind its header, the fault, and the status.
+# A capture, its records as little-endian nanoseconds, the fault, and the status.
 READ = [
     (HEADER, b"", [], 0),
     # Reserved fields of any content, and the least and the greatest snapshot length
@@ -42,7 +42,7 @@ READ = [
     (BIG_HEADER + BIG_TWO + BIG_TWO[:17], fields(1, 5000, 2, 60) + TWO[16:], ["TornRecord 1"], 2),
     # More captured than there was on the wire, and than the header's snapshot length
     (HEADER[:16] + fields(1) + HEADER[20:] + ODD, ODD, [], 0),
-    # 999,999 and 1,000,000 microseconds, with a captured length of 262,145 too, and a length alone
+    # 999,999 and 1,000,000 microseconds, the latter also with a captured length of 262,145, and that length on its own
     (HEADER + fields(9, 999999, 0, 0), fields(9, 999999000, 0, 0), [], 0),
     (HEADER + fields(9, 1000000, 0, 0), b"", ["BadFraction 0"], 2),
     (HEADER + fields(9, 1000000, 262145, 0), b"", ["BadFraction 0"], 2),
@@ -83,7 +83,7 @@ def packets_before_a_fault_are_written(scene):
     """Each record that is whole, in nanoseconds, and then the fault."""
     for text, packets, faults, status in READ:
         scene.start({"in.pcap": text})
-        scene.expect("cut -s 0 -u nano in.pcap out.pcap", status, told(*faults))
+        scene.expect("cut -s 0 -u nano in.pcap out.pcap", status, fault_lines(*faults))
         scene.check(f"written of {text[:60].hex()}", scene.read("out.pcap"), NANO_HEADER + packets)
 
 

@@ -1,4 +1,4 @@
-"""`bpftap check`: an expression is one word, and its listing is printed or its fault told."""
+"""`bpftap check`: an expression is one word, and its listing is printed or its fault reported."""
 from .common import IP, case
 
 ACCEPTED = ["check ''", "check 'tcp or udp'", "check '(-1 = 1)'", "check -- '-1 = 1'"]
@@ -23,17 +23,17 @@ def is_listing(text):
 
 @case
 def an_accepted_expression_is_printed(scene):
-    """A listing is printed, nothing is told, and the status is 0."""
+    """A listing is printed, nothing is reported, and the status is 0."""
     for words in ACCEPTED:
         seen = scene.run(words)
         scene.check(f"listing of {words}", is_listing(seen.out), True)
-        scene.check(f"told of {words}, and its status", (seen.err, seen.status), (b"", 0))
+        scene.check(f"standard error of {words}, and its status", (seen.err, seen.status), (b"", 0))
     scene.expect("check ip", out=IP)
 
 
 @case
-def a_refused_expression_is_told(scene):
-    """The fault is told with its place in the word, nothing is printed, and the status is 1."""
+def a_refused_expression_is_reported(scene):
+    """The fault is reported with its place in the word, nothing is printed, and the status is 1."""
     for words, fault in REFUSED:
         scene.refuse(words, 1, fault)
 
@@ -53,23 +53,23 @@ def what_was_read_can_be_given_back(scene):
 
 @case
 def a_line_of_any_length_goes_out_whole(scene):
-    """A path of so many bytes is told as it is."""
+    """A path of this many bytes is reported as it is."""
     for length in (496, 497, 1000):
         scene.refuse(["check", "-f", "x" * length], 3, "Device " + "x" * length)
 
 
 @case
 def other_numbers_of_words_have_the_usage(scene):
-    """What is not one word is told with the usage of `check`, nothing is printed, and the status is 1."""
+    """If there is not exactly one word, the usage of `check` is reported, nothing is printed, and the status is 1."""
     for words in WRONG:
         seen = scene.run(words)
-        scene.check(f"usage behind {words}", b"Usage: bpftap check" in seen.err, True)
+        scene.check(f"usage after {words}", b"Usage: bpftap check" in seen.err, True)
         scene.check(f"printed of {words}, and its status", (seen.out, seen.status), (b"", 1))
 
 
 @case
 def help_has_an_example(scene):
-    """The help of `check` is printed with an example, nothing is told, and the status is 0."""
+    """The help of `check` is printed with an example, nothing is reported, and the status is 0."""
     seen = scene.run("check --help")
     scene.check("the example", b"bpftap check 'tcp dst port 80 or 443'" in seen.out, True)
-    scene.check("told, and the status", (seen.err, seen.status), (b"", 0))
+    scene.check("standard error, and the status", (seen.err, seen.status), (b"", 0))

@@ -14,7 +14,7 @@ ROOT = pathlib.Path(__file__).resolve().parent.parent.parent
 # The real capture, of 253 packets.
 VETH = ROOT / "examples" / "veth.pcap"
 
-# No run takes so many seconds.
+# No run takes longer than this many seconds.
 LIMIT = 120
 
 
@@ -57,8 +57,8 @@ ALL = "1\n6 0 0 262144\n"
 IP = "4\n40 0 0 12\n21 0 1 2048\n6 0 0 262144\n6 0 0 0\n"
 
 
-def told(*faults):
-    """What stands on standard error: a line for each fault."""
+def fault_lines(*faults):
+    """What standard error has: a line for each fault."""
     return "".join(f"bpftap: {fault}\n" for fault in faults)
 
 
@@ -67,17 +67,17 @@ def as_bytes(text):
 
 
 def words_of(words):
-    """The words that a text has as a shell takes it apart; a list has them already."""
+    """The words of a text, split as a shell does; a list has them already."""
     return shlex.split(words) if isinstance(words, str) else words
 
 
 def text_of(words):
-    """A text for words, by which a failure names them."""
+    """A text for words, which names them in a failure."""
     return words if isinstance(words, str) else shlex.join(os.fsdecode(word) for word in words)
 
 
 def difference(seen, wanted):
-    """Both values; of files those that differ, and of long texts what stands round the first character that differs."""
+    """Both values; of files those that differ, and of long texts the part around the first character that differs."""
     if isinstance(seen, dict):
         seen, wanted = dict(sorted(seen.items() - wanted.items())), dict(sorted(wanted.items() - seen.items()))
     texts = [repr(seen), repr(wanted)]
@@ -89,14 +89,15 @@ def difference(seen, wanted):
 
 @dataclass(frozen=True)
 class Seen:
-    """What a run printed on standard output and told on standard error, and its exit status."""
+    """What a run printed on standard output and on standard error, and its exit status."""
     out: bytes
     err: bytes
     status: int
 
 
 class Scene:
-    """The folder that a case runs in, and what was found there: how much as wanted, lines of what was not, and of what was not tried."""
+    """The folder that a case runs in, and its results: how many checks passed, a line for each that failed, and what was left
+    untried."""
 
     def __init__(self, folder):
         self.folder = folder
@@ -105,7 +106,7 @@ class Scene:
         self.untried = []
 
     def has(self, *tools):
-        """Whether these tools are on the PATH; if not, it is told that something is not tried."""
+        """Whether these tools are on the PATH; if not, notes that something was left untried."""
         missing = [tool for tool in tools if not shutil.which(tool)]
         if missing:
             self.leave(f"{', '.join(missing)} can't be found")
@@ -134,16 +135,16 @@ class Scene:
             (self.folder / name).write_bytes(as_bytes(content))
 
     def read(self, name):
-        """The bytes of a file, or nothing where it is missing."""
+        """The bytes of a file, or `None` if it is missing."""
         path = self.folder / name
         return path.read_bytes() if path.is_file() else None
 
     def files(self):
-        """All that stands in the folder: the bytes of each file, and nothing for each folder."""
+        """All that is in the folder: the bytes of each file, and `None` for each folder."""
         return {str(path.relative_to(self.folder)): self.read(path) for path in self.folder.rglob("*")}
 
     def run(self, words, streams="", first=""):
-        """Runs the program on words, with redirections as a shell has them, behind what the shell is to do first."""
+        """Runs the program on words, with redirections in a shell's notation, after the commands of `first`."""
         command = [PROGRAM, *words_of(words)]
         if streams or first:
             command = ["bash", "-c", f'{first}\nexec "$0" "$@" {streams}', *command]
@@ -151,7 +152,7 @@ class Scene:
         return Seen(done.stdout, done.stderr, done.returncode)
 
     def run_into(self, room, words):
-        """The same with a standard output that takes so many bytes and then fails: a file that may not grow further."""
+        """Runs the program with a standard output that takes this many bytes and then fails: a file that may not grow further."""
         def narrow():
             signal.signal(signal.SIGXFSZ, signal.SIG_IGN)
             resource.setrlimit(resource.RLIMIT_FSIZE, (room, room))
@@ -163,7 +164,7 @@ class Scene:
         return Seen(output.read_bytes(), done.stderr, done.returncode)
 
     def run_unread(self, words):
-        """The same with a standard output that is a pipe which nobody reads."""
+        """Runs the program with a standard output that is a pipe which nobody reads."""
         reader, writer = os.pipe()
         os.close(reader)
         done = subprocess.run(
@@ -173,15 +174,15 @@ class Scene:
         return Seen(b"", done.stderr, done.returncode)
 
     def expect(self, words, status=0, err="", out="", streams="", first=""):
-        """Runs the program, and checks all that it printed and told, and its status."""
+        """Runs the program, and checks all that it printed, and its status."""
         wanted = Seen(as_bytes(out), as_bytes(err), status)
         self.check(f"{first} {text_of(words)} {streams}".strip(), self.run(words, streams, first), wanted)
 
     def refuse(self, words, status, *faults):
-        """Checks that words are refused: faults are told, nothing is printed, and no file is made, changed or lost."""
+        """Checks that words are refused: faults are reported, nothing is printed, and no file is made, changed or lost."""
         before = self.files()
-        self.expect(words, status, told(*faults))
-        self.check(f"files behind {text_of(words)}", self.files(), before)
+        self.expect(words, status, fault_lines(*faults))
+        self.check(f"files after {text_of(words)}", self.files(), before)
 
 
 def records(text):

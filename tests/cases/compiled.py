@@ -1,5 +1,5 @@
 """Expressions from their text to their program: what it answers beside what decided, and what it looks like."""
-from .common import HEADER, IP, ROOT, VETH, case, header, told
+from .common import HEADER, IP, ROOT, VETH, case, fault_lines, header
 
 UDP_FRAME = bytes.fromhex("ffffffffffff 000102030405 0800 45000018 00000000 40110000 0a000001 0a000002 00350035")
 
@@ -24,13 +24,13 @@ THIRTEEN = "port (1 or 2 or 3 or 4 or 5 or 6 or 7 or 8 or 9 or 10 or 11 or 12 or
 WORKED = [
     # A byte past the end aborts under a negation too.
     ("not tcp", UDP_FRAME[:20], "Abort"), ("not arp", UDP_FRAME[:20], "Yes"),
-    # All six bytes of an address are wanted.
+    # A test of an address needs all six of its bytes.
     ("ether host 0:1:2:3:4:5", bytes(range(10)), "Abort"), ("ether dst host 0:1:2:3:4:5", bytes(range(10)), "Yes"),
-    # The first member asks for its destination before a later one is asked: a frame without it is rejected, also where a later
-    # member has the source.
+    # The first member needs its destination before a later one is asked: a frame without it is rejected, even if a later member has the
+    # source.
     ("src host 10.0.0.9 or 10.0.0.1", UDP_FRAME[:30], "Yes"), ("host 10.0.0.9 or 10.0.0.1", UDP_FRAME[:30], "Abort"),
     ("host 10.0.0.1 or 10.0.0.9", UDP_FRAME[:30], "Yes"), ("host 10.0.0.9 or 10.0.0.1", UDP_FRAME, "Yes"),
-    # A word of a protocol that is not there leaves open whether an address is.
+    # A protocol word that is not there leaves open whether an address is.
     ("(arp and host 10.0.0.9) or (arp and host 10.0.0.1)", UDP_FRAME[:30], "No"), ("host 10.0.0.9 and arp or udp", UDP_FRAME[:30], "Abort"),
     # `and` binds as `or` does.
     ("udp or tcp and arp", UDP_FRAME, "No"),
@@ -43,7 +43,7 @@ WORKED = [
     ("ether proto \\ip or ether proto \\rarp", UDP_FRAME, "Yes"), ("ether proto \\ip or ether proto \\rarp", ARP_FRAME, "No"),
     ("not ip multicast", UDP_FRAME, "Yes"), ("not ip multicast", ARP_FRAME, "Yes"),
     ("greater 39", UDP_FRAME, "No"), ("greater 39", ARP_FRAME, "Yes"),
-    # What weighs 480 compiles, and what weighs 520 may, where it fits; so does a chain of 272.
+    # Weight 480 compiles, and weight 520 may, if it fits; so does a chain of 272.
     (TWELVE, UDP_FRAME, "No"), (TWELVE, changed(36, 0, 12), "Yes"), (TWELVE, changed(36, 0, 1), "Yes"),
     (THIRTEEN, UDP_FRAME, "No"), (THIRTEEN, changed(36, 0, 13), "Yes"),
     ("ip" + "||ip" * 271, UDP_FRAME, "Yes"), ("ip" + "||ip" * 271, ARP_FRAME, "No"),
@@ -54,15 +54,15 @@ WORKED = [
 
 # Relations, and what they answer of the UDP frame; their negations answer the opposite, and an Abort stays one.
 RELATIONS = [
-    # Accessors read behind their headers.
+    # Accessors read past their headers.
     ("udp[0:2] = 53", "Yes"), ("ip[0] & 15 = 5", "Yes"), ("ether[12:2] = 0x800", "Yes"), ("ip[12:4] = 0x0a000001", "Yes"),
-    # A layer that is not there is a No; all layers come before all values, and that of an index is wanted too.
+    # A layer that is not there is a No; all layers come before all values, and an index needs its layers too.
     ("tcp[tcpflags] & tcp-syn != 0", "No"), ("icmp[0] = 0", "No"), ("arp[0] = udp[4]", "No"), ("udp[4] = arp[0]", "No"),
     ("ip[tcp[0]] = 0", "No"),
     # A byte past the end aborts, on either side.
     ("udp[4] = 0", "Abort"), ("udp[3] = 53", "Yes"), ("udp[3:2] = 0", "Abort"), ("ether[38] < len", "Abort"),
     ("len < ether[38]", "Abort"),
-    # The length of a header wraps alone: one before the header of UDP, and twenty.
+    # Only the length of a header wraps: one before the header of UDP, and twenty.
     ("udp[4294967295] = 2", "Yes"), ("udp[4294967276] = 0x45", "Yes"), ("ip[4294967295] = 0", "Abort"),
     ("ether[4294967295] = 0", "Abort"), ("udp[0 - 1] = 2", "Yes"), ("ip[0 - 1] = 0", "Abort"), ("ether[0 - 1] = 0", "Abort"),
     # Indices are computed.
@@ -74,7 +74,7 @@ RELATIONS = [
     ("1+(" * 15 + "1+1" + ")" * 15 + " = 17", "Yes"), ("16 = " + "1+(" * 14 + "1+1" + ")" * 14, "Yes"),
 ]
 
-# The same of a packet of which nothing was captured, by its length on the wire.
+# A packet of which nothing was captured, by its original length.
 DIVIDED = [
     ("10 / (len - 60) = 1", 60, "Abort"), ("10 / (len - 60) = 1", 70, "Yes"), ("10 / (len - 60) = 1", 50, "No"),
     ("7 % (len - 60) = 1", 60, "Abort"), ("7 % (len - 60) = 1", 62, "Yes"), ("7 % (len - 60) = 1", 67, "No"),
@@ -102,7 +102,7 @@ FULL = [
     ("ether[1]" + "+ether[1]" * 7 + " = ether[3]" + "+ether[3]" * 3, "Yes"),
 ]
 
-# Frames that come to each branch of each primitive.
+# Frames for each branch of each primitive.
 FRAMES = [
     # UDP, 10.0.0.1 port 53 to 10.0.0.2 port 53
     "ffffffffffff 000102030405 0800 4500001800000000 4011 0000 0a000001 0a000002 00350035",
@@ -110,7 +110,7 @@ FRAMES = [
     "000102030405 060708090a0b 0800 4500002800000000 4006 0000 0a000003 0a000001 005001bb 0000000000000000 50020000",
     # SCTP, to a multicast address
     "01005e000001 000102030405 0800 4500002000000000 4084 0000 0a000001 e0000001 00350050 00000000",
-    # UDP behind a header of 24 bytes
+    # UDP after a header of 24 bytes
     "000102030405 060708090a0b 0800 4600001c00000000 4011 0000 0a000001 0b000001 01010100 00500035",
     # a header that claims to have no bytes, and one that claims 60
     "000102030405 060708090a0b 0800 4000001800000000 4006 0000 0a000001 0a000002 00350035",
@@ -127,8 +127,8 @@ FRAMES = [
     "333300000001 000102030405 86dd 6000000000081140 00000000000000000000000000000001",
 ]
 
-# Lists of each kind, also behind another test, behind a test of what they share, under `not`, and beside other lists. A frame is
-# cut between the source and the destination of the first one, of which the second member has the source.
+# Lists of each kind, also after another test, after a test of what they share, under `not`, and beside other lists. A frame is cut between
+# the source and the destination of the first member, and the second member has the source.
 LISTS = [
     "host 10.0.0.2 or 10.0.0.1", "host 9.9.9.9 or 10.0.0.3 or 10.0.0.2 or 8.8.8.8", "ip host 9.9.9.9 or 10.0.0.2",
     "arp host 9.9.9.9 or 10.0.0.2", "rarp host 10.0.0.3 or 10.0.0.1", "src host 9.9.9.9 or 10.0.0.3 or 10.0.0.1",
@@ -155,7 +155,7 @@ LISTS = [
     "host 9.9.9.9 or net 11.0.0.0/8 or host 10.0.0.2 or net 224.0.0.0/8",
     "not host 9.9.9.9 and not net 11.0.0.0/8 and not host 10.0.0.2 and not net 224.0.0.0/8",
     "tcp port 9 or tcp[2:2] = 443 or tcp port 80 or tcp[2:2] = 53",
-    # of which all of one kind are asked before the other, and of which one has what the other asks for
+    # of which all of one kind are asked before the other, and one has what the other asks for
     "ip dst host 9.9.9.9 or src host 10.0.0.3 or ip dst host 10.0.0.1 or src host 10.0.0.2",
     "ip host 9.9.9.9 or dst host 8.8.8.8 or ip host 10.0.0.2 or dst host 10.0.0.3",
     "not ip dst host 9.9.9.9 and not src host 10.0.0.3 and not ip dst host 10.0.0.2 and not src host 10.0.0.1",
@@ -177,25 +177,25 @@ LISTS = [
     "tcp port 9 or udp port 9 or tcp port 443 or udp port 443 or ip proto 17 or ip proto 1",
     "(tcp port 9 or udp port 9 or tcp port 443 or udp port 443) or sctp port 53 or 80",
     "host 9.9.9.9 or 10.0.0.2 or (udp port 9 or tcp port 9 or udp port 443 or tcp port 443)",
-    # in another order, with one port more or another side of one of them, and of TCP and SCTP, which are two
+    # in another order, with one more port or another side of one of them, and of TCP and SCTP, which are two
     "tcp port 443 or udp port 53 or tcp port 53 or udp port 443", "udp port 53 or tcp port 53 or udp port 80 or tcp port 80 or udp port 9",
     "tcp port 443 or udp port 443 or tcp port 53 or udp port 53 or tcp port 80",
     "tcp port 9 or udp port 9 or tcp portrange 440-450 or udp port 443", "tcp src port 80 or udp dst port 80 or tcp src port 53 or udp dst port 53",
     "tcp port 80 or sctp port 80 or tcp port 53 or sctp port 53", "sctp port 9 or udp port 9 or sctp port 53 or udp port 53",
-    # Ethernet hosts, of which no frame has the last four bytes of one behind the first two of another
+    # Ethernet hosts; no frame has the last four bytes of one after the first two of another
     "ether src 0:1:2:3:4:6 or 0:1:2:3:4:5 or 0:1:9:3:4:5", "ether src 9:9:2:3:4:5 or 9:9:2:3:4:6",
     "ether src 9:9:2:3:4:5 or 9:9:2:3:4:6 or 0:1:2:3:4:6 or 0:1:2:3:4:7",
     "ether dst ff:ff:0:0:0:1 or ff:ff:ff:ff:ff:ff", "ether dst 9:9:ff:ff:ff:ff or 9:9:ff:ff:ff:fe",
     "ether host 9:9:ff:ff:ff:ff or 9:9:2:3:4:5", "ether host 0:1:2:3:4:6 or 0:1:2:3:4:7 or 0:1:2:3:4:5",
     "ether host 33:33:0:0:0:2 or 33:33:0:0:0:1", "ether src 0:1:2:3:4:6 or host 9.9.9.9 or ether src 0:1:2:3:4:5 or host 10.0.0.2",
     "not ether host 0:1:2:3:4:6 and not ether host 9:9:2:3:4:5 and not ether host 0:1:2:3:4:7",
-    # Ethernet hosts of any addresses, of which one that has the last four bytes of another may come behind a third one
+    # Ethernet hosts of any addresses; one that has the last four bytes of another may come after a third one
     "ether src 0:1:9:9:9:9 or 9:9:2:3:4:5 or 0:1:2:3:4:5", "ether src 9:9:2:3:4:5 or 8:8:2:3:4:5 or 0:1:2:3:4:5",
     "ether src 8:8:2:3:4:5 or 7:7:9:9:9:9 or 0:1:2:3:4:5 or 6:6:2:3:4:5", "ether dst 9:9:ff:ff:ff:ff or 8:8:9:9:9:9 or 7:7:0:0:0:1 or ff:ff:ff:ff:ff:ff",
     "ether host 9:9:2:3:4:5 or 8:8:9:9:9:9 or 6:7:8:9:a:b", "ether src 9:9:2:3:4:5 or 8:8:9:9:9:9 or ip", "not ether src 9:9:2:3:4:5 and not ether src 8:8:9:9:9:9",
     "(ether src 9:9:2:3:4:5 or 8:8:9:9:9:9) or ether dst 7:7:ff:ff:ff:ff or ether src 0:1:2:3:4:5", "ether src 9:9:2:3:4:5 or 8:8:9:9:9:9 or ether[8:4] = 0x2030405",
     "ether src 9:9:2:3:4:5 or ether[8:4] = 0x8090a0b or ether src 0:1:9:9:9:9", "(ether src 9:9:2:3:4:5 or 0:1:9:9:9:9 or 8:8:8:9:a:b) and port 80",
-    # a protocol word and a host or port behind it
+    # a protocol word, and a host or port after it
     "(ip and host 9.9.9.9) or (ip and host 10.0.0.2) or (ip and host 10.0.0.3)", "(arp and host 10.0.0.2) or (arp and dst host 9.9.9.9) or (arp and src host 10.0.0.1)",
     "(rarp and net 11.0.0.0/8) or (rarp and net 10.0.0.0/8)", "(tcp and port 9) or (tcp and port 443) or tcp port 53", "(udp and src port 9) or (udp and src port 53)",
     "(sctp and portrange 70-80) or (sctp and port 9)", "(tcp and port 9) or (udp and port 9) or (tcp and port 53) or (udp and port 53)",
@@ -208,7 +208,7 @@ LISTS = [
     "ip[6] & 32 != 0 or ip[6] & 64 = 0 or ip[8] & 1 = 0", "not ip[8] < 64 and not ip[8] > 64", "ether[6:4] != 1 and ether[6:4] != 0x10203 and tcp",
 ]
 
-# The words before a list, what stands before the number of each member, how many members, and how many instructions they take.
+# The words before a list, the words before the number of each member, how many members, and how many instructions they take.
 SIZES = [
     ("host ", "10.0.0.", 100, 315), ("src host ", "10.0.0.", 100, 115), ("dst net ", "10.0.", 100, 115),
     ("net ", "10.0.", 30, 107), ("port ", "", 200, 416), ("tcp port ", "", 200, 414), ("ip proto ", "", 100, 115),
@@ -218,7 +218,7 @@ SIZES = [
     ("", "len = ", 100, 103), ("port ", "", 248, 512), ("tcp port ", "", 249, 512), ("dst port ", "", 498, 512), ("", "tcp[4:4]=", 500, 512), ("", "ip[8]=", 504, 512),
 ]
 
-# Two members by turns, each for as many numbers, how many they are together, and how many instructions they take.
+# Two members by turns, how many numbers each has, how many they are together, and how many instructions they take.
 BY_TURNS = [
     ("tcp port {}", "udp port {}", 4, 17), ("udp port {}", "tcp port {}", 10, 23), ("tcp port {}", "udp port {}", 30, 43),
     ("udp port {}", "tcp port {}", 100, 113), ("tcp src port {}", "udp src port {}", 100, 62),
@@ -278,13 +278,13 @@ CODES = [
     # A number that was loaded is compared again, with whatever sign.
     ("len < 60 or len > 100", [128, 53, 37]), ("ip[8] != 1 and ip[8] != 2", IS_IP + [BYTE, 21, 21]),
     ("ether[0] & 1 = 0 and ether[0] & 2 = 0 and ether[0] < 9", [BYTE, 69, 69, 53]), ("ip[8] = 1 and ip[9] = 1", IS_IP + [BYTE, 21, BYTE, 21]),
-    # A layer that was tested is not tested again. Of IPv4 the type alone is known; later fragments are not left out by `tcp`.
+    # A layer that was tested is not tested again. For IPv4 only the type is known; later fragments are not left out by `tcp`.
     ("tcp[0] = 0 and tcp[1] = 0", FIRST_OF_TCP + BEHIND_HEADER * 2),
     ("ip[0] = 0 and tcp[0] = 0", IS_IP + [BYTE, 21] + IS_PROTOCOL + IS_FIRST + BEHIND_HEADER),
     ("tcp and tcp[0] = 0", FIRST_OF_TCP + BEHIND_HEADER),
     # It is tested once within a relation.
     ("ip[0] = ip[1]", IS_IP + [BYTE, 2, BYTE, 7, 96, 29]),
-    # A packet of IPv4 comes to the second relation behind its type; one of another type passes it.
+    # A packet of IPv4 reaches the second relation after its type; one of another type passes it.
     ("not tcp[0] = 0 and tcp[0] = 0", FIRST_OF_TCP + BEHIND_HEADER + IS_PROTOCOL + IS_FIRST + BEHIND_HEADER),
     ("tcp[0] = 0 or tcp[1] = 0", FIRST_OF_TCP + BEHIND_HEADER + IS_PROTOCOL + IS_FIRST + BEHIND_HEADER),
 ]
@@ -313,7 +313,7 @@ def answers(scene, expr, packet, wire, want):
 
 
 def both_answer(scene, expr, packet, wire, want):
-    """The same of a relation and of its negation, which answers the opposite."""
+    """A relation and its negation, which gives the opposite answer."""
     answers(scene, expr, packet, wire, want)
     answers(scene, f"not ({expr})", packet, wire, {"Yes": "No", "No": "Yes", "Abort": "Abort"}[want])
 
@@ -386,7 +386,7 @@ def lists_by_turns_fit(scene):
 
 @case
 def lists_by_turns_are_asked_kind_by_kind(scene):
-    """Where that answers the same, they have the programs of lists that stand so."""
+    """If the answers stay the same, members by turns compile to the program of the lists, one kind after the other."""
     for by_turns, by_kind in IN_TURN:
         scene.check(by_turns, program_of(scene, by_turns), program_of(scene, by_kind))
 
@@ -405,7 +405,7 @@ def each_printed_listing_is_the_program(scene):
     """It is read again as itself, and accepts the packets of the real capture that the expression does."""
     for expr in WORDS:
         listing = scene.run(["check", "--", expr])
-        scene.check(f"told of {expr!r}, and its status", (listing.err, listing.status), (b"", 0))
+        scene.check(f"standard error of {expr!r}, and its status", (listing.err, listing.status), (b"", 0))
         scene.put({"printed.bpf": listing.out})
         scene.expect("check -f printed.bpf", out=listing.out)
         for option, filter in [("-e", expr), ("-f", "printed.bpf")]:
@@ -414,11 +414,11 @@ def each_printed_listing_is_the_program(scene):
 
 
 @case
-def a_listing_that_is_not_taken_is_told(scene):
+def a_listing_that_is_not_taken_is_reported(scene):
     """Standard output that has no room, or for five bytes."""
     for room in (0, 5):
         seen = scene.run_into(room, "check ip")
-        wanted = (IP.encode()[:room], told("Device standard output").encode(), 3)
+        wanted = (IP.encode()[:room], fault_lines("Device standard output").encode(), 3)
         scene.check(f"with room for {room}", (seen.out, seen.err, seen.status), wanted)
 
 
@@ -442,7 +442,7 @@ def a_jump_is_long_where_it_must_be(scene):
         scene.check(f"long jumps of {expr!r}", [code for code, *_ in program_of(scene, expr) if code == 5], [])
     program = program_of(scene, "greater 1" + "&&greater 1" * 127)
     scene.check("128 tests", (len(program), sum(code == 5 for code, *_ in program)), (131, 0))
-    # A return that is out of reach is made again where the jump leads, but what stands before another test is not.
+    # A return that is out of reach is emitted again where the jump leads, but the code before another test is not.
     long = "greater 1" + "&&greater 1" * 128
     scene.check("129 tests", sum(code == 5 for code, *_ in program_of(scene, long)), 0)
     scene.check("129 tests before another", sum(code == 5 for code, *_ in program_of(scene, f"({long}) or arp")), 1)
@@ -450,7 +450,7 @@ def a_jump_is_long_where_it_must_be(scene):
 
 @case
 def what_does_not_fit_is_refused(scene):
-    """A chain of 2,048, a value that is nested too deep, wherever it stands, and one that is too deep and too long."""
+    """A chain of 2,048, a value that is nested too deep, wherever it is, and one that is too deep and too long."""
     for snap in ("1", "262144"):
         scene.refuse(["check", "-s", snap, "ip" + "||ip" * 2047], 1, "TooLong")
     deep = "1+(" * 16 + "1+1" + ")" * 16

@@ -22,7 +22,7 @@ _bpftap bpftap "${@: -1}" "${COMP_WORDS[COMP_CWORD - 1]}"
 
 
 def offered(*words):
-    """What bash offers for the last of these words behind the program's name."""
+    """What bash offers for the last of these words after the program's name."""
     done = subprocess.run(
         ["bash", "--norc", "-c", ASK, str(FOLDER / "bpftap.bash"), *words], stdin=subprocess.DEVNULL, capture_output=True,
         text=True, timeout=LIMIT)
@@ -60,7 +60,7 @@ OFFERED = [
     (["explain", "-f", ""], ["FILES"]),
     (["explain", "-e", "ip", ""], ["FILES"]),
     (["steps", "-v", ""], ["FILES"]),
-    # The name of a command is a file where a file is wanted.
+    # The name of a command is a file if a file is expected.
     (["steps", "run"], ["FILES"]),
     (["run", "listeners.txt", "in.pcap", "+", ""], ["FILES"]),
     (["check", ""], []),
@@ -70,13 +70,13 @@ OFFERED = [
 
 @case
 def bash_offers_what_fits(scene):
-    """At each place the commands, options, values or files that may stand there are offered, and nothing else."""
+    """Each place offers the commands, options, values or files that fit there, and nothing else."""
     for words, wanted in OFFERED:
         scene.check(f"offered for {words}", offered(*words), wanted)
 
 
 def typed(keys, wanted, folder):
-    """What a bash at a terminal shows when keys are typed, up to where it shows the wanted text; at most so many seconds."""
+    """What a bash at a terminal shows when keys are typed, up to the wanted text, or until this many seconds have passed."""
     child, terminal = pty.fork()
     if child == 0:
         os.chdir(folder)
@@ -100,14 +100,14 @@ def typed(keys, wanted, folder):
 def a_terminal_completes(scene):
     """In a bash at a terminal a tab completes a command, a value, and a file's name with a blank."""
     (scene.folder / "a listing.bpf").touch()
-    # What is completed is shown by echo: the word bpftap stands before the words alone.
+    # echo shows what is completed: the word bpftap comes before only the words.
     source = f"source '{FOLDER / 'bpftap.bash'}'; bpftap() {{ printf 'got'; printf ' <%s>' \"$@\"; echo; }}\n".encode()
     for keys, wanted in [
         (b"bpftap che\t\n", b"got <check>\r\n"),
         (b"bpftap cut -o l\t\n", b"got <cut> <-o> <little>\r\n"),
         (b"bpftap cut -f a\t\n", b"got <cut> <-f> <a listing.bpf>\r\n"),
     ]:
-        scene.check(f"{wanted} behind {keys}", wanted in typed(source + keys, wanted, scene.folder), True)
+        scene.check(f"{wanted} after {keys}", wanted in typed(source + keys, wanted, scene.folder), True)
 
 
 @case

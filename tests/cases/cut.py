@@ -1,7 +1,7 @@
 """`bpftap cut`: which files are opened in which order, what is kept of them, and what OUT has."""
 import os
 
-from .common import ALL, ARP_RECORD, HEADER, IP, IP_RECORD, TORN, WHOLE, case, told
+from .common import ALL, ARP_RECORD, HEADER, IP, IP_RECORD, TORN, WHOLE, case, fault_lines
 
 # `cut -s 0 -f` of a LISTING, IN and OUT, the status, and the fault.
 REFUSED = [
@@ -24,7 +24,8 @@ REFUSED = [
 
 @case
 def files_are_opened_in_order(scene):
-    """The first file that fails is told and OUT keeps what it had; else OUT has the packets before a torn record."""
+    """The first file that fails is reported and OUT keeps what it had; else OUT has the packets before a torn
+    record."""
     (scene.folder / "folder").mkdir()
     scene.put({
         "all.bpf": ALL, "ip.bpf": IP, "bad.bpf": "1\n8 0 0 1\n", "no.pcap": "no savefile, but a text",
@@ -34,8 +35,8 @@ def files_are_opened_in_order(scene):
         scene.refuse(f"cut -s 0 -f {paths}", status, fault)
     before = scene.files()
     scene.expect("cut -s 0 -f ip.bpf in.pcap kept.pcap")
-    scene.expect("cut -s 0 -f all.bpf torn.pcap out.pcap", 2, told("TornRecord 1"))
-    scene.check("files behind both", scene.files(), {**before, "kept.pcap": WHOLE, "out.pcap": WHOLE})
+    scene.expect("cut -s 0 -f all.bpf torn.pcap out.pcap", 2, fault_lines("TornRecord 1"))
+    scene.check("files after both", scene.files(), {**before, "kept.pcap": WHOLE, "out.pcap": WHOLE})
 
 
 @case
@@ -50,11 +51,11 @@ def out_is_no_file_that_is_read(scene):
     # Also a fifo, which nobody opens.
     os.mkfifo(scene.folder / "fifo")
     scene.refuse("cut -s 0 fifo ./fifo", 1, "SameFile ./fifo")
-    # An IN that is not there cannot be opened, whatever OUT is.
+    # A missing IN cannot be opened, whatever OUT is.
     os.symlink("new.pcap", scene.folder / "link")
     for read, out in [("new.pcap", "new.pcap"), ("new.pcap", "./new.pcap"), ("new.pcap", "link"), ("link", "new.pcap")]:
         scene.refuse(f"cut -s 0 {read} {out}", 3, f"Device {read}")
-    # What is no regular file loses nothing, so that the capture's own fault is told; but the same text is one file.
+    # A file that is not regular loses nothing, so the capture's own fault is reported; but the same text is one file.
     scene.refuse("cut -s 0 -f all.bpf /dev/null /dev/./null", 1, "ShortHeader")
     scene.refuse("cut -s 0 -f all.bpf /dev/null /dev/null", 1, "SameFile /dev/null")
 
@@ -64,8 +65,8 @@ def the_count_comes_after_the_hints(scene):
     """With -c the count is the last line: below a fault come its hints first."""
     scene.put({"torn.pcap": TORN})
     hint = "  the file ends inside this record: was it cut off, or is it still being written?\n"
-    scene.expect("--hints cut -s 0 -c torn.pcap out.pcap", 2, told("TornRecord 1") + hint + "1 of 1 packets\n")
-    scene.expect("cut -s 0 -c torn.pcap out.pcap", 2, told("TornRecord 1") + "1 of 1 packets\n")
+    scene.expect("--hints cut -s 0 -c torn.pcap out.pcap", 2, fault_lines("TornRecord 1") + hint + "1 of 1 packets\n")
+    scene.expect("cut -s 0 -c torn.pcap out.pcap", 2, fault_lines("TornRecord 1") + "1 of 1 packets\n")
 
 
 # Options of a cut of one IPv4 record, and what OUT has then.
@@ -93,7 +94,7 @@ def the_words_values_are_used(scene):
         writes(scene, f"cut {options} -f all.bpf in.pcap out.pcap", {"all.bpf": ALL, "in.pcap": WHOLE}, written)
 
 
-# What stands before IN and OUT, and what is kept.
+# The words before IN and OUT, and what is kept.
 FILTERS = [
     ("-s 0 -e ip", HEADER + IP_RECORD),
     ("-s 0 -e arp", HEADER + ARP_RECORD),
@@ -110,17 +111,17 @@ def a_cut_keeps_what_its_expression_accepts(scene):
 
 
 def writes(scene, words, files, written):
-    """A cut makes OUT, where nothing or something longer stood, and leaves all other files."""
+    """A cut creates OUT, or overwrites something longer there, and leaves all other files."""
     for old in [{}, {"out.pcap": "what stood there before " * 8}]:
         scene.start({**files, **old})
         before = scene.files()
         scene.expect(words)
-        scene.check(f"files behind {words}", scene.files(), {**before, "out.pcap": written})
+        scene.check(f"files after {words}", scene.files(), {**before, "out.pcap": written})
 
 
 @case
 def filters_go_before_files(scene):
-    """Two filters, or a refused expression, are told before any file is opened: none of these is there."""
+    """Two filters, or a refused expression, are reported before any file is opened: none of these exists."""
     scene.refuse("cut -s 0 -f no.bpf -e 'tcp and 80' no.pcap no/out.pcap", 1, "FilterTwice")
     scene.refuse("cut -s 0 -e 'tcp and 80' no.pcap no/out.pcap", 1, "NoQualifier 8")
     # Without either IN is the first that is missing.

@@ -5,10 +5,10 @@ EXAMPLES = ROOT / "examples"
 
 
 def page(name, *begins):
-    """The lines of an example's page that stand apart and begin so."""
+    """The lines of an example's page that are indented and begin with this."""
     lines = (EXAMPLES / name / "README.md").read_text().splitlines()
-    told = [line[4:] for line in lines if line.startswith("    ") and line[4:].startswith(begins)]
-    return "".join(line + "\n" for line in told)
+    found = [line[4:] for line in lines if line.startswith("    ") and line[4:].startswith(begins)]
+    return "".join(line + "\n" for line in found)
 
 
 @case
@@ -17,7 +17,7 @@ def the_example_of_run(scene):
     printed = ""
     for words in [["listeners.txt", VETH], ["two.txt", VETH, "+", EXAMPLES / "veth-big-nano.pcap"]]:
         seen = scene.run(["run", EXAMPLES / "run" / words[0], *words[1:]])
-        scene.check(f"told of {words[0]}, and its status", (seen.err, seen.status), (b"", 0))
+        scene.check(f"standard error of {words[0]}, and its status", (seen.err, seen.status), (b"", 0))
         printed += seen.out.decode()
     scene.check("both", printed, page("run", "interface"))
 
@@ -35,6 +35,6 @@ def the_example_of_steps(scene):
     reports = page("steps", "listener", "batch", "capture", "held")
     scene.expect(["steps", *words], out=reports)
     explained = scene.run(["steps", "-v", *words]).out.decode()
-    scene.check("reports behind -v", explained.endswith(reports), True)
+    scene.check("reports after -v", explained.endswith(reports), True)
     answers = [line.split()[1:3] for line in explained.splitlines() if line.startswith("  listener")]
     scene.check("answers", " ".join(" ".join(answer) for answer in answers), ANSWERS)

@@ -1,7 +1,7 @@
 """`bpftap explain`, `check -x` and `cut -c`: what decided of each packet, one packet in full, and counts."""
 import subprocess
 
-from .common import ALL, ARP_RECORD, HEADER, IP, IP_RECORD, TCP_RECORD, TORN, UDP_RECORD, VETH, WHOLE, case, told
+from .common import ALL, ARP_RECORD, HEADER, IP, IP_RECORD, TCP_RECORD, TORN, UDP_RECORD, VETH, WHOLE, case, fault_lines
 
 MIXED = HEADER + ARP_RECORD + IP_RECORD + TCP_RECORD + UDP_RECORD
 
@@ -12,13 +12,13 @@ UDP_HEAD = "place 3 time 2.000000000 len 38 captured 38 "
 
 
 def lines(*ends):
-    """The lines of the four packets, by what stands behind their lengths, and that of the counts."""
+    """The lines of the four packets, by what follows their lengths, and the line of the counts."""
     *packets, counts = ends
     heads = [ARP_HEAD, IP_HEAD, TCP_HEAD, UDP_HEAD]
     return "".join(f"{head}{end}\n" for head, end in zip(heads, packets)) + f"4 packets: {counts}\n"
 
 
-# An expression, what stands behind the lengths of each packet, and the counts.
+# An expression, what follows the lengths of each packet, and the counts.
 EXPLAINED = [
     ("", ["Yes the empty expression"] * 4 + ["4 Yes, 0 No, 0 Abort"]),
     ("arp", ["Yes arp", "No arp", "No arp", "No arp", "1 Yes, 3 No, 0 Abort"]),
@@ -34,7 +34,7 @@ EXPLAINED = [
 
 @case
 def each_packet_is_explained(scene):
-    """What decided is named, behind `not` where it stands under one, and an Abort has its cause."""
+    """The part that decided is named, with `not` before it if it is under one, and an Abort has its cause."""
     scene.start({"in.pcap": MIXED})
     for expr, ends in EXPLAINED:
         scene.expect(["explain", "-e", expr, "in.pcap"], out=lines(*ends))
@@ -42,7 +42,7 @@ def each_packet_is_explained(scene):
 
 @case
 def a_listing_is_explained(scene):
-    """The number that a program returns stands with the place and the name of the instruction; a run without a return is an Abort."""
+    """The number that a program returns comes with the place and the name of the instruction; a run without a return is an Abort."""
     # The last byte of an IPv4 frame's first 14 is there; byte 23 is not.
     protocol = "4\n48 0 0 23\n21 0 1 6\n6 0 0 96\n6 0 0 0\n"
     scene.start({"in.pcap": MIXED, "ip.bpf": IP, "protocol.bpf": protocol})
@@ -54,7 +54,8 @@ def a_listing_is_explained(scene):
 
 @case
 def the_program_answers_the_snapshot_length(scene):
-    """`-s` is what the program of the expression answers, 0 the greatest; a listing has its own, and the lines are the same."""
+    """`-s` is the snapshot length that the program of the expression returns, 0 the greatest; a listing has its own, and the lines are
+    the same."""
     scene.start({"in.pcap": WHOLE, "ip.bpf": IP})
     for length, answer in [("96", 96), ("0", 262144), ("1", 1)]:
         seen = scene.run(f"explain -s {length} -p 0 -e ip in.pcap")
@@ -65,7 +66,7 @@ def the_program_answers_the_snapshot_length(scene):
 
 @case
 def the_counts_are_those_of_cut(scene):
-    """On the real capture so many packets are accepted as `cut` writes, and each has a line."""
+    """On the real capture as many packets are accepted as `cut` writes, and each has a line."""
     for expr in ("tcp port 80 or 8080", "arp or icmp", "not udp"):
         seen = scene.run(["explain", "-e", expr, str(VETH)])
         *packets, counts = seen.out.decode().splitlines()
@@ -112,7 +113,7 @@ program, with the registers behind each instruction:
 
 
 @case
-def one_packet_is_told_in_full(scene):
+def one_packet_is_explained_in_full(scene):
     """Each primitive with its own answer and what it looked at, those that are not asked, and the run."""
     scene.start({"in.pcap": MIXED, "ip.bpf": IP})
     seen = scene.run(["explain", "-p", "2", "-e", "udp or tcp port 53 or arp", "in.pcap"])
@@ -132,8 +133,8 @@ def one_packet_is_told_in_full(scene):
 
 
 @case
-def faults_are_told(scene):
-    """A place that there is not, a torn capture, two filters, and wrong words."""
+def faults_are_reported(scene):
+    """A place that does not exist, a torn capture, two filters, and bad usage."""
     scene.start({"in.pcap": WHOLE, "torn.pcap": TORN, "all.bpf": ALL})
     scene.refuse("explain -p 1 -e ip in.pcap", 1, "NoPacket 1")
     scene.refuse("explain -p 1 -e ip torn.pcap", 2, "TornRecord 1")
@@ -141,34 +142,34 @@ def faults_are_told(scene):
     scene.refuse("explain -e 'port http' none.pcap", 1, "BadWord 5")
     scene.refuse("explain -e ip none.pcap", 3, "Device none.pcap")
     line = "place 0 time 2.000000000 len 14 captured 14 Yes ip\n1 packets: 1 Yes, 0 No, 0 Abort\n"
-    scene.expect("explain -e ip torn.pcap", 2, told("TornRecord 1"), line)
-    scene.expect("explain -e ip in.pcap", 3, told("Device standard output"), streams=">/dev/full")
+    scene.expect("explain -e ip torn.pcap", 2, fault_lines("TornRecord 1"), line)
+    scene.expect("explain -e ip in.pcap", 3, fault_lines("Device standard output"), streams=">/dev/full")
     snap, place = "-s takes a number from 0 to 262144", "-p takes a number from 0 to 18446744073709551615"
     for words, said in [
         ("explain in.pcap", "<-e <EXPR>|-f <LISTING>>"), ("explain -p +1 -e ip in.pcap", place), ("explain -p -1 -e ip in.pcap", place),
         ("explain -p x -e ip in.pcap", place), ("explain -s 262145 -e ip in.pcap", snap), ("explain -s -1 -e ip in.pcap", snap),
     ]:
         seen = scene.run(words)
-        told_so = (said in seen.err.decode(), b"Usage: bpftap explain" in seen.err, b"tip:" in seen.err)
-        scene.check(f"told behind {words}", (told_so, seen.out, seen.status), ((True, True, False), b"", 1))
+        reported = (said in seen.err.decode(), b"Usage: bpftap explain" in seen.err, b"tip:" in seen.err)
+        scene.check(f"standard error of {words}", (reported, seen.out, seen.status), ((True, True, False), b"", 1))
 
 
 @case
 def an_expression_is_printed_as_it_was_read(scene):
-    """What is inherited is written out, on one line, also where the program is too long."""
+    """What is inherited is written out, on one line, even if the program is too long."""
     for expr, read in [("tcp port 80 or 8080", "tcp port 80 or tcp port 8080"), ("", ""), ("1=1", "1 = 1")]:
         scene.expect(["check", "-x", expr], out=read + "\n")
     scene.expect(["check", "-x", "ip" + "||ip" * 2047], out="ip" + " or ip" * 2047 + "\n")
     scene.refuse("check -x 'tcp and 80'", 1, "NoQualifier 8")
     for words in ("check -x -d ip", "check -x -f all.bpf"):
         seen = scene.run(words)
-        scene.check(f"usage behind {words}", (b"Usage: bpftap check" in seen.err, seen.status), (True, 1))
+        scene.check(f"usage after {words}", (b"Usage: bpftap check" in seen.err, seen.status), (True, 1))
 
 
 @case
 def packets_are_counted(scene):
-    """`cut -c` tells how many of how many packets were written, behind a torn record too, and nothing where a device failed."""
+    """`cut -c` prints how many of the packets were written, after a torn record too, and nothing if a device failed."""
     scene.start({"in.pcap": MIXED, "torn.pcap": TORN})
     scene.expect("cut -s 0 -c -e arp in.pcap out.pcap", err="1 of 4 packets\n")
-    scene.expect("cut -s 0 -c torn.pcap out.pcap", 2, told("TornRecord 1") + "1 of 1 packets\n")
-    scene.expect("cut -s 0 -c in.pcap none/out.pcap", 3, told("Device none/out.pcap"))
+    scene.expect("cut -s 0 -c torn.pcap out.pcap", 2, fault_lines("TornRecord 1") + "1 of 1 packets\n")
+    scene.expect("cut -s 0 -c in.pcap none/out.pcap", 3, fault_lines("Device none/out.pcap"))

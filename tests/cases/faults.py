@@ -67,7 +67,7 @@ REFUSED = [
     ("cut -s 0 in.pcap none/out.pcap", "Device none/out.pcap", 3),
     ("cut -s 0 . out.pcap", "Device .", 3),
     ("cut -s 0 in.pcap ./in.pcap", "SameFile ./in.pcap", 1),
-    # A file that is not there is no file that could be lost: it cannot be opened.
+    # A missing file is no file that could be lost: it cannot be opened.
     ("cut -s 0 none.pcap none.pcap", "Device none.pcap", 3),
     ("cut -s 0 none.pcap ./none.pcap", "Device none.pcap", 3),
     ("cut -s 0 none/in.pcap none/in.pcap", "Device none/in.pcap", 3),
@@ -113,7 +113,7 @@ LISTED = [
     ("far.asm", "JumpTooFar 1", 1),
 ]
 
-# A file LISTENERS of `run`, the captures behind it, the fault and the status.
+# A file LISTENERS of `run`, the captures that follow it, the fault and the status.
 RUNS = [
     ("0 0 0 1048576 2\n", "in.pcap", "Listeners 1", 1),
     ("1 0 0 1048576 2 out.pcap\n", "in.pcap", "Listeners 1", 1),
@@ -124,7 +124,7 @@ RUNS = [
     ("0 0 10 47 2 out.pcap\n", "in.pcap", "Open 0 0 BadCapacity", 1),
 ]
 
-# A file LINES of `split`, the captures behind it, the fault and the status.
+# A file LINES of `split`, the captures that follow it, the fault and the status.
 SPLITS = [
     ("0\n", "in.pcap", "Lines 1", 1),
     ("0 out.pcap\n262145 other.pcap\n", "in.pcap", "Lines 2", 1),
@@ -134,7 +134,7 @@ SPLITS = [
     ("0 none/out.pcap\n", "in.pcap", "Device none/out.pcap", 3),
 ]
 
-# Captures that `cut`, `explain`, `split`, `steps` and `run` tell, and the status.
+# Captures with a fault that `cut`, `explain`, `split`, `steps` and `run` report, and the status.
 CAPTURES = [
     ("empty.pcap", "ShortHeader", 1),
     ("text.pcap", "NotSavefile", 1),
@@ -145,7 +145,7 @@ CAPTURES = [
     ("long.pcap", "TooLong 1", 2),
 ]
 
-# What stands for a number, a path or another line on the page, as it is found in a line.
+# What a placeholder of the page (a number, a path or another line) matches in a printed line.
 PLACES = {"N": r"\d+", "C": r"\d+", "L": r"\d+", "I": r"\d+", "B": r"\d+", "PATH": r"\S+", "FAULT": r"(?P<inner>.+)"}
 
 
@@ -165,14 +165,14 @@ INNER = {"Captures", "Expressions"}
 
 @dataclass(frozen=True)
 class Row:
-    """A line of a table of the page: the statuses behind it, and whether a test makes it."""
+    """A line of a table of the page: its statuses, and whether a test makes it."""
     section: str
     line: str
     statuses: frozenset
     is_made: bool
 
     def match(self, line):
-        """The match of a line that the program printed: the words in capital letters stand for others."""
+        """The match of a line that the program printed: words in capital letters are placeholders."""
         words = [PLACES.get(word, re.escape(word)) for word in self.line.split(" ")]
         return re.fullmatch(" ".join(words), line)
 
@@ -193,7 +193,7 @@ class Page:
         self.seen = set()
 
     def statuses(self, line, sections):
-        """The statuses that a line has by the rows of these sections, which are seen then: those of a fault inside it too."""
+        """The statuses that a line has by the rows of these sections, those of a fault inside it too; notes the rows as seen."""
         found = set()
         for row in self.rows:
             match = row.match(line) if row.section in sections else None
@@ -207,66 +207,66 @@ class Page:
         return found
 
     def amiss(self):
-        """The rows that a test is said to make and has not, and those that it has made and is said not to."""
+        """The rows that a test should have made and did not, and those that it made and should not have."""
         return [row for row in self.rows if row.is_made != (row in self.seen)]
 
 
-def tells(scene, page, words, fault, status, streams=""):
-    """The program tells this fault alone with this status, and the page has it so among the lines of the command."""
+def expect_fault(scene, page, words, fault, status, streams=""):
+    """The program reports only this fault, with this status, and the page lists it so for the command."""
     seen = scene.run(words, streams)
     line = f"bpftap: {fault}"
-    scene.check(f"told by {words}", (seen.err.decode(), seen.status), (line + "\n", status))
+    scene.check(f"standard error of {words}", (seen.err.decode(), seen.status), (line + "\n", status))
     command = words[0] if isinstance(words, list) else words.split()[0]
     scene.check(f"{line}, status {status}, on the page of {command}", status in page.statuses(line, SECTIONS[command]), True)
 
 
-def tell_captures(scene, page):
+def expect_capture_faults(scene, page):
     """Faults of captures, by each command that reads them."""
     scene.put({"run.txt": "0 0 0 1048576 2 run.pcap\n", "split.txt": "0 split.pcap\n"})
     for path, fault, status in CAPTURES:
-        tells(scene, page, f"cut -s 0 {path} out.pcap", fault, status)
-        tells(scene, page, f"explain -e ip {path}", fault, status)
-        tells(scene, page, f"split split.txt in.pcap {path}", f"Capture 1 {fault}", status)
-        tells(scene, page, f"steps one.txt arrive.txt in.pcap {path}", f"Capture 1 {fault}", status)
-        tells(scene, page, f"run run.txt in.pcap {path}", f"Interface 0 Capture 1 {fault}", status)
-    tells(scene, page, "run run.txt in.pcap none.pcap", "Interface 0 Capture 1 Device", 3)
-    tells(scene, page, "split split.txt in.pcap none.pcap", "Capture 1 Device", 3)
+        expect_fault(scene, page, f"cut -s 0 {path} out.pcap", fault, status)
+        expect_fault(scene, page, f"explain -e ip {path}", fault, status)
+        expect_fault(scene, page, f"split split.txt in.pcap {path}", f"Capture 1 {fault}", status)
+        expect_fault(scene, page, f"steps one.txt arrive.txt in.pcap {path}", f"Capture 1 {fault}", status)
+        expect_fault(scene, page, f"run run.txt in.pcap {path}", f"Interface 0 Capture 1 {fault}", status)
+    expect_fault(scene, page, "run run.txt in.pcap none.pcap", "Interface 0 Capture 1 Device", 3)
+    expect_fault(scene, page, "split split.txt in.pcap none.pcap", "Capture 1 Device", 3)
 
 
-def tell_expressions(scene, page):
+def expect_expression_faults(scene, page):
     """Faults of expressions, by each command that reads them."""
     for text, fault in EXPRESSIONS:
         where = "Compile" if fault in COMPILED else "Expression"
         scene.put({"steps.txt": f"0 1048576\n0 1048576 {text}\n", "run.txt": f"0 0 0 1048576 2 out.pcap {text}\n",
                    "split.txt": f"0 out.pcap\n0 other.pcap {text}\n"})
-        tells(scene, page, ["check", text], fault, 1)
-        tells(scene, page, ["explain", "-e", text, "none.pcap"], fault, 1)
-        tells(scene, page, ["cut", "-s", "0", "-e", text, "none.pcap", "out.pcap"], fault, 1)
-        tells(scene, page, "split split.txt in.pcap", f"{where} 1 {fault}", 1)
-        tells(scene, page, "steps steps.txt arrive.txt in.pcap", f"{where} 1 {fault}", 1)
-        tells(scene, page, "run run.txt in.pcap", f"{where} 0 {fault}", 1)
+        expect_fault(scene, page, ["check", text], fault, 1)
+        expect_fault(scene, page, ["explain", "-e", text, "none.pcap"], fault, 1)
+        expect_fault(scene, page, ["cut", "-s", "0", "-e", text, "none.pcap", "out.pcap"], fault, 1)
+        expect_fault(scene, page, "split split.txt in.pcap", f"{where} 1 {fault}", 1)
+        expect_fault(scene, page, "steps steps.txt arrive.txt in.pcap", f"{where} 1 {fault}", 1)
+        expect_fault(scene, page, "run run.txt in.pcap", f"{where} 0 {fault}", 1)
 
 
-def tell_listings(scene, page):
+def expect_listing_faults(scene, page):
     """Faults of listings, by each command that reads them."""
     for path, fault, status in LISTED:
-        tells(scene, page, f"cut -s 0 -f {path} in.pcap out.pcap", fault, status)
-        tells(scene, page, f"explain -f {path} in.pcap", fault, status)
-        tells(scene, page, f"check -f {path}", fault, status)
+        expect_fault(scene, page, f"cut -s 0 -f {path} in.pcap out.pcap", fault, status)
+        expect_fault(scene, page, f"explain -f {path} in.pcap", fault, status)
+        expect_fault(scene, page, f"check -f {path}", fault, status)
 
 
-def tell_splits(scene, page):
+def expect_split_faults(scene, page):
     """What `split` refuses, and an OUT that fails."""
     for lines, captures, fault, status in SPLITS:
         scene.put({"split.txt": lines})
-        tells(scene, page, f"split split.txt {captures}", fault, status)
+        expect_fault(scene, page, f"split split.txt {captures}", fault, status)
 
 
-def tell_runs(scene, page):
+def expect_run_faults(scene, page):
     """What `run` refuses, and the end of a listener whose OUT fails."""
     for listeners, captures, fault, status in RUNS:
         scene.put({"run.txt": listeners})
-        tells(scene, page, f"run run.txt {captures}", fault, status)
+        expect_fault(scene, page, f"run run.txt {captures}", fault, status)
     scene.put({"run.txt": "0 0 0 1048576 2 none/out.pcap\n"})
     seen = scene.run("run run.txt in.pcap")
     printed = seen.out.decode().rstrip("\n")
@@ -276,44 +276,44 @@ def tell_runs(scene, page):
 
 @case
 def the_program_prints_the_lines_of_the_page(scene):
-    """Each line of the page that a test can make is printed, with its status, and each line that is printed stands there."""
+    """Each line of the page that a test can make is printed, with its status, and the page has each line that is printed."""
     page = Page()
     scene.start(FILES)
     for words, fault, status in REFUSED:
-        tells(scene, page, words, fault, status)
-    tells(scene, page, "check ip", "Device standard output", 3, ">/dev/full")
-    tell_listings(scene, page)
-    tell_captures(scene, page)
-    tell_expressions(scene, page)
-    tell_splits(scene, page)
-    tell_runs(scene, page)
+        expect_fault(scene, page, words, fault, status)
+    expect_fault(scene, page, "check ip", "Device standard output", 3, ">/dev/full")
+    expect_listing_faults(scene, page)
+    expect_capture_faults(scene, page)
+    expect_expression_faults(scene, page)
+    expect_split_faults(scene, page)
+    expect_run_faults(scene, page)
     scene.check("lines that were not printed, or are said not to be", page.amiss(), [])
 
 
-# Faults that no command tells: a call behind a fault, and numbers that the command line refuses before.
-UNTOLD = {"Failed", "BadSnap"}
+# Faults that no command reports: a call after a fault, and numbers that the command line refuses before.
+UNREPORTED = {"Failed", "BadSnap"}
 
 
 @case
 def the_page_has_the_faults_of_the_sources(scene):
-    """Each name of a fault in the sources stands on the page, but for those that no command tells."""
+    """The page lists each name of a fault in the sources, except those that no command reports."""
     named = {word for row in rows() for word in row.line.split()}
     for path in sorted((ROOT / "crates").glob("*/src/*.rt")):
         if "/crates/test_" not in str(path):
             names = set(re.findall(r'#\[error\("([A-Z]\w+)', path.read_text()))
-            scene.check(f"faults of {path.relative_to(ROOT)}", names - named - UNTOLD, set())
+            scene.check(f"faults of {path.relative_to(ROOT)}", names - named - UNREPORTED, set())
 
 
 def names(line):
-    """The words of a line that stand for themselves."""
+    """The words of a line that are no placeholders."""
     return tuple(word for word in line.split() if not re.fullmatch(r"[A-Z]+", word))
 
 
 @case
 def the_manual_has_no_other_faults(scene):
-    """Each fault that a manual page lists stands on the page too."""
-    told = {names(row.line.removeprefix("bpftap: ")) for row in rows()}
+    """The page lists each fault that a manual page lists."""
+    documented = {names(row.line.removeprefix("bpftap: ")) for row in rows()}
     for page in PAGES:
         items = [line.removeprefix(".It Li ") for line in section(page, "DIAGNOSTICS") if line.startswith(".It Li ")]
         listed = {names(re.sub(r"\b(Li|Ar) ", "", item)) for item in items}
-        scene.check(f"faults of {page.name} that the page has not", listed - told, set())
+        scene.check(f"faults of {page.name} that the page lacks", listed - documented, set())

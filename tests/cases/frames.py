@@ -1,7 +1,7 @@
-"""64 frames of the real capture, of each its first 46 bytes: which of them each command keeps is what tcpdump keeps."""
+"""64 frames of the real capture, the first 46 bytes of each: the commands keep the frames that tcpdump keeps."""
 from .common import HEADER, VETH, case, header, records
 
-# Where these frames stand in the capture.
+# The places of these frames in the capture.
 PLACES = [*range(8), 15, *range(25, 44), 50, 51, *range(53, 61), 63, 73, 83, 93, 103, *range(115, 121), *range(123, 129), 227, 236,
           *range(245, 252)]
 
@@ -42,7 +42,7 @@ def frames():
 
 
 def record(place, wire, data):
-    """The record of a frame, at as many seconds as its place says."""
+    """The record of a frame; its time in seconds is its place."""
     return b"".join(number.to_bytes(4, "little") for number in (place, 0, len(data), wire)) + data
 
 
@@ -62,7 +62,7 @@ def kept_records(kept, snap):
 
 @case
 def a_cut_keeps_what_tcpdump_keeps(scene):
-    """The program of each expression keeps the frames that tcpdump keeps, and what decided says Yes to these alone."""
+    """The program of each expression keeps the frames that tcpdump keeps, and `explain` answers Yes only for these."""
     scene.start({"in.pcap": capture()})
     scene.check("frames", (len(PLACES), len(KEPT)), (64, 24))
     for expr, kept in KEPT:
@@ -106,10 +106,10 @@ def run_writes_what_cut_writes(scene):
 
 @case
 def small_buffers_lose_packets_and_count_them(scene):
-    """What is written stands in what `cut` writes, in its order, and is as much as is matched and not dropped."""
+    """What is written is part of what `cut` writes, in its order, and is as much as is matched and not dropped."""
     put_listeners(scene, "0 {l} 40 72 1 out{l}.pcap {expr}")
     seen = scene.run("run listeners.txt in.pcap")
-    scene.check("told, and the status", (seen.err, seen.status), (b"", 0))
+    scene.check("standard error, and the status", (seen.err, seen.status), (b"", 0))
     lines = seen.out.decode().splitlines()
     scene.check("lines", len(lines), len(KEPT))
     for l, ((expr, kept), line) in enumerate(zip(KEPT, lines)):

@@ -38,14 +38,14 @@ def listings_of_expressions_are_printed_as_tcpdump_prints_them(scene):
 
 @case
 def the_length_has_a_name_in_the_index_register(scene):
-    """Of the code that libpcap's printer has no name for, the name is that of the other load."""
+    """The code that libpcap's printer has no name for has the name of the other load."""
     scene.put({"length.txt": "2\n129 0 0 0\n6 0 0 0\n"})
     scene.expect("check -d -f length.txt", out="(000) ldx      #pktlen\n(001) ret      #0\n")
 
 
 @case
 def an_expression_is_printed_by_names(scene):
-    """Of an expression that tcpdump compiles to the same program the print is the same; `-s` is what the program answers."""
+    """An expression that tcpdump compiles to the same program prints the same; the program returns `-s`."""
     scene.put({"ip.txt": IP})
     scene.expect("check -d ip", out=IP_IMAGE)
     scene.expect("check -d -f ip.txt", out=IP_IMAGE)
@@ -54,13 +54,13 @@ def an_expression_is_printed_by_names(scene):
 
 
 @case
-def a_program_that_is_none_is_told(scene):
-    """A refused expression and a bad listing are told as `cut` tells them; an expression and a listing exclude each other."""
+def a_listing_that_is_no_program_is_reported(scene):
+    """`check` reports a refused expression and a bad listing as `cut` does; an expression and a listing exclude each other."""
     scene.put({"bad.txt": "1\n6 0 0\n", "ip.txt": IP})
     scene.refuse("check -d 'tcp and 80'", 1, "NoQualifier 8")
     scene.refuse("check -d -f bad.txt", 1, "BadLine 2")
     scene.refuse("check -f none.txt", 3, "Device none.txt")
     for words in "check -d", "check -f ip.txt ip", "check -s 262145 ip":
         seen = scene.run(words)
-        scene.check(f"usage behind {words}", b"Usage: bpftap check" in seen.err, True)
+        scene.check(f"usage after {words}", b"Usage: bpftap check" in seen.err, True)
         scene.check(f"printed of {words}, and its status", (seen.out, seen.status), (b"", 1))

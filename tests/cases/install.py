@@ -119,7 +119,7 @@ def a_prefix_that_cannot_be_written_is_refused(scene):
 
 @case
 def without_a_program_nothing_is_put(scene):
-    """If sources were changed and the toolchain is not there, that is printed, and nothing is put: status 1."""
+    """If sources were changed and the toolchain is missing, that is printed, and nothing is put: status 1."""
     source = source_in(scene)
     source.edit("low")
     line = f"bpftap: the toolchain's command 'rt' is not on the PATH\ninstall: nothing was put under {scene.folder}/there\n"
@@ -128,12 +128,12 @@ def without_a_program_nothing_is_put(scene):
 
 
 @case
-def wrong_words_have_the_usage(scene):
+def bad_usage_has_the_usage(scene):
     """An option that there is not, an empty prefix and two of them have the usage on standard error, with status 2."""
     source = source_in(scene)
     for words in [["-x"], [""], ["a", "b"], ["--remove", "-x"], ["--remove", "a", "b"]]:
         seen = install(scene, source, *words)
-        scene.check(f"usage behind {words}", b"./install [PREFIX]" in seen.err, True)
+        scene.check(f"usage after {words}", b"./install [PREFIX]" in seen.err, True)
         scene.check(f"printed of {words}, and the status", (seen.out, seen.status), (b"", 2))
     seen = install(scene, source, "--help")
     scene.check("help", (b"./install [PREFIX]" in seen.out, seen.err, seen.status), (True, b"", 0))
@@ -178,7 +178,8 @@ def what_manual_and_help_show_runs_once_installed(scene):
 
 @case
 def packages_have_what_is_installed(scene):
-    """The Debian package and the tar archive hold the installed files, and run where they are unpacked. The same files give the same packages."""
+    """The Debian package and the tar archive hold the installed files, and run where they are unpacked. The same files give the same
+    packages."""
     if not scene.has("dpkg-deb"):
         return
     source = source_in(scene, program=pathlib.Path(PROGRAM).read_bytes())

@@ -1,5 +1,5 @@
-"""The fault of a text that is no expression, and its place: told by `check`, with status 1."""
-from .common import case, told
+"""The fault of a text that is no expression, and its place: `check` reports it, with status 1."""
+from .common import case, fault_lines
 
 # Where a text has no token.
 FAILING_TOKENS = [
@@ -14,7 +14,7 @@ FAILING_TOKENS = [
     ("1.0xa", "BadNumber 0"), ("# 08 xyz", "BadByte 0"), ("08 #", "BadNumber 0"),
 ]
 
-# Where a text breaks off, or goes on as no expression does.
+# Texts that break off, or go on as no expression does.
 BROKEN_OFF = [
     ("and", "Syntax 0"), ("or tcp", "Syntax 0"), ("not", "Syntax 3"), ("not and", "Syntax 4"), ("tcp and", "Syntax 7"),
     ("tcp and or udp", "Syntax 8"), ("tcp and not", "Syntax 11"), ("tcp udp", "Syntax 4"), ("tcp not udp", "Syntax 4"),
@@ -61,7 +61,7 @@ UNQUALIFIED = [
     ("portrange 20-30 and 40", "NoQualifier 20"), ("port 10 or tcp portrange 20-30 or 40", "NoQualifier 34"),
 ]
 
-# Phrases that are not in the table, told as soon as they are read.
+# Phrases that are not in the table, refused as soon as they are read.
 BAD_QUALIFIERS = [
     ("tcp host 10.0.0.1", "BadQualifier 0"), ("udp 10.0.0.1", "BadQualifier 0"), ("icmp src 10.0.0.1", "BadQualifier 0"),
     ("tcp or sctp host 10.0.0.1", "BadQualifier 7"), ("tcp 80", "BadQualifier 0"), ("tcp \\tcp", "BadQualifier 0"),
@@ -97,7 +97,7 @@ BAD_IDENTIFIERS = [
     ("proto 1:2:3:4:5:6", "BadIdentifier 6"), ("ether proto \\tcp", "BadIdentifier 12"),
     ("ether proto \\udp", "BadIdentifier 12"), ("ether proto \\icmp", "BadIdentifier 12"),
     ("ether proto 1:2:3:4:5:6", "BadIdentifier 12"), ("ether proto 10.0", "BadIdentifier 12"),
-    # What is behind the address does not matter where no address fits.
+    # What follows the address does not matter if no address fits.
     ("port 10.0.0.0/33", "BadIdentifier 5"), ("proto 10.0.0.0/33", "BadIdentifier 6"),
     ("ether proto 10.0/33", "BadIdentifier 12"), ("ether host 10.0.0.1/33", "BadIdentifier 11"),
     ("proto 10.0.0.1/8", "BadIdentifier 6"), ("ether proto 10.0.0.1/8", "BadIdentifier 12"),
@@ -132,7 +132,7 @@ UNLEXED = [
     ("port 80 443 4294967296", "BadNumber 12"), ("10.0.0.256 #", "BadNumber 0"),
 ]
 
-# Where a relation breaks off, or goes on as none does.
+# Texts in which a relation breaks off, or goes on as none does.
 BROKEN_RELATIONS = [
     ("len", "Syntax 3"), ("tcpflags", "Syntax 8"), ("-1", "Syntax 2"), ("-", "Syntax 1"), ("- = 1", "Syntax 2"),
     ("-tcp = 1", "Syntax 5"), ("- not 1 = 1", "Syntax 2"), ("len =", "Syntax 5"), ("len = ", "Syntax 6"),
@@ -142,7 +142,7 @@ BROKEN_RELATIONS = [
     ("1 + 2 and tcp", "Syntax 6"), ("1 + = 2", "Syntax 4"), ("1 * / 2 = 1", "Syntax 4"), ("1 + 10.0.0.1 = 1", "Syntax 4"),
     ("1 + not 1 = 1", "Syntax 4"), ("1 <> 2", "Syntax 3"), ("1 => 2", "Syntax 3"), ("* 2 = 2", "Syntax 0"),
     ("+ 2 = 2", "Syntax 0"), ("tcp and % 2 = 2", "Syntax 8"), ("tcp % udp", "Syntax 4"), ("tcp ^ udp", "Syntax 4"),
-    # What a `(` begins is told by what stands behind its `)`.
+    # The text after the `)` says what a `(` begins.
     ("(1 + 2) and tcp", "Syntax 6"), ("(len) and tcp", "Syntax 4"), ("(1 + 2", "Syntax 6"), ("(1 + 2 = 3", "Syntax 10"),
     ("(1 = 1) = 1", "Syntax 3"), ("(tcp) & 1 = 1", "Syntax 4"), ("not (tcp) != 1", "Syntax 8"),
     ("(port 80) = 1", "Syntax 1"), ("(1 and 2) = 1", "Syntax 3"), ("((tcp) or udp) + 1 = 1", "Syntax 5"),
@@ -154,12 +154,12 @@ BROKEN_RELATIONS = [
     ("ip[0:len] = 1", "Syntax 5"), ("ip[0:tcp-fin] = 1", "Syntax 5"), ("ip[0:(2)] = 1", "Syntax 5"),
     ("ip[0:2", "Syntax 6"), ("ip[0:2)", "Syntax 6"), ("ip[0:2:2] = 1", "Syntax 6"), ("ip[0:1 + 1] = 1", "Syntax 7"),
     ("1 + tcp", "Syntax 7"), ("1 + tcp = 2", "Syntax 8"), ("len = (udp)", "Syntax 10"), ("1 + sctp = 2", "Syntax 4"),
-    # No relation stands behind a phrase, and none in a group.
+    # No relation follows a phrase, and none is in a group.
     ("port (len)", "Syntax 6"), ("port ((1) + 1 = 2)", "Syntax 10"), ("host 10.0.0.1 + 1 = 2", "Syntax 14"),
     ("portrange 1-2 = 3", "Syntax 14"),
 ]
 
-# Words that stand where a relation or an accessor would have others.
+# Words in place of those that a relation or an accessor would have.
 NO_RELATIONS = [
     ("port tcpflags", "Syntax 5"), ("port 80 = 1", "Syntax 8"), ("port 80 - 443", "Syntax 8"),
     ("port 80 or -443", "Syntax 15"), ("port (80 = 1)", "Syntax 9"), ("port (-1)", "Syntax 6"),
@@ -201,8 +201,8 @@ DIVIDED_BY_ZERO = [
     ("len / (0", "Syntax 8"), ("len / (0 = 1", "Syntax 9"), ("len / -0", "Syntax 8"), ("len / 0x", "BadNumber 6"),
 ]
 
-# What stands before the signs, how often a sign stands, the sign, what stands behind it, what closes each, what is behind
-# that, and the fault.
+# The text before the signs, how many signs, the sign, the text after it, what closes each, the text after that, and the
+# fault.
 NESTED = [
     ("", 65, "(", "tcp", ")", "", "TooNested 64"), ("", 65, "(", "", "", "", "TooNested 64"),
     ("", 8192, "(", "", "", "", "TooNested 64"), ("", 65, "!", "tcp", "", "", "TooNested 64"),
@@ -213,7 +213,7 @@ NESTED = [
     # The parenthesis of a group is one of them, and so is what is open in the group.
     ("", 64, "(", "port (80)", ")", "", "TooNested 69"), ("", 32, "(!", "host (", ")", "", "TooNested 69"),
     ("", 63, "!", "port (!80)", "", "", "TooNested 69"), ("", 63, "!", "port ((80))", "", "", "TooNested 69"),
-    # A fault that stands before the 65th sign, or that is told at it and stands first in the list, is named.
+    # A fault before the 65th sign, or one at it that comes first in the list, is named.
     ("", 64, "(", "port 80(", ")", "", "Syntax 71"), ("", 64, "!", "tcp!", "", "", "Syntax 67"),
     ("", 64, "(", "tcp (", ")", "", "BadQualifier 64"),
     # Signs that are open may be 64.
@@ -227,32 +227,32 @@ NESTED = [
     ("1 = ", 65, "-", "1", "", "", "TooNested 68"), ("", 64, "!", "-1 = 1", "", "", "TooNested 64"),
     ("", 64, "!", "(1) = 1", "", "", "TooNested 64"), ("", 64, "!", "ip[0] = 1", "", "", "TooNested 66"),
     ("", 64, "(", "1 = -1", ")", "", "TooNested 68"),
-    # What stands before the 65th sign, or is told at it and stands first in the list, is named.
+    # What comes before the 65th sign, or comes first in the list at it, is named.
     ("", 64, "!", "sctp[0] = 1", "", "", "BadQualifier 64"), ("", 64, "!", "tcp [0 = 1", "", "", "TooNested 68"),
     ("1 / ", 64, "(", "0", ")", " = 1", "DivideByZero 4"),
     # A group's parenthesis is the first of its levels, so that the 64th `not` is one too many.
     ("port ", 65, "(", "80", "", "", "TooNested 69"), ("port (", 65, "not ", "80", "", "", "TooNested 258"),
 ]
 
-# A byte so many times, behind a text: more than 8,192 bytes, whatever they are.
+# A byte this many times, after a text: more than 8,192 bytes, whatever they are.
 TOO_LONG = [("tcp", " ", 8190), ("", " ", 8193), ("", "#", 8193), ("", "(", 8193), ("", "x", 8193)]
 
 
 def refuses(scene, rows):
-    """Each text is refused: its fault is told, with status 1, and nothing is printed."""
+    """Each text is refused: its fault is reported, with status 1, and nothing is printed."""
     for text, fault in rows:
-        scene.expect(["check", "--", text], 1, told(fault))
+        scene.expect(["check", "--", text], 1, fault_lines(fault))
 
 
 @case
-def the_first_failing_token_is_told(scene):
+def the_first_failing_token_is_reported(scene):
     """A byte, a word or a number that is no token, and a text of several faults, whose tokens go before its grammar."""
     refuses(scene, FAILING_TOKENS)
     refuses(scene, UNLEXED)
 
 
 @case
-def a_token_that_does_not_fit_is_told(scene):
+def a_token_that_does_not_fit_is_reported(scene):
     """At the token, or at the end of the text."""
     refuses(scene, BROKEN_OFF)
     refuses(scene, BROKEN_RELATIONS)
@@ -260,26 +260,26 @@ def a_token_that_does_not_fit_is_told(scene):
 
 
 @case
-def an_identifier_with_nothing_to_inherit_is_told(scene):
+def an_identifier_with_nothing_to_inherit_is_reported(scene):
     """At the identifier."""
     refuses(scene, UNQUALIFIED)
 
 
 @case
-def a_phrase_outside_the_table_is_told(scene):
+def a_phrase_outside_the_table_is_reported(scene):
     """At its first word."""
     refuses(scene, BAD_QUALIFIERS)
     refuses(scene, QUALIFIERS)
 
 
 @case
-def an_identifier_of_the_wrong_kind_is_told(scene):
+def an_identifier_of_the_wrong_kind_is_reported(scene):
     """At the identifier."""
     refuses(scene, BAD_IDENTIFIERS)
 
 
 @case
-def numbers_and_nets_out_of_their_bounds_are_told(scene):
+def numbers_and_nets_out_of_their_bounds_are_reported(scene):
     """At the number or the address, and a divisor that is 0 at its first token."""
     refuses(scene, OUT_OF_RANGE)
     refuses(scene, SIZES)
@@ -289,8 +289,8 @@ def numbers_and_nets_out_of_their_bounds_are_told(scene):
 @case
 def more_than_64_levels_are_too_many(scene):
     """At the sign that is one too many, unless another fault goes before."""
-    for before, times, sign, inner, closing, behind, fault in NESTED:
-        refuses(scene, [(before + sign * times + inner + closing * times + behind, fault)])
+    for before, times, sign, inner, closing, after, fault in NESTED:
+        refuses(scene, [(before + sign * times + inner + closing * times + after, fault)])
 
 
 @case

@@ -38,7 +38,7 @@ def done(scene, words, **how):
 
 
 def compiled(scene, words, name, *flags):
-    """Compiles a test against the archive; its path, or nothing where that failed."""
+    """Compiles a test against the archive; returns its path, or `None` if that failed."""
     program = scene.folder / name
     words = [*words, *STRICT, f"-I{ROOT / 'include'}", SOURCES / f"{name}.c", ARCHIVE, *flags, "-o", program]
     said, status = done(scene, words)
@@ -78,8 +78,8 @@ def threads_do_not_meet(scene):
 
 
 @case
-def refused_memory_is_told(scene):
-    """Where malloc or realloc fails, whichever call of it, a call returns NO_MEMORY and has written nothing."""
+def refused_memory_is_reported(scene):
+    """If malloc or realloc fails, whichever call of it, a call returns NO_MEMORY and has written nothing."""
     if is_there(scene) and scene.has("gcc"):
         scene.start({})
         program = compiled(scene, ["gcc", "-std=c11", "-O1"], "memory", "-Wl,--wrap=malloc,--wrap=realloc")
@@ -140,7 +140,8 @@ def expression(chance, depth=0):
 
 @case
 def answers_as_the_program_does(scene):
-    """10,000 expressions over a capture: C, Python and `bpftap split` accept the same packets, and refuse the same expressions for the same fault."""
+    """10,000 expressions over a capture: C, Python and `bpftap split` accept the same packets, and refuse the same expressions for the same
+    fault."""
     if not is_there(scene) or not scene.has("gcc"):
         return
     scene.start({"in.pcap": frames()})
@@ -152,7 +153,7 @@ def answers_as_the_program_does(scene):
     scene.check("status and lines of C", (said.returncode, len(answers)), (0, len(texts)))
     seen = python(scene, "answers.py", ["in.pcap"], "\n".join(texts) + "\n")
     scene.check("Python's answers beside C's", differing(texts, seen.splitlines(), answers), [])
-    # Of the program, a hundred expressions in one run; those that are refused, one by one.
+    # The program takes a hundred expressions in one run; those that are refused, one by one.
     good = [place for place, answer in enumerate(answers) if set(answer) <= {"0", "1"}]
     packets = records((scene.folder / "in.pcap").read_bytes())
     for begin in range(0, len(good), 100):
@@ -228,8 +229,8 @@ def package_does_what_its_page_says(scene):
     scene.check("the installed package", (said, status), ("True\n", 0))
 
 
-# Names that no fault line of the program has: of memory and of texts, the end of a capture, and a snapshot length that the command line
-# does not let through.
+# Names that are in no fault line of the program: those for memory and for texts, the end of a capture, and a snapshot length that the
+# command line does not let through.
 OWN = {"Ok", "NoRoom", "NotText", "End", "BadSnap"}
 
 

@@ -1,5 +1,5 @@
 """The filter machine: what the program of a listing answers, by `explain -f`, and what is wrong with a listing, by `check -f`."""
-from .common import HEADER, UDP_RECORD, case, told
+from .common import HEADER, UDP_RECORD, case, fault_lines
 
 # The frame of 38 bytes, whose length on the wire is 1,500.
 FRAME = HEADER + UDP_RECORD[:12] + (1500).to_bytes(4, "little") + UDP_RECORD[16:]
@@ -60,7 +60,7 @@ BOUNDS = [
     ("4\n0 0 0 4294967295\n37 0 1 1\n6 0 0 1\n6 0 0 2", 1),
 ]
 
-# Listings, and the first fault of the program; none where it is one.
+# Listings, and the first fault of the program; none if it is one.
 PROGRAMS = [
     ("3\n40 0 0 12\n21 0 1 2048\n6 0 0 1", "Program JumpOut 1"), ("4\n40 0 0 12\n21 0 1 2048\n6 0 0 1\n6 0 0 0", None),
     ("4\n40 0 0 12\n21 1 0 2048\n6 0 0 1\n6 0 0 0", None),
@@ -111,7 +111,7 @@ def answers(scene, listing, want):
 
 
 def keeps(scene, want):
-    """The program keeps as many bytes of the first packet as it answers, or all, and nothing where it answers 0."""
+    """The program keeps as many bytes of the first packet as it returns, or all, and nothing if it returns 0."""
     kept = min(want, len(UDP_RECORD) - 16)
     record = FRAME[24:32] + kept.to_bytes(4, "little") + FRAME[36:40 + kept] if want else b""
     scene.expect("cut -s 0 -f program.bpf in.pcap out.pcap")
@@ -125,7 +125,7 @@ def has_fault(scene, listing, fault):
         lines = [" ".join(str(int(word)) for word in line.split(" ")) for line in listing.rstrip("\n").split("\n")]
         scene.expect("check -f program.bpf", out="\n".join(lines) + "\n")
     else:
-        scene.expect("check -f program.bpf", 1, told(fault))
+        scene.expect("check -f program.bpf", 1, fault_lines(fault))
 
 
 @case
@@ -139,7 +139,7 @@ def each_code_does_what_the_manual_says(scene):
 
 @case
 def an_ethertype_listing_keeps_ipv4_and_no_other_frame(scene):
-    """Of frames that are whole, and of the first 14 bytes and 13 of one."""
+    """Frames that are whole, and the first 14 and 13 bytes of one."""
     listing = "4\n40 0 0 12\n21 0 1 2048\n6 0 0 262144\n6 0 0 0\n"
     frame = FRAME[40:]
     for data, want in [(frame, 262144), (frame[:14], 262144), (frame[:13], 0), (frame[:12] + b"\x08\x06", 0)]:
@@ -149,14 +149,14 @@ def an_ethertype_listing_keeps_ipv4_and_no_other_frame(scene):
 
 
 @case
-def the_first_fault_of_a_program_is_told(scene):
+def the_first_fault_of_a_program_is_reported(scene):
     """With the place of its instruction; fields that are not used may have any value."""
     for listing, fault in PROGRAMS:
         has_fault(scene, listing, fault)
 
 
 @case
-def bad_lines_are_told_before_counts_and_counts_before_programs(scene):
+def bad_lines_are_reported_before_counts_and_counts_before_programs(scene):
     """By the number of the line, from 1."""
     for listing, fault in LISTINGS:
         has_fault(scene, listing, fault)

@@ -13,7 +13,7 @@ HELP_ALONE = {"-h", "--help"}
 
 
 def page_of(command):
-    """The page of a command, of the program itself where there is none."""
+    """The page of a command, or of the program itself if the name is empty."""
     return MAN / (f"bpftap-{command}.1" if command else "bpftap.1")
 
 
@@ -33,18 +33,18 @@ def manual_options(command):
 
 
 def forms(command):
-    """The forms of a page's synopsis, of each the lines behind the name."""
+    """The forms of a page's synopsis: for each the lines after the name."""
     text = "\n".join(section(page_of(command), "SYNOPSIS"))
     return [form.splitlines()[1:] for form in re.split(r"^\.Nm", text, flags=re.M)[1:]]
 
 
 def synopsis_options(command):
-    """The options of a page's synopsis; of the program's page those of the forms without a command."""
+    """The options of a page's synopsis; for the program's page those of the forms without a command."""
     return options_named(line for form in forms(command) if not form[0].startswith(".Cm") for line in form)
 
 
 def form_options(command):
-    """The options that the program's page gives behind a command in its synopsis."""
+    """The options that the program's page gives after a command in its synopsis."""
     return options_named(line for form in forms("") if form[0] == f".Cm {command}" for line in form)
 
 
@@ -62,17 +62,17 @@ def help_of(scene, command):
 
 
 def help_options(parts):
-    """The options that `--help` tells, each with the name of its value, or nothing."""
+    """The options that `--help` lists, each with the name of its value, or nothing."""
     found = {}
     for line in parts["Options"]:
-        told = re.match(r" +(-\w)?(?:, )?(--[\w-]+)?(?:[ =]<(\w+)>|\.\.\.)?(?:  |$)", line)
-        if told and (told[1] or told[2]):
-            found.update({name: told[3] or "" for name in (told[1], told[2]) if name})
+        match = re.match(r" +(-\w)?(?:, )?(--[\w-]+)?(?:[ =]<(\w+)>|\.\.\.)?(?:  |$)", line)
+        if match and (match[1] or match[2]):
+            found.update({name: match[3] or "" for name in (match[1], match[2]) if name})
     return found
 
 
 def first_words(lines):
-    """The first word of each line that begins one of a list, without its signs: of `  <IN>...  Captures` it is `IN`."""
+    """The first word of each line that begins an entry of a list, without its signs: for `  <IN>...  Captures` it is `IN`."""
     return [re.match(r" +[\[<]?([\w-]+)", line)[1] for line in lines if re.match(r" {2}\S", line)]
 
 
@@ -99,19 +99,19 @@ def pages_and_help_name_the_same_options(scene):
 @case
 def pages_and_help_name_the_same_commands(scene):
     """The commands of `--help` are those of the program's page, each has a page of its own, and there is no other page."""
-    told = commands(scene)
+    names = commands(scene)
     listed = [line.split()[2] for line in page_of("").read_text().splitlines() if line.startswith(".It Cm")]
-    scene.check("commands of the page", sorted(listed), sorted(told))
-    wanted = sorted(page_of("" if command == "help" else command).name for command in told)
+    scene.check("commands of the page", sorted(listed), sorted(names))
+    wanted = sorted(page_of("" if command == "help" else command).name for command in names)
     scene.check("pages", [page.name for page in PAGES], wanted)
 
 
 @case
 def completions_offer_the_same(scene):
-    """Each shell's completions have the options of `--help`; bash offers the commands and the values that it tells too."""
-    told = commands(scene)
-    scene.check("commands", sorted(offered("")), sorted(told))
-    for command in ["", *told]:
+    """Each shell's completions have the options of `--help`; bash offers its commands and values too."""
+    names = commands(scene)
+    scene.check("commands", sorted(offered("")), sorted(names))
+    for command in ["", *names]:
         if command == "help":
             continue
         parts, words = help_of(scene, command), [command] if command else []
@@ -134,12 +134,12 @@ def options_offered(shell, command):
             f"--{name}" for name in re.findall(r" -l ([\w-]+)", of_place)]
     name = f"_bpftap_{command}" if command else "_bpftap"
     body = re.search(rf"^{name}\(\) \{{\n(.*?)^\}}", (ROOT / "completions" / "_bpftap").read_text(), re.S | re.M)[1]
-    alone = re.findall(r"'(?:\([^)]*\))?(--?[A-Za-z][\w-]*)\+?\[", body)
-    return alone + [name for names in re.findall(r"\{([^}]+)\}'\[", body) for name in names.split(",")]
+    single = re.findall(r"'(?:\([^)]*\))?(--?[A-Za-z][\w-]*)\+?\[", body)
+    return single + [name for names in re.findall(r"\{([^}]+)\}'\[", body) for name in names.split(",")]
 
 
 def session(lines):
-    """A shell's session as a page shows it: its commands, each behind a `$` and over several lines at times, and the rest."""
+    """A shell's session as a page shows it: its commands, each after a `$` and sometimes over several lines, and the rest."""
     script, printed, goes_on = "", "", False
     for line in lines:
         if goes_on or line.startswith("$ "):
@@ -158,7 +158,7 @@ def examples(page):
 
 @case
 def examples_print_what_they_say(scene):
-    """Each example of each page is run in a folder that has `examples`, and prints what stands below it."""
+    """Each example of each page is run in a folder that has `examples`, and prints the lines below it."""
     for page in PAGES:
         scene.start({})
         (scene.folder / "bin").mkdir()
@@ -189,7 +189,7 @@ def pages_are_well_formed(scene):
 
 
 def complaints(scene, page):
-    """What is wrong with a page. That a page which it names is not installed here is no fault of it."""
+    """What is wrong with a page. It is no fault of a page that another one, which it names, is not installed here."""
     if shutil.which("mandoc"):
         words = ["mandoc", "-Tlint", str(page)]
     elif shutil.which("man"):

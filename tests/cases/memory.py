@@ -1,4 +1,4 @@
-"""Memory that is refused: each block that a command asks for, where `strace` is there and may trace."""
+"""Memory that is refused: each block that a command asks for, if `strace` is there and may trace."""
 import concurrent.futures
 import os
 import re
@@ -7,13 +7,13 @@ import subprocess
 
 from .common import ARP_RECORD, HEADER, IP, IP_RECORD, LIMIT, PROGRAM, TCP_RECORD, UDP_RECORD, Scene, Seen, case, words_of
 
-# Each block of memory is so a call of mmap of its own, and one that grows beyond a page is a new block.
+# So each block of memory is a call of mmap of its own, and one that grows beyond a page is a new block.
 BLOCKS = {**os.environ, "GLIBC_TUNABLES": "glibc.malloc.mmap_threshold=0"}
 
-# What mmap refuses the C library asks of brk, and then of mmap once more.
+# If mmap refuses, the C library asks brk, and then mmap once more.
 OTHER_WAYS = ["brk:retval=0", "mremap:error=ENOMEM"]
 
-# Which calls of mmap are refused, from one on: this block alone, or it and all behind it.
+# Which calls of mmap are refused, from one on: only this block, or it and all after it.
 ONCE, FOR_GOOD = (lambda call: f"{call}..{call + 1}"), (lambda call: f"{call}+")
 
 OUTPUTS = ["out.pcap", "all.pcap"]
@@ -50,7 +50,7 @@ def can_trace():
 
 
 def traced(scene, words, which=None):
-    """What the program prints and tells where these calls of mmap are refused, the files then, and the calls."""
+    """What the program prints if these calls of mmap are refused, the files then, and the calls."""
     refused = [] if which is None else [f"mmap:error=ENOMEM:when={which}", *OTHER_WAYS]
     injected = [word for one in refused for word in ("-e", f"inject={one}")]
     scene.start(FILES)
@@ -62,13 +62,13 @@ def traced(scene, words, which=None):
 
 
 def first_block(calls):
-    """Which call is the program's first: behind those that load the C library, and one more, by which it is made ready."""
+    """Which call is the program's first: after those that load the C library, and one more that initialises it."""
     loading = [number for number, call in enumerate(calls, 1) if "MAP_PRIVATE|MAP_ANONYMOUS, -1, 0" not in call]
     return max(loading) + 2
 
 
 def refusals(folder, words, which):
-    """What the program does undisturbed, and then for each block with that one refused; the last run is one that asks for no more."""
+    """What the program does undisturbed, and then with each block refused in turn; the last run asks for no more."""
     folder.mkdir()
     scene = Scene(folder)
     seen, files, calls = traced(scene, words)
@@ -91,35 +91,35 @@ def sweep(scene, commands, which):
 
 
 def is_wanting(seen):
-    """Whether want of memory is told, with status 1, and nothing else."""
+    """Whether out of memory is reported, with status 1, and nothing else."""
     return re.fullmatch(rb"bpftap: (Capture \d+ )?NoMemory\n", seen.err) is not None and seen.status == 1
 
 
 def check_beginning(scene, what, part, whole):
-    """What was printed and written is a beginning of what it is undisturbed."""
+    """What was printed and written is a prefix of what it is undisturbed."""
     (seen, files), (wanted, texts) = part, whole
     scene.check(f"printed {what}", wanted.out[: len(seen.out)], seen.out)
     scene.check(f"written {what}", [text[: len(one)] for one, text in zip(files, texts)], files)
 
 
 @case
-def want_of_memory_is_told(scene):
-    """From a block on all memory is refused: that is told, with status 1, and what was printed and written is a beginning."""
+def refused_memory_is_reported(scene):
+    """All memory from a block on is refused: that is reported, with status 1, and what was printed and written is a prefix."""
     for words, [(_, _, whole, texts), *runs] in sweep(scene, COMMANDS, FOR_GOOD):
         scene.check(f"blocks of {words}", len(runs) > 30, True)
         for call, is_refused, seen, files in runs:
             what = f"by {words}, refused from call {call}"
-            scene.check(f"told {what}", is_wanting(seen) if is_refused else seen == whole, True)
+            scene.check(f"reported {what}", is_wanting(seen) if is_refused else seen == whole, True)
             check_beginning(scene, what, (seen, files), (whole, texts))
 
 
 @case
-def no_answer_stands_for_want_of_memory(scene):
-    """One block is refused, and those behind it are not: that is told, or all is as it is undisturbed."""
+def refused_memory_changes_no_answer(scene):
+    """One block is refused, and later ones are not: that is reported, or all is as it is undisturbed."""
     for words, [(_, _, whole, texts), *runs] in sweep(scene, COMMANDS, ONCE):
         for call, _, seen, files in runs:
             what = f"by {words}, call {call} refused"
-            scene.check(f"told {what}", is_wanting(seen) or (seen, files) == (whole, texts), True)
+            scene.check(f"reported {what}", is_wanting(seen) or (seen, files) == (whole, texts), True)
             check_beginning(scene, what, (seen, files), (whole, texts))
 
 
@@ -146,7 +146,7 @@ READ_WHOLE = [
 
 @case
 def memory_that_the_system_wants_is_a_fault_of_the_file(scene):
-    """The system has no memory to open or read a file: the file is told, with status 3, and the reason is a hint."""
+    """The system has no memory to open or read a file: the file is reported, with status 3, and the reason is a hint."""
     if not can_trace():
         return scene.leave("strace can't trace here")
     scene.start(FILES)
@@ -158,17 +158,17 @@ def memory_that_the_system_wants_is_a_fault_of_the_file(scene):
         inject = f"strace -qq -o calls -e trace={name} -e inject={name}:error=ENOMEM:when={call_on(scene, words, name, part)}"
         seen = scene.run(f"--hints {words}", first=f'exec {inject} "$0" "$@"')
         wanted = f"bpftap: Device {path}\n  Cannot allocate memory (os error 12)\n"
-        scene.check(f"told by {words}, {name} of {path} refused", (seen.out, seen.err.decode(), seen.status), (b"", wanted, 3))
+        scene.check(f"standard error of {words}, {name} of {path} refused", (seen.out, seen.err.decode(), seen.status), (b"", wanted, 3))
 
 
 @case
 def hints_say_nothing_else(scene):
-    """One block is refused: that is told, or the fault, and no hint that does not stand there undisturbed."""
+    """One block is refused: that is reported, or the fault, and no hint that is not there undisturbed."""
     for words, [(_, _, whole, _), *runs] in sweep(scene, FAULTS, ONCE):
         for call, _, seen, _ in runs:
             first, *hints = seen.err.splitlines()
             same = (first, seen.status) == (whole.err.splitlines()[0], whole.status)
-            scene.check(f"told by {words}, call {call} refused", is_wanting(Seen(b"", first + b"\n", seen.status)) or same, True)
+            scene.check(f"standard error of {words}, call {call} refused", is_wanting(Seen(b"", first + b"\n", seen.status)) or same, True)
             others = [hint for hint in hints if hint not in whole.err.splitlines()]
             scene.check(f"hints of {words}, call {call} refused", others, [])
             scene.check(f"printed by {words}, call {call} refused", seen.out, b"")

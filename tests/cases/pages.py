@@ -1,4 +1,4 @@
-"""The pages: their commands behind a `$` print what stands below them, and their links lead somewhere."""
+"""The pages: their commands after a `$` print the lines below them, and their links lead somewhere."""
 import os
 import re
 import subprocess
@@ -25,7 +25,7 @@ def sessions(page):
 
 
 def run_page(scene, page):
-    """Runs the commands of a page, one block behind the other, in a folder that has `examples` and the program."""
+    """Runs the commands of a page, one block after the other, in a folder that has `examples` and the program."""
     scene.start({})
     (scene.folder / "bin").mkdir()
     (scene.folder / "bin" / "bpftap").symlink_to(PROGRAM)
@@ -41,7 +41,7 @@ def run_page(scene, page):
 
 @case
 def commands_print_what_they_say(scene):
-    """The commands of each page are run, and print what stands below them."""
+    """The commands of each page are run, and print the lines below them."""
     for name in RUN:
         page = ROOT / name
         run_page(scene, page)
@@ -49,14 +49,14 @@ def commands_print_what_they_say(scene):
 
 @case
 def commands_of_all_pages_are_run(scene):
-    """A page that has commands behind a `$` is one of those that are run."""
+    """A page that has commands after a `$` is one of those that are run."""
     with_commands = {str(page.relative_to(ROOT)) for page in pages() if any(sessions(page))}
     scene.check("pages with commands", sorted(with_commands), sorted([*RUN, "docs/SCALE.md"]))
 
 
 @case
 def program_and_pages_name_one_logic(scene):
-    """`--version`, README and the page of promises name one logic: that of the toolchain, where it is at hand."""
+    """`--version`, README and the page of promises name the same logic: that of the toolchain, if there is one."""
     said = scene.run("--version").out.decode()
     logic = re.fullmatch(r"bpftap [0-9.]+, proved in the (logic [0-9a-f]+)\n", said)
     scene.check(f"a logic in {said}", logic is not None, True)
@@ -94,12 +94,12 @@ def links_lead_somewhere(scene):
 
 
 def public_items(crate):
-    """The names of a library's public items: those that `lib.rt` tells on, and those of its public modules."""
+    """The names of a library's public items: those that `lib.rt` re-exports, and those of its public modules."""
     lib = (crate / "src" / "lib.rt").read_text()
     for names in re.findall(r"^pub use [\w:]+?(?:::(\w+)|::\{([^}]+)\});", lib, re.M):
         yield from re.findall(r"\w+", " ".join(names))
     for module in re.findall(r"^pub mod (\w+);", lib, re.M):
-        # Laws are told together.
+        # Laws have one entry together.
         if module == "laws":
             yield module
         else:
@@ -108,14 +108,14 @@ def public_items(crate):
 
 
 @case
-def public_items_stand_on_their_pages(scene):
+def public_items_are_on_their_pages(scene):
     """Each public item of each library is named on the library's page."""
     for lib in sorted(ROOT.glob("crates/*/src/lib.rt")):
         crate = lib.parent.parent
         if crate.name.startswith("test_") and crate.name != "test_fixtures":
             continue
         named = set(re.findall(r"\w+", (crate / "README.md").read_text()))
-        scene.check(f"items of {crate.name} that its page has not", sorted(set(public_items(crate)) - named), [])
+        scene.check(f"items of {crate.name} that its page lacks", sorted(set(public_items(crate)) - named), [])
 
 
 @case
@@ -128,8 +128,8 @@ def contributors_are_told_each_group(scene):
 
 
 @case
-def code_of_pages_stands_in_the_sources(scene):
-    """Each item of the code on a library's page, its `use` lines aside, stands in a source to the letter, where it is proved."""
+def code_of_pages_is_in_the_sources(scene):
+    """Each item of the code on a library's page, its `use` lines aside, is in a source to the letter, where it is proved."""
     sources = [path.read_text() for path in ROOT.glob("crates/*/src/**/*.rt")]
     for page in sorted(ROOT.glob("crates/*/README.md")):
         for block in re.findall(r"^```rust\n(.*?)^```$", page.read_text(), re.S | re.M):

@@ -11,7 +11,7 @@ FOUND = re.compile(r"step (\d+) .*: (\d+) stored, (\d+) held")
 
 
 def lanes(picture):
-    """Of each listener and step what its title says that the buffers have, and the heights of its bars by their classes."""
+    """For each listener and step, what its title says that the buffers have, and the heights of its bars by their classes."""
     for lane in tree.fromstring(picture).findall(f"{SVG}g"):
         found = []
         for column in lane.iterfind(f"{SVG}svg/{SVG}g"):
@@ -20,8 +20,8 @@ def lanes(picture):
         yield found
 
 
-def told_loads(explained):
-    """The bytes that each step found in the store of each listener, where `steps -v` tells them."""
+def explained_loads(explained):
+    """The bytes that each step found in the store of each listener, as `steps -v` prints them."""
     step = 0
     for line in explained.splitlines():
         if head := re.match(r"step (\d+) ", line):
@@ -32,18 +32,18 @@ def told_loads(explained):
 
 @case
 def bars_are_as_high_as_the_loads(scene):
-    """Of the example each bar of a store is as high as `steps -v` tells, and each title says it."""
+    """In the example each bar of a store is as high as `steps -v` says, and each title says it."""
     files = [STEPS / "listeners.txt", STEPS / "script.txt", VETH]
     seen = scene.run(["steps", "-v", "-p", "steps.svg", *files])
-    scene.check("told, and the status", (seen.err, seen.status), (b"", 0))
+    scene.check("standard error, and the status", (seen.err, seen.status), (b"", 0))
     drawn = list(lanes(scene.read("steps.svg")))
     count = 0
-    for line, listener, load in told_loads(seen.out.decode()):
+    for line, listener, load in explained_loads(seen.out.decode()):
         title, bars = drawn[listener][line - 1]
         found = FOUND.match(title)
         scene.check(f"step {line}, listener {listener}", (int(found[1]), int(found[2]), bars["store"]), (line, load, load))
         count += 1
-    scene.check("some loads were told", count > 5, True)
+    scene.check("some loads were explained", count > 5, True)
 
 
 # What the expressions of these cases accept, of the bytes of a frame.
@@ -57,7 +57,7 @@ ACCEPTS = {
 
 
 class Buffers:
-    """The two buffers of a listener of LISTENERS, counted as bpftap(1) has them: the bytes of each."""
+    """The two buffers of a listener of LISTENERS, counted as bpftap(1) says: the bytes of each."""
 
     def __init__(self, line):
         snap, capacity, expression = (line.split(" ", 2) + [""])[:3]
@@ -69,7 +69,7 @@ class Buffers:
         self.closed = False
 
     def arrive(self, frame):
-        """The mark of a packet, and the bytes of its record where it is drawn."""
+        """The mark of a packet, and the size of its record if it is drawn."""
         if self.closed:
             return "closed", None
         if not self.accepts(frame):
@@ -105,7 +105,7 @@ class Buffers:
 
 
 def counted(line, script, captures):
-    """Of each step what the listener of a line has before it, its mark, if it has one, and the record that is drawn."""
+    """For each step, what the listener of a line has before it, its mark, if it has one, and the record that is drawn."""
     buffers = Buffers(line[0])
     packets = iter([record[16:] for capture in captures for record in records(capture)])
     for step in script.splitlines():
@@ -127,7 +127,7 @@ def draws_what_is_counted(scene, name, listeners, script, captures):
     for n, capture in enumerate(captures):
         scene.put({f"{n}.pcap": capture})
     seen = scene.run(["steps", "-p", "steps.svg", "l.txt", "s.txt", *(f"{n}.pcap" for n in range(len(captures)))])
-    scene.check(f"told of {name}, and the status", (seen.err, seen.status), (b"", 0))
+    scene.check(f"standard error of {name}, and the status", (seen.err, seen.status), (b"", 0))
     marks = set()
     lines = listeners.splitlines()
     for number, (line, found) in enumerate(zip(lines, lanes(scene.read("steps.svg")), strict=True)):
@@ -142,7 +142,7 @@ def draws_what_is_counted(scene, name, listeners, script, captures):
 
 @case
 def each_column_is_what_the_buffers_have(scene):
-    """Of the example and of the lesson on drops, of 300 steps and of two captures by chance."""
+    """The example and the lesson on drops, 300 steps, and two captures with random steps."""
     example = (STEPS / "listeners.txt").read_text(), (STEPS / "script.txt").read_text()
     draws_what_is_counted(scene, "the example", *example, [VETH.read_bytes()])
     draws_what_is_counted(scene, "the lesson", "64 192 icmp\n", "arrive\n" * 7, [VETH.read_bytes()])
@@ -178,7 +178,7 @@ def the_lesson_is_drawn_as_its_page_shows_it(scene):
 
 @case
 def a_lane_without_loads_is_as_high_as_others(scene):
-    """Of a listener that never stores the whole buffers are drawn, with marks as low as those of another lane."""
+    """For a listener that never stores, the whole buffers are drawn, with marks as low as those of another lane."""
     scene.put({"l.txt": "64 192 arp\n64 192 icmp\n", "s.txt": "arrive\n" * 7})
     scene.run(["steps", "-p", "steps.svg", "l.txt", "s.txt", VETH])
     picture = tree.fromstring(scene.read("steps.svg"))
@@ -189,7 +189,7 @@ def a_lane_without_loads_is_as_high_as_others(scene):
 
 @case
 def the_picture_says_what_it_shows(scene):
-    """A title and a description stand first, for readers who cannot see it."""
+    """A title and a description come first, for readers who cannot see it."""
     scene.put({"l.txt": "64 192 icmp\n64 192 arp\n", "s.txt": "arrive\nread 0\narrive\n"})
     scene.run(["steps", "-p", "steps.svg", "l.txt", "s.txt", VETH])
     title, described = list(tree.fromstring(scene.read("steps.svg")))[:2]
@@ -199,8 +199,8 @@ def the_picture_says_what_it_shows(scene):
 
 @case
 def a_long_expression_is_cut_to_the_page(scene):
-    """The line of a lane has at most as many characters as the page has room for, of 7 pixels each, and the whole expression is its title;
-    a short one has no title."""
+    """The line of a lane has at most as many characters, of 7 pixels each, as the page has room for, and the whole expression is its
+    title; a short one has no title."""
     long = " or ".join(f"host 192.0.2.{n}" for n in range(40))
     scene.put({"l.txt": f"64 192 {long}\n0 1048576i {long}\n64 192 icmp\n64 1048576 len < 60 and icmp\n", "s.txt": "arrive\n" * 7})
     scene.run(["steps", "-p", "steps.svg", "l.txt", "s.txt", VETH])
@@ -217,8 +217,8 @@ def a_long_expression_is_cut_to_the_page(scene):
 
 
 @case
-def a_picture_that_cannot_be_made_is_told(scene):
-    """The reports are printed, and FILE is told with status 3."""
+def a_picture_that_cannot_be_made_is_reported(scene):
+    """The reports are printed, and FILE is reported with status 3."""
     files = [STEPS / "listeners.txt", STEPS / "script.txt", VETH]
     report = scene.run(["steps", *files]).out
     seen = scene.run(["steps", "-p", "none/steps.svg", *files])

@@ -30,7 +30,7 @@ TREES = [
     ("ether proto \\arp", "ether proto 2054"), ("ether proto \\rarp", "ether proto 32821"),
     # Both words bind alike, from the left.
     ("", ""), (" \t\r\n", ""), ("not tcp", "not tcp"), ("tcp or udp and arp", "(tcp or udp) and arp"),
-    # An identifier inherits from behind parentheses, a group and a negation.
+    # An identifier inherits across parentheses, a group and a negation.
     ("(port 1) and 2", "port 1 and port 2"), ("port (1 or 2) or 3", "port 1 or port 2 or port 3"),
     ("not port 80 or 443", "not port 80 or port 443"), ("port (80 or not 53)", "port 80 or not port 53"),
     # Comparisons, operators, layers and sizes
@@ -45,7 +45,7 @@ TREES = [
     ("len = 1 + 2 * 3", "len = (1 + (2 * 3))"), ("-1 = 4294967295", "(-1 = 4294967295)"), ("(tcp-syn) < icmptype", "2 < 0"),
 ]
 
-# The same, of all that is printed in another form than it is written, and of what is joined.
+# Texts, and their readings, for all that is printed in another form than it is written, and for what is joined.
 PRINTED = [
     ("", ""), ("sctp", "sctp"), ("tcp port 80 or 8080", "tcp port 80 or tcp port 8080"),
     ("src portrange 0x20-30", "src portrange 30-32"), ("udp src and dst port 53", "udp src and dst port 53"),
@@ -69,7 +69,7 @@ PRINTED = [
     ("not port 80 and tcp or port (1 or 2)", "(not port 80 and tcp) or (port 1 or port 2)"), ("-len = ip[1]", "(-len = ip[1])"),
 ]
 
-# Two texts that read as the same tree, the second with each phrase written.
+# Two texts that read as the same tree, the second with each phrase written out.
 READINGS = [
     ("tcp dst port 20 or 21", "tcp dst port 20 or tcp dst port 21"),
     ("not host 10.0.0.1 and 10.0.0.2", "not host 10.0.0.1 and host 10.0.0.2"),
@@ -89,12 +89,12 @@ READINGS = [
     ("ether 1:2:3:4:5:6", "ether host 01:02:03:04:05:06"), ("ether src 1:2:3:4:5:6", "ether src host 1:2:3:4:5:6"),
     ("src && dst 10.0.0.1", "dst and src host 10.0.0.1"), ("tcp port 80", "tcp src or dst port 80"),
     ("portrange 1-2", "dst or src portrange 1-2"), ("ip proto 6", "proto 6"),
-    # A direction is read as long as possible, and a direction and a term are told apart.
+    # A direction is read as long as possible, and a direction differs from a term.
     ("not src and dst port 80", "not (dst and src port 80)"),
     ("src port 80 and dst port 53", "(src port 80) and (dst port 53)"),
     ("src 10.0.0.1 or dst 10.0.0.2", "(src host 10.0.0.1) or (dst host 10.0.0.2)"),
     ("tcp or src or dst port 80", "tcp or (port 80)"), ("tcp and dst and src port 80", "tcp and (src and dst port 80)"),
-    # Plain words, where what follows belongs to no phrase
+    # Plain words, if what follows belongs to no phrase
     ("ip and multicast", "(ip) and (ether multicast)"), ("ip or ip multicast", "(ip) or (ip multicast)"),
     ("tcp and (udp)", "(tcp) and (udp)"),
     # Numbers, addresses and names
@@ -139,7 +139,7 @@ READINGS = [
     ("ether proto \\ip or 0x806", "ether proto \\ip or ether proto \\arp"),
 ]
 
-# The same, the second with parentheses round each value that has an operator.
+# Two texts that read as the same tree, the second with parentheses around each value that has an operator.
 RELATIONS = [
     # Operators of one precedence, from the left
     ("8 - 4 - 2 = 2", "((8 - 4) - 2) = 2"), ("8 - 4 + 2 = 6", "((8 - 4) + 2) = 6"),
@@ -161,7 +161,7 @@ RELATIONS = [
     ("1 | 2 ^ 3 & 4 << 5 + 6 * 7 = 8", "(1 | (2 ^ (3 & (4 << (5 + (6 * 7)))))) = 8"),
     ("1 * 2 + 3 << 4 & 5 ^ 6 | 7 = 8", "((((((1 * 2) + 3) << 4) & 5) ^ 6) | 7) = 8"),
     ("1 + 2 * 3 - 4 = 5 << 6 + 7", "((1 + (2 * 3)) - 4) = (5 << (6 + 7))"),
-    # A unary minus belongs to the value behind it alone.
+    # A unary minus belongs only to the value after it.
     ("-1 + 2 = 1", "((-(1)) + 2) = 1"), ("-2 * 3 = 0", "((-2) * 3) = 0"), ("2 * -3 = 0", "(2 * (-3)) = 0"),
     ("2 - -3 = 5", "(2 - (-3)) = 5"), ("2--3 = 5", "(2 - (-3)) = 5"), ("- - 1 = 1", "(-(-1)) = 1"),
     ("-len = 0", "(-(len)) = 0"), ("-(1 + 2) = 0", "-((1 + 2)) = 0"), ("-ip[0] + 1 = 0", "((-(ip[0])) + 1) = 0"),
@@ -190,7 +190,7 @@ DIVISORS = [
     "len / ip[0] = 1", "len / len % len = 1", "0 / 1 = 0 % 1", "len * 0 + 0 - 0 << 0 & 0 ^ 0 | 0 = 0",
 ]
 
-# How often a sign stands, what stands before the signs, the sign, what stands behind it, what closes each, and what is behind that.
+# How many signs, the text before the signs, the sign, the text after it, what closes each, and the text after that.
 SIXTY_FOUR_OPEN = [
     (64, "", "(", "len", ")", " = 1"), (64, "", "(", "len = 1", ")", ""), (64, "", "-", "1", "", " = 1"),
     (64, "", "ip[", "0", "]", " = 1"), (32, "", "-(", "len", ")", " = 1"), (32, "", "(ip[", "len", "])", " = 1"),
@@ -200,14 +200,14 @@ SIXTY_FOUR_OPEN = [
 
 
 def nested(times, sign, inner, closing):
-    """A sign so many times, what stands behind them, and what closes each."""
+    """A sign this many times, the text after the signs, and what closes each."""
     return sign * times + inner + closing * times
 
 
 def read(scene, text):
-    """What a text is read as, and that nothing is told of it."""
+    """What a text is read as, and that nothing is reported."""
     seen = scene.run(["check", "-x", "--", text])
-    scene.check(f"told of {text[:80]!r}, and the status", (seen.err, seen.status), (b"", 0))
+    scene.check(f"standard error of {text[:80]!r}, and the status", (seen.err, seen.status), (b"", 0))
     return seen.out.decode()
 
 
@@ -234,7 +234,7 @@ def two_texts_read_as_one_tree(scene):
 
 @case
 def a_divisor_may_turn_out_as_0(scene):
-    """It is read, where it is not written as 0."""
+    """It is read, unless it is written as 0."""
     for text in DIVISORS:
         read(scene, text)
 
@@ -242,8 +242,8 @@ def a_divisor_may_turn_out_as_0(scene):
 @case
 def sixty_four_open_signs_are_read(scene):
     """Signs that are closed count no more."""
-    for times, before, sign, inner, closing, behind in SIXTY_FOUR_OPEN:
-        read(scene, before + nested(times, sign, inner, closing) + behind)
+    for times, before, sign, inner, closing, after in SIXTY_FOUR_OPEN:
+        read(scene, before + nested(times, sign, inner, closing) + after)
     for times, sign, inner, closing, wanted in [
         (64, "(", "tcp", ")", "tcp"), (64, "!", "tcp", "", "not " * 64 + "tcp"), (32, "!(", "tcp", ")", "not " * 32 + "tcp"),
         (63, "(", "port (80 or 53)", ")", "port 80 or port 53"), (62, "!", "port (!80)", "", "not " * 62 + "not port 80"),

@@ -9,7 +9,7 @@ from .common import LIMIT, ROOT, Seen, case
 
 ARCHIVE = "release/bpftap-x86_64-linux.tar.gz"
 RELEASED, BUILT = b"bpftap 1.2.3, a stand-in\nreleased, reproduced by the gate\n", b"bpftap 1.2.3, a stand-in\nbuilt and proved here\n"
-# What runs, if it does, leaves a mark.
+# The program that runs, if one does, leaves a mark.
 MARKS = MADE.replace("#!/bin/sh\n", '#!/bin/sh\ntouch "$HOME/ran"\n')
 
 
@@ -65,7 +65,7 @@ def a_clone_runs_the_released_program(scene):
 
 @case
 def the_program_is_that_of_the_sources(scene):
-    """What changes a crate, or what it stands on, has the launcher build; once it is put back, the release is run again."""
+    """A change to a crate, or to what it uses, makes the launcher build; once it is undone, the release is run again."""
     clone = Clone(scene)
     clone.call()
     low, crates = clone.src("low") / "lib.rt", clone.folder / "crates.txt"
@@ -130,8 +130,8 @@ def an_edit_during_a_build_is_not_run(scene):
     source = Source(scene)
     (source.kit / "bin" / "rattle-link").write_text('#!/bin/sh\ncat "$KIT/program" >"$6"\necho "// more" >>"${6%/out/*}/crates/low/src/lib.rt"\n')
     seen = source.run(program="bpftap")
-    told = b"bpftap: a source was edited meanwhile: the next call builds it\n"
-    scene.check("printed, and the status", (seen.err.endswith(told), seen.out, seen.status), (True, b"", 125))
+    wanted = b"bpftap: a source was edited meanwhile: the next call builds it\n"
+    scene.check("printed, and the status", (seen.err.endswith(wanted), seen.out, seen.status), (True, b"", 125))
 
 
 @case
@@ -160,7 +160,7 @@ def a_damaged_archive_is_refused(scene):
 
 @case
 def a_program_that_was_changed_is_not_run(scene):
-    """What was unpacked is looked at before each call, also if it was changed after the first one."""
+    """What was unpacked is checked before each call, even if it was changed after the first one."""
     clone = Clone(scene)
     clone.call()
     program = next((clone.folder / "out").glob("released/*/bin/bpftap"))
@@ -216,7 +216,7 @@ def a_missing_archive_has_it_built(scene):
 
 
 @case
-def a_machine_that_cannot_run_it_is_told(scene):
+def a_machine_that_cannot_run_it_is_reported(scene):
     """Another processor, and a system that does not start the program: one line says so, and what to do. What was built there is run."""
     clone = Clone(scene, MARKS)
     tools = scene.folder / "tools"
@@ -332,9 +332,9 @@ def a_build_is_compared_with_the_release(scene):
     seen = source.run()
     scene.check("another program", (seen.err.decode().splitlines()[-1], seen.status), ("the released program is not what these sources give", 0))
     (source.kit / "version").write_text("kit 2\n")
-    told = "the released program is not compared: it was built by kit 1, and here is kit 2"
+    wanted = "the released program is not compared: it was built by kit 1, and here is kit 2"
     seen = source.run()
-    scene.check("another toolchain", (seen.err.decode().splitlines()[-1], seen.status), (told, 0))
+    scene.check("another toolchain", (seen.err.decode().splitlines()[-1], seen.status), (wanted, 0))
 
 
 # The toolchain's gate: it proves nothing, and leaves a program.
@@ -368,8 +368,8 @@ def the_gate_compares(scene):
     clone.release(MADE + "# another one\n")
     scene.check("another program", gate(clone), ("7 passed, 1 failed", "the released program is not what these sources give", 1))
     (clone.kit / "version").write_text("kit 2\n")
-    told = "the released program is not compared: it was built by kit 1, and here is kit 2"
-    scene.check("another toolchain", gate(clone), ("8 passed, 0 failed", told, 0))
+    wanted = "the released program is not compared: it was built by kit 1, and here is kit 2"
+    scene.check("another toolchain", gate(clone), ("8 passed, 0 failed", wanted, 0))
     clone.edit("low")
     scene.check("other sources", gate(clone), ("7 passed, 1 failed", STALE, 1))
     clone.release()

@@ -4,7 +4,7 @@ import itertools
 import re
 from dataclasses import dataclass
 
-from .common import HEADER, TCP_RECORD, UDP_RECORD, Scene, case, told
+from .common import HEADER, TCP_RECORD, UDP_RECORD, Scene, case, fault_lines
 from .stepping import ELEVEN, put, zeros
 
 # LISTENERS, SCRIPT, how many packets there are, and what becomes of them.
@@ -52,13 +52,13 @@ class Listener:
 
 
 def size(kept):
-    """What a record takes of a buffer."""
+    """The size of a packet's record in a buffer."""
     return (kept + 7) // 8 * 8 + 32
 
 
 @dataclass(frozen=True)
 class Before:
-    """What stands before a step: the load of the store, and whether the hold is full."""
+    """The state before a step: the load of the store, and whether the hold is full."""
     load: int = 0
     is_held: bool = False
 
@@ -80,7 +80,7 @@ class Before:
 
 
 def looked_back(own, listener):
-    """What is kept, and the counts, looking back from each step over all before it."""
+    """What is kept, and the counts, looking back from each step at all before it."""
     kept, received, matched, dropped = [], 0, 0, 0
     for place, step in enumerate(own):
         received += step == "passed" or isinstance(step, tuple)
@@ -158,7 +158,7 @@ def reported(printed):
 
 
 def replay(folder, replayed):
-    """A replay in a folder of its own: what is printed, what is told and the status."""
+    """A replay in a folder of its own: what is printed and reported, and the status."""
     captures, listeners, script = replayed
     folder.mkdir()
     scene = Scene(folder)
@@ -183,6 +183,6 @@ def replays_keep_what_looking_back_keeps(scene):
             wanted = [looked_back(own_steps(l, one, script, playlist), one) for l, one in enumerate(listeners)]
             fault = [f"Capture 0 TornRecord {sum(capture == 0 for capture, _, _ in playlist)}"] if is_torn else []
             done = pool.submit(replay, scene.folder / str(number), (captures, listeners, script))
-            started.append((done, (wanted, told(*fault), 2 if is_torn else 0)))
+            started.append((done, (wanted, fault_lines(*fault), 2 if is_torn else 0)))
         for number, (done, wanted) in enumerate(started):
             scene.check(f"replay {number}", done.result(), wanted)

@@ -12,7 +12,8 @@ import time
 from collections import Counter
 
 from .common import (
-    HEADER, IP_RECORD, LIMIT, PROGRAM, ROOT, TCP_RECORD, TORN, UDP_RECORD, VETH, as_bytes, case, header, records, told)
+    HEADER, IP_RECORD, LIMIT, PROGRAM, ROOT, TCP_RECORD, TORN, UDP_RECORD, VETH, as_bytes, case, fault_lines, header,
+    records)
 
 T, U = TCP_RECORD, UDP_RECORD
 CAPTURES = {"t.pcap": HEADER + T, "tu.pcap": HEADER + T + U, "torn.pcap": TORN, "empty.pcap": "", "kept.pcap": "kept"}
@@ -26,7 +27,7 @@ REFUSED = [
     ("1 0 0 1048576 2 right.pcap\n0 0 0 1048576i 1 left.pcap\n", "none.pcap", "Listeners 1"),
     ("0 0 0 1048576 2 kept.pcap tcp and 80", "none.pcap", "Expression 0 NoQualifier 8"),
     ("0 0 0 1048576 0 kept.pcap tcp and 80\n", "none.pcap", "Expression 0 NoQualifier 8"),
-    # No buffer goes round, which is told behind what else is refused.
+    # No buffer goes round, which is reported after all other refusals.
     ("0 0 0 1048576 0 kept.pcap", "none.pcap", "Open 0 0 BadCapacity"),
     ("0 0 0 1048576 0 kept.pcap tcp\n", "none.pcap", "Open 0 0 BadCapacity"),
     ("0 0 0 1048576 0 kept.pcap tcp\n", "+ " * 16, "TooMany"),
@@ -36,7 +37,7 @@ REFUSED = [
     ("0 0 0 1048576 2 new.pcap\n0 0 0 1048576 2 ./tu.pcap\n", "tu.pcap", "SameFile ./tu.pcap"),
     ("0 0 0 1048576 2 kept.pcap\n0 0 0 1048576 2 ./kept.pcap\n", "tu.pcap", "SameFile ./kept.pcap"),
     ("0 0 0 1048576 2 listeners.txt\n", "tu.pcap", "SameFile listeners.txt"),
-    # Of each line and each capture, of each interface, there or not.
+    # The most of each: lines and captures, for each interface, there or not.
     ("0 0 0 1048576 2 new.pcap\n0 0 0 1048576 2 ./kept.pcap\n", "tu.pcap t.pcap kept.pcap", "SameFile ./kept.pcap"),
     ("0 0 0 1048576 2 ./t.pcap\n", "tu.pcap t.pcap torn.pcap", "SameFile ./t.pcap"),
     ("0 0 0 1048576 2 ./t.pcap\n", "tu.pcap + t.pcap", "SameFile ./t.pcap"),
@@ -57,7 +58,7 @@ def no_file_is_touched_where_a_run_is_refused(scene):
     scene.refuse("run none.txt none.pcap", 3, "Device none.txt")
 
 
-# Symbolic links and their targets, and names of the file `new.pcap` that is not there; `far` leads to it by a full path.
+# Symbolic links and their targets, and names of the missing file `new.pcap`; `far` leads to it by a full path.
 LINKS = [("link", "new.pcap"), ("chain", "link"), ("here", "."), ("sub/up", "../new.pcap")]
 NEW_NAMES = [
     "./new.pcap", ".//new.pcap", "sub/../new.pcap", "link", "chain", "here/new.pcap", "here/link", "sub/up", "far", "here/far"]
@@ -65,7 +66,7 @@ NEW_NAMES = [
 
 @case
 def two_names_of_a_new_file_are_one_file(scene):
-    """An OUT that is not there yet is told by its folder and its name, behind symbolic links."""
+    """An OUT that does not exist yet is known by its folder and its name, with symbolic links followed."""
     scene.put(CAPTURES)
     (scene.folder / "sub").mkdir()
     for link, target in LINKS:
@@ -98,16 +99,16 @@ def a_fifo_is_a_file_too(scene):
 
 @case
 def lines_beyond_the_most_take_no_memory(scene):
-    """Of 60,000 lines too many are refused with little memory, behind bad lines and refused expressions."""
+    """With 60,000 lines, too many are refused with little memory, after bad lines and refused expressions."""
     lines = [f"0 0 8 40 1 {line}\n" for line in range(60000)]
     scene.put({"t.pcap": HEADER + T})
     for last in ["x\n", "0 0 8 40 1 7\n", "1 0 8 40 1 x\n"]:
         scene.put({"listeners.txt": "".join(lines) + last})
-        scene.expect("run listeners.txt t.pcap", 1, told("Listeners 60001"), first="ulimit -v 200000")
+        scene.expect("run listeners.txt t.pcap", 1, fault_lines("Listeners 60001"), first="ulimit -v 200000")
     scene.put({"listeners.txt": "".join(lines)})
-    scene.expect("run listeners.txt t.pcap", 1, told("TooMany"), first="ulimit -v 200000")
+    scene.expect("run listeners.txt t.pcap", 1, fault_lines("TooMany"), first="ulimit -v 200000")
     scene.put({"listeners.txt": "".join(lines).replace(" 1 9\n", " 1 9 tcp and 80\n")})
-    scene.expect("run listeners.txt t.pcap", 1, told("Expression 9 NoQualifier 8"), first="ulimit -v 200000")
+    scene.expect("run listeners.txt t.pcap", 1, fault_lines("Expression 9 NoQualifier 8"), first="ulimit -v 200000")
     scene.check("files", sorted(scene.files()), ["listeners.txt", "t.pcap"])
 
 
@@ -120,12 +121,12 @@ def report(listener, received, matched, end="Clean", written=None):
 
 
 def replays(scene, listeners, captures, reports, files, *faults, status=0):
-    """A run prints these reports, tells these faults and makes these files, and leaves all others."""
+    """A run prints these reports and these faults, makes these files, and leaves all others."""
     scene.start({**CAPTURES, "listeners.txt": listeners})
     before = scene.files()
     words = f"run listeners.txt {captures}"
-    scene.expect(words, status, told(*faults), "".join(reports))
-    scene.check(f"files behind {words}", scene.files(), {**before, **files})
+    scene.expect(words, status, fault_lines(*faults), "".join(reports))
+    scene.check(f"files after {words}", scene.files(), {**before, **files})
 
 
 TWO = "0 0 64 1048576 2 tcp.pcap tcp\n0 0 0 1048576 2 all.pcap\n"
@@ -152,14 +153,14 @@ def each_listener_writes_what_it_keeps(scene):
 
 @case
 def an_out_loses_what_it_had(scene):
-    """An OUT that stands there is written anew, and a run without listeners touches no file."""
+    """An OUT that exists is overwritten, and a run without listeners touches no file."""
     replays(scene, "0 0 0 1048576 2 kept.pcap\n", "tu.pcap", [report((0, 0), 2, 2)], {"kept.pcap": HEADER + T + U})
     scene.put({"kept.pcap": "kept " * 100})
     scene.expect("run listeners.txt t.pcap", out=report((0, 0), 1, 1))
     scene.check("a long OUT", scene.read("kept.pcap"), HEADER + T)
     before = scene.files()
     scene.expect("run /dev/null tu.pcap")
-    scene.check("files behind no listeners", scene.files(), before)
+    scene.check("files after no listeners", scene.files(), before)
 
 
 # The captures of two interfaces, what the listener of each one keeps, the faults and the status.
@@ -174,7 +175,7 @@ REPLAYED = [
 
 @case
 def files_are_opened_as_they_are_replayed(scene):
-    """Two interfaces replay side by side; a capture that is missing is told behind the packets before it."""
+    """Two interfaces replay side by side; a missing capture is reported after the packets before it."""
     for captures, left, right, faults, status in REPLAYED:
         reports = [report((0, 0), len(left), len(left)), report((1, 0), len(right), len(right))]
         files = {"left.pcap": HEADER + b"".join(left), "right.pcap": HEADER + b"".join(right)}
@@ -186,8 +187,8 @@ def files_are_opened_as_they_are_replayed(scene):
 
 
 @case
-def a_file_that_cannot_be_written_is_told_by_its_line(scene):
-    """The report of its listener tells where OUT failed, and other listeners write theirs."""
+def a_file_that_cannot_be_written_is_named_by_its_line(scene):
+    """The report of its listener says where OUT failed, and other listeners write theirs."""
     # The packets went into the buffer, which is emptied at the end, and none of them into OUT.
     for out in ["no/a.pcap", ".", "t.pcap/a", "new/", "/dev/full"]:
         replays(scene, f"0 0 0 1048576 2 {out}\n", "t.pcap", [report((0, 0), 1, 1, "Write 0", 0)], {}, status=3)
@@ -212,8 +213,8 @@ def whole_in(text, length):
 
 
 @case
-def a_failed_out_is_told_by_what_it_has(scene):
-    """Where a write of OUT fails, N and B are the packets and the bytes that OUT has, and nothing follows them."""
+def a_failed_out_is_reported_by_what_it_has(scene):
+    """If a write of OUT fails, N and B are the packets and the bytes that OUT has, and nothing follows them."""
     text = VETH.read_bytes()
     thrice = text + text[24:] + text[24:]
     cases = [("veth.pcap", text, 118), *(("veth.pcap " * 3, thrice, blocks) for blocks in [1, 63, 64, 65, 100, 300])]
@@ -250,13 +251,13 @@ def size_while_open(scene, flush, seconds):
 
 @case
 def a_flush_of_0_is_none(scene):
-    """With FLUSH 0 no packet is written of a store that is not full, and with another one behind so many packets."""
+    """With FLUSH 0 no packet of a store is written before it is full, and with another FLUSH after that many packets."""
     scene.check("FLUSH 4096 writes", size_while_open(scene, 4096, 60) > len(HEADER), True)
     scene.check("FLUSH 0 writes", size_while_open(scene, 0, 1) > len(HEADER), False)
 
 
 def sizes_reached(scene, sizes, seconds=60):
-    """Whether each of these files has so many bytes before the time is up."""
+    """Whether each of these files has this many bytes before the time is up."""
     end = time.monotonic() + seconds
     while time.monotonic() < end:
         if all((scene.folder / name).exists() and (scene.folder / name).stat().st_size == size for name, size in sizes.items()):
@@ -267,7 +268,7 @@ def sizes_reached(scene, sizes, seconds=60):
 
 @case
 def an_out_is_followed(scene):
-    """With FLUSH 1, and with an `i`, a packet is in OUT while the capture is still open, also where the OUT before is not read."""
+    """With FLUSH 1, and with an `i`, a packet is in OUT while the capture is still open, even if the OUT before is not read."""
     scene.start({"listeners.txt": "0 1 0 1048576 2 unread\n0 1 0 1048576 2 flushed.pcap\n0 0 0 1048576i 2 held.pcap tcp\n"})
     for name in ["fifo", "unread"]:
         os.mkfifo(scene.folder / name)
@@ -289,7 +290,7 @@ def an_out_is_followed(scene):
 
 @case
 def an_out_that_blocks_holds_back_no_other(scene):
-    """What is still in the stores at the end comes to each OUT, while a fifo that is the first OUT is not read."""
+    """What is still in the stores at the end reaches each OUT, while a fifo that is the first OUT is not read."""
     scene.start({
         "tu.pcap": HEADER + T + U, "t.pcap": HEADER + T,
         "listeners.txt": "0 0 0 1048576 2 unread\n0 0 0 1048576 2 all.pcap\n0 0 0 1048576i 2 tcp.pcap tcp\n1 0 0 1048576 2 other.pcap\n"})
@@ -317,7 +318,7 @@ def processor_seconds(process):
 
 @case
 def threads_that_wait_sleep(scene):
-    """Where nothing comes, a run of eight listeners takes no fifth of a processor: a thread that tries without an end takes one whole."""
+    """If nothing comes, a run of eight listeners takes less than a fifth of a processor: a thread that spins takes a whole one."""
     scene.start({"listeners.txt": "".join(f"0 0 0 1048576 2 {out}.pcap\n" for out in range(8))})
     os.mkfifo(scene.folder / "fifo")
     with subprocess.Popen([PROGRAM, "run", "listeners.txt", "fifo"], cwd=scene.folder, stdout=subprocess.PIPE) as running:
@@ -333,7 +334,7 @@ def threads_that_wait_sleep(scene):
 
 
 def woken_threads(scene):
-    """What a replay prints to which a packet comes now and then, and where its threads were woken again and again."""
+    """What a replay prints that gets a packet now and then, and where its threads were woken again and again."""
     calls = scene.folder / "calls"
     words = ["strace", "-f", "-qq", "-o", calls, "-e", "trace=futex", PROGRAM, "run", "listeners.txt", "fifo"]
     with subprocess.Popen(words, cwd=scene.folder, stdout=subprocess.PIPE) as running:
@@ -349,9 +350,9 @@ def woken_threads(scene):
 
 @case
 def threads_that_wait_are_woken(scene):
-    """Who makes something to do wakes the thread that waits for it, a reading one or a writer. A wake-up that is lost costs
-    milliseconds alone, so it is the calls of the system that show it, where `strace` is there. On a processor that others
-    use a thread may find something to do before it waits, so it is tried five times at most."""
+    """A thread that makes work wakes the one that waits for it, a reader or a writer. A lost wake-up costs only milliseconds, so only
+    system calls show it, if `strace` is there. On a processor that others use, a thread may find work before it waits, so this is tried
+    five times at most."""
     if shutil.which("strace") is None or subprocess.run(["strace", "-o", os.devnull, "true"], capture_output=True).returncode != 0:
         return scene.leave("strace can't trace here")
     scene.start({"listeners.txt": "0 1 0 1048576 2 out.pcap\n"})
@@ -376,17 +377,17 @@ def a_replay_ends_on_one_processor(scene):
         done = subprocess.run(
             [PROGRAM, "run", "listeners.txt", *["veth.pcap"] * 3], cwd=scene.folder, stdin=subprocess.DEVNULL, capture_output=True,
             text=True, timeout=LIMIT, preexec_fn=lambda: os.sched_setaffinity(0, one))
-        found = [line.fullmatch(told) for told in done.stdout.splitlines()]
+        found = [line.fullmatch(printed) for printed in done.stdout.splitlines()]
         counts = [sum(map(int, one.groups())) for one in found if one]
         scene.check("a run", (done.stderr, done.returncode, counts), ("", 0, [759] * 6))
 
 
-# A user who has no processes, so that a limit on his counts those of a run alone.
+# A user who has no processes, so that a limit on the user counts only those of a run.
 NOBODY = 54321
 
 
 def run_with_threads(scene, most, captures):
-    """What a run tells that may have so many threads, its first one among them, and the status; only root can try it."""
+    """What a run prints that may have this many threads, its first one among them, and the status; only root can try it."""
     def limited():
         resource.setrlimit(resource.RLIMIT_NPROC, (most, most))
         os.setgid(NOBODY)
@@ -404,7 +405,7 @@ def unread(pipe):
 
 @case
 def each_thread_is_refused_in_turn(scene):
-    """Where a thread of a run is refused, that alone is told, nothing is read of IN, and there is no OUT; else all is written."""
+    """If a thread of a run is refused, only that is reported, nothing is read of IN, and there is no OUT; else all is written."""
     if os.geteuid() != 0:
         return scene.leave("only root can limit a user's threads")
     shutil.copy(PROGRAM, scene.folder / "bpftap")
@@ -420,7 +421,7 @@ def each_thread_is_refused_in_turn(scene):
     # One replays each interface, and for each listener one reads and one writes: nine with the first one. Some order of the
     # threads that start may let one of them do something, so each is refused several times.
     for most in 13 * [*range(1, 9)]:
-        scene.check(f"{most} threads", run_with_threads(scene, most, "in + in"), ("", told("NoStart"), 1))
+        scene.check(f"{most} threads", run_with_threads(scene, most, "in + in"), ("", fault_lines("NoStart"), 1))
         scene.check("IN and OUT", (unread(pipe), scene.read("left.pcap"), scene.read("right.pcap")), (waiting, None, None))
     os.close(pipe)
     reports = report((0, 0), 1, 1) + report((1, 0), 2, 2) + report((1, 1), 2, 1)

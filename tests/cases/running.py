@@ -1,5 +1,5 @@
 """`bpftap run`: which lines are refused, and what each listener prints and writes of captures with faults."""
-from .common import HEADER, TCP_RECORD, UDP_RECORD, case, header, told
+from .common import HEADER, TCP_RECORD, UDP_RECORD, case, fault_lines, header
 from .run import report
 from .stepping import DEEP
 
@@ -46,13 +46,13 @@ def put(scene, listeners, interfaces):
 
 
 def ends(scene, listeners, interfaces, reports, written, *faults, status=0):
-    """A run prints these reports, tells these faults and writes this, by the names of its files."""
-    scene.expect(put(scene, listeners, interfaces), status, told(*faults), "".join(reports))
+    """A run prints these reports and these faults, and writes this, by the names of its files."""
+    scene.expect(put(scene, listeners, interfaces), status, fault_lines(*faults), "".join(reports))
     scene.check(f"written of {listeners}", {name: scene.read(name) for name in written}, written)
 
 
 @case
-def what_is_refused_is_told_and_nothing_is_done(scene):
+def what_is_refused_is_reported_and_nothing_is_done(scene):
     """A bad line goes before a refused expression, and that before what is out of range; no capture's header is looked at."""
     for listeners, fault in REFUSED:
         scene.refuse(put(scene, listeners, [[b""]]), 1, fault)
@@ -86,13 +86,13 @@ def two_captures_are_replayed_to_two_listeners(scene):
 
 
 def short(record, kept):
-    """A record of which so many bytes are kept."""
+    """A record of which this many bytes are kept."""
     return record[:8] + kept.to_bytes(4, "little") + record[12 : 16 + kept]
 
 
 @case
 def each_file_is_that_of_its_line(scene):
-    """Lines of two interfaces in turns; of each capture as many bytes are kept as its line says."""
+    """Lines of two interfaces in turns; each line's snapshot length says how many bytes of a packet are kept."""
     listeners = "1 0 10 4096 2 a\n0 0 20 4096 2 b\n1 0 30 4096 2 c tcp\n0 0 40 4096 2 d udp\n"
     reports = [report((0, 0), 2, 2), report((0, 1), 2, 1), report((1, 0), 1, 1), report((1, 1), 1, 0)]
     ends(scene, listeners, [[HEADER + T + U], [HEADER + U]], reports, {
@@ -101,7 +101,7 @@ def each_file_is_that_of_its_line(scene):
 
 @case
 def a_fault_of_a_capture_ends_its_interface(scene):
-    """The other interface goes on; without a listener too captures are read, and the greatest status stands."""
+    """The other interface goes on; captures are read even without a listener, and the greatest status counts."""
     whole, torn = HEADER + T, HEADER + T + bytes(1)
     both = "1 0 0 1048576 2 b\n0 0 0 1048576 2 a\n"
     reports, written = [report((0, 0), 1, 1), report((1, 0), 1, 1)], {"a": whole, "b": whole}
@@ -118,6 +118,6 @@ def a_fault_of_a_capture_ends_its_interface(scene):
 
 @case
 def an_interface_may_have_no_packets(scene):
-    """The header is written also where no packet came."""
+    """The header is written even if no packet came."""
     ends(scene, "1 0 0 1048576 2 a", [[], []], [report((1, 0), 0, 0)], {"a": HEADER})
     ends(scene, "0 0 0 1048576 2 a", [[HEADER]], [report((0, 0), 0, 0)], {"a": HEADER})

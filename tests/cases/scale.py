@@ -1,4 +1,4 @@
-"""`docs/SCALE.md`: its commands behind a `$`, one after the other, where the programs that they call are there."""
+"""`docs/SCALE.md`: its commands after a `$`, in order, if the programs that they call are there."""
 from .common import ROOT, case
 from .pages import run_page
 
@@ -7,6 +7,6 @@ PAGE = ROOT / "docs" / "SCALE.md"
 
 @case
 def commands_print_what_they_say(scene):
-    """A trove is made, cut by xargs and by parallel, and merged, as the page says, where its tools are."""
+    """A trove is made, cut by xargs and by parallel, and merged, as the page says, if its tools are there."""
     if scene.has("editcap", "mergecap", "parallel"):
         run_page(scene, PAGE)

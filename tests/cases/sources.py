@@ -7,7 +7,7 @@ from .common import ROOT, case
 COMMENT = re.compile(r"//.*")
 
 # What a call that waits without `Wait` is made of: a loop, or an iterator that runs one; a lock or an atomic of the standard library, or
-# what it has of threads, however it is imported; a load of `atomic_table` that needs no seat, and so stands in no list of steps.
+# what it has of threads, however it is imported; a load of `atomic_table` that needs no seat, and so is in no list of steps.
 WAITS = re.compile(
     r"\bfor\b.*\bin\b|\b(?:while|loop|sync|thread|hint|Mutex|try_lock|peek)\b|\.(?:any|all|find|position|fold|for_each)\(")
 
@@ -19,7 +19,7 @@ def waiting_lines(text):
 
 @case
 def calls_of_handover_do_not_wait(scene):
-    """No line of `handover` could make a call wait for the other end: its contracts bound the steps that a call tells, and no others."""
+    """No line of `handover` could make a call wait for the other end: its contracts bound only the steps that a call records."""
     sources = sorted(ROOT.glob("crates/handover/src/**/*.rt"))
     scene.check("there are sources", len(sources) > 3, True)
     for source in sources:

@@ -1,5 +1,5 @@
-"""`bpftap split`: what is refused before a file is opened, what each OUT has, and what is printed and told."""
-from .common import ARP_RECORD, HEADER, IP_RECORD, ROOT, TCP_RECORD, TORN, UDP_RECORD, VETH, case, header, records, told
+"""`bpftap split`: what is refused before a file is opened, what each OUT has, and what is printed and reported."""
+from .common import ARP_RECORD, HEADER, IP_RECORD, ROOT, TCP_RECORD, TORN, UDP_RECORD, VETH, case, fault_lines, header, records
 from .stepping import DEEP
 
 T, U = TCP_RECORD, UDP_RECORD
@@ -23,7 +23,7 @@ REFUSED = [
     ("".join(f"0 {n}.pcap tcp and 80\n" for n in range(1025)), "none.pcap", "TooMany"),
     ("".join(f"0 {n % 1024}.pcap\n" for n in range(1025)), "none.pcap", "Lines 1025"),
     ("0 t.pcap\n" + "".join(f"0 {n}.pcap\n" for n in range(3000)) + "x\n", "t.pcap", "Lines 3002"),
-    # 1,024 lines are read: the next fault is told, an expression's, or that of the first capture.
+    # 1,024 lines are read: the next fault is reported, an expression's, or that of the first capture.
     ("".join(f"0 {n}.pcap\n" for n in range(1023)) + "0 last.pcap tcp and 80\n", "none.pcap", "Expression 1023 NoQualifier 8"),
     ("".join(f"0 {n}.pcap\n" for n in range(1024)), "empty.pcap", "Capture 0 ShortHeader"),
     # An OUT that is a file that is read, or the OUT of another line.
@@ -64,14 +64,14 @@ FILTERS = [("udp port 5353", 67), ("tcp port 8080", 120), ("icmp", 49), ("arp", 
 
 @case
 def each_out_is_what_cut_writes(scene):
-    """Of one capture and of three, in two forms, each OUT has the bytes of `cut` of all of them."""
+    """For one capture and for three, in two forms, each OUT has the bytes of `cut` of all of them."""
     lines = "".join(f"{64 * n} {n}.pcap {expr}\n" for n, (expr, _) in enumerate(FILTERS))
     scene.put({"lines.txt": lines})
     big = ROOT / "examples" / "veth-big-nano.pcap"
     for options, order, unit in [("", "little", "micro"), ("-o big -u nano", "big", "nano")]:
         for captures in ([VETH], [VETH, big, VETH]):
             seen = scene.run(["split", *options.split(), "lines.txt", *captures])
-            scene.check("told, and the status", (seen.err, seen.status), (b"", 0))
+            scene.check("standard error, and the status", (seen.err, seen.status), (b"", 0))
             counts = [line.split() for line in seen.out.decode().splitlines()]
             scene.check("names and all", [(name, of) for name, _, _, of in counts],
                         [(f"{n}.pcap", str(253 * len(captures))) for n in range(len(FILTERS))])
@@ -105,7 +105,7 @@ def captured_bytes_are_cut_by_their_own_line(scene):
 
 @case
 def a_fault_of_a_capture_ends_the_reading(scene):
-    """What was read before it is written, and no capture behind it is read."""
+    """What was read before it is written, and no later capture is read."""
     scene.put({**CAPTURES, "lines.txt": "0 all.pcap\n0 udp.pcap udp\n"})
     for captures, fault, status, packets in [
             ("tu.pcap torn.pcap t.pcap", "Capture 1 TornRecord 1", 2, [T, U, IP_RECORD]),
@@ -115,23 +115,24 @@ def a_fault_of_a_capture_ends_the_reading(scene):
             ("t.pcap . tu.pcap", "Capture 1 Device", 3, [T])]:
         udp = [packet for packet in packets if packet == U]
         out = f"all.pcap {len(packets)} of {len(packets)}\nudp.pcap {len(udp)} of {len(packets)}\n"
-        scene.expect(f"split lines.txt {captures}", status, told(fault), out)
+        scene.expect(f"split lines.txt {captures}", status, fault_lines(fault), out)
         scene.check(f"all of {captures}", scene.read("all.pcap"), HEADER + b"".join(packets))
         scene.check(f"udp of {captures}", scene.read("udp.pcap"), HEADER + b"".join(udp))
 
 
 @case
-def a_failed_out_ends_alone(scene):
-    """An OUT that cannot be made, or takes no more, is told; the others have all their packets, and the greatest status stands."""
+def a_failed_out_ends_only_itself(scene):
+    """An OUT that cannot be made, or takes no more, is reported; the others have all their packets, and the greatest status
+    counts."""
     scene.put({**CAPTURES, "lines.txt": "0 none/out.pcap\n0 all.pcap\n0 /dev/full udp\n"})
-    failed = told("Device none/out.pcap", "Device /dev/full")
+    failed = fault_lines("Device none/out.pcap", "Device /dev/full")
     scene.expect("split lines.txt tu.pcap", 3, failed, "all.pcap 2 of 2\n")
     scene.check("all", scene.read("all.pcap"), HEADER + T + U)
-    scene.expect("split lines.txt torn.pcap", 3, failed + told("Capture 0 TornRecord 1"), "all.pcap 1 of 1\n")
-    # Where standard output fails, all OUT are written all the same.
+    scene.expect("split lines.txt torn.pcap", 3, failed + fault_lines("Capture 0 TornRecord 1"), "all.pcap 1 of 1\n")
+    # If standard output fails, all OUT are written all the same.
     scene.put({"lines.txt": "0 all.pcap\n"})
-    scene.expect("split lines.txt tu.pcap t.pcap", 3, told("Device standard output"), streams="> /dev/full")
-    scene.check("all behind a failed output", scene.read("all.pcap"), HEADER + T + U + T)
+    scene.expect("split lines.txt tu.pcap t.pcap", 3, fault_lines("Device standard output"), streams="> /dev/full")
+    scene.check("all.pcap after a failed output", scene.read("all.pcap"), HEADER + T + U + T)
 
 
 @case
@@ -142,14 +143,14 @@ def streams_are_captures_too(scene):
     scene.expect("split lines.txt /dev/stdin t.pcap", out="out.pcap 3 of 3\n", streams="< tu.pcap")
     scene.check("of standard input", scene.read("out.pcap"), HEADER + T + U + T)
     scene.expect("split /dev/stdin tu.pcap", out="a.pcap 1 of 2\n", streams="<<< '0 a.pcap tcp'")
-    # An empty LINES reads the captures, whose faults are told.
+    # An empty LINES reads the captures, whose faults are reported.
     scene.put({"lines.txt": ""})
-    scene.expect("split lines.txt tu.pcap torn.pcap", 2, told("Capture 1 TornRecord 1"))
+    scene.expect("split lines.txt tu.pcap torn.pcap", 2, fault_lines("Capture 1 TornRecord 1"))
 
 
 @case
-def a_header_alone_is_written_where_no_packet_matches(scene):
-    """An OUT is made, with its header, also where no packet came."""
+def only_a_header_is_written_if_no_packet_matches(scene):
+    """An OUT is made, with its header, even if no packet came."""
     scene.put({"in.pcap": HEADER, "arp.pcap": HEADER + ARP_RECORD, "lines.txt": "64 ip.pcap ip\n"})
     scene.expect("split lines.txt in.pcap arp.pcap", out="ip.pcap 0 of 1\n")
     scene.check("header", scene.read("ip.pcap"), header(64))
@@ -164,7 +165,7 @@ SHORT_UDP = bytes.fromhex("02000000 01000000 14000000 ea050000") + U[16:36]
 
 @case
 def each_part_has_its_packets_of_all_captures(scene):
-    """Of captures in each form, each line by its snapshot length and its expression, which may stand behind a blank alone."""
+    """For captures in each form, each line applies its snapshot length and its expression; a blank may end a line without one."""
     captures = {"0.pcap": HEADER + T + ARP_RECORD, "1.pcap": BIG_NANO + BIG_UDP, "2.pcap": HEADER + T}
     scene.start({**captures, "lines.txt": "0 tcp.pcap tcp\n020 udp.pcap udp\n0 all.pcap \n"})
     scene.expect("split lines.txt 0.pcap 1.pcap 2.pcap", out="tcp.pcap 2 of 4\nudp.pcap 1 of 4\nall.pcap 4 of 4\n")

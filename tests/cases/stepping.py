@@ -1,5 +1,5 @@
 """`bpftap steps`: what is printed of each listener, what is explained with `-v`, and what is refused."""
-from .common import HEADER, TCP_RECORD, case, told
+from .common import HEADER, TCP_RECORD, case, fault_lines
 
 # A header in nanoseconds.
 NANO_HEADER = bytes.fromhex("4d3cb2a1") + HEADER[4:]
@@ -10,12 +10,12 @@ def numbers(*fields):
 
 
 def zeros(packets):
-    """A capture of so many packets of 60 zeros, at second 1, 2, .."""
+    """A capture of this many packets of 60 zeros, at second 1, 2, .."""
     return HEADER + b"".join(numbers(second, 0, 60, 60) + bytes(60) for second in range(1, packets + 1))
 
 
 def nano_capture(*packets):
-    """A capture of packets of zeros: second, nanoseconds, captured length and length on the wire of each."""
+    """A capture of packets of zeros: second, nanoseconds, captured length and original length of each."""
     return NANO_HEADER + b"".join(numbers(*packet) + bytes(packet[2]) for packet in packets)
 
 
@@ -43,7 +43,7 @@ PRINTED = [
     ("10 48 tcp\n", "arrive\nflush 0\nread 0\n", [ONE],
      "listener 0 received 1 matched 1 dropped 0\nbatch 0\n" + ONE_KEPT.format(10) + "held\n", [], 0),
     ("10 48 udp\n", "arrive\nflush 0\nread 0\n", [ONE], "listener 0 received 1 matched 0 dropped 0\nheld\n", [], 0),
-    # A number may have leading zeros, and what stands behind the second blank is an expression.
+    # A number may have leading zeros, and the text after the second blank is an expression.
     ("032 0064i \r\n", "read 000", [ONE], KEPT_NONE, [], 0),
     # Both modes, over packets of zeros
     ("32 128i\n", ELEVEN, [zeros(7)], "listener 0 received 6 matched 6 dropped 1\nbatch 0\n" + kept(0) + "batch 1\n" + kept(1, 2)
@@ -55,7 +55,7 @@ PRINTED = [
      "listener 0 received 4 matched 4 dropped 1\nbatch 0\n" + kept(0) + "held\n" + kept(1, 3), [], 0),
     # Past the last packet nothing arrives.
     ("32 64\n", "arrive\nflush 0\narrive\nread 0\n", [HEADER], KEPT_NONE, [], 0),
-    # A torn capture is told behind the reports, and ends the playlist.
+    # A torn capture is reported after the reports, and ends the playlist.
     ("0 262176\n", "arrive\narrive\narrive\n", [TORN, ONE],
      "listener 0 received 1 matched 1 dropped 0\nheld\n" + ONE_KEPT.format(38), ["Capture 0 TornRecord 1"], 2),
     ("64 1000\n", "arrive\n" * 4, [ONE, TORN, ONE, TORN], "listener 0 received 2 matched 2 dropped 0\nheld\n" + ONE_KEPT.format(38)
@@ -64,7 +64,7 @@ PRINTED = [
     ("64 1000\n", "arrive", [ONE[:31] + b"\1" + ONE[32:]], KEPT_NONE, ["Capture 0 BadFraction 0"], 2),
     ("64 1000\n", "arrive", [ONE[:32] + b"\x27" + ONE[33:]], KEPT_NONE, ["Capture 0 TornRecord 0"], 2),
     ("64 1000\n", "arrive", [ONE[:35] + b"\1" + ONE[36:]], KEPT_NONE, ["Capture 0 TooLong 0"], 2),
-    # As many listeners as may be, and captures
+    # The most listeners, and the most captures
     ("32 64\n" * 64, "arrive", [HEADER], "".join(KEPT_NONE.replace("listener 0", f"listener {l}") for l in range(64)), [], 0),
     ("32 64\n", "arrive", [HEADER] * 16, KEPT_NONE, [], 0),
 ]
@@ -101,14 +101,14 @@ REFUSED = [
     ("", "arrive\narrive\r\n", [b""], "Script 2"),
     (b"32 64\n32 64 \xff\n", "", [b""], "Listeners 2"),
     ("32 64 tcp", b"read \xff", [b""], "Script 1"),
-    # Each way in which a line has not its form
+    # Each way in which a line is malformed
     *(("", script, [b""], f"Script {line}") for script, line in [
         ("arrives\n", 1), ("arrive\narrive \n", 2), ("arrive\r\n", 1), ("\n", 1), ("read\n", 1), ("read  0\n", 1), ("read +0\n", 1),
         ("close 4294967296\n", 1), ("flush 0 \n", 1)]),
     *((listeners, "", [b""], f"Listeners {line}") for listeners, line in [
         ("262145 96\n", 1), ("32 64\n32 \n", 2), ("32 64 tcp\n\n", 2), ("32  64\n", 1), ("32 18446744073709551616\n", 1), ("32 64I\n", 1),
         ("32 i\n", 1), ("-1 64\n", 1)]),
-    # Too many listeners, whatever else is wrong, and as many as may be
+    # Too many listeners, whatever else is wrong, and the most
     ("32 64\n" * 64 + "32 64", "arrive", [HEADER], "TooMany"),
     ("32 64\n" * 64 + "32 64", "read 65", [HEADER], "TooMany"),
     ("32 64\n" * 64, "read 64", [HEADER], "NoListener 0"),
@@ -194,7 +194,7 @@ capture 0 place 0 time 1.000000000 len 60 kept 32
 capture 0 place 1 time 2.000000000 len 60 kept 32
 """
 
-# An expression aborts at a byte that is not captured, and a packet is rejected for that; an expression behind `not` too.
+# An expression aborts at a byte that is not captured, and a packet is rejected for that; so it is under `not`.
 ABORTS_EXPLAINED = """step 1 arrive capture 0 place 0 time 1.000000000 len 60
   listener 0 Passed, the filter rejects it: Abort ether[100] = 1, byte 100 is not captured
   listener 1 Passed, the filter rejects it: No not (ether[0] = 0)
@@ -232,7 +232,7 @@ ANSWERED = [
 
 
 def put(scene, listeners, script, captures):
-    """Puts the files of a call, and answers its words behind the options."""
+    """Puts the files of a call, and returns its words after the options."""
     named = {f"{n}.pcap": capture for n, capture in enumerate(captures)}
     scene.start({"l.txt": listeners, "s.txt": script, **named})
     return " ".join(["l.txt", "s.txt", *named])
@@ -240,14 +240,14 @@ def put(scene, listeners, script, captures):
 
 @case
 def each_listener_is_printed(scene):
-    """Its counts, its batches and what is held, in both modes, and the fault of a capture behind them."""
+    """Its counts, its batches and what is held, in both modes, and the fault of a capture after them."""
     for listeners, script, captures, out, faults, status in PRINTED:
         words = put(scene, listeners, script, captures)
-        scene.expect(f"steps {words}", status, told(*faults), out)
+        scene.expect(f"steps {words}", status, fault_lines(*faults), out)
 
 
 @case
-def the_first_fault_is_told(scene):
+def the_first_fault_is_reported(scene):
     """By its name and its place, and nothing is printed."""
     for listeners, script, captures, fault in REFUSED:
         scene.refuse(f"steps {put(scene, listeners, script, captures)}", 1, fault)
@@ -261,12 +261,12 @@ def each_answer_is_explained(scene):
 
 
 @case
-def reports_that_are_not_taken_are_told(scene):
-    """Standard output has room for so many bytes; the fault of a capture is told too, and the greatest status stands."""
+def reports_that_are_not_taken_have_a_fault(scene):
+    """Standard output has room for this many bytes; the fault of a capture is reported too, and the greatest status counts."""
     for capture, faults in [(HEADER, []), (HEADER + bytes(15), ["Capture 0 TornRecord 0"])]:
         words = put(scene, "32 64", "arrive\nread 0", [capture])
         for option in ("", "-v "):
             for room in (0, 5, 44):
                 seen = scene.run_into(room, f"steps {option}{words}")
-                wanted = (told("Device standard output", *faults).encode(), 3)
+                wanted = (fault_lines("Device standard output", *faults).encode(), 3)
                 scene.check(f"steps {option}into {room} bytes", (seen.err, seen.status), wanted)

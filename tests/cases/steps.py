@@ -1,5 +1,5 @@
-"""`bpftap steps`: in which order its files are looked at, and what is told of them."""
-from .common import TORN, VETH, WHOLE, case, told
+"""`bpftap steps`: in which order its files are checked, and what is reported."""
+from .common import TORN, VETH, WHOLE, case, fault_lines
 
 FILES = {
     "l.txt": "32 64\n", "s.txt": "arrive\n", "bad.txt": "x\n", "refused.txt": "32 64 tcp and 80\n",
@@ -20,7 +20,7 @@ REFUSED = [
     ("l.txt s.txt .", 3, "Device ."),
 ]
 
-# What is printed of the one packet of `whole.pcap` and of `torn.pcap`, which nobody reads.
+# What is printed for the one packet of `whole.pcap` and of `torn.pcap`, which nobody reads.
 EXPLAINED = (
     "step 1 arrive capture 0 place 0 time 2.000000000 len 14\n"
     "  listener 0 Stored, 0 stored and 48 more are within 64\n")
@@ -29,11 +29,11 @@ REPORT = "listener 0 received 1 matched 1 dropped 0\nheld\ncapture 0 place 0 tim
 
 @case
 def files_are_looked_at_in_order(scene):
-    """The first fault is told, and nothing is printed."""
+    """The first fault is reported, and nothing is printed."""
     scene.put(FILES)
     for words, status, fault in REFUSED:
         scene.refuse(f"steps {words}", status, fault)
-    # Too many captures are refused behind bad lines, and before one of them is read.
+    # Too many captures are refused after bad lines, and before one of them is read.
     many = ["none.pcap"] * 65537
     scene.refuse(["steps", "l.txt", "s.txt", *many], 1, "TooMany")
     scene.refuse(["steps", "l.txt", "s.txt", *many[1:]], 3, "Device none.pcap")
@@ -42,12 +42,12 @@ def files_are_looked_at_in_order(scene):
 
 @case
 def reports_are_printed(scene):
-    """Of captures that are whole or torn reports are printed, and no file is made or changed."""
+    """For captures that are whole or torn reports are printed, and no file is made or changed."""
     scene.put(FILES)
     before = scene.files()
     scene.expect("steps l.txt s.txt whole.pcap", out=REPORT)
-    scene.expect("steps l.txt s.txt torn.pcap", 2, told("Capture 0 TornRecord 1"), REPORT)
-    scene.expect("steps -v l.txt s.txt torn.pcap", 2, told("Capture 0 TornRecord 1"), EXPLAINED + REPORT)
+    scene.expect("steps l.txt s.txt torn.pcap", 2, fault_lines("Capture 0 TornRecord 1"), REPORT)
+    scene.expect("steps -v l.txt s.txt torn.pcap", 2, fault_lines("Capture 0 TornRecord 1"), EXPLAINED + REPORT)
     scene.expect("steps /dev/null /dev/null whole.pcap")
     scene.check("files", scene.files(), before)
 
@@ -61,7 +61,7 @@ REJECTING = [
 
 @case
 def what_decides_is_what_explain_prints(scene):
-    """Behind each packet that an expression rejects stands what `explain` prints of it."""
+    """After each packet that an expression rejects comes what `explain` prints for it."""
     for expr in REJECTING:
         scene.put({"l.txt": f"96 262176 {expr}\n", "s.txt": "arrive\n" * 253})
         answers = scene.run(["steps", "-v", "l.txt", "s.txt", str(VETH)]).out.decode().splitlines()

@@ -1,9 +1,9 @@
-"""Standard streams that are closed or full: no file of a command gets what is told or printed there."""
+"""Standard streams that are closed or full: no file of a command gets what is printed there."""
 import itertools
 import shutil
 import subprocess
 
-from .common import ALL, HEADER, IP, TCP_RECORD, TORN, UDP_RECORD, WHOLE, Seen, as_bytes, case, header, told
+from .common import ALL, HEADER, IP, TCP_RECORD, TORN, UDP_RECORD, WHOLE, Seen, as_bytes, case, fault_lines, header
 from .steps import EXPLAINED, REPORT
 
 FILES = {
@@ -40,47 +40,47 @@ def closings():
 
 
 @case
-def no_file_gets_what_is_told_or_printed(scene):
-    """With each combination of closed streams OUT has the packets alone, and the status tells what is not printed."""
+def no_file_gets_what_is_printed(scene):
+    """With each combination of closed streams OUT has only the packets, and the status says what is not printed."""
     for streams, no_out, no_err in closings():
         for words, printed, faults, status, files in COMMANDS:
             scene.start(FILES)
             before = scene.files()
             if no_out and printed:
                 printed, faults, status = "", [FULL, *faults], 3
-            scene.expect(words, status, "" if no_err else told(*faults), printed, streams)
-            scene.check(f"files behind {words} {streams}", scene.files(), {**before, **files})
+            scene.expect(words, status, "" if no_err else fault_lines(*faults), printed, streams)
+            scene.check(f"files after {words} {streams}", scene.files(), {**before, **files})
 
 
 @case
 def no_file_gets_help(scene):
-    """The same of help: what standard output does not take is told, and goes nowhere else."""
+    """If standard output does not take help, that is reported, and the help goes nowhere else."""
     scene.put(FILES)
     before = scene.files()
     for streams, no_out, no_err in closings():
         seen = scene.run("--help", streams)
-        wanted = (as_bytes(told(FULL)) if no_out and not no_err else b"", 3 if no_out else 0)
+        wanted = (as_bytes(fault_lines(FULL)) if no_out and not no_err else b"", 3 if no_out else 0)
         scene.check(f"--help {streams}", (seen.err, seen.status), wanted)
         if not no_out:
             scene.check(f"printed by --help {streams}", b"Examples:\n" in seen.out, True)
-        scene.check(f"files behind --help {streams}", scene.files(), before)
+        scene.check(f"files after --help {streams}", scene.files(), before)
 
 
 @case
-def a_full_device_is_told(scene):
-    """What a full device does not take is told with status 3, and other faults behind it."""
+def a_full_device_is_reported(scene):
+    """What a full device does not take is reported with status 3, and other faults after it."""
     scene.put({**FILES, "two.txt": "0 0 64 1048576 2 tcp.pcap tcp\n0 0 0 1048576 2 all.pcap\n"})
     scene.put({"tu.pcap": HEADER + TCP_RECORD + UDP_RECORD})
     for words in ["check ip", "steps l.txt s.txt whole.pcap"]:
-        scene.expect(words, 3, told(FULL), streams=">/dev/full")
-    scene.expect("run two.txt tu.pcap torn.pcap", 3, told(FULL, "Interface 0 Capture 1 TornRecord 1"), streams=">/dev/full")
+        scene.expect(words, 3, fault_lines(FULL), streams=">/dev/full")
+    scene.expect("run two.txt tu.pcap torn.pcap", 3, fault_lines(FULL, "Interface 0 Capture 1 TornRecord 1"), streams=">/dev/full")
     scene.check("one OUT", scene.read("tcp.pcap"), header(64) + TCP_RECORD)
     scene.check("the other OUT", scene.read("all.pcap"), HEADER + TCP_RECORD + UDP_RECORD + WHOLE[24:])
 
 
 @case
-def a_pipe_that_nobody_reads_is_no_fault_to_tell(scene):
-    """What a broken pipe does not take ends with status 3, of which nothing is told, also of an OUT of `cut`; other faults are."""
+def a_pipe_that_nobody_reads_is_not_reported(scene):
+    """What a broken pipe does not take ends with status 3 and is not reported, not even for an OUT of `cut`; other faults are."""
     scene.put(FILES)
     steps = ["steps l.txt s.txt whole.pcap", "steps -v l.txt s.txt whole.pcap"]
     for words in ["--help", "check ip", *steps, "run r.txt whole.pcap"]:
@@ -88,12 +88,12 @@ def a_pipe_that_nobody_reads_is_no_fault_to_tell(scene):
     scene.check("OUT", scene.read("out.pcap"), WHOLE)
     for words in ["cut -s 0 whole.pcap /dev/stdout", "--hints cut -s 0 -c torn.pcap /dev/stdout"]:
         scene.check(f"{words} |", scene.run_unread(words), Seen(b"", b"", 3))
-    torn = as_bytes(told("Capture 0 TornRecord 1"))
+    torn = as_bytes(fault_lines("Capture 0 TornRecord 1"))
     scene.check("steps of a torn capture |", scene.run_unread("steps l.txt s.txt torn.pcap"), Seen(b"", torn, 3))
 
 
 def refused_once(scene, words, call):
-    """What is printed and told, and the status, where this call of write fails, from 1, and no later one."""
+    """What is printed, and the status, if this call of write fails, counted from 1, and no later one."""
     inject = f"strace -qq -o calls -e trace=write -e inject=write:error=ENOSPC:when={call}"
     return scene.run(words, first=f'exec {inject} "$0" "$@"')
 
@@ -107,18 +107,18 @@ PRINTED_ONCE = [
 
 @case
 def nothing_is_printed_after_a_failed_write(scene):
-    """One write of standard output fails, and later ones would not: that is told, and nothing is printed then."""
+    """One write of standard output fails, and later ones would not: that is reported, and nothing is printed then."""
     scene.put({**FILES, "lines.txt": "0 out.pcap\n"})
     if not can_refuse():
         return scene.leave("strace can't trace here")
     for words, before in PRINTED_ONCE:
         seen = refused_once(scene, words, before + 1)
-        scene.check(f"{words}, one write refused", seen, Seen(b"", as_bytes(told(FULL)), 3))
+        scene.check(f"{words}, one write refused", seen, Seen(b"", as_bytes(fault_lines(FULL)), 3))
 
 
 @case
-def no_hint_stands_without_its_fault(scene):
-    """The line of a fault is not taken, and later ones would be: no hint comes then, and the status tells the fault."""
+def no_hint_comes_without_its_fault(scene):
+    """The line of a fault is not taken, and later ones would be: no hint comes then, and the status says the fault."""
     scene.put(FILES)
     if not can_refuse():
         return scene.leave("strace can't trace here")
@@ -150,16 +150,16 @@ SHARED = [
 
 @case
 def a_stream_is_a_file_too(scene):
-    """No OUT, and no file that is read, is the file that is printed to; and no OUT the one that faults are told to."""
+    """Standard output goes to no OUT and to no file that is read, and standard error to no OUT."""
     scene.put({**FILES, "stdout.txt": "0 0 0 1048576 2 /dev/stdout\n", "out.pcap": "kept"})
     before = scene.files()
     for words, streams, path in SHARED:
-        scene.expect(words, 1, told(f"SameFile {path}"), streams=streams)
-        scene.check(f"files behind {words} {streams}", scene.files(), before)
+        scene.expect(words, 1, fault_lines(f"SameFile {path}"), streams=streams)
+        scene.check(f"files after {words} {streams}", scene.files(), before)
     for words in ["run r.txt whole.pcap", "cut -s 0 whole.pcap out.pcap", "cut -s 0 whole.pcap /dev/stderr"]:
         path = words.split()[-1] if words.startswith("cut") else "out.pcap"
         scene.expect(words, 1, streams="2>out.pcap")
-        scene.check(f"{words} 2>out.pcap", scene.read("out.pcap"), as_bytes(told(f"SameFile {path}")))
+        scene.check(f"{words} 2>out.pcap", scene.read("out.pcap"), as_bytes(fault_lines(f"SameFile {path}")))
     # A cut prints nothing, so that its OUT may be what standard output goes to.
     scene.expect("cut -s 0 whole.pcap /dev/stdout", streams=">out.pcap")
     scene.check("cut to standard output", scene.read("out.pcap"), WHOLE)

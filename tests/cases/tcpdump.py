@@ -68,12 +68,12 @@ def steps_counts_what_tcpdump_keeps(scene):
     printed = [line for line in seen.out.decode().splitlines() if line.startswith("listener")]
     wanted = [f"listener {l} received 253 matched {count} dropped 0" for l, (_, count, _) in enumerate(TCPDUMP)]
     scene.check("counts", printed, wanted)
-    scene.check("told, and the status", (seen.err, seen.status), (b"", 0))
+    scene.check("standard error, and the status", (seen.err, seen.status), (b"", 0))
 
 
 @case
 def run_writes_what_tcpdump_keeps(scene):
-    """A listener of `run` for each expression writes its packets, cut, where the buffers have room for all."""
+    """A listener of `run` for each expression writes its packets, cut, if the buffers have room for all."""
     seen = run_all(scene, 1048576)
     wanted = [f"interface 0 listener {l} received 253 matched {count} dropped 0 written {count} Clean"
               for l, (_, count, _) in enumerate(TCPDUMP)]
@@ -84,7 +84,8 @@ def run_writes_what_tcpdump_keeps(scene):
 
 @case
 def small_buffers_lose_packets_and_count_them(scene):
-    """With small buffers each file has so many of its packets, in order, and the rest is counted as dropped."""
+    """With small buffers each file has as many of its packets as its report says, in order, and the rest is counted as
+    dropped."""
     for n, line in enumerate(run_all(scene, 2048)):
         expr, count, is_kept = TCPDUMP[n]
         words = line.split()
@@ -100,7 +101,7 @@ def run_all(scene, room):
     """The reports of a run with a listener of so much room for each expression, which keeps 96 bytes and is flushed."""
     scene.put({"many.txt": "".join(f"0 3 96 {room} 1 out{n}.pcap {expr}\n" for n, (expr, _, _) in enumerate(TCPDUMP))})
     seen = scene.run(["run", "many.txt", VETH])
-    scene.check(f"told, and the status, with {room}", (seen.err, seen.status), (b"", 0))
+    scene.check(f"standard error, and the status, with {room}", (seen.err, seen.status), (b"", 0))
     reports = seen.out.decode().splitlines()
     scene.check(f"reports with {room}", len(reports), len(TCPDUMP))
     return reports
@@ -108,7 +109,7 @@ def run_all(scene, room):
 
 @case
 def packets_and_bytes_are_those_of_tcpdump(scene):
-    """`bench/filters.py --figures` finds in what `cut -e` writes as many packets and bytes as in what tcpdump does."""
+    """`bench/filters.py --figures` counts as many packets and bytes in what `cut -e` writes as in what tcpdump does."""
     done = subprocess.run(
         [sys.executable, ROOT / "bench" / "filters.py", "--figures"], cwd=scene.folder, capture_output=True, text=True,
         env={**os.environ, "BPFTAP": PROGRAM})

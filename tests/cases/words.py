@@ -1,5 +1,5 @@
 """The words of the command line: those that are no command, and those that ask for help or the version."""
-from .common import HEADER, TCP_RECORD, case, told
+from .common import HEADER, TCP_RECORD, case, fault_lines
 
 WRONG = [
     "",
@@ -20,13 +20,13 @@ WRONG = [
 
 
 @case
-def wrong_words_end_with_one(scene):
-    """Words that are no command print nothing, are told and end with status 1."""
+def bad_usage_ends_with_one(scene):
+    """Words that are no command print nothing, are reported and end with status 1."""
     for words in WRONG:
         seen = scene.run(words)
-        scene.check(f"told of {words!r}", seen.err != b"", True)
+        scene.check(f"standard error of {words!r}", seen.err != b"", True)
         scene.check(f"printed of {words!r}, and its status", (seen.out, seen.status), (b"", 1))
-        scene.check(f"files behind {words!r}", scene.files(), {})
+        scene.check(f"files after {words!r}", scene.files(), {})
 
 
 # Words that ask for help or the version, and a part of it.
@@ -42,16 +42,16 @@ HELP = [
 
 @case
 def help_ends_with_none(scene):
-    """Help and the version are printed, nothing is told, and the status is 0."""
+    """Help and the version are printed, nothing is reported, and the status is 0."""
     for words, part in HELP:
         seen = scene.run(words)
         scene.check(f"{part!r} in {words!r}", part in seen.out, True)
-        scene.check(f"told of {words!r}, and its status", (seen.err, seen.status), (b"", 0))
+        scene.check(f"standard error of {words!r}, and its status", (seen.err, seen.status), (b"", 0))
 
 
 @case
 def a_signed_snapshot_length_has_the_usage_of_cut(scene):
-    """A snapshot length with a sign is told together with the usage of `cut`."""
+    """A snapshot length with a sign is reported together with the usage of `cut`."""
     seen = scene.run("cut -s +5 -f x in.pcap out.pcap")
     scene.check("the usage", b"Usage: bpftap cut [OPTIONS]" in seen.err, True)
     scene.check("printed, and the status", (seen.out, seen.status), (b"", 1))
@@ -69,31 +69,31 @@ CONTROLLING = [
 
 @case
 def no_word_controls_the_terminal(scene):
-    """What is told of wrong words has their control characters escaped, as those of paths."""
+    """What is printed of refused words has their control characters escaped, as in paths."""
     for words, part in CONTROLLING:
         for asked in [[], ["--hints"]]:
             seen = scene.run([*asked, *words])
-            told = seen.err.decode()
-            scene.check(f"{part} of {words!r}", part in told, True)
-            controls = [one for one in told if ord(one) < 32 and one != "\n" or 127 <= ord(one) < 160]
+            printed = seen.err.decode()
+            scene.check(f"{part} of {words!r}", part in printed, True)
+            controls = [one for one in printed if ord(one) < 32 and one != "\n" or 127 <= ord(one) < 160]
             scene.check(f"control characters of {words!r}", controls, [])
-            scene.check(f"a line of another kind of {words!r}", "\nbpftap" in told, False)
+            scene.check(f"a line of another kind of {words!r}", "\nbpftap" in printed, False)
             scene.check(f"printed of {words!r}, and its status", (seen.out, seen.status), (b"", 1))
 
 
-# Words whose expression begins with `-`: behind -e it is taken for options.
+# Words whose expression begins with `-`: after -e it is taken for options.
 DASHED = ["explain -e '-1 = len' in.pcap", "cut -s 0 -e '-len < 5' in.pcap out.pcap", "--hints cut -e -1 -s 0 in.pcap out.pcap"]
 
 
 @case
-def an_expression_that_begins_with_a_minus_is_told_of(scene):
-    """How it is given is told: in parentheses, or behind `-e=`; and so it is taken."""
+def an_expression_that_begins_with_a_minus_has_a_tip(scene):
+    """A tip says how to give it: in parentheses, or after `-e=`; and so it is taken."""
     for words in DASHED:
         seen = scene.run(words)
-        told = seen.err.decode()
-        scene.check(f"told of {words}", "in parentheses, as -e '(-1 + len > 60)', or write -e='-1 + len > 60'" in told, True)
-        scene.check(f"no other tip of {words}", "use '-- " in told, False)
-        scene.check(f"usage of {words}", f"Usage: bpftap {words.removeprefix('--hints ').split()[0]} " in told, True)
+        printed = seen.err.decode()
+        scene.check(f"standard error of {words}", "in parentheses, as -e '(-1 + len > 60)', or write -e='-1 + len > 60'" in printed, True)
+        scene.check(f"no other tip of {words}", "use '-- " in printed, False)
+        scene.check(f"usage of {words}", f"Usage: bpftap {words.removeprefix('--hints ').split()[0]} " in printed, True)
         scene.check(f"printed of {words}, and its status", (seen.out, seen.status), (b"", 1))
     scene.put({"in.pcap": HEADER + TCP_RECORD})
     for words in ["-e '(-1 + len > 60)'", "-e='-1 + len > 60'", "-e'-1 + len > 60'"]:
@@ -103,15 +103,15 @@ def an_expression_that_begins_with_a_minus_is_told_of(scene):
 
 
 @case
-def a_word_that_is_no_text_is_told(scene):
+def a_word_that_is_no_text_is_reported(scene):
     """A word that is not UTF-8 is refused."""
     scene.refuse(["check", b"\xff"], 1, "a word of the command line is not UTF-8")
 
 
 @case
-def help_that_cannot_be_printed_is_told(scene):
-    """Standard output fails behind 3 bytes of the help, or before the first: status 3."""
-    # A file that may not grow beyond 3 bytes stands for a device that breaks there.
+def help_that_cannot_be_printed_is_reported(scene):
+    """Standard output fails after 3 bytes of the help, or before the first: status 3."""
+    # A file that may not grow beyond 3 bytes plays a device that breaks there.
     seen = scene.run_into(3, "--help")
-    scene.check("3 bytes", (seen.out, seen.err.decode(), seen.status), (b"Fil", told("Device standard output"), 3))
-    scene.expect("--help", 3, told("Device standard output"), streams=">/dev/full")
+    scene.check("3 bytes", (seen.out, seen.err.decode(), seen.status), (b"Fil", fault_lines("Device standard output"), 3))
+    scene.expect("--help", 3, fault_lines("Device standard output"), streams=">/dev/full")
