@@ -1,7 +1,7 @@
 # The program of a source folder `root`: one that was built and proved there, or the released one. ./bpftap, ./install and ./test source
 # this file; others call one of its functions, as `sh release/lib.sh program_path`.
 #
-# release/files lists what is released: the mode, where it is here, and where it goes below a prefix. What ./build makes is in a folder `out`.
+# release/files lists what is released: the mode, the path here, and the path below a prefix. What ./build makes is in a folder `out`.
 # release/SHA256SUMS has the checksum of each of these files. Its comments have the key of the sources, the toolchain that built them, and
 # the checksum of the archive.
 archive=release/bpftap-x86_64-linux.tar.gz sums=release/SHA256SUMS
