@@ -1,21 +1,22 @@
 #!/usr/bin/env python3
-"""Measures each command of bpftap and the calls under it, beside cp and tcpdump where they do the same.
+"""Measures each command of bpftap and the calls under it, beside cp and tcpdump if they do the same.
 
   bench/bench.py                   wall time and peak memory on a capture of some 100 MB, interleaved runs
   bench/bench.py --instructions    user instructions for each packet, by valgrind's callgrind, on a small capture
   bench/bench.py --listener        user instructions for each arrival of 660 bytes at a listener, by callgrind; proves and builds
                                    bench/listener first, in a copy, over what ./build kept
-  bench/bench.py --steps           the same for each packet of a replay by `bpftap steps`, one listener and 64, read at each full hold
+  bench/bench.py --steps           user instructions for each packet of a replay by `bpftap steps`, with one listener and with 64, read at
+                                   each full hold
   bench/bench.py --run             packets per second of `bpftap run` with 1 to 8 listeners and 1 to 4 interfaces, beside as many `cut`
-                                   and tcpdump at once; what is dropped with few buffers; instructions of a packet that nobody accepts, and
-                                   of the same by `cut`
-  bench/bench.py --replay          user instructions of such a packet, with one listener and for each more, by a program over `replay`
-                                   alone; proves and builds bench/replay first, in the same way
+                                   and tcpdump at once; what is dropped with few buffers; instructions for a packet that nobody accepts,
+                                   by `run` and by `cut`
+  bench/bench.py --replay          user instructions for such a packet, with one listener and for each further one, by a program over only
+                                   `replay`; proves and builds bench/replay first, in the same way
   bench/bench.py --waiting         processor time of `bpftap run` with 1, 8 and 64 listeners over a fifo that is silent for five seconds;
                                    packets per second and what is dropped with 1 to 8 listeners and few or many spare buffers, with
-                                   16 interfaces of 8 listeners, and with an OUT of which 1 MB a second is read; with `--beside PATH`
-                                   the same of another built program, interleaved. TMPDIR=/dev/shm puts the files into memory: on a
-                                   disk it is mostly the opening of an OUT which is measured
+                                   16 interfaces of 8 listeners, and with an OUT of which 1 MB a second is read; `--beside PATH`
+                                   measures another built program too, interleaved. TMPDIR=/dev/shm puts the files into memory: on a
+                                   disk mostly the opening of an OUT is measured
   bench/bench.py --handover        arrivals per second at a listener, at a pair in one thread and in two, and at a listener under
                                    a lock in two threads; proves and builds bench/handover first, in the same way
   bench/bench.py --split           wall time of `split` with eight filters, beside a cut and a tcpdump for each, one by one and at once
@@ -27,8 +28,8 @@ Machines are noisy, so the ratios of one run are what to compare. Instructions a
 bpftap and tcpdump write are compared.
 
 It needs only Python. The program is this folder's, or BPFTAP=PATH. Without tcpdump only bpftap is
-measured, --instructions needs valgrind, and peak memory is told where GNU time is (a program started by Python itself
-shows Python's size where it needs less).
+measured, --instructions needs valgrind, and peak memory needs GNU time (a program started by Python itself
+shows Python's size if it needs less).
 """
 import argparse
 import filecmp
@@ -104,7 +105,7 @@ def generate(path, packets):
 
 
 def gnu_time():
-    """GNU time, a small process to start the measured program from; None where it is not there."""
+    """GNU time, a small process to start the measured program from; None if there is none."""
     path = shutil.which("time")
     if path is None:
         return None
@@ -113,13 +114,13 @@ def gnu_time():
 
 
 def run(words, folder=None, timer=None):
-    """Seconds, exit status, and peak memory in KiB where GNU time tells it, of one run."""
-    told = folder / "peak" if timer else None
-    small = [timer, "-f", "%M", "-o", str(told)] if timer else []
+    """Seconds, exit status, and peak memory in KiB (0 without GNU time) of one run."""
+    peak = folder / "peak" if timer else None
+    small = [timer, "-f", "%M", "-o", str(peak)] if timer else []
     start = time.perf_counter()
     done = subprocess.run([*small, *words], stdout=subprocess.DEVNULL, stderr=subprocess.DEVNULL)
     seconds = time.perf_counter() - start
-    memory = int(told.read_text().split()[-1]) if timer else 0
+    memory = int(peak.read_text().split()[-1]) if timer else 0
     return seconds, done.returncode, memory
 
 
@@ -201,7 +202,7 @@ def instructions(folder):
 
 
 def built(folder, name, below, files):
-    """Builds bench/NAME over copies of the crates that it stands on, and of what ./build kept of them, and tells where the program is."""
+    """Builds bench/NAME over copies of the crates that it uses and of what ./build kept of them; returns the program's path."""
     kept = folder / "out" / "build"
     kept.mkdir(parents=True)
     for crate in below:
@@ -238,7 +239,7 @@ def replay_program(folder):
 
 
 def arrivals(folder):
-    """Instructions for each arrival that is stored, with a read behind each rotation."""
+    """Instructions for each arrival that is stored, with a read after each rotation."""
     program = listener_program(folder)
     count = instructions_of([program, "101000"], folder) - instructions_of([program, "1000"], folder)
     print(f"user instructions for each arrival of 660 bytes, by callgrind: {count / 100000:.0f}")
@@ -246,7 +247,7 @@ def arrivals(folder):
 
 def steps(folder):
     """Instructions for each packet of a replay, reports included, with reads at each full hold: what 64 listeners cost
-    beside one. An expression that rejects all has no reports."""
+    beside one. An expression that rejects everything has no reports."""
     captures = {packets: folder / f"{packets}.pcap" for packets in (1000, 11000)}
     for packets, path in captures.items():
         generate(path, packets)
@@ -273,7 +274,7 @@ FILTERS = ["", "ip", "udp port 53", "arp", "tcp", "port 54", "not ip", "less 500
 
 
 def replay_words(folder, capture, interfaces, listeners, spares):
-    """A replay of the capture at so many interfaces, each with so many listeners."""
+    """The command of a replay of the capture with this many interfaces, each with this many listeners."""
     lines = [
         f"{i} 0 0 1048576 {spares} {folder / f'{i}-{l}.pcap'} {FILTERS[l % len(FILTERS)]}".rstrip() + "\n"
         for i in range(interfaces) for l in range(listeners)]
@@ -304,7 +305,7 @@ def beside(folder, capture, interfaces, listeners):
 
 
 def rejected(folder):
-    """User instructions of a packet that no listener accepts, of one listener and of each more, and of the same by `cut`."""
+    """User instructions for a packet that no listener accepts: with one listener, for each further one, and by `cut`."""
     filtered = ["-s", "0", "-e", "less 1"]
     counts = {}
     for many in (1000, 11000):
@@ -320,7 +321,7 @@ def rejected(folder):
 
 
 def rejected_by_replay(folder):
-    """The same of a replay by the bench's own program."""
+    """User instructions for a packet that no listener accepts, in a replay by the bench's own program."""
     program = replay_program(folder)
     counts = {}
     for many in (1000, 11000):
@@ -347,8 +348,8 @@ def replays(folder, packets, rounds):
             seen.setdefault("run", []).append(at_once([words]))
             for name, commands in beside(folder, capture, interfaces, listeners):
                 seen.setdefault(name, []).append(at_once(commands))
-        told = ", ".join(f"{name} {many / statistics.median(times) / 1e6:.2f}" for name, times in seen.items())
-        print(f"{interfaces} interfaces, {listeners} listeners each: million packets a second: {told}")
+        rates = ", ".join(f"{name} {many / statistics.median(times) / 1e6:.2f}" for name, times in seen.items())
+        print(f"{interfaces} interfaces, {listeners} listeners each: million packets a second: {rates}")
     for spares in (2, 8, 64):
         shares = []
         for _ in range(rounds):
@@ -370,7 +371,7 @@ def processor_seconds(process):
 
 
 def silent(folder, program, listeners):
-    """Processor time, and switches, of a replay with so many listeners in five seconds in which nothing comes."""
+    """Processor time, and switches, of a replay with this many listeners in five seconds in which nothing comes."""
     pipe, some = folder / "silent.pipe", folder / "some.pcap"
     os.mkfifo(pipe)
     generate(some, 10)
@@ -409,19 +410,19 @@ def slow_sink(folder, program, capture):
         with open(pipe, "rb", buffering=0) as taken:
             while taken.read(10_000):
                 time.sleep(0.01)
-        told = [line.split() for line in replay.stdout]
-        # What its children took is told once they were waited for.
+        reports = [line.split() for line in replay.stdout]
+        # What its children took is known once they were waited for.
         _, status, used = os.wait4(replay.pid, 0)
         replay.returncode = os.waitstatus_to_exitcode(status)
     pipe.unlink()
     if replay.returncode != 0:
         sys.exit(f"a replay into a slow OUT ended with {replay.returncode}")
-    share = sum(int(line[line.index("dropped") + 1]) for line in told) / sum(int(line[line.index("matched") + 1]) for line in told)
+    share = sum(int(line[line.index("dropped") + 1]) for line in reports) / sum(int(line[line.index("matched") + 1]) for line in reports)
     return used.ru_utime + used.ru_stime, time.perf_counter() - start, share
 
 
 def waiting(folder, packets, rounds, programs):
-    """What threads cost that wait, and what it costs to wake them; interleaved over the programs."""
+    """What waiting threads cost, and what it costs to wake them; interleaved over the programs."""
     for listeners in (1, 8, 64):
         for name, program in programs.items():
             seconds, switches = silent(folder, program, listeners)
@@ -453,7 +454,7 @@ SPLIT_FILTERS = [
 
 
 def one_by_one(commands):
-    """Seconds for commands that run one behind the other."""
+    """Seconds for commands that run one after the other."""
     return sum(at_once([words]) for words in commands)
 
 
@@ -472,7 +473,7 @@ def split_commands(folder, capture):
 
 
 def splits(folder, packets, rounds):
-    """One pass with eight filters beside a cut, and a tcpdump, for each of them: one behind the other, and all at once."""
+    """One pass with eight filters beside a cut, and a tcpdump, for each of them: one after the other, and all at once."""
     capture = folder / "in.pcap"
     generate(capture, packets)
     commands = split_commands(folder, capture)
@@ -481,8 +482,8 @@ def splits(folder, packets, rounds):
         runs += [(f"{name}, one by one", name, one_by_one), (f"{name}, all at once", name, at_once)]
     seen = {}
     for _ in range(rounds):
-        for told, name, way in sorted(runs):
-            seen.setdefault(told, []).append(way(commands[name]))
+        for label, name, way in sorted(runs):
+            seen.setdefault(label, []).append(way(commands[name]))
     for at, expr in enumerate(SPLIT_FILTERS):
         for name in commands.keys() - {"split"}:
             if not filecmp.cmp(folder / f"{at}-split.pcap", folder / f"{at}-{name}.pcap", shallow=False):
@@ -491,15 +492,15 @@ def splits(folder, packets, rounds):
     peak = f", split takes {run(commands['split'][0], folder, timer)[2] / 1024:.1f} MiB" if timer else ""
     print(f"{packets} packets, {capture.stat().st_size / 1e6:.0f} MB, {len(SPLIT_FILTERS)} filters, median of {rounds} rounds, "
           f"{os.cpu_count()} processors{peak}")
-    for told, times in seen.items():
-        print(f"{told:22} {statistics.median(times):6.2f} s")
+    for label, times in seen.items():
+        print(f"{label:22} {statistics.median(times):6.2f} s")
 
 
 def spent(words):
     """Seconds, and processor seconds, of one run."""
     start = time.perf_counter()
     with subprocess.Popen(words, stdout=subprocess.DEVNULL, stderr=subprocess.DEVNULL) as process:
-        # What its children took is told once they were waited for.
+        # What its children took is known once they were waited for.
         _, status, used = os.wait4(process.pid, 0)
         process.returncode = os.waitstatus_to_exitcode(status)
     if process.returncode != 0:
@@ -508,7 +509,7 @@ def spent(words):
 
 
 def rejecting(folder, packets, rounds, other):
-    """What it costs to reject packets of which half are UDP of another port, and half ARP."""
+    """What it costs to reject packets: half are UDP of another port, half ARP."""
     whole, capture, expression = folder / "whole.pcap", folder / "in.pcap", "udp port 53"
     generate(whole, packets)
     subprocess.run([program(), "cut", "-s", "0", "-e", f"not {expression}", str(whole), str(capture)], check=True)
@@ -596,7 +597,7 @@ def hostile():
     yield "hosts and ports by turns", "||".join(f"host 10.0.0.{n}||port {1000 + n}" for n in range(255)), 1
     yield "sides by turns", "||".join(f"ip dst host 10.0.0.{n}||src host 10.0.1.{n}" for n in range(185)), 0
     yield "ports and bytes by turns", "||".join(f"tcp port {n}||tcp[2:2]={n}" for n in range(1000, 1270)), 1
-    yield "a divisor of 0 behind all else", "1" + "+1" * 4094 + "/0", 1
+    yield "a divisor of 0 after all else", "1" + "+1" * 4094 + "/0", 1
     yield "blanks", "ip" + " " * 8190, 0
 
 
@@ -642,7 +643,7 @@ def main():
         with tempfile.TemporaryDirectory() as name:
             return rejected_by_replay(pathlib.Path(name))
     if not words.expressions and shutil.which("tcpdump") is None:
-        print("tcpdump is not there: only bpftap is measured")
+        print("tcpdump is missing: only bpftap is measured")
     with tempfile.TemporaryDirectory() as name:
         folder = pathlib.Path(name)
         if words.instructions:

@@ -2,8 +2,8 @@
 """Counts what the filter machine costs for each executed instruction of a program, by valgrind's callgrind.
 
 The programs are those of `bench/filters.py`'s expressions, run once over the real capture of `examples/`. The loop of
-`bench/machine` runs them; what it costs itself is counted by a program of one return, of whose count `RETURN` is the machine's
-own, by the listing of the built program. It proves and builds bench/machine first, in a copy, over what ./build kept
+`bench/machine` runs them. Its own cost is counted by a program of one return; `RETURN` of that count is the machine's own, by the
+listing of the built program. It proves and builds bench/machine first, in a copy, over what ./build kept
 (MACHINE=PATH takes a built one), and needs valgrind. `bpftap` is this folder's, or BPFTAP=PATH.
 
   bench/machine.py [EVERY [CAPTURE]]    all programs, or each EVERYth; on another little-endian savefile

@@ -1,11 +1,11 @@
 #!/usr/bin/env python3
-"""Compares programs of `bpftap check` with what docs/LANGUAGE.md says that their expressions mean, which is written here apart
-from the program's own code.
+"""Compares programs of `bpftap check` with the meaning that docs/LANGUAGE.md gives their expressions, which is written here again,
+without the program's own code.
 
   bench/meaning.py                    a million runs
-  bench/meaning.py --runs N --seed N  so many, of other expressions
+  bench/meaning.py --runs N --seed N  N runs, of other expressions
 
-The expressions are random, with many operands of an `or` (or of an `and` of negations) that differ in their numbers alone, and many
+The expressions are random, with many operands of an `or` (or of an `and` of negations) that differ only in their numbers, and many
 comparisons of the same bytes.
 Each is tried on frames of its own numbers, cut at each byte. The program is this folder's, or BPFTAP=PATH.
 """
@@ -197,8 +197,8 @@ def direction(rng):
 
 
 def maker(rng):
-    """A kind of primitives or relations that differ in their numbers alone: what makes one of them."""
-    form = rng.choice(["host", "host", "net", "port", "port", "range", "ether", "ether", "behind", "ip proto", "ether proto", "word", "bytes", "bytes", "compared", "length"])
+    """A function that makes primitives or relations of one kind, which differ only in their numbers."""
+    form = rng.choice(["host", "host", "net", "port", "port", "range", "ether", "ether", "joined", "ip proto", "ether proto", "word", "bytes", "bytes", "compared", "length"])
     if form in ("host", "net"):
         kind, side = rng.choice([None, None, "ip", "arp", "rarp"]), direction(rng)
         mask = 0xffffffff if form == "host" else rng.choice([0xffffff00, 0xffff0000, 0xff000000, 0xff0000ff])
@@ -209,7 +209,7 @@ def maker(rng):
             low = rng.choice(PORTS)
             return ("ports", transport, side, low, low if form == "port" else min(65535, low + rng.choice([1, 30, 400])))
         return ports
-    if form == "behind":
+    if form == "joined":
         word, side = rng.choice([*TYPES, *NUMBERS]), direction(rng)
         if rng.random() < 0.5:
             return lambda: ("and", ("word", word), ("net", None, side, rng.choice(ADDRESSES), 0xffffffff, True))

@@ -1,12 +1,12 @@
 #!/usr/bin/env python3
-"""Tells what the proof of each function of a crate takes, and which parts of it.
+"""Prints how long the proof of each function of a crate takes, and each part of it.
 
-A check from nothing by one job keeps a file for each module as it ends with it, so the time between two of these files is what
-the later one took. `Lts` is the borrow checker's part of a function, which grows with its exits, its locals and the types of
-these; `Proof` what is searched for its goals, `Answers` what proofs/ says of them. Seconds of a machine that does something else
-besides are more, by up to five times, so compare what one run gives.
+A check from nothing by one job writes a file for each module when it ends with it, so the time between two of these files is what
+the later one took. `Lts` is the borrow checker's part of a function, which grows with its exits, its locals and their types;
+`Proof` is the search for its goals, `Answers` what proofs/ says of them. A machine that does something else takes up to five
+times as long, so compare the figures of one run.
 
-  bench/proofs.py NAME..    the dearest functions of these crates, which are checked once more, over what ./build keeps of those below
+  bench/proofs.py NAME..    the slowest functions of these crates, which are checked once more, over what ./build keeps of their libraries
 """
 import collections
 import importlib.machinery
@@ -44,7 +44,7 @@ def checked(build, name, folder):
 
 
 def seconds(folder):
-    """What each function took, by the parts of its proof, from the times of the files that were kept."""
+    """The seconds of each function, by the parts of its proof, from the times of the files that were kept."""
     files = sorted((path.stat().st_mtime_ns / 1e9, path.name) for path in folder.rglob("*.oantt"))
     took = collections.defaultdict(collections.Counter)
     for (before, _), (ended, name) in zip(files, files[1:]):
@@ -55,7 +55,7 @@ def seconds(folder):
     return took
 
 
-def tell(name, took):
+def show(name, took):
     whole = sum(parts.total() for parts in took.values())
     print(f"{name}: {whole:.0f} s, of which")
     for function, parts in sorted(took.items(), key=lambda it: -it[1].total())[:MOST]:
@@ -71,7 +71,7 @@ def main(names):
     for name in names:
         with tempfile.TemporaryDirectory(prefix="proofs-") as folder:
             checked(build, name, folder)
-            tell(name, seconds(pathlib.Path(folder)))
+            show(name, seconds(pathlib.Path(folder)))
     return 0
 
 
