@@ -21,7 +21,7 @@ fn program_of(rt: &(impl Abort + AllocGlobal), listing: &[u8]) -> Program {
     filter(rt.alloc(), Some(listing), None, 0).expect(rt, "the listing is a program's")
 }
 
-/// What a cut of a text gives: what was written, the number of bytes told, the line on standard error, the status.
+/// What a cut of a text gives: what was written, its number of bytes as reported, the line on standard error, the status.
 #[derive(Drop)]
 struct Seen {
     written: Vec<u8>,
@@ -41,7 +41,7 @@ fn seen_of<R: Drop>(alloc: Global, end: CutEnd<R, Counted<Vec<u8>>>) -> Seen {
     }
 }
 
-/// What was written, that its length was told, and the fault's line and status.
+/// Checks what was written, its reported length, and the fault's line and status.
 fn check(rt: &impl Abort, what: &str, seen: &Seen, written: &[u8], err: &str, status: u8) {
     same_in(rt, what, seen.written.as_slice(), written);
     same_in(rt, what, seen.err.as_slice(), err.as_bytes());
@@ -49,7 +49,7 @@ fn check(rt: &impl Abort, what: &str, seen: &Seen, written: &[u8], err: &str, st
     same_in(rt, what, (seen.sent, seen.status), wanted);
 }
 
-/// An end that no capture shows is told so.
+/// Checks the line and the status of an end that no capture shows.
 fn is_told_of(rt: &(impl Abort + AllocGlobal), end: End, line: &str, status: u8) {
     let end = CutEnd {
         source: (),
@@ -69,7 +69,7 @@ fn faults_that_no_capture_shows_are_told(rt: HostRuntime) {
     is_told_of(&rt, device, "bpftap: Device out.pcap\n", 3);
 }
 
-/// A cut of a source that gives so many bytes a call, and breaks where it has none left.
+/// A cut of a source that gives this many bytes a call, and breaks when it has none left.
 fn cut_pieces<'a>(
     rt: &(impl Abort + AllocGlobal),
     left: &'a [u8],
@@ -101,9 +101,9 @@ static BREAKS: [(usize, usize, usize); 10] = [
     (1000, 84, 84),
 ];
 
-/// The first bytes, so many.
+/// The first `n` bytes.
 fn front<'a>(rt: &impl Abort, text: &'a [u8], n: usize) -> &'a [u8] {
-    text.get(..n).expect(rt, "there are so many bytes")
+    text.get(..n).expect(rt, "there are enough bytes")
 }
 
 /// The packets before the break are written, and nothing where the header was not read.
@@ -127,7 +127,7 @@ fn a_broken_source_is_told_behind_its_packets(rt: HostRuntime) {
     }
 }
 
-/// A text that comes in pieces of so many bytes is written whole.
+/// A text that comes in pieces of this many bytes is written whole.
 fn is_copied(rt: &(impl Abort + AllocGlobal), text: &[u8], piece: usize) {
     let end = cut_pieces(rt, text, piece, false);
     same(rt, end.end, End::Clean);
@@ -143,7 +143,7 @@ fn real_frames_are_copied_in_pieces_of_any_size(rt: HostRuntime) {
     }
 }
 
-/// A cut into a sink that broke, or had room for all, is told so.
+/// Checks the end of a cut into a sink that broke, or had room for all.
 fn ends_so(
     rt: &(impl Abort + AllocGlobal),
     end: &CutEnd<Counted<&[u8]>, Counted<BreakingWriter>>,
@@ -193,7 +193,7 @@ fn cut_into<'a>(
     cut(alloc, from, program, 0, Order::Little, Unit::Micro, to)
 }
 
-/// Checks that the sink took so many bytes, the first ones of those wanted, and that they were counted.
+/// Checks that the sink took this many bytes, the first ones of those wanted, and that they were counted.
 fn has_beginning<R>(
     rt: &impl Abort,
     end: &CutEnd<R, Counted<BreakingWriter>>,
@@ -205,7 +205,7 @@ fn has_beginning<R>(
     assert!(rt; wanted.starts_with(taken), "at {room}");
 }
 
-/// Checks the line that is told of an end, and the status.
+/// Checks the line that is reported for an end, and the status.
 fn is_told<R, W>(rt: &(impl Abort + AllocGlobal), end: &CutEnd<R, W>, line: &str, wanted: u8) {
     let mut err: Vec<u8> = Vec::new(rt.alloc());
     let status = tell(end, "in.pcap", "out.pcap", &mut err);

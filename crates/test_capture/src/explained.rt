@@ -6,7 +6,7 @@ use cli_explain::filter::of_expression;
 use filtergen::ExpressionFault;
 use std::alloc::Global;
 
-/// Appends a line for each packet of a capture in memory to what was told, and answers how many an expression accepts and rejects.
+/// Appends a line for each packet of a capture in memory, and returns how many an expression accepts and rejects.
 pub fn explained(
     alloc: Global,
     capture: &[u8],

@@ -1,4 +1,4 @@
-//! What is told of files that can't be read, and of words that are refused.
+//! What is reported of files that can't be read, and of arguments that are refused.
 
 use crate::same::same;
 use clap::Error;
@@ -10,7 +10,7 @@ use std::io;
 use std::io::ErrorKind;
 use std::process::Abort;
 
-/// What is told of a path that can't be read, and the status.
+/// Checks what is reported of a path that can't be read, and the status.
 fn is_told(
     rt: &(impl Abort + AllocGlobal),
     error: io::Error,

@@ -21,7 +21,7 @@ fn make_beside<R: Files>(rt: &impl Abort, system: &R, table: &Table) {
     assert!(rt; output > 2 && output != NONE, "OUT is descriptor {output}");
 }
 
-/// The same with these streams open.
+/// Makes an OUT with these streams open.
 fn make_over(rt: &impl Abort, open: [bool; 3]) {
     let table = Table::new(open);
     let system = System { table: &table };
@@ -55,7 +55,7 @@ fn a_signal_breaks_no_read(rt: HostRuntime) {
     read_whole(&rt, &system);
 }
 
-/// A path of which the system does not tell what stands there ends all.
+/// A path of which the system does not say what is there ends all.
 fn ends_untold(rt: &(impl Abort + AllocGlobal), table: &Table) {
     let system = (System { table }, rt.alloc());
     let mut err: Vec<u8> = Vec::new(rt.alloc());
@@ -85,7 +85,7 @@ fn nothing_is_made_where_a_path_is_not_told(rt: HostRuntime) {
     same(&rt, made, (NONE, 0));
 }
 
-/// So many bytes are taken, or none where the write fails.
+/// This many bytes are taken, or none if the write fails.
 fn writes(rt: &impl Abort, file: &mut impl Write, bytes: &[u8], wanted: Option<usize>) {
     same(rt, file.write(bytes).ok(), wanted);
 }

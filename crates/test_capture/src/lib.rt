@@ -1,5 +1,5 @@
-//! Tests of the commands over captures that the program does not show: devices that break, files over a made system, what is told
-//! of each, and the callers of the pages.
+//! Tests of the commands over captures that the program does not show: devices that break, files over a made-up system, what is
+//! reported of each, and the callers of the pages.
 #![tactic(auto)]
 
 #[cfg(test)]

@@ -8,7 +8,7 @@ use std::{fs, process};
 
 /// A path leads there.
 fn leads_to(rt: &(impl Abort + AllocGlobal + Files), path: &str, wanted: Option<Target>) {
-    let target = target_of(rt, path).expect(rt, "the system tells");
+    let target = target_of(rt, path).expect(rt, "the system says");
     assert_eq!(rt; target, wanted);
 }
 

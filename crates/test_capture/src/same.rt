@@ -8,7 +8,7 @@ pub(crate) fn same<T: Copy + Debug + PartialEq>(rt: &impl Abort, found: T, wante
     assert_eq!(rt; found, wanted);
 }
 
-/// The same in one case of several.
+/// Checks one case of several.
 pub(crate) fn same_in<T: Copy + Debug + PartialEq>(
     rt: &impl Abort,
     what: &str,

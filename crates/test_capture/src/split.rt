@@ -13,7 +13,7 @@ use std::process::Abort;
 use test_fixtures::captures::{HEADER, TCP, UDP, concat};
 use test_fixtures::devices::{BreakingWriter, PiecesReader};
 
-/// A part of an expression, with a sink that has room for so many bytes.
+/// A part with an expression, and a sink that has room for this many bytes.
 fn part(
     rt: &(impl Abort + AllocGlobal),
     expr: &str,
@@ -76,9 +76,9 @@ pub(crate) fn item<'a, T>(rt: &'a impl Abort, items: &'a [T], n: usize) -> &'a T
     items.get(n).expect(rt, "there is such an item")
 }
 
-/// The first n bytes, of which there are so many.
+/// The first `n` bytes.
 fn front<'a>(rt: &'a impl Abort, bytes: &'a [u8], n: usize) -> &'a [u8] {
-    bytes.get(..n).expect(rt, "there are so many bytes")
+    bytes.get(..n).expect(rt, "there are enough bytes")
 }
 
 /// What the n-th part came to.
@@ -95,7 +95,7 @@ fn check_unread(rt: &impl Abort, end: &Split<'_>, n: usize, text: &[u8]) {
     same(rt, item(rt, end.sources.as_slice(), n).inner.left, text);
 }
 
-/// The bytes of some texts of hexadecimal digits, one behind the other.
+/// The bytes of some texts of hexadecimal digits, one after the other.
 pub(crate) fn text_of(rt: &(impl Abort + AllocGlobal), texts: &[&str]) -> Vec<u8> {
     concat(rt.alloc(), texts).expect(rt, "memory")
 }
@@ -177,7 +177,7 @@ fn has_broken(rt: &(impl Abort + AllocGlobal), end: &Split<'_>, taken: &[&str]) 
     check_tally(rt, "all", part_at(rt, end, 2), (3, 3));
 }
 
-/// Splits two captures to three parts, of which the first has room for so many bytes: it takes these, and the others take all.
+/// Splits two captures to three parts. The first has room for this many bytes: it takes these, and the others take all.
 fn check_broken(rt: &(impl Abort + AllocGlobal), room: usize, taken: &[&str]) {
     let first = text_of(rt, &[HEADER, TCP]);
     let second = text_of(rt, &[HEADER, TCP, UDP]);
@@ -194,7 +194,7 @@ fn a_failing_sink_ends_its_part_alone(rt: HostRuntime) {
     check_broken(&rt, 24 + 54 + 1, &[HEADER, TCP, "01"]);
 }
 
-/// So many TCP packets were read when the second of three captures ended the reading, and the third was not read.
+/// This many TCP packets were read when the second of three captures ended the reading, and the third was not read.
 fn has_stopped(rt: &impl Abort, end: &Split<'_>, stop: Stop, tcp: u64, third: &[u8]) {
     check_end(rt, end, Err(stop));
     check_tally(rt, "tcp", part_at(rt, end, 0), (tcp, tcp));
@@ -203,7 +203,7 @@ fn has_stopped(rt: &impl Abort, end: &Split<'_>, stop: Stop, tcp: u64, third: &[
     check_unread(rt, end, 2, third);
 }
 
-/// Splits three captures, of which the second is this text: it ends the reading, behind so many TCP packets, and the third is not read.
+/// Splits three captures, of which the second is this text: it ends the reading, after this many TCP packets, and the third is not read.
 fn check_second(rt: &(impl Abort + AllocGlobal), text: &[u8], stop: Stop, tcp: u64) {
     let good = text_of(rt, &[HEADER, TCP]);
     let texts = [good.as_slice(), text, good.as_slice()];
@@ -223,7 +223,7 @@ fn an_unreadable_second_capture_ends_the_reading(rt: HostRuntime) {
     check_second(&rt, torn.as_slice(), stop, 2);
 }
 
-/// Splits a capture, and a source that breaks behind a text.
+/// Splits a capture, and a source that breaks after a text.
 fn split_broken<'a>(
     rt: &(impl Abort + AllocGlobal),
     first: &'a [u8],
@@ -232,7 +232,7 @@ fn split_broken<'a>(
     split_to(rt, &[first, second], true, three_parts(rt, ROOM))
 }
 
-/// It broke in its second record, behind a TCP packet.
+/// It broke in its second record, after a TCP packet.
 fn broke_in_a_record(rt: &(impl Abort + AllocGlobal), end: Split<'_>) {
     check_end(rt, &end, Err(Stop::AtRecord(1, Fault::Device)));
     check(rt, "tcp", part_at(rt, &end, 0), &[HEADER, TCP], Ok(()));

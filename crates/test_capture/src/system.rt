@@ -14,9 +14,9 @@ const DESCRIPTORS: u32 = 8;
 pub const TORN: &[u8] =
     b"\xd4\xc3\xb2\xa1\x02\0\x04\0\0\0\0\0\0\0\0\0\0\0\x04\0\x01\0\0\0\x02\0\0\0\0\0\0";
 
-/// Which descriptors are taken, a bit for each, and which one OUT was given; whether it is told what stands at a path; how many of the next
-/// calls that make or write a file are refused, whether the one that is refused answers that it took nothing, and how many
-/// calls there were.
+/// Which descriptors are taken, a bit for each, and which one OUT was given; whether the system says what is at a path; how many of the
+/// next calls that make or write a file are refused, whether the one that is refused answers that it took nothing, and how many calls
+/// there were.
 #[derive(Drop)]
 pub struct Table {
     taken: AtomicU32,

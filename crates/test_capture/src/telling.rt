@@ -1,4 +1,4 @@
-//! How lines go out, and what is told of words that cannot be taken.
+//! How lines go out, and what is reported of arguments that cannot be taken.
 
 use crate::same::same;
 use cli_cut::print::check;
@@ -9,7 +9,7 @@ use std::io;
 use std::io::{ErrorKind, Write};
 use std::process::Abort;
 
-/// A writer that has room for so many bytes, then breaks, and counts its calls.
+/// A writer that has room for this many bytes, then breaks, and counts its calls.
 #[derive(Drop)]
 struct BreakingCounter {
     room: usize,
@@ -51,7 +51,7 @@ fn a_line_that_is_not_taken_leaves_the_status(rt: HostRuntime) {
     }
 }
 
-/// Three lines go out in three writes, of which the last tells a path.
+/// Three lines go out in three writes; the last one names a path.
 fn go_out(rt: &impl Abort, path: &str) {
     let mut err = BreakingCounter {
         room: 1024,

@@ -36,7 +36,7 @@ pub fn kept(filter: &Program, captured: &[u8], wire: u32) -> usize {
 /// The first 16 bytes of a frame of IPv4.
 const FRAME: [u8; 16] = [0, 0, 0, 0, 0, 0, 0, 0, 0, 0, 0, 0, 8, 0, 69, 0];
 
-/// So many bytes of it are kept by the filter of a text.
+/// The filter of a text keeps this many bytes of it.
 fn keeps(rt: &(impl Abort + AllocGlobal), text: &str, snap: u32, wire: u32, want: usize) {
     let filter = filter(rt.alloc(), text, snap).expect(rt, "a filter");
     same(rt, kept(&filter, &FRAME, wire), want);

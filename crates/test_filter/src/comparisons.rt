@@ -10,7 +10,7 @@ use filterlang::{Direction, EthernetAddress, Expr, Network, Plain, Primitive, Tr
 use std::process::Abort;
 use test_fixtures::captures::bytes_of;
 
-/// Frames that come to each branch of each primitive, as hexadecimal digits.
+/// Frames for each branch of each primitive, as hexadecimal digits.
 static FRAMES: [&str; 12] = [
     // UDP, 10.0.0.1 port 53 to 10.0.0.2 port 53
     "ffffffffffff 000102030405 0800 4500001800000000 4011 0000 0a000001 0a000002 00350035",
@@ -18,7 +18,7 @@ static FRAMES: [&str; 12] = [
     "000102030405 060708090a0b 0800 4500002800000000 4006 0000 0a000003 0a000001 005001bb 0000000000000000 50020000",
     // SCTP, to a multicast address
     "01005e000001 000102030405 0800 4500002000000000 4084 0000 0a000001 e0000001 00350050 00000000",
-    // UDP behind a header of 24 bytes
+    // UDP after a header of 24 bytes
     "000102030405 060708090a0b 0800 4600001c00000000 4011 0000 0a000001 0b000001 01010100 00500035",
     // a header that claims to have no bytes, and one that claims 60
     "000102030405 060708090a0b 0800 4000001800000000 4006 0000 0a000001 0a000002 00350035",
@@ -84,7 +84,7 @@ pub(crate) static RANGES: [(u16, u16); 5] = [
     (80, 53),
 ];
 
-// The first three stand in frames; the others have the first two or the last four bytes of one of these.
+// The first three are in frames; the others have the first two or the last four bytes of one of these.
 pub(crate) static ADDRESSES: [[u8; 6]; 6] = [
     [0, 1, 2, 3, 4, 5],
     [6, 7, 8, 9, 10, 11],
@@ -319,7 +319,7 @@ fn negated(rt: &(impl Abort + AllocGlobal), random: &mut Random, tree: Expr) -> 
     }
 }
 
-// A tree, and so many others joined to it, negated or not.
+// A tree, and this many others joined to it, negated or not.
 fn joined_trees(
     rt: &(impl Abort + AllocGlobal),
     random: &mut Random,
@@ -354,7 +354,7 @@ fn random_branch(rt: &(impl Abort + AllocGlobal), random: &mut Random) -> Expr {
     joined_trees(rt, random, first, leaves)
 }
 
-// A tree of up to so many such trees.
+// A tree of up to this many such trees.
 fn random_tree(rt: &(impl Abort + AllocGlobal), random: &mut Random, most: u32) -> Expr {
     let mut branches = Vec::new(rt.alloc());
     for _ in 1..most {

@@ -1,4 +1,4 @@
-//! Chains by chance whose links differ in their numbers alone, which become lists of a program, on frames cut at each byte.
+//! Random chains whose links differ only in their numbers, which become lists of a program, on frames cut at each byte.
 
 use crate::comparisons::{
     ADDRESSES, NETS, PLAIN, RANGES, Random, UNDIRECTED, boxed, frames, random_primitive,
@@ -66,7 +66,7 @@ fn word_of_transport(transport: Transport) -> Plain {
     }
 }
 
-/// The word of a primitive's protocol, and the primitive of any protocol that stands behind it.
+/// The word of a primitive's protocol, and the primitive of any protocol that follows it.
 fn apart(primitive: Primitive) -> Option<(Plain, Primitive)> {
     match primitive {
         Primitive::Net {
@@ -101,7 +101,7 @@ fn apart(primitive: Primitive) -> Option<(Plain, Primitive)> {
     }
 }
 
-/// A primitive, or the word of its protocol and what stands behind it.
+/// A primitive, or the word of its protocol and what follows it.
 fn tested(rt: &(impl Abort + AllocGlobal), primitive: Primitive, is_apart: bool) -> Expr {
     match apart(primitive) {
         Some((word, any)) if is_apart => {

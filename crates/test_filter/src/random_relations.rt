@@ -172,7 +172,7 @@ fn counted(
     }
 }
 
-// The same, unless it is too long.
+// Compares a relation on every frame and counts its answers, unless its program is too long.
 pub(crate) fn compared(rt: &impl Abort, expr: Expr, frames: &[Vec<u8>], answers: &mut Answers) {
     if let Some(program) = program_of(rt, &expr) {
         counted(rt, &expr, &program, frames, answers);

@@ -196,7 +196,7 @@ fn every_comparison_at_the_bounds(rt: HostRuntime) {
     }
 }
 
-// udp[udp[.. udp[len] ..]], with so many accessors: more than a text may open.
+// udp[udp[.. udp[len] ..]], with this many accessors: more than a text may open.
 fn accessors(rt: &(impl Abort + AllocGlobal), times: u32) -> Value {
     let mut value = Value::Length;
     for _ in 0..times {

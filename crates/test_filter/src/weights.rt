@@ -9,16 +9,16 @@ use filtergen::{
 use filterlang::{Expr, parse};
 use std::process::Abort;
 
-/// What stands before, another text, how often, and what stands behind.
+/// The text before, another text, how often, and the text after.
 type Text = (&'static str, &'static str, usize, &'static str);
 
 /// A chain whose program is too long.
 const LONG: Text = ("ip", "||ip", 2047, "");
 
-/// The same, with the signs of `1+(1+(..(1+1)..))` in the middle, so many.
+/// The text before, the number of signs of `1+(1+(..(1+1)..))` in the middle, and the text after.
 type Nested = (&'static str, usize, &'static str);
 
-/// A value that needs a word more than there is, and one that is too heavy as well.
+/// A value that needs one more word than there is, and one that is too heavy as well.
 const DEEP: Nested = ("", 17, " = 18");
 
 const HEAVY: Nested = ("", 60, " = 61");
@@ -75,7 +75,7 @@ fn expressions_weigh_as_worked_out(rt: HostRuntime) {
     }
 }
 
-/// What values need. A comparison keeps its left value in a word too, and the need is the most that a relation has, wherever it stands.
+/// What values need. A comparison keeps its left value in a word too, and the need is the most that a relation has, wherever it is.
 static NEEDS: [(Nested, u64); 5] = [
     (("", 16, " = 17"), MAX_NEED),
     (DEEP, 17),
@@ -95,7 +95,7 @@ const SUMS: Text = (
 const DIFFERENCES: &str =
     "9 = ether[0]-(ether[1]-(ether[2]-(ether[3]-(ether[4]-(ether[5]-(ether[6]-(ether[7]-(ether[8]-(ether[9]-(ether[10]-(ether[11]-(ether[12]-(ether[13]-(ether[14]-ether[15]))))))))))))))";
 
-/// A tree needs so many words.
+/// A tree needs this many words.
 fn needs(rt: &impl Abort, tree: Expr, want: u64) {
     same(rt, need(&tree), want);
 }

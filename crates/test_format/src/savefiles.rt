@@ -21,7 +21,7 @@ const TCP_FRAME: [u8; 38] = [
     6, 0, 0, 10, 0, 0, 1, 10, 0, 0, 2, 0, 0x35, 0, 0x35,
 ];
 
-/// The parts, one behind the other.
+/// The parts, one after the other.
 fn joined(rt: &(impl Abort + AllocGlobal), parts: &[&[u8]]) -> Vec<u8> {
     let mut text = Vec::new(rt.alloc());
     for part in parts {
@@ -71,7 +71,7 @@ fn told(rt: &(impl Abort + AllocGlobal), text: &[u8]) -> String {
     }
 }
 
-/// The parts, one behind the other, are read as this.
+/// The parts, one after the other, are read as this.
 fn reads(rt: &(impl Abort + AllocGlobal), parts: &[&[u8]], want: &str) {
     let text = joined(rt, parts);
     is_text(rt, told(rt, &text), want);
@@ -259,7 +259,7 @@ fn dripping(bytes: Vec<u8>, at_once: usize, fails_at: usize) -> Counted<Drip> {
     })
 }
 
-/// A packet that is put is answered so, and so many bytes were sent then.
+/// Putting a packet returns this, and this many bytes were sent then.
 fn puts(rt: &impl Abort, writer: &mut Writer<Counted<Drip>>, want: Result<(), Fault>, sent: u64) {
     same(rt, writer.put(1, 0, 38, &TCP_FRAME), want);
     same(rt, writer.sent(), sent);
@@ -275,7 +275,7 @@ fn broken_in_a_record(rt: &(impl Abort + AllocGlobal)) -> (Counted<Drip>, u64) {
     writer.close()
 }
 
-/// A sink that fails in a record's header has what stands before it, and gets nothing more.
+/// A sink that fails in a record's header has what comes before it, and gets nothing more.
 fn fails_in_a_record(rt: &(impl Abort + AllocGlobal)) {
     let (sink, sent) = broken_in_a_record(rt);
     same(rt, (sent, sink.failures), (30, 1));
@@ -283,7 +283,7 @@ fn fails_in_a_record(rt: &(impl Abort + AllocGlobal)) {
     same(rt, sink.inner.bytes.as_slice(), text.as_slice());
 }
 
-/// A writer whose sink fails in the file's header, with so many bytes sent, takes no packet.
+/// A writer whose sink fails in the file's header, with this many bytes sent, takes no packet.
 fn fails_in_the_header(
     rt: &(impl Abort + AllocGlobal),
     at_once: usize,

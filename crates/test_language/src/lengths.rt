@@ -3,7 +3,7 @@
 use filterlang::{MAX_TEXT, lex, parse};
 use std::process::Abort;
 
-/// How many times `||ip` has room behind a word.
+/// How many times `||ip` has room after a word.
 const MAX_JOINED: usize = 2047;
 
 // A text has tokens, and is an expression.
@@ -22,7 +22,7 @@ fn a_text_of_each_length_is_read(rt: HostRuntime) {
     assert!(rt; parse(rt.alloc(), text.as_str()).is_err());
 }
 
-// A primitive, and as many more behind `or` as the text has room for.
+// A primitive, and as many more after `or` as the text has room for.
 fn read_each_chain(rt: &(impl Abort + AllocGlobal), first: &str) {
     let mut text = String::new(rt.alloc());
     text.push_str(first).expect(rt, "memory");

@@ -3,7 +3,7 @@
 use filterlang::{Expr, Fault, parse};
 use std::alloc::Global;
 
-/// The expression of a configuration's line, without the comment behind `#`.
+/// The expression of a configuration's line, without the comment after `#`.
 fn expression(alloc: Global, line: &str) -> Result<Expr, Fault> {
     match line.split_once('#') {
         Some((text, _comment)) => parse(alloc, text),

@@ -154,7 +154,7 @@ const RECORD: [u8; 40] = [
     0, 0, 0, 0xaa, 0xbb, 0xcc, 0, 0, 0, 0, 0,
 ];
 
-/// So many bytes: 0, 1, 2 and on.
+/// This many bytes: 0, 1, 2 and on.
 fn numbered(alloc: Global, len: usize) -> Result<Vec<u8>, AllocError> {
     let mut bytes = Vec::new(alloc);
     for i in 0..len {
@@ -188,7 +188,7 @@ fn put_three(rt: &impl Abort, buffer: &mut Buffer, place: u64, kept: u32) -> boo
     put(rt, buffer, 0, place, &packet, kept)
 }
 
-/// A buffer has these bytes and so many records.
+/// A buffer has these bytes and this many records.
 fn has(rt: &impl Abort, buffer: &Buffer, bytes: &[u8], len: usize) {
     assert!(rt; buffer.bytes() == bytes);
     same(rt, buffer.len(), len);
@@ -267,7 +267,7 @@ fn records_show_what_was_put(rt: HostRuntime) -> Result<(), Fail> {
     Ok(())
 }
 
-/// A record with so many bytes of data takes so many bytes of a buffer of that capacity, or finds no room in it.
+/// A record with this much data takes this much of a buffer of that capacity, or finds no room in it.
 fn takes(
     rt: &(impl Abort + AllocGlobal),
     packet: &PacketRef<'_>,
@@ -387,7 +387,7 @@ fn capacities_and_snapshot_lengths_of_listeners_have_their_ranges(
     Ok(())
 }
 
-/// A filter that keeps `most` keeps so many of these bytes, at snapshot length 32.
+/// A filter that keeps `most` keeps this many of these bytes, at snapshot length 32.
 fn keeps(rt: &impl Abort, most: u32, bytes: &[u8], want: Option<u32>) -> Result<(), Fail> {
     same(rt, kept_of(&keeping(most)?, &32, &packet(bytes)), want);
     Ok(())
@@ -402,7 +402,7 @@ fn a_filter_keeps_the_least_of_three_lengths(rt: HostRuntime) -> Result<(), Fail
     keeps(&rt, 0, &long, None)
 }
 
-/// The answer, or a failed test that tells its fault.
+/// The answer, or a failed test that names its fault.
 fn made<T: Drop>(rt: &impl Abort, answer: Result<T, OpenFault>) -> T {
     match answer {
         Ok(value) => value,
@@ -418,7 +418,7 @@ fn six_arrive(rt: &impl Abort, listener: &mut Listener) {
     }
 }
 
-// By hand: with `rt try --test --fail-alloc N` this tells NoMemory for N of 1 and 2, the two buffers of the listener, and
+// By hand: with `rt try --test --fail-alloc N` this prints NoMemory for N of 1 and 2, the two buffers of the listener, and
 // of 3, the buffer that is brought; for every other N it passes, since nothing else takes memory.
 #[test]
 fn only_opening_takes_memory(rt: HostRuntime) -> Result<(), Fail> {

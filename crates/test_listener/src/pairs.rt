@@ -70,7 +70,7 @@ fn put_read(alloc: Global, link: &Link, drain: &mut Drain, out: &mut String) -> 
     Ok(())
 }
 
-/// The steps of a script while both ends are open: `a` is an arrival, `f` a flush and `r` a read. Tells the next place.
+/// The steps of a script while both ends are open: `a` is an arrival, `f` a flush and `r` a read. Returns the next place.
 fn together(
     alloc: Global,
     link: &Link,
@@ -113,7 +113,7 @@ fn feeds_on(
     Ok(())
 }
 
-/// So many reads of a drain whose feeder has ended.
+/// This many reads of a drain whose feeder has ended.
 fn reads_on(
     alloc: Global,
     link: &Link,
@@ -165,7 +165,7 @@ fn left_of_ended(
     Ok((settle(link, feeder, drain), rest))
 }
 
-/// What a pair of snapshot length 32 and capacity 64 answers to a script, then, once its feeder has ended, to so many reads,
+/// What a pair of snapshot length 32 and capacity 64 answers to a script, then, once its feeder has ended, to this many reads,
 /// and what is left of it.
 fn ended(
     rt: &(impl Abort + AllocGlobal),
@@ -216,7 +216,7 @@ fn left_of_closed(
     Ok((settle(link, feeder, drain), rest))
 }
 
-/// The same, where the drain closes first, and the feeder goes on with a second script.
+/// What such a pair answers if the drain closes first, and the feeder goes on with a second script.
 fn closed(
     rt: &(impl Abort + AllocGlobal),
     most: u32,
@@ -326,7 +326,7 @@ fn is_made(
     Ok(())
 }
 
-/// The same by `pair`.
+/// What `pair` makes.
 fn is_made_buffered(
     rt: &(impl Abort + AllocGlobal),
     snap: u32,
@@ -361,7 +361,7 @@ fn arrive(link: &Link, feeder: &mut Feeder, place: u64) -> Option<Fed>
     Some(feeder.arrive(link, 0, place, &packet()))
 }
 
-// By hand: with `rt try --test --fail-alloc N` this tells NoMemory for N of 1 to 5, what the pair takes (two buffers, the row of
+// By hand: with `rt try --test --fail-alloc N` this prints NoMemory for N of 1 to 5, what the pair takes (two buffers, the row of
 // slots that the table is given, its words and its slot), and of 6, the buffer that is brought; for every other N it passes,
 // since nothing else takes memory.
 #[test]

@@ -4,7 +4,7 @@ use bpfvm::{Insn, Program};
 use listener::{Buffer, Counts, OpenFault};
 use std::alloc::{AllocError, Global};
 
-/// A program that accepts each packet, with at most so many bytes.
+/// A program that accepts each packet, with at most this many bytes.
 pub(crate) fn keeping(most: u32) -> Result<Program, bpfvm::Invalid> {
     Program::new(&[Insn {
         code: bpfvm::code::RET_K,
@@ -21,7 +21,7 @@ pub(crate) const BYTES: [u8; 60] = [
     50, 51, 52, 53, 54, 55, 56, 57, 58, 59,
 ];
 
-/// Adds the places of a buffer's messages, and `?` behind one that has not the first 32 of these bytes.
+/// Adds the places of a buffer's messages, and `?` after one that lacks the first 32 of these bytes.
 pub(crate) fn put_places(buffer: &Buffer, out: &mut String) -> Result<(), AllocError> {
     for record in buffer.records() {
         write!(out, " {}", record.place)?;
@@ -50,7 +50,7 @@ pub(crate) fn put_state(
     )
 }
 
-/// The fault of an answer, or `Ok`.
+/// The fault that was returned, or `Ok`.
 pub(crate) fn told(alloc: Global, fault: Option<OpenFault>) -> Result<String, AllocError> {
     match fault {
         None => format!(in alloc; "Ok"),

@@ -1,4 +1,4 @@
-//! Replays in threads: worked examples, devices that fail in mid-stream, and want of memory.
+//! Replays in threads: worked examples, devices that fail in mid-stream, and memory that runs out.
 
 mod batches;
 mod caller;
@@ -33,7 +33,7 @@ const UDP_FRAME: [u8; 38] = [
     0x11, 0, 0, 10, 0, 0, 1, 10, 0, 0, 2, 0, 0x35, 0, 0x35,
 ];
 
-/// The same frame with the protocol TCP.
+/// That frame with the protocol TCP.
 const TCP_FRAME: [u8; 38] = [
     0xff, 0xff, 0xff, 0xff, 0xff, 0xff, 0, 1, 2, 3, 4, 5, 8, 0, 0x45, 0, 0, 0x18, 0, 0, 0, 0, 0x40,
     6, 0, 0, 10, 0, 0, 1, 10, 0, 0, 2, 0, 0x35, 0, 0x35,
@@ -132,7 +132,7 @@ fn in_full(sec: u8, frames: &[[u8; 38]]) -> Recorded<'_> {
     }
 }
 
-/// The same up to a byte.
+/// The recorded packets up to a byte.
 fn up_to(end: usize, recorded: Recorded<'_>) -> Recorded<'_> {
     Recorded { end, ..recorded }
 }
@@ -176,7 +176,7 @@ impl Write for Paper {
     }
 }
 
-/// A sink with room for so many bytes.
+/// A sink with room for this many bytes.
 fn sink_with(alloc: Global, room: usize) -> Counted<Paper> {
     Counted::new(Paper {
         bytes: Vec::new(alloc),
@@ -249,7 +249,7 @@ fn replay_one(
     Ok(reports.pop().expect(rt, "a report"))
 }
 
-/// Tests what is told of a task, and the bytes of its savefile.
+/// Checks what is reported of a task, and the bytes of its savefile.
 fn serves(
     rt: &(impl Abort + AllocGlobal),
     report: &ListenerReport<PaperSink>,

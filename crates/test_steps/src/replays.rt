@@ -33,7 +33,7 @@ fn put_record(rt: &(impl Abort + AllocGlobal), text: &mut Vec<u8>, sec: u8, len:
     text.extend_from_slice(data).expect(rt, "memory");
 }
 
-/// A capture of so many packets of 60 zeros, at second 1, 2, ..
+/// A capture of this many packets of 60 zeros, at second 1, 2, ..
 fn zeros(rt: &(impl Abort + AllocGlobal), packets: u8) -> Vec<u8> {
     let mut text = header(rt);
     for i in 0..packets {
@@ -171,7 +171,7 @@ fn four_packets_rotate_and_drop(rt: HostRuntime) {
 /// What a replay answers.
 type ReplayAnswer = Result<(Vec<Report>, Option<(u32, savefile::Fault)>), Fault>;
 
-/// Both calls tell the same of one listener.
+/// Both calls report the same of one listener.
 fn are_alike(rt: &(impl Abort + AllocGlobal), plain: &ReplayAnswer, trace: &Result<Trace, Fault>) {
     match (plain, trace) {
         (Ok((reports, torn)), Ok(trace)) => {
@@ -338,7 +338,7 @@ fn is_refused(rt: &impl Abort, answer: ReplayAnswer, want: Fault) {
     }
 }
 
-/// The answer to a replay of so many captures, all of them this text, to so many listeners.
+/// The answer to a replay of this many captures, all of them this text, to this many listeners.
 fn replay_many(
     rt: &(impl Abort + AllocGlobal),
     listeners: u32,
@@ -356,7 +356,7 @@ fn replay_many(
     replay(rt.alloc(), texts.as_slice(), specs.as_slice(), &[step])
 }
 
-/// So many listeners and captures are taken: what is refused is what is looked at next, a step that names no listener,
+/// This many listeners and captures are taken: what is refused is what is checked next, a step that names no listener,
 /// and then the first header.
 fn are_taken(rt: &(impl Abort + AllocGlobal), listeners: u32, captures: usize) {
     let answer = replay_many(rt, listeners, captures, &HEADER, Step::Read(listeners));
@@ -365,7 +365,7 @@ fn are_taken(rt: &(impl Abort + AllocGlobal), listeners: u32, captures: usize) {
     is_refused(rt, answer, Fault::Capture(0, savefile::Fault::ShortHeader));
 }
 
-/// So many listeners and captures are too many, whatever else is wrong.
+/// This many listeners and captures are too many, whatever else is wrong.
 fn are_too_many(rt: &(impl Abort + AllocGlobal), listeners: u32, captures: usize) {
     let answer = replay_many(rt, listeners, captures, &HEADER, Step::Read(listeners));
     is_refused(rt, answer, Fault::TooMany);
@@ -392,7 +392,7 @@ fn as_many_as_may_be(rt: HostRuntime) {
     are_too_many(&rt, 1, 65_537);
 }
 
-// A capture that is read clears half a mebibyte, and behind a torn one only headers are looked at.
+// A capture that is read clears half a mebibyte, and after a torn one only headers are read.
 #[test]
 fn as_many_as_may_be_are_replayed(rt: HostRuntime) {
     is_taken(&rt, replay_many(&rt, 64, 1, &HEADER, Step::Arrive));

@@ -17,7 +17,7 @@ static PLAYED: [Played; 5] = [
     ("32 64", "read 1", TCP, "bpftap: NoListener 0\n"),
 ];
 
-/// Whether all was told on a standard error of so much room, which took what it has room for.
+/// Whether all was reported on a standard error with this much room, which took what it has room for.
 fn is_told(rt: &(impl Abort + AllocGlobal), played: Played, room: usize) -> bool {
     let (listeners, script, packets, reported) = played;
     let (listeners, script) = (listeners.as_bytes(), script.as_bytes());
@@ -27,7 +27,7 @@ fn is_told(rt: &(impl Abort + AllocGlobal), played: Played, room: usize) -> bool
     let mut err = BreakingWriter { taken, room };
     let captures = [capture.as_slice()];
     let outcome = steps_told(rt.alloc(), listeners, script, &captures, &mut out, &mut err);
-    let front = reported.as_bytes().get(..room).expect(rt, "so many bytes");
+    let front = reported.as_bytes().get(..room).expect(rt, "enough bytes");
     same(rt, err.taken.as_slice(), front);
     outcome.told.is_ok()
 }

@@ -19,9 +19,9 @@ fn item<'a, T>(rt: &'a impl Abort, items: &'a [T], n: usize) -> &'a T {
     items.get(n).expect(rt, "there is such an item")
 }
 
-/// The first n bytes, of which there are so many.
+/// The first `n` bytes.
 fn front<'a>(rt: &'a impl Abort, bytes: &'a [u8], n: usize) -> &'a [u8] {
-    bytes.get(..n).expect(rt, "there are so many bytes")
+    bytes.get(..n).expect(rt, "there are enough bytes")
 }
 
 /// A device that counts its calls.
@@ -64,7 +64,7 @@ fn counting_devices<'a>(
     captures
 }
 
-/// The fault that a call over counting devices tells, and how often they were called and how many sinks were made.
+/// The fault that a call over counting devices returns, and how often they were called and how many sinks were made.
 fn call_touched<R: Abort + AllocGlobal + Threads + Wait + Sync>(
     rt: &R,
     listeners: &[u8],
@@ -139,7 +139,7 @@ fn in_pieces<'a>(
     interfaces
 }
 
-/// So many listeners that lose nothing.
+/// This many listeners that lose nothing.
 fn ample_lines(rt: &(impl Abort + AllocGlobal), listeners: usize) -> String {
     let mut lines = String::new(rt.alloc());
     for l in 0..listeners {
@@ -148,7 +148,7 @@ fn ample_lines(rt: &(impl Abort + AllocGlobal), listeners: usize) -> String {
     lines
 }
 
-/// What was told, the status, and what each sink took.
+/// What was reported, the status, and what each sink took.
 #[derive(Drop)]
 struct BrokenRun {
     told: String,
@@ -202,7 +202,7 @@ fn run_broken<R: Abort + AllocGlobal + Threads + Wait + Sync>(
     broken_by(rt, interfaces, listeners.as_bytes(), rooms, out)
 }
 
-/// This was told, with this status.
+/// This was reported, with this status.
 fn told(rt: &impl Abort, broken: &BrokenRun, line: &str, status: u8) {
     same(rt, (broken.told.as_str(), broken.status), (line, status));
 }
@@ -224,7 +224,7 @@ fn a_broken_source_is_told_behind_its_packets(rt: HostRuntime) {
     }
 }
 
-/// A source that breaks behind what it has of its capture, between two whole ones: so many packets arrive, and so many bytes
+/// A source that breaks after what it has of its capture, between two whole ones: this many packets arrive, and this many bytes
 /// are written.
 fn breaks_behind(
     rt: &(impl Abort + AllocGlobal + Threads + Wait + Sync),
@@ -242,7 +242,7 @@ fn breaks_behind(
     is_clean(rt, out.as_slice(), packets);
 }
 
-/// The line of a listener that took so many packets.
+/// The line of a listener that took this many packets.
 fn is_clean(rt: &(impl Abort + AllocGlobal), out: &[u8], packets: usize) {
     let line = format!(in rt.alloc();
         "interface 0 listener 0 received {packets} matched {packets} dropped 0 written {packets} Clean\n"
@@ -262,7 +262,7 @@ static ROOMS: [(usize, usize); 8] = [
     (185, 2),
 ];
 
-/// A sink of so much room takes so many packets of a text and the bytes that it has room for, and the other one takes all.
+/// A sink with this much room takes this many packets of a text and the bytes that it has room for, and the other one takes all.
 fn breaks_at(
     rt: &(impl Abort + AllocGlobal + Threads + Wait + Sync),
     text: &[u8],
@@ -309,7 +309,7 @@ fn ends_so(rt: &impl Abort, line: &str, ends: &str) {
     assert!(rt; line.ends_with(ends), "{line}");
 }
 
-/// An output of so much room is told, and then the torn capture, whose packet was written.
+/// An output with this much room is reported, and then the torn capture, whose packet was written.
 fn is_not_taken(rt: &(impl Abort + AllocGlobal + Threads + Wait + Sync), torn: &[u8], room: usize) {
     let taken = Vec::new(rt.alloc());
     let mut out = BreakingWriter { taken, room };

@@ -159,7 +159,7 @@ fn an_end_that_is_not_reached_is_told(rt: HostRuntime) {
     same(&rt, err.as_slice(), fault.as_slice());
 }
 
-/// A refusal is told by its own text.
+/// A refusal prints its own text.
 fn is_its_own(rt: &(impl Abort + AllocGlobal), fault: RunFault) {
     let told = format!(in rt.alloc(); "{}", RunFaultText(fault)).expect(rt, "memory");
     let own = format!(in rt.alloc(); "{fault}").expect(rt, "memory");

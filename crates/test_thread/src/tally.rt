@@ -1,4 +1,4 @@
-//! What is told of an OUT that failed, by the bytes that it took.
+//! What is reported of an OUT that failed, by the bytes that it took.
 
 use crate::run_plan::nothing_done;
 use crate::same::same;
@@ -9,7 +9,7 @@ use std::io;
 use std::io::{BufWriter, ErrorKind, Write};
 use std::process::Abort;
 
-/// Takes so many bytes, and then fails.
+/// Takes this many bytes, and then fails.
 #[derive(Drop)]
 struct Narrow {
     room: usize,
@@ -30,7 +30,7 @@ impl Write for Narrow {
     }
 }
 
-/// A record of so many bytes.
+/// A record of this many bytes.
 fn push_record(rt: &(impl Abort + AllocGlobal), bytes: &mut Vec<u8>, length: u32) {
     bytes.extend_from_slice(&[9; 8]).expect(rt, "memory");
     bytes
@@ -51,12 +51,12 @@ fn capture(rt: &(impl Abort + AllocGlobal)) -> Vec<u8> {
     bytes
 }
 
-/// How many packets are whole in so many bytes of it.
+/// How many packets are whole in this many bytes of it.
 fn whole_in(bytes: u64) -> u64 {
     [43, 59, 333].iter().filter(|end| bytes >= **end).count() as u64
 }
 
-/// A buffer before an OUT that takes so many bytes, into which a capture went.
+/// A buffer in front of an OUT that takes this many bytes, into which a capture went.
 fn filled(
     rt: &(impl Abort + AllocGlobal),
     room: usize,
@@ -70,7 +70,7 @@ fn filled(
     sink
 }
 
-/// The report of a listener whose capture went into a buffer, before an OUT that takes so many bytes.
+/// The report of a listener whose capture went into a buffer, in front of an OUT that takes this many bytes.
 fn reported(
     rt: &(impl Abort + AllocGlobal),
     room: usize,
@@ -88,7 +88,7 @@ fn reported(
     }
 }
 
-/// What is told as written of an OUT that takes so many bytes is what it has.
+/// What is reported as written to an OUT that takes this many bytes is what it has.
 fn is_told(rt: &(impl Abort + AllocGlobal), room: usize, end: TaskEnd) {
     let taken = room.min(333) as u64;
     let mut report = reported(rt, room, end);

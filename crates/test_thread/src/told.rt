@@ -26,11 +26,11 @@ static REPLAYED: [Replayed; 5] = [
     ("0 0 64 95 1 a", TCP, "bpftap: Open 0 0 BadCapacity\n"),
 ];
 
-/// The first bytes of a text, of which there are so many.
+/// The first `n` bytes of a text.
 fn front<'a>(rt: &'a impl Abort, text: &'a str, n: usize) -> &'a [u8] {
     text.as_bytes()
         .get(..n)
-        .expect(rt, "there are so many bytes")
+        .expect(rt, "there are enough bytes")
 }
 
 /// A standard error of so much room.
@@ -56,7 +56,7 @@ fn interface_of<'a>(
     interfaces
 }
 
-/// Whether `run_told` told all on a standard error of so much room, which took what it has room for.
+/// Whether `run_told` reported all on a standard error with this much room, which took what it has room for.
 fn is_told<R: Abort + AllocGlobal + Threads + Wait + Sync>(
     rt: &R,
     replayed: Replayed,
@@ -91,7 +91,7 @@ fn told_of_a_run_is_an_error_only_if_standard_error_fails(rt: HostRuntime) {
     }
 }
 
-/// Whether `refuse` told all on a standard error of so much room.
+/// Whether `refuse` reported all on a standard error with this much room.
 fn refuses(rt: &(impl Abort + AllocGlobal), fault: RunFault, reported: &str, room: usize) {
     let mut err = of_room(rt, room);
     let outcome = refuse(RunFaultText(fault), &mut err);

@@ -1,4 +1,4 @@
-//! What is printed and told of a split.
+//! What is printed and reported of a split.
 
 use crate::same::same;
 use cli_split::part::PartEnd;
@@ -43,7 +43,7 @@ fn end_of(
     }
 }
 
-/// What is told of an end, the status, and what is printed into a writer.
+/// What is reported of an end, the status, and what is printed into a writer.
 fn told<O: Write>(
     rt: &(impl Abort + AllocGlobal),
     end: SplitEnd<(), ()>,
@@ -56,7 +56,7 @@ fn told<O: Write>(
     (status, err)
 }
 
-/// How the parts were written, how the reading ended, and what is printed and told, with the status.
+/// How the parts were written, how the reading ended, and what is printed and reported, with the status.
 type Case = (
     [Result<(), Fault>; 2],
     Result<(), Stop>,
@@ -111,7 +111,7 @@ static CASES: [Case; 8] = [
         "bpftap: Capture 1 Version\n",
         Status::Refused,
     ),
-    // Nothing was begun.
+    // Nothing was started.
     (
         [Ok(()), Ok(())],
         Err(Stop::AtHeader(0, Fault::NotSavefile)),
@@ -121,7 +121,7 @@ static CASES: [Case; 8] = [
     ),
 ];
 
-/// A case is printed and told so.
+/// Checks what is printed and reported in a case.
 fn is_told(rt: &(impl Abort + AllocGlobal), case: Case) {
     let (written, end, printed, err, status) = case;
     let mut out = Vec::new(rt.alloc());

@@ -1,4 +1,4 @@
-//! A run that is told instruction by instruction.
+//! A run that is traced instruction by instruction.
 
 use crate::same::same;
 use bpfvm::{Executed, Stored, read_listing, trace};

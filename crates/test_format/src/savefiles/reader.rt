@@ -14,7 +14,7 @@ static ONE_PACKET: [u8; 78] = [
     6, 0, 0, 10, 0, 0, 1, 10, 0, 0, 2, 0, 0x35, 0, 0x35,
 ];
 
-/// A source that gives at most so many bytes a call, and fails at one of its calls.
+/// A source that gives at most this many bytes a call, and fails at one of its calls.
 fn source_of(
     rt: &(impl Abort + AllocGlobal),
     text: &[u8],
@@ -48,7 +48,7 @@ fn told_next<R: Source>(rt: &(impl Abort + AllocGlobal), reader: &mut Reader<R>)
     told.expect(rt, "memory")
 }
 
-/// The same of a packet that is lent.
+/// The text of a packet that is lent.
 fn told_lent<R: Source>(rt: &(impl Abort + AllocGlobal), reader: &mut Reader<R>) -> String {
     let told = match reader.advance() {
         Ok(true) => {
@@ -64,12 +64,12 @@ fn told_lent<R: Source>(rt: &(impl Abort + AllocGlobal), reader: &mut Reader<R>)
     told.expect(rt, "memory")
 }
 
-/// A reader over a source that gives at most so many bytes a call, and does not fail.
+/// A reader over a source that gives at most this many bytes a call, and does not fail.
 fn over(rt: &(impl Abort + AllocGlobal), text: &[u8], at_once: usize) -> Reader<Counted<Drip>> {
     opened(rt.alloc(), source_of(rt, text, at_once, 0)).expect(rt, "it is opened")
 }
 
-/// The next packet of both readers is told so, owned from the one and lent by the other.
+/// The next packet of both readers has this text, owned from the one and lent by the other.
 fn both_tell(
     rt: &(impl Abort + AllocGlobal),
     owning: &mut Reader<Counted<Drip>>,
@@ -80,7 +80,7 @@ fn both_tell(
     is_text(rt, told_lent(rt, lending), want);
 }
 
-/// Both readers give a record, and tell once that the other one is torn.
+/// Both readers give a record, and report once that the other one is torn.
 fn both_tell_once(
     rt: &(impl Abort + AllocGlobal),
     owning: &mut Reader<Counted<Drip>>,
@@ -91,7 +91,7 @@ fn both_tell_once(
     }
 }
 
-/// A text of a record and a torn one, in pieces of at most so many bytes, gives the one and tells of the other once.
+/// A text of a record and a torn one, in pieces of at most this many bytes, gives the one and reports the other once.
 fn is_told_once(rt: &(impl Abort + AllocGlobal), text: &[u8], at_once: usize) {
     let mut owning = over(rt, text, at_once);
     let mut lending = over(rt, text, at_once);
@@ -141,7 +141,7 @@ fn has_fate<R: Source + Drop>(rt: &(impl Abort + AllocGlobal), source: R, want: 
     is_text(rt, told, want);
 }
 
-/// What becomes of a text of one packet of which the first bytes are left, so many.
+/// What becomes of a text of one packet of which the first `n` bytes are left.
 fn fate_of_part(n: usize) -> &'static str {
     match n {
         0..24 => "open ShortHeader",
@@ -229,7 +229,7 @@ static PIECES: [usize; 17] = [
     usize::MAX,
 ];
 
-/// The next packet has these fields, and so many sevens.
+/// The next packet has these fields, and this many sevens.
 fn next_has(
     rt: &impl Abort,
     reader: &mut Reader<Counted<Drip>>,
@@ -248,7 +248,7 @@ fn next_has(
     }
 }
 
-/// A text of the longest records, twice, comes whole in pieces of at most so many bytes.
+/// A text of the longest records, twice, comes whole in pieces of at most this many bytes.
 fn comes_whole(rt: &(impl Abort + AllocGlobal), text: &[u8], at_once: usize) {
     let mut reader = over(rt, text, at_once);
     for _ in 0..2 {
@@ -262,7 +262,7 @@ fn comes_whole(rt: &(impl Abort + AllocGlobal), text: &[u8], at_once: usize) {
     );
 }
 
-/// The same twice, so that the second stands behind what was read ahead.
+/// The longest record twice, so that the second comes after what was read ahead.
 fn longest_twice(rt: &(impl Abort + AllocGlobal)) -> Vec<u8> {
     let text = longest(rt);
     joined(rt, &[&text, text.as_slice().get(24..).unwrap_or(&[])])
@@ -278,7 +278,7 @@ fn the_longest_record_comes_whole_in_all_pieces(rt: HostRuntime) {
 
 fn is_sent<T: Send + Drop>(_value: &T) {}
 
-/// A reader of one packet gives it, or breaks for want of memory and stays broken.
+/// A reader of one packet gives it, or breaks because memory runs out and stays broken.
 fn gives_or_breaks(rt: &(impl Abort + AllocGlobal), mut reader: Reader<&[u8]>) {
     match reader.next(rt.alloc()) {
         Ok(Some(packet)) => {

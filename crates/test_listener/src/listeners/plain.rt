@@ -18,7 +18,7 @@ struct KeptMessage {
     last: u8,
 }
 
-/// What pends, how many of it are held, and the counts, as the table tells them.
+/// What pends, how many of it are held, and the counts, as the table has them.
 #[derive(Drop)]
 struct PlainModel {
     capacity: usize,
@@ -84,7 +84,7 @@ impl PlainModel {
         Ok(Fed::Rotated)
     }
 
-    /// An Immediate list makes the store the hold behind each accepted arrival.
+    /// An Immediate list makes the store the hold after each accepted arrival.
     fn arrive(&mut self, kept: Option<KeptMessage>) -> Result<Fed, AllocError> {
         if self.closed {
             return Ok(Fed::Closed);
@@ -227,7 +227,7 @@ fn read_at_both(
     match (read_of(rt.alloc(), listener)?, batch) {
         (Some(taken), Some(batch)) => assert!(rt; taken.as_slice() == batch.as_slice()),
         (None, None) => {}
-        _ => assert!(rt; false, "a batch of one alone"),
+        _ => assert!(rt; false, "a batch of one"),
     }
     Ok(())
 }

@@ -22,7 +22,7 @@ struct Fates {
     stored: Vec<u64>,
     dropped: u64,
     closed: u64,
-    /// One was answered otherwise than with Closed behind one that was.
+    /// One was answered otherwise than with Closed after one that was.
     opened: bool,
 }
 
@@ -60,7 +60,7 @@ struct PairPlan {
     late: u64,
     /// How many reads are made at most.
     reads: u64,
-    /// The feeder begins behind the drain, and gives way behind each packet.
+    /// The feeder starts after the drain, and yields after each packet.
     is_slow: bool,
 }
 
@@ -77,7 +77,7 @@ impl PairPlan {
     }
 }
 
-/// What the drain's thread tells the feeder's.
+/// What the drain's thread hands to the feeder's.
 #[derive(Drop)]
 struct Signs {
     has_begun: AtomicBool,
@@ -124,14 +124,14 @@ fn feed(
     (feed_end, rest, fates)
 }
 
-/// Puts the places of a buffer's messages behind others.
+/// Appends the places of a buffer's messages.
 fn note(buffer: &Buffer, places: &mut Vec<u64>) {
     for record in buffer.records() {
         let _ = places.push(record.place);
     }
 }
 
-/// Reads once, and tells an empty buffer for the next read, and whether the feeder had ended.
+/// Reads once; returns an empty buffer for the next read, and whether the feeder had ended.
 fn read_once(link: &Link, drain: &mut Drain, spare: Buffer, places: &mut Vec<u64>) -> (Buffer, bool)
     requires { (drain.old.pair ≡ link.now) × (spare ≡ filled drain.old.profile.capacity []) }
     ensures { (drain.new.pair ≡ drain.old.pair) × (result.0 ≡ filled drain.new.profile.capacity []) }
@@ -150,7 +150,7 @@ fn read_once(link: &Link, drain: &mut Drain, spare: Buffer, places: &mut Vec<u64
     }
 }
 
-/// Reads so often, but not behind the end, and closes. Tells the places that were read, and whether the end was reached.
+/// Reads this often, but not past the end, and closes. Returns the places that were read, and whether the end was reached.
 fn read_all(
     link: &Link,
     mut drain: Drain,
@@ -225,7 +225,7 @@ fn play(
     })
 }
 
-/// Tests that nothing is taken behind the close, and that the counts are those of what was answered.
+/// Checks that nothing is taken after the close, and that the counts are those of what was answered.
 fn are_counted(rt: &impl Abort, fates: &Fates, counts: Counts, plan: PairPlan) {
     assert!(rt; !fates.opened);
     assert!(rt; fates.closed >= plan.late);
@@ -234,8 +234,8 @@ fn are_counted(rt: &impl Abort, fates: &Fates, counts: Counts, plan: PairPlan) {
     same(rt, counts.dropped, fates.dropped);
 }
 
-/// Plays a plan, and tests that the packets that were stored are those that were read and those that are left, in order.
-/// Tells these, and whether a read reached the end.
+/// Plays a plan, and checks that the packets that were stored are those that were read and those that are left, in order.
+/// Returns these, and whether a read reached the end.
 fn run(
     rt: &(impl Abort + AllocGlobal + Threads + Sync),
     plan: PairPlan,

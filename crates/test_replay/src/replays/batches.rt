@@ -1,4 +1,4 @@
-//! What a gate is told of a batch of several packets, and when.
+//! Which calls a gate gets for a batch of several packets, and when.
 
 use super::*;
 use replay::Gate;
@@ -24,7 +24,7 @@ impl Write for Weighed<'_> {
     }
 }
 
-/// Counts the batches that are told and their packets, and those of which something was written before they were told.
+/// Counts the batches that are reported and their packets, and those of which something was written before.
 #[derive(Drop)]
 struct Batches<'a, R> {
     rt: &'a R,
@@ -55,7 +55,7 @@ impl<R: Clock> Gate for Batches<'_, R> {
     }
 }
 
-/// An interface of three packets, and a task that is flushed behind the third: its store becomes the hold then, and not before.
+/// An interface of three packets, and a task that is flushed after the third: its store becomes the hold then, and not before.
 fn three_at_once(
     alloc: Global,
     bytes: &AtomicU64,
@@ -69,7 +69,7 @@ fn three_at_once(
     })
 }
 
-/// One batch of three packets was told, and nothing of it was written before; in the end all is.
+/// One batch of three packets was reported, and nothing of it was written before; in the end all is.
 fn told_at_once<R>(rt: &impl Abort, gate: &Batches<'_, R>) {
     same(
         rt,

@@ -8,7 +8,7 @@ fn roomy(alloc: Global) -> Result<Task<PaperSink>, Fail> {
     Ok(task(keeping_all()?, 64, 1_024, sink_with(alloc, usize::MAX)))
 }
 
-/// So many tasks that have room for all.
+/// This many tasks that have room for all.
 fn roomy_tasks(alloc: Global, tasks: usize) -> Result<Vec<Task<PaperSink>>, Fail> {
     let mut made = Vec::new(alloc);
     for _ in 0..tasks {
@@ -17,7 +17,7 @@ fn roomy_tasks(alloc: Global, tasks: usize) -> Result<Vec<Task<PaperSink>>, Fail
     Ok(made)
 }
 
-/// An interface of these captures, with so many tasks.
+/// An interface of these captures, with this many tasks.
 fn interface(
     alloc: Global,
     captures: &[Recorded<'_>],
@@ -72,7 +72,7 @@ fn was_read(
     same(rt, places.as_slice(), want);
 }
 
-/// So many frames, of TCP and UDP in turn, at seconds from 1 on.
+/// This many frames, of TCP and UDP in turn, at seconds from 1 on.
 fn frames(alloc: Global, packets: u8) -> Result<Vec<[u8; 38]>, AllocError> {
     let mut frames = Vec::new(alloc);
     for n in 0..packets {
@@ -105,7 +105,7 @@ fn varied(
     Ok(Interface { captures, tasks })
 }
 
-/// Tests that a task is clean, and that its savefile has as many packets as are told.
+/// Checks that a task is clean, and that its savefile has as many packets as it reports.
 fn is_clean(rt: &impl Abort, listener: &ListenerReport<PaperSink>, packets: u8) {
     let matched = packets.div_ceil(2) as u64;
     same(rt, listener.end, TaskEnd::Clean);
@@ -118,7 +118,7 @@ fn is_clean(rt: &impl Abort, listener: &ListenerReport<PaperSink>, packets: u8) 
     same(rt, listener.sent, 24 + 54 * listener.written.min(12));
 }
 
-/// Tests that an interface is clean, and each of its tasks, of which there are so many.
+/// Checks that an interface is clean, and each of its tasks, of which there are this many.
 fn are_clean(
     rt: &impl Abort,
     report: &InterfaceReport<TapeSource, PaperSink>,
@@ -148,7 +148,7 @@ const TWO: [[u8; 38]; 2] = [TCP_FRAME, UDP_FRAME];
 
 const THREE: [[u8; 38]; 3] = [TCP_FRAME, UDP_FRAME, TCP_FRAME];
 
-/// An interface of two captures of two frames each, at these seconds, with so many tasks.
+/// An interface of two captures of two frames each, at these seconds, with this many tasks.
 fn whole(
     alloc: Global,
     secs: [u8; 2],
@@ -168,7 +168,7 @@ fn headless(alloc: Global) -> Result<Interface<TapeSource, PaperSink>, Fail> {
     interface(alloc, &captures, 2)
 }
 
-/// Tests that the second capture of an interface ended it, and the one behind it came back unread.
+/// Checks that the second capture of an interface ended it, and the one after it came back unread.
 fn ends_without_a_header(
     rt: &(impl Abort + AllocGlobal),
     report: &InterfaceReport<TapeSource, PaperSink>,
@@ -230,7 +230,7 @@ fn failing_behind_one(at_byte: usize) -> [Recorded<'static>; 3] {
     [in_full(1, &ONE), failing, in_full(9, &TWO)]
 }
 
-/// Tests that so many packets before the byte at which a device fails are written, and no packet behind it.
+/// Checks that this many packets before the byte at which a device fails are written, and no packet after it.
 fn writes_before(
     rt: &(impl Abort + AllocGlobal + Threads + Wait + Sync),
     at_byte: usize,
@@ -248,7 +248,7 @@ fn writes_before(
 
 #[test]
 fn packets_before_a_failed_source_are_written(rt: HostRuntime) -> Result<(), Fail> {
-    // in the second record, directly behind the first, in the first, and in the header
+    // in the second record, directly after the first, in the first, and in the header
     for (at_byte, packets) in [(100, 2), (78, 2), (50, 1), (23, 1), (0, 1)] {
         writes_before(&rt, at_byte, packets)?;
     }
@@ -307,7 +307,7 @@ fn with_room(alloc: Global, room: usize) -> Result<Interface<TapeSource, PaperSi
     })
 }
 
-/// Tests that a task filled its sink's room, and how many packets are told as written.
+/// Checks that a task filled its sink's room, and how many packets are reported as written.
 fn filled(
     rt: &(impl Abort + AllocGlobal),
     one: &ListenerReport<PaperSink>,
@@ -322,7 +322,7 @@ fn filled(
     same(rt, one.sink.inner.bytes.as_slice(), sent);
 }
 
-/// Replays T, U and T to a task whose sink has so much room, and tests how many packets are told as written.
+/// Replays T, U and T to a task whose sink has this much room, and checks how many packets are reported as written.
 fn breaks_off(
     rt: &(impl Abort + AllocGlobal + Threads + Wait + Sync),
     room: usize,

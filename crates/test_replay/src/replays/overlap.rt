@@ -169,7 +169,7 @@ fn immediate_packets_are_read_without_a_flush(rt: HostRuntime) -> Result<(), Fai
     overlaps(&rt, Mode::Immediate)
 }
 
-/// A listener whose sink took the header alone wrote nothing more.
+/// A listener whose sink took only the header wrote nothing more.
 fn wrote_the_header(rt: &(impl Abort + AllocGlobal), broken: &ListenerReport<PaperSink>) {
     same(rt, broken.end, TaskEnd::Write(24));
     same(rt, (broken.sent, broken.written), (24, 0));

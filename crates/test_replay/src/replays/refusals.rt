@@ -36,7 +36,7 @@ fn tally(calls: &AtomicU64) -> CallCounter<'_> {
     Counted::new(CountedCalls { calls })
 }
 
-/// So many devices.
+/// This many devices.
 fn tallies(
     alloc: Global,
     calls: &AtomicU64,
@@ -57,7 +57,7 @@ fn task_of(calls: &AtomicU64, numbers: (u32, usize, usize)) -> Result<Task<CallC
     Ok(one)
 }
 
-/// An interface with so many captures, and a task for each snapshot length, capacity and number of spare buffers.
+/// An interface with this many captures, and a task for each snapshot length, capacity and number of spare buffers.
 fn interface<'a>(
     alloc: Global,
     calls: &'a AtomicU64,
@@ -75,7 +75,7 @@ fn interface<'a>(
     })
 }
 
-/// So many interfaces, with so many captures each, and one task that stands.
+/// This many interfaces, with this many captures each, and one valid task.
 fn interfaces_of_one_task(
     alloc: Global,
     calls: &AtomicU64,
@@ -119,7 +119,7 @@ fn refuses_two(
     Ok(())
 }
 
-/// A task that stands.
+/// A valid task.
 const RIGHT: (u32, usize, usize) = (1, 40, 1);
 
 #[test]
@@ -144,7 +144,7 @@ fn the_first_of_several_refusals_is_told(rt: HostRuntime) -> Result<(), Fail> {
         &wrong,
         RunFault::Open(0, 1, fault),
     )?;
-    // too many are told first
+    // too many are reported first
     refuses_two(&rt, &[(0, 0, 0)], &[RIGHT; 65], RunFault::TooMany)
 }
 
@@ -191,12 +191,12 @@ fn replays_the_most_captures_and_tasks(
     let interfaces = vec![in rt.alloc(); interface(rt.alloc(), &calls, 65_536, &tasks)?]?;
     let reports = run(rt, rt.alloc(), interfaces, &Open)?;
     ends_at_the_first_capture(rt, at(rt, reports.as_slice(), 0));
-    // the first source alone was read, once, and each header was written at one go
+    // only the first source was read, once, and each header was written at one go
     same(rt, calls.load(SeqCst), 65);
     Ok(())
 }
 
-/// So many interfaces of one task each ended clean.
+/// This many interfaces of one task each ended clean.
 fn end_clean(
     rt: &impl Abort,
     reports: &[InterfaceReport<CallCounter<'_>, CallCounter<'_>>],

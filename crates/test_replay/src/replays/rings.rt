@@ -13,7 +13,7 @@ const MAX_TURNS: u32 = 20_000;
 /// How many buffers go round.
 const SPARES: usize = 16;
 
-/// Takes everything, but holds each write behind the header until as many batches were read as buffers go round.
+/// Takes everything, but holds each write after the header until as many batches were read as buffers go round.
 #[derive(Drop)]
 struct Patient<'a, R> {
     rt: &'a R,
@@ -68,7 +68,7 @@ impl<R: Clock> Gate for Paced<'_, R> {
     }
 }
 
-/// So many TCP frames.
+/// This many TCP frames.
 fn frames(alloc: Global, packets: usize) -> Result<Vec<[u8; 38]>, AllocError> {
     let mut frames = Vec::new(alloc);
     for _ in 0..packets {
@@ -77,7 +77,7 @@ fn frames(alloc: Global, packets: usize) -> Result<Vec<[u8; 38]>, AllocError> {
     Ok(frames)
 }
 
-/// An interface of a capture of so many packets, and this task.
+/// An interface of a capture of this many packets, and this task.
 fn crowded<W: Drop>(
     alloc: Global,
     packets: usize,
@@ -117,7 +117,7 @@ fn as_many_batches_are_read_ahead_as_buffers_go_round(rt: HostRuntime) -> Result
     Ok(())
 }
 
-/// The sink took the header alone, and the pair was closed: an arrival that finds it so is not received.
+/// The sink took only the header, and the pair was closed: an arrival that finds it so is not received.
 fn was_closed(rt: &impl Abort, one: &ListenerReport<PaperSink>) {
     same(rt, (one.end, one.written), (TaskEnd::Write(24), 0));
     assert!(rt; one.received < 250);

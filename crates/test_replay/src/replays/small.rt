@@ -1,4 +1,4 @@
-//! Small buffers, and want of memory.
+//! Small buffers, and memory that runs out.
 
 use super::*;
 use replay::{Gate, RunFault};
@@ -42,7 +42,7 @@ impl<R: Clock> Gate for HeldReads<'_, R> {
     fn after_read(&self, _interface: u32, _listener: u32, _packets: u32) {}
 }
 
-/// A capture of so many TCP frames.
+/// A capture of this many TCP frames.
 fn tcp_frames(alloc: Global, packets: u8) -> Result<Vec<u8>, AllocError> {
     let mut text = Vec::from_slice(alloc, &HEADER)?;
     for sec in 0..packets {
@@ -59,7 +59,7 @@ fn narrow_task(alloc: Global, mode: Mode, flush_every: u32) -> Result<Task<Paper
     Ok(one)
 }
 
-/// An interface with a capture of so many TCP frames, and a listener in each mode that keeps 20 bytes of each, one in a buffer.
+/// An interface with a capture of this many TCP frames, and a listener in each mode that keeps 20 bytes of each, one in a buffer.
 fn narrow(
     alloc: Global,
     packets: u8,
@@ -97,7 +97,7 @@ fn a_slow_reader_loses_packets(rt: HostRuntime) -> Result<(), Fail> {
     Ok(())
 }
 
-/// What stands behind the first of these records, of 36 bytes each, that is this one.
+/// What follows the first of these records, of 36 bytes each, that is this one.
 fn behind<'a>(records: &'a [u8], wanted: &[u8]) -> Option<&'a [u8]> {
     for (k, record) in records.chunks_exact(36).enumerate() {
         if record == wanted {
@@ -107,7 +107,7 @@ fn behind<'a>(records: &'a [u8], wanted: &[u8]) -> Option<&'a [u8]> {
     None
 }
 
-/// Whether the records, of 36 bytes each, stand among others in the same order.
+/// Whether the records, of 36 bytes each, are among others in the same order.
 fn stand_among(records: &[u8], others: &[u8]) -> bool {
     let mut others = others;
     for record in records.chunks_exact(36) {
@@ -119,7 +119,7 @@ fn stand_among(records: &[u8], others: &[u8]) -> bool {
     true
 }
 
-/// A listener of 250 packets keeps some of them, as they stand in the whole, and drops the others.
+/// A listener of 250 packets keeps some of them, as they are in the whole, and drops the others.
 fn keeps_some_in_order(rt: &impl Abort, listener: &ListenerReport<PaperSink>, whole: &[u8]) {
     same(rt, listener.end, TaskEnd::Clean);
     same(rt, (listener.received, listener.matched), (250, 250));
@@ -130,7 +130,7 @@ fn keeps_some_in_order(rt: &impl Abort, listener: &ListenerReport<PaperSink>, wh
     assert!(rt; stand_among(records, whole));
 }
 
-/// Two listeners keep some of 250 packets in order, flushed after so many.
+/// Two listeners keep some of 250 packets in order, flushed after this many.
 fn keep_some_in_order(
     rt: &(impl Abort + AllocGlobal + Threads + Wait + Sync),
     flush_every: u32,
@@ -175,7 +175,7 @@ fn lasting(
     Ok(vec![in alloc; Interface { captures, tasks }]?)
 }
 
-/// How many packets stand before the end of an interface of two, which may be for want of memory.
+/// How many packets come before the end of an interface of two, which may be that memory ran out.
 fn packets_before(rt: &impl Abort, end: InterfaceEnd) -> u64 {
     match end {
         InterfaceEnd::Capture(n, fault) => {
@@ -189,7 +189,7 @@ fn packets_before(rt: &impl Abort, end: InterfaceEnd) -> u64 {
     }
 }
 
-/// A listener is clean and wrote so many packets.
+/// A listener is clean and wrote this many packets.
 fn wrote(rt: &impl Abort, listener: &ListenerReport<PaperSink>, packets: u64) {
     same(rt, listener.end, TaskEnd::Clean);
     same(

@@ -1,4 +1,4 @@
-//! What a gate is told of each step.
+//! Which calls a gate gets for each step.
 
 use super::*;
 use replay::Gate;
@@ -13,7 +13,7 @@ const ACCEPTED: [[[u64; 4]; 2]; 2] = [[[0, 1, 1, 2], [0, 1, 2, 3]], [[0, 0, 1, 1
 /// How many turns of a millisecond something is waited for.
 const MAX_TURNS: u32 = 20_000;
 
-/// What was told of an interface.
+/// What was reported of an interface.
 #[derive(Drop)]
 struct Told {
     /// How many arrivals began, and ended, in order.
@@ -22,7 +22,7 @@ struct Told {
     listeners: [ToldOfOne; 2],
 }
 
-/// What was told of a listener.
+/// What was reported of a listener.
 #[derive(Drop)]
 struct ToldOfOne {
     /// How many reads began, and ended.
@@ -52,8 +52,8 @@ impl Told {
     }
 }
 
-/// Counts each step, and holds each arrival, once it is given and what is due was flushed, until it is read. A step that is told
-/// twice, or with another number, or out of turn, counts as odd.
+/// Counts each step, and holds each arrival, once it is given and what is due was flushed, until it is read. A step that is
+/// reported twice, or with another number, or out of turn, counts as odd.
 #[derive(Drop)]
 struct Watch<'a, R> {
     rt: &'a R,
@@ -164,7 +164,7 @@ fn interface(alloc: Global, frames: &[[u8; 38]]) -> Result<Interface<TapeSource,
     })
 }
 
-/// So many interfaces ended clean.
+/// This many interfaces ended clean.
 fn end_clean(
     rt: &impl Abort,
     reports: &[InterfaceReport<TapeSource, PaperSink>],
@@ -176,7 +176,7 @@ fn end_clean(
     }
 }
 
-/// So many arrivals of an interface were told, and of each listener so many packets, each begun and ended.
+/// This many arrivals of an interface were reported, and for each listener this many packets, each begun and ended.
 fn was_told(rt: &impl Abort, told: &Told, arrivals: u64, packets: [u64; 2]) {
     let ends = (told.began.load(SeqCst), told.arrived.load(SeqCst));
     same(rt, ends, (arrivals, arrivals));
