@@ -75,7 +75,7 @@ constant_text And k = codes "#" ++ hexadecimal k
 constant_text ExclusiveOr k = codes "#" ++ hexadecimal k
 constant_text other k = codes "#" ++ signed k
 
--- What stands behind the name, where the next instruction has this place: a jump names the place that it leads to.
+-- The text after the name, if the next instruction has this place: a jump names the place that it leads to.
 abbrev pub operand_text : Option Operation → (next : ℕ) → Insn → List ℕ
 operand_text None next i = hexadecimal i.code
 operand_text (Some (LoadAbsolute size)) next i = codes "[" ++ signed i.k ++ codes "]"
@@ -97,7 +97,7 @@ operand_text (Some (Transfer to)) next i = []
 
 -- ---- Instructions
 
--- a text, with spaces behind it up to a width, as C's `%-8s` has it
+-- a text, padded with spaces to a width, as C's `%-8s` does
 abbrev pub column : (width : ℕ) → List ℕ → List ℕ
 column width text = text ++ replicate (width - length text) 32
 
@@ -114,12 +114,12 @@ operands_text other next i = operand_text other next i
 unfoldable pub insn_text : (next : ℕ) → Insn → List ℕ
 insn_text next i = column 8 (name_of (operation_of i.code)) ++ codes " " ++ operands_text (operation_of i.code) next i
 
--- a text behind a space, if there is any
+-- a text with a space before it, if there is any
 abbrev pub spaced : List ℕ → List ℕ
 spaced [] = []
 spaced (byte ∷ bytes) = codes " " ++ byte ∷ bytes
 
--- the name and the operand alone, with one space between them
+-- only the name and the operand, with one space between them
 unfoldable pub brief_text : Insn → List ℕ
 brief_text i = name_of (operation_of i.code) ++ spaced (operand_text (operation_of i.code) 0 i)
 

@@ -1,4 +1,4 @@
--- The fields of a listing's line, and where the reading of its lines stops, for its private clauses alone.
+-- The fields of a listing's line, and where the reading of its lines stops, only for its private clauses.
 use Rattle.std.specs.Prelude.{◌≡◌, ℕ, ◌<◌, List, slice_get, Some}
 use Rattle.bpfvm.specs.declared.insn.Insn.{Insn}
 use Rattle.bpfvm.specs.Listing.{IsNumber, IsLine}
@@ -10,7 +10,7 @@ pub record AreFields (code jt jf k : List ℕ) (insn : Insn) : Type 0 where
   pub jf_is : IsNumber 255 jf insn.jf
   pub k_is : IsNumber 4294967295 k insn.k
 
--- These lines begin with lines that are instructions, so many, and then comes one that is none.
+-- These lines begin with this many lines that are instructions, and then comes one that is none.
 pub record StopsAfter (lines : List (List ℕ)) (good : ℕ) : Type 0 where
   pub line : List ℕ
   pub here : slice_get lines good ≡ Some line

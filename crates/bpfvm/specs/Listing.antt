@@ -22,7 +22,7 @@ without_empty_last (piece ∷ pieces) = piece ∷ without_empty_last pieces
 abbrev pub is_line_feed : ℕ → Bool
 is_line_feed byte = byte == line_feed
 
--- The lines of what stands behind a line: it is cut at each line feed, and an empty last piece is no line.
+-- The lines of the text after a line: it is cut at each line feed, and an empty last piece is no line.
 abbrev pub further_lines : List ℕ → List (List ℕ)
 further_lines text = without_empty_last (slice_split is_line_feed text)
 
@@ -69,8 +69,8 @@ abbrev pub HasForm : ℕ → List ℕ → Type 0
 HasForm zero line = (n : ℕ) × IsNumber 4294967295 line n
 HasForm (suc k) line = (insn : Insn) × IsLine line insn
 
--- why a text is no listing of a program: the first line that has not its form, counted from 1, then the count, then
--- the program's own fault
+-- why a text is no listing of a program: the first malformed line, counted from 1, then the count, then the program's
+-- own fault
 abbrev pub IsRefusedListing : List ℕ → ListingFault → Type 0
 IsRefusedListing text (BadLine n) =
     (place : ℕ) × (line : List ℕ) × (n ≡ place + 1) × (slice_get (lines_of text) place ≡ Some line)

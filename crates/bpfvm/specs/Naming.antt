@@ -1,4 +1,4 @@
--- How the forms of `src/image.rt` stand for the texts of operands, for its private clauses alone.
+-- How the forms of `src/image.rt` stand for the texts of operands, only for its private clauses.
 use Rattle.std.specs.Prelude.{◌≡◌, ℕ, ◌+◌, List, [], ◌++◌, codes}
 use Rattle.std.specs.Fmt.{decimal}
 use Rattle.bpfvm.specs.declared.insn.Insn.{Insn}

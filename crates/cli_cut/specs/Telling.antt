@@ -1,4 +1,4 @@
--- What is told of a cut, and the exit statuses of a cut and of a print.
+-- How a cut is reported, and the exit statuses of a cut and of a print.
 use Rattle.std.specs.Prelude.{ℕ, Bool, true, false, if◌then◌else◌, List, [], ◌++◌, Result, Ok, Err, codes}
 use Rattle.std.specs.Fmt.{decimal}
 use Rattle.cli_text.specs.Telling.{end_of_line, fault_status}
@@ -31,7 +31,7 @@ is_counted (Output fault) = false
 unfoldable pub tally_line : Tally → List ℕ
 tally_line t = decimal t.written ++ codes " of " ++ decimal t.read ++ codes " packets" ++ end_of_line
 
--- what is told of the tally of a cut
+-- how the tally of a cut is reported
 abbrev pub count_told : End → Tally → List ℕ
 count_told end t = if is_counted end then tally_line t else []
 

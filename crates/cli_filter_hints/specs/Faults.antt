@@ -1,4 +1,4 @@
--- How a fault reads: its name, and its place behind a space.
+-- How a fault reads: its name, a space and its place.
 use Rattle.std.specs.Prelude.{ℕ, List, ◌++◌, codes}
 use Rattle.std.specs.Fmt.{decimal}
 use Rattle.filterlang.specs.declared.fault.Fault.{Fault}

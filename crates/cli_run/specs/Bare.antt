@@ -1,4 +1,4 @@
--- Interfaces before their listeners are laid out, and behind the replay.
+-- Interfaces before their listeners are laid out, and after the replay.
 use Rattle.std.specs.Prelude.{◌≡◌, ℕ, List, [], length, Some, slice_get}
 use Rattle.std.specs.declared.alloc.Global.{Global}
 use Rattle.std.specs.declared.vec.Vec.{Vec}

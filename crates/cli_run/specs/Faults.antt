@@ -1,5 +1,5 @@
--- How the fault of what LISTENERS asks for, and that of a replay, read: its name, its numbers each behind a space, and a fault inside
--- it behind a space.
+-- How the fault of what LISTENERS asks for, and that of a replay, read: its name, each of its numbers after a space, and a fault
+-- inside it after a space.
 use Rattle.std.specs.Prelude.{ℕ, List, ◌++◌, codes}
 use Rattle.std.specs.Fmt.{decimal}
 use Rattle.cli_filter_hints.specs.Faults.{open_fault_text}

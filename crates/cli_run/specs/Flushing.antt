@@ -29,17 +29,17 @@ abbrev pub IsUnbroken : TaskEnd → Type 0
 IsUnbroken (Write bytes) = ⊥
 IsUnbroken end = Unit {0}
 
--- how an end reads where OUT failed behind so many bytes; a listener that did not hand over its end stays Unfinished
+-- how an end reads if OUT failed after this many bytes; a listener that did not hand over its end stays Unfinished
 abbrev pub failed_end : ℕ → TaskEnd → TaskEnd
 failed_end bytes Unfinished = Unfinished
 failed_end bytes end = Write bytes
 
--- OUT has all that was written: what is told of it stays
+-- OUT has all that was written: its report stays
 abbrev pub WentWell : {W : Type 0} → ListenerReport (Output W) → ListenerReport (Output W) → Type 0
 WentWell before after =
     (writer_buffer after.sink.inner ≡ []) × IsUnbroken before.end × (after.end ≡ before.end) × (after.written ≡ before.written)
 
--- OUT failed, now or before: what it has is told
+-- OUT failed, now or before: what it has is reported
 abbrev pub Failed : {W : Type 0} → ListenerReport (Output W) → ListenerReport (Output W) → Type 0
 Failed before after =
     let out = writer_inner after.sink.inner in

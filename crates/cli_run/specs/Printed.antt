@@ -1,4 +1,4 @@
--- The text that is printed of a replay, and the lines that are told of it.
+-- The text that is printed of a replay, and the lines that are reported of it.
 use Rattle.std.specs.Prelude.{ℕ, List, [], ◌++◌, codes}
 use Rattle.std.specs.Fmt.{decimal}
 use Rattle.replay_types.specs.declared.report.InterfaceEnd.{InterfaceEnd}
@@ -31,13 +31,13 @@ interface_lines i report = numbered (listener_line i) 0 report.listeners.items
 abbrev pub printed_replay : {R W : Type 0} → List (InterfaceReport R W) → List ℕ
 printed_replay reports = numbered interface_lines 0 reports
 
--- the line that is told of an interface that did not end clean
+-- the line that is reported of an interface that did not end clean
 abbrev pub interface_told : ℕ → InterfaceEnd → List ℕ
 interface_told i interface.Clean = []
 interface_told i (interface.Capture n fault) =
     told_line (codes "Interface " ++ decimal i ++ codes " Capture " ++ decimal n ++ codes " " ++ capture_fault_text fault)
 interface_told i interface.CountFull = told_line (codes "Interface " ++ decimal i ++ codes " CountFull")
 
--- the lines that are told of all interfaces
+-- the lines that are reported of all interfaces
 abbrev pub told_replay : {R W : Type 0} → List (InterfaceReport R W) → List ℕ
 told_replay reports = numbered (λ i report. interface_told i report.end) 0 reports

@@ -1,4 +1,4 @@
--- `run`, from the bytes of LISTENERS and the captures to what is printed, told and handed back.
+-- `run`, from the bytes of LISTENERS and the captures to what is printed, reported and handed back.
 use denote.Ref.{Bor}
 use Rattle.std.specs.Prelude.{◌≡◌, ℕ, ◌⊎◌, List, [], ◌∷◌, length, Option}
 use Rattle.std.specs.List.{AllZip}
@@ -37,7 +37,7 @@ abbrev pub IsNoReplayOf : {S W : Type 0} → List RunLine → List (List Insn) �
 IsNoReplayOf {S} {W} lines programs captures sinks fault =
     (fault ≡ NoStart) ⊎ ((interfaces : List (Interface S W)) × AreLaidOut (places_of lines) (tasks_of lines programs sinks) captures interfaces × IsFirst interfaces fault)
 
--- calls of a closure at the OUTs of these lines, one behind the other, gave these sinks and left the closure so
+-- calls of a closure at the OUTs of these lines, one after the other, gave these sinks and left the closure so
 abbrev pub Makes : {M W : Type 0} → (M → Bor (List ℕ) → W → M → Type 0) → M → List RunLine → List W → M → Type 0
 Makes step make [] [] last = make ≡ last
 Makes step make (line ∷ lines) (sink ∷ sinks) last = (next : _) × step make line.output sink next × Makes step next lines sinks last
@@ -45,7 +45,7 @@ Makes step make [] (sink ∷ sinks) last = ⊥
 Makes step make (line ∷ lines) [] last = ⊥
 
 -- LISTENERS asks for listeners, each expression has a program, and a sink was made of each OUT. The captures were replayed to these;
--- the reports were printed and told, and the sinks came back in the order of the lines.
+-- the reports were printed, faults were reported, and the sinks came back in the order of the lines.
 pub record Ran {S W M : Type 0} (left : S → Option (List ℕ)) (broken : S → ℕ) (taken : W → Option (List ℕ)) (failures : W → ℕ)
     (step : M → Bor (List ℕ) → W → M → Type 0) (make : M) (listeners : List ℕ) (captures : List (Vec S Global)) (old new : Streams) (outcome : Outcome) (back : List W) : Type 0 where
   pub lines : List RunLine
@@ -61,7 +61,7 @@ pub record Ran {S W M : Type 0} (left : S → Option (List ℕ)) (broken : S →
   pub all_back : length back ≡ length lines
   pub in_order : AreSinksOf (places_of lines) reports back
 
--- A fault that reads so was told, nothing was printed, and no sink comes back.
+-- A fault that reads so was reported, nothing was printed, and no sink comes back.
 pub record Refuses {W : Type 0} (text : List ℕ) (old new : Streams) (outcome : Outcome) (back : List W) : Type 0 where
   pub nothing : Keeps old.out new.out
   pub tells : Takes old.err new.err outcome.told (told_line text)

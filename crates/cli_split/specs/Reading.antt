@@ -1,4 +1,4 @@
--- How captures are read, one behind the other.
+-- How captures are read, one after the other.
 use Rattle.std.specs.Prelude.{◌≡◌, ◌≢◌, ◌↔◌, ℕ, ◌+◌, ◌-◌, ◌^◌, ◌<◌, ◌⊎◌, List, [], ◌∷◌, ◌++◌, length, Option, Some, None, IfSome, Result, Ok, Err}
 use Rattle.std.specs.Io.KnownBytes.{Consumes}
 use Rattle.savefile.specs.declared.fault.Fault.TheVariants.{Device, NoMemory, CountFull}
@@ -12,14 +12,14 @@ use Rattle.pcap_cut.specs.Outcome.{StopsBehind}
 use Rattle.cli_split.specs.declared.split.Stop.{Stop}
 use Rattle.cli_split.specs.declared.split.Stop.TheVariants.{AtHeader, AtRecord}
 
--- How the n-th capture ended behind these packets. Its source gave these bytes of the text, and `total` packets are those of all captures.
+-- How the n-th capture ended after these packets. Its source gave these bytes of the text, and `total` packets are those of all captures.
 abbrev pub EndsSo : List ℕ → List ℕ → ℕ → ℕ → List Packet → Result (Unit {0}) Stop → Type 0
 -- It was read whole.
 EndsSo text given total n packets (Ok done) = IsCapture text packets None
 -- Its header is refused, memory was wanting, or the source broke inside the header.
 EndsSo text given total n packets (Err (AtHeader m fault)) =
     (m ≡ n) × (packets ≡ []) × (RefusesHeader text fault ⊎ (fault ≡ NoMemory) ⊎ ((fault ≡ Device) × (length given < 24)))
--- A torn or bad record stands behind them; or the source broke, and what it had given stops behind them; or no more packets can be
+-- A torn or bad record comes after them; or the source broke, and what it had given stops after them; or no more packets can be
 -- counted.
 EndsSo text given total n packets (Err (AtRecord m fault)) =
     (m ≡ n) × (IsCapture text packets (Some fault)
@@ -27,7 +27,7 @@ EndsSo text given total n packets (Err (AtRecord m fault)) =
     × (((fault ≡ Device) × StopsBehind given packets) ⊎ ((fault ≡ CountFull) × (total ≡ 2 ^ 64 - 1)))))
 
 -- The n-th capture was read, whose source was `from` and is `to`: the text that it had left, and what it gave of that. A fault of
--- the device is told exactly where it failed; and where memory was wanting the source is as it was.
+-- the device is reported if and only if it failed; and if memory ran out, the source is as it was.
 pub record ReadsOne {R : Type 0} (left : R → Option (List ℕ)) (failures : R → ℕ) (from to : R) (total n : ℕ) (packets : List Packet) (end : Result (Unit {0}) Stop) : Type 0 where
   pub text : List ℕ
   pub told : IfSome (left from) (λ bytes. bytes ≡ text)
@@ -38,7 +38,7 @@ pub record ReadsOne {R : Type 0} (left : R → Option (List ℕ)) (failures : R 
   pub unread : end ≡ Err (AtHeader n NoMemory) → to ≡ from
 
 -- Captures were read, of which the first has this number, and gave these packets, `total` in all with those before: each one whole, or up
--- to the first that was not. The sources behind that are as they were.
+-- to the first that was not. The sources after that are as they were.
 abbrev pub ReadsAll : {R : Type 0} → (R → Option (List ℕ)) → (R → ℕ) → ℕ → ℕ → List R → List R → List Packet → Result (Unit {0}) Stop → Type 0
 ReadsAll left failures total n [] [] packets end = (packets ≡ []) × (end ≡ Ok tt)
 ReadsAll left failures total n [] (t ∷ ts) packets end = ⊥

@@ -1,4 +1,4 @@
--- How a part stands behind some packets.
+-- The state of a part after some packets.
 use Rattle.std.specs.Prelude.{◌≡◌, ◌≢◌, ◌↔◌, ℕ, ◌<◌, ◌≤◌, ◌^◌, List, [], ◌∷◌, ◌++◌, length, Option, OnOk, Err}
 use Rattle.std.specs.List.{AllZip}
 use Rattle.savefile.specs.declared.fault.Fault.TheVariants.{Device}
@@ -31,7 +31,7 @@ IsGiven {W} taken failures p old new =
     (order : Order) (unit : TimeUnit) (packets : List Packet) (part : Part W)
     → HasTaken taken failures order unit packets part old → HasTaken taken failures order unit (packets ++ p ∷ []) part new
 
--- So many packets were read, and each part stands behind them.
+-- This many packets were read, and each part is in its state after them.
 abbrev pub HasSplit : {W : Type 0} → (W → Option (List ℕ)) → (W → ℕ) → Order → TimeUnit → List Packet → List (Part W) → Splitter W → Type 0
 HasSplit taken failures order unit packets parts splitter =
     (splitter.read ≡ length packets) × (splitter.read < 2 ^ 64) × AllZip (HasTaken taken failures order unit packets) parts splitter.outlets.items

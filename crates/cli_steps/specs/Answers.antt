@@ -29,7 +29,7 @@ pub record Cursor : Type 0 where
 abbrev pub cursor : Option Expr → ℕ → ℕ → List Answered → Cursor
 cursor expr capacity held_since answers = record { expr = expr; capacity = capacity; held_since = held_since; answers = answers }
 
--- the answer tells that the store became the hold
+-- the answer says that the store became the hold
 abbrev pub fills_hold : Answer → Bool
 fills_hold (Arrived Rotated) = true
 fills_hold (Arrived Held) = true

@@ -1,4 +1,4 @@
--- How the fault of a replay reads: its name, its numbers each behind a space, and a fault inside it behind a space.
+-- How the fault of a replay reads: its name, each of its numbers after a space, and a fault inside it after a space.
 use Rattle.std.specs.Prelude.{ℕ, List, ◌++◌, codes}
 use Rattle.std.specs.Fmt.{decimal}
 use Rattle.cli_filter_hints.specs.Faults.{expression_fault_text, compile_fault_text, open_fault_text}

@@ -20,20 +20,20 @@ FirstBadIsOne Is = (text : List ℕ) (n m : ℕ) → IsFirstBad Is text n → Is
 
 -- ---- Reasons
 
--- a flush that comes to this makes the store the hold
+-- a flush that ends so makes the store the hold
 abbrev pub makes_hold : FlushEnd → Bool
 makes_hold flush_ends.Closed = false
 makes_hold (flush_ends.NotRead hold) = false
 makes_hold flush_ends.NothingStored = false
 makes_hold (flush_ends.Takes load) = true
 
--- a read that comes to this takes the hold
+-- a read that ends so takes the hold
 abbrev pub takes_hold : ReadEnd → Bool
 takes_hold read_ends.Closed = false
 takes_hold read_ends.NothingHeld = false
 takes_hold (read_ends.Takes hold) = true
 
--- The reason of a flush is given by the state before it alone: where the answer is right, it says the same as the answer.
+-- The reason of a flush follows from the state before it: if the answer is right, the reason agrees with it.
 abbrev pub FlushReasonsAgree : Type 0
 FlushReasonsAgree = (t : Terms) (s : PlainList) (full : Bool) (held_since : ℕ) → IsRight t s (flushed full)
     → makes_hold (flush_end (state_before (answered s (flushed full)) held_since t.capacity)) ≡ full

@@ -42,7 +42,7 @@ pub record AreFirstOf (text : List ℕ) (specs : List Spec) : Type 0 where
   pub asked : IsFileOf IsListenerLine text all
   pub first : specs ≡ take 65 all
 
--- why listeners are not taken: the first bad line, or want of memory
+-- why listeners are not taken: the first bad line, or memory ran out
 abbrev pub IsRefusedListeners : List ℕ → LineFault → Type 0
 IsRefusedListeners text (Listeners n) = IsFirstBad IsListenerLine text n
 IsRefusedListeners text (Script n) = ⊥

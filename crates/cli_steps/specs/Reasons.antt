@@ -32,7 +32,7 @@ hold_text hold = codes "the hold of step " ++ decimal hold.step ++ codes " with 
 abbrev pub sum_text : ℕ → ℕ → List ℕ
 sum_text load more = decimal load ++ codes " stored and " ++ decimal more ++ codes " more"
 
--- of an arrival, whose record takes so many bytes, or would take them
+-- for an arrival, whose record takes this many bytes, or would take them
 abbrev pub arrival_text : ListenerState → ℕ → Fed → List ℕ
 arrival_text before size fed.Passed = codes "Passed, the filter rejects it"
 arrival_text before size fed.Stored = codes "Stored, " ++ sum_text before.load size ++ codes " are within " ++ decimal before.capacity
@@ -44,7 +44,7 @@ arrival_text before size fed.Dropped = codes "Dropped, " ++ sum_text before.load
     ++ codes "; " ++ hold_text (full_hold_of before) ++ codes " is not read"
 arrival_text before size fed.Closed = codes "Closed"
 
--- what a flush comes to: a closed listener and a hold that is not read come before an empty store
+-- how a flush ends: a closed listener and a hold that is not read come before an empty store
 abbrev pub flush_end : ListenerState → FlushEnd
 flush_end before =
     if before.closed then flush.Closed
@@ -58,7 +58,7 @@ flush_text (flush.NotRead hold) = codes "not flushed, " ++ hold_text hold ++ cod
 flush_text flush.NothingStored = codes "not flushed, nothing is stored"
 flush_text (flush.Takes load) = codes "flushed, the empty hold takes the " ++ decimal load ++ codes " stored"
 
--- what a read comes to: a closed listener comes before an empty hold
+-- how a read ends: a closed listener comes before an empty hold
 abbrev pub read_end : ListenerState → ReadEnd
 read_end before =
     if before.closed then read.Closed

@@ -14,11 +14,11 @@ abbrev pub decision_of : PlacedPacket → Option Expr → List ℕ
 decision_of p None = []
 decision_of p (Some expr) = codes ": " ++ decision_text (tree_of expr) (packet_of p.packet.bytes p.packet.len)
 
--- the answer tells that the filter rejects the packet
+-- the answer says that the filter rejects the packet
 abbrev pub rejects : Answer → Bool
 rejects (Arrived Passed) = true
 rejects other = false
 
--- what stands behind the answer to this packet: why it was rejected
+-- what follows the answer to this packet: why it was rejected
 abbrev pub rejection : PlacedPacket → Option Expr → Answer → List ℕ
 rejection p expr answer = if rejects answer then decision_of p expr else []

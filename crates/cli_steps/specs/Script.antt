@@ -29,7 +29,7 @@ IsNamed word l (Close n) = (word ≡ codes "close") × (n ≡ l)
 abbrev pub NamesNone : List ℕ → Type 0
 NamesNone word = (word ≢ codes "flush") × (word ≢ codes "read") × (word ≢ codes "close")
 
--- why a script is not taken: the first bad line, or want of memory
+-- why a script is not taken: the first bad line, or memory ran out
 abbrev pub IsRefusedScript : List ℕ → LineFault → Type 0
 IsRefusedScript text (Script n) = IsFirstBad IsStepLine text n
 IsRefusedScript text (Listeners n) = ⊥

@@ -1,4 +1,4 @@
--- `steps`, from the bytes of its files to what is printed and told.
+-- `steps`, from the bytes of its files to what is printed and reported.
 use Rattle.std.specs.Prelude.{◌≡◌, ℕ, ◌⊎◌, false, List}
 use Rattle.std.specs.Io.KnownBytes.{Keeps}
 use Rattle.tap_steps.specs.declared.filters.Spec.{Spec}
@@ -15,7 +15,7 @@ use Rattle.cli_steps.specs.Listeners.{IsListenerLine}
 use Rattle.cli_steps.specs.Script.{IsStepLine}
 use Rattle.cli_steps.specs.Playing.{Plays}
 
--- Why the files are not taken: the first bad line, one of LISTENERS before one of SCRIPT, or want of memory.
+-- Why the files are not taken: the first bad line, one of LISTENERS before one of SCRIPT, or memory ran out.
 abbrev pub IsRefusedFiles : List ℕ → List ℕ → LineFault → Type 0
 IsRefusedFiles listeners script (Listeners n) = IsFirstBad IsListenerLine listeners n
 IsRefusedFiles listeners script (Script n) = ((specs : List Spec) × IsFileOf IsListenerLine listeners specs) × IsFirstBad IsStepLine script n
@@ -29,7 +29,7 @@ pub record Played (listeners script : List ℕ) (captures : List (List ℕ)) (ol
   pub of_script : IsFileOf IsStepLine script steps
   pub plays : Plays false captures specs steps old new outcome
 
--- The files are refused: the fault of their lines was told, and nothing was printed.
+-- The files are refused: the fault of their lines was reported, and nothing was printed.
 pub record Unread (listeners script : List ℕ) (old new : Streams) (outcome : Outcome) : Type 0 where
   pub fault : LineFault
   pub refused : IsRefusedFiles listeners script fault

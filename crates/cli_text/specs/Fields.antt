@@ -14,7 +14,7 @@ IsWord text = All (λ byte. byte ≢ space) text
 abbrev pub IsSnap : List ℕ → ℕ → Type 0
 IsSnap text snap = (n : ℕ) × IsNumber MAX_SNAP text n × (snap ≡ effective_snaplen n)
 
--- a decimal number, and behind it an `i` for the mode Immediate
+-- a decimal number, and after it an `i` for the mode Immediate
 abbrev pub IsCapacity : List ℕ → ℕ → Mode → Type 0
 IsCapacity text capacity Buffered = IsNumber (2 ^ 64 - 1) text capacity
 IsCapacity text capacity Immediate = (digits : List ℕ) × (text ≡ digits ++ codes "i") × IsNumber (2 ^ 64 - 1) digits capacity

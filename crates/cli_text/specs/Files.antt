@@ -13,7 +13,7 @@ Say Is (line ∷ lines) [] = ⊥
 abbrev pub IsFileOf : {X : Type 0} → (List ℕ → X → Type 0) → List ℕ → List X → Type 0
 IsFileOf Is text xs = Say Is (further_lines text) xs
 
--- the n-th line of a text, from 1, is the first that has not its form
+-- the n-th line of a text, from 1, is the first malformed one
 pub record IsFirstBad {X : Type 0} (Is : List ℕ → X → Type 0) (text : List ℕ) (n : ℕ) : Type 0 where
   pub before : List (List ℕ)
   pub line : List ℕ

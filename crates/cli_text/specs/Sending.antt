@@ -13,7 +13,7 @@ pub record TakesPart (old new : Option (List ℕ)) (text : List ℕ) : Type 0 wh
 abbrev pub Takes : {A E : Type 0} → Option (List ℕ) → Option (List ℕ) → Result A E → List ℕ → Type 0
 Takes old new result text = MatchResult result (λ _. Appends old new text) (λ _. TakesPart old new text)
 
--- What standard output and standard error took so far, where they tell it.
+-- What standard output and standard error took so far, if they know it.
 pub record Streams : Type 0 where
   pub out : Option (List ℕ)
   pub err : Option (List ℕ)

@@ -1,4 +1,4 @@
--- What is told of a fault, and its exit status.
+-- How a fault is reported, and its exit status.
 use Rattle.std.specs.Prelude.{ℕ, Bool, true, false, List, [], ◌∷◌, ◌++◌, Result, Ok, Err, if◌then◌else◌, codes}
 use Rattle.std.specs.Fmt.{decimal}
 use Rattle.std.specs.IoError.{error_kind}
@@ -29,13 +29,13 @@ end_of_line = 10 ∷ []
 abbrev pub told_line : List ℕ → List ℕ
 told_line text = codes "bpftap: " ++ text ++ end_of_line
 
--- how a fault of lines reads: its name, and its number behind a space
+-- how a fault of lines reads: its name, a space and its number
 abbrev pub line_fault_text : LineFault → List ℕ
 line_fault_text (Listeners n) = codes "Listeners " ++ decimal n
 line_fault_text (Script n) = codes "Script " ++ decimal n
 line_fault_text NoMemory = codes "NoMemory"
 
--- how the fault of a capture reads: its name, and the place of its record behind a space
+-- how the fault of a capture reads: its name, a space and the place of its record
 abbrev pub capture_fault_text : Fault → List ℕ
 capture_fault_text capture.ShortHeader = codes "ShortHeader"
 capture_fault_text capture.NotSavefile = codes "NotSavefile"

@@ -40,7 +40,7 @@ where_no Yes questions = []
 where_no No questions = questions
 where_no Abort questions = []
 
--- From left to right: the right operand of `and` is asked only behind a Yes, that of `or` only behind a No.
+-- From left to right: the right operand of `and` is asked only after a Yes, that of `or` only after a No.
 abbrev pub questions : Bool → Tree → Packet → List Question
 questions negated trees.everything p = question negated trees.everything p ∷ []
 questions negated (trees.test primitive) p = question negated (trees.test primitive) p ∷ []

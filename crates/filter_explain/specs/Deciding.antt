@@ -1,4 +1,4 @@
--- What is told of an expression's answer to a packet.
+-- What decides an expression's answer to a packet.
 use Rattle.std.specs.Prelude.{ℕ, Bool, true, false, List, [], ◌∷◌, ◌++◌, Option, Some, None, codes}
 use Rattle.std.specs.Fmt.{decimal}
 use Rattle.filter_tree.specs.Trees.{Tree}

@@ -30,7 +30,7 @@ comparison_text comparison.Greater = codes " > "
 comparison_text comparison.LessOrEqual = codes " <= "
 comparison_text comparison.GreaterOrEqual = codes " >= "
 
--- a layer's word and the bracket behind it
+-- a layer's word, and the bracket after it
 abbrev pub layer_text : Layer → List ℕ
 layer_text layers.Ether = codes "ether["
 layer_text layers.Ip = codes "ip["
@@ -40,7 +40,7 @@ layer_text layers.Tcp = codes "tcp["
 layer_text layers.Udp = codes "udp["
 layer_text layers.Icmp = codes "icmp["
 
--- the size of an accessor, where it is not one byte, and the bracket behind it
+-- the size of an accessor, if it is not one byte, and the bracket after it
 abbrev pub size_text : Size → List ℕ
 size_text sizes.One = codes "]"
 size_text sizes.Two = codes ":2]"
@@ -71,7 +71,7 @@ tree_text parentheses (both t u) =
 tree_text parentheses (either t u) =
     joined (first_enclosed parentheses Or t) (tree_text parentheses t) (codes " or ") (is_joined u) (tree_text parentheses u)
 
--- all parentheses, where not more than 64 signs are open within one another then, else those alone that the grammar needs
+-- all parentheses, if at most 64 signs are open within one another then, else only those that the grammar needs
 abbrev pub parentheses_of : Tree → Parentheses
 parentheses_of t = if fits All t 64 then All else Needed
 

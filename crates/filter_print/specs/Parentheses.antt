@@ -38,12 +38,12 @@ first_enclosed All And (either t u) = true
 first_enclosed All Or (both t u) = true
 first_enclosed parentheses joint t = false
 
--- what stands behind `not`
+-- what follows `not`
 abbrev pub negated_enclosed : Parentheses → Tree → Bool
 negated_enclosed All (relation comparison v w) = true
 negated_enclosed parentheses t = is_joined t
 
--- the parenthesis before a text that is enclosed, and the one behind it
+-- the parenthesis before a text that is enclosed, and the one after it
 abbrev pub opened : Bool → List ℕ
 opened is = if is then codes "(" else []
 
@@ -61,7 +61,7 @@ between left sign right = closed left ++ (sign ++ opened right)
 abbrev pub joined : Bool → List ℕ → List ℕ → Bool → List ℕ → List ℕ
 joined left first sign right second = opened left ++ (first ++ (between left sign right ++ (second ++ closed right)))
 
--- how many more signs may be open behind one that is, or where there is none; nothing where none may
+-- how many more signs may be open inside, be it in parentheses or not; nothing if parentheses may not open
 abbrev pub behind : Bool → ℕ → Option ℕ
 behind false levels = Some levels
 behind true zero = None
@@ -72,7 +72,7 @@ abbrev pub fits_behind : (ℕ → Bool) → Option ℕ → Bool
 fits_behind fits None = false
 fits_behind fits (Some levels) = fits levels
 
--- at most so many signs of a value are open within one another
+-- the signs of a value nest at most this deep
 unfoldable pub value_fits : Parentheses → Amount → ℕ → Bool
 value_fits parentheses (number n) levels = true
 value_fits parentheses wire_length levels = true

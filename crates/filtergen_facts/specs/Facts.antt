@@ -101,7 +101,7 @@ of_primitive IpMulticast = known.Type 0x0800
 of_primitive (Less n) = known.Nothing
 of_primitive (Greater n) = known.Nothing
 
--- What is known where an expression is Yes, by its operands that stand at most so many levels of `and` deep: farther ones are
+-- What is known if an expression is Yes, from its operands that are at most this many levels of `and` deep: deeper ones are
 -- not asked.
 abbrev pub after_expr : ℕ → PacketFacts → Tree → PacketFacts
 after_expr levels k trees.everything = k

@@ -173,7 +173,7 @@ kind_test k x = form_test k.form (direction_of k.sides) k.mask k.head k.bytes x
 abbrev pub of_tcp_or_udp : ListKind → ListKind
 of_tcp_or_udp k = record { form = forms.TcpOrUdpPorts; sides = k.sides; mask = k.mask; head = k.head; bytes = k.bytes }
 
--- what so many members weigh at least
+-- what this many members weigh at least
 abbrev pub list_weight : Form → ℕ → ℕ
 list_weight forms.Bytes n = 30 * n
 list_weight other n = 40 * n

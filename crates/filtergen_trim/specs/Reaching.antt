@@ -3,7 +3,7 @@ use Rattle.std.specs.Prelude.{◌≡◌, ℕ, zero, suc, ◌+◌, ◌<◌, ◌�
 use Rattle.bpfvm.specs.declared.insn.Insn.{Insn}
 use Rattle.bpfvm.specs.Codes.{Operation, Jump, Branch, ReturnConstant, ReturnAccumulator, operation_of}
 
--- An instruction of this operation may pass so many of those that follow it: a return leads nowhere, a jump passes k, a
+-- An instruction of this operation may pass this many of those that follow it: a return leads nowhere, a jump passes k, a
 -- conditional one jt or jf, and every other instruction none.
 abbrev pub MayPass : Option Operation → Insn → ℕ → Type 0
 MayPass None i passed = ⊥
@@ -21,7 +21,7 @@ pub record LeadsTo (program : List Insn) (from to : ℕ) : Type 0 where
   pub may : MayPass (operation_of insn.code) insn passed
   pub is : to ≡ from + 1 + passed
 
--- so many steps lead from the first instruction to a place
+-- this many steps lead from the first instruction to a place
 abbrev pub IsPath : List Insn → ℕ → ℕ → Type 0
 IsPath program zero place = place ≡ 0
 IsPath program (suc n) place = (from : ℕ) × IsPath program n from × LeadsTo program from place

@@ -19,7 +19,7 @@ onward_by (Some other) i = onward.Next
 abbrev pub onward_of : Insn → Onward
 onward_of i = onward_by (operation_of i.code) i
 
--- it may pass so many
+-- it may pass this many
 abbrev pub MayGo : Onward → ℕ → Type 0
 MayGo onward.Nowhere n = ⊥
 MayGo onward.Next n = n ≡ 0

@@ -1,4 +1,4 @@
--- How the lexer's tables are searched, and how far what it finds goes. Private clauses alone say this.
+-- How the lexer's tables are searched, and how long what it finds is. Only private clauses say this.
 use Rattle.std.specs.Prelude.{◌≡◌, ℕ, ◌<◌, ◌≤◌, Bool, List, Option, length, map, option_map}
 use Rattle.std.specs.Borrow.{Bor}
 use Rattle.std.specs.List.{find}
@@ -14,11 +14,11 @@ entries_of table = map (λ entry. (entry.0.now, entry.1)) table
 abbrev pub first_of : (List ℕ → Bool) → List (Bor (List ℕ) × Kind) → Option (Kind × ℕ)
 first_of test table = option_map (λ e. (e.1, length e.0.now)) (find (λ e. test e.0.now) table)
 
--- so many bytes of a text, one at least
+-- a number of bytes of a text, one at least
 abbrev pub IsLengthWithin : ℕ → ℕ → Type 0
 IsLengthWithin n bytes = (0 < n) × (n ≤ bytes)
 
--- what stands at the front of so many bytes lies within them
+-- what this many bytes of a text begin with lies within them
 abbrev pub IsWithin : Front → ℕ → Type 0
 IsWithin fronts.End bytes = bytes ≡ 0
 IsWithin fronts.Blank bytes = 0 < bytes

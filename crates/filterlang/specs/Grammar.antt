@@ -3,7 +3,7 @@
 -- Each relation speaks of the tokens from a place on and of those that follow what is read there.
 -- `Expression n q ts t r rest` says that ts begin with the expression t, that rest follows it, that at most n signs
 -- are open within one another, and that q and r are the qualifiers that the nearest primitive to the left has
--- to give, before the expression and behind it.
+-- to give, before the expression and after it.
 use Rattle.std.specs.Prelude.{◌≡◌, ℕ, zero, suc, Bool, ◌||◌, is_some, true, false, List, [], ◌∷◌, Option, Some, None, unwrap_or}
 use Rattle.filterlang.specs.Types.{Kind, Comparison, Protocol, And, Or, Minus, Primitive, Plain, Transport, SrcOrDst, Phrase, Qualifiers, Identifier}
 use Rattle.filterlang.specs.Types.kind
@@ -30,7 +30,7 @@ abbrev pub bracket_follows : List Kind → Bool
 bracket_follows (kind.OpenBracket ∷ ts) = true
 bracket_follows _ = false
 
--- what stands behind the `)` that matches, so many `(` being open besides; nothing where none does
+-- the tokens after the `)` that matches, with this many further `(` open; none if no `)` does
 abbrev pub after_matching : ℕ → List Kind → List Kind
 after_matching depth [] = []
 after_matching depth (kind.Open ∷ ts) = after_matching (suc depth) ts

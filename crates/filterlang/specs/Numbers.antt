@@ -19,7 +19,7 @@ abbrev pub at_most : ℕ → Option ℕ → Option ℕ
 at_most limit None = None
 at_most limit (Some n) = if nat_le n limit then Some n else None
 
--- the number that digits of a base spell behind this number
+-- the number that digits of a base spell after this number
 abbrev pub number_behind : ℕ → ℕ → List ℕ → Option ℕ
 number_behind base n [] = Some n
 number_behind base n (b ∷ bs) = if is_digit b base then number_behind base (n * base + digit_value b) bs else None
@@ -29,14 +29,14 @@ abbrev pub numeral : ℕ → List ℕ → Option ℕ
 numeral base [] = None
 numeral base (b ∷ bs) = number_behind base 0 (b ∷ bs)
 
--- decimal, octal behind 0, or hexadecimal behind 0x or 0X, up to 4,294,967,295
+-- decimal, octal after 0, or hexadecimal after 0x or 0X, up to 4,294,967,295
 abbrev pub number_of : List ℕ → Option ℕ
 number_of run = at_most 4294967295 (
     if starts_with nat_eq run (codes "0x") || starts_with nat_eq run (codes "0X") then numeral 16 (drop 2 run)
     else (if starts_with nat_eq run (codes "0") then numeral 8 run
     else numeral 10 run))
 
--- a part of an address: so many digits at most, and up to 255
+-- a part of an address: at most this many digits, and up to 255
 abbrev pub octet : ℕ → ℕ → List ℕ → Option ℕ
 octet base most part = if nat_le (length part) most then at_most 255 (numeral base part) else None
 
@@ -70,7 +70,7 @@ ethernet numbers = if length numbers == 6 then Some (kind.Ethernet (record { oct
 abbrev pub ethernet_of : List ℕ → Option Kind
 ethernet_of run = option_and_then ethernet (octets 16 2 (slice_split (λ b. b == 58) run))
 
--- such groups stand there with no letter, digit or colon behind them: they are the whole run of these
+-- the text begins with such groups, and no letter, digit or colon follows them: they are the whole run of these
 unfoldable pub ethernet_at : List ℕ → Option (Kind × ℕ)
 ethernet_at text =
     let run = run_at 58 text in

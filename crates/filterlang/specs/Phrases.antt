@@ -29,7 +29,7 @@ abbrev pub one_side : Side → Direction
 one_side side.Src = Src
 one_side side.Dst = Dst
 
--- three words that are one direction, or the first alone
+-- three words that are one direction, or only the first
 abbrev pub longest : Option Direction → Side → List Kind → List Kind → Option Direction × List Kind
 longest (Some direction) first rest later = (Some direction, later)
 longest None first rest later = (Some (one_side first), rest)

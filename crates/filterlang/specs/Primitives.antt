@@ -26,7 +26,7 @@ begins_identifier (kind.Ethernet address) = true
 begins_identifier (kind.Name name) = true
 begins_identifier _ = false
 
--- neither an identifier nor `(` nor `[` nor portrange follows, nor, behind ip, multicast
+-- no identifier, `(`, `[` or portrange follows, nor, after ip, multicast
 abbrev pub stands_alone : Protocol → List Kind → Bool
 stands_alone protocol [] = true
 stands_alone protocol (kind.Open ∷ ts) = false

@@ -39,7 +39,7 @@ allowed type_word.Proto protocol written direction = None
 abbrev pub qualifiers_of : Phrase → Option Qualifiers
 qualifiers_of phrase = allowed (unwrap_or phrase.type_word type_word.Host) phrase.protocol phrase.direction (unwrap_or phrase.direction SrcOrDst)
 
--- the mask of so many bits
+-- the mask with this many leading one bits
 abbrev pub mask_of : ℕ → ℕ
 mask_of bits = 2 ^ 32 - 2 ^ (32 - bits)
 

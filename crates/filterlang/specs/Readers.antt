@@ -15,7 +15,7 @@ abbrev pub Gives : {X Y : Type 0} → (X → Y) → Result X Fault → Option Y 
 Gives view (Ok x) read = read ≡ Some (view x)
 Gives view (Err e) read = (e ≡ faults.NoMemory) ⊎ ((is_misreading e ≡ true) × (read ≡ None))
 
--- what the first token is, and those behind it
+-- what the first token is, and those after it
 abbrev pub next_of : List Kind → Option (Kind × List Kind)
 next_of [] = None
 next_of (token ∷ rest) = Some (token, rest)
@@ -28,12 +28,12 @@ abbrev pub close_at : List Kind → Option (Unit {0} × List Kind)
 close_at (kind.Close ∷ rest) = Some (tt, rest)
 close_at rest = None
 
--- behind the sign at the front, one level less is left
+-- past the sign at the front, one level less is left
 abbrev pub deeper : ℕ → List Kind → Option (ℕ × List Kind)
 deeper (suc n) (sign ∷ tokens) = Some (n, tokens)
 deeper n tokens = None
 
--- Reads a value: what it is, what can be inherited behind it, and the tokens that follow. It is given what can be
+-- Reads a value: what it is, what can be inherited after it, and the tokens that follow. It is given what can be
 -- inherited before it.
 abbrev pub Reader : Type 0 → Type 0 → Type 0
 Reader T Q = Q → List Kind → Option (T × Q × List Kind)
@@ -41,7 +41,7 @@ Reader T Q = Q → List Kind → Option (T × Q × List Kind)
 abbrev pub nothing : {T Q : Type 0} → Reader T Q
 nothing q tokens = None
 
--- what a `)` follows, and what is behind that
+-- what a `)` follows, and the tokens after that
 abbrev pub closed : {T Q : Type 0} → Option (T × Q × List Kind) → Option (T × Q × List Kind)
 closed read = read >>= λ t. close_at t.2 >>= λ behind. Some (t.0, t.1, behind.1)
 
@@ -50,12 +50,12 @@ pub record Joining (S T : Type 0) : Type 0 where
   pub sign : List Kind → Option (S × List Kind)
   pub join : S → T → T → Option T
 
--- Behind a value: what is read behind a sign is joined to it, and so it goes on. Without a sign it is all.
+-- After a value: what is read after a sign is joined to it, and so it goes on. Without a sign it is all.
 abbrev pub turn : {S T Q : Type 0} → Joining S T → Reader T Q → (T → Q → List Kind → Option (T × Q × List Kind)) → T → Q → List Kind → Option (S × List Kind) → Option (T × Q × List Kind)
 turn signs next on t q tokens None = Some (t, q, tokens)
 turn signs next on t q tokens (Some s) = next q s.1 >>= λ u. signs.join s.0 t u.0 >>= λ v. on v u.1 u.2
 
--- as long as a sign follows, from the left, at most so many times
+-- as long as a sign follows, from the left, at most this many times
 abbrev pub chain : {S T Q : Type 0} → Joining S T → Reader T Q → ℕ → T → Q → List Kind → Option (T × Q × List Kind)
 chain signs next zero t q tokens = Some (t, q, tokens)
 chain signs next (suc n) t q tokens = turn signs next (chain signs next n) t q tokens (signs.sign tokens)

@@ -1,6 +1,6 @@
 -- Reading a filter expression from the front of a list of tokens, by a function: it finds the grammar's tree.
 --
--- A reading is what was read, what can be inherited behind it, and the tokens that follow. There is none where
+-- A reading is what was read, what can be inherited after it, and the tokens that follow. There is none where
 -- nothing can be read.
 use Rattle.std.specs.Prelude.{ℕ, zero, suc, if◌then◌else◌, List, [], ◌∷◌, Option, Some, None, unwrap_or, min, max, is_none, is_some, ◌||◌, option_map, option_and_then}
 use Rattle.filterlang.specs.Types.{Kind, Protocol, Parts, Side, Direction, Joint, And, Or, Minus, Plain, Primitive, SrcOrDst, Beginning, Phrase, Qualifiers, Start}
@@ -41,18 +41,18 @@ abbrev pub minus_at : List Kind → Option (Unit {0} × List Kind)
 minus_at (kind.Operator Minus ∷ rest) = Some (tt, rest)
 minus_at rest = None
 
--- what follows portrange, where that stands behind a phrase without a type
+-- the tokens after portrange, if they begin with it and the phrase before has no type
 abbrev pub range_at : Phrase → List Kind → Option (List Kind)
 range_at phrase (kind.PortRange ∷ rest) = if is_none phrase.type_word then Some rest else None
 range_at phrase rest = None
 
--- the protocol that a phrase is alone, where what follows leaves it alone
+-- the protocol of a phrase that is only a protocol word, if what follows leaves it a primitive
 abbrev pub plain_at : Phrase → List Kind → Option Plain
 plain_at phrase rest =
     if is_some phrase.direction || is_some phrase.type_word then None
     else option_and_then (λ protocol. if stands_alone protocol rest then plain_of protocol else None) phrase.protocol
 
--- broadcast or multicast behind a protocol word
+-- broadcast or multicast after a protocol word
 abbrev pub broadcast_at : Protocol → List Kind → Option (Primitive × List Kind)
 broadcast_at protocols.Ether (kind.Broadcast ∷ rest) = Some (primitives.EtherBroadcast, rest)
 broadcast_at protocols.Ether (kind.Multicast ∷ rest) = Some (primitives.EtherMulticast, rest)
@@ -93,7 +93,7 @@ identified_at g tokens = identifier_at tokens >>= λ id. identified g id.0 >>= �
 abbrev pub port_at : List Kind → Option (ℕ × List Kind)
 port_at tokens = bare_number_at tokens >>= λ n. port_of n.0 >>= λ port. Some (port, n.1)
 
--- two ports with a `-` between them, behind a phrase and portrange
+-- two ports with a `-` between them, after a phrase and portrange
 unfoldable pub portrange_at : Phrase → List Kind → Option (Primitive × List Kind)
 portrange_at phrase tokens =
     transport_of phrase.protocol >>= λ transport.
@@ -102,7 +102,7 @@ portrange_at phrase tokens =
     port_at minus.1 >>= λ second.
     Some (primitives.Ports transport (unwrap_or phrase.direction SrcOrDst) (min first.0 second.0) (max first.0 second.0), second.1)
 
--- what stands behind a phrase: the `(` of a group, which is not gone past, or an identifier
+-- what follows a phrase: the `(` of a group, which is not gone past, or an identifier
 abbrev pub under : Qualifiers → List Kind → Option (Start × List Kind)
 under g tokens =
     elim (beginning tokens) [
@@ -111,7 +111,7 @@ under g tokens =
       | beginnings.Primitive ↦ identified_at g tokens >>= λ p. Some (starts.Primitive p.0, p.1)
     ]
 
--- a primitive, or the phrase of a group, with what can be inherited behind it
+-- a primitive, or the phrase of a group, with what can be inherited after it
 abbrev pub Starting : Type 0
 Starting = Option (Start × Option Qualifiers × List Kind)
 
@@ -158,16 +158,16 @@ group_term_at (suc n) = group_term_by (group_term_at n)
 abbrev pub group_at : ℕ → Reader Tree Qualifiers
 group_at n = chained joints (group_term_at n)
 
--- a primitive, or the group behind its phrase, with so many levels left, as the parser goes
+-- a primitive, or a phrase and its group, with this many levels left, as the parser goes
 abbrev pub started_by : ℕ → Start → Reader Tree (Option Qualifiers)
 started_by n (starts.Primitive p) q tokens = Some (test p, q, tokens)
 started_by n (starts.Group g) q tokens = deeper n tokens >>= λ inner. closed (group_at inner.0 g inner.1) >>= λ t. Some (t.0, q, t.2)
 
--- what a term begins with, and the group behind it, where it is the phrase of one
+-- what a term begins with, and the group after it if it is the phrase of one
 abbrev pub started_at : ℕ → Reader Tree (Option Qualifiers)
 started_at n q tokens = start_at q tokens >>= λ s. started_by n s.0 s.1 s.2
 
--- a primitive, or the group behind its phrase
+-- a primitive, or a phrase and its group
 abbrev pub started : Reader Tree Qualifiers → Start → Reader Tree (Option Qualifiers)
 started group (starts.Primitive p) q tokens = Some (test p, q, tokens)
 started group (starts.Group g) q (sign ∷ tokens) = closed (chained joints group g tokens) >>= λ t. Some (t.0, q, t.2)

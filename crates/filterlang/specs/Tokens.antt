@@ -72,7 +72,7 @@ fault_at BadByte place = faults.BadByte place
 fault_at BadWord place = faults.BadWord place
 fault_at BadNumber place = faults.BadNumber place
 
--- a fault says what is wrong with the text; want of memory says nothing
+-- a fault says what is wrong with the text; running out of memory says nothing
 abbrev pub IsFaultOf : List ℕ → Fault → Type 0
 IsFaultOf text faults.TextTooLong = MAX_TEXT < length text
 IsFaultOf text (faults.BadByte place) = (length text ≤ MAX_TEXT) × Stuck text 0 BadByte place
@@ -81,7 +81,7 @@ IsFaultOf text (faults.BadNumber place) = (length text ≤ MAX_TEXT) × Stuck te
 IsFaultOf text faults.NoMemory = length text ≤ MAX_TEXT
 IsFaultOf text _ = ⊥
 
--- from a byte on the tokens' spans follow one another, none is empty, and the last ends within so many bytes
+-- from a byte on the tokens' spans follow one another, none is empty, and the last ends within this many bytes
 abbrev pub AreInOrder : ℕ → ℕ → List Token → Type 0
 AreInOrder at bytes [] = at ≤ bytes
 AreInOrder at bytes (t ∷ tokens) = (at ≤ t.span.start) × (t.span.start < t.span.end) × AreInOrder t.span.end bytes tokens

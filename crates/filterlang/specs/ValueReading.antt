@@ -48,12 +48,12 @@ abbrev pub layer_at : List Kind → Option (Layer × List Kind)
 layer_at (kind.Protocol protocol ∷ kind.OpenBracket ∷ rest) = layer_of protocol >>= λ layer. Some (layer, kind.OpenBracket ∷ rest)
 layer_at rest = None
 
--- the size behind an index: one byte, if none is written
+-- the size after an index: one byte, if none is written
 abbrev pub size_at : List Kind → Option (Size × List Kind)
 size_at (kind.Colon ∷ rest) = bare_number_at rest >>= λ n. size_of n.0 >>= λ size. Some (size, n.1)
 size_at rest = Some (One, rest)
 
--- what stands in the brackets behind a layer, from its index on
+-- what is in the brackets after a layer, from its index on
 abbrev pub bracketed : {Q : Type 0} → Layer → Option (Amount × Q × List Kind) → Option (Amount × Q × List Kind)
 bracketed layer read =
     read >>= λ v. size_at v.2 >>= λ size. close_bracket_at size.1 >>= λ behind. Some (accessor layer v.0 size.0, v.1, behind.1)

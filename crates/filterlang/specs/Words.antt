@@ -58,7 +58,7 @@ words =
     ∷ (codes "multicast", kind.Multicast)
     ∷ []
 
--- the names behind a backslash
+-- the names after a backslash
 unfoldable pub names : List Entry
 names =
     (codes "tcp", kind.Name protocols.Tcp)

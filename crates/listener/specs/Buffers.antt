@@ -27,7 +27,7 @@ FitsSavefileRecord m = length m.bytes ≤ MAX_SNAP
 abbrev pub message_in : Record → Message
 message_in r = record { capture = r.capture; place = r.place; sec = r.sec; nanos = r.nanos; len = r.len; bytes = r.bytes.now }
 
--- why a buffer isn't made; want of memory, only where its capacity is in range
+-- why a buffer isn't made; memory runs out only if its capacity is in range
 abbrev pub RefusesBuffer : ℕ → OpenFault → Type 0
 RefusesBuffer capacity BadSnap = ⊥
 RefusesBuffer capacity BadCapacity = (capacity < MIN_CAPACITY) ⊎ (MAX_CAPACITY < capacity)

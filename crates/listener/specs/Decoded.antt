@@ -1,5 +1,5 @@
--- How a buffer's messages are read from its bytes, and what is kept of these. Contracts of public calls speak of the
--- messages alone.
+-- How a buffer's messages are read from its bytes, and what is kept of these. Contracts of public calls speak only of the
+-- messages.
 use Rattle.std.specs.Prelude.{◌≡◌, ℕ, zero, suc, ◌^◌, ◌<◌, ◌≤◌, List, [], ◌∷◌, length, take, drop, Vec, vec_capacity, ◌==◌, if◌then◌else◌}
 use Rattle.std.specs.List.{AllByRecursion}
 use Rattle.byteorder.specs.Endian.{little_number}
@@ -28,7 +28,7 @@ first_in text = record {
 unfoldable pub after_first : List ℕ → List ℕ
 after_first text = drop (size (kept_in text)) text
 
--- the messages of at most so many records
+-- the messages of at most this many records
 abbrev pub messages_of : ℕ → List ℕ → List Message
 messages_of zero text = []
 messages_of (suc n) text = if length text == 0 then [] else first_in text ∷ messages_of n (after_first text)
@@ -55,7 +55,7 @@ pub record AreRecords (text : List ℕ) : Type 0 where
 abbrev pub RoundTrip : Type 0
 RoundTrip = (ms : List Message) → AllByRecursion IsStored ms → messages_in (records_text ms) ≡ ms
 
--- the bytes of a buffer of this capacity, which has so many messages
+-- the bytes of a buffer of this capacity, which has this many messages
 pub record IsBuffer {Z : Type 0} (bytes : Vec ℕ Z) (capacity count : ℕ) : Type 0 where
   pub reserved : capacity ≤ vec_capacity bytes
   pub within : length bytes.items ≤ capacity

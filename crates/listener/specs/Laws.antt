@@ -24,7 +24,7 @@ AnswersAreLegal =
     → Legal t s (answers t s rs) × (requests (answers t s rs) ≡ rs)
     × ((es : List Event) → requests es ≡ rs → Legal t s es → es ≡ answers t s rs)
 
--- the answer to an arrival and a flush directly behind it, as one step
+-- the answer to an arrival and a flush directly after it, as one step
 abbrev pub with_flush : Fed → Bool → Fed
 with_flush Stored true = Held
 with_flush fed full = fed
@@ -63,7 +63,7 @@ HeldStaysWithin = (s : PlainList) (es : List Event) → HeldIsWithin s → HeldI
 abbrev pub hold_of : PlainList → List Message
 hold_of s = take s.in_hold s.pending
 
--- the store after an event, as the store alone tells it
+-- the store after an event, known from the store before it
 abbrev pub store_after : List Message → Event → List Message
 store_after store (arrived (Some m) Stored) = store ++ m ∷ []
 store_after store (arrived (Some m) Held) = []
@@ -79,7 +79,7 @@ hold_after hold store (flushed true) = store
 hold_after hold store (read (Some batch)) = []
 hold_after hold store other = hold
 
--- what pends is the hold and then the store, and both are told by the event
+-- what pends is the hold and then the store, and the event gives both
 pub record Follows (s : PlainList) (e : Event) : Type 0 where
   pub store : stored (next s e) ≡ store_after (stored s) e
   pub hold : hold_of (next s e) ≡ hold_after (hold_of s) (stored s) e
@@ -149,7 +149,7 @@ abbrev pub IsRead : Event → Type 0
 IsRead (read batch) = Unit {0}
 IsRead other = ⊥
 
--- The store alone decides the event: whether the hold is full plays no part in it.
+-- Only the store decides the event: whether the hold is full plays no part in it.
 abbrev pub IsQuiet : Terms → PlainList → Event → Type 0
 IsQuiet t s (arrived None Passed) = Unit {0}
 IsQuiet t s (arrived (Some m) Stored) = t.mode ≡ Buffered
@@ -157,13 +157,13 @@ IsQuiet t s (flushed false) = stored s ≡ []
 IsQuiet t s (arrived m Closed) = Unit {0}
 IsQuiet t s other = ⊥
 
--- two events may stand in either order, with the same state behind them
+-- two events may come in either order, and leave the same state
 pub record Commutes (t : Terms) (s : PlainList) (one other : Event) : Type 0 where
   pub first : IsRight t s other
   pub second : IsRight t (next s other) one
   pub same : next (next s other) one ≡ next (next s one) other
 
--- a read may stand before a quiet event that it stands behind, and behind one that it stands before
+-- a read commutes with a quiet event, in either order
 abbrev pub ReadsCommute : Type 0
 ReadsCommute =
     (t : Terms) (s : PlainList) (e r : Event) → HeldIsWithin s → IsQuiet t s e → IsRead r

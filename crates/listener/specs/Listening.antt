@@ -37,7 +37,7 @@ pub record InRange (snap capacity : ℕ) : Type 0 where
   pub room : size snap ≤ capacity
   pub largest : capacity ≤ MAX_CAPACITY
 
--- why a listener isn't opened; want of memory, only where nothing else refuses it
+-- why a listener isn't opened; memory runs out only if nothing else refuses it
 abbrev pub RefusesOpen : ℕ → ℕ → OpenFault → Type 0
 RefusesOpen snap capacity BadSnap = (snap < 1) ⊎ (MAX_SNAP < snap)
 RefusesOpen snap capacity BadCapacity = (1 ≤ snap) × (snap ≤ MAX_SNAP) × ((capacity < size snap) ⊎ (MAX_CAPACITY < capacity))

@@ -42,7 +42,7 @@ is_immediate Immediate = true
 abbrev pub is_over : Terms → ℕ → Message → Bool
 is_over t load m = nat_lt t.capacity (load + size_of m)
 
--- A step is a drop, where the load before it is `load` and `hold_is_full` tells whether the hold is full.
+-- A step is a drop, if the load before it is `load` and `hold_is_full` says whether the hold is full.
 abbrev pub drops : Terms → ℕ → Bool → Request → Bool
 drops t load hold_is_full (Arrive (Some m)) = is_over t load m && hold_is_full
 drops t load hold_is_full other = false
@@ -68,8 +68,8 @@ size_at other = 0
 
 -- `before` is the list of the steps before a step, the latest first.
 unfoldable mutual
-  -- The sizes of the kept arrivals, from the latest rotation on, that rotation's own arrival included. Behind a handing
-  -- there is none: its own arrival isn't included.
+  -- The sizes of the kept arrivals, from the latest rotation on, that rotation's own arrival included. After a handing
+  -- over there is none: its own arrival isn't included.
   pub load : Terms → List Request → ℕ
   load t [] = 0
   load t (step ∷ before) =

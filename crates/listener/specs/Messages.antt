@@ -6,7 +6,7 @@ use Rattle.bpfvm.specs.declared.insn.Insn.{Insn}
 use Rattle.bpfvm.specs.Machine.{verdict}
 use Rattle.listener.specs.declared.message.Message.{Message}
 
--- the bytes of a record with so many bytes of data: 32 for its fields, and the data up to a multiple of 8
+-- the bytes of a record with this many bytes of data: 32 for its fields, and the data up to a multiple of 8
 abbrev pub size : ℕ → ℕ
 size n = 32 + (n + 7) / 8 * 8
 
@@ -31,7 +31,7 @@ arrival capture place packet = record { capture = capture; place = place; packet
 abbrev pub cut_to : ℕ → Arrival → Message
 cut_to n a = record { capture = a.capture; place = a.place; sec = a.packet.sec; nanos = a.packet.nanos; len = a.packet.len; bytes = take n a.packet.bytes }
 
--- What a filter program keeps of an arrival: nothing where its answer is 0, else at most so many bytes as the lesser of its
+-- What a filter program keeps of an arrival: nothing if its answer is 0, else at most as many bytes as the lesser of its
 -- answer and the snapshot length.
 unfoldable pub kept_by : List Insn → ℕ → Arrival → Option Message
 kept_by program snap a =

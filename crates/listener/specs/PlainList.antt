@@ -53,7 +53,7 @@ abbrev pub StaysStored : Mode → PlainList → Type 0
 StaysStored Buffered s = Unit {0}
 StaysStored Immediate s = 0 < s.in_hold
 
--- the store becomes the hold directly behind a message that went into it
+-- the store becomes the hold directly after a message went into it
 abbrev pub IsHandedOver : Mode → PlainList → Type 0
 IsHandedOver Buffered s = ⊥
 IsHandedOver Immediate s = s.in_hold ≡ 0

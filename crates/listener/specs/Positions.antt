@@ -1,5 +1,5 @@
--- Looking back by positions: of the steps before a step, the latest first, the one that stands n back has n behind it. What is
--- told of each is told by the steps before it alone.
+-- Looking back by positions: of the steps before a step, the latest first, the one that is n back has n after it. Each is
+-- known from the steps before it.
 use Rattle.std.specs.Prelude.{◌≡◌, ◌↔◌, ℕ, zero, suc, ◌+◌, ◌<◌, Bool, true, false, ◌||◌, List, [], ◌∷◌, Some, length, if◌then◌else◌}
 use Rattle.listener.specs.declared.message.Message.{Message}
 use Rattle.listener.specs.Messages.{size_of}

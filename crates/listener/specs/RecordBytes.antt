@@ -1,4 +1,4 @@
--- The bytes of a buffer: the records of its messages, one behind the other.
+-- The bytes of a buffer: the records of its messages, one after the other.
 use Rattle.std.specs.Prelude.{ℕ, ◌-◌, List, ◌++◌, length, replicate}
 use Rattle.std.specs.List.{flat_map}
 use Rattle.byteorder.specs.Endian.{little_bytes}
@@ -10,7 +10,7 @@ unfoldable pub fields_text : ℕ → ℕ → ℕ → ℕ → ℕ → ℕ → Lis
 fields_text sec nanos kept len place capture =
     little_bytes 4 sec ++ little_bytes 4 nanos ++ little_bytes 4 kept ++ little_bytes 4 len ++ little_bytes 8 place ++ little_bytes 4 capture ++ little_bytes 4 0
 
--- the zero bytes behind so many bytes of data, up to a multiple of 8
+-- the zero bytes after this many bytes of data, up to a multiple of 8
 abbrev pub padding : ℕ → ℕ
 padding n = size n - 32 - n
 

@@ -16,7 +16,7 @@ answer program p = verdict program p.bytes p.len
 abbrev pub accepts : List Insn → Packet → Bool
 accepts program p = nat_lt 0 (answer program p)
 
--- a packet with its first bytes alone, at most n; its time and its length on the wire stay
+-- a packet with only its first bytes, at most n; its time and its original length stay
 abbrev pub cut_packet : ℕ → Packet → Packet
 cut_packet n p = record p { bytes = take n p.bytes }
 

@@ -15,7 +15,7 @@ use Rattle.pcap_cut.specs.declared.cut.CutEnd.{CutEnd}
 use Rattle.pcap_cut.specs.declared.cut.Tally.{Tally}
 use Rattle.pcap_cut.specs.Cut.{accepts, cut_text}
 
--- A capture, in whatever order and unit, stops behind these packets: its rest has no whole record.
+-- A capture, in whatever order and unit, stops after these packets: its rest has no whole record.
 pub record StopsBehind (text : List ℕ) (packets : List Packet) : Type 0 where
   pub order : Order
   pub unit : TimeUnit
@@ -56,8 +56,8 @@ pub record StopsAtHeader {R W : Type 0} (from back : R) (to sink : W) (text give
   pub untouched : sink ≡ to
   pub nothing : sent ≡ []
 
--- The reading broke off behind the packets `before`, and the accepted ones of these were sent, all of them: the source broke, and
--- what it had given stops behind them; or no more packets can be counted.
+-- The reading broke off after the packets `before`, and the accepted ones of these were sent, all of them: the source broke, and
+-- what it had given stops after them; or no more packets can be counted.
 pub record StopsReading (text given : List ℕ) (program : List Insn) (snap : ℕ) (order : Order) (unit : TimeUnit) (fault : Fault) (sent : List ℕ) : Type 0 where
   pub before : List Packet
   pub after : List Packet
@@ -81,7 +81,7 @@ BrokeOff from back to sink text given program snap order unit (Input fault) sent
     StopsAtHeader from back to sink text given fault sent ⊎ StopsReading text given program snap order unit fault sent
 BrokeOff from back to sink text given program snap order unit (Output fault) sent = StopsWriting text program snap order unit fault sent
 
--- A sink, which was `old` and is `new`, took these bytes and no more, and their number is told.
+-- A sink, which was `old` and is `new`, took these bytes and no more, and their number is reported.
 pub record Took {W : Type 0} (taken : W → Option (List ℕ)) (old new : W) (count : ℕ) (bytes : List ℕ) : Type 0 where
   pub appends : Appends (taken old) (taken new) bytes
   pub counts : count ≡ length bytes

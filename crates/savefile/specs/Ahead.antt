@@ -11,6 +11,6 @@ waiting_in a = slice_range a.memory.items a.start a.end
 abbrev pub lent_by : {R : Type 0} → Ahead R → List ℕ
 lent_by a = slice_range a.memory.items (a.start - a.lent) a.start
 
--- Between two states more bytes were taken from the source, and they stand behind what waited.
+-- Between two states more bytes were taken from the source, and they follow those that waited.
 abbrev pub Grows : {R : Type 0} → (R → Option (List ℕ)) → Ahead R → Ahead R → Type 0
 Grows left old new = (more : List ℕ) × (waiting_in new ≡ waiting_in old ++ more) × Consumes (left old.source) (left new.source) more

@@ -1,4 +1,4 @@
--- What a device that is read or written tells of a call.
+-- What a device that is read or written says of a call.
 use Rattle.std.specs.Prelude.{◌≡◌, ℕ, ◌+◌, ◌%◌, ◌^◌, Result, MatchResult}
 
 -- a call adds one to the failures, modulo 2^64, where it answers an error, and only there

@@ -25,7 +25,7 @@ HoldsOneList =
     → IsText text → Holds text order unit snap packets fault → Holds text order' unit' snap' packets' fault'
     → (order ≡ order') × (unit ≡ unit') × (snap ≡ snap') × (packets ≡ packets') × (fault ≡ fault')
 
--- A header is refused for one fault alone.
+-- A header is refused for at most one fault.
 abbrev pub RefusesForOneFault : Type 0
 RefusesForOneFault =
     (text : List ℕ) (fault other : Fault) → IsText text → RefusesHeader text fault → RefusesHeader text other → fault ≡ other

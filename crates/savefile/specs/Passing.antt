@@ -48,7 +48,7 @@ is_ended Reading = false
 is_ended Ended = true
 is_ended Broken = false
 
--- it told a fault, behind which it cannot read
+-- it reported a fault, after which it cannot read
 abbrev pub is_broken : State → Bool
 is_broken Reading = false
 is_broken Ended = false

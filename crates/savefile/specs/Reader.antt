@@ -10,8 +10,8 @@ use Rattle.savefile.specs.Savefile.{Holds, IsSavefile, NoRecord, RefusesHeader}
 -- ---- A reader as contracts see it
 
 -- A reader: its source; the header of its savefile; how many packets it has given, and the one that it lends; the bytes that it
--- took from the source ahead of the packets to come; whether it has met the clean end; and whether it has told a fault behind
--- which it cannot read.
+-- took from the source ahead of the packets to come; whether it has met the complete end; and whether it has reported a fault
+-- after which it cannot read.
 pub record Reading (R : Type 0) : Type 0 where
   pub source : R
   pub header : Header
@@ -33,7 +33,7 @@ GoesOn r = (r.ended ≡ false) × (r.failed ≡ false)
 abbrev pub HasEnded : {R : Type 0} → Reading R → Type 0
 HasEnded r = r.ended ≡ true
 
--- it has told a fault, behind which it cannot read
+-- it has reported a fault, after which it cannot read
 abbrev pub HasFailed : {R : Type 0} → Reading R → Type 0
 HasFailed r = r.failed ≡ true
 
@@ -53,7 +53,7 @@ pub record HasGiven {R : Type 0} (left : R → Option (List ℕ)) (start : Optio
   pub counts : r.given ≡ length packets
   pub goes_on : GoesOn r
 
--- A text, which is what the source had left where it tells, holds these packets, and this fault or none ends them.
+-- A text, which is what the source had left if that is known, holds these packets, and this fault or none ends them.
 pub record WasRead (start : Option (List ℕ)) (header : Header) (packets : List Packet) (fault : Option Fault) : Type 0 where
   pub text : List ℕ
   pub told : IfSome start (λ bytes. bytes ≡ text)
@@ -63,7 +63,7 @@ pub record WasRead (start : Option (List ℕ)) (header : Header) (packets : List
 abbrev pub WasBegun : Option (List ℕ) → Header → List Packet → Type 0
 WasBegun start header packets = (more : List Packet) × (fault : Option Fault) × WasRead start header (packets ++ more) fault
 
--- The header of a text, which is what the source had left where it tells, is refused for this fault.
+-- The header of a text, which is what the source had left if that is known, is refused for this fault.
 pub record WasRefused (start : Option (List ℕ)) (fault : Fault) : Type 0 where
   pub text : List ℕ
   pub told : IfSome start (λ bytes. bytes ≡ text)
@@ -80,7 +80,7 @@ pub record WasTaken (start left : Option (List ℕ)) (header : Header) (packets 
 
 -- ---- One call
 
--- Why a reader that has given these packets gives no further one: they are all, and the fault stands behind them; or
+-- Why a reader that has given these packets gives no further one: they are all, and the fault comes after them; or
 -- the source failed, and all that was taken from it is these packets and no whole record more; or no more can be
 -- counted. The source had `start` left before and has `left` left now.
 abbrev pub IsCause : Option (List ℕ) → Option (List ℕ) → Header → List Packet → Fault → Type 0

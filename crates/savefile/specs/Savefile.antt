@@ -84,7 +84,7 @@ pub record IsRecord (order : Order) (unit : TimeUnit) (text : List ℕ) (p : Pac
   pub bytes : take (captured order text) (drop 16 text) ≡ p.bytes
   pub follows : drop (16 + captured order text) text ≡ after
 
--- a text is the records of these packets, one behind the other, and then the rest
+-- a text is the records of these packets, one after the other, and then the rest
 abbrev pub AreRecords : Order → TimeUnit → List ℕ → List Packet → List ℕ → Type 0
 AreRecords order unit text [] rest = text ≡ rest
 AreRecords order unit text (p ∷ ps) rest = (after : List ℕ) × IsRecord order unit text p after × AreRecords order unit after ps rest

@@ -1,4 +1,4 @@
--- What a replay tells of its listeners.
+-- What a replay reports of its listeners.
 use Rattle.std.specs.Prelude.{◌≡◌, ℕ, List, Option, Some, length}
 use Rattle.std.specs.List.{slice_get}
 use Rattle.savefile.specs.declared.fault.Fault.{Fault}

@@ -1,4 +1,4 @@
--- Listeners as they are opened, and what steps lead them to. Private clauses alone say this.
+-- Listeners as they are opened, and what steps lead them to. Only private clauses say this.
 use Rattle.std.specs.Prelude.{◌≡◌, ℕ, Bool, List, [], Option, string_bytes}
 use Rattle.std.specs.List.{AllZip}
 use Rattle.bpfvm.specs.declared.insn.Insn.{Insn}

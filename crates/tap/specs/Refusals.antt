@@ -77,7 +77,7 @@ RefusesOne specs fault = (l : ℕ) × (spec : Spec) × (slice_get specs l ≡ So
 
 -- ---- The whole
 
--- Why a replay gives no report: the first fault that stands, each supposes that none before stands. Want of memory can
+-- Why a replay gives no report: the first fault that applies; each supposes that none before it does. Running out of memory can
 -- come at any point.
 abbrev pub IsFirst : List (List ℕ) → List Spec → List Step → Fault → Type 0
 IsFirst texts specs steps TooMany = AreTooMany texts specs

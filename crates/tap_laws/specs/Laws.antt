@@ -10,8 +10,8 @@ use Rattle.tap_steps.specs.OwnSteps.{arrival_of}
 use Rattle.tap_steps.specs.Playlist.{IsPlaylist}
 use Rattle.tap_steps.specs.declared.playlist.PlacedPacket.{PlacedPacket}
 
--- Captures end so for what stands in them: all were read to their end, or this one up to a torn or bad record, which is told
--- beside its number.
+-- Captures end so because of what is in them: all were read to their end, or this one up to a torn or bad record, which is
+-- given with its number.
 abbrev pub EndsAs : InterfaceEnd → Option (ℕ × Fault) → Type 0
 EndsAs Clean record_fault = record_fault ≡ None
 EndsAs (Capture n (TornRecord place)) record_fault = record_fault ≡ Some (n, TornRecord place)

@@ -137,7 +137,7 @@ fn write_column<O: Write>(column: &Column<'_>, scale: &Scale, out: &mut O) -> io
     writeln!(out, "</g>")
 }
 
-/// The room of a buffer, behind its bars.
+/// The room of a buffer, drawn below its bars.
 fn write_room<O: Write>(width: u64, floor: u64, scale: &Scale, out: &mut O) -> io::Result<()> {
     let (y, drawn) = (floor.saturating_sub(scale.drawn), scale.drawn);
     writeln!(

@@ -1,4 +1,4 @@
--- What a report tells of a listener's own steps.
+-- What a report says of a listener's own steps.
 use Rattle.std.specs.Prelude.{◌≡◌, List, ◌++◌, map}
 use Rattle.listener.specs.declared.message.Message.{Message}
 use Rattle.listener.specs.Laws.{joined}

@@ -60,12 +60,12 @@ abbrev pub all_stepped : List Request → Watch → Watch
 all_stepped [] w = w
 all_stepped (r ∷ rs) w = all_stepped rs (stepped r w)
 
--- no count can pass 2^64 - 1 while so many arrivals are left
+-- no count can pass 2^64 - 1 while this many arrivals are left
 abbrev pub CountsFit : ℕ → List Watch → Type 0
 CountsFit left [] = Unit {0}
 CountsFit left (w ∷ ws) = (w.listener.list.received + left < 2 ^ 64) × CountsFit left ws
 
--- a report tells what a listener came to
+-- a report says what a listener got
 pub record Tells (w : Watch) (report : Report) : Type 0 where
   pub read : read_in report ≡ w.batches
   pub held : held_in report ≡ w.listener.list.pending

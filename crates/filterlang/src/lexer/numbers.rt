@@ -38,7 +38,7 @@ fn numeral(bytes: &[u8], base: u32) -> Option<u32>
     Some(value)
 }
 
-/// A part of an address: a number up to 255 of at most so many digits.
+/// A part of an address: a number up to 255 of at most `most` digits.
 fn octet(part: &[u8], base: u32, most: usize) -> Option<u8>
     requires low { 2 ≤ base }
     requires high { base ≤ 36 }
@@ -72,7 +72,7 @@ fn octets(run: &[u8], mark: u8, base: u32, most: usize) -> Option<([u8; 6], usiz
     Some((numbers, count))
 }
 
-/// A number: decimal, octal behind `0`, or hexadecimal behind `0x`.
+/// A number: decimal, octal after `0`, or hexadecimal after `0x`.
 fn number_of(run: &[u8]) -> Option<u32>
     ensures { result ≡ number_of run.now }
 {

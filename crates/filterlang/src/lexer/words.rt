@@ -7,7 +7,7 @@ ghost use Rattle.filterlang.specs.Finding.{IsLengthWithin, first_of};
 use crate::token::{Joint, Kind, Protocol, Side, TypeWord};
 use filter_tree::{Comparison, Operator};
 
-/// The words of pcap-filter(7), the hyphenated ones first: of two that stand at a place the first is meant.
+/// The words of pcap-filter(7), the hyphenated ones first: the first that fits at a place is the longest there.
 pub(crate) const WORDS: [(&[u8], Kind); 38] = [
     (b"tcp-fin", Kind::Named(1)),
     (b"tcp-syn", Kind::Named(2)),
@@ -49,7 +49,7 @@ pub(crate) const WORDS: [(&[u8], Kind); 38] = [
     (b"multicast", Kind::Multicast),
 ];
 
-/// The names behind a backslash.
+/// The names after a backslash.
 pub(crate) const NAMES: [(&[u8], Kind); 6] = [
     (b"tcp", Kind::Name(Protocol::Tcp)),
     (b"udp", Kind::Name(Protocol::Udp)),
@@ -59,7 +59,7 @@ pub(crate) const NAMES: [(&[u8], Kind); 6] = [
     (b"rarp", Kind::Name(Protocol::Rarp)),
 ];
 
-/// The signs, the longer ones first: the first that stands at a place is the longest there.
+/// The signs, the longer ones first: the first that fits at a place is the longest there.
 pub(crate) const SIGNS: [(&[u8], Kind); 25] = [
     (b"<<", Kind::Operator(Operator::ShiftLeft)),
     (b">>", Kind::Operator(Operator::ShiftRight)),
@@ -88,7 +88,7 @@ pub(crate) const SIGNS: [(&[u8], Kind); 25] = [
     (b">", Kind::Comparison(Comparison::Greater)),
 ];
 
-/// Whether a word stands at the front of the text with no letter or digit behind it.
+/// Whether the text begins with a word, and no letter or digit follows it.
 fn stands_whole(text: &[u8], word: &[u8]) -> bool
     ensures { result ≡ stands_whole text.now word.now }
 {
@@ -98,7 +98,7 @@ fn stands_whole(text: &[u8], word: &[u8]) -> bool
             .is_some_and(u8::is_ascii_alphanumeric)
 }
 
-/// The first word of a table that stands whole at the front of the text, and how many bytes it has.
+/// The first word of a table that the text begins with as a whole, and how many bytes it has.
 fn whole_word(table: &[(&[u8], Kind)], text: &[u8]) -> Option<(Kind, usize)>
     ensures { result ≡ first_of (stands_whole text.now) table.now }
 {
@@ -106,7 +106,7 @@ fn whole_word(table: &[(&[u8], Kind)], text: &[u8]) -> Option<(Kind, usize)>
     Some((*kind, word.len()))
 }
 
-/// The first sign of a table that stands at the front of the text, and how many bytes it has.
+/// The first sign of a table that the text begins with, and how many bytes it has.
 fn leading_sign(table: &[(&[u8], Kind)], text: &[u8]) -> Option<(Kind, usize)>
     ensures { result ≡ first_of (stands text.now) table.now }
 {
@@ -114,7 +114,7 @@ fn leading_sign(table: &[(&[u8], Kind)], text: &[u8]) -> Option<(Kind, usize)>
     Some((*kind, sign.len()))
 }
 
-/// The word at the front of the text, the longest that stands whole there, and how many bytes it has.
+/// The longest word that the text begins with as a whole, and how many bytes it has.
 pub(crate) fn word_at(text: &[u8]) -> Option<(Kind, usize)>
     ensures value { result ≡ whole_word words text.now }
     ensures within { IfSome result (λ word. IsLengthWithin word.1 (length text.now)) }
@@ -122,7 +122,7 @@ pub(crate) fn word_at(text: &[u8]) -> Option<(Kind, usize)>
     whole_word(WORDS.as_slice(), text)
 }
 
-/// The name at the front of the text, and how many bytes it has. A backslash stands before it.
+/// The name that the text begins with, after a backslash, and how many bytes it has.
 pub(crate) fn name_at(text: &[u8]) -> Option<(Kind, usize)>
     ensures value { result ≡ whole_word names text.now }
     ensures within { IfSome result (λ name. IsLengthWithin name.1 (length text.now)) }

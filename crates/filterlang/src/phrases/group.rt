@@ -1,4 +1,4 @@
-//! The identifiers of a group, which stand under one phrase.
+//! The identifiers of a group, under one phrase.
 
 ghost use Rattle.filterlang.specs.Phrases.{kinds};
 ghost use Rattle.filter_tree.specs.Trees.{tree_of};

@@ -27,8 +27,8 @@ pub(crate) fn plain_of(protocol: Protocol) -> Option<Plain>
     }
 }
 
-/// Whether a protocol word before these tokens is the plain primitive: neither an identifier nor `(` nor `[`
-/// nor `portrange` follows, nor, behind `ip`, `multicast`.
+/// Whether a protocol word before these tokens is the plain primitive: no identifier, `(`, `[` or `portrange` follows,
+/// nor, after `ip`, `multicast`.
 pub(crate) fn stands_alone(protocol: Protocol, rest: &[Token]) -> bool
     ensures { result ≡ stands_alone protocol (kinds rest.now) }
 {
@@ -42,7 +42,7 @@ pub(crate) fn stands_alone(protocol: Protocol, rest: &[Token]) -> bool
     }
 }
 
-/// The protocol that a phrase is alone, if it is nothing else and what follows leaves it alone.
+/// The protocol of a phrase that is only a protocol word, if what follows leaves it a primitive.
 pub(crate) fn plain_at(phrase: Phrase, rest: &[Token]) -> Option<Plain>
     ensures { result ≡ plain_at phrase (kinds rest.now) }
 {
@@ -57,7 +57,7 @@ pub(crate) fn plain_at(phrase: Phrase, rest: &[Token]) -> Option<Plain>
     }
 }
 
-/// A primitive that takes no qualifiers, with what follows it; nothing where none stands at the front, and the
+/// A primitive that takes no qualifiers, with what follows it; nothing if the tokens begin with none, and the
 /// place where one breaks off.
 pub(crate) fn unqualified_at(tokens: &[Token]) -> Result<Option<(Primitive, &[Token])>, &[Token]>
     ensures { option_map (option_map (λ found. (found.0, kinds found.1.now))) (result_ok result)
@@ -82,7 +82,7 @@ pub(crate) fn unqualified_at(tokens: &[Token]) -> Result<Option<(Primitive, &[To
     }
 }
 
-/// The primitive that `broadcast` or `multicast` behind a protocol word makes with it.
+/// The primitive that `broadcast` or `multicast` makes with the protocol word before it.
 fn broadcast_at(protocol: Protocol, tokens: &[Token]) -> Option<(Primitive, &[Token])>
     ensures { option_map (λ found. (found.0, kinds found.1.now)) result ≡ broadcast_at protocol (kinds tokens.now) }
 {

@@ -49,7 +49,7 @@ pub(crate) enum Identifier {
         address: u32,
         bits: u32,
     },
-    /// An address, `mask` and an address of so many parts.
+    /// An address, `mask` and an address of this many parts.
     Masked {
         address: u32,
         mask: u32,
@@ -64,7 +64,7 @@ pub(crate) enum Identifier {
 pub(crate) enum Misfit {
     /// It is of a kind that the type does not take.
     Identifier,
-    /// Its mask has not four parts.
+    /// Its mask has fewer than four parts.
     Mask,
     /// Its address has bits outside its mask.
     NetBits,
@@ -129,7 +129,7 @@ pub(crate) fn qualifiers_of(phrase: Phrase) -> Option<Qualifiers>
     }
 }
 
-/// The mask of so many bits.
+/// The mask with this many leading one bits.
 fn mask_of(bits: u32) -> u32
     requires { bits ≤ 32 }
     ensures { result ≡ mask_of bits }

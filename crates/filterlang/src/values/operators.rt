@@ -93,7 +93,7 @@ pub(crate) fn layer_of(protocol: Protocol) -> Option<Layer>
     }
 }
 
-/// The size of so many bytes: 1, 2 or 4.
+/// The size of this many bytes: 1, 2 or 4.
 pub(crate) fn size_of(bytes: u32) -> Option<Size>
     ensures { result ≡ size_of bytes }
 {
