@@ -172,7 +172,7 @@ fn write_signed<W: Write>(f: &mut Formatter<W>, k: Signed, form: OperandForm) ->
     }
 }
 
-/// Writes the operand of an instruction, where the next one has this place.
+/// Writes the operand of an instruction; the next one has this place.
 fn write_operand<W: Write>(
     f: &mut Formatter<W>,
     next: u64,
@@ -199,7 +199,7 @@ fn write_operand<W: Write>(
     }
 }
 
-/// Writes the same, and of a conditional jump where it goes on.
+/// Writes the operand, and for a conditional jump the places where it goes on.
 fn write_operands<W: Write>(
     f: &mut Formatter<W>,
     next: u64,
@@ -221,7 +221,7 @@ fn write_operands<W: Write>(
     }
 }
 
-/// Writes an instruction, where the next one has this place.
+/// Writes an instruction; the next one has this place.
 fn write_insn<W: Write>(f: &mut Formatter<W>, next: u64, insn: &Insn) -> fmt::Result
     requires { next ≤ 2 ^ 32 }
     ensures { WritesOnOk W.write_str_gives f.old result (insn_text next insn.now) f.new }
@@ -281,12 +281,12 @@ impl Display for PlacedInsn<'_> {
     }
 }
 
-/// A program by the names of its instructions, a line for each, to the byte as `tcpdump -d` prints it, for a person to read:
-/// `(000) ldh      [12]`. Places are counted from 0, and a jump names the places that it leads to. Numbers are signed where
-/// libpcap's are. The load of the length on the wire into the index register, for which libpcap's printer has no name, is
-/// `ldx #pktlen`.
+/// The text of a program for a person to read, to the byte as `tcpdump -d` prints it: a line for each instruction, with its
+/// name, such as `(000) ldh      [12]`. Places are counted from 0, and a jump names the places that it leads to. Numbers are
+/// signed if libpcap's are. libpcap's printer has no name for the load of the original length into the index register; here
+/// it is `ldx #pktlen`.
 ///
-/// `NoMemory` where memory for the text was refused.
+/// `NoMemory` if memory for the text was refused.
 pub fn write_image(alloc: Global, program: &Program) -> Result<Vec<u8>, NoMemory>
     ensures { IfOk result (λ text. text.items ≡ image_of program.now) }
 {

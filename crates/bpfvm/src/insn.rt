@@ -5,9 +5,9 @@
 pub struct Insn {
     /// What it does: one of the codes of [`crate::code`].
     pub code: u16,
-    /// How many instructions a conditional jump passes where its test holds.
+    /// How many instructions a conditional jump passes if its test holds.
     pub jt: u8,
-    /// How many instructions it passes where the test does not hold.
+    /// How many instructions it passes if its test fails.
     pub jf: u8,
     /// The operand: a number, an offset, a cell of the scratch memory, a jump's length, or the answer of a return.
     pub k: u32,

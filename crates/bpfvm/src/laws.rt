@@ -9,8 +9,8 @@ pub fn runs_have_one_outcome()
     ensures answers { AnswersAreUnique }
 {}
 
-/// A valid program goes on from each of its places and any registers, and answers within the instructions that are left.
-/// Its verdict is the answer that its run reaches.
+/// From each of its places and any registers a valid program answers within the instructions that are left. Its verdict is
+/// the answer that its run reaches.
 pub fn valid_programs_answer()
     ensures step { ValidProgramsGoOn }
     ensures run { ValidProgramsAnswer }

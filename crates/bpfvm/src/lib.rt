@@ -1,9 +1,9 @@
 //! The BSD packet filter's machine of 1993: its programs, their validator and their listings.
 //!
-//! A [`Program`] is a list of instructions that [`Program::new`] has found valid, or that [`read_listing`] has read;
-//! contracts see it as that list. [`run`] says how many bytes of a packet it keeps, and [`trace`] what it executes. The
-//! machine is that of McCanne and Jacobson, "The BSD Packet Filter" (1993), and of bpf(4), with the modulo and the exclusive or
-//! that libpcap has beside them. Nothing here takes memory but [`trace`], [`write_listing`] and [`write_image`].
+//! A [`Program`] is a list of instructions that [`Program::new`] found valid, or that [`read_listing`] read; contracts see
+//! it as that list. [`run`] returns how many bytes of a packet it keeps, and [`trace`] what it executes. The machine is
+//! that of McCanne and Jacobson, "The BSD Packet Filter" (1993), and of bpf(4), with libpcap's modulo and exclusive or.
+//! Only [`trace`], [`write_listing`] and [`write_image`] take memory.
 #![tactic(auto)]
 
 pub mod code;

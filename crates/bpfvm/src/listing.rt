@@ -91,7 +91,7 @@ struct Listed {
     count: usize,
 }
 
-/// Appends an instruction where there is room for it.
+/// Appends an instruction if there is room for it.
 fn keep(kept: &mut ArrayVec<Insn, MAX_INSNS>, insn: Insn)
     ensures { (insns : List Insn) → kept.old.items ≡ take MAX_INSNS insns → kept.new.items ≡ take MAX_INSNS (insns ++ insn ∷ []) }
 {
@@ -168,7 +168,7 @@ fn write_line(text: &mut String, insn: &Insn) -> Result<(), NoMemory>
 
 /// The listing of a program, with a line feed after every line and no leading zeros. [`read_listing`] reads it back.
 ///
-/// `NoMemory` where memory for the text was refused.
+/// `NoMemory` if memory for the text was refused.
 pub fn write_listing(alloc: Global, program: &Program) -> Result<Vec<u8>, NoMemory>
     ensures text { IfOk result (λ text. text.items ≡ listing_of program.now) }
     ensures read { IfOk result (λ text. IsListing text.items program.now) }

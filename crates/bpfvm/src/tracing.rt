@@ -36,9 +36,9 @@ pub struct Executed {
 /// A run of a program on a packet.
 #[derive(Debug, Drop)]
 pub struct Traced {
-    /// The instructions that were executed, in order. There is one at least: the last one ended the run.
+    /// The instructions that were executed, in order; the last one ended the run, so there is at least one.
     pub executed: Vec<Executed>,
-    /// What the program answers.
+    /// The program's answer.
     pub answer: u32,
 }
 

@@ -9,9 +9,9 @@ use std::alloc::{AllocError, Global};
 /// What one call of `bpftap check` asks for.
 #[derive(Clone, Copy)]
 pub struct CheckWords<'a> {
-    /// The expression, where no listing is given.
+    /// The expression, if no listing is given.
     pub expr: Option<&'a str>,
-    /// The path of the listing, where `-f` is given.
+    /// The path of the listing, if `-f` is given.
     pub listing: Option<&'a str>,
     /// The snapshot length of an expression's program, 1 to [`cli_text::MAX_SNAP`].
     pub snap: u32,
@@ -70,7 +70,7 @@ pub fn check_usage<'a>(alloc: Global) -> Result<Command<'a>, AllocError> {
     )
 }
 
-/// The words that were found, nothing where one is missing or the snapshot length is none.
+/// The words that were found, nothing if one is missing or the snapshot length is invalid.
 pub fn check_words<'a>(matches: &ArgMatches<'a>) -> Option<CheckWords<'a>> {
     Some(CheckWords {
         expr: matches.get_str("EXPR"),

@@ -72,7 +72,7 @@ fn by_interface<'a>(alloc: Global, words: &[&'a str]) -> Result<Vec<Vec<&'a str>
     Ok(interfaces)
 }
 
-/// The words that were found, nothing where one is missing.
+/// The words that were found, nothing if one is missing.
 pub fn run_words<'a>(
     alloc: Global,
     matches: &ArgMatches<'a>,

@@ -59,7 +59,7 @@ pub fn split_usage<'a>(alloc: Global) -> Result<Command<'a>, AllocError> {
     )
 }
 
-/// The words that were found, nothing where one is missing.
+/// The words that were found, nothing if one is missing.
 pub fn split_words<'a>(
     alloc: Global,
     matches: &ArgMatches<'a>,

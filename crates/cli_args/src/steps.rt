@@ -10,7 +10,7 @@ use std::alloc::{AllocError, Global};
 pub struct StepsWords<'a> {
     /// Whether each answer is explained.
     pub explained: bool,
-    /// The path of the picture, where `-p` is given.
+    /// The path of the picture, if `-p` is given.
     pub picture: Option<&'a str>,
     /// The path of LISTENERS.
     pub listeners: &'a str,
@@ -73,7 +73,7 @@ pub fn steps_usage<'a>(alloc: Global) -> Result<Command<'a>, AllocError> {
     )
 }
 
-/// The words that were found, nothing where one is missing.
+/// The words that were found, nothing if one is missing.
 pub fn steps_words<'a>(
     alloc: Global,
     matches: &ArgMatches<'a>,

@@ -22,7 +22,7 @@ const STANDARD_ERROR: &str = "/dev/stderr";
 /// The system follows no more symbolic links than these.
 const MAX_LINKS: usize = 40;
 
-/// The system's error where a folder may not be entered.
+/// The system's error if a folder may not be entered.
 const NO_ACCESS: i32 = 13;
 
 /// What distinguishes a file or a folder from every other one of the system.
@@ -102,7 +102,7 @@ fn id_of(metadata: &Metadata) -> FileId {
     }
 }
 
-/// Whether an error says that there is no way to where a path leads: then nothing can be opened or made there either.
+/// Whether an error says that a path leads nowhere: then nothing can be opened or made there either.
 fn is_no_way(error: &io::Error) -> bool {
     match error.kind() {
         ErrorKind::NotFound

@@ -9,7 +9,7 @@ use std::fs::Files;
 use std::io::ErrorKind;
 use std::{fs, io};
 
-/// Whether memory was refused to this program. An error that the system gave for a file has a number, also where it is that of
+/// Whether memory was refused to this program. An error that the system gave for a file has a number, even if it is that of
 /// memory (`ENOMEM`).
 fn is_refused_memory(error: &io::Error) -> bool {
     error.kind() == ErrorKind::OutOfMemory && error.raw_os_error().is_none()

@@ -1,4 +1,4 @@
-//! The filter that a command is given: an expression or the listing of a file, and what is printed where it is refused; and the plan
+//! The filter that a command is given: an expression or the listing of a file, and what is printed if it is refused; and the plan
 //! of a file of lines, each with a filter.
 #![tactic(auto)]
 

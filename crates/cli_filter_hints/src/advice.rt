@@ -280,7 +280,7 @@ fn begins_with_quote(text: &[u8]) -> bool {
     }
 }
 
-/// What helps where no token begins.
+/// What helps at a byte that begins no token.
 fn of_byte<'a>(spot: Spot<'a>) -> Advice<'a> {
     if begins_with_quote(spot.rest()) {
         Advice::Said("quotes are for the shell, not part of an expression")
@@ -339,7 +339,7 @@ fn of_proto<'a>(alloc: Global, spot: Spot<'a>) -> Found<'a> {
     of_other_word(alloc, spot)
 }
 
-/// What helps where a term begins that nothing joins to the one before it.
+/// What helps at a term that nothing joins to the one before it.
 fn of_joint<'a>(alloc: Global, spot: Spot<'a>) -> Found<'a> {
     if takes(alloc, spot.before_word(), "and ")? {
         Ok(Some(Advice::Round("write `and` or `or` before `", spot.token(), "`")))

@@ -46,7 +46,7 @@ impl<'a> Spot<'a> {
         first_word(rest.strip_prefix(b"\\").unwrap_or(rest))
     }
 
-    /// The word at the place, or the character there where no word begins.
+    /// The word at the place, or the character there if no word begins.
     pub(crate) fn token(&self) -> &'a [u8] {
         let rest = self.rest();
         let word = first_word(rest);
@@ -124,7 +124,7 @@ pub(crate) fn without_blanks(text: &[u8]) -> &[u8] {
     }
 }
 
-/// How many bytes of UTF-8 the character has that begins with this one; 1 where none does.
+/// How many bytes of UTF-8 the character has that begins with this one; 1 if none does.
 fn width_of(first: u8) -> usize {
     match first {
         0xc2..=0xdf => 2,

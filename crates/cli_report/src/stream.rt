@@ -32,7 +32,7 @@ pub struct ErrorStream<W> {
 }
 
 impl<W> ErrorStream<W> {
-    /// Hints are wanted where standard error is a terminal, or where they are asked for.
+    /// Hints are wanted if standard error is a terminal, or if they are asked for.
     pub fn new(inner: W, takes_hints: bool) -> ErrorStream<W>
         ensures { result.takes_hints ≡ takes_hints }
     {
@@ -85,7 +85,7 @@ impl HintSink for Vec<u8> {
     }
 }
 
-/// The line of a hint, where it has at most 512 bytes.
+/// The line of a hint, if it has at most 512 bytes.
 fn line_of<D: Display + Drop>(hint: D) -> io::Result<Line>
     ensures { IfOk result (λ line. IfSome (D.output hint) (λ text. line ≡ hint_line text)) }
 {

@@ -339,7 +339,7 @@ fn write_own<O: Write>(
     Ok(())
 }
 
-/// Writes the n-th step, an arrival, and all answers to it, and goes over these. Where no packet is left there are none.
+/// Writes the n-th step, an arrival, and all answers to it, and goes over these. If no packet is left, there are none.
 fn write_arrive<O: Write>(
     n: usize,
     packets: &[PlacedPacket],
@@ -397,7 +397,7 @@ fn packets_after(step: Step, packets: &[PlacedPacket]) -> &[PlacedPacket]
 /// from 1, as the lines of SCRIPT. `all` are the answers of [`answer_cursors`], of a trace of these steps and this playlist. `line` is that
 /// of [`line_for`], whose room is meant to be enough for all of them: that it takes no memory more is not proved.
 ///
-/// Where it fails, `out` took a beginning of the text and no more.
+/// If it fails, `out` took a prefix of the text and no more.
 pub fn write_answers<O: Write>(
     steps: &[Step],
     playlist: &[PlacedPacket],

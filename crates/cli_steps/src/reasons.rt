@@ -23,7 +23,7 @@ pub struct ListenerState {
 }
 
 impl ListenerState {
-    /// How a listener of this capacity stood before it answered so, where its hold was filled last at this step.
+    /// The state of a listener of this capacity before it answered so; its hold was filled last at this step.
     pub fn before(answered: &Answered, held_since: usize, capacity: usize) -> ListenerState
         ensures { result ≡ state_before answered.now held_since capacity }
     {

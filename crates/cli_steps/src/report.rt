@@ -105,7 +105,7 @@ fn write_report<O: Write>(l: usize, report: &Report, line: &mut Line, out: &mut 
 }
 
 /// Writes the reports of all listeners, in order, numbered from 0: a listener's counts, its batches, numbered from 0, with a line
-/// for each message, and what it holds. Where that fails, `out` took a beginning of the text and no more. It takes no memory.
+/// for each message, and what it holds. If that fails, `out` took a prefix of the text and no more. It takes no memory.
 pub fn write_reports<O: Write>(reports: &[Report], out: &mut O) -> io::Result<()>
     ensures { Takes (O.contents out.old) (O.contents out.new) result (printed_reports reports.now) }
 {

@@ -46,7 +46,7 @@ impl Line {
         self.text.as_str().as_bytes()
     }
 
-    /// Adds a value, as `write!` and `writeln!` do. Where there is no room for it the error is `WriteZero`.
+    /// Adds a value, as `write!` and `writeln!` do. If there is no room for it, the error is `WriteZero`.
     pub fn write_fmt<D: Display + Drop>(&mut self, value: D) -> io::Result<()>
         ensures { OnOk result (AppendsText self.old self.new (D.output value)) }
     {

@@ -22,7 +22,7 @@ pub struct Outcome {
     pub told: io::Result<()>,
 }
 
-/// The line of a fault, where it has at most 512 bytes.
+/// The line of a fault, if it has at most 512 bytes.
 fn line_of<D: Display + Drop>(fault: D) -> io::Result<Line>
     ensures { IfOk result (λ line. IfSome (D.output fault) (λ text. line ≡ told_line text)) }
 {

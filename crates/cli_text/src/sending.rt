@@ -8,7 +8,7 @@ use std::io::{ErrorKind, Write};
 /// How many interrupted writes a call goes over.
 const RETRIES: u32 = 64;
 
-/// Sends a text. Where that fails, the writer took a beginning of the text and no more.
+/// Sends a text. If that fails, the writer took a prefix of the text and no more.
 ///
 /// Up to 64 writes that are interrupted are tried again. A write of no bytes is the error `WriteZero`.
 pub fn send<W: Write>(text: &[u8], out: &mut W) -> io::Result<()>

@@ -10,7 +10,7 @@ use filter_meaning::{Verdict, evaluate};
 use filter_tree::Expr;
 
 impl AskedPart<'_> {
-    /// Its answer, turned where it is negated: of the one that decides, what the whole expression answers.
+    /// Its answer, turned if it is negated. For the part that decides this is the answer of the whole expression.
     pub fn answer(&self) -> Verdict
         ensures { result ≡ turned self.now.negated self.now.verdict }
     {

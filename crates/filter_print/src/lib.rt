@@ -37,7 +37,7 @@ impl Display for Canonical<'_> {
     }
 }
 
-/// Which parentheses are written: all, where no more signs are open within one another then than are read.
+/// Which parentheses are written: all, if no more signs are open within one another then than can be read.
 fn parentheses_of(expr: &Expr) -> Parentheses
     ensures { result ≡ parentheses_of (tree_of expr.now) }
 {

@@ -69,14 +69,14 @@ fn size_text(size: Size) -> &'static str
     }
 }
 
-/// Opens a parenthesis, where one is wanted.
+/// Opens a parenthesis, if one is needed.
 pub(crate) fn write_open<W: Write>(f: &mut Formatter<W>, enclosed: bool) -> fmt::Result
     ensures { WritesOnOk W.write_str_gives f.old result (opened enclosed) f.new }
 {
     f.write_str(if enclosed { "(" } else { "" })
 }
 
-/// Closes a parenthesis, where one was opened.
+/// Closes a parenthesis, if one was opened.
 pub(crate) fn write_close<W: Write>(f: &mut Formatter<W>, enclosed: bool) -> fmt::Result
     ensures { WritesOnOk W.write_str_gives f.old result (closed enclosed) f.new }
 {

@@ -6,7 +6,7 @@ use thiserror::Error;
 #[derive(Clone, Copy, Debug, PartialEq, Eq, Error)]
 pub enum Refusal {
     /// More than 512 instructions are written for the expression, before those that nothing reaches are taken out. It comes only
-    /// where the expression's weight is above 500.
+    /// if the expression's weight is above 500.
     #[error("TooLong")]
     TooLong,
     /// A relation needs more than 16 cells of the scratch memory.

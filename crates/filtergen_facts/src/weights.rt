@@ -6,7 +6,7 @@ ghost use Rattle.filtergen_facts.specs.Weights.{value_weight, weight, value_need
 
 use filter_tree::{Expr, Value};
 
-/// An expression up to this weight compiles, where its need is not too high.
+/// An expression up to this weight compiles, if its need is not too high.
 pub const MAX_WEIGHT: u64 = 500;
 
 /// The most cells of the scratch memory that an expression may need.

@@ -25,7 +25,7 @@ pub(crate) struct Cursor<'a> {
 }
 
 impl<'a> Cursor<'a> {
-    /// Where these tokens begin, which are the last ones of the text.
+    /// The place of these tokens, which are the last ones of the text.
     pub fn place_of(&self, tokens: &[Token]) -> usize {
         match tokens {
             [token, ..] => token.span.start,
@@ -38,7 +38,7 @@ impl<'a> Cursor<'a> {
         self.place_of(self.rest)
     }
 
-    /// No expression goes on where these tokens begin, which are the last ones of the text.
+    /// The fault `Syntax` at the place of these tokens, which are the last ones of the text.
     pub fn syntax_at(&self, tokens: &[Token]) -> Fault
         ensures { is_misreading result ≡ true }
     {
@@ -52,7 +52,7 @@ impl<'a> Cursor<'a> {
         self.syntax_at(self.rest)
     }
 
-    /// `NoQualifier` where an identifier is next, which has nothing to inherit; else `Syntax`.
+    /// `NoQualifier` if an identifier is next, which has nothing to inherit; else `Syntax`.
     pub fn no_qualifier(&self) -> Fault
         ensures { is_misreading result ≡ true }
     {

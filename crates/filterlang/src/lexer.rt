@@ -134,9 +134,9 @@ fn tokens_of(alloc: Global, text: &[u8]) -> Result<Vec<Token>, Fault>
 /// The tokens of a filter expression, as pcap-filter(7) spells words, numbers and addresses, in the profile of this
 /// project: what each token is, with its span in bytes. The spans are in order.
 ///
-/// `TextTooLong` comes exactly where the text has more than 8,192 bytes. Of every other text, unless memory was
-/// refused (`NoMemory`), the first place where no token begins, if there is one, is named with its cause: `BadByte`,
-/// `BadWord` or `BadNumber`. Else the answer is the text's one list of tokens.
+/// `TextTooLong` comes if and only if the text has more than 8,192 bytes. In any other text the first place where no
+/// token begins, if there is one, is named with its cause: `BadByte`, `BadWord` or `BadNumber`. `NoMemory` can come
+/// instead. Else the result is the text's one list of tokens.
 pub fn lex(alloc: Global, text: &str) -> Result<Vec<Token>, Fault>
     // The tokens are the text's, and no others are.
     ensures tokens { IfOk result (λ found. Lexes text.now 0 found.items) }

@@ -10,7 +10,7 @@ use crate::phrases::next;
 use crate::token::{Kind, Token};
 use filter_tree::Operator;
 
-/// What the first token of a term says of it, where it is no relation.
+/// What the first token of a term says of it, if it is no relation.
 #[derive(Clone, Copy)]
 pub(crate) enum Beginning {
     Not,
@@ -29,7 +29,7 @@ pub(crate) fn look_ahead(tokens: &[Token]) -> Beginning
     }
 }
 
-/// What the first token of a value says of it, where it has no operators but within parentheses and brackets.
+/// What the first token of a value says of it, if it has operators only within parentheses and brackets.
 #[derive(Clone, Copy)]
 pub(crate) enum Opening {
     Minus,

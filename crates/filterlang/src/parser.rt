@@ -60,7 +60,7 @@ impl<'a> Parser<'a> {
         Ok(expr)
     }
 
-    /// A term: a relation, where its first tokens show one.
+    /// A term: a relation, if its first tokens show one.
     #[tactic(auto, using(crate::proofs::Turns::term_related))]
     #[cycle(expr)]
     fn term(&mut self, alloc: Global, levels: usize) -> Result<Expr, Fault>
@@ -214,16 +214,16 @@ fn tree(alloc: Global, tokens: &[Token], end: usize) -> Result<Expr, Fault>
     Ok(expr)
 }
 
-/// The tree of a filter expression, as pcap-filter(7) reads it, in the profile of this project: `and` and `or`
-/// bind alike, from the left, and an identifier without a phrase takes the qualifiers of the nearest primitive
-/// to its left. The operators of arithmetic bind as in C, and no divisor is written as 0. The empty text is the tree
-/// that accepts every packet.
+/// Reads a filter expression as pcap-filter(7) does, in the profile of this project, and returns its tree. `and` and `or`
+/// bind alike, from the left. An identifier without a phrase takes the qualifiers of the nearest primitive to its left.
+/// The operators of arithmetic bind as in C, and no divisor is written as 0. The empty text is the tree that accepts
+/// every packet.
 ///
-/// The tree reads the text and no other one does. `TextTooLong`, `BadByte`, `BadWord` and `BadNumber` come as
-/// from [`lex`](crate::lexer::lex). Any other fault comes only where no tree reads the text, but for want of
-/// memory (`NoMemory`). It has the byte of its place. Of several the one with the least place is named, at one
-/// place the first of `Syntax`, `NoQualifier`, `BadQualifier`, `BadIdentifier`, `NetBits`, `OutOfRange`,
-/// `DivideByZero` and `TooNested`; that is tested and not proved.
+/// The tree reads the text, and no other tree does. `TextTooLong`, `BadByte`, `BadWord` and `BadNumber` come as from
+/// [`lex`](crate::lexer::lex). `NoMemory` comes if memory was refused. Any other fault means that no tree reads the text,
+/// and has the byte of its place. If several apply, the one with the least place is named; at one place the first of
+/// `Syntax`, `NoQualifier`, `BadQualifier`, `BadIdentifier`, `NetBits`, `OutOfRange`, `DivideByZero` and `TooNested`.
+/// That order is tested and not proved.
 pub fn parse(alloc: Global, text: &str) -> Result<Expr, Fault>
     // The tree reads the text, and no other tree does.
     ensures reads { IfOk result (λ expr. ReadsAs text.now (tree_of expr)) }

@@ -46,7 +46,7 @@ fn type_at(tokens: &[Token]) -> (Option<TypeWord>, &[Token])
     }
 }
 
-/// The direction of two words and what joins them, where they are one.
+/// The direction of two words and what joins them, if they are one.
 fn join_sides(first: Side, joint: Joint, second: Side) -> Option<Direction>
     ensures { result ≡ joined first joint second }
 {
@@ -126,7 +126,7 @@ pub(crate) fn is_written(phrase: Phrase) -> bool
     phrase.protocol.is_some() || phrase.direction.is_some() || phrase.type_word.is_some()
 }
 
-/// The number at the front and what follows, or the place where there is none.
+/// The number at the front and what follows, or the place of the token that is none.
 pub(crate) fn bare_number_at(tokens: &[Token]) -> Result<(u32, &[Token]), &[Token]>
     ensures { bare_number_at (kinds tokens.now) ≡ option_map (λ found. (found.0, kinds found.1.now)) (result_ok result) }
 {
@@ -136,7 +136,7 @@ pub(crate) fn bare_number_at(tokens: &[Token]) -> Result<(u32, &[Token]), &[Toke
     }
 }
 
-/// The dotted address at the front with its parts and what follows, or the place where there is none.
+/// The dotted address at the front with its parts and what follows, or the place of the token that is none.
 fn address_at(tokens: &[Token]) -> Result<(u32, Parts, &[Token]), &[Token]>
     ensures { address_at (kinds tokens.now)
         ≡ option_map (λ found. (found.0, found.1, kinds found.2.now)) (result_ok result) }
@@ -210,7 +210,7 @@ pub(crate) fn joint_at(tokens: &[Token]) -> Option<(Joint, &[Token])>
     }
 }
 
-/// What follows the `-` at the front, or the place where there is none.
+/// What follows the `-` at the front, or the place of the token that is none.
 pub(crate) fn minus_at(tokens: &[Token]) -> Result<((), &[Token]), &[Token]>
     ensures { minus_at (kinds tokens.now) ≡ option_map (λ found. (found.0, kinds found.1.now)) (result_ok result) }
 {
@@ -220,7 +220,7 @@ pub(crate) fn minus_at(tokens: &[Token]) -> Result<((), &[Token]), &[Token]>
     }
 }
 
-/// What follows the `)` at the front, or the place where there is none.
+/// What follows the `)` at the front, or the place of the token that is none.
 pub(crate) fn close_at(tokens: &[Token]) -> Result<((), &[Token]), &[Token]>
     ensures { close_at (kinds tokens.now) ≡ option_map (λ found. (found.0, kinds found.1.now)) (result_ok result) }
 {

@@ -19,7 +19,7 @@ use crate::values::operators::{LOOSEST, combine, layer_of, operator_at, size_of}
 use filter_tree::{Comparison, Expr, Layer, Size, Value};
 use std::alloc::Global;
 
-/// The comparison at the front and what follows, or the place where there is none.
+/// The comparison at the front and what follows, or the place of the token that is none.
 fn comparison_at(tokens: &[Token]) -> Result<(Comparison, &[Token]), &[Token]>
     ensures { comparison_at (kinds tokens.now) ≡ option_map (λ found. (found.0, kinds found.1.now)) (result_ok result) }
 {
@@ -29,7 +29,7 @@ fn comparison_at(tokens: &[Token]) -> Result<(Comparison, &[Token]), &[Token]>
     }
 }
 
-/// What follows the `]` at the front, or the place where there is none.
+/// What follows the `]` at the front, or the place of the token that is none.
 fn close_bracket_at(tokens: &[Token]) -> Result<((), &[Token]), &[Token]>
     ensures { close_bracket_at (kinds tokens.now) ≡ option_map (λ found. (found.0, kinds found.1.now)) (result_ok result) }
 {

@@ -164,8 +164,8 @@ impl Buffer {
         Records::of(self.bytes.as_slice())
     }
 
-    /// The bytes of its records: of each its fields as numbers in little-endian order (seconds, nanoseconds, kept length and
-    /// length on the wire of 4 bytes, place of 8, capture of 4, and 4 zero bytes), its data, and zero bytes up to a
+    /// The bytes of its records. Each has its fields as little-endian numbers (seconds, nanoseconds, kept length and
+    /// original length of 4 bytes, place of 8, capture of 4, and 4 zero bytes), its data, and zero bytes up to a
     /// multiple of 8.
     pub fn bytes(&self) -> &[u8]
         ensures { result.now ≡ records_text self.now.messages }

@@ -15,7 +15,7 @@ pub fn immediate()
     ensures { ImmediateIsFlushed }
 {}
 
-/// A run goes on where another one ended.
+/// A run goes on from where another one ended.
 pub fn runs()
     ensures state { RunsAppend }
     ensures legal { LegalAppends }
@@ -45,8 +45,8 @@ pub fn reads()
     ensures { ReadsCommute }
 {}
 
-/// What was read in a run and then what pends is what looking back keeps, and the counts are those of looking back, where
-/// each message fits the capacity.
+/// If each message fits the capacity, what was read in a run and then what pends is what looking back keeps, and the counts
+/// are those of looking back.
 pub fn looking_back()
     ensures { RunsAreKept }
 {}

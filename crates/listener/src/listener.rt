@@ -51,8 +51,8 @@ impl Model for Listener {
 
 /// Tests the numbers that a listener is opened with, and takes no memory.
 ///
-/// [`OpenFault::BadSnap`] comes exactly where the snapshot length is not 1 to 262,144; else [`OpenFault::BadCapacity`]
-/// exactly where the capacity is below the bytes of a record with a snapshot length of data (32, and the data up to a
+/// [`OpenFault::BadSnap`] comes if and only if the snapshot length is not 1 to 262,144; else [`OpenFault::BadCapacity`]
+/// if and only if the capacity is below the bytes of a record with a snapshot length of data (32, and the data up to a
 /// multiple of 8) or above 1,048,576.
 pub fn check_range(snap: u32, capacity: usize) -> Result<(), OpenFault>
     ensures in_range { OnOk result (InRange snap capacity) }
@@ -145,8 +145,8 @@ impl Listener {
 
     /// A packet arrives, from a capture and a place there.
     ///
-    /// Where the program accepts it, the least of the snapshot length, the program's answer and the captured length is
-    /// kept of it. It takes no memory, and copies these bytes once where it stores them.
+    /// If the program accepts it, the least of the snapshot length, the program's answer and the captured length is
+    /// kept of it. It takes no memory, and copies these bytes once if it stores them.
     pub fn arrive(&mut self, capture: u32, place: u64, packet: &PacketRef<'_>) -> Fed
         requires { self.old.list.received < 2 ^ 64 - 1 }
         ensures { TakesStep self.old (arrived (seen_by self.old (arrival capture place packet.now)) result) self.new }
@@ -178,7 +178,7 @@ impl Listener {
         Fed::Rotated
     }
 
-    /// The bytes of the record that a packet takes in a buffer, or would take; nothing where the program rejects it.
+    /// The bytes of the record that a packet takes in a buffer, or would take; nothing if the program rejects it.
     ///
     /// The program is asked once more, and nothing changes.
     pub fn record_size(&self, packet: &PacketRef<'_>) -> Option<usize>
@@ -202,8 +202,8 @@ impl Listener {
         true
     }
 
-    /// Takes the whole hold, and leaves the empty buffer that was brought, which has the listener's capacity, in its place.
-    /// Where there is nothing to read, that buffer is given back.
+    /// Takes the whole hold and puts the given empty buffer, of the listener's capacity, in its place. If there is nothing to
+    /// read, that buffer is given back.
     pub fn read(&mut self, empty: Buffer) -> Read
         requires { empty ≡ filled self.old.terms.capacity [] }
         ensures full { (buffer : _) → result ≡ Read.Full buffer →

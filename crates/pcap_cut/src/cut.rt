@@ -52,7 +52,7 @@ pub struct CutEnd<R, W> {
     pub sink: W,
     /// How many bytes the sink took in this call.
     pub sent: u64,
-    /// How many packets the capture has, and how many of these the program accepts, where it was read to its end or to a torn
+    /// How many packets the capture has, and how many of these the program accepts, if it was read to its end or to a torn
     /// or bad record, and all was written.
     pub tally: Tally,
     pub end: End,
@@ -181,7 +181,7 @@ fn copy_accepted<R: Source, W: Sink>(
     loop {
         match reader.advance() {
             Ok(true) => {
-                // Where the sink breaks, what was read so far begins what the capture holds.
+                // If the sink breaks, what was read so far begins what the capture holds.
                 given_so_far(reader);
                 match put_accepted(writer, &reader.packet(), program, snap, &mut tally) {
                     Ok(()) => {}

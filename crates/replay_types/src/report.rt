@@ -20,7 +20,7 @@ pub struct ListenerReport<W> {
     pub sink: W,
     /// How many bytes the sink took.
     pub sent: u64,
-    /// How many packets arrived before the pair was found closed: all, where nothing closed it.
+    /// How many packets arrived before the pair was found closed: all, if nothing closed it.
     pub received: u64,
     /// How many of these its filter accepted.
     pub matched: u64,

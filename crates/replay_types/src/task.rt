@@ -7,7 +7,7 @@ use savefile::{Order, Unit};
 /// One listener of an interface, and the savefile that its packets are written to.
 #[derive(Drop)]
 pub struct Task<W> {
-    /// The filter: a packet is accepted where its answer is not 0.
+    /// The filter: a packet is accepted if its answer is not 0.
     pub program: Program,
     /// At most this many bytes of a packet are kept, 1 to 262,144; the written header has this number too.
     pub snap: u32,
@@ -15,7 +15,7 @@ pub struct Task<W> {
     pub capacity: usize,
     /// When the store becomes the hold.
     pub mode: Mode,
-    /// After arrival n, from 0, the listener is flushed where this is not 0 and divides n + 1.
+    /// After arrival n, from 0, the listener is flushed if this is not 0 and divides n + 1.
     pub flush_every: u32,
     /// How many buffers go round between the two threads of the listener, 1 to 64.
     pub spares: usize,

@@ -9,7 +9,7 @@ use Rattle.savefile.specs.Reader.{HasGiven, Reading, WasBegun}
 use Rattle.savefile.specs.Savefile.{encoded, in_units, Holds, IsSavefile, IsText, IsWritable, RefusesHeader}
 use Rattle.savefile.specs.Writer.{IsBeginning}
 
--- A text is a savefile in one way: its header is one, and as many packets as it is read as, they are the same.
+-- A text is a savefile in one way: two readings of it with equally many packets have the same header, packets and rest.
 abbrev pub ReadsInOneWay : Type 0
 ReadsInOneWay =
     (text : List ℕ) (order order' : Order) (unit unit' : TimeUnit) (snap snap' : ℕ) (packets packets' : List Packet) (rest rest' : List ℕ)

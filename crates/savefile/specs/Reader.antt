@@ -10,7 +10,7 @@ use Rattle.savefile.specs.Savefile.{Holds, IsSavefile, NoRecord, RefusesHeader}
 -- ---- A reader as contracts see it
 
 -- A reader: its source; the header of its savefile; how many packets it has given, and the one that it lends; the bytes that it
--- took from the source ahead of the packets to come; whether it has met the complete end; and whether it has reported a fault
+-- took from the source ahead of the packets to come; whether it has met the clean end; and whether it has reported a fault
 -- after which it cannot read.
 pub record Reading (R : Type 0) : Type 0 where
   pub source : R

@@ -19,7 +19,7 @@ pub trait Source {
     ghost failures: { Self → ℕ };
 
     /// Reads the next bytes into the front of a slice, and answers how many. Into a slice that is not
-    /// empty, 0 is the end of input. [`Broken`] comes where the device failed: no byte was moved, and
+    /// empty, 0 is the end of input. [`Broken`] comes if the device failed: no byte was moved, and
     /// the failures grew by one.
     fn read(&mut self, to: &mut [u8]) -> Result<usize, Broken>
         ensures count { IfOk result (λ n. n ≤ length to.new) }
@@ -36,7 +36,7 @@ pub trait Sink {
     ghost failures: { Self → ℕ };
 
     /// Takes bytes from the front of a slice, at least one if there is one, and answers how many.
-    /// [`Broken`] comes where the device failed: no byte was moved, and the failures grew by one.
+    /// [`Broken`] comes if the device failed: no byte was moved, and the failures grew by one.
     fn write(&mut self, from: &[u8]) -> Result<usize, Broken>
         ensures count { IfOk result (λ n. n ≤ length from.now) }
         ensures progress { IfOk result (λ n. 0 < length from.now → 0 < n) }

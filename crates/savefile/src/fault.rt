@@ -7,8 +7,8 @@ use crate::device::Broken;
 use std::alloc::{AllocError, AllocFailed};
 use thiserror::Error;
 
-/// What kept a savefile from being read or written. Its text is its name, and then its place where
-/// it has one: a place counts the records of the savefile from 0.
+/// Why a savefile could not be read or written. It prints as its name, and then its place if it has one: the number of a
+/// record, counted from 0.
 #[derive(Clone, Copy, Debug, PartialEq, Eq, Error)]
 pub enum Fault {
     /// The text has fewer than the 24 bytes of a file header.

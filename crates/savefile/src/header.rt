@@ -117,7 +117,7 @@ fn unit_of(order: Order, text: &[u8]) -> Option<Unit>
     }
 }
 
-/// The snapshot length, where the version and the link type are right.
+/// The snapshot length, if the version and the link type are right.
 fn snap_of(order: Order, text: &[u8]) -> Result<u32, Fault>
     requires { 24 ≤ length text.now }
     ensures ok { IfOk result (λ snap. HasVersion order text.now × (field order text.now 20 4 ≡ 1)
@@ -136,7 +136,7 @@ fn snap_of(order: Order, text: &[u8]) -> Result<u32, Fault>
 
 /// The header of the savefile that a text begins with, whatever follows it.
 ///
-/// The error is [`Fault::ShortHeader`], [`Fault::NotSavefile`], [`Fault::Version`] or [`Fault::LinkType`], exactly where that
+/// The error is [`Fault::ShortHeader`], [`Fault::NotSavefile`], [`Fault::Version`] or [`Fault::LinkType`], if and only if that
 /// is the first check of the header to fail. No memory is taken.
 pub fn header_of(text: &[u8]) -> Result<Header, Fault>
     ensures ok { IfOk result (λ header. IsHeader header.order text.now header.unit header.snap) }

@@ -5,7 +5,7 @@ ghost use Rattle.savefile.specs.Laws.{ReadsInOneWay, HoldsOneList, RefusesForOne
 use crate::device::Source;
 use crate::reader::Reader;
 
-/// A text is a savefile in one way: its header is one, and as many packets as it is read as, they are the same.
+/// A text is a savefile in one way: two readings of it with equally many packets have the same header, packets and rest.
 pub fn one_reading()
     ensures { ReadsInOneWay }
 {}
@@ -26,7 +26,7 @@ pub fn every_text()
     ensures { IsRefusedOrHolds }
 {}
 
-/// A savefile has no fault exactly where its records end with the text.
+/// A savefile has no fault if and only if its records end with the text.
 pub fn clean_end()
     ensures { EndsCleanly }
 {}

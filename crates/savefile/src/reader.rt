@@ -73,7 +73,7 @@ fn read_header<R: Source>(ahead: &mut Ahead<R>) -> Result<Header, Fault>
     Ok(header)
 }
 
-/// Passes the record that comes next, at this place, whose bytes are then lent; `false` where nothing is left.
+/// Passes the record that comes next, at this place, whose bytes are then lent; `false` if nothing is left.
 #[inline(always)]
 fn read_record<R: Source>(
     ahead: &mut Ahead<R>,
@@ -108,8 +108,8 @@ fn read_record<R: Source>(
 impl<R: Source> Reader<R> {
     /// Reads the header of a savefile.
     ///
-    /// The error is [`Fault::ShortHeader`], [`Fault::NotSavefile`], [`Fault::Version`] or [`Fault::LinkType`] where
-    /// that is the first check of the header to fail; [`Fault::Device`] exactly where the source failed in this call;
+    /// The error is [`Fault::ShortHeader`], [`Fault::NotSavefile`], [`Fault::Version`] or [`Fault::LinkType`] if
+    /// that is the first check of the header to fail; [`Fault::Device`] if and only if the source failed in this call;
     /// or [`Fault::NoMemory`], and then the source was not read. The source comes back with it; bytes that were read
     /// are lost, and after [`Fault::Device`] these are fewer than the header's 24.
     pub fn open(alloc: Global, source: R) -> Result<Reader<R>, (R, Fault)>
@@ -121,7 +121,7 @@ impl<R: Source> Reader<R> {
         ensures device { MatchResult result (λ reader. R.failures reader.source ≡ R.failures source)
             (λ back. (back.1 ≡ Fault.Device) ↔ (R.failures back.0 ≢ R.failures source)) }
 
-        // The next bytes of the source are taken: none without memory, and no whole header where the source failed.
+        // The next bytes of the source are taken: none without memory, and no whole header if the source failed.
         ensures unread { IfErr result (λ back. back.1 ≡ Fault.NoMemory → back.0 ≡ source) }
         ensures taken { MatchResult result
             (λ reader. (bytes : List ℕ) × Consumes (R.left source) (R.left reader.source) bytes)
@@ -150,7 +150,7 @@ impl<R: Source> Reader<R> {
         self.header
     }
 
-    /// Goes on to the next packet, which [`Reader::packet`] then lends. `false` is the complete end, and repeats.
+    /// Goes on to the next packet, which [`Reader::packet`] then lends. `false` is the clean end, and repeats.
     ///
     /// A torn or bad record ends the packets: [`Fault::TornRecord`], [`Fault::BadFraction`] or [`Fault::TooLong`], with
     /// its place, comes after all packets before it. [`Fault::Device`] comes if and only if the source failed in this
@@ -179,7 +179,7 @@ impl<R: Source> Reader<R> {
         ensures leaves { Leaves self.old self.new result }
         ensures header { self.new.header ≡ self.old.header }
 
-        // The next bytes of the source are taken, and none where the next record was taken whole already.
+        // The next bytes of the source are taken, and none if the next record was taken whole already.
         ensures taken { (bytes : List ℕ) × Consumes (R.left self.old.source) (R.left self.new.source) bytes }
         ensures idle { (p : Packet) (after : List ℕ) →
             IsRecord self.old.header.order self.old.header.unit self.old.ahead p after →
@@ -225,8 +225,8 @@ impl<R: Source> Reader<R> {
 
     /// Gives the next packet, with a copy of its bytes. `None` is the clean end, and repeats.
     ///
-    /// The faults are those of [`Reader::advance`], and [`Fault::NoMemory`] where memory for the copy was refused; after
-    /// that one too every call answers [`Fault::Failed`].
+    /// The faults are those of [`Reader::advance`], and [`Fault::NoMemory`] if memory for the copy was refused; after
+    /// that one too every call returns [`Fault::Failed`].
     pub fn next(&mut self, alloc: Global) -> Result<Option<Packet>, Fault>
         // One packet more, the end, or why there is none. What was given so far begins what the text holds, whatever
         // comes. Each packet may be written.
@@ -247,7 +247,7 @@ impl<R: Source> Reader<R> {
         ensures leaves { LeavesNext self.old self.new result }
         ensures header { self.new.header ≡ self.old.header }
 
-        // The next bytes of the source are taken, and none where the next record was taken whole already.
+        // The next bytes of the source are taken, and none if the next record was taken whole already.
         ensures taken { (bytes : List ℕ) × Consumes (R.left self.old.source) (R.left self.new.source) bytes }
         ensures idle { (p : Packet) (after : List ℕ) →
             IsRecord self.old.header.order self.old.header.unit self.old.ahead p after →

@@ -25,7 +25,7 @@ pub fn read_all(alloc: Global, text: &[u8]) -> Result<(Header, Vec<Packet>, Opti
     ensures refused { (fault : Fault) → RefusesHeader text.now fault → result ≡ Err fault }
     ensures only { IfErr result (λ fault. RefusesHeader text.now fault ⊎ (fault ≡ Fault.NoMemory)) }
 {
-    // The header is refused for what it is, also where there is no memory.
+    // The header is refused for what it is, even if there is no memory.
     let _header = header_of(text)?;
     let mut reader = match Reader::open(alloc, text) {
         Ok(reader) => reader,

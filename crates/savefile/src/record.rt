@@ -30,7 +30,7 @@ pub const MAX_SNAP: u32 = 262_144;
 const _: () = prove!(MAX_SNAP == 262_144);
 
 impl RecordHeader {
-    /// That of no packet.
+    /// The header of no packet.
     pub(crate) const EMPTY: RecordHeader = RecordHeader {
         sec: 0,
         nanos: 0,
@@ -50,7 +50,7 @@ impl RecordHeader {
     ) -> Result<(), Fault>
         requires { 0 < length text.now }
         ensures ok { OnOk result (IsRecordHeader order unit text.now self.new) }
-        // Whatever follows the text; where it ends inside the header, nothing does.
+        // Whatever follows the text; if it ends inside the header, nothing does.
         ensures err { IfErr result (λ fault. (more : List _) → (16 ≤ length text.now) ⊎ (more ≡ []) →
             first_fault order unit place (text.now ++ more) ≡ Some fault) }
     {
@@ -87,7 +87,7 @@ impl RecordHeader {
     }
 }
 
-/// The packet of the record that a text begins with, whose bytes it lends; `None` exactly if the text is empty. The record takes
+/// The packet of the record that a text begins with, whose bytes it lends; `None` if and only if the text is empty. The record takes
 /// [`RECORD_HEADER_LEN`] bytes and then those that were captured.
 ///
 /// `place` counts the record in its savefile, from 0. The error is [`Fault::TornRecord`], [`Fault::BadFraction`] or

@@ -97,13 +97,12 @@ pub fn record_header(
 
 /// Writes a savefile into a sink.
 ///
-/// Until a device fault the sink took exactly the written text of the packets whose `put` answered Ok,
-/// and [`Writer::sent`] is its length. After one it took exactly `sent` bytes, a beginning of the written
-/// text of those packets and the one whose `put` answered [`Fault::Device`]: those packets whole, and of this
-/// one not the whole.
+/// Until a device fault the sink took the written text of the packets whose `put` returned `Ok`, and no more;
+/// [`Writer::sent`] is its length. After a device fault it took exactly `sent` bytes: the packets whose `put` returned `Ok`,
+/// whole, and a prefix, not the whole, of the one whose `put` returned [`Fault::Device`].
 ///
-/// A packet is sent in two writes, its record's header and then its bytes (in one where it has none, and in more where
-/// the sink takes fewer than it is given). Where each write is a system call, give the writer a sink that gathers them.
+/// A packet is sent in two writes, its record's header and then its bytes (in one if it has none, and in more if
+/// the sink takes fewer than it is given). If each write is a system call, give the writer a sink that gathers them.
 ///
 /// Contracts see its sink, the byte order and the unit of time that it writes, how many bytes it has sent, and whether the
 /// device failed it.
@@ -125,8 +124,8 @@ impl<W> Model for Writer<W> {
 }
 
 impl<W: Sink> Writer<W> {
-    /// Begins a savefile: writes its header. [`Fault::Device`] comes exactly where the sink failed in
-    /// this call. Then the sink took exactly [`Writer::sent`] bytes, a beginning of the header and not the
+    /// Begins a savefile: writes its header. [`Fault::Device`] comes if and only if the sink failed in
+    /// this call. Then the sink took exactly [`Writer::sent`] bytes, a prefix of the header and not the
     /// whole, and the writer has failed.
     pub fn open(sink: W, order: Order, unit: Unit, snap: u32) -> (Writer<W>, Result<(), Fault>)
         ensures ok { OnOk result.1 (HasWritten W.taken (W.taken sink) order unit snap [] result.0) }
@@ -211,13 +210,13 @@ impl<W: Sink> Writer<W> {
         self.send(bytes)
     }
 
-    /// Writes one packet: its time, its length on the wire, and the bytes that were captured of it.
+    /// Writes one packet: its time, its original length, and the bytes that were captured of it.
     ///
     /// `nanos` is below 1,000,000,000, and `bytes` has at most [`MAX_SNAP`](crate::MAX_SNAP) bytes.
     /// With microseconds the nanoseconds are divided by 1,000 and the rest is dropped.
-    /// [`Fault::Device`] comes exactly where the sink failed in this call; from then on the writer has
-    /// failed, and every `put` answers [`Fault::Failed`] and does nothing. [`Fault::CountFull`] comes
-    /// exactly where the record would take [`Writer::sent`] past 2^64 - 1; it does nothing, and the writer
+    /// [`Fault::Device`] comes if and only if the sink failed in this call; from then on the writer has
+    /// failed, and every `put` returns [`Fault::Failed`] and does nothing. [`Fault::CountFull`] comes
+    /// if and only if the record would take [`Writer::sent`] past 2^64 - 1; it does nothing, and the writer
     /// can be used on. No memory is taken.
     #[inline(always)]
     pub fn put(&mut self, sec: u32, nanos: u32, len: u32, bytes: &[u8]) -> Result<(), Fault>

@@ -12,13 +12,13 @@ pub struct Column<'a> {
     pub step: Step,
     /// The packet that an arrival took.
     pub packet: Option<&'a PlacedPacket>,
-    /// What the listener answered, where the step concerns it.
+    /// What the listener answered, if the step concerns it.
     pub answer: Option<Answer>,
     /// The bytes of the store before the step.
     pub load: u64,
     /// The bytes of the hold before the step.
     pub hold_load: u64,
-    /// The bytes of the record that the packet takes, or would take; 0 where the filter rejects it.
+    /// The bytes of the record that the packet takes, or would take; 0 if the filter rejects it.
     pub more: u64,
 }
 

@@ -26,7 +26,7 @@ pub fn characters(lanes: u64) -> u64 {
     page_width(lanes).saturating_sub(2 * INDENT) / CHARACTER
 }
 
-/// The width of a step: wide where there are few.
+/// The width of a step: wide if there are few.
 pub fn step_width(steps: usize) -> u64 {
     match steps {
         0..=60 => 20,

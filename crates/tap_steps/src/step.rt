@@ -5,7 +5,7 @@
 pub enum Step {
     /// The next packet arrives at every listener; past the last packet nothing happens.
     Arrive,
-    /// The listener makes its store the hold, where the hold is empty: the read timeout of bpf(4).
+    /// The listener makes its store the hold, if the hold is empty: the read timeout of bpf(4).
     Flush(u32),
     /// What the listener holds is read.
     Read(u32),

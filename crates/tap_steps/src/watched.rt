@@ -18,7 +18,7 @@ use savefile::PacketRef;
 use std::alloc::{AllocError, Global};
 use std::marker::Model;
 
-/// A listener, the batches that were read from it, and its answers, where they are followed.
+/// A listener, the batches that were read from it, and its answers, if they are followed.
 #[derive(Drop)]
 pub struct Watched {
     listener: Listener,
@@ -78,7 +78,7 @@ impl Before {
     }
 }
 
-/// Adds an answer, where answers are followed.
+/// Adds an answer, if answers are followed.
 fn follow(answers: &mut Option<Vec<Answered>>, answered: Answered) -> Result<(), AllocError>
     ensures { OnOk result (option_map (λ a. a.items) answers.new ≡ with_answer answered (option_map (λ a. a.items) answers.old)) }
 {
@@ -103,7 +103,7 @@ impl Watched {
         }
     }
 
-    /// The bytes of the record that a packet takes, or would take. Nothing is asked where answers are not followed.
+    /// The bytes of the record that a packet takes, or would take. Nothing is asked if answers are not followed.
     fn followed_size(&self, packet: &PacketRef<'_>) -> usize
         ensures { (followed : List Answered) → self.now.answers ≡ Some followed → (capture place : ℕ) →
             result ≡ size_kept (seen_by self.now.listener (arrival capture place packet.now)) }
@@ -169,7 +169,7 @@ impl Watched {
         Ok(empty)
     }
 
-    /// Reads a batch, where there is one.
+    /// Reads a batch, if there is one.
     pub fn read(&mut self, alloc: Global) -> Result<(), AllocError>
         ensures { OnOk result (self.new ≡ stepped P.Read self.old) }
     {
@@ -194,7 +194,7 @@ impl Watched {
         }
     }
 
-    /// The report, and the answers, where they were followed.
+    /// The report, and the answers, if they were followed.
     pub fn report(self, alloc: Global) -> Result<(Report, Option<Vec<Answered>>), AllocError>
         ensures ok { IfOk result (λ r. Tells self r.0) }
         ensures answers { IfOk result (λ r. option_map (λ a. a.items) r.1 ≡ self.answers) }

@@ -21,7 +21,7 @@ fn run_length(text: &[u8], mark: u8) -> usize
         .count()
 }
 
-/// The number that these bytes spell in a base, where each is a digit of it and the number fits.
+/// The number that these bytes spell in a base, if each is a digit of it and the number fits.
 fn numeral(bytes: &[u8], base: u32) -> Option<u32>
     requires low { 2 ≤ base }
     requires high { base ≤ 36 }

@@ -98,7 +98,7 @@ pub(crate) fn transport_of(protocol: Option<Protocol>) -> Option<Option<Transpor
     }
 }
 
-/// The qualifiers of a phrase, where they go together. Without a direction source or destination is meant,
+/// The qualifiers of a phrase, if they go together. Without a direction source or destination is meant,
 /// without a type a host.
 pub(crate) fn qualifiers_of(phrase: Phrase) -> Option<Qualifiers>
     ensures { result ≡ qualifiers_of phrase }
@@ -149,7 +149,7 @@ fn bits_of(parts: Parts) -> u32
     }
 }
 
-/// The number, where it is within these ends.
+/// The number, if it is within these bounds.
 fn between(low: u32, high: u32, n: u32) -> Result<u32, Misfit>
     ensures value { result_ok result ≡ between low high n }
     ensures within { IfOk result (λ m. (low ≤ m) × (m ≤ high)) }

@@ -59,7 +59,7 @@ pub(crate) fn operator_at(precedence: usize, tokens: &[Token]) -> Option<(Operat
     }
 }
 
-/// Two values and the operator between them. `DivideByZero` at this place, where the right one begins, if that is a
+/// Two values and the operator between them. `DivideByZero` at this place, that of the right one, if that is a
 /// divisor and 0.
 pub(crate) fn combine(
     alloc: Global,
