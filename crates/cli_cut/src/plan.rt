@@ -10,7 +10,7 @@ use cli_text::Status;
 use cli_text::report::report_fault;
 use std::fs::Files;
 
-/// The filter of a cut: a listing's file is read, unless there is an expression too.
+/// The filter of a cut. It reads a listing's file, unless there is an expression too.
 pub(crate) fn read_filter<R: Files + AllocGlobal, E: HintSink>(
     rt: &R,
     words: &CutWords<'_>,
@@ -23,7 +23,7 @@ pub(crate) fn read_filter<R: Files + AllocGlobal, E: HintSink>(
     }
 }
 
-/// The program that `check` prints: that of a listing's file, which is not the one that is printed to, or an expression's.
+/// The program that `check` prints, of a listing's file or of an expression. Standard output may not go to that file.
 pub(crate) fn read_program<R: Files + AllocGlobal, E: HintSink>(
     rt: &R,
     words: &CheckWords<'_>,

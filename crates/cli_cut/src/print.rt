@@ -81,7 +81,7 @@ fn print<O: Write>(text: &[u8], out: &mut O) -> Result<(), PrintFault>
 }
 
 /// Prints a program in one of its forms. The fault is [`PrintFault::NoMemory`], and then nothing was printed, or
-/// [`PrintFault::Output`]: `out` failed, and took a beginning of the text and no more.
+/// [`PrintFault::Output`]: `out` failed, and took a prefix of the text and no more.
 pub fn show<O: Write>(
     alloc: Global,
     program: &Program,
@@ -136,7 +136,7 @@ fn print_read<O: Write>(alloc: Global, expr: &Expr, out: &mut O) -> Result<(), P
 /// begins with `-` is printed in parentheses, so that it can be given back on a command line. It need not compile.
 ///
 /// The fault is that of a text which is no expression; or [`PrintFault::NoMemory`], and then nothing was printed; or
-/// [`PrintFault::Output`]: `out` failed, and took a beginning of the line and no more.
+/// [`PrintFault::Output`]: `out` failed, and took a prefix of the line and no more.
 pub fn show_read<O: Write>(alloc: Global, expr: &str, out: &mut O) -> Result<(), PrintFault>
     ensures printed { OnOk result (PrintsRead (O.contents out.old) (O.contents out.new) expr.now) }
     ensures fault { IfErr result (IsUnread (O.contents out.old) (O.contents out.new) expr.now) }

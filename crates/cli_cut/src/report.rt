@@ -14,7 +14,7 @@ use savefile::Fault;
 use std::io;
 use std::io::Write;
 
-/// Reports how a cut from one path to another ended, and answers the exit status.
+/// Reports how a cut from one path to another ended, and returns the exit status.
 pub fn report_cut<R, W, E: Write>(end: &CutEnd<R, W>, from: &str, to: &str, err: &mut E) -> Status
     ensures { result ≡ status_of end.now.end }
 {
@@ -61,9 +61,8 @@ fn report_tally<E: Write>(tally: Tally, err: &mut E) -> io::Result<()>
     send(line.as_bytes(), err)
 }
 
-/// Reports how many packets were written of how many, where the capture was read to its end or to a torn or bad record, and all
-/// was written: a line `67 of 253 packets`. Else nothing is reported. The fault is that of standard error, which took a beginning of
-/// the line.
+/// Reports how many of the packets were written, in a line `67 of 253 packets`, if the capture was read to its end or to a torn or bad
+/// record, and all was written. Else it reports nothing. The error is that of standard error, which took a prefix of the line.
 pub fn report_count<R, W, E: Write>(end: &CutEnd<R, W>, err: &mut E) -> io::Result<()>
     ensures { Takes (E.contents err.old) (E.contents err.new) result (count_told end.now.end end.now.tally) }
 {
@@ -74,7 +73,7 @@ pub fn report_count<R, W, E: Write>(end: &CutEnd<R, W>, err: &mut E) -> io::Resu
     }
 }
 
-/// Reports why a program was not printed, if it was not, and answers the exit status.
+/// Reports why a program was not printed, if it was not, and returns the exit status.
 pub fn report_print<E: Write>(printed: &Result<(), PrintFault>, err: &mut E) -> Status
     ensures { result ≡ print_status printed.now }
 {

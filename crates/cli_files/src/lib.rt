@@ -1,4 +1,4 @@
-//! Files as a command uses them: opened and made when they are needed first, each once, and none in the place of another.
+//! Files as a command uses them: each opened or created once, when it is first needed, and none instead of another.
 #![tactic(auto)]
 
 pub mod captures;

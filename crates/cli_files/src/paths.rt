@@ -1,5 +1,5 @@
-//! Which paths are one file. It is looked at before a file is opened for writing, so that nothing that is read is lost and no
-//! two captures go into one file.
+//! Which paths are one file. This is checked before a file is opened for writing, so that no file that is read is lost and no two
+//! captures go into one file.
 
 use crate::reading::report_io;
 use cli_report::HintSink;
@@ -315,13 +315,13 @@ fn report_path<E: HintSink>(fault: &PathFault<'_>, err: &mut E) -> Status {
     }
 }
 
-/// Checks that no file that is written is one that is read, the file of an earlier path that is written, or the one that is
-/// printed to or that standard error goes to; and that none that is read is the one that is printed to. Else it reports that, and
-/// returns the exit status.
+/// Checks that no file that is written is one that is read, the file of an earlier path that is written, or the one that standard
+/// output or standard error goes to; and that standard output goes to no file that is read. Else it reports that, and returns the exit
+/// status.
 ///
-/// Two paths are one file if they lead to one regular file or fifo, or to one new file; one that is read and one that is
-/// written also if they have the same text. `standard_output` is its path, if the command prints there. With [`Opening::First`] a
-/// path that is read and leads to nothing is passed over: the command can't open it.
+/// Two paths are one file if they lead to one regular file or fifo, or to one new file; one that is read and one that is written also
+/// if they have the same text. `standard_output` is its path, if the command prints there. With [`Opening::First`] a path that is read
+/// and leads to nothing is skipped: the command can't open it.
 pub fn refuse_shared_files<R: Files + AllocGlobal, E: HintSink>(
     rt: &R,
     opening: Opening,

@@ -77,7 +77,7 @@ pub fn hint_bad_line<E: HintSink>(text: &[u8], number: usize, form: &str, err: &
     give_hint(format_args!("its form is: {form}"), err)
 }
 
-/// Hints on a step of SCRIPT, counted from 0, that names a listener that there is not.
+/// Hints on a step of SCRIPT, counted from 0, that names a listener that does not exist.
 pub fn hint_no_listener<E: HintSink>(script: &[u8], step: usize, listeners: usize, err: &mut E)
     ensures quiet { E.takes_hints err.old ≡ false → err.new ≡ err.old }
 {

@@ -170,10 +170,10 @@ pub fn run_told<
 /// each listener, by interface: what it received, matched, dropped and wrote, and how that ended.
 ///
 /// Each interface has a list of captures, which arrive one after the other. A line of LISTENERS is `INTERFACE FLUSH SNAP CAPACITY SPARES
-/// OUT EXPRESSION`: the number of the interface, from 0; after how many arrivals each the listener is flushed, 0 for never; how many
-/// bytes of a packet are kept at most, 0 for 262,144; the bytes of each of the listener's buffers, with an `i` after them for the mode
-/// Immediate; how many buffers go round between the listener and its writer, 1 to 64; the path of the capture, of which `make` makes a
-/// sink; and the filter, which may be empty. Captures are written little-endian, with microseconds.
+/// OUT EXPRESSION`: the number of the interface, from 0; after how many arrivals the listener is flushed each time, 0 for never; how many
+/// bytes of a packet are kept at most, 0 for 262,144; the size in bytes of each of the listener's buffers, with an `i` after it for the
+/// mode Immediate; how many buffers go round between the listener and its writer, 1 to 64; the path of the capture, of which `make`
+/// makes a sink; and the filter, which may be empty. Captures are written little-endian, with microseconds.
 ///
 /// A bad line is reported as `Listeners N`, N from 1: it lacks this form, names an interface that does not exist, or has the OUT of an
 /// earlier line. After that come the expressions: `Expression N` or `Compile N`, N from 0. After one of these and after a [`RunFault`] no

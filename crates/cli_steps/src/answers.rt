@@ -174,8 +174,8 @@ fn put_twice(line: &mut String, expr: &Expr) -> Result<(), AllocError> {
     write!(line, "{} {}", Canonical(expr), Canonical(expr))
 }
 
-/// A line with room for each answer of these listeners. What decides of a packet is part of an expression, so that twice the
-/// expression's own text has room for it, with any parentheses.
+/// A line with room for each answer of these listeners. What decides on a packet is part of an expression, so twice the expression's
+/// own text has room for it, with any parentheses.
 pub fn line_for(alloc: Global, all: &[AnswerCursor<'_>]) -> Result<String, AllocError> {
     let mut line = String::with_capacity(alloc, LINE_ROOM)?;
     for one in all {
@@ -393,9 +393,9 @@ fn packets_after(step: Step, packets: &[PlacedPacket]) -> &[PlacedPacket]
     }
 }
 
-/// Writes for each step a line, and below it a line for each listener that it reaches: what it answered, and why. Steps are counted
-/// from 1, as the lines of SCRIPT. `all` are the answers of [`answer_cursors`], of a trace of these steps and this playlist. `line` is that
-/// of [`line_for`], whose room is meant to be enough for all of them: that it takes no memory more is not proved.
+/// Writes a line for each step, and below it a line for each listener that it reaches: what it answered, and why. Steps are counted
+/// from 1, as the lines of SCRIPT. `all` are the answers of [`answer_cursors`], for a trace of these steps and this playlist. `line` is
+/// that of [`line_for`], which should have room for all of them: that it takes no more memory is not proved.
 ///
 /// If it fails, `out` took a prefix of the text and no more.
 pub fn write_answers<O: Write>(

@@ -29,7 +29,7 @@ pub enum Detail {
     Answers,
 }
 
-/// What a replay gives beside what is printed.
+/// The result of a replay, beside what is printed.
 #[derive(Drop)]
 pub struct Replayed {
     /// The first capture that ended with a record fault, and that fault.
@@ -157,13 +157,12 @@ fn play_trace<O: Write, E: Write>(
     }
 }
 
-/// Plays a plan over captures once, and prints what each listener came to, in the detail that is wanted: with
-/// [`Detail::Answers`] a line for each step goes before the reports, and below it one for each listener that the step reaches, with
-/// what it answered, and why.
+/// Plays a plan over captures once, and prints what each listener got, in the given detail. With [`Detail::Answers`] a line for each
+/// step comes before the reports, and below it one for each listener that the step reaches: what it answered, and why.
 ///
-/// What is printed, reported and returned is as [`steps`] says, and beside it what the replay came to, or the fault that was
+/// It prints, reports and returns what [`steps`] says, and also returns the result of the replay, or the fault that was
 /// reported. With [`Detail::Answers`] memory may also be refused after the replay; then only that is reported, and nothing is
-/// printed, unless it is for a line ([`line_for`]).
+/// printed, unless it is refused for a line ([`line_for`]).
 pub fn play_plan<O: Write, E: Write>(
     alloc: Global,
     plan: &StepsPlan,

@@ -95,7 +95,7 @@ pub fn report_device<E: Write>(path: &str, err: &mut E) -> Status
     )
 }
 
-/// Reports that standard output failed, and answers the exit status. If nobody reads what is printed any more, as after `| head`,
+/// Reports that standard output failed, and returns the exit status. If nobody reads what is printed any more, as after `| head`,
 /// nothing is reported.
 pub fn report_unwritten<E: Write>(error: &io::Error, err: &mut E) -> Status
     ensures { result ≡ Failed }
@@ -118,7 +118,7 @@ pub fn fault_status(fault: Fault) -> Status
     }
 }
 
-/// Reports the fault of the capture at a path: a failed device by the path, any other one by its name. It answers the exit status.
+/// Reports the fault of the capture at a path: a failed device by the path, any other fault by its name. Returns the exit status.
 pub fn report_at<E: Write>(fault: Fault, path: &str, err: &mut E) -> Status
     ensures { result ≡ fault_status fault }
 {

@@ -37,8 +37,7 @@ pub fn put_part(line: &mut String, part: &Expr, negated: bool) -> Result<(), All
     }
 }
 
-/// Appends why a primitive or a relation aborted, if it did. It fails if memory is refused, and then nothing is promised of the
-/// line.
+/// Appends why a primitive or a relation aborted, if it did. It fails if memory is refused; the line is then unspecified.
 pub fn put_cause(line: &mut String, cause: Option<AbortCause>) -> Result<(), AllocError>
     ensures { OnOk result (string_bytes line.new ≡ string_bytes line.old ++ cause_text cause) }
 {
@@ -65,8 +64,7 @@ pub fn put_verdict(line: &mut String, verdict: Verdict) -> Result<(), AllocError
 }
 
 /// Appends what an expression answers to a packet of `wire` bytes, of which these were captured, and the primitive or relation that
-/// decides, with the cause of an Abort; the answer is that of `evaluate`. It fails if memory is refused, and then nothing is
-/// promised of the line.
+/// decides, with the cause of an Abort. The answer is that of `evaluate`. It fails if memory is refused; the line is then unspecified.
 pub fn put_decision(
     line: &mut String,
     expr: &Expr,

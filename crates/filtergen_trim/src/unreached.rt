@@ -135,10 +135,10 @@ fn keep_marked(insns: &[Insn], marks: &[bool]) -> ArrayVec<Insn, MAX_CODE>
     kept
 }
 
-/// The code without the instructions that nothing reaches: it answers as before. From its first instruction some path of jumps
-/// leads to each of the others; such a path may take a side that no packet takes.
+/// The code without the instructions that nothing reaches; it answers as before. Some path of jumps leads from its first instruction
+/// to each of the others, though it may take a side that no packet takes.
 ///
-/// Code is what would be a program, were there 512 instructions at most; here there may be [`MAX_CODE`].
+/// Code here is a program that may have up to [`MAX_CODE`] instructions.
 pub fn trim_unreached(insns: &[Insn]) -> ArrayVec<Insn, MAX_CODE>
     requires code { IsSoundCode insns.now }
     requires most { length insns.now ≤ MAX_CODE }

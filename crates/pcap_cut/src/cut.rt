@@ -69,12 +69,12 @@ pub struct CutEnd<R, W> {
 ///
 /// - with the header's fault, and the sink is as it was; so it is with [`Fault::NoMemory`], and then the source is too;
 /// - with the fault of the first torn or bad record, after all packets before it;
-/// - with [`Fault::Device`] exactly if the source failed: after all packets that came whole in what the source gave, or, with the sink
-///   as it was, if that was fewer than the 24 bytes of a header;
+/// - with [`Fault::Device`] if and only if the source failed: after all packets that came whole in what the source gave, or, with the
+///   sink as it was, if that was fewer than the 24 bytes of a header;
 /// - with [`Fault::CountFull`] after 2^64 - 1 packets.
 ///
-/// It is [`End::Output`] with [`Fault::Device`] exactly if the sink failed, or [`Fault::CountFull`] if the text has 2^64 bytes or more. In
-/// every case the sink took exactly `sent` bytes, a prefix of the text that was to be written.
+/// It is [`End::Output`] with [`Fault::Device`] if and only if the sink failed, or [`Fault::CountFull`] if the text has 2^64 bytes or
+/// more. In every case the sink took exactly `sent` bytes, a prefix of the text that was to be written.
 pub fn cut<R: Source, W: Sink>(
     alloc: Global,
     from: R,

@@ -1,4 +1,4 @@
-//! What a replay in threads is asked for, whether its numbers are right, and what it answers.
+//! What a replay in threads is asked for, whether its numbers are valid, and what it returns.
 #![tactic(auto)]
 
 mod check;

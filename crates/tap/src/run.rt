@@ -100,7 +100,7 @@ pub fn replay(
 /// expression, its answer to each of its steps, and its state before each.
 ///
 /// Each step has one right answer, that of the plain list, and this is the one returned. The answers take memory for each
-/// step, so [`Fault::NoMemory`] can come where [`replay`] gives reports or another fault.
+/// step, so [`Fault::NoMemory`] can come although [`replay`] gives reports or another fault.
 pub fn trace(
     alloc: Global,
     captures: &[&[u8]],

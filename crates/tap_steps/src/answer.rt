@@ -14,7 +14,7 @@ pub enum Answer {
     Closed,
 }
 
-/// A listener's answer to a step, with how the listener stood before it.
+/// A listener's answer to a step, with the listener's state before it.
 #[derive(Clone, Copy, Debug, PartialEq, Eq)]
 pub struct Answered {
     /// Whether the listener was closed before the step.

@@ -20,7 +20,7 @@ fn names(step: Step, listeners: usize) -> bool
     }
 }
 
-/// The first step that names a listener that there is not.
+/// The first step that names a listener that does not exist.
 pub fn first_without_listener(steps: &[Step], listeners: usize) -> Option<usize>
     ensures { MatchOption result (AllName listeners steps.now) (FirstMissing listeners steps.now) }
 {
