@@ -28,7 +28,7 @@ pub enum PrintFault {
     /// Memory is wanting for the text, and nothing is printed.
     #[error("NoMemory")]
     NoMemory,
-    /// The writer failed, and a beginning of the text was printed.
+    /// The writer failed, and a prefix of the text was printed.
     #[error("{0}")]
     Output(io::Error),
 }
@@ -69,7 +69,7 @@ fn text_of(alloc: Global, program: &Program, form: ProgramForm) -> Result<Vec<u8
     }
 }
 
-/// Prints a text. The fault is [`PrintFault::Output`], and then a beginning of it was printed.
+/// Prints a text. The fault is [`PrintFault::Output`], and then a prefix of it was printed.
 fn print<O: Write>(text: &[u8], out: &mut O) -> Result<(), PrintFault>
     ensures printed { OnOk result (Appends (O.contents out.old) (O.contents out.new) text.now) }
     ensures fault { IfErr result (IsPart (O.contents out.old) (O.contents out.new) text.now) }

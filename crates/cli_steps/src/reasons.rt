@@ -133,7 +133,7 @@ impl Display for ArrivalEnd {
     }
 }
 
-/// What a flush came to.
+/// How a flush ended.
 #[derive(Clone, Copy, Debug)]
 pub enum FlushEnd {
     Closed,
@@ -172,7 +172,7 @@ pub fn flush_end(before: &ListenerState) -> FlushEnd
     }
 }
 
-/// What a read came to.
+/// How a read ended.
 #[derive(Clone, Copy, Debug)]
 pub enum ReadEnd {
     Closed,

@@ -18,7 +18,7 @@ use std::io;
 use std::io::Write;
 use tap::{Fault, Step, Trace, replay, trace};
 
-/// What is wanted of a replay.
+/// What a replay has to print and return.
 #[derive(Clone, Copy, Debug, PartialEq, Eq)]
 pub enum Detail {
     /// The reports are printed.

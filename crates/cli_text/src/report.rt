@@ -13,7 +13,7 @@ use std::fmt::{Display, Formatter};
 use std::io::{ErrorKind, Write};
 use std::{fmt, io};
 
-/// What a command came to.
+/// The result of a command.
 #[derive(Debug, Drop)]
 pub struct Outcome {
     /// The exit status.

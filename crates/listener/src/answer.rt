@@ -24,7 +24,7 @@ pub enum Fed {
 pub enum Read {
     /// The whole hold.
     Full(Buffer),
-    /// The hold was empty, or the listener closed: the buffer that was brought.
+    /// The hold was empty, or the listener closed: the given buffer.
     Nothing(Buffer),
 }
 

@@ -115,7 +115,7 @@ pub fn cut<R: Source, W: Sink>(
     }
 }
 
-/// What copying came to.
+/// The result of copying.
 #[derive(Drop)]
 struct Ended<W> {
     sink: W,

@@ -223,7 +223,7 @@ impl<W: Sink> Writer<W> {
         requires nanos { nanos < 1000000000 }
         requires size { length bytes.now ≤ MAX_SNAP }
 
-        // After Ok, what was written before and now this packet; after Device, a beginning of that, and not the whole.
+        // After Ok, what was written before and now this packet; after Device, a prefix of that, and not the whole.
         ensures ok { (start : Option (List ℕ)) (order : Order) (unit : Unit) (snap : ℕ) (packets : List Packet) →
             HasWritten W.taken start order unit snap packets self.old →
             OnOk result (HasWritten W.taken start order unit snap (packets ++ packet sec nanos len bytes.now ∷ []) self.new) }

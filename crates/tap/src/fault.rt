@@ -17,7 +17,7 @@ pub enum Fault {
     /// There are over 64 listeners, or over 65,536 captures.
     #[error("TooMany")]
     TooMany,
-    /// This step is the first that names a listener that there is not.
+    /// This step is the first that names a listener that does not exist.
     #[error("NoListener {0}")]
     NoListener(usize),
     /// This capture is the first whose header is refused.

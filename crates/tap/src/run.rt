@@ -18,7 +18,7 @@ use tap_steps::{
     first_without_listener, play, read_playlist, report_all, trace_all,
 };
 
-/// What a replay came to.
+/// The result of a replay.
 #[derive(Drop)]
 struct Playback {
     playlist: Playlist,

@@ -10,7 +10,7 @@ pub enum Filter {
     Program(Program),
 }
 
-/// A listener that is wanted.
+/// A listener to open.
 #[derive(Drop)]
 pub struct Spec {
     pub filter: Filter,

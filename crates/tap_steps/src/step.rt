@@ -1,6 +1,6 @@
 //! Steps of a replay.
 
-/// A step of a replay. A listener is named by its place in the list of those that are wanted.
+/// A step of a replay. A listener is named by its place in the list of the listeners to open.
 #[derive(Clone, Copy, Debug, PartialEq, Eq)]
 pub enum Step {
     /// The next packet arrives at every listener; past the last packet nothing happens.

@@ -163,7 +163,7 @@ fn ends_so(
     is_told(rt, end, line, status);
 }
 
-/// A sink of so much room has a beginning of what is wanted, and breaks once, unless it has room for all.
+/// A sink with this much room has a prefix of what is wanted, and breaks once, unless it has room for all.
 fn has_beginning_at(rt: &(impl Abort + AllocGlobal), text: &[u8], wanted: &[u8], room: usize) {
     let program = program_of(rt, ETHERTYPE);
     let end = cut_into(rt.alloc(), text, &program, room);
@@ -180,7 +180,7 @@ fn a_broken_sink_has_a_beginning(rt: HostRuntime) {
     }
 }
 
-/// A cut of a text into a sink of so much room.
+/// A cut of a text into a sink of this much room.
 fn cut_into<'a>(
     alloc: Global,
     text: &'a [u8],

@@ -81,7 +81,7 @@ fn front<'a>(rt: &'a impl Abort, bytes: &'a [u8], n: usize) -> &'a [u8] {
     bytes.get(..n).expect(rt, "there are enough bytes")
 }
 
-/// What the n-th part came to.
+/// The result of the n-th part.
 fn part_at<'a>(
     rt: &'a impl Abort,
     end: &'a Split<'_>,
@@ -112,7 +112,7 @@ fn took(
     same_in(rt, what, (part.sent, part.written), wanted);
 }
 
-/// Checks what a part came to: what its sink took, and whether all was written.
+/// Checks the result of a part: what its sink took, and whether all was written.
 fn check(
     rt: &(impl Abort + AllocGlobal),
     what: &str,

@@ -75,7 +75,7 @@ pub struct System<'a> {
     pub table: &'a Table,
 }
 
-/// A file of it, whose descriptor is free again when it is let go. A signal breaks its calls in turn, the first one too.
+/// A file of it, whose descriptor is free again when it is dropped. A signal interrupts its calls in turn, the first one too.
 pub struct Numbered<'a> {
     number: u32,
     table: &'a Table,

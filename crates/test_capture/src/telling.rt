@@ -32,7 +32,7 @@ impl Write for BreakingCounter {
     }
 }
 
-/// A writer of so much room leaves the status, and nothing is printed.
+/// A writer of this much room leaves the status, and nothing is printed.
 fn leaves_the_status(rt: &(impl Abort + AllocGlobal), room: usize) {
     let mut out: Vec<u8> = Vec::new(rt.alloc());
     let mut err = BreakingCounter { room, calls: 0 };

@@ -1,4 +1,4 @@
-//! Tests of `filtergen` and `filter_explain` that no command shows: trees that no text reads as and trees by chance, whose programs are
+//! Tests of `filtergen` and `filter_explain` that no command shows: trees that no text reads as and random trees, whose programs are
 //! compared with the evaluator, what trees weigh and need, and the callers of the pages.
 #![tactic(auto)]
 

@@ -7,7 +7,7 @@ use crate::random_relations::{Answers, compared};
 use filterlang::{EthernetAddress, Expr, Network, Plain, Primitive, Transport};
 use std::process::Abort;
 
-/// Another primitive of the same kind: of the same protocol, direction and mask, by chance with the same number.
+/// Another primitive of the same kind: of the same protocol, direction and mask, sometimes with the same number.
 fn neighbour(random: &mut Random, primitive: Primitive) -> Primitive {
     match primitive {
         Primitive::Protocol(_) => Primitive::Protocol(PLAIN[random.below(7)]),

@@ -205,7 +205,7 @@ fn accessors(rt: &(impl Abort + AllocGlobal), times: u32) -> Value {
     value
 }
 
-/// An expression needs and weighs so much, and is too long.
+/// An expression needs and weighs this much, and is too long.
 fn is_too_long(rt: &impl Abort, expr: Expr, want: (u64, u64)) {
     same(rt, (need(&expr), weight(&expr)), want);
     same(rt, compile(&expr, 96).err(), Some(Refusal::TooLong));

@@ -60,7 +60,7 @@ static WEIGHTS: [(Text, u64); 6] = [
 
 static NESTED_WEIGHTS: [(Nested, u64); 2] = [(("", 16, " = 17"), 170), (HEAVY, 610)];
 
-/// A tree weighs so much.
+/// A tree weighs this much.
 fn weighs(rt: &impl Abort, tree: Expr, want: u64) {
     same(rt, weight(&tree), want);
 }
@@ -145,7 +145,7 @@ const IP: [u8; 14] = [0, 0, 0, 0, 0, 0, 0, 0, 0, 0, 0, 0, 8, 0];
 
 const ARP: [u8; 14] = [0, 0, 0, 0, 0, 0, 0, 0, 0, 0, 0, 0, 8, 6];
 
-/// A program of this snapshot length keeps so much.
+/// A program of this snapshot length keeps this much.
 fn keeps(rt: &(impl Abort + AllocGlobal), snap: u32) {
     let program = compile_text(rt.alloc(), "ip", snap).expect(rt, "it compiles");
     same(rt, run(&program, &IP, 38), snap);

@@ -419,7 +419,7 @@ fn six_arrive(rt: &impl Abort, listener: &mut Listener) {
 }
 
 // By hand: with `rt try --test --fail-alloc N` this prints NoMemory for N of 1 and 2, the two buffers of the listener, and
-// of 3, the buffer that is brought; for every other N it passes, since nothing else takes memory.
+// of 3, the buffer that is given; for every other N it passes, since nothing else takes memory.
 #[test]
 fn only_opening_takes_memory(rt: HostRuntime) -> Result<(), Fail> {
     let mut listener = made(&rt, Listener::open(rt.alloc(), keeping(64)?, 32, 128));

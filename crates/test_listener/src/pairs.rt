@@ -362,7 +362,7 @@ fn arrive(link: &Link, feeder: &mut Feeder, place: u64) -> Option<Fed>
 }
 
 // By hand: with `rt try --test --fail-alloc N` this prints NoMemory for N of 1 to 5, what the pair takes (two buffers, the row of
-// slots that the table is given, its words and its slot), and of 6, the buffer that is brought; for every other N it passes,
+// slots that the table is given, its words and its slot), and of 6, the buffer that is given; for every other N it passes,
 // since nothing else takes memory.
 #[test]
 fn only_the_pair_takes_memory(rt: HostRuntime) -> Result<(), Fail> {

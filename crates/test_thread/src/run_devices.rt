@@ -165,7 +165,7 @@ fn taken_by(rt: &(impl Abort + AllocGlobal), sinks: Vec<Counted<BreakingWriter>>
     written
 }
 
-/// Replays interfaces by these lines to sinks of so much room each.
+/// Replays interfaces by these lines to sinks of this much room each.
 fn broken_by<R: Abort + AllocGlobal + Threads + Wait + Sync>(
     rt: &R,
     interfaces: Vec<Vec<Counted<PiecesReader<'_>>>>,
@@ -190,7 +190,7 @@ fn broken_by<R: Abort + AllocGlobal + Threads + Wait + Sync>(
     }
 }
 
-/// Replays one interface of these sources to sinks of so much room each, into an output.
+/// Replays one interface of these sources to sinks of this much room each, into an output.
 fn run_broken<R: Abort + AllocGlobal + Threads + Wait + Sync>(
     rt: &R,
     sources: &[(&[u8], bool)],

@@ -33,7 +33,7 @@ fn front<'a>(rt: &'a impl Abort, text: &'a str, n: usize) -> &'a [u8] {
         .expect(rt, "there are enough bytes")
 }
 
-/// A standard error of so much room.
+/// A standard error of this much room.
 fn of_room(rt: &impl AllocGlobal, room: usize) -> BreakingWriter {
     let taken = Vec::new(rt.alloc());
     BreakingWriter { taken, room }

@@ -176,7 +176,7 @@ fn data_of(place: u64, verdict: u8) -> [u8; 96] {
     data
 }
 
-/// A packet of these bytes, of which so much is to be kept, arrives at both.
+/// A packet of these bytes, of which this much is to be kept, arrives at both.
 fn bytes_arrive(
     rt: &impl Abort,
     listener: &mut Listener,

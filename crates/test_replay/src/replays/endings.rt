@@ -297,7 +297,7 @@ fn without_interfaces_nothing_is_told(rt: HostRuntime) -> Result<(), Fail> {
     Ok(())
 }
 
-/// An interface of T, U and T, and a task whose sink has so much room.
+/// An interface of T, U and T, and a task whose sink has this much room.
 fn with_room(alloc: Global, room: usize) -> Result<Interface<TapeSource, PaperSink>, Fail> {
     let one = task(keeping_all()?, 64, 1_024, sink_with(alloc, room));
     let tasks = vec![in alloc; one]?;

@@ -92,7 +92,7 @@ impl<R: Clock> Gate for Lockstep<'_, R> {
     }
 }
 
-/// The tasks of the example, of which the first sink has so much room.
+/// The tasks of the example, of which the first sink has this much room.
 fn example_tasks(alloc: Global, mode: Mode, room: usize) -> Result<Vec<Task<PaperSink>>, Fail> {
     let everywhere = sink_with(alloc, usize::MAX);
     let mut tasks = vec![in alloc;
@@ -108,7 +108,7 @@ fn example_tasks(alloc: Global, mode: Mode, room: usize) -> Result<Vec<Task<Pape
     Ok(tasks)
 }
 
-/// The interface of the example: T and U arrive, and then T, at a listener for TCP, whose sink has so much room, and one for
+/// The interface of the example: T and U arrive, and then T, at a listener for TCP, whose sink has this much room, and one for
 /// all. Where they are Immediate, nothing is flushed.
 fn example(
     alloc: Global,
