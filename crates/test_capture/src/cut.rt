@@ -62,7 +62,7 @@ fn is_told_of(rt: &(impl Abort + AllocGlobal), end: End, line: &str, status: u8)
 }
 
 #[test]
-fn faults_that_no_capture_shows_are_told(rt: HostRuntime) {
+fn faults_that_no_capture_shows_are_reported(rt: HostRuntime) {
     let device = End::Output(Fault::Device);
     is_told_of(&rt, End::Input(Fault::NoMemory), "bpftap: NoMemory\n", 1);
     is_told_of(&rt, End::Output(Fault::CountFull), "bpftap: CountFull\n", 1);
@@ -119,7 +119,7 @@ fn breaks_behind(rt: &(impl Abort + AllocGlobal), text: &[u8], row: (usize, usiz
 }
 
 #[test]
-fn a_broken_source_is_told_behind_its_packets(rt: HostRuntime) {
+fn a_broken_source_is_reported_after_its_packets(rt: HostRuntime) {
     let text = text_of(&rt, &[HEADER, ARP_RECORD, IP_RECORD]);
     same(&rt, text.len(), 84);
     for row in BREAKS.iter() {

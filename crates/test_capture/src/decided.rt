@@ -15,7 +15,7 @@ pub fn told(alloc: Global, expression: &str, frame: &[u8]) -> Result<String, Fau
 }
 
 #[test]
-fn what_decides_stands_behind_the_answer(rt: HostRuntime) {
+fn what_decides_follows_the_answer(rt: HostRuntime) {
     let alloc = rt.alloc();
     let told = told(alloc, "arp and not (ether[20] = 1)", &[0; 14]).expect(&rt, "an expression");
     same(&rt, told.as_str(), "No arp");

@@ -24,7 +24,7 @@ fn is_told(
 }
 
 #[test]
-fn want_of_memory_is_told_by_its_name(rt: HostRuntime) {
+fn refused_memory_is_reported_by_its_name(rt: HostRuntime) {
     is_told(
         &rt,
         io::Error::from(ErrorKind::OutOfMemory),
@@ -49,7 +49,7 @@ fn memory_that_the_system_lacks_is_a_fault_of_the_file(rt: HostRuntime) {
 }
 
 #[test]
-fn want_of_memory_for_the_words_is_told_by_its_name(rt: HostRuntime) {
+fn refused_memory_for_the_arguments_is_reported_by_its_name(rt: HostRuntime) {
     let mut out: Vec<u8> = Vec::new(rt.alloc());
     let mut err: Vec<u8> = Vec::new(rt.alloc());
     let status = report_words_fault(&Error::from(AllocError), &mut out, &mut err);

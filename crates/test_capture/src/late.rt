@@ -77,7 +77,7 @@ fn ends_untold(rt: &(impl Abort + AllocGlobal), table: &Table) {
 }
 
 #[test]
-fn nothing_is_made_where_a_path_is_not_told(rt: HostRuntime) {
+fn nothing_is_made_if_a_path_is_unknown(rt: HostRuntime) {
     let table = Table::new([true; 3]);
     table.is_told.store(false, SeqCst);
     ends_untold(&rt, &table);

@@ -22,7 +22,7 @@ fn id_of(rt: &(impl Abort + AllocGlobal + Files), path: &str) -> FileId {
 }
 
 #[test]
-fn a_file_is_told_by_its_device_and_its_inode(rt: HostRuntime) {
+fn a_file_is_known_by_its_device_and_its_inode(rt: HostRuntime) {
     let path = format!(in rt.alloc(); "/tmp/bpftap-file-{}", process::id(rt.process()));
     let path = path.expect(&rt, "memory");
     let written = fs::write(&rt, path.as_str(), b"".as_slice());
@@ -61,7 +61,7 @@ fn leads_nowhere(rt: &(impl Abort + AllocGlobal + Files), path: &str, behind: &s
 }
 
 #[test]
-fn a_new_file_is_told_by_its_folder_and_its_name(rt: HostRuntime) {
+fn a_new_file_is_known_by_its_folder_and_its_name(rt: HostRuntime) {
     let folder = id_of(&rt, "/tmp");
     let name = format!(in rt.alloc(); "bpftap-new-{}", process::id(rt.process()));
     let name = name.expect(&rt, "memory");

@@ -187,7 +187,7 @@ fn check_broken(rt: &(impl Abort + AllocGlobal), room: usize, taken: &[&str]) {
 }
 
 #[test]
-fn a_failing_sink_ends_its_part_alone(rt: HostRuntime) {
+fn a_failing_sink_ends_only_its_part(rt: HostRuntime) {
     // Inside the header, inside the first record and inside the second one.
     check_broken(&rt, 3, &["d4c3b2"]);
     check_broken(&rt, 26, &[HEADER, "0100"]);
@@ -247,7 +247,7 @@ fn broke_in_a_header(rt: &(impl Abort + AllocGlobal), end: Split<'_>) {
 }
 
 #[test]
-fn a_source_that_breaks_ends_the_reading_behind_its_packets(rt: HostRuntime) {
+fn a_source_that_breaks_ends_the_reading_after_its_packets(rt: HostRuntime) {
     let first = text_of(&rt, &[HEADER, UDP]);
     let first = first.as_slice();
     let torn = text_of(&rt, &[HEADER, TCP, "0100"]);

@@ -75,7 +75,7 @@ fn a_line_goes_out_in_one_write(rt: HostRuntime) {
 }
 
 #[test]
-fn words_that_cannot_be_taken_are_told(rt: HostRuntime) {
+fn arguments_that_cannot_be_taken_are_reported(rt: HostRuntime) {
     let mut err: Vec<u8> = Vec::new(rt.alloc());
     let refused = io::Error::from(ErrorKind::OutOfMemory);
     same(&rt, report_words(refused, &mut err), Status::Refused);

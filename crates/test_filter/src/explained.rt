@@ -31,7 +31,7 @@ fn wanted_by(rt: &(impl Abort + AllocGlobal), expr: Expr) -> Option<usize> {
 }
 
 #[test]
-fn the_byte_that_was_wanted_is_told(rt: HostRuntime) {
+fn the_byte_that_was_needed_is_named(rt: HostRuntime) {
     let expr = parse(rt.alloc(), "arp or not tcp").expect(&rt, "an expression");
     same(&rt, wanted_by(&rt, expr), Some(23));
 }

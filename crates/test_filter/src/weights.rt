@@ -135,7 +135,7 @@ fn the_snapshot_length_is_looked_at_first(rt: HostRuntime) {
 }
 
 #[test]
-fn a_bad_snapshot_length_is_told_by_its_name(rt: HostRuntime) {
+fn a_bad_snapshot_length_is_reported_by_its_name(rt: HostRuntime) {
     let told = format!(in rt.alloc(); "{}", Refusal::BadSnap).expect(&rt, "there is memory");
     same(&rt, told.as_str(), "BadSnap");
 }

@@ -32,7 +32,7 @@ fn a_program_tells_its_instructions(rt: HostRuntime) {
 }
 
 #[test]
-fn want_of_memory_is_told_by_its_name(rt: HostRuntime) {
+fn refused_memory_is_reported_by_its_name(rt: HostRuntime) {
     let told = format!(in rt.alloc(); "{}", NoMemory).expect(&rt, "memory");
     same(&rt, told.as_str(), "NoMemory");
 }

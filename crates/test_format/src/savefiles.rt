@@ -329,7 +329,7 @@ static FAULTS: [(Fault, &str); 11] = [
 ];
 
 #[test]
-fn faults_are_told_by_name_and_place(rt: HostRuntime) {
+fn faults_are_reported_by_name_and_place(rt: HostRuntime) {
     for (fault, want) in FAULTS.iter() {
         let text = format!(in rt.alloc(); "{fault}").expect(&rt, "memory");
         is_text(&rt, text, want);
@@ -382,7 +382,7 @@ fn have_two_bytes(rt: &impl Abort, packets: &[Packet]) {
 
 /// This one passes too where any one request for memory is refused.
 #[test]
-fn want_of_memory_is_named(rt: HostRuntime) {
+fn refused_memory_is_named(rt: HostRuntime) {
     match read_all(rt.alloc(), &TORN) {
         Ok((_, packets, fault)) => {
             same(&rt, (packets.len(), fault), (2, Some(Fault::TornRecord(2))));

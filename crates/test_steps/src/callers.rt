@@ -123,7 +123,7 @@ fn a_listener_is_printed(rt: HostRuntime) {
 }
 
 #[test]
-fn a_refusal_is_told(rt: HostRuntime) {
+fn a_refusal_is_reported(rt: HostRuntime) {
     let err = printed(rt.alloc(), b"").err().expect(&rt, "a refusal");
     let fault = b"bpftap: Capture 0 ShortHeader\n";
     same(&rt, err.as_slice(), fault.as_slice());

@@ -68,7 +68,7 @@ static OF_REPLAYS: [Fault; 14] = [
 ];
 
 #[test]
-fn faults_are_told_by_their_own_texts(rt: HostRuntime) {
+fn faults_are_reported_by_their_own_texts(rt: HostRuntime) {
     for fault in OF_CAPTURES.iter() {
         is_its_own(&rt, CaptureFaultText(*fault), *fault);
     }

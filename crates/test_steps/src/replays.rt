@@ -321,7 +321,7 @@ fn refuses(rt: &(impl Abort + AllocGlobal), spec: Spec, want: Fault) {
 }
 
 #[test]
-fn a_bad_snapshot_length_is_told_of_an_expression_and_of_a_program(rt: HostRuntime) {
+fn a_bad_snapshot_length_is_reported_for_an_expression_and_for_a_program(rt: HostRuntime) {
     for snap in [0, 262_145] {
         let spec = wanted(&rt, "tcp", snap, 0, Mode::Buffered);
         refuses(&rt, spec, Fault::Compile(0, Refusal::BadSnap));

@@ -33,7 +33,7 @@ fn is_told(rt: &(impl Abort + AllocGlobal), played: Played, room: usize) -> bool
 }
 
 #[test]
-fn told_is_an_error_only_if_standard_error_fails(rt: HostRuntime) {
+fn steps_report_an_error_only_if_standard_error_fails(rt: HostRuntime) {
     for played in PLAYED.iter() {
         let (_, _, _, reported) = played;
         for room in 0..=reported.len() {

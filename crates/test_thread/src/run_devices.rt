@@ -214,7 +214,7 @@ const AMPLE: usize = 1 << 20;
 static SOURCES: [(usize, usize, usize); 4] = [(81, 2, 132), (77, 1, 78), (23, 1, 78), (0, 1, 78)];
 
 #[test]
-fn a_broken_source_is_told_behind_its_packets(rt: HostRuntime) {
+fn a_broken_source_is_reported_after_its_packets(rt: HostRuntime) {
     let whole = concat(rt.alloc(), &[HEADER, TCP]).expect(&rt, "memory");
     let more = concat(rt.alloc(), &[HEADER, UDP, "000000"]).expect(&rt, "memory");
     same(&rt, more.len(), 81);
@@ -278,7 +278,7 @@ fn breaks_at(
 }
 
 #[test]
-fn a_broken_sink_is_told_by_its_bytes(rt: HostRuntime) {
+fn a_broken_sink_is_reported_by_its_bytes(rt: HostRuntime) {
     let text = concat(rt.alloc(), &[HEADER, TCP, UDP, TCP]).expect(&rt, "memory");
     for (room, packets) in ROOMS.iter() {
         breaks_at(&rt, text.as_slice(), *room, *packets);

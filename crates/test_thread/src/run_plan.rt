@@ -144,7 +144,7 @@ fn uncounted(rt: &(impl Abort + AllocGlobal)) -> Vec<InterfaceReport<u8, ()>> {
 }
 
 #[test]
-fn an_end_that_is_not_reached_is_told(rt: HostRuntime) {
+fn an_end_that_is_not_reached_is_reported(rt: HostRuntime) {
     let reports = uncounted(&rt);
     let mut out: Vec<u8> = Vec::new(rt.alloc());
     let mut err: Vec<u8> = Vec::new(rt.alloc());
@@ -167,7 +167,7 @@ fn is_its_own(rt: &(impl Abort + AllocGlobal), fault: RunFault) {
 }
 
 #[test]
-fn refusals_are_told_by_their_own_texts(rt: HostRuntime) {
+fn refusals_are_reported_by_their_own_texts(rt: HostRuntime) {
     is_its_own(&rt, RunFault::TooMany);
     is_its_own(&rt, RunFault::Open(1, 23, OpenFault::BadSnap));
     is_its_own(&rt, RunFault::Open(4, 0, OpenFault::BadCapacity));

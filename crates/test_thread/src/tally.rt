@@ -103,7 +103,7 @@ fn is_told(rt: &(impl Abort + AllocGlobal), room: usize, end: TaskEnd) {
 }
 
 #[test]
-fn what_is_told_as_written_is_what_out_has(rt: HostRuntime) {
+fn what_is_reported_as_written_is_what_out_has(rt: HostRuntime) {
     for room in 0..=340 {
         is_told(&rt, room, TaskEnd::Clean);
         is_told(&rt, room, TaskEnd::Write(333));

@@ -82,7 +82,7 @@ fn is_told<R: Abort + AllocGlobal + Threads + Wait + Sync>(
 }
 
 #[test]
-fn told_of_a_run_is_an_error_only_if_standard_error_fails(rt: HostRuntime) {
+fn a_run_reports_an_error_only_if_standard_error_fails(rt: HostRuntime) {
     for replayed in REPLAYED.iter() {
         let whole = replayed.2.len();
         for room in [0, whole / 2, whole] {
@@ -100,7 +100,7 @@ fn refuses(rt: &(impl Abort + AllocGlobal), fault: RunFault, reported: &str, roo
 }
 
 #[test]
-fn told_of_a_refusal_is_an_error_only_if_standard_error_fails(rt: HostRuntime) {
+fn a_refusal_reports_an_error_only_if_standard_error_fails(rt: HostRuntime) {
     let reported = "bpftap: NoStart\n";
     for room in 0..=reported.len() {
         refuses(&rt, RunFault::NoStart, reported, room);

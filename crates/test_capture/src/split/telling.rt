@@ -131,14 +131,14 @@ fn is_told(rt: &(impl Abort + AllocGlobal), case: Case) {
 }
 
 #[test]
-fn whole_parts_are_printed_and_the_others_told(rt: HostRuntime) {
+fn whole_parts_are_printed_and_the_others_reported(rt: HostRuntime) {
     for case in CASES.iter() {
         is_told(&rt, *case);
     }
 }
 
 #[test]
-fn standard_output_that_fails_is_told_first(rt: HostRuntime) {
+fn standard_output_that_fails_is_reported_first(rt: HostRuntime) {
     let taken = Vec::new(rt.alloc());
     let mut out = BreakingWriter { taken, room: 10 };
     let stop = Err(Stop::AtRecord(0, Fault::TooLong(9)));

@@ -4,7 +4,7 @@ use crate::same::same;
 use bpfvm::{Executed, Stored, read_listing, trace};
 
 #[test]
-fn a_run_is_told(rt: HostRuntime) {
+fn a_run_is_traced(rt: HostRuntime) {
     let program = read_listing(b"3\n40 0 0 0\n2 0 0 3\n6 0 0 1\n").expect(&rt, "a program");
     let run = trace(rt.alloc(), &program, &[1, 2], 2).expect(&rt, "there is memory");
     same(&rt, run.answer, 1);

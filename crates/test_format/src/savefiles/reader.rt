@@ -101,7 +101,7 @@ fn is_told_once(rt: &(impl Abort + AllocGlobal), text: &[u8], at_once: usize) {
 }
 
 #[test]
-fn a_torn_record_header_in_pieces_is_told_once(rt: HostRuntime) {
+fn a_torn_record_header_in_pieces_is_reported_once(rt: HostRuntime) {
     let whole = [1, 0, 0, 0, 5, 0, 0, 0, 2, 0, 0, 0, 60, 0, 0, 0, 7, 8];
     let text = joined(&rt, &[&HEADER_LITTLE_MICRO, &whole, &whole[..7]]);
     for at_once in [1, 5, 7, usize::MAX] {
@@ -175,7 +175,7 @@ fn fate_of_failure(call: usize) -> &'static str {
 }
 
 #[test]
-fn a_source_that_fails_anywhere_is_told(rt: HostRuntime) {
+fn a_source_that_fails_anywhere_is_reported(rt: HostRuntime) {
     for call in 1..80_usize {
         let source = source_of(&rt, ONE_PACKET.as_slice(), 1, call);
         has_fate(&rt, source, fate_of_failure(call));
@@ -295,7 +295,7 @@ fn gives_or_breaks(rt: &(impl Abort + AllocGlobal), mut reader: Reader<&[u8]>) {
 
 /// This one passes too where any one request for memory is refused.
 #[test]
-fn want_of_memory_breaks_a_reader(rt: HostRuntime) {
+fn refused_memory_breaks_a_reader(rt: HostRuntime) {
     match Reader::open(rt.alloc(), ONE_PACKET.as_slice()) {
         Ok(reader) => {
             is_sent(&reader);

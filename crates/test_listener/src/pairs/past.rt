@@ -7,7 +7,7 @@ use std::process::Abort;
 use std::test::Fail;
 
 #[test]
-fn a_past_prints_its_name_alone(rt: HostRuntime) -> Result<(), Fail> {
+fn a_past_prints_only_its_name(rt: HostRuntime) -> Result<(), Fail> {
     let alloc = rt.alloc();
     let (link, feeder, drain) = pair(alloc, keeping(32)?, 96, 4096)?;
     let (feed_end, _rest) = feeder.end(&link);

@@ -193,7 +193,7 @@ fn ends_whole(rt: &(impl Abort + AllocGlobal), report: &InterfaceReport<TapeSour
 }
 
 #[test]
-fn a_refused_header_ends_its_interface_alone(rt: HostRuntime) -> Result<(), Fail> {
+fn a_refused_header_ends_only_its_interface(rt: HostRuntime) -> Result<(), Fail> {
     let alloc = rt.alloc();
     let interfaces = vec![in alloc; headless(alloc)?, whole(alloc, [3, 5], 1)?]?;
     let reports = run(&rt, alloc, interfaces, &Open)?;
@@ -204,7 +204,7 @@ fn a_refused_header_ends_its_interface_alone(rt: HostRuntime) -> Result<(), Fail
 }
 
 #[test]
-fn a_torn_record_stands_behind_its_packets(rt: HostRuntime) -> Result<(), Fail> {
+fn a_torn_record_comes_after_its_packets(rt: HostRuntime) -> Result<(), Fail> {
     // the second at seconds 2 to 4 and without its last byte
     let captures = [
         in_full(1, &ONE),
@@ -291,7 +291,7 @@ fn without_captures_the_header_is_written(rt: HostRuntime) -> Result<(), Fail> {
 }
 
 #[test]
-fn without_interfaces_nothing_is_told(rt: HostRuntime) -> Result<(), Fail> {
+fn without_interfaces_nothing_is_reported(rt: HostRuntime) -> Result<(), Fail> {
     let none: Vec<Interface<TapeSource, PaperSink>> = Vec::new(rt.alloc());
     assert!(rt; run(&rt, rt.alloc(), none, &Open)?.is_empty());
     Ok(())

@@ -130,7 +130,7 @@ fn spares_of_zero_or_65_are_refused(rt: HostRuntime) -> Result<(), Fail> {
 }
 
 #[test]
-fn the_first_of_several_refusals_is_told(rt: HostRuntime) -> Result<(), Fail> {
+fn the_first_of_several_refusals_is_reported(rt: HostRuntime) -> Result<(), Fail> {
     let fault = OpenFault::BadSnap;
     refuses_two(&rt, &[(0, 40, 1)], &[], RunFault::Open(0, 0, fault))?;
     refuses_two(&rt, &[(262_145, 0, 0)], &[], RunFault::Open(0, 0, fault))?;
@@ -228,7 +228,7 @@ fn the_most_of_everything_is_replayed(rt: HostRuntime) -> Result<(), Fail> {
 }
 
 #[test]
-fn faults_are_told_by_name_and_place(rt: HostRuntime) -> Result<(), Fail> {
+fn faults_are_reported_by_name_and_place(rt: HostRuntime) -> Result<(), Fail> {
     for (fault, want) in [
         (RunFault::TooMany, "TooMany"),
         (

@@ -147,7 +147,7 @@ fn keep_some_in_order(
 }
 
 #[test]
-fn what_small_buffers_keep_stands_in_order(rt: HostRuntime) -> Result<(), Fail> {
+fn what_small_buffers_keep_is_in_order(rt: HostRuntime) -> Result<(), Fail> {
     let mut whole = Vec::new(rt.alloc());
     for sec in 0..250 {
         put_record(&mut whole, sec, &TCP_FRAME, 20)?;

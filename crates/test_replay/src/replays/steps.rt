@@ -195,7 +195,7 @@ fn two_interfaces(alloc: Global) -> Result<Vec<Interface<TapeSource, PaperSink>>
 }
 
 #[test]
-fn each_step_is_told_once_with_its_numbers(rt: HostRuntime) -> Result<(), Fail> {
+fn each_step_is_reported_once_with_its_numbers(rt: HostRuntime) -> Result<(), Fail> {
     let watch = Watch::new(&rt);
     let interfaces = two_interfaces(rt.alloc())?;
     let reports = run(&rt, rt.alloc(), interfaces, &watch)?;
