@@ -1,4 +1,4 @@
-//! A filter expression that is looked at: the functions under `bpftap check`.
+//! Prints what a filter expression says: the functions under `bpftap check`.
 
 ghost use Rattle.std.specs.Prelude.{◌≡◌, ◌++◌, IfOk, OnOk, IfErr, string_bytes};
 ghost use Rattle.std.specs.Io.KnownBytes.{Appends};
@@ -25,7 +25,7 @@ pub enum PrintFault {
     /// The expression has no program, and nothing is printed.
     #[error("{0}")]
     Expression(ExpressionFault),
-    /// Memory is wanting for the text, and nothing is printed.
+    /// Memory for the text ran out, and nothing is printed.
     #[error("NoMemory")]
     NoMemory,
     /// The writer failed, and a prefix of the text was printed.

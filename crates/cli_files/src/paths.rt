@@ -44,7 +44,7 @@ pub enum Target {
 /// When a command opens the files that it reads.
 #[derive(Clone, Copy, Debug, PartialEq, Eq)]
 pub enum Opening {
-    /// Before it makes a file. One that is not there is a fault of its own then, and none that could be lost.
+    /// Before it makes a file. A missing file is a fault of its own then, and can't be lost.
     First,
     /// One after the other, while it writes: so it could read what it has made.
     Late,
@@ -161,7 +161,7 @@ fn new_file<R: Files + AllocGlobal>(rt: &R, path: &str) -> io::Result<Option<Tar
     Err(io::Error::from(ErrorKind::FilesystemLoop))
 }
 
-/// The target that a new file would be. None can be made in a folder that is not there, nor without a name.
+/// The target that a new file would be. None can be made in a folder that does not exist, nor without a name.
 fn in_folder<R: Files + AllocGlobal>(rt: &R, path: &str) -> io::Result<Option<Target>> {
     let (folder, name) = folder_and_name(path);
     match metadata_of(rt, folder)? {
@@ -213,7 +213,7 @@ fn error_file<R: Files>(rt: &R) -> Result<Option<Target>, PathFault<'static>> {
     }
 }
 
-/// The files of a command that no further one may be.
+/// The files of a command, which no further file may be.
 #[derive(Drop)]
 struct Taken<'a> {
     /// The paths that are read.
@@ -230,7 +230,7 @@ impl<'a> Taken<'a> {
         }
     }
 
-    /// Takes files that are read, which may be one, but none of them the one that is printed to; then that one, and the one that
+    /// Takes the files that are read, which may be the same file, but not the one that is printed to; then that one, and the one that
     /// faults are reported to.
     fn add_read<R: Files + AllocGlobal>(
         &mut self,
@@ -259,7 +259,7 @@ impl<'a> Taken<'a> {
         Ok(())
     }
 
-    /// Takes files that are written, each of them another one than all before.
+    /// Takes the files that are written, each different from all before.
     fn add_written<'b, R: Files + AllocGlobal>(
         &mut self,
         rt: &R,

@@ -3,7 +3,7 @@
 use std::io;
 use std::io::{ErrorKind, Write};
 
-/// A writer, with whether it is a pipe that nobody reads any more: what fails then is not worth a word.
+/// A writer, with whether it is a pipe that nobody reads any more: then a failure is not reported.
 #[derive(Drop)]
 pub struct Piped<'a, W> {
     inner: &'a mut W,

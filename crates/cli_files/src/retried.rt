@@ -1,4 +1,4 @@
-//! Calls that a signal broke, which are made again.
+//! Calls that a signal interrupted, which are made again.
 
 ghost use Rattle.std.specs.Prelude.{◌≡◌, ◌≢◌, ◌↔◌, IfErr, IsTrue};
 ghost use Rattle.std.specs.Io.{ReadsAtMost, WritesAtMost};
@@ -19,7 +19,7 @@ impl<T> Retried<T> {
     }
 }
 
-/// Whether a signal broke a call.
+/// Whether a signal interrupted a call.
 fn is_broken_off(error: &io::Error) -> bool
     ensures { IsTrue result ↔ (error_kind error.now ≡ ErrorKind.Interrupted) }
 {

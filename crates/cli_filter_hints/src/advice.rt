@@ -109,7 +109,7 @@ pub(crate) enum Advice<'a> {
 }
 
 impl<'a> Advice<'a> {
-    /// The word that is meant is this one, in small letters.
+    /// The word is meant to be this one, in small letters.
     fn small_letters(backslash: bool, word: &'static str) -> Advice<'a> {
         let before = if backslash {
             "words are in small letters: `\\"

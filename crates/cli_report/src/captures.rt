@@ -9,10 +9,10 @@ use std::fmt::{Display, Formatter};
 use std::io::Write;
 use std::{fmt, io};
 
-/// What is done with a capture that is no savefile.
+/// What to do with a capture that is no savefile.
 const ANOTHER_FORMAT: &str = "this is another capture format: convert it with editcap -F pcap IN OUT";
 
-/// What files of other formats begin with, and what is done with them.
+/// What files of other formats begin with, and what to do with them.
 static OTHER_FORMATS: [(&[u8], &str); 8] = [
     (
         &[0x0a, 0x0d, 0x0d, 0x0a],
@@ -39,7 +39,7 @@ static OTHER_FORMATS: [(&[u8], &str); 8] = [
     (b"snoop\0", ANOTHER_FORMAT),
 ];
 
-/// What a file is that begins with some bytes, and what is done with it.
+/// What a file is that begins with some bytes, and what to do with it.
 fn other_format(first: &[u8]) -> Option<&'static str> {
     for (beginning, format) in OTHER_FORMATS.iter() {
         if first.starts_with(*beginning) {
@@ -67,7 +67,7 @@ fn is_big(header: &[u8; 24]) -> bool {
     header[0] == 0xa1
 }
 
-/// The number of the link type, with the bits beside it.
+/// The number of the link type, with the further bits of its field.
 fn link_type(header: &[u8; 24]) -> u32 {
     let field = &header[20..24];
     if is_big(header) {
@@ -77,7 +77,7 @@ fn link_type(header: &[u8; 24]) -> u32 {
     }
 }
 
-/// What a link type is called that is met often.
+/// The name of a common link type.
 fn link_name(number: u32) -> &'static str {
     match number {
         0 | 108 => " (BSD loopback)",

@@ -1,4 +1,4 @@
-//! Hints on what noted readers and writers failed in.
+//! Hints on the failures that readers and writers noted.
 
 ghost use Rattle.std.specs.Prelude.{◌≡◌, false};
 

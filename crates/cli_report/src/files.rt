@@ -8,13 +8,13 @@ use crate::stream::{HintSink, give_hint};
 use cli_text::fields::first_line;
 use std::io;
 
-/// The form of a line of LINES, and what else it wants.
+/// The form of a line of LINES, and what else it needs.
 pub const LINES: &str = "SNAP OUT EXPRESSION, with SNAP up to 262144 and an OUT of its own";
 
-/// The form of a line of LISTENERS of `bpftap steps`, and what else it wants.
+/// The form of a line of LISTENERS of `bpftap steps`, and what else it needs.
 pub const LISTENERS_OF_STEPS: &str = "SNAP CAPACITY EXPRESSION, with SNAP up to 262144";
 
-/// The form of a line of LISTENERS of `bpftap run`, and what else it wants.
+/// The form of a line of LISTENERS of `bpftap run`, and what else it needs.
 pub const LISTENERS_OF_RUN: &str =
     "INTERFACE FLUSH SNAP CAPACITY SPARES OUT EXPRESSION, with captures of INTERFACE, SNAP up to 262144 and an OUT of its own";
 

@@ -21,7 +21,7 @@ pub fn visible(character: char) -> char
     }
 }
 
-/// The first 60 characters of a text. Of bytes that are not UTF-8 each that is not ASCII is shown as `?`.
+/// The first 60 characters of a text. In bytes that are not UTF-8, each byte that is not ASCII is shown as `?`.
 #[derive(Clone, Copy)]
 pub struct Shown<'a>(pub &'a [u8]);
 

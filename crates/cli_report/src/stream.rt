@@ -58,7 +58,7 @@ impl<W: Write> Write for ErrorStream<W> {
     }
 }
 
-/// Whether a write failed: it is an error, but for a call that a signal broke, or took nothing of what it was given.
+/// Whether a write failed: with an error, unless a signal interrupted it, or by taking nothing of what it was given.
 fn has_failed(written: &io::Result<usize>, from: &[u8]) -> bool
     ensures { IfErr written.now (λ error. error_kind error ≢ ErrorKind.Interrupted → result ≡ true) }
 {

@@ -138,7 +138,7 @@ impl<'a> AnswerCursor<'a> {
         send(line.as_bytes(), out)
     }
 
-    /// Goes over the next answer, which is that to the n-th step.
+    /// Goes past the next answer, which is that to the n-th step.
     fn advance(&mut self, n: usize)
         ensures { self.new ≡ advanced n self.old }
     {
@@ -202,7 +202,7 @@ fn write_all<O: Write>(
     Ok(())
 }
 
-/// Goes over the next answer of each listener, which is that to the n-th step.
+/// Goes past the next answer of each listener, which is that to the n-th step.
 fn advance_all(all: &mut Vec<AnswerCursor<'_>>, n: usize)
     ensures { all.new.items ≡ map (advanced n) all.old.items }
 {
@@ -226,7 +226,7 @@ fn write_one<O: Write>(
     }
 }
 
-/// Goes over the next answer of the l-th listener, which is that to the n-th step.
+/// Goes past the next answer of the l-th listener, which is that to the n-th step.
 fn advance_one(all: &mut Vec<AnswerCursor<'_>>, n: usize, l: usize)
     ensures { all.new.items ≡ one_advanced n l all.old.items }
 {
@@ -339,7 +339,7 @@ fn write_own<O: Write>(
     Ok(())
 }
 
-/// Writes the n-th step, an arrival, and all answers to it, and goes over these. If no packet is left, there are none.
+/// Writes the n-th step, an arrival, and all answers to it, and goes past these. If no packet is left, there are none.
 fn write_arrive<O: Write>(
     n: usize,
     packets: &[PlacedPacket],
@@ -358,7 +358,7 @@ fn write_arrive<O: Write>(
     Ok(())
 }
 
-/// Writes the n-th step and the answers to it, and goes over these.
+/// Writes the n-th step and the answers to it, and goes past these.
 fn write_step<O: Write>(
     n: usize,
     step: Step,

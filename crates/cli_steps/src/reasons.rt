@@ -8,7 +8,7 @@ use std::fmt;
 use std::fmt::{Display, Formatter};
 use tap_steps::Answered;
 
-/// How a listener stood before a step.
+/// The state of a listener before a step.
 #[derive(Clone, Copy, Debug)]
 pub struct ListenerState {
     pub closed: bool,

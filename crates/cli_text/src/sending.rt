@@ -5,7 +5,7 @@ ghost use Rattle.cli_text.specs.Sending.{Takes};
 use std::io;
 use std::io::{ErrorKind, Write};
 
-/// How many interrupted writes a call goes over.
+/// How many interrupted writes a call tries again.
 const RETRIES: u32 = 64;
 
 /// Sends a text. If that fails, the writer took a prefix of the text and no more.

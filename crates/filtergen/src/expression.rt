@@ -17,7 +17,7 @@ use thiserror::Error;
 /// Why an expression has no program. It prints as the inner fault does.
 #[derive(Clone, Copy, Debug, PartialEq, Eq, Error)]
 pub enum ExpressionFault {
-    /// The text is refused: no tree reads it, or memory is wanting.
+    /// The text is refused: no tree reads it, or memory ran out.
     #[error("{0}")]
     Text(Fault),
     /// Its tree is not compiled.

@@ -84,7 +84,7 @@ pub fn cut<R: Source, W: Sink>(
     unit: Unit,
     to: W,
 ) -> CutEnd<R, W>
-    // What stood in the source, what it gave of it, what the sink took, and how that ended.
+    // What the source had, what it gave of that, what the sink took, and how that ended.
     ensures cuts { Cuts R.left W.taken from to program.now snap order unit result }
 
     // A device's fault is returned if and only if the device failed.

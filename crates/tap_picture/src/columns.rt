@@ -34,7 +34,7 @@ pub struct Columns<'a> {
 }
 
 impl<'a> Columns<'a> {
-    /// Before the first step, of a listener whose answers these are.
+    /// The columns before the first step, of the listener with these answers.
     pub fn new(listener: u32, trace: &'a Trace, answers: &'a [Answered]) -> Columns<'a> {
         Columns {
             listener,

@@ -13,10 +13,10 @@ pub const HEAD: u64 = 60;
 const LEAST_WIDTH: u64 = 900;
 /// The room at the left of a line of text, and again at its right.
 const INDENT: u64 = 10;
-/// The width of a character, of most of which it is less.
+/// The width of a character; most are narrower.
 const CHARACTER: u64 = 7;
 
-/// The width of the picture, of lanes that are so wide.
+/// The width of the picture, from the width of its lanes.
 pub fn page_width(lanes: u64) -> u64 {
     lanes.saturating_add(MARGIN + 2 * INDENT).max(LEAST_WIDTH)
 }

@@ -20,7 +20,7 @@ pub struct Scale {
 const STEP: u64 = 10;
 
 impl Scale {
-    /// Of buffers of this capacity that have at most `highest` bytes.
+    /// The scale of buffers of this capacity that have at most `highest` bytes.
     pub fn new(capacity: usize, highest: u64) -> Scale {
         let capacity = capacity as u64;
         let drawn = match highest {

@@ -155,7 +155,7 @@ impl Watched {
         Ok(())
     }
 
-    /// An empty buffer to bring to a read.
+    /// An empty buffer for a read.
     fn empty_buffer(&mut self, alloc: Global) -> Result<Buffer, AllocError>
         ensures ok { IfOk result (λ buffer. buffer ≡ filled self.old.listener.terms.capacity []) }
         ensures same { self.new ≡ self.old }
