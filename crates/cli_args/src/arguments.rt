@@ -115,7 +115,7 @@ fn default_snap<'a>(alloc: Global) -> Arg<'a> {
         "snap",
         's',
         "N",
-        "Snapshot length that the program of EXPR answers, 0 to 262144 (0 means 262144)",
+        "Snapshot length that the program of EXPR returns, 0 to 262144 (0 means 262144)",
     )
     .default_value("262144")
 }

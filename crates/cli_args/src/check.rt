@@ -46,7 +46,7 @@ static ARGUMENTS: [Argument; 5] = [
     Argument::Count(
         "named",
         'd',
-        "Print instructions by their names, as tcpdump -d does; -dd: as an array of C",
+        "Print instructions by name, as tcpdump -d does; -dd: as an array of C",
     ),
     Argument::Read,
     Argument::DefaultSnap,

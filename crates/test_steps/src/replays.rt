@@ -280,7 +280,7 @@ fn has_ten_bytes(rt: &(impl Abort + AllocGlobal), report: &Report) {
     same(rt, (message.sec, message.nanos, message.len), (1, 0, 38));
 }
 
-/// One packet arrived and was not kept.
+/// One packet arrived, and the filter rejected it.
 fn has_passed_one(rt: &(impl Abort + AllocGlobal), trace: &Trace) {
     same(rt, counts(at(rt, trace.reports.as_slice(), 0)), (1, 0, 0));
     has_fates(rt, trace, &[Fed::Passed]);
