@@ -26,10 +26,10 @@ PORTS = [53, 80, 443, 8080, 5353, 1024, 65535]
 ETHERNET = [0x020000000001, 0x020000000002, 0x020100000001, 0x0a0000000001, 0x0b0000000002, 0x0c0107000003, 0xffffffffffff]
 
 
-# What a test answers: True, False, or None where it aborts.
+# What a test answers: True, False, or None if it aborts.
 
 def number(frame, offset, size):
-    """Bytes of the frame as a number, or None where one of them is missing."""
+    """Bytes of the frame as a number, or None if one of them is missing."""
     return int.from_bytes(frame[offset:offset + size], "big") if offset + size <= len(frame) else None
 
 
@@ -38,7 +38,7 @@ def check(value, holds):
 
 
 def both(first, second):
-    """The second is asked where the first is True."""
+    """The second is asked if the first is True."""
     answer = first()
     return second() if answer is True else answer
 
@@ -268,7 +268,7 @@ def twins(rng):
 
 
 def a_list(rng):
-    """Operands of an `or`, or negations of an `and`, of one list or of several in any order; another test may stand among them."""
+    """Operands of an `or`, or negations of an `and`, of one list or of several in any order; another test may be among them."""
     if rng.random() < 0.1:
         return twins(rng)
     makers = pair(rng) if rng.random() < 0.2 else [maker(rng) for _ in range(rng.choice([1, 1, 2, 2, 3]))]
@@ -316,7 +316,7 @@ def frame(rng):
 
 
 def compared(rng, tree, program, frames):
-    """Runs a program on frames cut at each byte, and stops where it answers otherwise. How often it ran, and accepted."""
+    """Runs a program on frames cut at each byte, and stops if it answers otherwise. Returns how often it ran, and accepted."""
     runs = accepted = 0
     for _ in range(frames):
         whole = frame(rng)

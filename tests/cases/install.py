@@ -129,7 +129,7 @@ def without_a_program_nothing_is_put(scene):
 
 @case
 def bad_usage_has_the_usage(scene):
-    """An option that there is not, an empty prefix and two of them have the usage on standard error, with status 2."""
+    """An option that does not exist, an empty prefix and two of them have the usage on standard error, with status 2."""
     source = source_in(scene)
     for words in [["-x"], [""], ["a", "b"], ["--remove", "-x"], ["--remove", "a", "b"]]:
         seen = install(scene, source, *words)

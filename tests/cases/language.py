@@ -1,7 +1,7 @@
 """The fault of a text that is no expression, and its place: `check` reports it, with status 1."""
 from .common import case, fault_lines
 
-# Where a text has no token.
+# Texts with a place that has no token.
 FAILING_TOKENS = [
     ("tcp é", "BadByte 4"), ("tcpé", "BadByte 3"), ("tcé", "BadWord 0"), ("tcép", "BadWord 0"),
     ("tcp # udp", "BadByte 4"), ("tcp \f udp", "BadByte 4"), ("len $ 2", "BadByte 4"), ("1:2:3:4:5:6.", "BadByte 11"),

@@ -163,7 +163,7 @@ def memory_that_the_system_wants_is_a_fault_of_the_file(scene):
 
 @case
 def hints_say_nothing_else(scene):
-    """One block is refused: that is reported, or the fault, and no hint that is not there undisturbed."""
+    """One block is refused: that is reported, or the fault, and no hint that an undisturbed run lacks."""
     for words, [(_, _, whole, _), *runs] in sweep(scene, FAULTS, ONCE):
         for call, _, seen, _ in runs:
             first, *hints = seen.err.splitlines()
