@@ -10,7 +10,8 @@ use std::io::Write;
 use std::{fmt, io};
 
 /// What to do with a capture that is no savefile.
-const ANOTHER_FORMAT: &str = "this is another capture format: convert it with editcap -F pcap IN OUT";
+const ANOTHER_FORMAT: &str =
+    "this is another capture format: convert it with editcap -F pcap IN OUT";
 
 /// What files of other formats begin with, and what to do with them.
 static OTHER_FORMATS: [(&[u8], &str); 8] = [

@@ -108,9 +108,7 @@ pub fn hint_capacity<E: HintSink>(snap: u32, capacity: usize, err: &mut E)
 {
     let least = least_capacity(snap);
     give_hint(
-        format_args!(
-            "with SNAP {snap}, CAPACITY is {least} to 1048576 bytes, not {capacity}"
-        ),
+        format_args!("with SNAP {snap}, CAPACITY is {least} to 1048576 bytes, not {capacity}"),
         err,
     )
 }

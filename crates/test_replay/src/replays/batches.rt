@@ -81,7 +81,9 @@ fn told_at_once<R>(rt: &impl Abort, gate: &Batches<'_, R>) {
 }
 
 #[test]
-fn a_batch_is_reported_with_its_packets_before_it_is_handed_on(rt: HostRuntime) -> Result<(), Fail> {
+fn a_batch_is_reported_with_its_packets_before_it_is_handed_on(
+    rt: HostRuntime,
+) -> Result<(), Fail> {
     let alloc = rt.alloc();
     let bytes = AtomicU64::new(0);
     let gate = Batches {
