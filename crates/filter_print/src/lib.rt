@@ -23,8 +23,8 @@ use std::fmt::{Display, Formatter, Write};
 const MAX_NESTING: usize = 64;
 
 /// An expression to print, for a person or another program to read: `{}` writes its canonical text, in the words of
-/// pcap-filter(7). If it returns `Ok`, it wrote the bytes of this text and no others, even more than the 8,192 that
-/// `parse` takes. An error is the writer's, such as running out of memory in `to_string`; no clause says so.
+/// pcap-filter(7). If it returns `Ok`, it wrote the bytes of this text and no others, even if they are more than the 8,192
+/// that `parse` takes. An error is the writer's, such as running out of memory in `to_string`; no clause says so.
 #[derive(Clone, Copy)]
 pub struct Canonical<'a>(pub &'a Expr);
 

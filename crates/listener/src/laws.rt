@@ -51,8 +51,8 @@ pub fn looking_back()
     ensures { RunsAreKept }
 {}
 
-/// Looking back by positions gives the same: what is still in the store, whether the hold is full, and what is a drop follow
-/// from which earlier steps they come from.
+/// Looking back by positions gives the same: the positions of earlier steps say what is still in the store, whether the hold
+/// is full, and what is a drop.
 pub fn positions()
     ensures load { LoadIsByPositions }
     ensures held { HoldIsByPositions }

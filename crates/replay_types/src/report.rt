@@ -39,7 +39,7 @@ pub enum InterfaceEnd {
     /// All captures were read to their end.
     Clean,
     /// This capture has this fault, after all packets of the captures before it and its own before the fault; with
-    /// [`Fault::Device`] after a prefix of its own, and with [`Fault::NoMemory`] none.
+    /// [`Fault::Device`] after a prefix of its own, and with [`Fault::NoMemory`] after none of its own.
     Capture(u32, Fault),
     /// 2^64 - 2 packets arrived, the most that are counted.
     CountFull,
