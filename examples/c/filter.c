@@ -51,7 +51,7 @@ int main(int argc, char **argv) {
     while ((record = bpftap_next(memory, size, &reader)).fault == BPFTAP_OK) {
         const uint8_t *packet = memory + record.offset;
         if (bpftap_program_run(program, packet, record.captured, record.wire)) {
-            /* The record as it stands: its header of 16 bytes and the captured bytes. */
+            /* The whole record: its header of 16 bytes and the captured bytes. */
             fwrite(packet - 16, 1, 16 + record.captured, out);
             kept++;
         }
