@@ -43,7 +43,6 @@ fn is_counted(end: End) -> bool
     }
 }
 
-/// The line of a tally.
 #[tactic(auto, unfolding(crate::specs::Telling::tally_line))]
 fn tally_line(tally: Tally) -> io::Result<Line>
     ensures { IfOk result (λ line. line ≡ tally_line tally) }
@@ -53,7 +52,6 @@ fn tally_line(tally: Tally) -> io::Result<Line>
     Ok(line)
 }
 
-/// Reports a tally.
 fn report_tally<E: Write>(tally: Tally, err: &mut E) -> io::Result<()>
     ensures { Takes (E.contents err.old) (E.contents err.new) result (tally_line tally) }
 {

@@ -26,7 +26,6 @@ fn bare_interfaces<R: Drop, W: Drop>(
     Ok(interfaces)
 }
 
-/// The task of a line.
 fn task_of<W>(line: &RunLine<'_>, program: Program, sink: W) -> Task<W>
     ensures { result ≡ task_of line.now program sink }
 {

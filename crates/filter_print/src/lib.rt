@@ -48,7 +48,6 @@ fn parentheses_of(expr: &Expr) -> Parentheses
     }
 }
 
-/// Writes a relation.
 fn write_relation<W: Write>(
     f: &mut Formatter<W>,
     comparison: Comparison,

@@ -26,7 +26,6 @@ const ACCESSOR: u64 = 20;
 /// The weight of an operator, a comparison too, without its operands.
 const OPERATOR: u64 = 10;
 
-/// The weight of a value.
 fn value_weight(value: &Value) -> u64
     ensures { result ≡ min (value_weight (amount_of value.now)) u64.MAX }
 {
@@ -60,7 +59,6 @@ pub fn weight(expr: &Expr) -> u64
     }
 }
 
-/// The need of a value.
 fn value_need(value: &Value) -> u64
     ensures { result ≡ min (value_need (amount_of value.now)) u64.MAX }
 {

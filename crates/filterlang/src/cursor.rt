@@ -92,7 +92,6 @@ impl<'a> Cursor<'a> {
         Ok(read)
     }
 
-    /// A port number.
     fn port(&mut self) -> Result<u16, Fault>
         ensures { Gives (λ port. (port, kinds self.new.rest.now)) result (port_at (kinds self.old.rest.now)) }
     {

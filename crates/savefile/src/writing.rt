@@ -58,7 +58,6 @@ pub fn file_header(order: Order, unit: Unit, snap: u32) -> [u8; HEADER_LEN]
     }
 }
 
-/// The header of a record.
 fn record_header_in<B: ByteOrder>(
     sec: u32,
     fraction: u32,

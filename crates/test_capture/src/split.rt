@@ -240,7 +240,6 @@ fn broke_in_a_record(rt: &(impl Abort + AllocGlobal), end: Split<'_>) {
     check(rt, "all", part_at(rt, &end, 2), all, Ok(()));
 }
 
-/// It broke in its header.
 fn broke_in_a_header(rt: &(impl Abort + AllocGlobal), end: Split<'_>) {
     check_end(rt, &end, Err(Stop::AtHeader(1, Fault::Device)));
     check(rt, "all", part_at(rt, &end, 2), &[HEADER, UDP], Ok(()));

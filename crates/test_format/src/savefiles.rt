@@ -77,7 +77,6 @@ fn reads(rt: &(impl Abort + AllocGlobal), parts: &[&[u8]], want: &str) {
     is_text(rt, told(rt, &text), want);
 }
 
-/// A text is this.
 fn is_text(rt: &impl Abort, got: String, want: &str) {
     same(rt, got.as_str(), want);
 }

@@ -410,7 +410,6 @@ fn made<T: Drop>(rt: &impl Abort, answer: Result<T, OpenFault>) -> T {
     }
 }
 
-/// Six packets arrive.
 fn six_arrive(rt: &impl Abort, listener: &mut Listener) {
     for place in 0..6 {
         assert!(rt; listener.counts().received < u64::MAX);

@@ -350,7 +350,6 @@ fn capacities_and_snapshot_lengths_have_their_ranges(rt: HostRuntime) -> Result<
     Ok(())
 }
 
-/// One arrival.
 fn arrive(link: &Link, feeder: &mut Feeder, place: u64) -> Option<Fed>
     requires { feeder.old.pair ≡ link.now }
     ensures { feeder.new.pair ≡ feeder.old.pair }

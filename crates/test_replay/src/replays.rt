@@ -145,7 +145,6 @@ fn source_for(alloc: Global, recorded: Recorded<'_>) -> Result<TapeSource, Alloc
     Ok(source)
 }
 
-/// The sources of captures.
 fn sources_for(alloc: Global, captures: &[Recorded<'_>]) -> Result<Vec<TapeSource>, AllocError> {
     let mut sources = Vec::new(alloc);
     for recorded in captures {
@@ -184,7 +183,6 @@ fn sink_with(alloc: Global, room: usize) -> Counted<Paper> {
     })
 }
 
-/// One instruction.
 fn insn(code: u16, jt: u8, jf: u8, k: u32) -> Insn {
     Insn { code, jt, jf, k }
 }

@@ -168,7 +168,6 @@ fn four_packets_rotate_and_drop(rt: HostRuntime) {
     rotates_and_drops(&rt, keeping(&rt, 64, 96));
 }
 
-/// What a replay answers.
 type ReplayAnswer = Result<(Vec<Report>, Option<(u32, savefile::Fault)>), Fault>;
 
 /// Both calls report the same of one listener.

@@ -36,7 +36,6 @@ fn one_program_in_four_notations(rt: HostRuntime) {
     same(&rt, program.insns().len(), 4);
 }
 
-/// A text has this fault.
 fn has_fault(rt: &(impl Abort + AllocGlobal), text: &[u8], fault: AssemblyFault) {
     same(rt, read_assembly(rt.alloc(), text).err(), Some(fault));
 }

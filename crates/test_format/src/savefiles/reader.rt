@@ -132,7 +132,6 @@ fn fate<R: Source + Drop>(rt: &(impl Abort + AllocGlobal), mut reader: Reader<R>
     told.expect(rt, "memory")
 }
 
-/// A source has this fate.
 fn has_fate<R: Source + Drop>(rt: &(impl Abort + AllocGlobal), source: R, want: &str) {
     let told = match opened(rt.alloc(), source) {
         Ok(reader) => fate(rt, reader),

@@ -217,7 +217,6 @@ fn read_of(alloc: Global, listener: &mut Listener) -> Result<Option<Vec<KeptMess
     }
 }
 
-/// A read at both.
 fn read_at_both(
     rt: &(impl Abort + AllocGlobal),
     listener: &mut Listener,
@@ -263,7 +262,6 @@ fn compare(
     Ok(())
 }
 
-/// One random step at both.
 fn step_at_both(
     rt: &(impl Abort + AllocGlobal),
     listener: &mut Listener,

@@ -209,7 +209,6 @@ fn end_clean(
     }
 }
 
-/// 16 interfaces are replayed.
 fn replays_the_most_interfaces(
     rt: &(impl Abort + AllocGlobal + Threads + Wait + Sync),
 ) -> Result<(), Fail> {
