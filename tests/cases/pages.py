@@ -69,7 +69,7 @@ def program_and_pages_name_one_logic(scene):
 
 def pages():
     """All pages of the repository."""
-    named = [ROOT / name for name in ("README.md", "CONTRIBUTING.md", "CHANGELOG.md")]
+    named = [ROOT / name for name in ("README.md", "CONTRIBUTING.md", "CHANGELOG.md", "tests/README.md")]
     return named + [page for place in ("docs/*.md", "crates/*/README.md", "examples/**/*.md")
                     for page in sorted(ROOT.glob(place))]
 
@@ -120,8 +120,8 @@ def public_items_are_on_their_pages(scene):
 
 @case
 def contributors_are_told_each_group(scene):
-    """CONTRIBUTING names each group of cases and each crate of tests."""
-    told = set(re.findall(r"`(\w+)`", (ROOT / "CONTRIBUTING.md").read_text()))
+    """The page of the tests names each group of cases and each crate of tests."""
+    told = set(re.findall(r"`(\w+)`", (ROOT / "tests" / "README.md").read_text()))
     groups = {page.stem for page in (ROOT / "tests" / "cases").glob("*.py")} - {"__init__", "common"}
     tests = {page.name for page in ROOT.glob("crates/test_*")}
     scene.check("groups and crates that it has not", sorted((groups | tests) - told), [])
