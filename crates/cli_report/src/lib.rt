@@ -3,6 +3,7 @@
 #![tactic(auto)]
 
 pub mod captures;
+pub mod commands;
 pub mod failures;
 pub mod files;
 pub mod probe;
