@@ -50,6 +50,36 @@ def help_ends_with_none(scene):
 
 
 @case
+def help_has_a_page_of_the_language(scene):
+    """`help expressions` prints at least twenty examples, and each of them compiles."""
+    seen = scene.run("help expressions")
+    scene.check("standard error and status", (seen.err, seen.status), (b"", 0))
+    lines = seen.out.decode().partition("Examples:\n")[2].partition("\n\n")[0].splitlines()
+    examples = [line[2:48].rstrip() for line in lines]
+    scene.check("at least twenty", len(examples) >= 20, True)
+    for example in examples:
+        checked = scene.run(["check", example])
+        scene.check(f"check {example!r}", (checked.err, checked.status), (b"", 0))
+
+
+# Commands that there are not, and a part of the hint on each.
+POINTED = [
+    ("count in.pcap", b"bpftap cut -c"), ("filter tcp in.pcap out.pcap", b"bpftap cut"), ("read in.pcap", b"bpftap explain"),
+    ("merge a.pcap b.pcap", b"mergecap"),
+]
+
+
+@case
+def unknown_commands_are_pointed_to_a_way(scene):
+    """An unknown command that other tools have is pointed to what does the same, if hints are wanted."""
+    for words, part in POINTED:
+        plain, hinted = scene.run(words), scene.run(f"--hints {words}")
+        scene.check(f"status of {words}", (plain.status, hinted.status), (1, 1))
+        scene.check(f"{words} without hints", part in plain.err, False)
+        scene.check(f"{words} with hints", hinted.err.startswith(plain.err) and part in hinted.err[len(plain.err):], True)
+
+
+@case
 def a_signed_snapshot_length_has_the_usage_of_cut(scene):
     """A snapshot length with a sign is reported together with the usage of `cut`."""
     seen = scene.run("cut -s +5 -f x in.pcap out.pcap")

@@ -4,12 +4,13 @@ use clap::Error;
 use clap::error::ErrorKind;
 use cli_args::command_line::{Request, read_words};
 use cli_args::refusal::printed_error;
-use cli_args::report::report_words_fault;
+use cli_args::report::{print_page, report_words_fault};
 use cli_cut::command::{check_command, cut_command};
 use cli_explain::command::explain_command;
 use cli_files::late::reserve_std_fd;
 use cli_filter_hints::quotes::hint_unquoted;
 use cli_report::HintSink;
+use cli_report::commands::hint_command;
 use cli_run::command::{NamesFiles, run_command};
 use cli_split::command::split_command;
 use cli_steps::command::steps_command;
@@ -49,6 +50,7 @@ fn dispatch<
         Ok(Request::Steps(words)) => steps_command(rt, &words, out, err),
         Ok(Request::Run(words)) => run_command(rt, &words, out, err),
         Ok(Request::Split(words)) => split_command(rt, &words, out, err),
+        Ok(Request::Topic(page)) => print_page(page, out, err),
         Err(error) => report_usage(rt.alloc(), words, error, out, err),
     }
 }
@@ -63,8 +65,10 @@ fn report_usage<S: AsStr, O: Write, E: HintSink>(
 ) -> Status {
     let error = printed_error(alloc, words, error);
     let status = report_words_fault(&error, out, err);
-    if error.kind() == ErrorKind::UnknownArgument {
-        hint_unquoted(alloc, words, err);
+    match error.kind() {
+        ErrorKind::UnknownArgument => hint_unquoted(alloc, words, err),
+        ErrorKind::InvalidSubcommand => hint_command(words, err),
+        _ => {}
     }
     status
 }

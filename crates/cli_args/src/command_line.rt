@@ -7,6 +7,7 @@ use crate::run::{RunWords, run_usage, run_words};
 use crate::split::{SplitWords, split_usage, split_words};
 use crate::steps::{StepsWords, steps_usage, steps_words};
 use crate::subcommand::{bad_value, subcommand};
+use crate::topics::topic_of;
 use clap::error::ErrorKind;
 use clap::{Arg, ArgAction, ArgMatches, Command, Error};
 use cli_text::fields::snapshot_length;
@@ -42,6 +43,8 @@ pub enum Request<'a> {
     Steps(StepsWords<'a>),
     Run(RunWords<'a>),
     Split(SplitWords<'a>),
+    /// A page of help, as its text.
+    Topic(&'static str),
 }
 
 /// What the program calls itself, and in which logic it was proved, as `rt version` names it. Kits share one.
@@ -58,6 +61,7 @@ const EXAMPLES: &str = "Examples:
   bpftap split examples/split/lines.txt examples/veth.pcap
   bpftap steps -v examples/steps/listeners.txt examples/steps/script.txt examples/veth.pcap
   bpftap run examples/run/listeners.txt examples/veth.pcap
+  bpftap help expressions     the filter language on one page
 
 Exit status: 0 clean; 1 bad usage, invalid input, or out of memory; 2 a torn or bad record, after
 the packets before it; 3 a file or device failed.";
@@ -275,6 +279,9 @@ fn asked_by<'a>(
 
 /// What the words ask for, the program's name first; or `clap`'s error, which for a call for help has the help.
 pub fn read_words<'a, S: AsStr>(alloc: Global, words: &'a [S]) -> Result<Request<'a>, Error> {
+    if let Some(page) = topic_of(words) {
+        return Ok(Request::Topic(page));
+    }
     let mut program = program(alloc)?;
     match read_by(alloc, &mut program, words) {
         Ok(request) => Ok(request),

@@ -11,3 +11,4 @@ pub mod run;
 pub mod split;
 pub mod steps;
 mod subcommand;
+mod topics;

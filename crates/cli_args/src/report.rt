@@ -21,3 +21,11 @@ pub fn report_words_fault<O: Write, E: Write>(error: &Error, out: &mut O, err: &
         }
     }
 }
+
+/// Prints a page of help.
+pub fn print_page<O: Write, E: Write>(page: &str, out: &mut O, err: &mut E) -> Status {
+    match write!(out, "{page}") {
+        Ok(()) => Status::Clean,
+        Err(error) => report_unwritten(&error, err),
+    }
+}
