@@ -121,10 +121,10 @@ def public_items_are_on_their_pages(scene):
 @case
 def contributors_are_told_each_group(scene):
     """The page of the tests names each group of cases and each crate of tests."""
-    told = set(re.findall(r"`(\w+)`", (ROOT / "tests" / "README.md").read_text()))
+    named = set(re.findall(r"`(\w+)`", (ROOT / "tests" / "README.md").read_text()))
     groups = {page.stem for page in (ROOT / "tests" / "cases").glob("*.py")} - {"__init__", "common"}
     tests = {page.name for page in ROOT.glob("crates/test_*")}
-    scene.check("groups and crates that it has not", sorted((groups | tests) - told), [])
+    scene.check("groups and crates that it lacks", sorted((groups | tests) - named), [])
 
 
 @case
