@@ -1,7 +1,7 @@
 //! What helps to fix an expression.
 
 use crate::nearest::in_small_letters;
-use crate::spots::{Spot, first_word, last_word, without_blanks};
+use crate::spots::{Spot, first_word, without_blanks, without_last_word};
 use crate::suggestions::Gap;
 use cli_report::shown::Shown;
 use filterlang::Fault;
@@ -9,11 +9,14 @@ use std::alloc::{AllocError, Global};
 use std::fmt;
 use std::fmt::{Display, Formatter};
 
-/// Words of other systems' languages that this profile lacks.
-static OTHER_LINKS: [&[u8]; 12] = [
+/// Words of libpcap's language for Ethernet that this profile lacks.
+static OTHER_LINKS: [&[u8]; 11] = [
     b"ip6", b"icmp6", b"vlan", b"mpls", b"pppoed", b"pppoes", b"geneve", b"atalk", b"decnet",
-    b"ipx", b"llc", b"wlan",
+    b"ipx", b"llc",
 ];
+
+/// The word of libpcap's language for wireless links.
+const WIRELESS: &[u8] = b"wlan";
 
 /// A protocol that is written by its number.
 struct ByNumber {
@@ -97,6 +100,16 @@ static BEFORE_ADDRESSES: [&[u8]; 4] = [b"host", b"net", b"src", b"dst"];
 /// The word that the number or the name of a protocol follows.
 const PROTO: &[u8] = b"proto";
 
+/// The word before `proto` if it takes an Ethernet type.
+const ETHER: &[u8] = b"ether";
+
+/// What to write after `ether proto`.
+const ETHERNET_TYPE: &str =
+    "write a number from 1501 to 65535 after `ether proto`, or `\\ip`, `\\arp` or `\\rarp`";
+
+/// The word that two ports follow.
+const PORTRANGE: &[u8] = b"portrange";
+
 /// What helps to fix an expression.
 #[derive(Clone, Copy)]
 pub(crate) enum Advice<'a> {
@@ -104,6 +117,8 @@ pub(crate) enum Advice<'a> {
     Said(&'static str),
     /// A sentence around a word in backquotes.
     Round(&'static str, &'a [u8], &'static str),
+    /// A sentence around a word that only libpcap reads.
+    Elsewhere(&'static str, &'a [u8], &'static str),
     /// What is written here for a word, which has a backslash before it or not.
     Written(&'static str, &'static str, &'a [u8]),
 }
@@ -117,6 +132,11 @@ impl<'a> Advice<'a> {
             "words are in small letters: `"
         };
         Advice::Round(before, word.as_bytes(), "`")
+    }
+
+    /// Whether libpcap's compiler reads what is not read here.
+    pub(crate) fn is_read_elsewhere(&self) -> bool {
+        matches!(self, Advice::Elsewhere(..))
     }
 
     /// The word that may be meant.
@@ -134,7 +154,9 @@ impl Display for Advice<'_> {
     fn fmt<W: fmt::Write>(&self, f: &mut Formatter<W>) -> fmt::Result {
         match self {
             Advice::Said(sentence) => f.write_str(*sentence),
-            Advice::Round(before, word, after) => write!(f, "{before}{}{after}", Shown(*word)),
+            Advice::Round(before, word, after) | Advice::Elsewhere(before, word, after) => {
+                write!(f, "{before}{}{after}", Shown(*word))
+            }
             Advice::Written(written, backslash, word) => {
                 write!(f, "write `{written}` for `{backslash}{}`", Shown(*word))
             }
@@ -227,20 +249,28 @@ fn of_name<'a>(spot: Spot<'a>) -> Advice<'a> {
     let (before, name) = (spot.last(), spot.word());
     if spot.has_backslash() {
         Advice::Said("write a backslash only before `tcp`, `udp`, `icmp`, `ip`, `arp` or `rarp`")
+    } else if before == PORTRANGE {
+        Advice::Elsewhere(
+            "service names are not supported: write two numbers, as in `portrange 20-30`, for `",
+            name,
+            "`",
+        )
     } else if BEFORE_PORTS.contains(&before) {
-        Advice::Round(
+        Advice::Elsewhere(
             "service names are not supported: write a number, as in `port 80`, for `",
             name,
             "`",
         )
+    } else if before == PROTO && spot.second_last() == ETHER {
+        Advice::Said(ETHERNET_TYPE)
     } else if before == PROTO {
-        Advice::Round(
+        Advice::Elsewhere(
             "protocol names are not supported here: write a number, as in `proto 17`, for `",
             name,
             "`",
         )
     } else if BEFORE_ADDRESSES.contains(&before) || name.contains(&b'.') {
-        Advice::Round(
+        Advice::Elsewhere(
             "names of hosts and nets are not supported: write the address of `",
             name,
             "`",
@@ -254,17 +284,26 @@ fn of_name<'a>(spot: Spot<'a>) -> Advice<'a> {
     }
 }
 
+/// What helps at a word for what this profile leaves out.
+fn of_other_link<'a>(spot: Spot<'a>) -> Option<Advice<'a>> {
+    let (before, after) = ("only Ethernet with IPv4 is supported, not `", "`");
+    let word = spot.word();
+    if OTHER_LINKS.contains(&word) {
+        Some(Advice::Elsewhere(before, word, after))
+    } else if word == WIRELESS {
+        Some(Advice::Round(before, word, after))
+    } else {
+        None
+    }
+}
+
 /// What helps at a word that the language lacks.
 fn of_word<'a>(alloc: Global, spot: Spot<'a>) -> Result<Advice<'a>, AllocError> {
     if let Some(advice) = of_flag(alloc, spot)? {
         return Ok(advice);
     }
-    if OTHER_LINKS.contains(&spot.word()) {
-        return Ok(Advice::Round(
-            "only Ethernet with IPv4 is supported, not `",
-            spot.word(),
-            "`",
-        ));
+    if let Some(advice) = of_other_link(spot) {
+        return Ok(advice);
     }
     if let Some(advice) = of_other_word(alloc, spot)? {
         return Ok(advice);
@@ -307,8 +346,9 @@ fn of_number<'a>(word: &[u8]) -> Advice<'a> {
 }
 
 /// What to write after a word that takes a number or an address; nothing for other words.
-fn operand_of(last: &[u8]) -> Option<&'static str> {
-    if last == b"portrange".as_slice() {
+fn operand_at(spot: Spot<'_>) -> Option<&'static str> {
+    let last = spot.last();
+    if last == PORTRANGE {
         Some("write two numbers after `portrange`, as in `portrange 20-30`")
     } else if BEFORE_PORTS.contains(&last) {
         Some("write a number after `port`, as in `port 80`")
@@ -316,6 +356,8 @@ fn operand_of(last: &[u8]) -> Option<&'static str> {
         Some("write an address after `host`, as in `host 192.0.2.1`")
     } else if last == b"net".as_slice() {
         Some("write an address after `net`, as in `net 192.0.2.0/24`")
+    } else if last == PROTO && spot.second_last() == ETHER {
+        Some(ETHERNET_TYPE)
     } else if last == PROTO {
         Some(
             "write a number after `proto`, as in `proto 17`, or a name with a backslash, as in `proto \\udp`",
@@ -355,7 +397,7 @@ fn of_token<'a>(alloc: Global, spot: Spot<'a>) -> Result<Advice<'a>, AllocError>
     } else {
         of_joint(alloc, spot)?
     };
-    Ok(match (advice, operand_of(spot.last())) {
+    Ok(match (advice, operand_at(spot)) {
         (Some(advice), _) => advice,
         (None, Some(said)) => Advice::Said(said),
         (None, None) => Advice::Round("unexpected `", spot.token(), "`"),
@@ -367,17 +409,14 @@ fn of_syntax<'a>(alloc: Global, spot: Spot<'a>) -> Result<Advice<'a>, AllocError
     if !spot.rest().is_empty() {
         return of_token(alloc, spot);
     }
-    Ok(Advice::Said(operand_of(spot.last()).unwrap_or(
+    Ok(Advice::Said(operand_at(spot).unwrap_or(
         "the expression ends too early: `and`, `or` and `not` need a term, and each `(` a `)`",
     )))
 }
 
 /// What helps at an identifier that has no qualifier.
 fn of_no_qualifier<'a>(before: &[u8]) -> Advice<'a> {
-    let joint = last_word(before);
-    let left = without_blanks(before);
-    let term = without_blanks(&left[..left.len() - joint.len().min(left.len())]);
-    if term.ends_with(b")") {
+    if without_blanks(without_last_word(before)).ends_with(b")") {
         Advice::Said("after `(a or b)` write the qualifier again, as in `(tcp or udp) or port 53`")
     } else {
         Advice::Said("no qualifier to inherit: write `port 80` or `host 192.0.2.1` in full")

@@ -10,8 +10,13 @@ use filtergen_facts::Refusal;
 use filterlang::Fault;
 use std::alloc::Global;
 
+/// The way to a program that this compiler does not make.
+const BY_LIBPCAP: &str =
+    "tcpdump -y EN10MB -ddd EXPR > f.bpf, then -f f.bpf with cut, check or explain";
+
 /// Hints on an expression that is refused: the part of it round the fault's place, with a caret under the place, and a sentence
-/// that helps. If the fault has no place the sentence stands alone, and of refused memory nothing is said.
+/// that helps. If the fault has no place the sentence stands alone, and of refused memory nothing is said. For what libpcap reads, the
+/// way over its compiler follows.
 ///
 /// A word is suggested only if the whole text with it put in is an expression, or reads on past it.
 pub fn hint_text_fault<E: HintSink>(alloc: Global, text: &str, fault: Fault, err: &mut E)
@@ -25,6 +30,9 @@ pub fn hint_text_fault<E: HintSink>(alloc: Global, text: &str, fault: Fault, err
     if err.takes_hints() {
         if let Ok(Some(advice)) = advice_on(alloc, text, fault) {
             give_hint(advice, err);
+            if advice.is_read_elsewhere() {
+                give_hint(format_args!("libpcap reads that: {BY_LIBPCAP}"), err);
+            }
         }
     }
 }
@@ -38,10 +46,9 @@ pub fn hint_too_long<E: HintSink>(err: &mut E)
         err,
     );
     give_hint(
-        "or let libpcap make a listing, if it finds a shorter one, for -f in place of the expression:",
+        format_args!("or try whether libpcap finds a shorter one: {BY_LIBPCAP}"),
         err,
-    );
-    give_hint("tcpdump -ddd -s 262144 -y EN10MB EXPR > filter.bpf", err)
+    )
 }
 
 /// A hint on an expression with a relation that is too deep.

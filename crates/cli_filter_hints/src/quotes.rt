@@ -34,13 +34,43 @@ fn is_lexed(alloc: Global, word: &str) -> Result<bool, AllocError> {
     }
 }
 
-/// Whether a word begins with a word of the filter language.
-fn begins_expression<S: AsStr>(word: &S) -> bool {
-    let word = word.as_str();
-    match word.split_once(' ') {
+/// Whether an argument begins with a word of the filter language.
+fn begins_with_word(word: &str) -> bool {
+    match word.split_once(|one: char| one == ' ' || one == '[') {
         Some((first, _)) => is_word(first),
         None => is_word(word),
     }
+}
+
+/// Whether an argument is an option, as `-s` or `--hints`.
+fn is_option(word: &str) -> bool {
+    match word.as_bytes() {
+        [b'-', next, ..] => *next == b'-' || next.is_ascii_alphabetic(),
+        _ => false,
+    }
+}
+
+/// Whether a word is an option with a value after it that is no expression.
+fn takes_value(word: &str) -> bool {
+    word == "-s" || word == "-o" || word == "-u" || word == "-f" || word == "-p"
+}
+
+/// Where the arguments that look like an expression begin: at the first that begins with a word of the filter language, or at the
+/// tokens right before it, as `!` and `10 <`, but not at an option or its value.
+fn beginning_of<S: AsStr>(alloc: Global, words: &[S]) -> Result<Option<usize>, AllocError> {
+    let mut beginning = 0;
+    let mut is_value = false;
+    for (place, word) in words.iter().enumerate() {
+        let word = word.as_str();
+        if begins_with_word(word) {
+            return Ok(Some(beginning));
+        }
+        if is_value || is_option(word) || !is_lexed(alloc, word)? {
+            beginning = place.saturating_add(1);
+        }
+        is_value = takes_value(word);
+    }
+    Ok(None)
 }
 
 /// Whether these are arguments of `check`, which takes an expression and nothing else.
@@ -53,13 +83,12 @@ fn takes_all<S: AsStr>(words: &[S], first: &str) -> bool {
     is_check(words) && !first.contains(' ')
 }
 
-/// The arguments that look like an expression: from one on that begins with a word of the filter language, all that are of its tokens;
-/// of `check` all up to an option.
+/// The arguments that look like an expression: from its beginning on all that are of tokens; of `check` all up to an option.
 fn expression_in<S: AsStr>(alloc: Global, words: &[S]) -> Result<&[S], AllocError> {
-    let Some(start) = words.iter().position(begins_expression) else {
+    let Some(beginning) = beginning_of(alloc, words)? else {
         return Ok(&words[..0]);
     };
-    let rest = &words[start..];
+    let rest = words.get(beginning..).unwrap_or(&words[..0]);
     let takes_all = match rest.first() {
         Some(first) => takes_all(words, first.as_str()),
         None => false,
@@ -92,9 +121,11 @@ fn lacks_option<S: AsStr>(words: &[S]) -> bool {
     takes_one
 }
 
-/// Whether a text can be shown in quotes.
+/// Whether a text can be given in quotes as it is: one that begins with `-` would be taken for an option.
 fn can_be_quoted(text: &str) -> bool {
-    text.len() <= MAX_QUOTED && !text.chars().any(|one| one == '\'' || one.is_control())
+    text.len() <= MAX_QUOTED
+        && !text.starts_with("-")
+        && !text.chars().any(|one| one == '\'' || one.is_control())
 }
 
 /// Whether a text is suggested as the expression of these arguments: it is one, or, of `check`, it reads on past its first word.

@@ -35,6 +35,11 @@ impl<'a> Spot<'a> {
         last_word(self.before())
     }
 
+    /// The word before that one.
+    pub(crate) fn second_last(&self) -> &'a [u8] {
+        last_word(without_last_word(self.before()))
+    }
+
     /// Whether a backslash is at the place.
     pub(crate) fn has_backslash(&self) -> bool {
         self.rest().starts_with(b"\\")
@@ -114,6 +119,12 @@ pub(crate) fn last_word(text: &[u8]) -> &[u8] {
         None => 0,
     };
     &text[start..]
+}
+
+/// A text without the word or the name at its end, nor the blanks after that.
+pub(crate) fn without_last_word(text: &[u8]) -> &[u8] {
+    let text = without_blanks(text);
+    text.strip_suffix(last_word(text)).unwrap_or(text)
 }
 
 /// A text without the blanks at its end.
