@@ -7,6 +7,7 @@
                                    bench/listener first, in a copy, over what ./build kept
   bench/bench.py --steps           user instructions for each packet of a replay by `bpftap steps`, with one listener and with 64, read at
                                    each full hold
+  bench/bench.py --explain         user instructions for each packet of `bpftap explain`, on the real capture of `examples/`
   bench/bench.py --run             packets per second of `bpftap run` with 1 to 8 listeners and 1 to 4 interfaces, beside as many `cut`
                                    and tcpdump at once; what is dropped with few buffers; instructions for a packet that nobody accepts,
                                    by `run` and by `cut`
@@ -28,7 +29,7 @@ Machines are noisy, so the ratios of one run are what to compare. Instructions a
 bpftap and tcpdump write are compared.
 
 It needs only Python. The program is this folder's, or BPFTAP=PATH. Without tcpdump only bpftap is
-measured, --instructions needs valgrind, and peak memory needs GNU time (a program started by Python itself
+measured, --instructions and --explain need valgrind, and peak memory needs GNU time (a program started by Python itself
 shows Python's size if it needs less).
 """
 import argparse
@@ -46,6 +47,7 @@ import sys
 import tempfile
 import time
 
+import filters
 from filters import program
 
 ROOT = pathlib.Path(__file__).resolve().parent.parent
@@ -267,6 +269,18 @@ def steps(folder):
             words = [program(), "steps", *(str(folder / f) for f in ("listeners.txt", "script.txt")), str(path)]
             counts.append(instructions_of(words, folder))
         print(f"{name:40} {(counts[1] - counts[0]) / 10000:8.0f}")
+
+
+def explained(folder):
+    """Instructions for each packet of `explain -e`: the difference of the real capture eleven times and once."""
+    data, packets = filters.CAPTURE.read_bytes(), len(list(filters.packets(filters.CAPTURE)))
+    once, often = folder / "once.pcap", folder / "often.pcap"
+    once.write_bytes(data)
+    often.write_bytes(data + data[24:] * 10)
+    print("user instructions for each packet of the real capture, of `bpftap explain`, by callgrind")
+    for expression in ["tcp port 80 or 443", "udp port 5353", "tcp[13] & 2 != 0", "ip[2:2] > 576"]:
+        counts = [instructions_of([program(), "explain", "-e", expression, str(path)], folder) for path in (once, often)]
+        print(f"{expression:40} {(counts[1] - counts[0]) / (10 * packets):8.0f}")
 
 
 # What the listeners of a replay accept, in turn.
@@ -623,6 +637,7 @@ def main():
     parser.add_argument("--expressions", action="store_true")
     parser.add_argument("--listener", action="store_true")
     parser.add_argument("--steps", action="store_true")
+    parser.add_argument("--explain", action="store_true")
     parser.add_argument("--run", action="store_true")
     parser.add_argument("--replay", action="store_true")
     parser.add_argument("--waiting", action="store_true")
@@ -650,6 +665,8 @@ def main():
             instructions(folder)
         elif words.steps:
             steps(folder)
+        elif words.explain:
+            explained(folder)
         elif words.run:
             replays(folder, words.packets, words.rounds)
         elif words.waiting:

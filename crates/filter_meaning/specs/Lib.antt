@@ -3,4 +3,3 @@ pub mod Meaning
 pub mod Looks
 pub mod Notes
 pub mod Laws
-pub mod Sides

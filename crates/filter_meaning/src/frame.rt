@@ -21,7 +21,7 @@ pub enum Look {
 
 /// A packet: its captured bytes, and its length on the wire in bytes.
 #[derive(Clone, Copy)]
-pub(crate) struct Frame<'a> {
+pub struct Frame<'a> {
     pub bytes: &'a [u8],
     pub wire: u32,
 }
@@ -65,7 +65,7 @@ impl Notes {
         self.kept
     }
 
-    /// Keeps one more look.
+    /// Keeps one more look. It stands apart, so that where none are kept a look costs one comparison.
     #[cold]
     #[inline(never)]
     fn keep(&mut self, look: Look)
@@ -78,13 +78,23 @@ impl Notes {
         }
     }
 
-    /// Notes one more look.
-    #[inline]
-    fn note(&mut self, look: Look)
-        ensures { Noted self.old self.new (look ∷ []) }
+    /// Notes a look at bytes.
+    #[inline(always)]
+    fn note_bytes(&mut self, offset: usize, size: usize)
+        ensures { Noted self.old self.new (Bytes offset size ∷ []) }
     {
         if self.kept.is_some() {
-            self.keep(look);
+            self.keep(Look::Bytes { offset, size });
+        }
+    }
+
+    /// Notes a look at the length on the wire.
+    #[inline(always)]
+    fn note_length(&mut self)
+        ensures { Noted self.old self.new (Length ∷ []) }
+    {
+        if self.kept.is_some() {
+            self.keep(Look::Length);
         }
     }
 }
@@ -158,51 +168,56 @@ impl Frame<'_> {
     }
 
     /// Looks at a byte.
-    pub fn byte(&self, offset: usize, notes: &mut Notes) -> Result<u32, AbortCause>
+    #[inline(always)]
+    pub(crate) fn byte(&self, offset: usize, notes: &mut Notes) -> Result<u32, AbortCause>
         requires { offset < 2 ^ 34 }
         ensures number { result ≡ read offset 1 (packet self.now) }
         ensures noted { Noted notes.old notes.new (Bytes offset 1 ∷ []) }
     {
-        notes.note(Look::Bytes { offset, size: 1 });
+        notes.note_bytes(offset, 1);
         byte_at(self.bytes, offset).ok_or(self.uncaptured(offset))
     }
 
     /// Looks at two bytes.
-    pub fn half(&self, offset: usize, notes: &mut Notes) -> Result<u32, AbortCause>
+    #[inline(always)]
+    pub(crate) fn half(&self, offset: usize, notes: &mut Notes) -> Result<u32, AbortCause>
         requires { offset < 2 ^ 34 }
         ensures number { result ≡ read offset 2 (packet self.now) }
         ensures noted { Noted notes.old notes.new (Bytes offset 2 ∷ []) }
     {
-        notes.note(Look::Bytes { offset, size: 2 });
+        notes.note_bytes(offset, 2);
         half_at(self.bytes, offset).ok_or(self.uncaptured(offset))
     }
 
     /// Looks at four bytes.
-    pub fn word(&self, offset: usize, notes: &mut Notes) -> Result<u32, AbortCause>
+    #[inline(always)]
+    pub(crate) fn word(&self, offset: usize, notes: &mut Notes) -> Result<u32, AbortCause>
         requires { offset < 2 ^ 34 }
         ensures number { result ≡ read offset 4 (packet self.now) }
         ensures noted { Noted notes.old notes.new (Bytes offset 4 ∷ []) }
     {
-        notes.note(Look::Bytes { offset, size: 4 });
+        notes.note_bytes(offset, 4);
         word_at(self.bytes, offset).ok_or(self.uncaptured(offset))
     }
 
     /// Looks at six bytes.
-    pub fn six(&self, offset: usize, notes: &mut Notes) -> Result<u64, AbortCause>
+    #[inline(always)]
+    pub(crate) fn six(&self, offset: usize, notes: &mut Notes) -> Result<u64, AbortCause>
         requires { offset < 2 ^ 34 }
         ensures number { result ≡ read offset 6 (packet self.now) }
         ensures noted { Noted notes.old notes.new (Bytes offset 6 ∷ []) }
     {
-        notes.note(Look::Bytes { offset, size: 6 });
+        notes.note_bytes(offset, 6);
         six_at(self.bytes, offset).ok_or(self.uncaptured(offset))
     }
 
     /// Looks at the length on the wire.
-    pub fn length(&self, notes: &mut Notes) -> u32
+    #[inline(always)]
+    pub(crate) fn length(&self, notes: &mut Notes) -> u32
         ensures number { result ≡ (packet self.now).wire }
         ensures noted { Noted notes.old notes.new (Length ∷ []) }
     {
-        notes.note(Look::Length);
+        notes.note_length();
         self.wire
     }
 }

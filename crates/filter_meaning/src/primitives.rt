@@ -14,6 +14,7 @@ use filter_tree::{Direction, EthernetAddress, Network, Plain, Primitive, Transpo
 pub(crate) type Answer = Result<bool, AbortCause>;
 
 /// The Ethernet type.
+#[inline(always)]
 pub(crate) fn is_type(number: u32, frame: &Frame<'_>, notes: &mut Notes) -> Answer
     ensures answer { result ≡ (type_asked number (packet frame.now)).answer }
     ensures noted { Noted notes.old notes.new (type_asked number (packet frame.now)).looks }
@@ -22,6 +23,7 @@ pub(crate) fn is_type(number: u32, frame: &Frame<'_>, notes: &mut Notes) -> Answ
 }
 
 /// IPv4 with this protocol number.
+#[inline(always)]
 pub(crate) fn is_protocol(number: u32, frame: &Frame<'_>, notes: &mut Notes) -> Answer
     ensures answer { result ≡ (protocol_asked number (packet frame.now)).answer }
     ensures noted { Noted notes.old notes.new (protocol_asked number (packet frame.now)).looks }
@@ -33,6 +35,7 @@ pub(crate) fn is_protocol(number: u32, frame: &Frame<'_>, notes: &mut Notes) -> 
 }
 
 /// IPv4 with this protocol number, and no later fragment.
+#[inline(always)]
 pub(crate) fn is_first_fragment_of(number: u32, frame: &Frame<'_>, notes: &mut Notes) -> Answer
     ensures answer { result ≡ (first_fragment_asked number (packet frame.now)).answer }
     ensures noted { Noted notes.old notes.new (first_fragment_asked number (packet frame.now)).looks }
@@ -72,6 +75,7 @@ enum Side {
 
 impl Side {
     /// Whether the packet has it at an offset.
+    #[inline(always)]
     fn is_at(self, offset: usize, frame: &Frame<'_>, notes: &mut Notes) -> Answer
         requires { offset ≤ 38 }
         ensures answer { result ≡ (side_asked self offset (packet frame.now)).answer }

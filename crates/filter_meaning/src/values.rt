@@ -75,8 +75,10 @@ fn calculated(operator: Operator, a: u32, b: u32) -> Result<u32, AbortCause>
     calculate(operator, a, b).ok_or(AbortCause::ZeroDivisor)
 }
 
-/// A value.
-pub(crate) fn value(amount: &Value, frame: &Frame<'_>, notes: &mut Notes) -> Result<u32, AbortCause>
+/// A value, of whatever form.
+#[inline(never)]
+#[cycle(value)]
+fn compound_value(amount: &Value, frame: &Frame<'_>, notes: &mut Notes) -> Result<u32, AbortCause>
     ensures number { result ≡ (value_found (amount_of amount.now) (packet frame.now)).number }
     ensures noted { Noted notes.old notes.new (value_found (amount_of amount.now) (packet frame.now)).looks }
 {
@@ -96,6 +98,19 @@ pub(crate) fn value(amount: &Value, frame: &Frame<'_>, notes: &mut Notes) -> Res
     }
 }
 
+/// A value. It is inlined, so that a number, which most values are, takes no call.
+#[inline(always)]
+#[cycle(value)]
+pub(crate) fn value(amount: &Value, frame: &Frame<'_>, notes: &mut Notes) -> Result<u32, AbortCause>
+    ensures number { result ≡ (value_found (amount_of amount.now) (packet frame.now)).number }
+    ensures noted { Noted notes.old notes.new (value_found (amount_of amount.now) (packet frame.now)).looks }
+{
+    match amount {
+        Value::Number(n) => Ok(*n),
+        _ => compound_value(amount, frame, notes),
+    }
+}
+
 /// The layer that an accessor reads.
 fn is_in_layer(layer: Layer, frame: &Frame<'_>, notes: &mut Notes) -> Answer
     ensures answer { result ≡ (layer_asked layer (packet frame.now)).answer }
@@ -112,8 +127,10 @@ fn is_in_layer(layer: Layer, frame: &Frame<'_>, notes: &mut Notes) -> Answer
     }
 }
 
-/// The layers of a value's accessors.
-fn is_in_layers(amount: &Value, frame: &Frame<'_>, notes: &mut Notes) -> Answer
+/// The layers of a value's accessors, of whatever form it is.
+#[inline(never)]
+#[cycle(layers)]
+fn is_compound_in_layers(amount: &Value, frame: &Frame<'_>, notes: &mut Notes) -> Answer
     ensures answer { result ≡ (layers_asked (amount_of amount.now) (packet frame.now)).answer }
     ensures noted { Noted notes.old notes.new (layers_asked (amount_of amount.now) (packet frame.now)).looks }
 {
@@ -133,6 +150,19 @@ fn is_in_layers(amount: &Value, frame: &Frame<'_>, notes: &mut Notes) -> Answer
             }
             is_in_layers(index, frame, notes)
         }
+    }
+}
+
+/// The layers of a value's accessors. It is inlined as [`value`] is.
+#[inline(always)]
+#[cycle(layers)]
+fn is_in_layers(amount: &Value, frame: &Frame<'_>, notes: &mut Notes) -> Answer
+    ensures answer { result ≡ (layers_asked (amount_of amount.now) (packet frame.now)).answer }
+    ensures noted { Noted notes.old notes.new (layers_asked (amount_of amount.now) (packet frame.now)).looks }
+{
+    match amount {
+        Value::Number(_) => Ok(true),
+        _ => is_compound_in_layers(amount, frame, notes),
     }
 }
 

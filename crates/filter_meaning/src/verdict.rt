@@ -21,8 +21,8 @@ impl Verdict {
         if holds { Verdict::Yes } else { Verdict::No }
     }
 
-    /// `not`: an Abort stays one.
-    pub(crate) fn opposite(self) -> Verdict
+    /// What `not` makes of it: an Abort stays one.
+    pub fn opposite(self) -> Verdict
         ensures { result ≡ opposite self }
     {
         match self {
