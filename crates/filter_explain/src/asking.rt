@@ -2,12 +2,12 @@
 
 ghost use Rattle.std.specs.Prelude.{◌≡◌, ◌++◌, [], ◌∷◌, map, IfOk, false};
 ghost use Rattle.filter_tree.specs.Trees.{tree_of};
-ghost use Rattle.filter_meaning.specs.Meaning.{packet_of, opposite, meaning};
-ghost use Rattle.filter_meaning.specs.Looks.{why};
+ghost use Rattle.filter_meaning.specs.Meaning.{packet_of, meaning};
+ghost use Rattle.filter_meaning.specs.Looks.{packet, why};
 ghost use Rattle.filter_explain.specs.Asking.{where_abort, question_of, question, questions, LastDecides};
 
 use bpfvm::NoMemory;
-use filter_meaning::{AbortCause, Verdict, abort_cause, evaluate};
+use filter_meaning::{AbortCause, Frame, Verdict, abort_cause, evaluate};
 use filter_tree::Expr;
 use std::alloc::Global;
 
@@ -25,18 +25,13 @@ pub struct AskedPart<'a> {
 }
 
 /// Why a part aborts that answered this.
-pub(crate) fn cause_of(
-    part: &Expr,
-    verdict: Verdict,
-    packet: &[u8],
-    wire: u32,
-) -> Option<AbortCause>
-    ensures { result ≡ where_abort verdict (why (tree_of part.now) (packet_of packet.now wire)) }
+pub(crate) fn cause_of(part: &Expr, verdict: Verdict, frame: &Frame<'_>) -> Option<AbortCause>
+    ensures { result ≡ where_abort verdict (why (tree_of part.now) (packet frame.now)) }
 {
     match verdict {
         Verdict::Yes => None,
         Verdict::No => None,
-        Verdict::Abort => abort_cause(part, packet, wire),
+        Verdict::Abort => abort_cause(part, frame.bytes, frame.wire),
     }
 }
 
@@ -44,16 +39,15 @@ pub(crate) fn cause_of(
 fn ask_part<'a>(
     part: &'a Expr,
     negated: bool,
-    packet: &[u8],
-    wire: u32,
+    frame: &Frame<'_>,
     asked: &mut Vec<AskedPart<'a>>,
 ) -> Result<Verdict, NoMemory>
-    ensures verdict { IfOk result (λ verdict. verdict ≡ meaning (tree_of part.now) (packet_of packet.now wire)) }
+    ensures verdict { IfOk result (λ verdict. verdict ≡ meaning (tree_of part.now) (packet frame.now)) }
     ensures asked { IfOk result (λ _. map question_of asked.new.items
-        ≡ map question_of asked.old.items ++ question negated (tree_of part.now) (packet_of packet.now wire) ∷ []) }
+        ≡ map question_of asked.old.items ++ question negated (tree_of part.now) (packet frame.now) ∷ []) }
 {
-    let verdict = evaluate(part, packet, wire);
-    let cause = cause_of(part, verdict, packet, wire);
+    let verdict = evaluate(part, frame.bytes, frame.wire);
+    let cause = cause_of(part, verdict, frame);
     asked.push(AskedPart {
         part,
         negated,
@@ -63,45 +57,33 @@ fn ask_part<'a>(
     Ok(verdict)
 }
 
-/// The verdict that a `not` makes of another.
-pub(crate) fn opposite(verdict: Verdict) -> Verdict
-    ensures { result ≡ opposite verdict }
-{
-    match verdict {
-        Verdict::Yes => Verdict::No,
-        Verdict::No => Verdict::Yes,
-        Verdict::Abort => Verdict::Abort,
-    }
-}
-
 /// Asks the parts of an expression, and appends their answers.
 fn ask<'a>(
     expr: &'a Expr,
     negated: bool,
-    packet: &[u8],
-    wire: u32,
+    frame: &Frame<'_>,
     asked: &mut Vec<AskedPart<'a>>,
 ) -> Result<Verdict, NoMemory>
-    ensures verdict { IfOk result (λ verdict. verdict ≡ meaning (tree_of expr.now) (packet_of packet.now wire)) }
+    ensures verdict { IfOk result (λ verdict. verdict ≡ meaning (tree_of expr.now) (packet frame.now)) }
     ensures asked { IfOk result (λ _. map question_of asked.new.items
-        ≡ map question_of asked.old.items ++ questions negated (tree_of expr.now) (packet_of packet.now wire)) }
+        ≡ map question_of asked.old.items ++ questions negated (tree_of expr.now) (packet frame.now)) }
 {
     match expr {
-        Expr::Everything => ask_part(expr, negated, packet, wire, asked),
-        Expr::Test(_) => ask_part(expr, negated, packet, wire, asked),
-        Expr::Relation(_, _, _) => ask_part(expr, negated, packet, wire, asked),
+        Expr::Everything => ask_part(expr, negated, frame, asked),
+        Expr::Test(_) => ask_part(expr, negated, frame, asked),
+        Expr::Relation(_, _, _) => ask_part(expr, negated, frame, asked),
         Expr::Not(operand) => {
-            let verdict = ask(operand, !negated, packet, wire, asked)?;
-            Ok(opposite(verdict))
+            let verdict = ask(operand, !negated, frame, asked)?;
+            Ok(verdict.opposite())
         }
-        Expr::And(left, right) => match ask(left, negated, packet, wire, asked)? {
-            Verdict::Yes => ask(right, negated, packet, wire, asked),
+        Expr::And(left, right) => match ask(left, negated, frame, asked)? {
+            Verdict::Yes => ask(right, negated, frame, asked),
             Verdict::No => Ok(Verdict::No),
             Verdict::Abort => Ok(Verdict::Abort),
         },
-        Expr::Or(left, right) => match ask(left, negated, packet, wire, asked)? {
+        Expr::Or(left, right) => match ask(left, negated, frame, asked)? {
             Verdict::Yes => Ok(Verdict::Yes),
-            Verdict::No => ask(right, negated, packet, wire, asked),
+            Verdict::No => ask(right, negated, frame, asked),
             Verdict::Abort => Ok(Verdict::Abort),
         },
     }
@@ -126,7 +108,11 @@ pub fn explain<'a>(
     ensures decides { IfOk result (λ asked. LastDecides (map question_of asked.items)
         (meaning (tree_of expr.now) (packet_of packet.now wire))) }
 {
+    let frame = Frame {
+        bytes: packet,
+        wire,
+    };
     let mut asked = Vec::new(alloc);
-    ask(expr, false, packet, wire, &mut asked)?;
+    ask(expr, false, &frame, &mut asked)?;
     Ok(asked)
 }

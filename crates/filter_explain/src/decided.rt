@@ -3,10 +3,11 @@
 ghost use Rattle.std.specs.Prelude.{◌≡◌, false};
 ghost use Rattle.filter_tree.specs.Trees.{tree_of};
 ghost use Rattle.filter_meaning.specs.Meaning.{packet_of, meaning};
+ghost use Rattle.filter_meaning.specs.Looks.{packet};
 ghost use Rattle.filter_explain.specs.Asking.{question_of, question, questions, turned, IsLast};
 
-use crate::asking::{AskedPart, cause_of, opposite};
-use filter_meaning::{Verdict, evaluate};
+use crate::asking::{AskedPart, cause_of};
+use filter_meaning::{Frame, Verdict, evaluate};
 use filter_tree::Expr;
 
 impl AskedPart<'_> {
@@ -15,7 +16,7 @@ impl AskedPart<'_> {
         ensures { result ≡ turned self.now.negated self.now.verdict }
     {
         if self.negated {
-            opposite(self.verdict)
+            self.verdict.opposite()
         } else {
             self.verdict
         }
@@ -30,12 +31,12 @@ struct Decided<'a> {
 }
 
 /// A primitive or a relation decides for itself.
-fn decide_part<'a>(part: &'a Expr, negated: bool, packet: &[u8], wire: u32) -> Decided<'a>
-    ensures asked { question_of result.asked ≡ question negated (tree_of part.now) (packet_of packet.now wire) }
-    ensures verdict { result.verdict ≡ meaning (tree_of part.now) (packet_of packet.now wire) }
+fn decide_part<'a>(part: &'a Expr, negated: bool, frame: &Frame<'_>) -> Decided<'a>
+    ensures asked { question_of result.asked ≡ question negated (tree_of part.now) (packet frame.now) }
+    ensures verdict { result.verdict ≡ meaning (tree_of part.now) (packet frame.now) }
 {
-    let verdict = evaluate(part, packet, wire);
-    let cause = cause_of(part, verdict, packet, wire);
+    let verdict = evaluate(part, frame.bytes, frame.wire);
+    let cause = cause_of(part, verdict, frame);
     let asked = AskedPart {
         part,
         negated,
@@ -46,35 +47,35 @@ fn decide_part<'a>(part: &'a Expr, negated: bool, packet: &[u8], wire: u32) -> D
 }
 
 /// Asks the parts of an expression up to the one that decides.
-fn decide_in<'a>(expr: &'a Expr, negated: bool, packet: &[u8], wire: u32) -> Decided<'a>
-    ensures last { IsLast (question_of result.asked) (questions negated (tree_of expr.now) (packet_of packet.now wire)) }
-    ensures verdict { result.verdict ≡ meaning (tree_of expr.now) (packet_of packet.now wire) }
+fn decide_in<'a>(expr: &'a Expr, negated: bool, frame: &Frame<'_>) -> Decided<'a>
+    ensures last { IsLast (question_of result.asked) (questions negated (tree_of expr.now) (packet frame.now)) }
+    ensures verdict { result.verdict ≡ meaning (tree_of expr.now) (packet frame.now) }
     ensures decides { turned negated result.verdict ≡ turned result.asked.negated result.asked.verdict }
 {
     match expr {
-        Expr::Everything => decide_part(expr, negated, packet, wire),
-        Expr::Test(_) => decide_part(expr, negated, packet, wire),
-        Expr::Relation(_, _, _) => decide_part(expr, negated, packet, wire),
+        Expr::Everything => decide_part(expr, negated, frame),
+        Expr::Test(_) => decide_part(expr, negated, frame),
+        Expr::Relation(_, _, _) => decide_part(expr, negated, frame),
         Expr::Not(operand) => {
-            let decided = decide_in(operand, !negated, packet, wire);
+            let decided = decide_in(operand, !negated, frame);
             Decided {
                 asked: decided.asked,
-                verdict: opposite(decided.verdict),
+                verdict: decided.verdict.opposite(),
             }
         }
         Expr::And(left, right) => {
-            let decided = decide_in(left, negated, packet, wire);
+            let decided = decide_in(left, negated, frame);
             match decided.verdict {
-                Verdict::Yes => decide_in(right, negated, packet, wire),
+                Verdict::Yes => decide_in(right, negated, frame),
                 Verdict::No => decided,
                 Verdict::Abort => decided,
             }
         }
         Expr::Or(left, right) => {
-            let decided = decide_in(left, negated, packet, wire);
+            let decided = decide_in(left, negated, frame);
             match decided.verdict {
                 Verdict::Yes => decided,
-                Verdict::No => decide_in(right, negated, packet, wire),
+                Verdict::No => decide_in(right, negated, frame),
                 Verdict::Abort => decided,
             }
         }
@@ -90,5 +91,9 @@ pub fn decide<'a>(expr: &'a Expr, packet: &[u8], wire: u32) -> AskedPart<'a>
     ensures last { IsLast (question_of result) (questions false (tree_of expr.now) (packet_of packet.now wire)) }
     ensures decides { meaning (tree_of expr.now) (packet_of packet.now wire) ≡ turned result.negated result.verdict }
 {
-    decide_in(expr, false, packet, wire).asked
+    let frame = Frame {
+        bytes: packet,
+        wire,
+    };
+    decide_in(expr, false, &frame).asked
 }

@@ -1,13 +1,14 @@
 use Rattle.std.proofs.Common.{◌∙◌, sym}
 use Rattle.filter_tree.specs.Trees.{tree_of}
-use Rattle.filter_meaning.specs.Meaning.{packet_of, meaning}
+use Rattle.filter_meaning.specs.Meaning.{meaning}
+use Rattle.filter_meaning.specs.Looks.{packet}
 use Rattle.filter_explain.specs.Asking.{questions}
 use Rattle.filter_explain.proofs.Deciding.{last_yes, last_no}
 use Rattle.filter_explain.proofs.decided.+decide_in.Goals as goal
 
 pub returns-in-Yes-clause-last : goal.returns-in-Yes-clause-last
 returns-in-Yes-clause-last t c =
-    let p = packet_of c.args.packet.now c.args.wire in
+    let p = packet c.args.frame.now in
     let first = tree_of c.deref-in-And.result.now in
     let second = tree_of c.deref-in-Yes.result.now in
     rw (c.in-And.is, sym c.deref-in-And.ensures, sym c.deref-in-Yes.ensures) (last_yes (questions c.args.negated first p) (questions c.args.negated second p) (meaning first p) _
@@ -15,7 +16,7 @@ returns-in-Yes-clause-last t c =
 
 pub returns-in-No-verdict-clause-last : goal.returns-in-No-verdict-clause-last
 returns-in-No-verdict-clause-last t c =
-    let p = packet_of c.args.packet.now c.args.wire in
+    let p = packet c.args.frame.now in
     let first = tree_of c.deref-in-Or.result.now in
     let second = tree_of c.deref-in-No-verdict.result.now in
     rw (c.in-Or.is, sym c.deref-in-Or.ensures, sym c.deref-in-No-verdict.ensures) (last_no (questions c.args.negated first p) (questions c.args.negated second p) (meaning first p) _
