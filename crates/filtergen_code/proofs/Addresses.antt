@@ -8,8 +8,7 @@ use Rattle.bpfvm.specs.Machine.{Registers, with_value, loaded, big_endian}
 use Rattle.filter_meaning.proofs.Numbers.{number-some, number-none}
 use Rattle.filter_meaning.specs.declared.verdict.Verdict.TheVariants.{Yes, No}
 use Rattle.filter_tree.specs.declared.tree.Direction.{Direction}
-use Rattle.filter_meaning.specs.Sides.{directed}
-use Rattle.filtergen_code.proofs.Sides.{directed-is}
+use Rattle.filtergen_code.proofs.Sides.{directed, directed-is}
 use Rattle.filter_meaning.specs.Meaning.{Packet, HasBytes, Test, by_direction, or_else, or_test, check, decided, byte, word, within}
 use Rattle.filtergen_facts.specs.declared.lists.ValueRange.{ValueRange}
 use Rattle.filtergen_facts.specs.Lists.{any_of, in_range}

@@ -19,7 +19,6 @@ use Rattle.filtergen_code.specs.Insns.{plain_insn, load_insn}
 use Rattle.filter_tree.specs.declared.tree.Layer.{Layer}
 use Rattle.filtergen_code.specs.declared.values.Base.{Base}
 use Rattle.filtergen_code.specs.Parts.{port_after, base_of, read_from}
-use Rattle.filter_meaning.specs.Sides.{directed}
 use Rattle.filtergen_code.specs.Emission.{AreExits, HasCells, IsPlace, run_from, front, field_of, Answers, Passes, outcome, Extends, Chooses, IsRelay, Computes, same_index, Follows, Decides}
 use Rattle.filtergen_facts.specs.Lists.{any_of, in_range}
 use Rattle.filtergen_code.specs.ValueLists.{in_ranges, location_value, found_at, onward, LoadsLocation, PassesLocation, ChoosesFrom, IsChoice}
@@ -27,7 +26,7 @@ use Rattle.filtergen_code.proofs.Runs.{after, answer-first, front-place, extends
 use Rattle.filtergen_code.proofs.Computing.{computes-same, read-accessed, decides-valued}
 use Rattle.filtergen_code.proofs.Deciding.{outcome-either, decides-same}
 use Rattle.filtergen_code.proofs.Following.{follows-more, follows-same}
-use Rattle.filtergen_code.proofs.Sides.{after_header, directed-is}
+use Rattle.filtergen_code.proofs.Sides.{after_header, directed, directed-is}
 use Rattle.filtergen_facts.proofs.Joining.{any-same, any-abort}
 use Rattle.filtergen_code.proofs.ValueLists.{any-checked, any-pair, among-more}
 

@@ -13,12 +13,18 @@ use Rattle.filter_meaning.specs.declared.verdict.Verdict.TheVariants.{Yes, No}
 use Rattle.filter_meaning.specs.Meaning.{Packet, HasBytes, Test, and_then, or_else, and_test, or_test, check, decided, byte, half, within, has_port, by_direction}
 use Rattle.filtergen_code.specs.Insns.{plain_insn}
 use Rattle.filtergen_code.specs.Parts.{port_after}
-use Rattle.filter_meaning.specs.Sides.{directed}
 use Rattle.filtergen_code.specs.Emission.{AreExits, HasCells, run_from, Answers, Passes, outcome, ChoosesAfter, with_loaded, same_index, Follows, Decides}
 use Rattle.filtergen_code.proofs.Runs.{after, answer-first, front-place, extends-both, extends-one, header-effect, half-effect}
 use Rattle.filtergen_code.proofs.Following.{one_of, follows-yes, follows-no, follows-kept, follows-same, follows-loaded, follows-chosen}
 
--- the verdict by a direction is that of its tests
+-- the verdict of the source, that of the destination, or that of both
+abbrev pub directed : Direction → Verdict → Verdict → Verdict
+directed Src source destination = source
+directed Dst source destination = destination
+directed SrcOrDst source destination = or_else source destination
+directed SrcAndDst source destination = and_then source destination
+
+-- it is the verdict of their tests
 pub directed-is : (d : Direction) (s t : Test) (p : Packet) → directed d (s p) (t p) ≡ by_direction d s t p
 directed-is Src s t p = refl
 directed-is Dst s t p = refl

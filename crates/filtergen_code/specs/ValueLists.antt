@@ -1,9 +1,9 @@
 -- What code does that tests all members of a list at once. Only private clauses use this.
-use Rattle.std.specs.Prelude.{◌≡◌, ℕ, ◌+◌, ◌*◌, ◌<◌, ◌≤◌, Bool, true, false, List, [], ◌∷◌, length, Option, Some, None, Result, if◌then◌else◌, bit_and, option_map}
+use Rattle.std.specs.Prelude.{◌≡◌, ℕ, ◌+◌, ◌*◌, ◌<◌, ◌≤◌, Bool, true, false, List, [], ◌∷◌, length, Option, Some, None, Result, if◌then◌else◌, bit_and, option_map, MatchOption}
 use Rattle.bpfvm.specs.declared.insn.Insn.{Insn}
 use Rattle.bpfvm.specs.Codes.{Accumulator}
 use Rattle.bpfvm.specs.Machine.{Registers, with_value}
-use Rattle.filter_tree.specs.Trees.{Tree}
+use Rattle.filter_tree.specs.Trees.{Tree, tree_of}
 use Rattle.filter_meaning.specs.declared.verdict.Verdict.TheVariants.{No}
 use Rattle.filter_meaning.specs.Meaning.{Packet, Test, or_else, check, half, word, within, meaning}
 use Rattle.filtergen_facts.specs.declared.packet_facts.PacketFacts.{PacketFacts}
@@ -23,6 +23,7 @@ use Rattle.filtergen_code.specs.declared.value_in_list.Location.TheVariants as l
 use Rattle.filtergen_code.specs.declared.entries.Entry.{Entry}
 use Rattle.filtergen_code.specs.declared.entries.Targets.{Targets}
 use Rattle.filtergen_code.specs.declared.compiler.Emitted.{Emitted}
+use Rattle.filtergen_code.specs.declared.compiler.RightEnd.{RightEnd}
 use Rattle.filtergen_code.specs.Emission.{IsPlace, AreExits, run_from, Extends, front, field_of, same_index, Follows, OrFull}
 use Rattle.filtergen_code.specs.Entries.{RelaysBoth, DecidesGiven}
 
@@ -190,3 +191,9 @@ abbrev pub EmitsEnd : PacketFacts → Chain → Tree → Tree → Targets → Em
 EmitsEnd known chain first second targets emitted old new None = EmitsList known chain first second None targets emitted.targets emitted.entry old new
 EmitsEnd known chain first second targets emitted old new (Some left) =
     EmitsList (after_left chain known left) chain first second (Some left) targets emitted.targets emitted.entry old new
+
+-- the right end of such a chain, and what is left of its left operand
+abbrev pub EmitsRightEnd : PacketFacts → Chain → Tree → Tree → Targets → List Insn → List Insn → RightEnd → Type 0
+EmitsRightEnd known chain first second targets old new end = MatchOption end.left
+    (EmitsEnd known chain first second targets end.emitted old new None)
+    (λ rest. EmitsEnd known chain first second targets end.emitted old new (Some (tree_of rest.now)))

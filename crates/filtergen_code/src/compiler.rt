@@ -1,6 +1,6 @@
 //! Expressions to programs. Code is written from its end, so an expression is walked from its right end to its left.
 
-ghost use Rattle.std.specs.Prelude.{◌≡◌, ◌≢◌, ◌↔◌, ◌⊎◌, ℕ, ◌+◌, ◌<◌, ◌≤◌, All, length, Some, None, Err, IfOk, IsErr, MatchOption};
+ghost use Rattle.std.specs.Prelude.{◌≡◌, ◌≢◌, ◌↔◌, ◌⊎◌, ℕ, ◌+◌, ◌<◌, ◌≤◌, All, length, Err, IfOk, IsErr, MatchOption};
 ghost use Rattle.bpfvm.specs.declared.program.TheConstants.{MAX_INSNS};
 ghost use Rattle.filter_tree.specs.Trees.{tree_of};
 ghost use Rattle.filter_meaning.specs.Meaning.{primitive_test, meaning};
@@ -11,7 +11,7 @@ ghost use Rattle.filtergen_code.specs.Emission.{OrFull};
 ghost use Rattle.filtergen_code.specs.Entries.{AreTargets, DecidesGiven, RelaysBoth};
 ghost use Rattle.filtergen_facts.specs.declared.lists.Form.TheVariants.{Bytes, EtherHost};
 ghost use Rattle.filtergen_facts.specs.Lists.{any_of, kind_test, list_weight, members_weight, IsMember, IsAlone};
-ghost use Rattle.filtergen_code.specs.ValueLists.{targets_for_chain, EmitsMembers, EmitsRelayed, EmitsEnd};
+ghost use Rattle.filtergen_code.specs.ValueLists.{targets_for_chain, EmitsMembers, EmitsRelayed, EmitsRightEnd};
 ghost use Rattle.filtergen_code.specs.Ends.{chain_of, left_targets, kept_targets, kept_with_end, Leaves};
 
 use crate::code::{Code, Full};
@@ -247,10 +247,8 @@ impl Code {
     ) -> Result<Option<RightEnd<'a>>, Full>
         requires targets { AreTargets self.old targets }
         ensures { OrFull (weight (tree_of left.now) + weight (tree_of right.now)) self.old result (λ found.
-            MatchOption found (self.new ≡ self.old) (λ listed. MatchOption listed.left
-            (EmitsEnd known chain (tree_of left.now) (tree_of right.now) targets listed.emitted self.old self.new None)
-            (λ rest. EmitsEnd known chain (tree_of left.now) (tree_of right.now) targets listed.emitted self.old self.new
-            (Some (tree_of rest.now))))) }
+            MatchOption found (self.new ≡ self.old)
+            (EmitsRightEnd known chain (tree_of left.now) (tree_of right.now) targets self.old self.new)) }
     {
         let Some((list, left)) = ValueLists::at_end(chain, left, right) else {
             return Ok(None);
@@ -279,10 +277,8 @@ impl Code {
     ) -> Result<Option<RightEnd<'a>>, Full>
         requires targets { AreTargets self.old targets }
         ensures { OrFull (weight (tree_of left.now) + weight (tree_of right.now)) self.old result (λ found.
-            MatchOption found (self.new ≡ self.old) (λ listed. MatchOption listed.left
-            (EmitsEnd known chain (tree_of left.now) (tree_of right.now) targets listed.emitted self.old self.new None)
-            (λ rest. EmitsEnd known chain (tree_of left.now) (tree_of right.now) targets listed.emitted self.old self.new
-            (Some (tree_of rest.now))))) }
+            MatchOption found (self.new ≡ self.old)
+            (EmitsRightEnd known chain (tree_of left.now) (tree_of right.now) targets self.old self.new)) }
     {
         if !may_be_listed(chain, left, right) {
             return Ok(None);
@@ -302,10 +298,8 @@ impl Code {
     ) -> Result<RightEnd<'a>, Full>
         requires need { need (tree_of right.now) ≤ 16 }
         requires targets { AreTargets self.old targets }
-        ensures { OrFull (weight (tree_of left.now) + weight (tree_of right.now)) self.old result (λ end. MatchOption end.left
-            (EmitsEnd known chain (tree_of left.now) (tree_of right.now) targets end.emitted self.old self.new None)
-            (λ rest. EmitsEnd known chain (tree_of left.now) (tree_of right.now) targets end.emitted self.old self.new
-            (Some (tree_of rest.now)))) }
+        ensures { OrFull (weight (tree_of left.now) + weight (tree_of right.now)) self.old result
+            (EmitsRightEnd known chain (tree_of left.now) (tree_of right.now) targets self.old self.new) }
     {
         if let Some(listed) = self.emit_lists_if_any(known, chain, left, right, targets)? {
             return Ok(listed);

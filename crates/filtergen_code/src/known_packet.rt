@@ -17,9 +17,9 @@ ghost use Rattle.filtergen_code.specs.Entries.{AreTargets, DecidesGiven, EmitsGi
 
 use crate::code::{Code, Exits, Full};
 use crate::entries::{Entry, Targets};
-use crate::primitives::{IP_ADDRESSES, PortTest};
+use crate::primitives::{IP_ADDRESSES, NetTest, PortTest};
 use filter_meaning::{IP, protocol_number};
-use filter_tree::{Comparison, Direction, Network, Plain, Primitive, Transport, Value};
+use filter_tree::{Comparison, Network, Plain, Primitive, Transport, Value};
 use filtergen_facts::{ICMP, PacketFacts, SCTP, TCP, UDP};
 
 /// Whether a host or a net of this protocol, or of any protocol, can be one of IPv4.
@@ -108,19 +108,17 @@ impl Code {
         &mut self,
         known: PacketFacts,
         network: Option<Network>,
-        direction: Direction,
-        address: u32,
-        mask: u32,
+        net: NetTest,
         targets: Targets,
     ) -> Entry
         requires known { has_type known IP ≡ true }
         requires network { (network ≡ None) ⊎ (network ≡ Some networks.Ip) }
         requires room { length self.old + 10 ≤ MAX_CODE }
         requires targets { AreTargets self.old targets }
-        ensures { DecidesGiven known 10 (in_any_net network direction address mask) targets result self.old self.new }
+        ensures { DecidesGiven known 10 (in_any_net network net.direction net.address net.mask) targets result self.old self.new }
     {
         let exits = targets.ip_exits();
-        Entry::at(self.emit_addresses(IP_ADDRESSES, direction, address, mask, exits))
+        Entry::at(self.emit_addresses(IP_ADDRESSES, net, exits))
     }
 
     /// Emits what the test for IPv4 with this protocol number needs.
@@ -241,7 +239,12 @@ impl Code {
                 mask,
             } => {
                 if known.has_type(IP) && may_be_ip(network) {
-                    self.emit_net_given(known, network, direction, address, mask, targets)
+                    let net = NetTest {
+                        direction,
+                        address,
+                        mask,
+                    };
+                    self.emit_net_given(known, network, net, targets)
                 } else {
                     self.emit_primitive(primitive, targets)
                 }

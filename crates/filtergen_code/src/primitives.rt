@@ -63,6 +63,14 @@ impl PortTest {
     }
 }
 
+/// A test of the IPv4 addresses on the sides that a direction chooses, for the bits under a mask.
+#[derive(Clone, Copy)]
+pub(crate) struct NetTest {
+    pub direction: Direction,
+    pub address: u32,
+    pub mask: u32,
+}
+
 fn plain_cost(word: Plain) -> usize
     ensures { result ≡ plain_cost word }
 {
@@ -426,100 +434,67 @@ impl Code {
     }
 
     /// Emits the tests of the IPv4 addresses that a direction chooses, at these offsets in the frame.
-    pub fn emit_addresses(
-        &mut self,
-        offsets: (u32, u32),
-        direction: Direction,
-        address: u32,
-        mask: u32,
-        exits: Exits,
-    ) -> usize
+    pub fn emit_addresses(&mut self, offsets: (u32, u32), net: NetTest, exits: Exits) -> usize
         requires source { offsets.0 ≤ 40 }
         requires destination { offsets.1 ≤ 40 }
         requires room { length self.old + 10 ≤ MAX_CODE }
         requires exits { AreExits self.old exits }
         ensures { Decides 10
-            (by_direction direction (has_address address mask offsets.0) (has_address address mask offsets.1)) exits result
-            self.old self.new }
+            (by_direction net.direction (has_address net.address net.mask offsets.0) (has_address net.address net.mask offsets.1)) exits
+            result self.old self.new }
     {
         let source = FieldTest::Ip {
             offset: offsets.0,
-            address,
-            mask,
+            address: net.address,
+            mask: net.mask,
         };
         let destination = FieldTest::Ip {
             offset: offsets.1,
-            address,
-            mask,
+            address: net.address,
+            mask: net.mask,
         };
-        self.emit_sides(direction, source, destination, exits)
+        self.emit_sides(net.direction, source, destination, exits)
     }
 
     /// Emits the test for a host or a net of ARP or RARP. A packet of another type may still be IPv4, so it goes to the exits for any packet.
     #[tactic(auto, using(crate::proofs::Leading::decides_any))]
-    fn emit_arp_net(
-        &mut self,
-        number: u32,
-        direction: Direction,
-        address: u32,
-        mask: u32,
-        targets: Targets,
-    ) -> Entry
+    fn emit_arp_net(&mut self, number: u32, net: NetTest, targets: Targets) -> Entry
         requires room { length self.old + 14 ≤ MAX_CODE }
         requires targets { AreTargets self.old targets }
         ensures { DecidesBy 14 (and_test (is_type number)
-            (by_direction direction (has_address address mask ARP_ADDRESSES.0) (has_address address mask ARP_ADDRESSES.1))) targets result
-            self.old self.new }
+            (by_direction net.direction (has_address net.address net.mask ARP_ADDRESSES.0) (has_address net.address net.mask ARP_ADDRESSES.1)))
+            targets result self.old self.new }
     {
         let exits = targets.any_exits();
-        let next = self.emit_addresses(ARP_ADDRESSES, direction, address, mask, exits);
+        let next = self.emit_addresses(ARP_ADDRESSES, net, exits);
         Entry::at(self.emit_ether_type(number, Exits { yes: next, ..exits }))
     }
 
     /// Emits the test for a host or a net of one protocol.
-    fn emit_net(
-        &mut self,
-        network: Network,
-        direction: Direction,
-        address: u32,
-        mask: u32,
-        targets: Targets,
-    ) -> Entry
+    fn emit_net(&mut self, network: Network, net: NetTest, targets: Targets) -> Entry
         requires room { length self.old + 14 ≤ MAX_CODE }
         requires targets { AreTargets self.old targets }
-        ensures { DecidesBy 14 (in_net network direction address mask) targets result self.old self.new }
+        ensures { DecidesBy 14 (in_net network net.direction net.address net.mask) targets result self.old self.new }
     {
         match network {
             Network::Ip => {
-                let next = self.emit_addresses(
-                    IP_ADDRESSES,
-                    direction,
-                    address,
-                    mask,
-                    targets.ip_exits(),
-                );
+                let next = self.emit_addresses(IP_ADDRESSES, net, targets.ip_exits());
                 self.emit_ip_guard(next, targets.no.other)
             }
-            Network::Arp => self.emit_arp_net(ARP, direction, address, mask, targets),
-            Network::Rarp => self.emit_arp_net(RARP, direction, address, mask, targets),
+            Network::Arp => self.emit_arp_net(ARP, net, targets),
+            Network::Rarp => self.emit_arp_net(RARP, net, targets),
         }
     }
 
     /// Emits the test for a host or a net of any protocol: three comparisons of one type. ARP and RARP have their addresses at the same
     /// offsets.
-    fn emit_any_net(
-        &mut self,
-        direction: Direction,
-        address: u32,
-        mask: u32,
-        targets: Targets,
-    ) -> Entry
+    fn emit_any_net(&mut self, net: NetTest, targets: Targets) -> Entry
         requires room { length self.old + 30 ≤ MAX_CODE }
         requires targets { AreTargets self.old targets }
-        ensures { DecidesBy 30 (in_any_net None direction address mask) targets result self.old self.new }
+        ensures { DecidesBy 30 (in_any_net None net.direction net.address net.mask) targets result self.old self.new }
     {
         let exits = targets.other_exits();
-        let next = self.emit_addresses(ARP_ADDRESSES, direction, address, mask, exits);
+        let next = self.emit_addresses(ARP_ADDRESSES, net, exits);
         let arp = Exits { yes: next, ..exits };
         self.emit_branch(Jump::Equal, Operand::Constant(RARP), arp);
         let rarp = self.len();
@@ -529,7 +504,7 @@ impl Code {
             Exits { no: rarp, ..arp },
         );
         let other = self.len();
-        let ip = self.emit_addresses(IP_ADDRESSES, direction, address, mask, targets.ip_exits());
+        let ip = self.emit_addresses(IP_ADDRESSES, net, targets.ip_exits());
         self.emit_branch(
             Jump::Equal,
             Operand::Constant(IP),
@@ -619,10 +594,17 @@ impl Code {
                 direction,
                 address,
                 mask,
-            } => match network {
-                Some(network) => self.emit_net(network, direction, address, mask, targets),
-                None => self.emit_any_net(direction, address, mask, targets),
-            },
+            } => {
+                let net = NetTest {
+                    direction,
+                    address,
+                    mask,
+                };
+                match network {
+                    Some(network) => self.emit_net(network, net, targets),
+                    None => self.emit_any_net(net, targets),
+                }
+            }
             Primitive::EtherHost { direction, address } => {
                 Entry::at(self.emit_ether_host(direction, address, exits))
             }

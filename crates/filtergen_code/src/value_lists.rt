@@ -16,6 +16,7 @@ use crate::insns::{Field, Jump, Operand, load_insn};
 use crate::primitives::{ARP_ADDRESSES, IP_ADDRESSES};
 use crate::value_in_list::{Location, are_two_hosts};
 use filter_meaning::{ARP, IP, RARP, protocol_number};
+use filter_tree::Transport::{Sctp, Tcp, Udp};
 use filter_tree::{Layer, Transport};
 use filtergen_facts::{Bytes, Form, ListKind, PacketFacts, Sides, ValueRange};
 
@@ -368,12 +369,8 @@ impl Code {
     {
         match bytes.layer {
             Layer::Ip => self.emit_ip_bytes_list(known, bytes, ranges, targets),
-            Layer::Tcp => {
-                self.emit_transport_bytes_list(known, Transport::Tcp, bytes, ranges, targets)
-            }
-            Layer::Udp => {
-                self.emit_transport_bytes_list(known, Transport::Udp, bytes, ranges, targets)
-            }
+            Layer::Tcp => self.emit_transport_bytes_list(known, Tcp, bytes, ranges, targets),
+            Layer::Udp => self.emit_transport_bytes_list(known, Udp, bytes, ranges, targets),
             Layer::Ether | Layer::Arp | Layer::Rarp | Layer::Icmp => {
                 self.emit_other_bytes_list(known, bytes, ranges, targets)
             }
@@ -400,27 +397,9 @@ impl Code {
             Form::ArpNet => self.emit_arp_net_list(ARP, sides, mask, ranges, targets),
             Form::RarpNet => self.emit_arp_net_list(RARP, sides, mask, ranges, targets),
             Form::Ports => self.emit_port_list(known, None, sides, ranges, targets),
-            Form::TcpPorts => self.emit_port_list(
-                known,
-                Some(Transport::Tcp),
-                sides,
-                ranges,
-                targets,
-            ),
-            Form::UdpPorts => self.emit_port_list(
-                known,
-                Some(Transport::Udp),
-                sides,
-                ranges,
-                targets,
-            ),
-            Form::SctpPorts => self.emit_port_list(
-                known,
-                Some(Transport::Sctp),
-                sides,
-                ranges,
-                targets,
-            ),
+            Form::TcpPorts => self.emit_port_list(known, Some(Tcp), sides, ranges, targets),
+            Form::UdpPorts => self.emit_port_list(known, Some(Udp), sides, ranges, targets),
+            Form::SctpPorts => self.emit_port_list(known, Some(Sctp), sides, ranges, targets),
             Form::TcpOrUdpPorts => self.emit_tcp_or_udp_port_list(known, sides, ranges, targets),
             Form::IpProto => self.emit_protocol_list(known, ranges, targets),
             Form::EtherProto => self.emit_type_list(ranges, targets),

@@ -9,9 +9,9 @@ emit-requires-clause-sound c = rw c.load_insn.ensures (load-sound (fields.Half 1
 
 pub returns : goal.returns
 returns c =
-    let d = c.args.direction in
-    let a = c.args.address in
-    let m = c.args.mask in
+    let d = c.args.net.direction in
+    let a = c.args.net.address in
+    let m = c.args.net.mask in
     let arp = rw c.other_exits-exits.ensures at c.emit_addresses-next.ensures in
     let rarp-jump = rw c.other_exits-exits.ensures at c.emit_branch.ensures in
     let ip = rw c.ip_exits.ensures at c.emit_addresses-ip.ensures in
