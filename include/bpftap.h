@@ -1,4 +1,4 @@
-/* bpftap.h: the proved filter compiler, filter machine and capture cutter of bpftap, for C and C++.
+/* bpftap.h: the proved filter compiler, filter machine, capture cutter and tap of bpftap, for C and C++.
  *
  *     cc tool.c $(pkg-config --cflags --libs bpftap)
  *
@@ -17,12 +17,14 @@
  *
  *   - Each pointer is not NULL, aligned for its type, and valid for its whole number of items, even if that number is 0.
  *   - Memory that a call writes does not overlap any other memory that the same call is given.
- *   - Memory that a call reads has been initialised, and a program by bpftap_program_init, a reader by bpftap_open.
+ *   - Memory that a call reads has been initialised, and a program by bpftap_program_init, a reader by bpftap_open, a listener by
+ *     bpftap_listener_open. From then on only the calls write to a listener and its buffers, one call at a time.
  *   - `malloc`, `realloc` and `free` come from one allocator, and no call is made from a signal handler.
  */
 #ifndef BPFTAP_H
 #define BPFTAP_H
 
+#include <stdbool.h>
 #include <stddef.h>
 #include <stdint.h>
 
@@ -36,7 +38,7 @@ enum bpftap_fault {
     BPFTAP_NO_MEMORY = 1, /* malloc or realloc returned NULL */
     BPFTAP_NO_ROOM = 2,   /* `size` items do not fit into the caller's memory */
     BPFTAP_NOT_TEXT = 3,  /* the text is not UTF-8 from byte `place` on */
-    BPFTAP_END = 4,       /* bpftap_next: the capture has no further record */
+    BPFTAP_END = 4,       /* bpftap_next, bpftap_listener_next: there is no further record */
 
     /* The instructions are no program; `place` counts instructions from 0. */
     BPFTAP_EMPTY = 16,        /* there is no instruction */
@@ -78,11 +80,15 @@ enum bpftap_fault {
     BPFTAP_TORN_RECORD = 68,     /* the memory ends inside record `place` */
     BPFTAP_BAD_FRACTION = 69,    /* the fraction of a second of record `place` is a second or more */
     BPFTAP_RECORD_TOO_LONG = 70, /* record `place` has more than BPFTAP_MAX_SNAP captured bytes */
-    BPFTAP_COUNT_FULL = 73       /* 2^64 - 1 records were read */
+    BPFTAP_COUNT_FULL = 73,      /* 2^64 - 1 records were read */
+
+    /* The listener is not opened; also BPFTAP_BAD_SNAP. */
+    BPFTAP_BAD_CAPACITY = 80 /* a buffer has not the room that it needs */
 };
 
-#define BPFTAP_MAX_INSNS 512   /* instructions of a program */
-#define BPFTAP_MAX_SNAP 262144 /* captured bytes of a packet */
+#define BPFTAP_MAX_INSNS 512        /* instructions of a program */
+#define BPFTAP_MAX_SNAP 262144      /* captured bytes of a packet */
+#define BPFTAP_MAX_CAPACITY 1048576 /* bytes of a listener's buffer */
 
 /* What most calls return. */
 struct bpftap_result {
@@ -237,6 +243,98 @@ struct bpftap_result bpftap_put(uint32_t order, uint32_t unit, const struct bpft
  * Other faults: those of instructions and of bpftap_open, NO_ROOM, NO_MEMORY; nothing is written then. */
 struct bpftap_result bpftap_cut(const uint8_t *capture, size_t capture_size, const BPFTAP_INSN *insns, size_t size, uint32_t snap,
                                 uint8_t *to, size_t room);
+
+/* ---- Listeners ---- */
+
+/* A listener of a packet tap. It keeps the packets that a filter accepts in two buffers until they are read: the store takes them as they
+ * arrive, and the hold waits for its reader. If a packet finds no room in the store, the store becomes the hold (a rotation); if the hold
+ * still waits, the packet is dropped. Packets are counted as bpf(4) counts them.
+ *
+ *     struct bpftap_listener listener = {.store = {.bytes = memory, .room = 32768}, .hold = {.bytes = memory + 32768, .room = 32768},
+ *                                        .snap = 96, .mode = BPFTAP_BUFFERED};
+ *     struct bpftap_buffer batch = {.bytes = memory + 65536, .room = 32768};
+ *     if (bpftap_listener_open(&listener)) ...
+ *
+ *     uint32_t answer = bpftap_program_run(program, bytes, record.captured, record.wire);
+ *     if (bpftap_listener_arrive(&listener, answer, 0, &record, bytes, record.captured) == BPFTAP_ROTATED) ...
+ *
+ *     while (bpftap_listener_read(&listener, &batch).size > 0) {
+ *         struct bpftap_message message;
+ *         for (size_t at = 0; (message = bpftap_listener_next(&batch, &at)).fault == BPFTAP_OK;)
+ *             use(batch.bytes + message.offset, message.captured, message.wire);
+ *     }
+ *
+ * All its memory is the caller's, and it needs no clean-up. No call copies a packet but bpftap_listener_arrive, which copies the bytes that
+ * are kept once; what is read stays in the buffer that was exchanged for it. */
+
+/* A buffer: messages are in the first `size` of the `room` bytes that it has. */
+struct bpftap_buffer {
+    uint8_t *bytes;
+    size_t room;
+    size_t size;
+};
+
+enum bpftap_mode {
+    BPFTAP_BUFFERED = 0, /* the store becomes the hold if a packet finds no room in it, and by a flush */
+    BPFTAP_IMMEDIATE = 1 /* also after each packet that is stored while the hold is empty */
+};
+
+struct bpftap_listener {
+    struct bpftap_buffer store, hold;
+    uint64_t received; /* the packets that arrived before it was closed */
+    uint64_t matched;  /* those of them that a filter accepted */
+    uint64_t dropped;  /* those of the latter that found no room */
+    uint32_t snap;     /* how many bytes of a packet are kept at most: from 1 to BPFTAP_MAX_SNAP */
+    uint32_t mode;     /* enum bpftap_mode */
+    uint32_t closed;   /* 0 if it is open */
+};
+
+/* What became of a packet. */
+enum bpftap_fed {
+    BPFTAP_PASSED = 0,  /* the filter rejected it */
+    BPFTAP_STORED = 1,  /* it is in the store */
+    BPFTAP_HELD = 2,    /* it is in the store, which became the hold: only with BPFTAP_IMMEDIATE */
+    BPFTAP_ROTATED = 3, /* the store became the hold, and it is in the new store */
+    BPFTAP_DROPPED = 4, /* it found no room */
+    BPFTAP_CLOSED = 5   /* the listener is closed */
+};
+
+/* Opens a listener, of which the caller has set the bytes and the room of both buffers, `snap` and `mode`. Both buffers have the same room:
+ * at least 32 bytes and `snap` rounded up to a multiple of 8, and at most BPFTAP_MAX_CAPACITY.
+ * Faults: BAD_SNAP, BAD_CAPACITY; the listener is closed then. */
+uint32_t bpftap_listener_open(struct bpftap_listener *listener);
+
+/* A packet arrives, with the place, the time and the wire length of `packet`, from the capture of this number. `answer` is what a filter
+ * answers to it: the least of `answer`, `snap` and `captured` is kept of it, and 0 rejects it. Fewer than 2^64 - 1 packets may arrive.
+ * It returns an enum bpftap_fed. */
+uint32_t bpftap_listener_arrive(struct bpftap_listener *listener, uint32_t answer, uint32_t capture, const struct bpftap_record *packet,
+                                const uint8_t *bytes, size_t captured);
+
+/* Makes the store the hold if it has messages and the hold has none, as the read timeout of bpf(4) does, and returns whether it did. */
+bool bpftap_listener_flush(struct bpftap_listener *listener);
+
+/* Reads the hold: its messages are in `batch` afterwards, `size` bytes, and what was in `batch` is forgotten. The two exchange their memory.
+ * If there is nothing to read, `size` is 0.
+ * Faults: BAD_CAPACITY (`batch` has not the room of the listener's buffers); all is as it was then. */
+struct bpftap_result bpftap_listener_read(struct bpftap_listener *listener, struct bpftap_buffer *batch);
+
+/* Closes a listener: from now on nothing changes, nothing is read, and packets that arrive are not counted. */
+void bpftap_listener_close(struct bpftap_listener *listener);
+
+struct bpftap_message {
+    size_t offset;     /* where the kept bytes begin in the buffer */
+    uint64_t place;    /* the place of its record */
+    uint32_t fault;    /* BPFTAP_OK, or BPFTAP_END; the numbers below are 0 then */
+    uint32_t capture;  /* the number of its capture */
+    uint32_t seconds;  /* since 1970 */
+    uint32_t nanos;    /* below 1,000,000,000 if it was so in its record */
+    uint32_t captured; /* the number of kept bytes */
+    uint32_t wire;     /* the number of bytes on the wire */
+};
+
+/* Returns the message whose record begins at `*at`, 0 for the first one, and moves `*at` to the next one. Messages come oldest first.
+ * Faults: END. */
+struct bpftap_message bpftap_listener_next(const struct bpftap_buffer *batch, size_t *at);
 
 /* ---- Texts ---- */
 

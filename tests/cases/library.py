@@ -56,14 +56,15 @@ def calls_do_what_the_header_says(scene):
     if not is_there(scene):
         return
     scene.start({})
-    for words in WAYS:
-        if scene.has(words[0]):
-            program = compiled(scene, words, "calls")
-            if program:
-                passes(scene, [program])
-    if scene.has("gcc", "valgrind"):
-        program = compiled(scene, ["gcc", "-std=c11", "-g"], "calls")
-        passes(scene, ["valgrind", "-q", "--error-exitcode=9", "--leak-check=full", program])
+    for name in ("calls", "listeners"):
+        for words in WAYS:
+            if scene.has(words[0]):
+                program = compiled(scene, words, name)
+                if program:
+                    passes(scene, [program])
+        if scene.has("gcc", "valgrind"):
+            program = compiled(scene, ["gcc", "-std=c11", "-g"], name)
+            passes(scene, ["valgrind", "-q", "--error-exitcode=9", "--leak-check=full", program])
 
 
 @case
@@ -202,6 +203,28 @@ def cuts_as_the_program_does(scene):
         fault, _, written = text.partition("\t")
         scene.check(f"{name}: the fault", ended.err.decode(), f"bpftap: {fault}\n" if fault else "")
         scene.check(f"{name}: what was written", scene.read("out.pcap").hex(), written)
+
+
+@case
+def listeners_do_what_those_of_steps_do(scene):
+    """Random scripts over random listeners: what those of the library keep, drop and count is what `bpftap steps` reports."""
+    if not is_there(scene):
+        return
+    scene.start({"in.pcap": frames(), "veth.pcap": VETH.read_bytes()})
+    chance = random.Random(11)
+    for _ in range(12):
+        lines = []
+        for _ in range(chance.randrange(1, 5)):
+            snap = chance.choice([1, 33, 96, 500])
+            lines.append(f"{snap} {chance.randrange(40 + snap, 4000)}{chance.choice(['', 'i'])} {chance.choice(['', 'ip', 'udp', 'not tcp', 'len > 100'])}")
+        words = ["arrive"] * 6 + [f"{word} {number}" for word in ("flush", "read") for number in range(len(lines))]
+        steps = chance.choices(words, k=400)
+        steps.insert(chance.randrange(400), f"close {chance.randrange(len(lines))}")
+        scene.put({"listeners": "".join(f"{line}\n" for line in lines), "script": "".join(f"{step}\n" for step in steps)})
+        files = ["listeners", "script", "in.pcap", "veth.pcap"]
+        ended = scene.run(["steps", *files])
+        scene.check("steps", (ended.err, ended.status), (b"", 0))
+        scene.check("\n".join(lines), python(scene, "taps.py", files), ended.out.decode())
 
 
 @case

@@ -1,4 +1,4 @@
-"""bpftap: the proved filter compiler, filter machine and capture cutter.
+"""bpftap: the proved filter compiler, filter machine, capture cutter and tap.
 
     >>> from bpftap import Filter
     >>> tcp = Filter("tcp port 80")
@@ -8,13 +8,14 @@
     'No tcp port 80'
 
 A `Filter` is a filter expression that was compiled, or a program that was handed in. `read` goes through the packets of a capture,
-`write` makes one, and `cut` filters one. What goes wrong is a `FilterError` or a `CaptureError`, each with the name of the fault and its
-place.
+`write` makes one, and `cut` filters one. A `Listener` keeps and drops packets as a listener of bpf(4) does. What goes wrong is a
+`FilterError`, a `CaptureError` or a `ListenerError`, each with the name of the fault and its place.
 """
 from ._captures import Capture, CaptureError, Packet, cut, read, write
 from ._filters import Filter, FilterError, Verdict
-from ._library import MAX_SNAP, Insn
+from ._library import MAX_CAPACITY, MAX_SNAP, Insn
+from ._listeners import Fed, Listener, ListenerError, Message
 from ._packets import assert_all_match, version
 
-__all__ = ["MAX_SNAP", "Capture", "CaptureError", "Filter", "FilterError", "Insn", "Packet", "Verdict", "assert_all_match", "cut", "read",
-           "version", "write"]
+__all__ = ["MAX_CAPACITY", "MAX_SNAP", "Capture", "CaptureError", "Fed", "Filter", "FilterError", "Insn", "Listener", "ListenerError",
+           "Message", "Packet", "Verdict", "assert_all_match", "cut", "read", "version", "write"]

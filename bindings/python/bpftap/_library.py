@@ -3,10 +3,11 @@ import ctypes
 import ctypes.util
 import os
 import pathlib
-from ctypes import POINTER, c_char_p, c_size_t, c_uint8, c_uint16, c_uint32, c_uint64, c_void_p
+from ctypes import POINTER, c_bool, c_char_p, c_size_t, c_uint8, c_uint16, c_uint32, c_uint64, c_void_p
 
 MAX_INSNS = 512
 MAX_SNAP = 262144
+MAX_CAPACITY = 1048576
 
 OK, NO_MEMORY, NO_ROOM, END = 0, 1, 2, 4
 
@@ -36,6 +37,21 @@ class Reader(ctypes.Structure):
 class Record(ctypes.Structure):
     _fields_ = [("offset", c_size_t), ("place", c_uint64), ("fault", c_uint32), ("seconds", c_uint32), ("nanos", c_uint32),
                 ("captured", c_uint32), ("wire", c_uint32)]
+
+
+class Buffer(ctypes.Structure):
+    _fields_ = [("bytes", c_void_p), ("room", c_size_t), ("size", c_size_t)]
+
+
+class Tap(ctypes.Structure):
+    """`struct bpftap_listener`."""
+    _fields_ = [("store", Buffer), ("hold", Buffer), ("received", c_uint64), ("matched", c_uint64), ("dropped", c_uint64),
+                ("snap", c_uint32), ("mode", c_uint32), ("closed", c_uint32)]
+
+
+class Message(ctypes.Structure):
+    _fields_ = [("offset", c_size_t), ("place", c_uint64), ("fault", c_uint32), ("capture", c_uint32), ("seconds", c_uint32),
+                ("nanos", c_uint32), ("captured", c_uint32), ("wire", c_uint32)]
 
 
 def _candidates():
@@ -84,6 +100,12 @@ _FUNCTIONS = {
     "put_header": (Result, [c_uint32, c_uint32, c_uint32, *_ROOM]),
     "put": (Result, [c_uint32, c_uint32, POINTER(Record), *_BYTES, *_ROOM]),
     "cut": (Result, [*_BYTES, *_INSNS, c_uint32, *_ROOM]),
+    "listener_open": (c_uint32, [POINTER(Tap)]),
+    "listener_arrive": (c_uint32, [POINTER(Tap), c_uint32, c_uint32, POINTER(Record), *_BYTES]),
+    "listener_flush": (c_bool, [POINTER(Tap)]),
+    "listener_read": (Result, [POINTER(Tap), POINTER(Buffer)]),
+    "listener_close": (None, [POINTER(Tap)]),
+    "listener_next": (Message, [POINTER(Buffer), POINTER(c_size_t)]),
     "fault_text": (Result, [c_uint32, c_size_t, *_ROOM]),
     "version": (Result, _ROOM),
 }

@@ -5,7 +5,7 @@ import tempfile
 import unittest
 
 import bpftap
-from bpftap import CaptureError, Filter, FilterError, Packet, Verdict
+from bpftap import CaptureError, Fed, Filter, FilterError, Listener, ListenerError, Message, Packet, Verdict
 
 # Frames of 38 bytes from 10.0.0.1 to 10.0.0.2, from port 53 to port 53.
 TCP = bytes.fromhex("ffffffffffff 000102030405 0800 45000018 00000000 40060000 0a000001 0a000002 00350035")
@@ -72,6 +72,35 @@ class Filters(unittest.TestCase):
         longest = Filter.from_program([(6, 0, 0, 262144)] * 512)
         self.assertEqual(longest.listing, "512\n" + "6 0 0 262144\n" * 512)
         self.assertEqual(longest.image.count("\n"), 512)
+
+
+class Listeners(unittest.TestCase):
+    def test_it_keeps_reads_and_drops(self):
+        # Two records of 72 bytes: 32 of fields, and 38 of a frame up to a multiple of 8.
+        tap = Listener("udp", snap=38, capacity=144)
+        packet = Packet(UDP, 60, 7, 123456789)
+        self.assertEqual([tap.arrive(part) for part in (TCP, packet, UDP, UDP, UDP, UDP)],
+                         [Fed.PASSED, Fed.STORED, Fed.STORED, Fed.ROTATED, Fed.STORED, Fed.DROPPED])
+        self.assertEqual((tap.received, tap.matched, tap.dropped), (6, 5, 1))
+        self.assertEqual(tap.read(), [Message(UDP, 60, 7, 123456789, 1, 0), Message(UDP, 38, 0, 0, 2, 0)])
+        self.assertEqual(tap.read(), [])
+        self.assertTrue(tap.flush())
+        self.assertFalse(tap.flush())
+        self.assertEqual([message.place for message in tap.read()], [3, 4])
+        self.assertEqual(tap.arrive(UDP, capture=7, place=9), Fed.STORED)
+        tap.close()
+        self.assertEqual((tap.arrive(UDP), tap.flush(), tap.read(), tap.received), (Fed.CLOSED, False, [], 7))
+        self.assertEqual(repr(tap), "<Listener of Filter('udp'): received 7, matched 6, dropped 1>")
+
+    def test_an_immediate_listener_hands_over_at_once(self):
+        tap = Listener(Filter("udp", snap=20), snap=30, capacity=64, immediate=True)
+        self.assertEqual(tap.arrive(UDP), Fed.HELD)
+        self.assertEqual([message.data for message in tap.read()], [UDP[:20]])
+
+    def test_a_refused_listener_has_a_name(self):
+        for snap, capacity, name in [(0, 64, "BadSnap"), (38, 71, "BadCapacity"), (38, bpftap.MAX_CAPACITY + 1, "BadCapacity"), (38, 0, "BadCapacity")]:
+            with self.assertRaisesRegex(ListenerError, f"^{name}$"):
+                Listener("ip", snap=snap, capacity=capacity)
 
 
 class Captures(unittest.TestCase):

@@ -1,5 +1,7 @@
+pub mod Buffering
 pub mod EndedText
 pub mod FoundCut
 pub mod Prepared
 pub mod Rejecting
 pub mod UnreadText
+pub mod Stepping

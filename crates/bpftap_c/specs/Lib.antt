@@ -9,3 +9,6 @@ pub mod Reasons
 pub mod Texts
 pub mod Captures
 pub mod Cuts
+pub mod Buffers
+pub mod Messages
+pub mod Listeners

@@ -9,6 +9,8 @@ use Rattle.filterlang.specs.declared.fault.Fault.TheVariants as misread
 use Rattle.filtergen_facts.specs.declared.refusal.Refusal.{Refusal}
 use Rattle.filtergen_facts.specs.declared.refusal.Refusal.TheVariants as uncompiled
 use Rattle.filtergen.specs.declared.expression.ExpressionFault.TheVariants as expression
+use Rattle.listener.specs.declared.fault.OpenFault.{OpenFault}
+use Rattle.listener.specs.declared.fault.OpenFault.TheVariants as unopened
 use Rattle.savefile.specs.declared.fault.Fault.{Fault as CaptureFault}
 use Rattle.savefile.specs.declared.fault.Fault.TheVariants as unread
 use Rattle.bpftap_c.specs.declared.outcome.BpftapResult.{BpftapResult}
@@ -83,6 +85,12 @@ tree_code uncompiled.TooLong = 48
 tree_code uncompiled.TooDeep = 49
 tree_code uncompiled.BadSnap = 50
 
+-- of a listener that is not opened, or of a buffer that is not of its capacity
+abbrev pub open_code : OpenFault → ℕ
+open_code unopened.NoMemory = 1
+open_code unopened.BadSnap = 50
+open_code unopened.BadCapacity = 80
+
 -- of bytes that are not a capture, or not a further record of one
 abbrev pub capture_code : CaptureFault → ℕ
 capture_code unread.NoMemory = 1
@@ -119,6 +127,7 @@ code_of (failures.Listing fault) = listing_code fault
 code_of (failures.Expression (expression.Text fault)) = text_code fault
 code_of (failures.Expression (expression.Tree refusal)) = tree_code refusal
 code_of (failures.Capture fault) = capture_code fault
+code_of (failures.Open fault) = open_code fault
 
 abbrev pub place_of : Failure → ℕ
 place_of failures.NoMemory = 0
@@ -129,6 +138,7 @@ place_of (failures.Listing fault) = listing_place fault
 place_of (failures.Expression (expression.Text fault)) = text_place fault
 place_of (failures.Expression (expression.Tree refusal)) = 0
 place_of (failures.Capture fault) = capture_place fault
+place_of (failures.Open fault) = 0
 
 -- how many items there are, where they find no room
 abbrev pub size_of : Failure → ℕ
@@ -139,6 +149,7 @@ size_of (failures.Program fault) = 0
 size_of (failures.Listing fault) = 0
 size_of (failures.Expression fault) = 0
 size_of (failures.Capture fault) = 0
+size_of (failures.Open fault) = 0
 
 -- the result of a call that put this many items
 abbrev pub done : ℕ → BpftapResult

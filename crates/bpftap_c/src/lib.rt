@@ -5,19 +5,26 @@
 #![tactic(auto)]
 
 mod batches;
+mod buffers;
 mod captures;
 mod cuts;
 mod filters;
 mod insns;
+pub mod laws;
+mod listeners;
 mod listings;
 mod memory;
+mod messages;
 mod outcome;
 mod programs;
 mod reasons;
 mod texts;
 
 pub use batches::{BpftapPacket, BpftapSpan};
+pub use buffers::BpftapBuffer;
 pub use captures::{BpftapReader, BpftapRecord};
 pub use insns::BpftapInsn;
+pub use listeners::BpftapListener;
+pub use messages::BpftapMessage;
 pub use outcome::{BpftapResult, Failure};
 pub use reasons::BpftapReason;

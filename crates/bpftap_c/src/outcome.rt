@@ -1,10 +1,11 @@
 //! What a call returns: 0 or the number of a fault, a size and a place.
 
 ghost use Rattle.std.specs.Prelude.{◌≡◌};
-ghost use Rattle.bpftap_c.specs.Outcome.{invalid_code, invalid_place, listing_code, listing_place, text_code, text_place, tree_code, capture_code, capture_place, code_of, place_of, size_of, done, failed};
+ghost use Rattle.bpftap_c.specs.Outcome.{invalid_code, invalid_place, listing_code, listing_place, text_code, text_place, tree_code, open_code, capture_code, capture_place, code_of, place_of, size_of, done, failed};
 
 use bpfvm::{Invalid, ListingFault};
 use filtergen::{ExpressionFault, Refusal};
+use listener::OpenFault;
 
 /// What most calls return.
 #[repr(C)]
@@ -35,6 +36,8 @@ pub enum Failure {
     Expression(ExpressionFault),
     /// The bytes are not a capture, or not a further record of one.
     Capture(savefile::Fault),
+    /// A listener is not opened, or a buffer is not of its capacity.
+    Open(OpenFault),
 }
 
 fn invalid_code(fault: Invalid) -> u32
@@ -133,6 +136,16 @@ fn tree_code(refusal: Refusal) -> u32
     }
 }
 
+fn open_code(fault: OpenFault) -> u32
+    ensures { result ≡ open_code fault }
+{
+    match fault {
+        OpenFault::NoMemory => 1,
+        OpenFault::BadSnap => 50,
+        OpenFault::BadCapacity => 80,
+    }
+}
+
 fn capture_code(fault: savefile::Fault) -> u32
     ensures { result ≡ capture_code fault }
 {
@@ -182,6 +195,7 @@ pub(crate) fn code_of(failure: Failure) -> u32
         Failure::Expression(ExpressionFault::Text(fault)) => text_code(fault),
         Failure::Expression(ExpressionFault::Tree(refusal)) => tree_code(refusal),
         Failure::Capture(fault) => capture_code(fault),
+        Failure::Open(fault) => open_code(fault),
     }
 }
 
@@ -196,6 +210,7 @@ fn place_of(failure: Failure) -> usize
         Failure::Expression(ExpressionFault::Text(fault)) => text_place(fault),
         Failure::Expression(ExpressionFault::Tree(_)) => 0,
         Failure::Capture(fault) => capture_place(fault),
+        Failure::Open(_) => 0,
     }
 }
 
@@ -209,7 +224,8 @@ fn size_of(failure: Failure) -> usize
         | Failure::Program(_)
         | Failure::Listing(_)
         | Failure::Expression(_)
-        | Failure::Capture(_) => 0,
+        | Failure::Capture(_)
+        | Failure::Open(_) => 0,
     }
 }
 

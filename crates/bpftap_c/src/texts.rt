@@ -68,6 +68,7 @@ fn fault_name(fault: u32) -> &'static str {
         25 => "Count",
         32..=50 => expression_fault_name(fault),
         64..=73 => capture_fault_name(fault),
+        80 => "BadCapacity",
         _ => "Unknown",
     }
 }

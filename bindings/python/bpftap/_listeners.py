@@ -1,0 +1,102 @@
+"""Listeners of a packet tap."""
+from __future__ import annotations
+
+import ctypes
+import enum
+from dataclasses import dataclass
+
+from ._captures import Packet
+from ._errors import Fault, raise_fault
+from ._filters import Filter
+from ._library import MAX_CAPACITY, MAX_SNAP, OK, Buffer, Record, Tap, lib
+
+
+class ListenerError(Fault):
+    """A listener is not opened."""
+
+
+class Fed(enum.IntEnum):
+    """What became of a packet that arrived."""
+    PASSED = 0
+    """The filter rejected it."""
+    STORED = 1
+    """It is in the store."""
+    HELD = 2
+    """It is in the store, which became the hold: only if the listener is immediate."""
+    ROTATED = 3
+    """The store became the hold, and it is in the new store."""
+    DROPPED = 4
+    """It found no room."""
+    CLOSED = 5
+    """The listener is closed."""
+
+
+@dataclass(frozen=True)
+class Message(Packet):
+    """What a listener kept of a packet: `data` are its first bytes. `place` is its place in the capture of this number."""
+    place: int = 0
+    capture: int = 0
+
+
+class Listener:
+    """A listener of a packet tap: it keeps the packets that a filter accepts in two buffers until they are read.
+
+    The store takes packets as they arrive, and the hold waits for its reader. If a packet finds no room in the store, the store becomes the
+    hold; if the hold still waits, the packet is dropped. `capacity` is the room of each buffer in bytes: a packet takes 32 bytes and those
+    that are kept of it, at most `snap`, rounded up to a multiple of 8. If it is `immediate`, the store becomes the hold after each packet
+    that is stored while the hold is empty.
+    """
+
+    def __init__(self, keep: Filter | str, snap: int = MAX_SNAP, capacity: int = MAX_CAPACITY, immediate: bool = False):
+        self.filter = Filter(keep) if isinstance(keep, str) else keep
+        self._memory = ctypes.create_string_buffer(max(1, 3 * capacity))
+        begin = ctypes.addressof(self._memory)
+        store, hold, self._batch = (Buffer(begin + n * capacity, capacity) for n in range(3))
+        self._tap = Tap(store=store, hold=hold, snap=snap, mode=int(immediate))
+        raise_fault(ListenerError, lib.bpftap_listener_open(self._tap), 0)
+
+    def arrive(self, packet: Packet | bytes, capture: int = 0, place: int | None = None) -> Fed:
+        """A packet arrives. `capture` and `place` stay with it; without a place, that is the number of packets that arrived before."""
+        if not isinstance(packet, Packet):
+            packet = Packet(packet, len(packet))
+        answer = self.filter.run(packet.data, packet.wire)
+        place = self.received if place is None else place
+        record = Record(place=place, seconds=packet.seconds, nanos=packet.nanos, wire=packet.wire)
+        return Fed(lib.bpftap_listener_arrive(self._tap, answer, capture, record, packet.data, len(packet.data)))
+
+    def flush(self) -> bool:
+        """Makes the store the hold if it has messages and the hold has none, as the read timeout of bpf(4) does; whether it did."""
+        return lib.bpftap_listener_flush(self._tap)
+
+    def read(self) -> list[Message]:
+        """Takes the messages of the hold, oldest first."""
+        batch = self._batch
+        raise_fault(ListenerError, lib.bpftap_listener_read(self._tap, batch).fault, 0)
+        content = ctypes.string_at(batch.bytes, batch.size)
+        at, messages = ctypes.c_size_t(0), []
+        while (found := lib.bpftap_listener_next(batch, at)).fault == OK:
+            data = content[found.offset : found.offset + found.captured]
+            messages.append(Message(data, found.wire, found.seconds, found.nanos, found.place, found.capture))
+        return messages
+
+    def close(self) -> None:
+        """From now on nothing changes, nothing is read, and packets that arrive are not counted."""
+        lib.bpftap_listener_close(self._tap)
+
+    @property
+    def received(self) -> int:
+        """The packets that arrived before it was closed."""
+        return self._tap.received
+
+    @property
+    def matched(self) -> int:
+        """Those that the filter accepted."""
+        return self._tap.matched
+
+    @property
+    def dropped(self) -> int:
+        """Those that the filter accepted and that found no room."""
+        return self._tap.dropped
+
+    def __repr__(self):
+        return f"<Listener of {self.filter!r}: received {self.received}, matched {self.matched}, dropped {self.dropped}>"

@@ -1,0 +1,95 @@
+-- A listener in memory of the caller: one plain list, which each call leads one step on.
+use Rattle.std.specs.Prelude.{◌≡◌, ◌≢◌, ◌≤◌, ◌==◌, ◌⊎◌, ℕ, Bool, false, true, List, [], ◌++◌, length, Option, Some, None, min, nat_lt, if◌then◌else◌}
+use Rattle.bpfvm.specs.declared.insn.Insn.{Insn}
+use Rattle.bpfvm.specs.Machine.{verdict}
+use Rattle.listener.specs.declared.answer.Fed.{Fed}
+use Rattle.listener.specs.declared.answer.Fed.TheVariants.{Passed, Stored, Held, Rotated, Dropped, Closed}
+use Rattle.listener.specs.declared.fault.OpenFault.{OpenFault}
+use Rattle.listener.specs.declared.fault.OpenFault.TheVariants.{BadCapacity, NoMemory}
+use Rattle.listener.specs.declared.message.Message.{Message}
+use Rattle.listener.specs.declared.mode.Mode.{Mode}
+use Rattle.listener.specs.declared.mode.Mode.TheVariants.{Buffered, Immediate}
+use Rattle.listener.specs.Listening.{InRange, RefusesOpen}
+use Rattle.listener.specs.Messages.{Arrival, cut_to, kept_by}
+use Rattle.listener.specs.PlainList.{Terms, terms, PlainList, plain, empty, Event, read, IsStep}
+use Rattle.bpftap_c.specs.declared.buffers.BpftapBuffer.{BpftapBuffer}
+use Rattle.bpftap_c.specs.declared.listeners.BpftapListener.{BpftapListener}
+use Rattle.bpftap_c.specs.declared.outcome.BpftapResult.{BpftapResult}
+use Rattle.bpftap_c.specs.declared.outcome.Failure.TheVariants.{Open}
+use Rattle.bpftap_c.specs.Buffers.{capacity, messages, IsBuffer}
+use Rattle.bpftap_c.specs.Outcome.{done, failed, open_code}
+
+abbrev pub mode_of : ℕ → Mode
+mode_of code = if code == 0 then Buffered else Immediate
+
+abbrev pub is_closed : ℕ → Bool
+is_closed code = if code == 0 then false else true
+
+abbrev pub terms_of : BpftapListener → Terms
+terms_of l = terms (capacity l.store) (mode_of l.mode)
+
+abbrev pub list_of : BpftapListener → PlainList
+list_of l =
+    plain (messages l.hold ++ messages l.store) (length (messages l.hold)) l.received l.matched l.dropped (is_closed l.closed)
+
+-- an open listener: two buffers of one capacity in its range, and counts of which one is part of the other
+pub record IsOpen (l : BpftapListener) : Type 0 where
+  pub store : IsBuffer l.store
+  pub hold : IsBuffer l.hold
+  pub same : capacity l.hold ≡ capacity l.store
+  pub range : InRange l.snap (capacity l.store)
+  pub matched : l.matched ≤ l.received
+  pub dropped : l.dropped ≤ l.matched
+
+-- what each call leaves in a listener, and the next one finds
+abbrev pub IsListener : BpftapListener → Type 0
+IsListener l = l.closed ≡ 0 → IsOpen l
+
+-- one step of the plain list, which changes nothing else
+pub record Takes (old : BpftapListener) (e : Event) (new : BpftapListener) : Type 0 where
+  pub steps : IsStep (terms_of old) (list_of old) e (list_of new)
+  pub snap : new.snap ≡ old.snap
+  pub terms : terms_of new ≡ terms_of old
+  pub is : IsListener new
+
+-- What is kept of an arrival to which a filter answers this: nothing for 0, else as many bytes as the lesser of the answer and the
+-- snapshot length.
+abbrev pub kept_by_answer : ℕ → ℕ → Arrival → Option Message
+kept_by_answer answer snap a = if nat_lt 0 answer then Some (cut_to (min answer snap) a) else None
+
+-- it is what a listener keeps whose program answers this
+abbrev pub AnswersKeep : Type 0
+AnswersKeep =
+    (program : List Insn) (snap : ℕ) (a : Arrival)
+    → kept_by program snap a ≡ kept_by_answer (verdict program a.packet.bytes a.packet.len) snap a
+
+abbrev pub fed_code : Fed → ℕ
+fed_code Passed = 0
+fed_code Stored = 1
+fed_code Held = 2
+fed_code Rotated = 3
+fed_code Dropped = 4
+fed_code Closed = 5
+
+-- why a listener of two buffers is not opened
+abbrev pub RefusesListener : BpftapListener → OpenFault → Type 0
+RefusesListener l NoMemory = ⊥
+RefusesListener l fault = RefusesOpen l.snap (capacity l.store) fault ⊎ ((fault ≡ BadCapacity) × (capacity l.hold ≢ capacity l.store))
+
+-- The listener is open, and nothing has arrived. Or it is refused for this fault, and is closed.
+abbrev pub Opens : BpftapListener → BpftapListener → ℕ → Type 0
+Opens old new fault =
+    ((fault ≡ 0) × (new.closed ≡ 0) × IsOpen new × (list_of new ≡ empty) × (new.snap ≡ old.snap) × (terms_of new ≡ terms_of old))
+    ⊎ ((why : OpenFault) × RefusesListener old why × (fault ≡ open_code why) × (is_closed new.closed ≡ true))
+
+-- the messages that a read took
+abbrev pub batch_of : Option (List Message) → List Message
+batch_of None = []
+batch_of (Some ms) = ms
+
+-- The hold was read into a buffer that was brought. Or that has not the capacity of the listener's, and all is as it was.
+abbrev pub Reads : BpftapListener → BpftapBuffer → BpftapListener → BpftapBuffer → BpftapResult → Type 0
+Reads old brought new batch told =
+    ((taken : Option (List Message)) × Takes old (read taken) new × (messages batch ≡ batch_of taken) × IsBuffer batch
+    × (capacity batch ≡ capacity brought) × (told ≡ done batch.size))
+    ⊎ ((capacity brought ≢ capacity old.store) × (told ≡ failed (Open BadCapacity)) × (new ≡ old) × (batch ≡ brought))
