@@ -272,6 +272,19 @@ def numbers_have_the_names_of_faults(scene):
     scene.check("names that docs/FAULTS.md lacks", [name for name in camel.values() if name not in explained | OWN], [])
 
 
+def loses_what_steps_loses(scene):
+    """The example of a slow reader: its counts, and the packets that it reads, are those of `bpftap steps`."""
+    scene.put({"listeners": "96 4096 len > 50\n", "script": ("arrive\n" * 90 + "read 0\n") * 2 + "arrive\n" * 73 + "read 0\nflush 0\nread 0\n"})
+    reported = scene.run(["steps", "listeners", "script", str(VETH)]).out.decode()
+    batches = [re.findall(r"place (\d+)", part) for part in re.split(r"\nbatch|\nheld", reported)[1:]]
+    received, matched, dropped = re.findall(r"\d+", reported.partition("\n")[0])[1:]
+    said, status = done(scene, ["./tap", "len > 50", VETH, "90"])
+    lines = said.splitlines()
+    scene.check("tap: what is read", [line.split()[1:] for line in lines if line.startswith("read:")], [batch for batch in batches if batch])
+    scene.check("tap: counts", (lines[-1:], status), ([f"received {received}, matched {matched}, dropped {dropped}"], 0))
+    scene.check("tap: drops", (sum(line.startswith("dropped:") for line in lines), int(dropped) > 0), (int(dropped), True))
+
+
 @case
 def examples_do_what_they_say(scene):
     """The examples in C and Python: the filter keeps what `bpftap cut` keeps, and the kernel takes a program."""
@@ -279,13 +292,14 @@ def examples_do_what_they_say(scene):
         return
     scene.start({})
     if scene.has("gcc"):
-        for name in ("filter", "attach"):
+        for name in ("filter", "attach", "tap"):
             words = ["gcc", "-std=gnu11", "-O2", *STRICT, f"-I{ROOT / 'include'}", ROOT / "examples" / "c" / f"{name}.c", ARCHIVE, "-o", name]
             passes(scene, words)
         scene.check("filter", done(scene, ["./filter", "udp port 5353", VETH, "dns.pcap"]), ("67 of 253 packets\n", 0))
         scene.run(["cut", "-s", "0", "-e", "udp port 5353", str(VETH), "cut.pcap"])
         scene.check("what it kept", scene.read("dns.pcap") == scene.read("cut.pcap"), True)
         scene.check("a refused expression", done(scene, ["./filter", "port http", VETH, "x"]), ("filter: port http: BadWord 5\n", 1))
+        loses_what_steps_loses(scene)
         said, status = done(scene, ["./attach", "tcp port 80"])
         scene.check("attach", (re.sub(r"\d+", "N", said), status), ("the kernel took N instructions\n", 0))
     environment = {**os.environ, "PYTHONPATH": str(ROOT / "bindings" / "python"), "BPFTAP_LIBRARY": str(LIBRARY), "PYTHONDONTWRITEBYTECODE": "1"}

@@ -40,10 +40,42 @@ pub struct Reader {
 }
 
 #[repr(C)]
+#[derive(Default)]
 pub struct Record {
     pub offset: usize,
     pub place: u64,
     pub fault: u32,
+    pub seconds: u32,
+    pub nanos: u32,
+    pub captured: u32,
+    pub wire: u32,
+}
+
+#[repr(C)]
+pub struct Buffer {
+    pub bytes: *mut u8,
+    pub room: usize,
+    pub size: usize,
+}
+
+#[repr(C)]
+pub struct Listener {
+    pub store: Buffer,
+    pub hold: Buffer,
+    pub received: u64,
+    pub matched: u64,
+    pub dropped: u64,
+    pub snap: u32,
+    pub mode: u32,
+    pub closed: u32,
+}
+
+#[repr(C)]
+pub struct Message {
+    pub offset: usize,
+    pub place: u64,
+    pub fault: u32,
+    pub capture: u32,
     pub seconds: u32,
     pub nanos: u32,
     pub captured: u32,
@@ -59,5 +91,11 @@ extern "C" {
     pub fn bpftap_why(text: *const u8, text_size: usize, packet: *const u8, captured: usize, wire: u32, to: *mut u8, room: usize) -> Reason;
     pub fn bpftap_open(memory: *const u8, size: usize) -> Reader;
     pub fn bpftap_next(memory: *const u8, size: usize, reader: &mut Reader) -> Record;
+    pub fn bpftap_listener_open(listener: &mut Listener) -> u32;
+    pub fn bpftap_listener_arrive(listener: &mut Listener, answer: u32, capture: u32, packet: &Record, bytes: *const u8, captured: usize) -> u32;
+    pub fn bpftap_listener_flush(listener: &mut Listener) -> bool;
+    pub fn bpftap_listener_read(listener: &mut Listener, batch: &mut Buffer) -> Result;
+    pub fn bpftap_listener_close(listener: &mut Listener);
+    pub fn bpftap_listener_next(batch: &Buffer, at: &mut usize) -> Message;
     pub fn bpftap_fault_text(fault: u32, place: usize, to: *mut u8, room: usize) -> Result;
 }

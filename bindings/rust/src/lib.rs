@@ -1,4 +1,4 @@
-//! The filter compiler, the filter machine and the capture reader of bpftap, over its C library.
+//! The filter compiler, the filter machine, the capture reader and the tap of bpftap, over its C library.
 //!
 //! ```
 //! let tcp = bpftap::Filter::new("tcp port 80")?;
@@ -12,8 +12,10 @@ use std::fmt;
 use std::ptr::NonNull;
 
 mod ffi;
+mod listener;
 
 pub use ffi::Insn;
+pub use listener::{Fed, Listener, Message, Messages, Mode, MAX_CAPACITY};
 
 /// The most captured bytes of a packet.
 pub const MAX_SNAP: u32 = 262_144;

@@ -1,5 +1,5 @@
 //! The crate over the real capture of `examples/`, and its errors.
-use bpftap::{Filter, Packets};
+use bpftap::{Fed, Filter, Listener, Mode, Packet, Packets};
 
 /// 253 Ethernet frames; tcpdump counts 67 with UDP port 5353.
 const VETH: &[u8] = include_bytes!("../../../examples/veth.pcap");
@@ -43,4 +43,31 @@ fn answers_have_a_reason() {
     assert_eq!(udp.program().len(), udp.image().unwrap().lines().count());
     let many = (0..40).map(|n| format!("port {n}")).collect::<Vec<_>>().join(" or ");
     assert!(Filter::new(&many).unwrap().image().unwrap().len() > 256);
+}
+
+#[test]
+fn a_listener_keeps_reads_and_drops() {
+    // Two records of 72 bytes: 32 of fields, and 38 of a frame up to a multiple of 8.
+    let mut tap = Listener::open(Filter::new("udp").unwrap(), 38, 144, Mode::Buffered).unwrap();
+    let packet = Packet { data: &UDP, wire: 60, seconds: 7, nanos: 123_456_789 };
+    let fed: Vec<_> = (0..5).map(|place| tap.arrive(3, place, &packet)).collect();
+    assert_eq!(fed, [Fed::Stored, Fed::Stored, Fed::Rotated, Fed::Stored, Fed::Dropped]);
+    assert_eq!(tap.arrive(3, 5, &Packet { data: &UDP[..20], ..packet }), Fed::Passed);
+    assert_eq!((tap.received(), tap.matched(), tap.dropped()), (6, 5, 1));
+    let mut tap = std::thread::spawn(move || tap).join().unwrap();
+    let read: Vec<_> = tap.read().map(|message| (message.capture, message.place, message.packet)).collect();
+    assert_eq!(read, [(3, 0, packet), (3, 1, packet)]);
+    assert_eq!((tap.read().count(), tap.flush(), tap.flush(), tap.read().count()), (0, true, false, 2));
+    tap.close();
+    assert_eq!((tap.arrive(3, 6, &packet), tap.read().count(), tap.received()), (Fed::Closed, 0, 6));
+}
+
+#[test]
+fn a_listener_is_refused_by_name() {
+    let open = |snap, capacity| Listener::open(Filter::new("ip").unwrap(), snap, capacity, Mode::Immediate).map(|_| ()).map_err(|error| error.to_string());
+    assert_eq!(open(38, 72), Ok(()));
+    assert_eq!(open(0, 72), Err("BadSnap".to_owned()));
+    for capacity in [0, 71, bpftap::MAX_CAPACITY + 1, usize::MAX] {
+        assert_eq!(open(38, capacity), Err("BadCapacity".to_owned()));
+    }
 }
