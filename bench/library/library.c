@@ -84,6 +84,24 @@ static void by_next(void) {
     }
 }
 
+/* A listener that keeps each packet whole in buffers of 512 KiB, and each of its messages. */
+static void by_listener(void) {
+    enum { ROOM = 1 << 19 };
+    static uint8_t buffers[3 * ROOM];
+    struct bpftap_listener listener = {
+        .store = {buffers, ROOM, 0}, .hold = {buffers + ROOM, ROOM, 0}, .snap = SIZE, .mode = BPFTAP_BUFFERED};
+    struct bpftap_buffer batch = {buffers + 2 * ROOM, ROOM, 0};
+    bpftap_listener_open(&listener);
+    struct bpftap_record record = {.seconds = 1, .wire = SIZE};
+    for (int i = 0; i < PACKETS; i++) {
+        record.place = (uint64_t)i;
+        if (bpftap_listener_arrive(&listener, SIZE, 0, &record, memory + i % KINDS * SIZE, SIZE) != BPFTAP_ROTATED) continue;
+        bpftap_listener_read(&listener, &batch);
+        struct bpftap_message message;
+        for (size_t at = 0; (message = bpftap_listener_next(&batch, &at)).fault == BPFTAP_OK;) sum += batch.bytes[message.offset] + message.wire;
+    }
+}
+
 static uint32_t word(const uint8_t *at) {
     uint32_t number;
     memcpy(&number, at, 4);
@@ -137,6 +155,7 @@ int main(int argc, char **argv) {
     measure("our program, bpftap_run_each", by_each);
     measure("our program, bpftap_run_spans", by_spans);
     measure("bpftap_next", by_next);
+    measure("a listener, each message read", by_listener);
     measure("a plain loop over records", by_plain_loop);
     return 0;
 }
