@@ -3,22 +3,18 @@
 ghost use Rattle.std.specs.Prelude.{◌≡◌, false, Ok, IfErr, IfOk, IsErr};
 ghost use Rattle.cli_text.specs.declared.status.Status.TheVariants.{Refused};
 
+use crate::assembly_hints::hint_assembly;
 use crate::listing_hints::hint_listing;
 use crate::program::{FilterFault, filter};
 use crate::report::report_filter;
-use bpf_asm::AssemblyFault;
 use bpfvm::Program;
 use cli_files::reading::read_file;
 use cli_filter_hints::expressions::{hint_refusal, hint_text_fault};
 use cli_report::HintSink;
-use cli_report::files::hint_bad_line;
 use cli_text::Status;
 use filtergen::ExpressionFault;
 use std::alloc::Global;
 use std::fs::Files;
-
-/// The form of a line of assembly.
-const ASSEMBLY: &str = "LABEL: NAME OPERAND, as docs/ASSEMBLY.md has it";
 
 /// Hints on an expression that has no program.
 pub fn hint_expression<E: HintSink>(alloc: Global, text: &str, fault: ExpressionFault, err: &mut E)
@@ -40,10 +36,8 @@ fn hint_filter<E: HintSink>(
     match fault {
         FilterFault::Expression(fault) => hint_expression(alloc, expr.unwrap_or(""), fault, err),
         FilterFault::Listing(fault) => hint_listing(listing.unwrap_or(&[]), fault, err),
-        FilterFault::Assembly(AssemblyFault::Line(line, _)) => {
-            hint_bad_line(listing.unwrap_or(&[]), line, ASSEMBLY, err);
-        }
-        _ => {}
+        FilterFault::Assembly(fault) => hint_assembly(listing.unwrap_or(&[]), fault, err),
+        FilterFault::Twice => {}
     }
 }
 

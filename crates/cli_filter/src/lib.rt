@@ -2,6 +2,7 @@
 //! of a file of lines, each with a filter.
 #![tactic(auto)]
 
+mod assembly_hints;
 mod filters;
 mod listing_hints;
 pub mod plan;

@@ -51,16 +51,20 @@ fn hint_count<E: HintSink>(listing: &[u8], err: &mut E)
     )
 }
 
-/// Hints on the instruction at a place: its line, and what is wrong with it.
-fn hint_insn<E: HintSink>(listing: &[u8], place: usize, said: &str, err: &mut E)
-    ensures quiet { E.takes_hints err.old ≡ false → err.new ≡ err.old }
-{
-    show_line(listing, place.saturating_add(FIRST_INSN), err);
-    give_hint(said, err);
+/// The place of the instruction that a program is refused for, of up to this many; none if their number is the fault.
+pub(crate) fn place_of(fault: Invalid, count: usize) -> Option<usize> {
+    match fault {
+        Invalid::Empty | Invalid::TooMany => None,
+        Invalid::UnknownCode(place)
+        | Invalid::JumpOut(place)
+        | Invalid::Cell(place)
+        | Invalid::ZeroDivisor(place) => Some(place),
+        Invalid::NoReturn => Some(count.saturating_sub(1)),
+    }
 }
 
-/// Hints on instructions that are no program.
-fn hint_invalid<E: HintSink>(listing: &[u8], fault: Invalid, err: &mut E)
+/// A hint on instructions that are no program, which a text of this kind has.
+pub(crate) fn hint_invalid<E: HintSink>(fault: Invalid, text: &str, err: &mut E)
     ensures quiet { E.takes_hints err.old ≡ false → err.new ≡ err.old }
 {
     match fault {
@@ -72,32 +76,34 @@ fn hint_invalid<E: HintSink>(listing: &[u8], fault: Invalid, err: &mut E)
             "a program has at most 512 instructions: write a shorter filter, or several",
             err,
         ),
-        Invalid::UnknownCode(n) => hint_insn(
-            listing,
-            n,
+        Invalid::UnknownCode(_) => give_hint(
             "its code is not one of bpf(4): extensions such as Linux's are not supported",
             err,
         ),
-        Invalid::JumpOut(n) => hint_insn(
-            listing,
-            n,
-            "it jumps past the last instruction: is the listing complete?",
+        Invalid::JumpOut(_) => give_hint(
+            format_args!("it jumps past the last instruction: is the {text} complete?"),
             err,
         ),
-        Invalid::Cell(n) => hint_insn(
-            listing,
-            n,
+        Invalid::Cell(_) => give_hint(
             "its K is a cell of the scratch memory, which has cells 0 to 15",
             err,
         ),
-        Invalid::ZeroDivisor(n) => hint_insn(listing, n, "its K is the divisor, and it is 0", err),
-        Invalid::NoReturn => hint_insn(
-            listing,
-            count_lines(listing).saturating_sub(FIRST_INSN),
-            "the last instruction is not a return: is the listing complete?",
+        Invalid::ZeroDivisor(_) => give_hint("its K is the divisor, and it is 0", err),
+        Invalid::NoReturn => give_hint(
+            format_args!("the last instruction is not a return: is the {text} complete?"),
             err,
         ),
     }
+}
+
+/// Hints on a listing whose instructions are no program: the line of the instruction, and what is wrong with it.
+fn hint_program<E: HintSink>(listing: &[u8], fault: Invalid, err: &mut E)
+    ensures quiet { E.takes_hints err.old ≡ false → err.new ≡ err.old }
+{
+    if let Some(place) = place_of(fault, count_lines(listing).saturating_sub(1)) {
+        show_line(listing, place.saturating_add(FIRST_INSN), err);
+    }
+    hint_invalid(fault, "listing", err)
 }
 
 /// Hints on a text that is no listing of a program: the line that is wrong, and what to do.
@@ -107,6 +113,6 @@ pub(crate) fn hint_listing<E: HintSink>(listing: &[u8], fault: ListingFault, err
     match fault {
         ListingFault::BadLine(line) => hint_line(listing, line, err),
         ListingFault::Count => hint_count(listing, err),
-        ListingFault::Program(fault) => hint_invalid(listing, fault, err),
+        ListingFault::Program(fault) => hint_program(listing, fault, err),
     }
 }

@@ -1,0 +1,118 @@
+//! Hints on assembly that is refused.
+
+ghost use Rattle.std.specs.Prelude.{◌≡◌, false};
+
+use crate::listing_hints::{hint_invalid, place_of};
+use bpf_asm::AssemblyFault;
+use bpfvm::Invalid;
+use cli_report::HintSink;
+use cli_report::files::{hint_bad_line, show_line};
+use cli_report::stream::give_hint;
+
+/// The form of a line of assembly.
+const FORM: &str = "LABEL: NAME OPERAND, as docs/ASSEMBLY.md has it";
+
+/// Whether a byte is no blank of assembly.
+fn is_no_blank(byte: &u8) -> bool {
+    *byte != b' ' && *byte != b'\t' && *byte != b'\r'
+}
+
+/// Whether a byte belongs to a name, which a label is.
+fn is_in_name(byte: &u8) -> bool {
+    byte.is_ascii_alphanumeric() || *byte == b'_' || *byte == b'-' || *byte == b'%'
+}
+
+/// A text from a byte on; nothing of it if there is no such byte.
+fn rest_from(text: &[u8], start: Option<usize>) -> &[u8] {
+    text.get(start.unwrap_or(text.len())..).unwrap_or(&[])
+}
+
+/// A text without the blanks at its front.
+fn without_blanks(text: &[u8]) -> &[u8] {
+    rest_from(text, text.iter().position(is_no_blank))
+}
+
+/// What follows the `*/` that ends a comment.
+fn after_comment(text: &[u8]) -> &[u8] {
+    let Some(end) = text.windows(2).position(|pair| pair == b"*/".as_slice()) else {
+        return &[];
+    };
+    text.get(end.saturating_add(2)..).unwrap_or(&[])
+}
+
+/// A line from its first byte on that is neither a blank nor in a comment.
+fn skip_blanks(line: &[u8]) -> &[u8] {
+    let mut rest = without_blanks(line);
+    for _ in 0..line.len() {
+        match rest.strip_prefix(b"/*") {
+            Some(comment) => rest = without_blanks(after_comment(comment)),
+            None => break,
+        }
+    }
+    if rest.starts_with(b";") { &[] } else { rest }
+}
+
+/// A line without the place in front of its instruction.
+fn skip_place(line: &[u8]) -> &[u8] {
+    match line.strip_prefix(b"(") {
+        Some(place) => {
+            let close = rest_from(place, place.iter().position(|byte| *byte == b')'));
+            skip_blanks(close.strip_prefix(b")").unwrap_or(close))
+        }
+        None => line,
+    }
+}
+
+/// A line without its label.
+fn skip_label(line: &[u8]) -> &[u8] {
+    let after = skip_blanks(rest_from(line, line.iter().position(|byte| !is_in_name(byte))));
+    match after.strip_prefix(b":") {
+        Some(rest) => skip_blanks(rest),
+        None => line,
+    }
+}
+
+/// Whether a line of assembly, which is read, has an instruction.
+fn has_insn(line: &[u8]) -> bool {
+    !skip_label(skip_place(skip_blanks(line))).is_empty()
+}
+
+/// The line, counted from 1, of the instruction at a place, or of the last one.
+fn line_of_insn(text: &[u8], place: usize) -> usize {
+    let mut found: usize = 0;
+    let mut passed: usize = 0;
+    let mut number: usize = 0;
+    for line in text.split(|byte| *byte == b'\n') {
+        number = number.saturating_add(1);
+        if passed <= place && has_insn(line) {
+            found = number;
+            passed = passed.saturating_add(1);
+        }
+    }
+    found
+}
+
+/// Hints on assembly whose instructions are no program: the line of the instruction, and what is wrong with it.
+fn hint_program<E: HintSink>(text: &[u8], fault: Invalid, err: &mut E)
+    ensures quiet { E.takes_hints err.old ≡ false → err.new ≡ err.old }
+{
+    if let Some(place) = place_of(fault, usize::MAX) {
+        show_line(text, line_of_insn(text, place), err);
+    }
+    hint_invalid(fault, "program", err)
+}
+
+/// Hints on a text that is no assembly of a program: the line that is wrong, and what to do.
+pub(crate) fn hint_assembly<E: HintSink>(text: &[u8], fault: AssemblyFault, err: &mut E)
+    ensures quiet { E.takes_hints err.old ≡ false → err.new ≡ err.old }
+{
+    match fault {
+        AssemblyFault::Line(line, _) => hint_bad_line(text, line, FORM, err),
+        AssemblyFault::Program(fault) => hint_program(text, fault, err),
+        AssemblyFault::TextTooLong => give_hint(
+            "assembly has at most 65536 bytes: a program of 512 instructions needs no more",
+            err,
+        ),
+        AssemblyFault::NoMemory => {}
+    }
+}
