@@ -92,7 +92,7 @@ fn place_of(matches: &ArgMatches<'_>) -> Option<Option<u64>> {
     }
 }
 
-/// The words that were found, nothing where one is missing, or where the snapshot length or the place is none.
+/// The words that were found, nothing if one is missing, or if the snapshot length or the place is invalid.
 pub fn explain_words<'a>(matches: &ArgMatches<'a>) -> Option<ExplainWords<'a>> {
     Some(ExplainWords {
         snap: snapshot_length(matches.get_str("snap")?.as_bytes())?,
