@@ -1,9 +1,11 @@
 """Standard streams that are closed or full: no file of a command gets what is printed there."""
 import itertools
+import os
+import select
 import shutil
 import subprocess
 
-from .common import ALL, HEADER, IP, TCP_RECORD, TORN, UDP_RECORD, WHOLE, Seen, as_bytes, case, fault_lines, header
+from .common import ALL, HEADER, IP, LIMIT, PROGRAM, TCP_RECORD, TORN, UDP_RECORD, WHOLE, Seen, as_bytes, case, fault_lines, header
 from .steps import EXPLAINED, REPORT
 
 FILES = {
@@ -86,10 +88,25 @@ def a_pipe_that_nobody_reads_is_not_reported(scene):
     for words in ["--help", "check ip", *steps, "run r.txt whole.pcap"]:
         scene.check(f"{words} |", scene.run_unread(words), Seen(b"", b"", 3))
     scene.check("OUT", scene.read("out.pcap"), WHOLE)
-    for words in ["cut -s 0 whole.pcap /dev/stdout", "--hints cut -s 0 -c torn.pcap /dev/stdout"]:
+    for words in ["cut -s 0 whole.pcap /dev/stdout", "--hints cut -s 0 -c torn.pcap /dev/stdout", "--hints cut -s 0 whole.pcap /dev/fd/1"]:
         scene.check(f"{words} |", scene.run_unread(words), Seen(b"", b"", 3))
     torn = as_bytes(fault_lines("Capture 0 TornRecord 1"))
     scene.check("steps of a torn capture |", scene.run_unread("steps l.txt s.txt torn.pcap"), Seen(b"", torn, 3))
+
+
+@case
+def a_fifo_whose_reader_has_gone_is_an_output_that_failed(scene):
+    """An OUT of `cut` that is no standard output is reported, with its reason: a fifo takes 64 KiB, and then nobody reads it any more."""
+    scene.put({"long.pcap": WHOLE[:24] + WHOLE[24:] * 4000})
+    os.mkfifo(scene.folder / "fifo")
+    reader = os.open(scene.folder / "fifo", os.O_RDONLY | os.O_NONBLOCK)
+    words = [PROGRAM, "--hints", "cut", "-s", "0", "long.pcap", "fifo"]
+    with subprocess.Popen(words, cwd=scene.folder, stdout=subprocess.PIPE, stderr=subprocess.PIPE) as cutting:
+        found, _, _ = select.select([reader], [], [], LIMIT)
+        os.close(reader)
+        out, err = cutting.communicate(timeout=LIMIT)
+    wanted = fault_lines("Device fifo") + "  Broken pipe (os error 32)\n"
+    scene.check("told", (bool(found), out, err.decode(), cutting.returncode), (True, b"", wanted, 3))
 
 
 def refused_once(scene, words, call):

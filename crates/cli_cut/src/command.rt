@@ -1,7 +1,7 @@
 //! `bpftap cut` and `bpftap check`, over files.
 
 use crate::hints::{hint_cut, hint_print};
-use crate::paths::{late_output, open_apart};
+use crate::paths::{is_standard_output, late_output, open_apart};
 use crate::plan::{read_filter, read_program};
 use crate::print::{PrintFault, ProgramForm, check, show, show_read};
 use crate::report::{report_count, report_cut, report_print};
@@ -15,7 +15,6 @@ use cli_report::probe::{ProbedInput, ProbedOutput};
 use cli_text::{MAX_SNAP, Status};
 use pcap_cut::cut::{CutEnd, End, cut};
 use savefile::{Counted, Fault};
-use std::alloc::Global;
 use std::fs::Files;
 use std::io::{ErrorKind, Read, Write};
 
@@ -56,7 +55,7 @@ fn flush<R, W: Write>(mut end: CutEnd<R, Counted<W>>) -> CutEnd<R, Counted<W>> {
     end
 }
 
-/// Whether OUT is a pipe that nobody reads any more, as `/dev/stdout` before `| head`.
+/// Whether a cut failed since OUT is a pipe that nobody reads any more.
 fn is_unread<R, W: Write + Drop>(end: &CutEnd<R, ProbedOutput<W>>) -> bool {
     match (end.end, end.sink.inner.get_ref().failure()) {
         (End::Output(_), Some(error)) => error.kind() == ErrorKind::BrokenPipe,
@@ -64,22 +63,25 @@ fn is_unread<R, W: Write + Drop>(end: &CutEnd<R, ProbedOutput<W>>) -> bool {
     }
 }
 
-/// Reports how a cut ended, and returns the exit status. That nobody reads OUT any more is not reported, as of standard output.
-fn report_end<R, W: Write + Drop, E: HintSink>(
-    end: &CutEnd<R, ProbedOutput<W>>,
+/// Reports how a cut ended, with hints, and returns the exit status. That nobody reads standard output any more is not reported, as
+/// for `/dev/stdout` before `| head`.
+fn report_end<F: Files, R, W: Write + Drop, E: HintSink>(
+    rt: &F,
+    end: &CutEnd<ProbedInput<R>, ProbedOutput<W>>,
     words: &CutWords<'_>,
     err: &mut E,
 ) -> Status {
-    if is_unread(end) {
-        Status::Failed
-    } else {
-        report_cut(end, words.input, words.output, err)
+    if is_unread(end) && is_standard_output(rt, words.output) {
+        return Status::Failed;
     }
+    let status = report_cut(end, words.input, words.output, err);
+    hint_cut(end, err);
+    status
 }
 
 /// Cuts IN, and reports how that ended. The count comes after the fault and its hints.
-fn cut_and_report<R: Read + Drop, W: Write + Drop, E: HintSink>(
-    alloc: Global,
+fn cut_and_report<F: Files + AllocGlobal, R: Read + Drop, W: Write + Drop, E: HintSink>(
+    rt: &F,
     words: &CutWords<'_>,
     job: Job<ProbedInput<R>, ProbedOutput<W>>,
     err: &mut E,
@@ -90,7 +92,7 @@ fn cut_and_report<R: Read + Drop, W: Write + Drop, E: HintSink>(
         output,
     } = job;
     let end = cut(
-        alloc,
+        rt.alloc(),
         input,
         &program,
         words.snap,
@@ -99,8 +101,7 @@ fn cut_and_report<R: Read + Drop, W: Write + Drop, E: HintSink>(
         output,
     );
     let end = flush(end);
-    let status = report_end(&end, words, err);
-    hint_cut(&end, err);
+    let status = report_end(rt, &end, words, err);
     if words.counted {
         let _ = report_count(&end, err);
     }
@@ -114,7 +115,7 @@ pub fn cut_command<R: Files + AllocGlobal, E: HintSink>(
     err: &mut E,
 ) -> Status {
     match prepare(rt, words, err) {
-        Ok(job) => cut_and_report(rt.alloc(), words, job, err),
+        Ok(job) => cut_and_report(rt, words, job, err),
         Err(status) => status,
     }
 }

@@ -3,7 +3,7 @@
 use crate::print::PrintFault;
 use cli_filter::hint_expression;
 use cli_report::HintSink;
-use cli_report::failures::{hint_input, hint_output, hint_unprinted};
+use cli_report::failures::{hint_failure, hint_input, hint_unprinted};
 use cli_report::probe::{ProbedInput, ProbedOutput};
 use pcap_cut::cut::{CutEnd, End};
 use std::alloc::Global;
@@ -17,7 +17,7 @@ pub(crate) fn hint_cut<R, W: Write + Drop, E: HintSink>(
     match end.end {
         End::Clean => {}
         End::Input(fault) => hint_input(&end.source, fault, err),
-        End::Output(_) => hint_output(end.sink.inner.get_ref(), err),
+        End::Output(_) => hint_failure(end.sink.inner.get_ref(), err),
     }
 }
 

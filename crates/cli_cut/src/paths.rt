@@ -10,7 +10,9 @@ use cli_files::retried::Retried;
 use cli_report::probe::{ProbedInput, ProbedOutput};
 use cli_report::{FailureProbe, HintSink};
 use cli_text::Status;
+use std::fs;
 use std::fs::Files;
+use std::os::unix::fs::MetadataExt;
 
 /// How many bytes of output are gathered before they are written.
 const OUTPUT_BUFFER: usize = 1 << 18;
@@ -34,6 +36,14 @@ pub(crate) fn check_listing<R: Files + AllocGlobal, E: HintSink>(
     err: &mut E,
 ) -> Result<(), Status> {
     refuse_shared_files(rt, Opening::First, Some(STANDARD_OUTPUT), &[path], &[], err)
+}
+
+/// Whether a path leads to standard output, as `/dev/stdout` does.
+pub(crate) fn is_standard_output<R: Files>(rt: &R, path: &str) -> bool {
+    match (fs::metadata(rt, path), fs::metadata(rt, STANDARD_OUTPUT)) {
+        (Ok(found), Ok(printed)) => { found.dev() == printed.dev() && found.ino() == printed.ino() }
+        _ => false,
+    }
 }
 
 /// OUT, which is made at its first write.
