@@ -106,7 +106,7 @@ def a_fifo_whose_reader_has_gone_is_an_output_that_failed(scene):
         os.close(reader)
         out, err = cutting.communicate(timeout=LIMIT)
     wanted = fault_lines("Device fifo") + "  Broken pipe (os error 32)\n"
-    scene.check("told", (bool(found), out, err.decode(), cutting.returncode), (True, b"", wanted, 3))
+    scene.check("standard error", (bool(found), out, err.decode(), cutting.returncode), (True, b"", wanted, 3))
 
 
 def refused_once(scene, words, call):

@@ -4,12 +4,9 @@ ghost use Rattle.std.specs.Prelude.{◌≡◌, ◌≢◌, IfErr, IsSome};
 ghost use Rattle.std.specs.Io.{WritesAtMost};
 ghost use Rattle.std.specs.IoError.{error_kind};
 
-use savefile::Counted;
+use savefile::{Counted, HEADER_LEN};
 use std::io;
 use std::io::{BufWriter, ErrorKind, Read, Write};
-
-/// The bytes of a capture's header.
-pub const HEADER: usize = 24;
 
 /// A reader or a writer that notes the first 24 bytes that were read from it, and why a call first failed. Once a write or a flush
 /// has failed, each later one fails with the same error and touches nothing: nothing goes out after a failure that is reported. A
@@ -17,7 +14,7 @@ pub const HEADER: usize = 24;
 #[derive(Debug, Drop)]
 pub struct FailureProbe<T> {
     inner: T,
-    first: [u8; HEADER],
+    first: [u8; HEADER_LEN],
     /// How many of them came.
     came: usize,
     failure: Option<io::Error>,
@@ -33,7 +30,7 @@ impl<T> FailureProbe<T> {
     pub fn new(inner: T) -> FailureProbe<T> {
         FailureProbe {
             inner,
-            first: [0; HEADER],
+            first: [0; HEADER_LEN],
             came: 0,
             failure: None,
         }
@@ -45,7 +42,7 @@ impl<T> FailureProbe<T> {
 
     /// The first bytes that were read, at most 24.
     pub fn first(&self) -> &[u8] {
-        &self.first[..self.came.min(HEADER)]
+        &self.first[..self.came.min(HEADER_LEN)]
     }
 
     /// Why a call failed first.
@@ -76,7 +73,7 @@ impl<T: Read> Read for FailureProbe<T> {
     fn read(&mut self, to: &mut [u8]) -> io::Result<usize> {
         let read = self.inner.read(to);
         match &read {
-            Ok(count) if self.came < HEADER => self.note_bytes(&to[..*count]),
+            Ok(count) if self.came < HEADER_LEN => self.note_bytes(&to[..*count]),
             Ok(_) => {}
             Err(error) => self.note_failure(*error),
         }

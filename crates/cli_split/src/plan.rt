@@ -13,6 +13,8 @@ use std::alloc::Global;
 /// How many lines LINES has at most: each OUT is an open file with a buffer in front of it.
 pub const MAX_LINES: usize = 1024;
 
+const _: () = prove!(MAX_LINES == 1024);
+
 /// The capture that a line asks for.
 #[derive(Clone, Copy, Debug)]
 pub struct SplitLine<'a> {

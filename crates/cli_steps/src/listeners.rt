@@ -50,6 +50,8 @@ fn spec_of(alloc: Global, line: &[u8]) -> Result<Option<Spec>, AllocError>
 /// How many listeners are kept at most: one more than a replay takes, so that too many can be reported.
 pub const MAX_KEPT: usize = MAX_LISTENERS + 1;
 
+const _: () = prove!(MAX_KEPT == 65);
+
 /// Reads the file LISTENERS, a listener on each line: `SNAP CAPACITY EXPRESSION`.
 ///
 /// CAPACITY may have an `i` after its digits, for the mode Immediate. If EXPRESSION is empty, the space before it may be missing.
