@@ -77,6 +77,31 @@ pub fn hint_bad_line<E: HintSink>(text: &[u8], number: usize, form: &str, err: &
     give_hint(format_args!("its form is: {form}"), err)
 }
 
+/// The first line of a text, counted from 1, that ends in a carriage return.
+fn line_with_return(text: &[u8]) -> Option<usize> {
+    let before = text
+        .split(|byte| *byte == b'\n')
+        .position(|line| line.ends_with(b"\r"))?;
+    Some(before.saturating_add(1))
+}
+
+/// A hint on the first line of a file that ends in a carriage return: it is part of the field before it, such as the name of an OUT.
+pub fn hint_returns<E: HintSink>(file: &str, text: &[u8], err: &mut E)
+    ensures quiet { E.takes_hints err.old ≡ false → err.new ≡ err.old }
+{
+    if !err.takes_hints() {
+        return;
+    }
+    if let Some(number) = line_with_return(text) {
+        give_hint(
+            format_args!(
+                "line {number} of {file} ends in a carriage return, which stays part of it: take that away, as by tr -d '\\r'"
+            ),
+            err,
+        );
+    }
+}
+
 /// Hints on a step of SCRIPT, counted from 0, that names a listener that does not exist.
 pub fn hint_no_listener<E: HintSink>(script: &[u8], step: usize, listeners: usize, err: &mut E)
     ensures quiet { E.takes_hints err.old ≡ false → err.new ≡ err.old }

@@ -15,7 +15,7 @@ use cli_filter::plan::Plan;
 use cli_filter::plan_hints::hint_plan;
 use cli_report::HintSink;
 use cli_report::failures::hint_printed;
-use cli_report::files::LISTENERS_OF_RUN;
+use cli_report::files::{LISTENERS_OF_RUN, hint_returns};
 use cli_text::Status;
 use std::alloc::Global;
 use std::fs::Files;
@@ -115,6 +115,7 @@ fn run_files<R: Files + AllocGlobal + NamesFiles + Threads + Wait + Sync, O: Wri
     let mut out = output_buffer(alloc, &mut *out, err)?;
     let status = replay_files(rt, words, listeners.as_slice(), late, &mut out, err);
     hint_printed(out.get_ref(), err);
+    hint_returns("LISTENERS", listeners.as_slice(), err);
     status
 }
 

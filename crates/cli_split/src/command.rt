@@ -14,7 +14,7 @@ use cli_filter::plan::{Plan, PlanFault};
 use cli_filter::plan_hints::hint_plan;
 use cli_report::HintSink;
 use cli_report::failures::hint_printed;
-use cli_report::files::LINES;
+use cli_report::files::{LINES, hint_returns};
 use cli_report::stream::give_hint;
 use cli_text::Status;
 use cli_text::report::report_fault;
@@ -100,7 +100,19 @@ fn split_plan<R: Files + AllocGlobal, O: Write, E: HintSink>(
     Ok(status)
 }
 
-/// Reads LINES, compares the paths, and splits.
+/// Compares the paths, and splits as the plan says.
+fn split_apart<R: Files + AllocGlobal, O: Write, E: HintSink>(
+    rt: &R,
+    words: &SplitWords<'_>,
+    plan: Plan<SplitLine<'_>>,
+    out: &mut O,
+    err: &mut E,
+) -> Result<Status, Status> {
+    check_paths(rt, words, plan.lines.as_slice(), err)?;
+    split_plan(rt, words, plan, out, err)
+}
+
+/// Reads LINES, and splits as it asks.
 fn split_files<R: Files + AllocGlobal, O: Write, E: HintSink>(
     rt: &R,
     words: &SplitWords<'_>,
@@ -109,8 +121,9 @@ fn split_files<R: Files + AllocGlobal, O: Write, E: HintSink>(
 ) -> Result<Status, Status> {
     let text = read_file(rt, words.lines, err)?;
     let plan = plan_of(rt.alloc(), text.as_slice(), err)?;
-    check_paths(rt, words, plan.lines.as_slice(), err)?;
-    split_plan(rt, words, plan, out, err)
+    let status = split_apart(rt, words, plan, out, err);
+    hint_returns("LINES", text.as_slice(), err);
+    status
 }
 
 /// `bpftap split`: LINES is accepted and the paths are compared before a capture is opened.

@@ -14,6 +14,7 @@ use cli_args::steps::StepsWords;
 use cli_files::piped::Piped;
 use cli_files::reading::read_file;
 use cli_report::failures::hint_output;
+use cli_report::files::hint_returns;
 use cli_report::{FailureProbe, HintSink};
 use cli_text::Status;
 use cli_text::report::{Outcome, report_fault, report_line};
@@ -140,10 +141,11 @@ fn draw_wanted<R: Files + AllocGlobal, E: HintSink>(
     }
 }
 
-/// What a replay needs: its plan, with the text of SCRIPT for hints, and the texts of the captures.
+/// What a replay needs: its plan, with the texts of LISTENERS and SCRIPT for hints, and the texts of the captures.
 #[derive(Drop)]
 struct Job {
     plan: StepsPlan,
+    listeners: Vec<u8>,
     script: Vec<u8>,
     texts: Vec<Vec<u8>>,
 }
@@ -161,6 +163,7 @@ fn prepare<R: Files + AllocGlobal, E: HintSink>(
     let texts = read_captures(rt, words.inputs.as_slice(), err)?;
     Ok(Job {
         plan,
+        listeners,
         script,
         texts,
     })
@@ -176,6 +179,7 @@ fn play_and_report<R: Files + AllocGlobal, O: Write, E: HintSink>(
 ) -> Status {
     let Job {
         plan,
+        listeners,
         script,
         texts,
     } = job;
@@ -193,6 +197,7 @@ fn play_and_report<R: Files + AllocGlobal, O: Write, E: HintSink>(
         err,
     );
     let drawn = draw_wanted(rt, words, plan, replayed, err);
+    hint_returns("LISTENERS", listeners.as_slice(), err);
     outcome.status.max(drawn)
 }
 
