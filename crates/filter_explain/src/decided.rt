@@ -31,6 +31,7 @@ struct Decided<'a> {
 }
 
 /// A primitive or a relation decides for itself.
+#[inline(never)]
 fn decide_part<'a>(part: &'a Expr, negated: bool, frame: &Frame<'_>) -> Decided<'a>
     ensures asked { question_of result.asked ≡ question negated (tree_of part.now) (packet frame.now) }
     ensures verdict { result.verdict ≡ meaning (tree_of part.now) (packet frame.now) }
@@ -46,8 +47,10 @@ fn decide_part<'a>(part: &'a Expr, negated: bool, frame: &Frame<'_>) -> Decided<
     Decided { asked, verdict }
 }
 
-/// Asks the parts of an expression up to the one that decides.
-fn decide_in<'a>(expr: &'a Expr, negated: bool, frame: &Frame<'_>) -> Decided<'a>
+/// Asks the parts of an expression, of whatever form, up to the one that decides.
+#[inline(never)]
+#[cycle(decide)]
+fn decide_in_compound<'a>(expr: &'a Expr, negated: bool, frame: &Frame<'_>) -> Decided<'a>
     ensures last { IsLast (question_of result.asked) (questions negated (tree_of expr.now) (packet frame.now)) }
     ensures verdict { result.verdict ≡ meaning (tree_of expr.now) (packet frame.now) }
     ensures decides { turned negated result.verdict ≡ turned result.asked.negated result.asked.verdict }
@@ -79,6 +82,20 @@ fn decide_in<'a>(expr: &'a Expr, negated: bool, frame: &Frame<'_>) -> Decided<'a
                 Verdict::Abort => decided,
             }
         }
+    }
+}
+
+/// Asks the parts of an expression up to the one that decides. It is inlined, so that a primitive takes one call.
+#[inline(always)]
+#[cycle(decide)]
+fn decide_in<'a>(expr: &'a Expr, negated: bool, frame: &Frame<'_>) -> Decided<'a>
+    ensures last { IsLast (question_of result.asked) (questions negated (tree_of expr.now) (packet frame.now)) }
+    ensures verdict { result.verdict ≡ meaning (tree_of expr.now) (packet frame.now) }
+    ensures decides { turned negated result.verdict ≡ turned result.asked.negated result.asked.verdict }
+{
+    match expr {
+        Expr::Test(_) => decide_part(expr, negated, frame),
+        _ => decide_in_compound(expr, negated, frame),
     }
 }
 
