@@ -97,6 +97,7 @@ impl Side {
     }
 
     /// Whether the packet has it at the sides that a direction chooses, the source's first.
+    #[inline(always)]
     fn is_of(
         self,
         direction: Direction,

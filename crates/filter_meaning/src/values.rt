@@ -14,6 +14,7 @@ use crate::primitives::{Answer, is_first_fragment_of, is_type};
 use filter_tree::{Comparison, Layer, Operator, Size, Value};
 
 /// So many bytes at an offset.
+#[inline(always)]
 fn bytes_at(
     offset: usize,
     size: Size,
