@@ -7,3 +7,10 @@ pub mod Refusals
 pub mod Lines
 pub mod Insns
 pub mod Arrays
+pub mod Digits
+pub mod Spelled
+pub mod ImageOperands
+pub mod ImageInsns
+pub mod Images
+pub mod Clear
+pub mod Cleared

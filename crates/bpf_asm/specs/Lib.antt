@@ -9,3 +9,4 @@ pub mod Assembly
 pub mod Answers
 pub mod Notation
 pub mod Arrays
+pub mod Laws

@@ -10,6 +10,7 @@ mod assembling;
 mod fault;
 mod instructions;
 mod labels;
+pub mod laws;
 mod lexer;
 mod line;
 mod notation;
