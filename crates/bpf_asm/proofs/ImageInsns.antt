@@ -1,5 +1,5 @@
 -- Each instruction of an image is read as itself: one entry for each code.
-use Rattle.std.proofs.Common.{◌≡◌, ℕ, ◌+◌, ◌-◌, ◌<◌, ◌≤◌, ◌^◌, Bool, true, false, ◌&&◌, List, [], ◌∷◌, ◌++◌, Option, Some, None, Ok, length, replicate, refl, sym, ap, ◌∙◌, subst, arith, le-leb, lt-ltb, ◌==◌, if◌then◌else◌}
+use Rattle.std.proofs.Common.{◌≡◌, ℕ, ◌+◌, ◌<◌, ◌≤◌, ◌^◌, Bool, true, false, ◌&&◌, List, [], ◌∷◌, ◌++◌, Option, Some, None, Ok, refl, sym, ap, subst, arith, le-leb, lt-ltb, ◌==◌, if◌then◌else◌}
 use Rattle.std.specs.Prelude.{codes, nat_lt}
 use Rattle.std.specs.List.{AllByRecursion}
 use Rattle.std.proofs.lemmas.Bool.{eqb-true, ltb-true}
@@ -7,7 +7,7 @@ use Rattle.bpfvm.specs.declared.insn.Insn.{Insn}
 use Rattle.bpfvm.specs.declared.fault.Invalid.{Invalid}
 use Rattle.bpfvm.specs.Codes as bpf
 use Rattle.bpfvm.specs.Codes.{operation_of}
-use Rattle.bpfvm.specs.Images.{name_of, operand_text, operands_text, column}
+use Rattle.bpfvm.specs.Images.{name_of, operands_text, column}
 use Rattle.bpfvm.specs.Validity.{fault_unless, fault_in}
 use Rattle.bpf_asm.specs.Types.{Token, Name, Instruction, Line}
 use Rattle.bpf_asm.specs.Types.tokens

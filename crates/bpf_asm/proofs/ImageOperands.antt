@@ -1,5 +1,5 @@
 -- The operands of an image, each as tokens.
-use Rattle.std.proofs.Common.{◌≡◌, ℕ, zero, suc, false, ◌+◌, ◌-◌, ◌<◌, ◌≤◌, ◌^◌, List, [], ◌∷◌, ◌++◌, length, replicate, refl, sym, ap, ◌∙◌, subst, arith, append_assoc}
+use Rattle.std.proofs.Common.{◌≡◌, ℕ, zero, suc, false, ◌+◌, ◌-◌, ◌<◌, ◌^◌, List, [], ◌∷◌, ◌++◌, length, replicate, refl, sym, subst, arith, append_assoc}
 use Rattle.std.specs.Prelude.{codes}
 use Rattle.std.specs.Fmt.{decimal}
 use Rattle.bpfvm.specs.Images.{signed, hexadecimal, column}
@@ -7,7 +7,7 @@ use Rattle.bpf_asm.specs.Types.{Token}
 use Rattle.bpf_asm.specs.Types.tokens
 use Rattle.bpf_asm.specs.Words.{keywords}
 use Rattle.bpf_asm.specs.Tokens.{is_word_byte, begins, front}
-use Rattle.bpf_asm.proofs.Spelled.{Spells, spells_end, spells_wide, bytes_then, blanks_then, NumberText, decimal_text, signed_text, hexadecimal_text, number_then, number_last}
+use Rattle.bpf_asm.proofs.Spelled.{Spells, spells_end, spells_wide, bytes_then, blanks_then, decimal_text, signed_text, hexadecimal_text, number_then, number_last}
 
 -- the most bytes of an operand, with the places of a conditional jump
 abbrev pub MAX : ℕ

@@ -1,5 +1,5 @@
 -- The lines of an image, and the image, are read as the program.
-use Rattle.std.proofs.Common.{◌≡◌, ℕ, zero, suc, ◌+◌, ◌-◌, ◌*◌, ◌<◌, ◌≤◌, ◌^◌, Bool, true, false, not, List, [], ◌∷◌, ◌++◌, Option, Some, None, Ok, map, All, length, take, drop, refl, sym, ap, ◌∙◌, subst, arith, append_assoc, length-append, le-leb}
+use Rattle.std.proofs.Common.{◌≡◌, ℕ, suc, ◌+◌, ◌*◌, ◌<◌, ◌≤◌, true, false, List, [], ◌∷◌, ◌++◌, Some, None, Ok, map, All, length, take, drop, refl, ap, ◌∙◌, subst, arith, append_assoc, length-append, le-leb}
 use Rattle.std.specs.Prelude.{codes, slice_get}
 use Rattle.std.specs.List.{AllByRecursion, list_all, slice_split}
 use Rattle.std.proofs.lemmas.Bool.{eq-eqb}
@@ -24,7 +24,7 @@ use Rattle.bpf_asm.specs.Laws.{cleared}
 use Rattle.bpf_asm.proofs.Digits.{not_true}
 use Rattle.bpf_asm.proofs.Spelled.{Spells, in_line, bytes_then, place_then}
 use Rattle.bpf_asm.proofs.ImageInsns.{IsReadAs, is_read}
-use Rattle.bpf_asm.proofs.Clear.{assembled_same}
+use Rattle.bpf_asm.proofs.Clear.{assembled_same, assembled_fields}
 
 -- ---- One line
 
@@ -150,5 +150,5 @@ image_assembly [] valid = absurd (omega (arith, valid.some))
 image_assembly (i ∷ insns) valid = refl
 
 -- what is assembled has an image that is read as it again
-pub assembled_again : (text : List ℕ) (program : List Insn) → assembled text ≡ Ok program → IsValidProgram program → AllByRecursion HasFields program → assembled (image_of program) ≡ Ok program
-assembled_again text program is valid fields = image_read program valid fields ∙ ap Ok (assembled_same text program is)
+pub assembled_again : (text : List ℕ) (program : List Insn) → assembled text ≡ Ok program → IsValidProgram program → assembled (image_of program) ≡ Ok program
+assembled_again text program is valid = image_read program valid (assembled_fields text program is valid) ∙ ap Ok (assembled_same text program is)

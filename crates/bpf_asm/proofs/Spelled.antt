@@ -1,5 +1,5 @@
 -- Texts that are read as tokens, from the right.
-use Rattle.std.proofs.Common.{◌≡◌, ℕ, zero, suc, ◌+◌, ◌-◌, ◌<◌, ◌≤◌, ◌^◌, Bool, true, false, not, ◌&&◌, ◌||◌, List, [], ◌∷◌, ◌++◌, Option, Some, None, Result, Ok, Err, length, take, drop, replicate, nat_eq, refl, sym, ap, ◌∙◌, subst, arith, ◌==◌, if◌then◌else◌, length-append, append_assoc}
+use Rattle.std.proofs.Common.{◌≡◌, ℕ, zero, suc, ◌+◌, ◌-◌, ◌<◌, ◌≤◌, ◌^◌, Bool, true, false, not, ◌&&◌, ◌||◌, List, [], ◌∷◌, ◌++◌, Option, Some, None, Result, Ok, length, take, replicate, nat_eq, refl, sym, ap, ◌∙◌, subst, arith, ◌==◌, if◌then◌else◌, length-append, append_assoc}
 use Rattle.std.specs.Prelude.{nat_lt, nat_le, codes, option_map}
 use Rattle.std.specs.Option.{ok_or}
 use Rattle.std.specs.Char.{is_ascii_digit}
@@ -20,7 +20,7 @@ use Rattle.bpf_asm.specs.Words.{Entry, keywords, keyword_of, label_of}
 use Rattle.bpf_asm.specs.Numbers.{decimal_of, number_of}
 use Rattle.bpf_asm.specs.Tokens.{is_blank, is_word_byte, begins, found_or, word_of, run_at, run_of, place_at, place_of, front, after, onto, lexed}
 use Rattle.bpf_asm.specs.Assembly.{is_line_feed}
-use Rattle.bpf_asm.proofs.Digits.{both_true, not_true, below, of_base, of_digits, of_ten, length-digits, decimal_digits, decimal_some, hexadecimal_digits, number_of-decimal, number_of-negative, number_of-hexadecimal, place_all, length-place, decimal_of-place}
+use Rattle.bpf_asm.proofs.Digits.{both_true, not_true, of_digits, of_ten, length-digits, decimal_digits, decimal_some, hexadecimal_digits, number_of-decimal, number_of-negative, number_of-hexadecimal, place_all, length-place, decimal_of-place}
 
 -- ---- Runs
 
@@ -36,7 +36,7 @@ lexed_skip : (ds rest : List ℕ) → lexed (length ds) (ds ++ rest) ≡ lexed 0
 lexed_skip [] rest = refl
 lexed_skip (d ∷ ds) rest = lexed_skip ds rest
 
--- a token whose bytes are told is the first one
+-- a token of these bytes is the first one
 token_first : (b : ℕ) (bs rest : List ℕ) (token : Token) → front (b ∷ (bs ++ rest)) ≡ fronts.Token token (length (b ∷ bs)) → lexed 0 (b ∷ (bs ++ rest)) ≡ onto token (lexed 0 rest)
 token_first b bs rest token is =
     let one : length (b ∷ bs) - 1 ≡ length bs = omega arith in

@@ -1,5 +1,5 @@
 -- The laws of images.
-use Rattle.std.specs.Prelude.{◌≡◌, ℕ, true, List, Option, Some, None, Ok, map}
+use Rattle.std.specs.Prelude.{◌≡◌, ℕ, true, List, Option, Some, Ok, map}
 use Rattle.std.specs.List.{AllByRecursion}
 use Rattle.bpfvm.specs.declared.insn.Insn.{Insn}
 use Rattle.bpfvm.specs.Codes.{Constant, InIndex, Operation, LoadLength, Calculate, Negate, Branch, ReturnAccumulator, Transfer, operation_of}
@@ -43,5 +43,4 @@ ClearedAnswersAlike = (program : List Insn) (packet : List ℕ) (wire : ℕ) →
 -- A valid program that a text is assembly of is what its image is assembly of.
 abbrev pub AssembledIsReadAgain : Type 0
 AssembledIsReadAgain =
-    (text : List ℕ) (program : List Insn) → assembled text ≡ Ok program → IsValidProgram program → AllByRecursion HasFields program
-    → assembled (image_of program) ≡ Ok program
+    (text : List ℕ) (program : List Insn) → assembled text ≡ Ok program → IsValidProgram program → assembled (image_of program) ≡ Ok program
