@@ -1,0 +1,18 @@
+use Rattle.filter_meaning.specs.Meaning.{is_address}
+use Rattle.filter_same.proofs.Joins.{map-ok}
+use Rattle.filter_same.proofs.Means.{means-grown, means-address}
+use Rattle.filter_same.proofs.primitives.is_ether_host.Goals as goal
+
+pub returns-clause-means : goal.returns-clause-means
+returns-clause-means c =
+    let case = c.args.case in
+    let octets = c.args.address.octets in
+    let g1 = c.equals.new.graph in
+    let g2 = c.equals-2.new.graph in
+    let is = c.number_of_address-number.ensures.number in
+    map-ok c.directed.result
+    (λ i h. h (is_address octets 6) (is_address octets 0)
+    (means-grown g1 g2 case (is_address octets 6) c.in_ok-source.source c.equals-2.ensures.grew
+    (means-address g1 case octets 6 c.number_of_address-number.result c.in_ok-source.source is c.in_ok-source.ensures.means))
+    (means-address g2 case octets 0 c.number_of_address-number.result c.in_ok-destination.destination is c.in_ok-destination.ensures.means))
+    c.directed.ensures.means

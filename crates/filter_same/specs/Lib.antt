@@ -1,0 +1,4 @@
+pub mod Graphs
+pub mod Joins
+pub mod Packets
+pub mod Same

@@ -1,0 +1,66 @@
+-- What the nodes of a graph say of packets.
+use Rattle.std.specs.Prelude.{◌≡◌, ⊤, ℕ, ◌+◌, ◌-◌, ◌*◌, ◌/◌, ◌%◌, ◌^◌, ◌<◌, ◌==◌, Bool, true, false, not, List, length, Option, Some, None, nat_lt, nat_le, bit_and, slice_index, if◌then◌else◌}
+use Rattle.bpfvm.specs.Machine.{number_at}
+use Rattle.filter_meaning.specs.declared.verdict.Verdict.{Verdict}
+use Rattle.filter_meaning.specs.declared.verdict.Verdict.TheVariants.{Yes, No, Abort}
+use Rattle.filter_meaning.specs.Meaning.{Packet, HasBytes, Test, decided, opposite, byte, accepts}
+use Rattle.filter_tree.specs.Trees.{Tree}
+use Rattle.filter_same.specs.declared.answer.Answer.{Answer}
+use Rattle.filter_same.specs.declared.answer.Answer.TheVariants.{Final, Never}
+use Rattle.filter_same.specs.declared.answer.Operation.{Operation}
+use Rattle.filter_same.specs.declared.answer.Operation.TheVariants.{And, Or}
+use Rattle.filter_same.specs.declared.table.Node.{Node}
+use Rattle.filter_same.specs.Graphs.{answer, is_set}
+use Rattle.filter_same.specs.declared.case.Case.{Case}
+
+-- The bits of a packet by their names: 0 to 31 are those of its length on the wire, the highest first; bit 32 is the highest of the first
+-- captured byte. A byte past the captured ones has no bit set.
+abbrev pub bit_of : Packet → ℕ → Bool
+bit_of p name =
+    if nat_lt name 32 then is_set p.wire (31 - name) else is_set (slice_index p.captured ((name - 32) / 8)) (7 - (name - 32) % 8)
+
+-- the verdict that an answer is where so many bytes were captured
+abbrev pub verdict_of : ℕ → Answer → Verdict
+verdict_of captured Never = Abort
+verdict_of captured (Final need says) = if nat_le need captured then decided says else Abort
+
+-- what a node says of a packet
+abbrev pub verdict_at : List Node → ℕ → Packet → Verdict
+verdict_at nodes i p = verdict_of (length p.captured) (answer nodes (bit_of p) i)
+
+-- a packet that can be: bytes, and a length on the wire of 32 bits
+pub record IsPacket (p : Packet) : Type 0 where
+  pub bytes : HasBytes p
+  pub wire : p.wire < 2 ^ 32
+
+-- the low four bits of the first byte of the IPv4 header, if it was captured
+abbrev pub HasHeader : Option ℕ → Packet → Type 0
+HasHeader None p = ⊤
+HasHeader (Some n) p = (b : ℕ) → byte 14 p ≡ Some b → bit_and b 15 ≡ n
+
+-- the answer itself, or its opposite
+abbrev pub agrees : Bool → Bool → Bool
+agrees true says = says
+agrees false says = not says
+
+abbrev pub turned : Bool → Verdict → Verdict
+turned true verdict = verdict
+turned false verdict = opposite verdict
+
+-- `and` of what is wanted is `or` of the opposites
+abbrev pub conjunction : Bool → Operation
+conjunction true = And
+conjunction false = Or
+
+abbrev pub disjunction : Bool → Operation
+disjunction true = Or
+disjunction false = And
+
+-- node i says of each packet of a case what a test answers, or the opposite of it
+pub record Means (nodes : List Node) (case : Case) (t : Test) (i : ℕ) : Type 0 where
+  pub inside : i < length nodes
+  pub says : (p : Packet) → IsPacket p → HasHeader case.header p → verdict_at nodes i p ≡ turned case.wanted (t p)
+
+-- two expressions accept the same packets of a header length
+abbrev pub AcceptSameOf : Option ℕ → Tree → Tree → Type 0
+AcceptSameOf header t u = (p : Packet) → IsPacket p → HasHeader header p → accepts t p ≡ accepts u p

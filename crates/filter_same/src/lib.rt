@@ -1,0 +1,17 @@
+//! Two filter expressions decided for every packet.
+//!
+//! [`decide`] says that two expressions accept the same packets, which is then so of every packet there can be, or that it has not
+//! decided it.
+#![tactic(auto)]
+
+mod answer;
+mod case;
+mod compare;
+mod fields;
+mod graph;
+mod primitives;
+mod sameness;
+mod table;
+mod trees;
+
+pub use sameness::{Cause, Sameness, decide};

@@ -1,0 +1,113 @@
+//! The caller that the page of `filter_same` shows, crates/filter_same/README.md, and pairs of expressions. The answers are
+//! written down by hand, from the tables of docs/LANGUAGE.md.
+
+use crate::same::same;
+use bpfvm::NoMemory;
+use filter_same::{Cause, Sameness, decide};
+use filterlang::{Expr, parse};
+use std::alloc::Global;
+use std::process::Abort;
+
+/// Whether a filter may replace another one, as far as half a million nodes decide it.
+pub fn may_replace(alloc: Global, filter: &Expr, other: &Expr) -> Result<bool, NoMemory> {
+    Ok(decide(alloc, filter, other, 500_000)? == Sameness::Same)
+}
+
+/// The expression of a text.
+fn expression(rt: &(impl Abort + AllocGlobal), text: &str) -> Expr {
+    parse(rt.alloc(), text).expect(rt, "an expression")
+}
+
+/// Each of two texts may replace the other, or not.
+fn replaces(rt: &(impl Abort + AllocGlobal), first: &str, second: &str, wanted: bool) {
+    let (first, second) = (expression(rt, first), expression(rt, second));
+    let found = may_replace(rt.alloc(), &first, &second).expect(rt, "there is memory");
+    same(rt, found, wanted);
+}
+
+/// Pairs that accept the same packets, of every captured length.
+static SAME: [(&str, &str); 16] = [
+    ("tcp", "ip proto 6"),
+    ("tcp", "ip and tcp"),
+    ("tcp and ip", "tcp"),
+    ("tcp or udp", "udp or tcp"),
+    ("not not tcp", "tcp"),
+    ("not (tcp or udp)", "not udp and not tcp"),
+    ("not (tcp and less 100)", "not tcp or not less 100"),
+    ("less 100", "not greater 101"),
+    ("host 10.0.0.1", "src host 10.0.0.1 or dst host 10.0.0.1"),
+    ("net 10.0.0.0/8 and tcp", "tcp and net 10.0.0.0/8"),
+    (
+        "src net 10.0.0.0/8",
+        "src net 10.0.0.0/9 or src net 10.128.0.0/9",
+    ),
+    ("src port 80 or 443", "src port 443 or 80"),
+    (
+        "src portrange 80-90",
+        "src portrange 80-85 or src portrange 86-90",
+    ),
+    ("dst port 53 and udp", "udp dst port 53"),
+    ("ether broadcast", "ether dst ff:ff:ff:ff:ff:ff"),
+    ("ether broadcast and ether multicast", "ether broadcast"),
+];
+
+/// Pairs that do not.
+static OTHER: [(&str, &str); 11] = [
+    ("tcp", "udp"),
+    ("ip", "ip and greater 14"),
+    ("port 80 or 443", "port 443 or 80"),
+    ("net 10.0.0.0/8", "net 10.0.0.0/9"),
+    ("src portrange 80-90", "src portrange 80-91"),
+    ("less 100", "less 101"),
+    ("not (tcp and less 100)", "not less 100 or not tcp"),
+    ("host 10.0.0.1 or 10.0.0.2", "host 10.0.0.2 or 10.0.0.1"),
+    ("src host 10.0.0.1", "src host 10.0.0.2"),
+    ("ether multicast", "ether broadcast"),
+    ("tcp", "tcp and ip[8] > 1"),
+];
+
+#[test]
+fn what_accepts_the_same_is_the_same(rt: HostRuntime) {
+    for (first, second) in SAME.iter() {
+        replaces(&rt, first, second, true);
+    }
+}
+
+#[test]
+fn what_does_not_is_never_called_the_same(rt: HostRuntime) {
+    for (first, second) in OTHER.iter() {
+        replaces(&rt, first, second, false);
+    }
+}
+
+/// What is answered of two texts, within a budget.
+fn decided(
+    rt: &(impl Abort + AllocGlobal),
+    first: &str,
+    second: &str,
+    budget: usize,
+    wanted: Sameness,
+) {
+    let (first, second) = (expression(rt, first), expression(rt, second));
+    let found = decide(rt.alloc(), &first, &second, budget).expect(rt, "there is memory");
+    same(rt, found, wanted);
+}
+
+#[test]
+fn what_is_not_decided_has_a_cause(rt: HostRuntime) {
+    decided(&rt, "tcp", "udp", 1000, Sameness::NotDecided(Cause::Graphs));
+    decided(
+        &rt,
+        "tcp",
+        "ip proto 6",
+        3,
+        Sameness::NotDecided(Cause::Budget),
+    );
+    decided(
+        &rt,
+        "ip[0] = 69",
+        "ip[0] = 69",
+        1000,
+        Sameness::NotDecided(Cause::Relation),
+    );
+}
