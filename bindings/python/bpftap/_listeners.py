@@ -38,6 +38,16 @@ class Message(Packet):
     capture: int = 0
 
 
+def _messages(buffer):
+    """The messages of a buffer."""
+    content = ctypes.string_at(buffer.bytes, buffer.size)
+    at, messages = ctypes.c_size_t(0), []
+    while (found := lib.bpftap_listener_next(buffer, at)).fault == OK:
+        data = content[found.offset : found.offset + found.captured]
+        messages.append(Message(data, found.wire, found.seconds, found.nanos, found.place, found.capture))
+    return messages
+
+
 class Listener:
     """A listener of a packet tap: it keeps the packets that a filter accepts in two buffers until they are read.
 
@@ -70,14 +80,13 @@ class Listener:
 
     def read(self) -> list[Message]:
         """Takes the messages of the hold, oldest first."""
-        batch = self._batch
-        raise_fault(ListenerError, lib.bpftap_listener_read(self._tap, batch).fault, 0)
-        content = ctypes.string_at(batch.bytes, batch.size)
-        at, messages = ctypes.c_size_t(0), []
-        while (found := lib.bpftap_listener_next(batch, at)).fault == OK:
-            data = content[found.offset : found.offset + found.captured]
-            messages.append(Message(data, found.wire, found.seconds, found.nanos, found.place, found.capture))
-        return messages
+        raise_fault(ListenerError, lib.bpftap_listener_read(self._tap, self._batch).fault, 0)
+        return _messages(self._batch)
+
+    @property
+    def pending(self) -> list[Message]:
+        """The messages that were not read yet, oldest first: those of the hold, and then those of the store."""
+        return _messages(self._tap.hold) + _messages(self._tap.store)
 
     def close(self) -> None:
         """From now on nothing changes, nothing is read, and packets that arrive are not counted."""

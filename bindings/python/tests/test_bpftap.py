@@ -3,6 +3,7 @@ import ctypes
 import pathlib
 import tempfile
 import unittest
+import xml.etree.ElementTree
 
 import bpftap
 from bpftap import CaptureError, Fed, Filter, FilterError, Listener, ListenerError, Message, Packet, Verdict
@@ -101,6 +102,33 @@ class Listeners(unittest.TestCase):
         for snap, capacity, name in [(0, 64, "BadSnap"), (38, 71, "BadCapacity"), (38, bpftap.MAX_CAPACITY + 1, "BadCapacity"), (38, 0, "BadCapacity")]:
             with self.assertRaisesRegex(ListenerError, f"^{name}$"):
                 Listener("ip", snap=snap, capacity=capacity)
+
+
+class Steps(unittest.TestCase):
+    CAPTURE = bpftap._captures.encode([Packet(UDP, 38, 7, 5000), Packet(TCP, 60, 8), Packet(UDP, 38, 9)])
+
+    def test_a_script_is_played(self):
+        listeners = [Listener("udp"), Listener("len > 0 and len < 500", snap=38, capacity=72, immediate=True)]
+        script = ["arrive", "read 1", "arrive", "arrive", "arrive", "flush 0", "read 0"]
+        replay = bpftap.steps(listeners, script, [bpftap.Capture(self.CAPTURE)])
+        udp, all_of_them = replay.reports
+        self.assertEqual((udp.filter, udp.received, udp.matched, udp.dropped, udp.held), ("udp", 3, 2, 0, []))
+        self.assertEqual(udp.batches, [[Message(UDP, 38, 7, 5000, 0, 0), Message(UDP, 38, 9, 0, 2, 0)]])
+        self.assertEqual((all_of_them.matched, all_of_them.dropped), (3, 0))
+        self.assertEqual(all_of_them.batches, [[Message(UDP, 38, 7, 5000, 0, 0)]])
+        self.assertEqual(all_of_them.held, [Message(TCP, 60, 8, 0, 1, 0), Message(UDP, 38, 9, 0, 2, 0)])
+        picture = xml.etree.ElementTree.fromstring(replay._repr_svg_())
+        self.assertEqual([text.text for text in picture.iter("{http://www.w3.org/2000/svg}text")][3],
+                         "1: len > 0 and len < 500 (received 3, matched 3, dropped 0)")
+
+    def test_a_torn_capture_is_the_last_one(self):
+        replay = bpftap.steps([Listener("ip")], ["arrive"] * 9, [bpftap.Capture(self.CAPTURE), bpftap.Capture(self.CAPTURE[:-1]), bpftap.Capture(self.CAPTURE)])
+        self.assertEqual((replay.reports[0].received, replay.fault.name, replay.fault.place, replay.capture), (5, "TornRecord", 2, 1))
+
+    def test_what_is_no_step_is_refused(self):
+        for step in ["", "arrives", "arrive 0", "read", "read 1", "read -1", "read  0", "opens 0"]:
+            with self.assertRaisesRegex(ValueError, "^step 1 is not"):
+                bpftap.steps([Listener("ip")], ["arrive", step], [])
 
 
 class Captures(unittest.TestCase):
