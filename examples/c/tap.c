@@ -1,7 +1,7 @@
 /* Shows which packets a slow reader loses: tap EXPRESSION CAPTURE EVERY
  *
  *     cc -o tap tap.c -lbpftap
- *     ./tap udp examples/veth.pcap 25
+ *     ./tap 'len > 50' examples/veth.pcap 90
  *
  * A listener with two buffers of 4,096 bytes keeps at most 96 bytes of each packet that the filter accepts. It is read after each EVERY
  * packets.
