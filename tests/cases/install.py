@@ -4,6 +4,7 @@ import re
 import shutil
 import subprocess
 
+from .build import MADE
 from .common import LIMIT, PROGRAM, ROOT, Seen, case
 from .manual import PAGES, examples
 from .release import Clone
@@ -66,6 +67,27 @@ def files_are_put_under_the_prefix(scene):
     scene.check("remove", install(scene, source, "--remove", str(prefix)), Seen(printed.encode(), b"", 0))
     scene.check("left", (put_below(prefix), (prefix / "share" / "doc" / "bpftap").exists()), ({"bin/other"}, False))
     scene.check("remove again", install(scene, source, "--remove", str(prefix)), Seen(b"", b"", 0))
+
+
+@case
+def all_that_is_released_is_put(scene):
+    """A header and a library that release/files lists are put beside the program, and taken away again."""
+    source, prefix = source_in(scene), scene.folder / "put"
+    made = {"bin/bpftap": MADE, "include/low.h": "/* low */\n", "lib/liblow.a": "low\n"}
+    (source.folder / "include").mkdir()
+    (source.folder / "include" / "low.h").write_text(made["include/low.h"])
+    with open(source.folder / "release" / "files", "a") as files:
+        files.write("644 include/low.h include/low.h\n644 out/lib/liblow.a lib/liblow.a\n")
+    built = source.folder / "out" / "built" / source.lib("sources_key").out.decode().strip()
+    for name, text in made.items():
+        (built / name).parent.mkdir(parents=True, exist_ok=True)
+        (built / name).write_text(text)
+    (built / "bin" / "bpftap").chmod(0o755)
+    scene.check("install", install(scene, source, str(prefix)).status, 0)
+    scene.check("files", put_below(prefix), {*PUT, *made})
+    scene.check("what they hold", {name: (prefix / name).read_text() for name in made}, made)
+    scene.check("remove", install(scene, source, "--remove", str(prefix)).status, 0)
+    scene.check("left", put_below(prefix), set())
 
 
 @case
