@@ -101,3 +101,52 @@ pub const RET_A: u16 = 0x16;
 pub const TAX: u16 = 0x07;
 /// A ← X
 pub const TXA: u16 = 0x87;
+
+// Programs from elsewhere have these numbers.
+const _: () = prove!(LD_W_ABS == 0x20 && LD_H_ABS == 0x28 && LD_B_ABS == 0x30);
+
+const _: () = prove!(LD_W_IND == 0x40 && LD_H_IND == 0x48 && LD_B_IND == 0x50);
+
+const _: () = prove!(LD_IMM == 0x00 && LDX_IMM == 0x01);
+
+const _: () = prove!(LD_MEM == 0x60 && LDX_MEM == 0x61);
+
+const _: () = prove!(LD_LEN == 0x80 && LDX_LEN == 0x81 && LDX_MSH == 0xb1);
+
+const _: () = prove!(ST == 0x02 && STX == 0x03);
+
+const _: () = prove!(ADD_K == 0x04 && ADD_X == 0x0c);
+
+const _: () = prove!(SUB_K == 0x14 && SUB_X == 0x1c);
+
+const _: () = prove!(MUL_K == 0x24 && MUL_X == 0x2c);
+
+const _: () = prove!(DIV_K == 0x34 && DIV_X == 0x3c);
+
+const _: () = prove!(OR_K == 0x44 && OR_X == 0x4c);
+
+const _: () = prove!(AND_K == 0x54 && AND_X == 0x5c);
+
+const _: () = prove!(LSH_K == 0x64 && LSH_X == 0x6c);
+
+const _: () = prove!(RSH_K == 0x74 && RSH_X == 0x7c);
+
+const _: () = prove!(MOD_K == 0x94 && MOD_X == 0x9c);
+
+const _: () = prove!(XOR_K == 0xa4 && XOR_X == 0xac);
+
+const _: () = prove!(NEG == 0x84);
+
+const _: () = prove!(JA == 0x05);
+
+const _: () = prove!(JEQ_K == 0x15 && JEQ_X == 0x1d);
+
+const _: () = prove!(JGT_K == 0x25 && JGT_X == 0x2d);
+
+const _: () = prove!(JGE_K == 0x35 && JGE_X == 0x3d);
+
+const _: () = prove!(JSET_K == 0x45 && JSET_X == 0x4d);
+
+const _: () = prove!(RET_K == 0x06 && RET_A == 0x16);
+
+const _: () = prove!(TAX == 0x07 && TXA == 0x87);

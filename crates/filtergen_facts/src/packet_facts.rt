@@ -17,6 +17,8 @@ pub const UDP: u32 = 17;
 
 pub const SCTP: u32 = 132;
 
+const _: () = prove!(ICMP == 1 && TCP == 6 && UDP == 17 && SCTP == 132);
+
 /// How many levels of `and` deep an operand is searched for what it shows. Each operand of a chain searches those to its left, so without a
 /// bound the time would grow with the square of the chain's length.
 const LOOK_BACK: u32 = 16;

@@ -10,8 +10,7 @@
 //! length. The reserved fields and the snapshot length are never a reason to refuse. A record may have more bytes
 //! than the snapshot length or than the packet's original length. What is written has zeros in the reserved fields.
 //!
-//! [`Reader`] reads a savefile packet by packet from a [`Source`], in memory that does not grow, and lends each packet
-//! without a copy. [`read_all`] reads a whole one from memory. [`Writer`] writes one packet by packet into a [`Sink`].
+//! [`Reader`] reads a savefile packet by packet from a [`Source`], and lends each packet without a copy. [`read_all`] reads a whole one from memory. [`Writer`] writes one packet by packet into a [`Sink`].
 //! [`header_of`] and [`record_of`] read one piece from memory, and [`file_header`] and [`record_header`] make one.
 //! [`laws`] has what follows from the definitions.
 #![tactic(auto)]

@@ -27,7 +27,8 @@ enum State {
     Broken,
 }
 
-/// Reads a savefile from a source, packet by packet, in memory that is taken once, however long the savefile is.
+/// Reads a savefile from a source, packet by packet. It takes its memory in [`Reader::open`], however long the savefile is; no clause
+/// says so.
 ///
 /// A packet comes in one of two ways. [`Reader::advance`] goes on to the next one, which [`Reader::packet`] then lends
 /// out of the reader's own memory, without a copy. [`Reader::next`] gives a copy of its own.

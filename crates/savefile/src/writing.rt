@@ -101,7 +101,7 @@ pub fn record_header(
 /// whole, and a prefix, not the whole, of the one whose `put` returned [`Fault::Device`].
 ///
 /// A packet is sent in two writes, its record's header and then its bytes (in one if it has none, and in more if
-/// the sink takes fewer than it is given). If each write is a system call, give the writer a sink that gathers them.
+/// the sink takes fewer than it is given); no clause says so. If each write is a system call, give the writer a sink that gathers them.
 ///
 /// Contracts see its sink, the byte order and the unit of time that it writes, how many bytes it has sent, and whether the
 /// device failed it.
