@@ -308,6 +308,10 @@ def examples_do_what_they_say(scene):
     said, status = done(scene, [sys.executable, ROOT / "examples" / "python" / "lesson.py"], env=environment)
     scene.check("lesson.py", (said.splitlines()[-4:], status), (
         ["No tcp dst port 443", "Yes tcp dst port 80", "96 bytes are kept", "Abort tcp dst port 80, byte 36 is not captured"], 0))
+    scene.put({"listeners": "96 4096 len > 50\n", "script": ("arrive\n" * 125 + "read 0\n") * 2})
+    counts = re.findall(r"\d+", scene.run(["steps", "listeners", "script", str(VETH)]).out.decode())
+    said, status = done(scene, [sys.executable, ROOT / "examples" / "python" / "drops.py"], env=environment)
+    scene.check("drops.py", (said.splitlines()[1:2], status), ([f"{counts[3]} dropped of {counts[2]}"], 0))
 
 
 @case
