@@ -14,6 +14,8 @@ pub const ARP: u32 = 0x0806;
 /// The Ethernet type of RARP.
 pub const RARP: u32 = 0x8035;
 
+const _: () = prove!(IP == 0x0800 && ARP == 0x0806 && RARP == 0x8035);
+
 /// The Ethernet address of all hosts.
 pub const BROADCAST: EthernetAddress = EthernetAddress { octets: [255; 6] };
 
