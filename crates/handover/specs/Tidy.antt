@@ -24,7 +24,7 @@ abbrev pub AllFind : List Feed → Type 0
 AllFind [] = Unit {0}
 AllFind (f ∷ fs) = (kind f ≡ finds_closed) × AllFind fs
 
--- Each call that stores 1 takes a turn, and the turns are enough; behind a call that found the pair closed each one did.
+-- Each call that stores 1 takes a turn, and the turns are enough; after a call that found the pair closed each one did.
 abbrev pub Tidy : List (List Take) → List Feed → Bool → Type 0
 Tidy turns [] full = AreLeft full turns
 Tidy turns (f ∷ fs) full = by_kind_type (kind f)

@@ -79,7 +79,7 @@ impl Model for FeedEnd {
         × AreCountsOfCalls f.counts f.seat.me.0.view.feeds };
 }
 
-/// Counts an arrival with this answer, and tells the answer.
+/// Counts an arrival with this answer, and returns the answer.
 fn count(counts: &mut Counts, fed: Fed) -> Fed
     requires room { counts.old.received < 2 ^ 64 - 1 }
     requires ordered { (counts.old.matched ≤ counts.old.received) × (counts.old.dropped ≤ counts.old.matched) }
@@ -132,7 +132,7 @@ impl Feeder {
         )
     }
 
-    /// Makes a nonempty store the hold where the hold is empty, and tells whether it did: what the read timeout of bpf(4)
+    /// Makes a nonempty store the hold if the hold is empty, and returns whether it did: what the read timeout of bpf(4)
     /// does. It answers false where it found that the drain had closed.
     pub fn flush(&mut self, link: &Link) -> bool
         requires { self.old.pair ≡ link.now }
@@ -160,7 +160,7 @@ impl Feeder {
     }
 
     /// Ends the feeder: a read that finds this and an empty hold is answered with [`Read::Ended`](crate::Read::Ended). The
-    /// buffer is the rest: what it still had in its store, which comes behind what is read and the hold.
+    /// buffer is the rest: what it still had in its store, which comes after what is read and the hold.
     pub fn end(self, link: &Link) -> (FeedEnd, Buffer)
         requires { self.pair ≡ link.now }
         ensures ended { result.0 ≡ feeding_ended self.pair self.profile self.feeds (self.steps ++ Store word.Ended 1 ∷ []) result.0.seen self.store }

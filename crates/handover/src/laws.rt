@@ -21,7 +21,7 @@ pub fn histories()
     ensures missing { OnlyDroppedAreMissing }
 {}
 
-/// What the feeder knows by its own calls alone: they are right by themselves, and tell its store and its counts.
+/// What the feeder knows only by its own calls: they are right by themselves, and give its store and its counts.
 pub fn own_runs()
     ensures { OwnRunsAreRight }
 {}
@@ -32,7 +32,7 @@ pub fn seats()
     ensures { SeatsKeepTheRule }
 {}
 
-/// Each step of the feeder keeps the rule, and tells what it found.
+/// Each step of the feeder keeps the rule, and says what it found.
 pub fn feeder_steps()
     ensures closed { FeederLooksAtClosed }
     ensures turn { FeederLooksAtTurn }
@@ -40,7 +40,7 @@ pub fn feeder_steps()
     ensures ends { FeederEnds }
 {}
 
-/// Each step of the drain keeps the rule, and tells what it found.
+/// Each step of the drain keeps the rule, and says what it found.
 pub fn drain_steps()
     ensures ended { DrainLooksAtEnded }
     ensures turn { DrainLooksAtTurn }
@@ -48,15 +48,15 @@ pub fn drain_steps()
     ensures closes { DrainCloses }
 {}
 
-/// Whatever private code says of a step: where the rule holds before it and behind it, a load that is told answered the number
-/// that its word had at this very step, and a store that is told was made. A step that is not told changes no word.
+/// Whatever private code says of a step: if the rule holds before and after it, a load in its entry answered the number that its
+/// word had at this very step, and a store in it was made. A step without an entry changes no word.
 pub fn fresh_steps()
     ensures feeder { FeederStepsAreFresh }
     ensures drain { DrainStepsAreFresh }
     ensures silent { SilentStepsChangeNothing }
 {}
 
-/// So, where the rule holds before a step and behind it, none can tell what these would have to: a drain that answers Nothing for
+/// So, if the rule holds before and after a step, none can claim what these would have to: a drain that answers Nothing for
 /// ever after the end or while the hold is full, a feeder that stores after the close or drops without a look, an `end` or a
 /// `close` that stores nothing.
 pub fn wrong_steps()
@@ -70,7 +70,7 @@ pub fn wrong_steps()
 
 /// What a feeder has seen when it has ended was fixed before the drain's next call: it doesn't suit both a drain that closes then and
 /// one whose next read finds 0 in `ended`, as each read does that answers Nothing. So no body whose calls keep their clauses,
-/// whatever is called next, answers Nothing to a read behind `end`.
+/// whatever is called next, answers Nothing to a read after `end`.
 pub fn no_foresight()
     ensures { NoSightSuitsBoth }
 {}

@@ -109,7 +109,7 @@ fn hold_slot(alloc: Global, capacity: usize) -> Result<Vec<Buffer>, OpenFault>
     Ok(slots)
 }
 
-/// Makes a feeder and a drain, and what they share: a filter program, at most so many bytes of a packet, so many bytes of
+/// Makes a feeder and a drain, and what they share: a filter program, at most this many bytes of a packet, this many bytes of
 /// records in each of the buffers, and when the store becomes the hold.
 ///
 /// [`OpenFault::BadSnap`] and [`OpenFault::BadCapacity`] come exactly where [`check_range`] answers them. No other call of

@@ -1,4 +1,4 @@
-//! The table of a pair: its rule, and what each kind of step tells.
+//! The table of a pair: its rule, and what each kind of step says.
 
 ghost use Rattle.std.specs.Prelude.{List, [], false};
 ghost use Rattle.handover.specs.declared.calls.Feed.{Feed};
