@@ -1,7 +1,7 @@
 -- Exit statuses.
 use Rattle.std.specs.Prelude.{ℕ}
 use Rattle.cli_text.specs.declared.status.Status.{Status}
-use Rattle.cli_text.specs.declared.status.Status.TheVariants.{Clean, Refused, Damaged, Failed}
+use Rattle.cli_text.specs.declared.status.Status.TheVariants.{Clean, Negative, Refused, Damaged, Failed}
 
 -- the number that a process ends with
 abbrev pub code : Status → ℕ
@@ -9,12 +9,16 @@ code Clean = 0
 code Refused = 1
 code Damaged = 2
 code Failed = 3
+code Negative = 4
 
--- where several statuses apply, the greatest does
+-- where several statuses apply, the worst does: any fault goes before an answer that is no
 abbrev pub greater : Status → Status → Status
 greater Failed other = Failed
 greater Damaged Failed = Failed
 greater Damaged other = Damaged
 greater Refused Clean = Refused
+greater Refused Negative = Refused
 greater Refused other = other
+greater Negative Clean = Negative
+greater Negative other = other
 greater Clean other = other

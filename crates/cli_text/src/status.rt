@@ -8,6 +8,8 @@ ghost use Rattle.cli_text.specs.Status.{code, greater};
 pub enum Status {
     /// All was done: 0.
     Clean,
+    /// The answer to what `-q` asks is no: 4. No fault came up, so a fault goes before it.
+    Negative,
     /// Bad usage, refused input, or out of memory: 1.
     Refused,
     /// A torn or bad record, after the packets before it: 2.
@@ -17,7 +19,7 @@ pub enum Status {
 }
 
 impl Status {
-    /// The exit status as the number that a process ends with, 0 to 3.
+    /// The exit status as the number that a process ends with, 0 to 4.
     pub fn code(self) -> u8
         ensures { result ≡ code self }
     {
@@ -26,17 +28,20 @@ impl Status {
             Status::Refused => 1,
             Status::Damaged => 2,
             Status::Failed => 3,
+            Status::Negative => 4,
         }
     }
 
-    /// The status where both apply: the greater one.
+    /// The status if both apply: the worse one, in the order of the variants.
     pub fn max(self, other: Status) -> Status
         ensures { result ≡ greater self other }
     {
-        if self.code() < other.code() {
-            other
-        } else {
-            self
+        match (self, other) {
+            (Status::Failed, _) | (_, Status::Failed) => Status::Failed,
+            (Status::Damaged, _) | (_, Status::Damaged) => Status::Damaged,
+            (Status::Refused, _) | (_, Status::Refused) => Status::Refused,
+            (Status::Negative, _) | (_, Status::Negative) => Status::Negative,
+            (Status::Clean, Status::Clean) => Status::Clean,
         }
     }
 }
