@@ -1,14 +1,14 @@
 # Completions of bpftap for bash. Source this file, or let bash-completion find it under the name bpftap.
 
-_bpftap_commands='check explain cut split steps run help'
+_bpftap_commands='check explain compare cut split steps run help'
 
 # Whether a value has to follow an option, and what it may be then: words, the name of a file, or anything.
 _bpftap_value() {
   case $1,$2 in
     cut,-o | split,-o) mapfile -t COMPREPLY < <(compgen -W 'little big' -- "$3") ;;
     cut,-u | split,-u) mapfile -t COMPREPLY < <(compgen -W 'micro nano' -- "$3") ;;
-    check,-f | explain,-f | cut,-f | steps,-p) compopt -o default ;;
-    check,-s | explain,-s | explain,-e | explain,-p | cut,-s | cut,-e) ;;
+    check,-f | explain,-f | compare,-f | cut,-f | steps,-p) compopt -o default ;;
+    check,-s | explain,-s | explain,-e | explain,-p | compare,-s | cut,-s | cut,-e) ;;
     *) return 1 ;;
   esac
 }
@@ -18,7 +18,8 @@ _bpftap_options() {
   case $1 in
     '') echo '--hints -h --help -V --version' ;;
     check) echo '-d -x -s -f -h --help' ;;
-    explain) echo '-s -e -f -p -h --help' ;;
+    explain) echo '-s -e -f -p -q -h --help' ;;
+    compare) echo '-s -f -q -h --help' ;;
     run) echo '-h --help' ;;
     cut) echo '-s -e -f -o -u -c -h --help' ;;
     split) echo '-o -u -h --help' ;;
@@ -47,7 +48,7 @@ _bpftap() {
     '') mapfile -t COMPREPLY < <(compgen -W "$_bpftap_commands" -- "$word") ;;
     help) mapfile -t COMPREPLY < <(compgen -W "${_bpftap_commands% help}" -- "$word") ;;
     # The word of `check` is an expression.
-    explain | cut | split | steps | run) compopt -o default ;;
+    explain | compare | cut | split | steps | run) compopt -o default ;;
   esac
 }
 

@@ -6,13 +6,14 @@ complete -c bpftap -n __fish_use_subcommand -s h -l help -d 'Print help'
 complete -c bpftap -n __fish_use_subcommand -s V -l version -d 'Print the version'
 complete -c bpftap -n __fish_use_subcommand -a check -d 'Print the program of an expression'
 complete -c bpftap -n __fish_use_subcommand -a explain -d 'Say why packets are accepted or rejected'
+complete -c bpftap -n __fish_use_subcommand -a compare -d 'Print the packets that two filters treat differently'
 complete -c bpftap -n __fish_use_subcommand -a cut -d 'Write what the filter accepts, cut'
 complete -c bpftap -n __fish_use_subcommand -a split -d 'Write several captures in one pass'
 complete -c bpftap -n __fish_use_subcommand -a steps -d 'Play a script to listeners'
 complete -c bpftap -n __fish_use_subcommand -a run -d 'Replay captures in threads'
 complete -c bpftap -n __fish_use_subcommand -a help -d 'Print help of a command'
 
-complete -c bpftap -n '__fish_seen_subcommand_from help' -a 'check explain cut split steps run'
+complete -c bpftap -n '__fish_seen_subcommand_from help' -a 'check explain compare cut split steps run'
 
 complete -c bpftap -n '__fish_seen_subcommand_from check; and not __fish_seen_subcommand_from help' -s d -d 'Print instructions by name'
 complete -c bpftap -n '__fish_seen_subcommand_from check; and not __fish_seen_subcommand_from help' -s x -d 'Print the expression as it was read'
@@ -25,7 +26,14 @@ complete -c bpftap -n '__fish_seen_subcommand_from explain; and not __fish_seen_
 complete -c bpftap -n '__fish_seen_subcommand_from explain; and not __fish_seen_subcommand_from help' -s e -x -d 'Filter expression'
 complete -c bpftap -n '__fish_seen_subcommand_from explain; and not __fish_seen_subcommand_from help' -s f -r -F -d 'Filter program'
 complete -c bpftap -n '__fish_seen_subcommand_from explain; and not __fish_seen_subcommand_from help' -s p -x -d 'Explain only this packet, in full'
+complete -c bpftap -n '__fish_seen_subcommand_from explain; and not __fish_seen_subcommand_from help' -s q -d 'Print nothing; the status says whether a packet is accepted'
 complete -c bpftap -n '__fish_seen_subcommand_from explain; and not __fish_seen_subcommand_from help' -s h -l help -d 'Print help'
+
+complete -c bpftap -n '__fish_seen_subcommand_from compare; and not __fish_seen_subcommand_from help' -F
+complete -c bpftap -n '__fish_seen_subcommand_from compare; and not __fish_seen_subcommand_from help' -s s -x -d 'Snapshot length that the program returns'
+complete -c bpftap -n '__fish_seen_subcommand_from compare; and not __fish_seen_subcommand_from help' -s f -r -F -d 'Filter program instead of EXPR2'
+complete -c bpftap -n '__fish_seen_subcommand_from compare; and not __fish_seen_subcommand_from help' -s q -d 'Print nothing; the status says whether a packet is treated differently'
+complete -c bpftap -n '__fish_seen_subcommand_from compare; and not __fish_seen_subcommand_from help' -s h -l help -d 'Print help'
 
 complete -c bpftap -n '__fish_seen_subcommand_from cut; and not __fish_seen_subcommand_from help' -F
 complete -c bpftap -n '__fish_seen_subcommand_from cut; and not __fish_seen_subcommand_from help' -s s -x -d 'Keep at most this many bytes of a packet; 0 means 262144'

@@ -33,14 +33,14 @@ def offered(*words):
 
 # Words, the last one unfinished, and what is offered for it.
 OFFERED = [
-    ([""], ["check", "explain", "cut", "split", "steps", "run", "help"]),
-    (["c"], ["check", "cut"]),
+    ([""], ["check", "explain", "compare", "cut", "split", "steps", "run", "help"]),
+    (["c"], ["check", "compare", "cut"]),
     (["steps"], ["steps"]),
     (["x"], []),
     (["--v"], ["--version"]),
     (["--hi"], ["--hints"]),
-    (["--hints", "c"], ["check", "cut"]),
-    (["help", ""], ["check", "explain", "cut", "split", "steps", "run"]),
+    (["--hints", "c"], ["check", "compare", "cut"]),
+    (["help", ""], ["check", "explain", "compare", "cut", "split", "steps", "run"]),
     (["cut", "--"], ["--help"]),
     (["cut", "-o", ""], ["little", "big"]),
     (["cut", "-s", "0", "-o", "b"], ["big"]),
@@ -59,6 +59,10 @@ OFFERED = [
     (["explain", "-p", ""], []),
     (["explain", "-f", ""], ["FILES"]),
     (["explain", "-e", "ip", ""], ["FILES"]),
+    (["explain", "-e", "ip", "in.pcap", ""], ["FILES"]),
+    (["compare", "-f", ""], ["FILES"]),
+    (["compare", "-s", ""], []),
+    (["compare", "arp", "ip", ""], ["FILES"]),
     (["steps", "-v", ""], ["FILES"]),
     # The name of a command is a file if a file is expected.
     (["steps", "run"], ["FILES"]),

@@ -1,4 +1,5 @@
 """`bpftap explain`, `check -x` and `cut -c`: what decided of each packet, one packet in full, and counts."""
+import re
 import subprocess
 
 from .common import ALL, ARP_RECORD, HEADER, IP, IP_RECORD, TCP_RECORD, TORN, UDP_RECORD, VETH, WHOLE, case, fault_lines
@@ -108,6 +109,14 @@ Yes        tcp port 53
            ether[34:2] = 0x35
 not asked  arp
 
+bytes, with those marked that the expression looked at:
+\t0x0000:  ffff ffff ffff 0001 0203 0405 0800 4500  ..............E.
+\t                                       ^^^^ ^^
+\t0x0010:  0018 0000 0000 4006 0000 0a00 0001 0a00  ......@.........
+\t                   ^^^^   ^^
+\t0x0020:  0002 0035 0035                           ...5.5
+\t              ^^^^
+
 program, with the registers behind each instruction:
 """
 
@@ -132,6 +141,33 @@ def one_packet_is_explained_in_full(scene):
     scene.check("a division", seen.endswith("the last instruction was not carried out: its divisor is 0\nanswer 0\n"), True)
 
 
+def dumped(scene, words):
+    """The bytes that `explain -p` shows, without the lines of marks."""
+    lines = scene.run(words).out.decode().splitlines(keepends=True)
+    return "".join(line for line in lines if line.startswith("\t0x"))
+
+
+@case
+def the_bytes_are_those_of_tcpdump(scene):
+    """The bytes of a packet, an odd number of them and more than 65,536 among them, as `tcpdump -XX` prints them."""
+    if not scene.has("tcpdump"):
+        return
+    long = bytes(range(256)) * 257 + b"odd"
+    size = len(long).to_bytes(4, "little")
+    record = bytes.fromhex("01000000 00000000") + size + size + long
+    scene.start({"in.pcap": MIXED + record})
+    printed = subprocess.run(["tcpdump", "-XX", "-r", "in.pcap"], cwd=scene.folder, capture_output=True).stdout.decode()
+    wanted = [""]
+    for line in printed.splitlines(keepends=True):
+        if line.startswith("\t0x"):
+            wanted[-1] += line
+        elif wanted[-1]:
+            wanted.append("")
+    for place, text in enumerate(wanted):
+        scene.check(f"bytes of packet {place}", dumped(scene, f"explain -p {place} -e tcp in.pcap"), text)
+    scene.check("packets of tcpdump", len(wanted), 5)
+
+
 @case
 def faults_are_reported(scene):
     """A place that does not exist, a torn capture, two filters, and bad usage."""
@@ -152,6 +188,67 @@ def faults_are_reported(scene):
         seen = scene.run(words)
         reported = (said in seen.err.decode(), b"Usage: bpftap explain" in seen.err, b"tip:" in seen.err)
         scene.check(f"standard error of {words}", (reported, seen.out, seen.status), ((True, True, False), b"", 1))
+
+
+def each_line(scene, words, names):
+    """The lines of the packets of these captures, each explained by itself, and the sums of their counts."""
+    printed, sums = "", [0, 0, 0, 0]
+    for name in names:
+        *packets, counts = scene.run([*words, name]).out.decode().splitlines(keepends=True)
+        printed += "".join(packets)
+        sums = [one + int(other) for one, other in zip(sums, re.findall(r"\d+", counts))]
+    return printed + "{} packets: {} Yes, {} No, {} Abort\n".format(*sums)
+
+
+@case
+def several_captures_are_explained(scene):
+    """One after the other, with places of each and the counts of all; the first fault ends it, with what was read before it."""
+    scene.start({"in.pcap": MIXED, "one.pcap": WHOLE, "torn.pcap": TORN, "empty.pcap": HEADER, "text.pcap": "a text of more than the 24 bytes of a header"})
+    words = ["explain", "-e", "not tcp"]
+    names = ["in.pcap", "one.pcap", "empty.pcap", str(VETH), "in.pcap"]
+    scene.expect([*words, *names], out=each_line(scene, words, names))
+    torn = each_line(scene, words, ["in.pcap", "torn.pcap"])
+    scene.expect([*words, "in.pcap", "torn.pcap", "one.pcap"], 2, fault_lines("Capture 1 TornRecord 1"), torn)
+    scene.expect([*words, "in.pcap", "text.pcap", "one.pcap"], 1, fault_lines("Capture 1 NotSavefile"), each_line(scene, words, ["in.pcap"]))
+    scene.expect([*words, "in.pcap", "none.pcap", "one.pcap"], 3, fault_lines("Device none.pcap"), each_line(scene, words, ["in.pcap"]))
+    scene.expect([*words, "text.pcap", "in.pcap"], 1, fault_lines("Capture 0 NotSavefile"))
+    scene.expect([*words, "empty.pcap", "text.pcap"], 1, fault_lines("Capture 1 NotSavefile"), "0 packets: 0 Yes, 0 No, 0 Abort\n")
+    shown = [scene.run([*words, "-p", "0", name]).out.decode() for name in ("in.pcap", "one.pcap")]
+    scene.expect([*words, "-p", "0", "in.pcap", "one.pcap"], out="".join(shown))
+    scene.expect([*words, "-p", "2", "one.pcap", "in.pcap"], 1, fault_lines("NoPacket 2"), scene.run([*words, "-p", "2", "in.pcap"]).out.decode())
+
+
+# Words after `explain -q`, the status, and the line of a fault.
+ASKED = [
+    ("-e arp in.pcap", 0, None), ("-e udp in.pcap", 0, None), ("-e 'len > 38' in.pcap", 4, None), ("-e rarp in.pcap", 4, None),
+    # An Abort is no match.
+    ("-e 'tcp and icmp' one.pcap", 4, None), ("-e ip empty.pcap", 4, None),
+    ("-f ip.bpf in.pcap", 0, None), ("-f protocol.bpf one.pcap", 4, None), ("-f none.bpf in.pcap", 4, None),
+    # A match before a fault ends the reading, and a fault before one has its status.
+    ("-e ip torn.pcap", 0, None), ("-e arp torn.pcap", 2, "TornRecord 1"), ("-e ip text.pcap", 1, "NotSavefile"),
+    ("-e ip gone.pcap", 3, "Device gone.pcap"),
+    ("-e udp one.pcap in.pcap", 0, None), ("-e rarp one.pcap in.pcap", 4, None), ("-e udp in.pcap gone.pcap", 0, None),
+    ("-e rarp one.pcap torn.pcap in.pcap", 2, "Capture 1 TornRecord 1"), ("-e udp gone.pcap in.pcap", 3, "Device gone.pcap"),
+    ("-e 'port http' in.pcap", 1, "BadWord 5"),
+]
+
+
+@case
+def the_status_says_whether_a_packet_is_accepted(scene):
+    """`-q` prints nothing: 0 where a packet is accepted, 4 where none is, and a fault's status where it comes first."""
+    protocol = "4\n48 0 0 23\n21 0 1 6\n6 0 0 96\n6 0 0 0\n"
+    scene.start({"in.pcap": MIXED, "one.pcap": WHOLE, "torn.pcap": TORN, "empty.pcap": HEADER, "text.pcap": "a text of more than the 24 bytes of a header",
+                 "ip.bpf": IP, "protocol.bpf": protocol, "none.bpf": "1\n6 0 0 0\n"})
+    for words, status, fault in ASKED:
+        scene.expect(f"explain -q {words}", status, fault_lines(fault) if fault else "")
+    scene.expect("explain -q -e arp in.pcap", 0, streams=">/dev/full")
+    for expr in ("tcp port 8080", "udp port 53", "arp", "icmp6", "not ip", "tcp[13] & 4 != 0"):
+        counts = scene.run(["explain", "-e", expr, str(VETH)])
+        if counts.status == 0:
+            wanted = 4 if b" 0 Yes," in counts.out.splitlines()[-1] else 0
+            scene.expect(["explain", "-q", "-e", expr, str(VETH)], wanted)
+    seen = scene.run("explain -q -p 0 -e ip in.pcap")
+    scene.check("-q with -p", (b"cannot be used with" in seen.err, seen.out, seen.status), (True, b"", 1))
 
 
 @case

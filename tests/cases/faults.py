@@ -155,6 +155,7 @@ LISTINGS = "Listings: `cut -f`, `explain -f` and `check -f`"
 SECTIONS = {
     "check": {SHARED, "Expressions", LISTINGS},
     "explain": {SHARED, "Expressions", "Captures", LISTINGS, "`explain`"},
+    "compare": {SHARED, "Expressions", "Captures", LISTINGS, "`explain`"},
     "cut": {SHARED, "Expressions", "Captures", LISTINGS},
     "split": {SHARED, "`split`"},
     "steps": {SHARED, "`steps`"},

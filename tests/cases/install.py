@@ -165,7 +165,7 @@ def bad_usage_has_the_usage(scene):
 
 def help_examples(program):
     """The commands that the help of all commands shows."""
-    for command in ["", "check", "explain", "cut", "split", "steps", "run"]:
+    for command in ["", "check", "explain", "compare", "cut", "split", "steps", "run"]:
         words = [program, *command.split(), "--help"]
         text = subprocess.run(words, stdout=subprocess.PIPE, text=True, timeout=LIMIT).stdout
         for line in text.partition("Examples:\n")[2].partition("\n\n")[0].splitlines():

@@ -117,7 +117,7 @@ def refused_once(scene, words, call):
 
 # Words that print all at once, and how many writes come before: those of OUT.
 PRINTED_ONCE = [
-    ("check ip", 0), ("check -x ip", 0), ("explain -e ip whole.pcap", 0), ("explain -p 0 -e ip whole.pcap", 0),
+    ("check ip", 0), ("check -x ip", 0), ("explain -e ip whole.pcap", 0), ("explain -p 0 -e ip whole.pcap", 0), ("compare ip arp whole.pcap", 0),
     ("steps l.txt s.txt whole.pcap", 0), ("steps -v l.txt s.txt whole.pcap", 0), ("split lines.txt whole.pcap", 1),
 ]
 
@@ -160,6 +160,8 @@ SHARED = [
     ("steps l.txt s.txt torn.pcap whole.pcap", ">>./whole.pcap", "whole.pcap"),
     ("explain -f all.bpf whole.pcap", ">>all.bpf", "all.bpf"),
     ("explain -e ip whole.pcap", ">>whole.pcap", "whole.pcap"),
+    ("explain -e ip torn.pcap whole.pcap", ">>whole.pcap", "whole.pcap"),
+    ("compare ip arp whole.pcap", ">>whole.pcap", "whole.pcap"),
     ("check -f all.bpf", ">>all.bpf", "all.bpf"),
     ("check -d -f ./all.bpf", ">>all.bpf", "./all.bpf"),
 ]

@@ -5,6 +5,7 @@ use clap::error::ErrorKind;
 use cli_args::command_line::{Request, read_words};
 use cli_args::refusal::printed_error;
 use cli_args::report::{print_page, report_words_fault};
+use cli_compare::command::compare_command;
 use cli_cut::command::{check_command, cut_command};
 use cli_explain::command::explain_command;
 use cli_files::late::reserve_std_fd;
@@ -46,6 +47,7 @@ fn dispatch<
     match read_words(rt.alloc(), words) {
         Ok(Request::Check(words)) => check_command(rt, &words, out, err),
         Ok(Request::Explain(words)) => explain_command(rt, &words, out, err),
+        Ok(Request::Compare(words)) => compare_command(rt, &words, out, err),
         Ok(Request::Cut(words)) => cut_command(rt, &words, err),
         Ok(Request::Steps(words)) => steps_command(rt, &words, out, err),
         Ok(Request::Run(words)) => run_command(rt, &words, out, err),
@@ -68,7 +70,21 @@ fn report_usage<S: AsStr, O: Write, E: HintSink>(
     match error.kind() {
         ErrorKind::UnknownArgument => hint_unquoted(alloc, words, err),
         ErrorKind::InvalidSubcommand => hint_command(words, err),
+        _ if takes_expression_for_capture(words, &error) => hint_unquoted(alloc, words, err),
         _ => {}
     }
     status
+}
+
+/// Whether these are arguments of `explain` without a filter: it took an expression that is given without `-e` for a capture.
+fn takes_expression_for_capture<S: AsStr>(words: &[S], error: &Error) -> bool {
+    error.kind() == ErrorKind::MissingRequiredArgument
+        && words.iter().take(3).any(|word| word.as_str() == "explain")
+        && !words.iter().any(gives_filter)
+}
+
+/// Whether a word is an option that gives a filter.
+fn gives_filter<S: AsStr>(word: &S) -> bool {
+    let word = word.as_str();
+    word.starts_with("-e") || word.starts_with("-f")
 }

@@ -18,6 +18,10 @@ pub(crate) enum Argument {
     Path(&'static str, &'static str),
     /// The paths of one file or more.
     Paths(&'static str, &'static str),
+    /// A word that may be missing.
+    Optional(&'static str, &'static str),
+    /// Any number of further words.
+    Others(&'static str, &'static str),
     /// The snapshot length that packets are cut to.
     Snap,
     /// The snapshot length of a program that is printed or explained.
@@ -30,6 +34,8 @@ pub(crate) enum Argument {
     Unit,
     /// Whether an expression is printed as it was read.
     Read,
+    /// Whether only the exit status answers.
+    Quiet(&'static str),
     /// An expression, as a word of its own, where no listing is given.
     Word,
 }
@@ -46,12 +52,15 @@ impl Argument {
             )),
             Argument::Path(name, help) => Ok(path(alloc, name, help)),
             Argument::Paths(name, help) => Ok(paths(alloc, name, help)),
+            Argument::Optional(name, help) => Ok(Arg::new(alloc, name).help(help)),
+            Argument::Others(name, help) => Ok(Arg::new(alloc, name).help(help).num_args(0..)),
             Argument::Snap => Ok(snap(alloc)),
             Argument::DefaultSnap => Ok(default_snap(alloc)),
             Argument::Listing => Ok(listing(alloc)),
             Argument::Order => Ok(order(alloc)),
             Argument::Unit => Ok(unit(alloc)),
             Argument::Read => read(alloc),
+            Argument::Quiet(help) => Ok(quiet(alloc, help)),
             Argument::Word => word(alloc),
         }
     }
@@ -155,6 +164,11 @@ fn read<'a>(alloc: Global) -> Result<Arg<'a>, AllocError> {
     )
     .conflicts_with("named")?
     .conflicts_with("listing")
+}
+
+/// Whether only the exit status answers.
+fn quiet<'a>(alloc: Global, help: &'a str) -> Arg<'a> {
+    flag(alloc, "quiet", 'q', help)
 }
 
 /// An expression, as a word of its own, where no listing is given.

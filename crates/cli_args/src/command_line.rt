@@ -1,6 +1,7 @@
 //! The words of the command line, by `clap`.
 use crate::arguments::Argument;
 use crate::check::{CheckWords, check_usage, check_words};
+use crate::compare::{CompareWords, bad_compare_words, compare_usage, compare_words};
 use crate::explain::{ExplainWords, bad_explain_words, explain_usage, explain_words};
 use crate::refusal::refusal_of;
 use crate::run::{RunWords, run_usage, run_words};
@@ -39,6 +40,7 @@ pub struct CutWords<'a> {
 pub enum Request<'a> {
     Check(CheckWords<'a>),
     Explain(ExplainWords<'a>),
+    Compare(CompareWords<'a>),
     Cut(CutWords<'a>),
     Steps(StepsWords<'a>),
     Run(RunWords<'a>),
@@ -56,6 +58,7 @@ const ABOUT: &str =
 const EXAMPLES: &str = "Examples:
   bpftap check 'tcp dst port 80 or 443'
   bpftap explain -e 'tcp dst port 80 or 443' examples/veth.pcap
+  bpftap compare 'tcp port 80' 'tcp dst port 80' examples/veth.pcap
   bpftap cut -s 0 -e 'udp port 5353' examples/veth.pcap dns.pcap
   bpftap cut -s 0 -f examples/ip.bpf examples/veth.pcap ip.pcap
   bpftap split examples/split/lines.txt examples/veth.pcap
@@ -64,7 +67,8 @@ const EXAMPLES: &str = "Examples:
   bpftap help expressions     the filter language on one page
 
 Exit status: 0 clean; 1 bad usage, invalid input, or out of memory; 2 a torn or bad record, after
-the packets before it; 3 a file or device failed.";
+the packets before it; 3 a file or device failed; 4 only with -q: explain accepts no packet,
+compare treats a packet differently.";
 
 const CUT_EXAMPLES: &str = "Examples:
   bpftap cut -s 0 -e 'udp port 5353' examples/veth.pcap dns.pcap
@@ -78,7 +82,9 @@ Exit status: 0 clean; 1 bad usage, invalid input, or out of memory; 2 a torn or 
 the packets before it; 3 a file or device failed.";
 
 /// The subcommands, in the order of the help.
-static SUBCOMMANDS: [&str; 6] = ["check", "explain", "cut", "split", "steps", "run"];
+static SUBCOMMANDS: [&str; 7] = [
+    "check", "explain", "compare", "cut", "split", "steps", "run",
+];
 
 /// The option that asks for hints, without its dashes.
 const HINTS: &str = "hints";
@@ -149,6 +155,7 @@ fn subcommand_of<'a>(alloc: Global, name: &str) -> Result<Command<'a>, AllocErro
     match name {
         "check" => check_usage(alloc),
         "explain" => explain_usage(alloc),
+        "compare" => compare_usage(alloc),
         "cut" => cut_usage(alloc),
         "split" => split_usage(alloc),
         "steps" => steps_usage(alloc),
@@ -183,7 +190,6 @@ pub(crate) fn unit_of(matches: &ArgMatches<'_>) -> Unit {
 fn single_request_of<'a>(name: &str, words: &ArgMatches<'a>) -> Option<Request<'a>> {
     match name {
         "check" => Some(Request::Check(check_words(words)?)),
-        "explain" => Some(Request::Explain(explain_words(words)?)),
         "cut" => Some(Request::Cut(cut_words(words)?)),
         _ => None,
     }
@@ -195,6 +201,22 @@ fn steps_request_of<'a>(
     words: &ArgMatches<'a>,
 ) -> Result<Option<Request<'a>>, AllocError> {
     Ok(steps_words(alloc, words)?.map(Request::Steps))
+}
+
+/// What the words of `explain` ask for; nothing if one is missing or invalid.
+fn explain_request_of<'a>(
+    alloc: Global,
+    words: &ArgMatches<'a>,
+) -> Result<Option<Request<'a>>, AllocError> {
+    Ok(explain_words(alloc, words)?.map(Request::Explain))
+}
+
+/// What the words of `compare` ask for; nothing if one is missing or invalid.
+fn compare_request_of<'a>(
+    alloc: Global,
+    words: &ArgMatches<'a>,
+) -> Result<Option<Request<'a>>, AllocError> {
+    Ok(compare_words(alloc, words)?.map(Request::Compare))
 }
 
 /// What the words of `run` ask for; nothing if one is missing.
@@ -223,12 +245,14 @@ fn request_of<'a>(
         "steps" => steps_request_of(alloc, words),
         "run" => run_request_of(alloc, words),
         "split" => split_request_of(alloc, words),
+        "explain" => explain_request_of(alloc, words),
+        "compare" => compare_request_of(alloc, words),
         _ => Ok(single_request_of(name, words)),
     }
 }
 
 /// The error of words that `clap` took and a subcommand refuses. For `cut` and `check` it is the snapshot length, for `explain`
-/// that or the place. For the others a word is missing, which `clap` has reported.
+/// that or the place, for `compare` that or a missing IN. For the others a word is missing, which `clap` has reported.
 fn bad_words(
     alloc: Global,
     name: &str,
@@ -238,6 +262,7 @@ fn bad_words(
     match name {
         "check" | "cut" => bad_snap(alloc, name),
         "explain" => bad_explain_words(alloc, words),
+        "compare" => bad_compare_words(alloc, words),
         _ => program.error(ErrorKind::MissingRequiredArgument, "a word is wanted"),
     }
 }

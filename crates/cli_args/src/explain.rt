@@ -7,7 +7,7 @@ use cli_text::fields::snapshot_length;
 use std::alloc::{AllocError, Global};
 
 /// What one call of `bpftap explain` asks for.
-#[derive(Clone, Copy)]
+#[derive(Drop)]
 pub struct ExplainWords<'a> {
     /// The snapshot length of an expression's program, 1 to [`cli_text::MAX_SNAP`].
     pub snap: u32,
@@ -17,8 +17,10 @@ pub struct ExplainWords<'a> {
     pub listing: Option<&'a str>,
     /// The place of the packet to explain in full, if `-p` is given.
     pub place: Option<u64>,
-    /// The path of the capture.
-    pub input: &'a str,
+    /// Whether `-q` is given: nothing is printed, and the status says whether a packet is accepted.
+    pub quiet: bool,
+    /// The paths of the captures, in order.
+    pub inputs: Vec<&'a str>,
 }
 
 const EXPLAIN_EXAMPLES: &str = "Examples:
@@ -32,10 +34,14 @@ a byte past the captured bytes, or a divisor was 0; not does not turn it. For a 
 has the number that the program returned, and the place and name of the instruction where its run
 ended; -s applies to an expression, not to a listing. The counts come last. -p explains one packet
 in full: how the expression was read, what each primitive looked at, and the program's run. Places
-count from 0; tcpdump and Wireshark count packets from 1.
+count from 0 in each IN; tcpdump and Wireshark count packets from 1. Several IN are read in order,
+up to the first fault, and the counts are of all; -p explains the packet at PLACE of each. With -q
+the first packet that is accepted ends the reading, as with grep -q:
+  if bpftap explain -q -e 'tcp port 8080' examples/veth.pcap; then echo seen; fi
 
-Exit status: 0 clean; 1 bad usage, invalid input, no packet at PLACE, or out of memory; 2 a torn or
-bad record, after the packets before it; 3 a file or device failed.";
+Exit status: 0 clean, with -q: a packet is accepted; 1 bad usage, invalid input, no packet at
+PLACE, or out of memory; 2 a torn or bad record, after the packets before it; 3 a file or device
+failed; 4 with -q: no packet is accepted.";
 
 /// A filter is wanted: an expression, a listing, or both.
 fn filter_group<'a>(alloc: Global) -> Result<ArgGroup<'a>, AllocError> {
@@ -46,7 +52,7 @@ fn filter_group<'a>(alloc: Global) -> Result<ArgGroup<'a>, AllocError> {
         .arg("listing")
 }
 
-static ARGUMENTS: [Argument; 5] = [
+static ARGUMENTS: [Argument; 6] = [
     Argument::DefaultSnap,
     Argument::Text(
         "expr",
@@ -61,11 +67,17 @@ static ARGUMENTS: [Argument; 5] = [
         "PLACE",
         "Explain only this packet, counted from 0, in full",
     ),
-    Argument::Path(
+    Argument::Quiet("Print nothing, and end with status 0 if a packet is accepted, else with 4"),
+    Argument::Paths(
         "IN",
-        "Capture to read: a classic savefile of Ethernet frames",
+        "Captures to read, in order: classic savefiles of Ethernet frames",
     ),
 ];
+
+/// One packet in full, or nothing but a status: at most one of these.
+fn shown_group<'a>(alloc: Global) -> Result<ArgGroup<'a>, AllocError> {
+    ArgGroup::new(alloc, "shown").arg("place")?.arg("quiet")
+}
 
 /// The subcommand, of which no filter is wanted.
 fn bare_command<'a>(alloc: Global) -> Result<Command<'a>, AllocError> {
@@ -81,7 +93,8 @@ fn bare_command<'a>(alloc: Global) -> Result<Command<'a>, AllocError> {
 /// The subcommand.
 pub fn explain_usage<'a>(alloc: Global) -> Result<Command<'a>, AllocError> {
     let filter = filter_group(alloc)?;
-    bare_command(alloc)?.group(filter)
+    let shown = shown_group(alloc)?;
+    bare_command(alloc)?.group(filter)?.group(shown)
 }
 
 /// The place of a packet, where one is given; nothing inside where it is no number.
@@ -92,15 +105,30 @@ fn place_of(matches: &ArgMatches<'_>) -> Option<Option<u64>> {
     }
 }
 
-/// The words that were found, nothing if one is missing, or if the snapshot length or the place is invalid.
-pub fn explain_words<'a>(matches: &ArgMatches<'a>) -> Option<ExplainWords<'a>> {
-    Some(ExplainWords {
-        snap: snapshot_length(matches.get_str("snap")?.as_bytes())?,
+/// The snapshot length, `None` if it is invalid.
+fn snap_of(matches: &ArgMatches<'_>) -> Option<u32> {
+    snapshot_length(matches.get_str("snap")?.as_bytes())
+}
+
+/// The words that were found, `None` if one is missing, or if the snapshot length or the place is invalid.
+pub fn explain_words<'a>(
+    alloc: Global,
+    matches: &ArgMatches<'a>,
+) -> Result<Option<ExplainWords<'a>>, AllocError> {
+    let (Some(snap), Some(place)) = (snap_of(matches), place_of(matches)) else {
+        return Ok(None);
+    };
+    let Some(inputs) = matches.get_strs("IN") else {
+        return Ok(None);
+    };
+    Ok(Some(ExplainWords {
+        snap,
         expr: matches.get_str("expr"),
         listing: matches.get_str("listing"),
-        place: place_of(matches)?,
-        input: matches.get_str("IN")?,
-    })
+        place,
+        quiet: matches.get_flag("quiet"),
+        inputs: Vec::from_slice(alloc, inputs)?,
+    }))
 }
 
 /// What a snapshot length or a place has to be that was found to be none.

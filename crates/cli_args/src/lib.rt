@@ -4,6 +4,7 @@
 mod arguments;
 pub mod check;
 pub mod command_line;
+pub mod compare;
 pub mod explain;
 pub mod refusal;
 pub mod report;

@@ -19,7 +19,7 @@ use Rattle.cli_explain.specs.Answers.{Answer, answer, IsAnswer, answer_line}
 use Rattle.cli_explain.specs.Explained.{is_yes, is_no, is_abort, count_of, counted, AreCounts, answer_lines, packets_of, PrintsLine, IsLineBroken}
 
 -- one more of them
-all-more : {X : Type 0} (P : X → Type 0) (xs : List X) (x : X) → AllByRecursion P xs → P x → AllByRecursion P (xs ++ x ∷ [])
+pub all-more : {X : Type 0} (P : X → Type 0) (xs : List X) (x : X) → AllByRecursion P xs → P x → AllByRecursion P (xs ++ x ∷ [])
 all-more P [] x all one = (one, tt)
 all-more P (y ∷ xs) x (first, all) one = (first, all-more P xs x all one)
 

@@ -1,2 +1,4 @@
 pub mod Answered
 pub mod Printing
+pub mod Seeking
+pub mod Several

@@ -133,8 +133,16 @@ PrintsAll filter from left header old new counts read done =
 -- The header was not read, and nothing was printed; or the packets up to some end were answered, and that was printed.
 abbrev pub Explains : {R : Type 0} → (R → Option (List ℕ)) → R → AskedFilter → Option (List ℕ) → Option (List ℕ) → Explained R → Type 0
 Explains left from filter old new e =
-    ((fault : Fault) × IsUnopened left from e.source fault × IsErrOf e.read fault × IsOk e.printed × Keeps old new × AreCounts e.counts [])
-    ⊎ ((header : Header) × PrintsAll filter (left from) (left e.source) header old new e.counts e.read e.printed)
+    ((fault : Fault) × IsUnopened left from e.source fault × IsErrOf e.read fault × IsOk e.printed × Keeps old new × AreCounts e.counts []
+    × (e.opened ≡ false))
+    ⊎ ((e.opened ≡ true) × (header : Header) × PrintsAll filter (left from) (left e.source) header old new e.counts e.read e.printed)
+
+-- the same without the line of the counts
+abbrev pub ExplainsLines : {R : Type 0} → (R → Option (List ℕ)) → R → AskedFilter → Option (List ℕ) → Option (List ℕ) → Explained R → Type 0
+ExplainsLines left from filter old new e =
+    ((fault : Fault) × IsUnopened left from e.source fault × IsErrOf e.read fault × IsOk e.printed × Keeps old new × AreCounts e.counts []
+    × (e.opened ≡ false))
+    ⊎ ((e.opened ≡ true) × (header : Header) × PrintsLines filter (left from) (left e.source) header old new e.counts e.read e.printed)
 
 -- ---- A line
 

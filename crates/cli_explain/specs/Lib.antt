@@ -3,3 +3,5 @@ pub mod Answers
 pub mod Printed
 pub mod Explained
 pub mod Telling
+pub mod Seeking
+pub mod Captures

@@ -1,122 +1,162 @@
 //! `bpftap explain`, over files.
 
 use crate::AskedFilter;
-use crate::each::{Explained, explain_each};
-use crate::one::{Found, explain_one};
-use crate::paths::open_apart;
+use crate::captures::{explain_captures, find_in_captures, print_totals};
+use crate::hints::{hint_capture, hint_place};
+use crate::one::explain_one;
+use crate::paths::check_paths;
 use crate::plan::read_filter;
-use crate::report::{report_each, report_one};
+use crate::report::{report_captures, report_one, report_sought};
 use cli_args::explain::ExplainWords;
-use cli_files::captures::output_buffer;
-use cli_files::retried::Retried;
+use cli_files::captures::{inputs, output_buffer};
 use cli_report::HintSink;
-use cli_report::failures::{hint_input, hint_output};
+use cli_report::failures::hint_output;
 use cli_report::probe::ProbedInput;
-use cli_report::stream::give_hint;
 use cli_text::Status;
+use cli_text::report::report_fault;
+use savefile::Fault;
 use std::alloc::Global;
 use std::fs::Files;
 use std::io::{Read, Write};
 
-/// What `explain` needs: its filter and IN.
+/// What one call of `explain` has: its arguments and its filter.
 #[derive(Drop)]
-struct Job<I> {
+struct Job<'w, 'a> {
+    alloc: Global,
+    words: &'w ExplainWords<'a>,
     filter: AskedFilter,
-    input: I,
 }
 
-/// Accepts the filter, compares the paths, and opens IN, in this order.
-fn prepare<R: Files + AllocGlobal, E: HintSink>(
+/// Accepts the filter and compares the paths, in this order.
+fn prepare<'w, 'a, R: Files + AllocGlobal, E: HintSink>(
     rt: &R,
-    words: &ExplainWords<'_>,
+    words: &'w ExplainWords<'a>,
     err: &mut E,
-) -> Result<Job<ProbedInput<Retried<R::File>>>, Status> {
+) -> Result<Job<'w, 'a>, Status> {
     let filter = read_filter(rt, words, err)?;
-    let input = open_apart(rt, words, err)?;
-    Ok(Job { filter, input })
+    check_paths(rt, words, err)?;
+    Ok(Job {
+        alloc: rt.alloc(),
+        words,
+        filter,
+    })
 }
 
-/// Prints the packet at a place in full, and reports how that ended.
+/// Prints the packet at a place of the capture of this number in full, and reports how that ended; `Err` if no further capture is read.
 fn explain_place<R: Read + Drop, O: Write, E: HintSink>(
-    alloc: Global,
-    job: Job<ProbedInput<R>>,
+    job: &Job<'_, '_>,
     place: u64,
-    path: &str,
+    number: usize,
+    input: ProbedInput<R>,
     out: &mut O,
     err: &mut E,
-) -> Status {
-    let Job { filter, input } = job;
-    let Found {
-        source,
-        read,
-        printed,
-    } = explain_one(alloc, input, &filter, place, out);
-    let found = Found {
-        source: (),
-        read,
-        printed,
-    };
-    let status = report_one(found, place, path, err);
+) -> Result<Status, Status> {
+    let paths = job.words.inputs.as_slice();
+    let found = explain_one(job.alloc, input, &job.filter, place, out);
+    let (read, is_printed) = (found.read, found.printed.is_ok());
+    let status = report_one(&found, place, paths, number, err);
     match read {
-        Ok(true) => {}
-        Ok(false) => give_hint(
-            "places count from 0: without -p the last line is how many packets there are",
-            err,
-        ),
-        Err(fault) => hint_input(&source, fault, err),
+        Ok(true) if is_printed => Ok(status),
+        Ok(true) => Err(status),
+        Ok(false) => {
+            hint_place(err);
+            Ok(status)
+        }
+        Err(fault) => {
+            hint_capture(paths, number, fault, &found.source, err);
+            Err(status)
+        }
+    }
+}
+
+/// Prints the packet at a place of each capture in full.
+fn explain_places<R: Read + Drop, O: Write, E: HintSink>(
+    job: &Job<'_, '_>,
+    place: u64,
+    captures: Vec<ProbedInput<R>>,
+    out: &mut O,
+    err: &mut E,
+) -> Status {
+    let mut status = Status::Clean;
+    for (number, input) in captures.into_iter().enumerate() {
+        match explain_place(job, place, number, input, out, err) {
+            Ok(one) => status = status.max(one),
+            Err(one) => return status.max(one),
+        }
     }
     status
 }
 
-/// Prints a line for each packet, and reports how that ended.
+/// Prints a line for each packet, and the counts if a header was read; and reports how that ended.
 fn explain_all<R: Read + Drop, O: Write, E: HintSink>(
-    alloc: Global,
-    job: Job<ProbedInput<R>>,
-    path: &str,
+    job: &Job<'_, '_>,
+    captures: Vec<ProbedInput<R>>,
     out: &mut O,
     err: &mut E,
 ) -> Status {
-    let Job { filter, input } = job;
-    let Explained {
-        source,
-        counts,
-        read,
-        printed,
-    } = explain_each(alloc, input, &filter, out);
-    let explained = Explained {
-        source: (),
-        counts,
-        read,
-        printed,
-    };
-    let status = report_each(explained, path, err);
-    if let Err(fault) = read {
-        hint_input(&source, fault, err);
+    let paths = job.words.inputs.as_slice();
+    let ended = explain_captures(job.alloc, captures, &job.filter, out);
+    let ended = print_totals(job.alloc, ended, out);
+    let status = report_captures(&ended, paths, err);
+    if let Err(stop) = &ended.read {
+        hint_capture(paths, stop.number, stop.fault, &stop.source, err);
     }
     status
 }
 
-/// Prints what the arguments ask for of IN, behind a buffer.
+/// Reports only by the status whether the filter accepts a packet.
+fn ask_quietly<R: Read + Drop, E: HintSink>(
+    job: &Job<'_, '_>,
+    captures: Vec<ProbedInput<R>>,
+    err: &mut E,
+) -> Status {
+    let paths = job.words.inputs.as_slice();
+    let sought = find_in_captures(job.alloc, captures, &job.filter);
+    let status = report_sought(&sought, paths, err);
+    if let Err(stop) = &sought {
+        hint_capture(paths, stop.number, stop.fault, &stop.source, err);
+    }
+    status
+}
+
+/// Prints what the arguments ask for of the captures, with a buffer in front of the output.
 fn explain_and_report<R: Read + Drop, O: Write, E: HintSink>(
-    alloc: Global,
-    words: &ExplainWords<'_>,
-    job: Job<ProbedInput<R>>,
+    job: &Job<'_, '_>,
+    captures: Vec<ProbedInput<R>>,
     out: &mut O,
     err: &mut E,
 ) -> Status {
-    let mut out = match output_buffer(alloc, &mut *out, err) {
+    let mut out = match output_buffer(job.alloc, &mut *out, err) {
         Ok(out) => out,
         Err(status) => return status,
     };
-    let status = match words.place {
-        Some(place) => explain_place(alloc, job, place, words.input, &mut out, err),
-        None => explain_all(alloc, job, words.input, &mut out, err),
+    let status = match job.words.place {
+        Some(place) => explain_places(job, place, captures, &mut out, err),
+        None => explain_all(job, captures, &mut out, err),
     };
     hint_output(out.get_ref(), err);
     status
 }
 
-/// `bpftap explain`: the filter is accepted before IN is opened, and IN is not the file that is printed to.
+/// Does what the arguments ask for.
+fn explain_job<R: Files, O: Write, E: HintSink>(
+    rt: &R,
+    job: &Job<'_, '_>,
+    out: &mut O,
+    err: &mut E,
+) -> Status {
+    let Ok(captures) = inputs(rt, job.alloc, job.words.inputs.as_slice()) else {
+        return report_fault(Fault::NoMemory, Status::Refused, err);
+    };
+    if job.words.quiet {
+        ask_quietly(job, captures, err)
+    } else {
+        explain_and_report(job, captures, out, err)
+    }
+}
+
+/// `bpftap explain`: the filter is accepted and the paths are compared before a capture is opened, and no capture is the file that is
+/// printed to.
 pub fn explain_command<R: Files + AllocGlobal, O: Write, E: HintSink>(
     rt: &R,
     words: &ExplainWords<'_>,
@@ -124,7 +164,7 @@ pub fn explain_command<R: Files + AllocGlobal, O: Write, E: HintSink>(
     err: &mut E,
 ) -> Status {
     match prepare(rt, words, err) {
-        Ok(job) => explain_and_report(rt.alloc(), words, job, out, err),
+        Ok(job) => explain_job(rt, &job, out, err),
         Err(status) => status,
     }
 }

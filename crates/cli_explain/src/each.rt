@@ -5,8 +5,9 @@ ghost use Rattle.std.specs.Io.KnownBytes.{Consumes};
 ghost use Rattle.savefile.specs.declared.header.Header.{Header};
 ghost use Rattle.savefile.specs.Reader.{HasGiven};
 ghost use Rattle.cli_text.specs.Sending.{Takes};
+ghost use Rattle.cli_explain.specs.Captures.{plus};
 ghost use Rattle.cli_explain.specs.declared.each.Unprinted.TheVariants.{NoMemory, Output};
-ghost use Rattle.cli_explain.specs.Explained.{Explains, PrintsAll, PrintsLines, PrintsLine, IsLineBroken, counts_text, counted};
+ghost use Rattle.cli_explain.specs.Explained.{Explains, ExplainsLines, PrintsAll, PrintsLines, PrintsLine, IsLineBroken, counts_text, counted};
 
 use crate::filter::AskedFilter;
 use crate::line::put_line;
@@ -57,6 +58,8 @@ impl From<io::Error> for Unprinted {
 #[derive(Debug, Drop)]
 pub struct Explained<R> {
     pub source: R,
+    /// Whether the header was read.
+    pub opened: bool,
     /// Of the packets whose lines were printed, where all was printed.
     pub counts: VerdictCounts,
     /// The fault that ended the capture, if one did.
@@ -73,6 +76,18 @@ impl VerdictCounts {
         no: 0,
         abort: 0,
     };
+
+    /// The counts of the packets of both, each up to 2^64 - 1.
+    pub fn plus(self, other: VerdictCounts) -> VerdictCounts
+        ensures { result ≡ plus self other }
+    {
+        VerdictCounts {
+            packets: self.packets.saturating_add(other.packets),
+            yes: self.yes.saturating_add(other.yes),
+            no: self.no.saturating_add(other.no),
+            abort: self.abort.saturating_add(other.abort),
+        }
+    }
 
     /// Counts one packet more.
     fn count(&mut self, verdict: Verdict)
@@ -95,9 +110,9 @@ impl VerdictCounts {
 ///
 /// `place 2 time 1600000000.000000000 len 98 captured 98 Yes tcp port 8080`: the packet's place in the capture, from 0, when it
 /// was captured, its length on the wire and how many bytes of it were captured; what the filter answers; and the primitive or
-/// relation that decides, behind `not` where an odd number of these stand over it. An Abort has its cause. A program answers Yes
+/// relation that decides, after `not` if an odd number of these apply to it. An Abort has its cause. A program answers Yes
 /// where it returns a number other than 0, No where it returns 0, and Abort where its run ends at a byte that was not captured
-/// or a division by 0; behind that stand the number, and the place and name of the instruction where the run ended. The last
+/// or a division by 0; after that come the number, and the place and name of the instruction where the run ended. The last
 /// line is `253 packets: 67 Yes, 186 No, 0 Abort`.
 ///
 /// Each line is sent before the next packet is read. `read` has the header's fault, and then nothing is printed; with
@@ -113,7 +128,7 @@ pub fn explain_each<R: Source, O: Write>(
     // What was answered, what was printed, and how that ended.
     ensures explains { Explains R.left from filter.now (O.contents out.old) (O.contents out.new) result }
 
-    // The next bytes of the source are taken, and its fault is told exactly where it failed.
+    // The next bytes of the source are taken, and its fault is returned if and only if it failed.
     ensures gave { (given : List ℕ) × Consumes (R.left from) (R.left result.source) given }
     ensures source_broke { (result.read ≡ Err Fault.Device) ↔ (R.failures result.source ≢ R.failures from) }
 {
@@ -122,6 +137,7 @@ pub fn explain_each<R: Source, O: Write>(
         Err((source, fault)) => {
             return Explained {
                 source,
+                opened: false,
                 counts: VerdictCounts::NONE,
                 read: Err(fault),
                 printed: Ok(()),
@@ -131,6 +147,44 @@ pub fn explain_each<R: Source, O: Write>(
     let ended = print_all(alloc, &mut reader, filter, out);
     Explained {
         source: reader.close(),
+        opened: true,
+        counts: ended.counts,
+        read: ended.read,
+        printed: ended.printed,
+    }
+}
+
+/// Prints a line for each packet of a capture, as [`explain_each`] does, and none with the counts.
+pub fn explain_lines<R: Source, O: Write>(
+    alloc: Global,
+    from: R,
+    filter: &AskedFilter,
+    out: &mut O,
+) -> Explained<R>
+    // What was answered, what was printed, and how that ended.
+    ensures explains { ExplainsLines R.left from filter.now (O.contents out.old) (O.contents out.new) result }
+
+    // The next bytes of the source are taken, and its fault is reported exactly if it failed.
+    ensures gave { (given : List ℕ) × Consumes (R.left from) (R.left result.source) given }
+    ensures source_broke { (result.read ≡ Err Fault.Device) ↔ (R.failures result.source ≢ R.failures from) }
+{
+    let mut reader = match Reader::open(alloc, from) {
+        Ok(reader) => reader,
+        Err((source, fault)) => {
+            return Explained {
+                source,
+                opened: false,
+                counts: VerdictCounts::NONE,
+                read: Err(fault),
+                printed: Ok(()),
+            };
+        }
+    };
+    let mut line = String::new(alloc);
+    let ended = print_lines(alloc, &mut reader, filter, &mut line, out);
+    Explained {
+        source: reader.close(),
+        opened: true,
         counts: ended.counts,
         read: ended.read,
         printed: ended.printed,
@@ -149,6 +203,7 @@ fn outcome(
 {
     Explained {
         source: (),
+        opened: true,
         counts,
         read,
         printed,
@@ -175,6 +230,7 @@ fn print_all<R: Source, O: Write>(
     let printed = print_counts(ended.counts, &mut line, out);
     Explained {
         source: (),
+        opened: true,
         counts: ended.counts,
         read: ended.read,
         printed,
@@ -228,8 +284,8 @@ pub(crate) fn print_line<O: Write>(
     Ok(verdict)
 }
 
-/// Prints the counts, and all that the writer has gathered.
-fn print_counts<O: Write>(
+/// Prints the counts, and all that the writer has gathered; the line that it is put together in may have any text.
+pub fn print_counts<O: Write>(
     counts: VerdictCounts,
     line: &mut String,
     out: &mut O,
@@ -242,7 +298,7 @@ fn print_counts<O: Write>(
 }
 
 /// Sends a text, and all that the writer has gathered.
-pub(crate) fn send_last<O: Write>(text: &[u8], out: &mut O) -> io::Result<()>
+pub fn send_last<O: Write>(text: &[u8], out: &mut O) -> io::Result<()>
     ensures { Takes (O.contents out.old) (O.contents out.new) result text.now }
 {
     send(text, out)?;

@@ -10,7 +10,7 @@ use filtergen_code::compile;
 use filterlang::{Expr, parse};
 use std::alloc::Global;
 
-/// A filter that packets are asked: an expression with its program, or a program alone.
+/// A filter that packets are asked: an expression with its program, or only a program.
 #[derive(Drop)]
 pub struct AskedFilter {
     /// The expression, where it is one.

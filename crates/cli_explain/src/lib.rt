@@ -1,14 +1,18 @@
 //! `bpftap explain`: why a filter accepts or rejects each packet of a capture.
 #![tactic(auto)]
 
+pub mod captures;
 pub mod command;
+mod dump;
 pub mod each;
 pub mod filter;
-mod line;
+pub mod hints;
+pub mod line;
 pub mod one;
 mod paths;
-mod plan;
+pub mod plan;
 pub mod report;
+pub mod seek;
 mod whole;
 
 pub use filter::AskedFilter;

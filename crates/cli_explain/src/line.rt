@@ -40,7 +40,7 @@ fn put_lengths(line: &mut String, packet: &PacketRef<'_>) -> Result<(), AllocErr
 
 /// Puts a packet's place, its time and its lengths in place of what the line has.
 #[tactic(auto, unfolding(crate::specs::Printed::packet_text))]
-fn put_packet(line: &mut String, place: u64, packet: &PacketRef<'_>) -> Result<(), NoMemory>
+pub fn put_packet(line: &mut String, place: u64, packet: &PacketRef<'_>) -> Result<(), NoMemory>
     ensures { OnOk result (string_bytes line.new ≡ packet_text place packet.now) }
 {
     put_time(line, place, packet)?;
@@ -101,7 +101,7 @@ fn put_end(
 }
 
 /// Appends what a filter answers to a packet, and why.
-fn put_answer(
+pub fn put_answer(
     alloc: Global,
     line: &mut String,
     filter: &AskedFilter,

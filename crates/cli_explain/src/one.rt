@@ -26,11 +26,11 @@ pub struct Found<R> {
 
 /// Prints all of the packet at a place of a capture, from 0: its line as [`explain_each`](crate::each::explain_each) has it; of an
 /// expression how it was read, and each primitive and relation with its own answer and the bytes that it looked at, or that it was
-/// not asked; and the run of the program, by the names of its instructions, with the registers behind each.
+/// not asked; and the run of the program, by the names of its instructions, with the registers after each.
 ///
 /// `read` is `Ok(false)` if the capture has no packet at that place; or it has the fault that comes before it, as that of the header, or of
 /// a torn or bad record. Then nothing is printed; with [`Fault::NoMemory`] the source is as it was too. If `printed` is `NoMemory`, `out`
-/// took that line alone or nothing, and if it is `Output` a prefix of the line, or the line and what comes after it.
+/// took only that line or nothing, and if it is `Output` a prefix of the line, or the line and what comes after it.
 pub fn explain_one<R: Source, O: Write>(
     alloc: Global,
     from: R,
@@ -41,7 +41,7 @@ pub fn explain_one<R: Source, O: Write>(
     // Whether there is such a packet, and what was printed of it.
     ensures finds { Finds R.left from filter.now place (O.contents out.old) (O.contents out.new) result }
 
-    // The next bytes of the source are taken, and its fault is told exactly where it failed.
+    // The next bytes of the source are taken, and its fault is returned if and only if it failed.
     ensures gave { (given : List ℕ) × Consumes (R.left from) (R.left result.source) given }
     ensures source_broke { (result.read ≡ Err Fault.Device) ↔ (R.failures result.source ≢ R.failures from) }
 {
@@ -104,7 +104,7 @@ fn print_found<R: Source, O: Write>(
     }
 }
 
-/// Prints a packet's line, and then all that is told of it.
+/// Prints a packet's line, and then everything else about it.
 fn print_whole<O: Write>(
     alloc: Global,
     filter: &AskedFilter,
@@ -119,7 +119,7 @@ fn print_whole<O: Write>(
     print_rest(alloc, filter, place, packet, out)
 }
 
-/// Prints what is told of a packet behind its line.
+/// Prints what follows a packet's line.
 fn print_rest<O: Write>(
     alloc: Global,
     filter: &AskedFilter,

@@ -1,22 +1,33 @@
-//! The capture that `explain` reads.
+//! The files of `explain`: none that it reads is the one that is printed to.
 
 use cli_args::explain::ExplainWords;
-use cli_files::opening::open_input;
 use cli_files::paths::{Opening, STANDARD_OUTPUT, refuse_shared_files};
-use cli_files::retried::Retried;
 use cli_report::HintSink;
-use cli_report::probe::ProbedInput;
 use cli_text::Status;
+use cli_text::report::report_fault;
+use savefile::Fault;
+use std::alloc::{AllocError, Global};
 use std::fs::Files;
 
-/// Opens IN, which is not the file that is printed to.
-pub(crate) fn open_apart<R: Files + AllocGlobal, E: HintSink>(
+/// The paths of all files that are read.
+fn read_paths<'a>(alloc: Global, words: &ExplainWords<'a>) -> Result<Vec<&'a str>, AllocError> {
+    let mut paths = Vec::new(alloc);
+    if let Some(listing) = words.listing {
+        paths.push(listing)?;
+    }
+    paths.extend_from_slice(words.inputs.as_slice())?;
+    Ok(paths)
+}
+
+/// Refuses, with a line on `err`, a file that is read if standard output goes to it.
+pub(crate) fn check_paths<R: Files + AllocGlobal, E: HintSink>(
     rt: &R,
     words: &ExplainWords<'_>,
     err: &mut E,
-) -> Result<ProbedInput<Retried<R::File>>, Status> {
-    let listing = words.listing.unwrap_or(words.input);
-    let read = [listing, words.input];
-    refuse_shared_files(rt, Opening::First, Some(STANDARD_OUTPUT), &read, &[], err)?;
-    open_input(rt, words.input, err)
+) -> Result<(), Status> {
+    let Ok(read) = read_paths(rt.alloc(), words) else {
+        return Err(report_fault(Fault::NoMemory, Status::Refused, err));
+    };
+    let output = Some(STANDARD_OUTPUT);
+    refuse_shared_files(rt, Opening::First, output, read.as_slice(), &[], err)
 }

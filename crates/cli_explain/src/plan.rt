@@ -9,8 +9,8 @@ use cli_text::Status;
 use cli_text::report::report_fault;
 use std::fs::Files;
 
-/// The filter of an expression.
-fn read_expression<R: AllocGlobal, E: HintSink>(
+/// The filter of an expression; or reports why there is none.
+pub fn read_expression<R: AllocGlobal, E: HintSink>(
     rt: &R,
     expr: &str,
     snap: u32,

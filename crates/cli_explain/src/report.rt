@@ -2,23 +2,25 @@
 
 ghost use Rattle.std.specs.Prelude.{◌≡◌};
 ghost use Rattle.cli_text.specs.Status.{greater};
-ghost use Rattle.cli_explain.specs.Telling.{printed_status, read_status, found_status};
+ghost use Rattle.cli_text.specs.Telling.{fault_status};
+ghost use Rattle.cli_explain.specs.Telling.{printed_status, read_status, found_status, sought_status, stop_status};
 
+use crate::captures::{ExplainedCaptures, Stop};
 use crate::each::{Explained, Unprinted};
 use crate::one::Found;
-use cli_text::Status;
-use cli_text::report::{report_at, report_fault, report_unwritten};
+use cli_text::report::{fault_status, report_at, report_fault, report_unwritten};
+use cli_text::{CaptureFaultText, Status};
 use savefile::Fault;
 use std::io::Write;
 
 /// Reports why not all was printed, if it was not.
-fn report_printed<E: Write>(printed: Result<(), Unprinted>, err: &mut E) -> Status
-    ensures { result ≡ printed_status printed }
+pub fn report_printed<E: Write>(printed: &Result<(), Unprinted>, err: &mut E) -> Status
+    ensures { result ≡ printed_status printed.now }
 {
     match printed {
         Ok(()) => Status::Clean,
         Err(Unprinted::NoMemory) => report_fault(Fault::NoMemory, Status::Refused, err),
-        Err(Unprinted::Output(error)) => report_unwritten(&error, err),
+        Err(Unprinted::Output(error)) => report_unwritten(error, err),
     }
 }
 
@@ -26,19 +28,25 @@ fn report_printed<E: Write>(printed: Result<(), Unprinted>, err: &mut E) -> Stat
 pub fn report_each<R: Drop, E: Write>(explained: Explained<R>, path: &str, err: &mut E) -> Status
     ensures { result ≡ greater (printed_status explained.printed) (read_status explained.read) }
 {
-    let printed = report_printed(explained.printed, err);
+    let printed = report_printed(&explained.printed, err);
     match explained.read {
         Ok(()) => printed,
         Err(fault) => printed.max(report_at(fault, path, err)),
     }
 }
 
-/// Reports why a packet was not printed, that its place has none, and then the capture's fault, and answers the greatest exit status
-/// that applies.
-pub fn report_one<R: Drop, E: Write>(found: Found<R>, place: u64, path: &str, err: &mut E) -> Status
-    ensures { result ≡ greater (printed_status found.printed) (found_status found.read) }
+/// Reports why a packet of the capture of this number was not printed, that its place has none, and then the capture's fault, and answers
+/// the greatest exit status that applies.
+pub fn report_one<R, E: Write>(
+    found: &Found<R>,
+    place: u64,
+    paths: &[&str],
+    number: usize,
+    err: &mut E,
+) -> Status
+    ensures { result ≡ greater (printed_status found.now.printed) (found_status found.now.read) }
 {
-    let printed = report_printed(found.printed, err);
+    let printed = report_printed(&found.printed, err);
     match found.read {
         Ok(true) => printed,
         Ok(false) => printed.max(report_fault(
@@ -46,6 +54,60 @@ pub fn report_one<R: Drop, E: Write>(found: Found<R>, place: u64, path: &str, er
             Status::Refused,
             err,
         )),
-        Err(fault) => printed.max(report_at(fault, path, err)),
+        Err(fault) => printed.max(report_capture(paths, number, fault, err)),
+    }
+}
+
+/// Reports the fault of the capture of this number, of those at these paths: a failed device by its path; any other fault by its name, after
+/// the capture's number if there are several captures. It answers the exit status.
+pub fn report_capture<E: Write>(paths: &[&str], number: usize, fault: Fault, err: &mut E) -> Status
+    ensures { result ≡ fault_status fault }
+{
+    match paths.get(number) {
+        Some(path) if paths.len() == 1 || fault == Fault::Device => report_at(fault, *path, err),
+        _ => report_fault(
+            format_args!("Capture {number} {}", CaptureFaultText(fault)),
+            fault_status(fault),
+            err,
+        ),
+    }
+}
+
+/// Reports the capture that ended the reading, if one did, and answers the exit status.
+pub fn report_stop<R, E: Write>(read: &Result<(), Stop<R>>, paths: &[&str], err: &mut E) -> Status
+    ensures { result ≡ stop_status read.now }
+{
+    match read {
+        Ok(()) => Status::Clean,
+        Err(stop) => report_capture(paths, stop.number, stop.fault, err),
+    }
+}
+
+/// Reports what was not printed of several captures and then the one that ended the reading, if there are these, and answers the greatest
+/// exit status that applies.
+pub fn report_captures<R, E: Write>(
+    ended: &ExplainedCaptures<R>,
+    paths: &[&str],
+    err: &mut E,
+) -> Status
+    ensures { result ≡ greater (printed_status ended.now.printed) (stop_status ended.now.read) }
+{
+    let printed = report_printed(&ended.printed, err);
+    printed.max(report_stop(&ended.read, paths, err))
+}
+
+/// Reports the capture that ended the reading, if one did, and answers the exit status of looking for a packet: [`Status::Clean`] if one was
+/// found, [`Status::Negative`] if all captures were read and none was.
+pub fn report_sought<R, E: Write>(
+    sought: &Result<bool, Stop<R>>,
+    paths: &[&str],
+    err: &mut E,
+) -> Status
+    ensures { result ≡ sought_status sought.now }
+{
+    match sought {
+        Ok(true) => Status::Clean,
+        Ok(false) => Status::Negative,
+        Err(stop) => report_capture(paths, stop.number, stop.fault, err),
     }
 }

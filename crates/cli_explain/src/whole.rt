@@ -1,5 +1,6 @@
-//! All that is told of one packet.
+//! One packet in full.
 
+use crate::dump::{put_blanks, put_dump};
 use crate::filter::AskedFilter;
 use bpfvm::{Executed, Insn, NoMemory, PlacedInsn, Program, Traced, code, trace};
 use filter_explain::{AskedPart, decide, put_cause, put_part, verdict_text};
@@ -64,10 +65,11 @@ fn put_answer(text: &mut String, asked: AskedPart<'_>) -> Result<(), AllocError>
     text.push('\n')
 }
 
-/// Appends a primitive or a relation that is asked, its own answer, and what it looks at.
+/// Appends a primitive or a relation that is asked, its own answer, and what it looks at, which is noted too.
 fn put_asked(
     alloc: Global,
     text: &mut String,
+    noted: &mut Vec<Look>,
     part: &Expr,
     packet: &PacketRef<'_>,
 ) -> Result<Verdict, NoMemory> {
@@ -75,6 +77,7 @@ fn put_asked(
     put_answer(text, asked)?;
     let looks = looks_of(alloc, part, packet.bytes, packet.len)?;
     put_looks(text, looks.as_slice(), packet)?;
+    noted.extend_from_slice(looks.as_slice())?;
     Ok(asked.verdict)
 }
 
@@ -85,7 +88,7 @@ fn put_unasked(text: &mut String, part: &Expr) -> Result<(), AllocError> {
     text.push('\n')
 }
 
-/// What `not` makes of an answer.
+/// The answer that a `not` turns this one into.
 fn opposite(answer: Verdict) -> Verdict {
     match answer {
         Verdict::Yes => Verdict::No,
@@ -94,7 +97,7 @@ fn opposite(answer: Verdict) -> Verdict {
     }
 }
 
-/// What two parts answer, of which the second is asked behind this answer of the first.
+/// What two parts answer, of which the second is asked after this answer of the first.
 fn join_verdicts(first: Verdict, goes_on: Verdict, second: Verdict) -> Verdict {
     if first == goes_on { second } else { first }
 }
@@ -103,12 +106,13 @@ fn join_verdicts(first: Verdict, goes_on: Verdict, second: Verdict) -> Verdict {
 fn put_one_part(
     alloc: Global,
     text: &mut String,
+    noted: &mut Vec<Look>,
     part: &Expr,
     is_asked: bool,
     packet: &PacketRef<'_>,
 ) -> Result<Verdict, NoMemory> {
     if is_asked {
-        return put_asked(alloc, text, part, packet);
+        return put_asked(alloc, text, noted, part, packet);
     }
     put_unasked(text, part)?;
     Ok(Verdict::No)
@@ -119,33 +123,35 @@ fn put_one_part(
 fn put_parts(
     alloc: Global,
     text: &mut String,
+    noted: &mut Vec<Look>,
     expr: &Expr,
     is_asked: bool,
     packet: &PacketRef<'_>,
 ) -> Result<Verdict, NoMemory> {
     let (left, goes_on, right) = match expr {
         Expr::Not(operand) => {
-            return Ok(opposite(put_parts(alloc, text, operand, is_asked, packet)?));
+            return Ok(opposite(put_parts(alloc, text, noted, operand, is_asked, packet)?));
         }
         Expr::And(left, right) => (left, Verdict::Yes, right),
         Expr::Or(left, right) => (left, Verdict::No, right),
-        _ => return put_one_part(alloc, text, expr, is_asked, packet),
+        _ => return put_one_part(alloc, text, noted, expr, is_asked, packet),
     };
-    let first = put_parts(alloc, text, left, is_asked, packet)?;
+    let first = put_parts(alloc, text, noted, left, is_asked, packet)?;
     let is_next_asked = is_asked && first == goes_on;
-    let second = put_parts(alloc, text, right, is_next_asked, packet)?;
+    let second = put_parts(alloc, text, noted, right, is_next_asked, packet)?;
     Ok(join_verdicts(first, goes_on, second))
 }
 
-/// Appends how an expression was read, and its primitives and relations.
+/// Appends how an expression was read, and its primitives and relations; what they looked at is noted.
 fn put_expression(
     alloc: Global,
     text: &mut String,
+    noted: &mut Vec<Look>,
     expr: &Expr,
     packet: &PacketRef<'_>,
 ) -> Result<(), NoMemory> {
     write!(text, "\nexpression: {}\n\n", Canonical(expr))?;
-    put_parts(alloc, text, expr, true, packet)?;
+    put_parts(alloc, text, noted, expr, true, packet)?;
     Ok(())
 }
 
@@ -154,14 +160,6 @@ fn put_name(alloc: Global, text: &mut String, place: u32, insn: &Insn) -> Result
     let line = format!(in alloc; "{}", PlacedInsn { place, insn })?;
     for character in line.as_str().chars() {
         text.push(if character == '\t' { ' ' } else { character })?;
-    }
-    Ok(())
-}
-
-/// Appends so many blanks.
-fn put_blanks(text: &mut String, count: usize) -> Result<(), NoMemory> {
-    for _ in 0..count {
-        text.push(' ')?;
     }
     Ok(())
 }
@@ -181,7 +179,7 @@ fn put_insn(
     put_blanks(text, NAME.saturating_sub(width))
 }
 
-/// Appends what the registers hold behind an instruction, and what it stored.
+/// Appends what the registers hold after an instruction, and what it stored.
 fn put_registers(text: &mut String, executed: &Executed) -> Result<(), AllocError> {
     let (accumulator, index) = (executed.accumulator, executed.index);
     write!(text, " A {accumulator:#x} X {index:#x}")?;
@@ -191,7 +189,7 @@ fn put_registers(text: &mut String, executed: &Executed) -> Result<(), AllocErro
     }
 }
 
-/// Appends the instructions that were executed, and the registers behind each.
+/// Appends the instructions that were executed, and the registers after each.
 fn put_executed(
     alloc: Global,
     text: &mut String,
@@ -254,7 +252,7 @@ fn put_run(
     put_traced(alloc, text, program, &run)
 }
 
-/// Appends all that is told of a packet behind its line.
+/// Appends what follows a packet's line.
 fn put_whole(
     alloc: Global,
     text: &mut String,
@@ -267,13 +265,19 @@ fn put_whole(
         text,
         "places count from 0; tcpdump and Wireshark count packets from 1, and this is packet {shown} there\n"
     )?;
-    if let Some(expr) = &filter.expr {
-        put_expression(alloc, text, expr, packet)?;
+    let mut noted = Vec::new(alloc);
+    match &filter.expr {
+        Some(expr) => {
+            put_expression(alloc, text, &mut noted, expr, packet)?;
+            text.push_str("\nbytes, with those marked that the expression looked at:\n")?;
+        }
+        None => text.push_str("\nbytes:\n")?,
     }
+    put_dump(text, noted.as_slice(), packet.bytes)?;
     put_run(alloc, text, &filter.program, packet)
 }
 
-/// All that is told of a packet behind its line.
+/// What follows a packet's line.
 pub(crate) fn whole_text(
     alloc: Global,
     filter: &AskedFilter,

@@ -12,12 +12,13 @@ returns-in-Err-clause-explains g c =
       refl,
       Keeps-refl _,
       record { packets = refl; yes = refl; no = refl; abort = refl },
+      refl,
     )
 
 pub returns-clause-explains : goal.returns-clause-explains
 returns-clause-explains g c =
     let header = c.in-Ok.reader.header in
-    rw c.close.ensures (inr (header, c.print_all-ended.ensures.prints (g.R.Source.left c.args.from) header c.in-Ok.ensures.ok))
+    rw c.close.ensures (inr (refl, header, c.print_all-ended.ensures.prints (g.R.Source.left c.args.from) header c.in-Ok.ensures.ok))
 
 pub returns-clause-gave : goal.returns-clause-gave
 returns-clause-gave g c =

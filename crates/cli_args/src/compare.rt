@@ -1,0 +1,130 @@
+//! The words of `bpftap compare`, by `clap`.
+
+use crate::arguments::Argument;
+use crate::subcommand::{bad_value, subcommand};
+use clap::{ArgMatches, Command, Error};
+use cli_text::fields::snapshot_length;
+use std::alloc::{AllocError, Global};
+
+/// What one call of `bpftap compare` asks for.
+#[derive(Drop)]
+pub struct CompareWords<'a> {
+    /// The snapshot length of an expression's program, 1 to [`cli_text::MAX_SNAP`].
+    pub snap: u32,
+    /// The first expression.
+    pub first: &'a str,
+    /// The second expression, if `-f` is not given.
+    pub second: Option<&'a str>,
+    /// The path of the listing, if `-f` is given.
+    pub listing: Option<&'a str>,
+    /// Whether `-q` is given: nothing is printed, and the status says whether a packet is treated differently.
+    pub quiet: bool,
+    /// The paths of the captures, in order.
+    pub inputs: Vec<&'a str>,
+}
+
+const COMPARE_USAGE: &str = "bpftap compare [-s N] [-q] <EXPR1> <EXPR2> <IN>...
+       bpftap compare [-s N] [-q] -f <LISTING> <EXPR1> <IN>...";
+
+const COMPARE_EXAMPLES: &str = "Examples:
+  bpftap compare 'tcp port 80' 'tcp dst port 80' examples/veth.pcap
+  tcpdump -y EN10MB -ddd 'udp port 53' | bpftap compare -f /dev/stdin 'udp port 53' examples/veth.pcap
+  bpftap compare -q 'port 80 or 443' 'port 443 or 80' examples/veth.pcap && echo the same here
+
+For each packet that one filter accepts and the other does not, a line is printed with its place,
+time and lengths, and what each filter answers and why, as explain prints it. No and Abort are the
+same here: both reject the packet. At the end are the counts. Places count from 0 in each capture.
+With -q the first such packet ends the reading. An expression that begins with - is written in
+parentheses.
+
+Exit status: 0 all was read, with -q: no packet is treated differently; 1 bad usage, a refused
+expression, file or listing, or out of memory; 2 a torn or bad record, after the packets before it;
+3 a file or device failed; 4 with -q: a packet is treated differently.";
+
+static ARGUMENTS: [Argument; 6] = [
+    Argument::DefaultSnap,
+    Argument::Listing,
+    Argument::Quiet("Print nothing; end with status 0 if no packet is treated differently, else 4"),
+    Argument::Path(
+        "EXPR1",
+        "First filter: an expression of pcap-filter(7), as one word",
+    ),
+    Argument::Optional(
+        "EXPR2",
+        "Second filter: an expression; with -f this is an IN",
+    ),
+    Argument::Others(
+        "IN",
+        "Captures to read, in order: classic savefiles of Ethernet frames",
+    ),
+];
+
+/// The subcommand.
+pub fn compare_usage<'a>(alloc: Global) -> Result<Command<'a>, AllocError> {
+    let command = subcommand(
+        alloc,
+        "compare",
+        "Print the packets of captures that two filters treat differently",
+        COMPARE_EXAMPLES,
+        &ARGUMENTS,
+    )?;
+    Ok(command.override_usage(COMPARE_USAGE))
+}
+
+/// The paths of the captures: with a listing the second word is the first of them.
+fn inputs_of<'a>(
+    alloc: Global,
+    is_path: bool,
+    second: Option<&'a str>,
+    others: &[&'a str],
+) -> Result<Vec<&'a str>, AllocError> {
+    let mut inputs = Vec::with_capacity(alloc, others.len().saturating_add(1))?;
+    if let (true, Some(path)) = (is_path, second) {
+        inputs.push(path)?;
+    }
+    inputs.extend_from_slice(others)?;
+    Ok(inputs)
+}
+
+/// The words that were found, `None` if one is missing, or if the snapshot length is none.
+pub fn compare_words<'a>(
+    alloc: Global,
+    matches: &ArgMatches<'a>,
+) -> Result<Option<CompareWords<'a>>, AllocError> {
+    let (Some(snap), Some(first)) = (snap_of(matches), matches.get_str("EXPR1")) else {
+        return Ok(None);
+    };
+    let listing = matches.get_str("listing");
+    let second = matches.get_str("EXPR2");
+    let others = matches.get_strs("IN").unwrap_or(&[]);
+    let inputs = inputs_of(alloc, listing.is_some(), second, others)?;
+    if inputs.is_empty() {
+        return Ok(None);
+    }
+    Ok(Some(CompareWords {
+        snap,
+        first,
+        second: if listing.is_some() { None } else { second },
+        listing,
+        quiet: matches.get_flag("quiet"),
+        inputs,
+    }))
+}
+
+/// The snapshot length, `None` if it is none.
+fn snap_of(matches: &ArgMatches<'_>) -> Option<u32> {
+    snapshot_length(matches.get_str("snap")?.as_bytes())
+}
+
+/// What is wrong with words that `clap` took.
+fn wanted_of(matches: &ArgMatches<'_>) -> &'static str {
+    match snap_of(matches) {
+        Some(_) => "compare takes EXPR1, EXPR2 or -f LISTING, and at least one IN",
+        None => "-s takes a number from 0 to 262144",
+    }
+}
+
+/// The error of a snapshot length that has more than digits, or of words without IN.
+pub fn bad_compare_words(alloc: Global, matches: &ArgMatches<'_>) -> Result<Error, AllocError> {
+    bad_value(compare_usage(alloc), "bpftap compare", wanted_of(matches))
+}

@@ -1,0 +1,29 @@
+use Rattle.std.proofs.Common.{◌+◌, ◌∷◌, ◌∙◌, ap, arith, length, sym, subst}
+use Rattle.cli_compare.specs.Captures.{ComparesIn}
+use Rattle.cli_explain.proofs.Several.{is-ok, neither}
+use Rattle.cli_compare.proofs.Several.{goes-further, stops}
+use Rattle.cli_compare.proofs.captures.compare_captures.Goals as goal
+
+pub returns-then-is_over : goal.returns-then-is_over
+returns-then-is_over g c =
+    let left = g.R.Source.left in
+    let pair = c.args.pair.now in
+    c.loop-capture.invariant.2 (g.O.Write.contents c.compare_each.new.out) c.after-end.result (subst (λ xs. ComparesIn left pair c.loop-capture.number c.loop-capture.end.opened c.loop-capture.end.counts xs (g.O.Write.contents c.loop-capture.out) (g.O.Write.contents c.compare_each.new.out) c.after-end.result) (sym c.in-Some.ensures.steps.0)
+    (stops left pair c.loop-capture.number c.loop-capture.end.opened c.loop-capture.end.counts c.in-Some.capture c.next.new.self.rest.items _ _ c.compare_each.result c.after-end.result
+    c.compare_each.ensures.compares c.after-end.ensures.opened c.after-end.ensures.counts c.after-end.ensures.read c.after-end.ensures.fault c.after-end.ensures.printed
+    (sym c.is_over.ensures ∙ c.if-is_over.true)))
+
+pub loop-capture-preserved : goal.loop-capture-preserved
+loop-capture-preserved g c =
+    let left = g.R.Source.left in
+    let pair = c.args.pair.now in
+    let both = neither _ _ (sym c.is_over.ensures ∙ c.if-is_over.false) in (
+      tt,
+      tt,
+      (λ new end rest. c.loop-capture.invariant.2 new end (subst (λ xs. ComparesIn left pair c.loop-capture.number c.loop-capture.end.opened c.loop-capture.end.counts xs (g.O.Write.contents c.loop-capture.out) new end) (sym c.in-Some.ensures.steps.0)
+          (goes-further left pair c.loop-capture.number (c.loop-capture.number + 1) c.loop-capture.end.opened c.loop-capture.end.counts c.in-Some.capture c.next.new.self.rest.items _ _ new c.compare_each.result c.after-end.result end
+          c.compare_each.ensures.compares c.after-end.ensures.opened c.after-end.ensures.counts c.after-end.ensures.fault c.after-end.ensures.printed both.0 both.1 (omega arith) rest))),
+      is-ok _ both.0,
+      is-ok _ both.1,
+      omega (arith, c.loop-capture.invariant.5, ap length c.in-Some.ensures.steps.0),
+    )

@@ -1,0 +1,5 @@
+pub mod Pairs
+pub mod Printed
+pub mod Compared
+pub mod Captures
+pub mod Telling

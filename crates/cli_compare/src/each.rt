@@ -1,0 +1,230 @@
+//! The packets of a capture that two filters treat differently: the function under `bpftap compare`.
+
+ghost use Rattle.std.specs.Prelude.{◌≡◌, ◌≢◌, ◌↔◌, ◌<◌, ◌≤◌, ◌+◌, ◌-◌, ◌^◌, ℕ, min, List, Option, [], Err, IfErr, IfOk};
+ghost use Rattle.std.specs.Io.KnownBytes.{Consumes};
+ghost use Rattle.savefile.specs.declared.header.Header.{Header};
+ghost use Rattle.savefile.specs.Reader.{HasGiven};
+ghost use Rattle.cli_text.specs.Sending.{Takes};
+ghost use Rattle.cli_compare.specs.Compared.{Compares, PrintsDifferences, PrintsOne, IsOneBroken};
+ghost use Rattle.cli_compare.specs.Pairs.{agreement, counted};
+ghost use Rattle.cli_compare.specs.Printed.{counts_text};
+
+use crate::line::{put_counts, put_difference};
+use crate::pair::{Agreement, FilterPair};
+use cli_explain::each::{Unprinted, send_last};
+use cli_text::sending::send;
+use savefile::laws::given_so_far;
+use savefile::{Fault, PacketRef, Reader, Source};
+use std::alloc::Global;
+use std::io::Write;
+
+/// How many packets two filters were asked, and how many of these only one accepts.
+#[derive(Clone, Copy, Debug, PartialEq, Eq)]
+pub struct DifferenceCounts {
+    pub packets: u64,
+    /// How many only the first filter accepts.
+    pub first: u64,
+    /// How many only the second filter accepts.
+    pub second: u64,
+}
+
+/// What comparing two filters by a capture came to.
+#[derive(Debug, Drop)]
+pub struct Compared<R> {
+    pub source: R,
+    /// Whether the header was read.
+    pub opened: bool,
+    /// Of all packets that were read, if all was printed.
+    pub counts: DifferenceCounts,
+    /// The fault that ended the capture, if one did.
+    pub read: Result<(), Fault>,
+    /// Whether all was printed.
+    pub printed: Result<(), Unprinted>,
+}
+
+impl DifferenceCounts {
+    /// Of no packets.
+    pub const NONE: DifferenceCounts = DifferenceCounts {
+        packets: 0,
+        first: 0,
+        second: 0,
+    };
+
+    /// How many packets one filter accepts and the other does not.
+    pub fn differ(self) -> u128
+        ensures { result ≡ self.first + self.second }
+    {
+        u128::from(self.first) + u128::from(self.second)
+    }
+
+    /// The counts of the packets of both, each up to 2^64 - 1.
+    pub fn plus(self, other: DifferenceCounts) -> DifferenceCounts
+        ensures packets { result.packets ≡ min (self.packets + other.packets) (2 ^ 64 - 1) }
+        ensures first { result.first ≡ min (self.first + other.first) (2 ^ 64 - 1) }
+        ensures second { result.second ≡ min (self.second + other.second) (2 ^ 64 - 1) }
+    {
+        DifferenceCounts {
+            packets: self.packets.saturating_add(other.packets),
+            first: self.first.saturating_add(other.first),
+            second: self.second.saturating_add(other.second),
+        }
+    }
+
+    /// Counts one packet more.
+    fn count(&mut self, agreement: Agreement)
+        requires room { self.now.packets + 1 < 2 ^ 64 }
+        requires first { self.now.first ≤ self.now.packets }
+        requires second { self.now.second ≤ self.now.packets }
+        ensures { self.new ≡ counted agreement self.old }
+    {
+        self.packets += 1;
+        match agreement {
+            Agreement::Same => {}
+            Agreement::FirstOnly => self.first += 1,
+            Agreement::SecondOnly => self.second += 1,
+        }
+    }
+}
+
+/// Prints a line for each packet of a capture that one of two filters accepts and the other does not.
+///
+/// `place 2 time 1600000000.000000000 len 98 captured 98 first Yes tcp port 8080 second No 0 at 3: ret #0`: the packet's place in the
+/// capture, from 0, when it was captured, its length on the wire and how many bytes of it were captured; and what each filter answers and
+/// why, as [`explain_each`](cli_explain::each::explain_each) prints it. No and Abort are the same here, since both reject the packet.
+/// `counts` are of all packets; [`print_counts`] prints them.
+///
+/// Each line is sent before the next packet is read. `read` has the header's fault, and then nothing is printed; with
+/// [`Fault::NoMemory`] the source is as it was too. It has the fault of the first torn or bad record, after the lines of the packets before
+/// it. It is [`Fault::Device`] exactly if the source failed. If `printed` has a fault, `out` took a prefix of the lines, and `read` is `Ok`,
+/// since no further packet was read.
+pub fn compare_each<R: Source, O: Write>(
+    alloc: Global,
+    from: R,
+    pair: &FilterPair,
+    out: &mut O,
+) -> Compared<R>
+    // Which packets differ, with which answers, what was printed, and how that ended.
+    ensures compares { Compares R.left from pair.now (O.contents out.old) (O.contents out.new) result }
+
+    // The next bytes of the source are taken, and its fault is reported exactly if it failed.
+    ensures gave { (given : List ℕ) × Consumes (R.left from) (R.left result.source) given }
+    ensures source_broke { (result.read ≡ Err Fault.Device) ↔ (R.failures result.source ≢ R.failures from) }
+{
+    let mut reader = match Reader::open(alloc, from) {
+        Ok(reader) => reader,
+        Err((source, fault)) => {
+            return Compared {
+                source,
+                opened: false,
+                counts: DifferenceCounts::NONE,
+                read: Err(fault),
+                printed: Ok(()),
+            };
+        }
+    };
+    let ended = print_differences(alloc, &mut reader, pair, out);
+    Compared {
+        source: reader.close(),
+        opened: true,
+        counts: ended.counts,
+        read: ended.read,
+        printed: ended.printed,
+    }
+}
+
+/// What comparing came to, of a reader that its caller has.
+fn outcome(
+    counts: DifferenceCounts,
+    read: Result<(), Fault>,
+    printed: Result<(), Unprinted>,
+) -> Compared<()>
+    ensures counts { result.counts ≡ counts }
+    ensures read { result.read ≡ read }
+    ensures printed { result.printed ≡ printed }
+{
+    Compared {
+        source: (),
+        opened: true,
+        counts,
+        read,
+        printed,
+    }
+}
+
+/// Prints the line of each packet that is treated differently.
+fn print_differences<R: Source, O: Write>(
+    alloc: Global,
+    reader: &mut Reader<R>,
+    pair: &FilterPair,
+    out: &mut O,
+) -> Compared<()>
+    ensures prints { (from : Option (List ℕ)) (header : Header) → HasGiven R.left from header [] reader.old →
+        PrintsDifferences pair.now from (R.left reader.new.source) header (O.contents out.old) (O.contents out.new) result.counts result.read result.printed }
+    ensures taken { (bytes : List ℕ) × Consumes (R.left reader.old.source) (R.left reader.new.source) bytes }
+    ensures source_broke { (result.read ≡ Err Fault.Device) ↔ (R.failures reader.new.source ≢ R.failures reader.old.source) }
+{
+    let mut line = String::new(alloc);
+    let mut counts = DifferenceCounts::NONE;
+    loop {
+        match reader.advance() {
+            Ok(true) => {
+                // Where the printing breaks off, what was read so far begins what the capture holds.
+                given_so_far(reader);
+                match print_one(
+                    alloc,
+                    pair,
+                    counts.packets,
+                    &reader.packet(),
+                    &mut line,
+                    out,
+                ) {
+                    Ok(agreement) => counts.count(agreement),
+                    Err(unprinted) => return outcome(counts, Ok(()), Err(unprinted)),
+                }
+            }
+            Ok(false) => return outcome(counts, Ok(()), Ok(())),
+            Err(fault) => return outcome(counts, Err(fault), Ok(())),
+        }
+    }
+}
+
+/// Prints the line of a packet, if it is treated differently.
+fn print_one<O: Write>(
+    alloc: Global,
+    pair: &FilterPair,
+    place: u64,
+    packet: &PacketRef<'_>,
+    line: &mut String,
+    out: &mut O,
+) -> Result<Agreement, Unprinted>
+    ensures is { IfOk result (λ found. found ≡ agreement pair.now packet.now) }
+    ensures ok { IfOk result (λ found. PrintsOne pair.now place packet.now (O.contents out.old) (O.contents out.new)) }
+    ensures fault { IfErr result (IsOneBroken pair.now place packet.now (O.contents out.old) (O.contents out.new)) }
+{
+    let found = pair.compare(packet);
+    if !found.is_different() {
+        return Ok(found);
+    }
+    put_difference(alloc, line, pair, place, packet)?;
+    send(line.as_bytes(), out)?;
+    Ok(found)
+}
+
+/// Prints the counts, and all that the writer has gathered: `253 packets: 3 differ, 2 accepted by the first alone, 1 by the second`.
+pub fn print_counts<O: Write>(
+    alloc: Global,
+    counts: DifferenceCounts,
+    out: &mut O,
+) -> Result<(), Unprinted>
+    ensures { Takes (O.contents out.old) (O.contents out.new) result (counts_text counts.packets (counts.first + counts.second) counts.first counts.second) }
+{
+    let mut line = String::new(alloc);
+    let DifferenceCounts {
+        packets,
+        first,
+        second,
+    } = counts;
+    put_counts(&mut line, packets, counts.differ(), first, second)?;
+    send_last(line.as_bytes(), out)?;
+    Ok(())
+}

@@ -1,0 +1,32 @@
+//! The files of `compare`: none that it reads is the one that is printed to.
+
+use cli_args::compare::CompareWords;
+use cli_files::paths::{Opening, STANDARD_OUTPUT, refuse_shared_files};
+use cli_report::HintSink;
+use cli_text::Status;
+use cli_text::report::report_fault;
+use savefile::Fault;
+use std::alloc::{AllocError, Global};
+use std::fs::Files;
+
+/// The paths of all files that are read.
+fn read_paths<'a>(alloc: Global, words: &CompareWords<'a>) -> Result<Vec<&'a str>, AllocError> {
+    let mut paths = Vec::from_slice(alloc, words.inputs.as_slice())?;
+    if let Some(listing) = words.listing {
+        paths.push(listing)?;
+    }
+    Ok(paths)
+}
+
+/// Refuses, with a line on `err`, a file that is read if standard output goes to it.
+pub(crate) fn check_paths<R: Files + AllocGlobal, E: HintSink>(
+    rt: &R,
+    words: &CompareWords<'_>,
+    err: &mut E,
+) -> Result<(), Status> {
+    let Ok(read) = read_paths(rt.alloc(), words) else {
+        return Err(report_fault(Fault::NoMemory, Status::Refused, err));
+    };
+    let output = Some(STANDARD_OUTPUT);
+    refuse_shared_files(rt, Opening::Late, output, read.as_slice(), &[], err)
+}

@@ -1,0 +1,38 @@
+//! Hints on how `bpftap explain` ended, below the lines of its faults.
+
+ghost use Rattle.std.specs.Prelude.{◌≡◌, false};
+
+use cli_report::HintSink;
+use cli_report::failures::hint_input;
+use cli_report::probe::ProbedInput;
+use cli_report::stream::give_hint;
+use cli_text::report::EscapedPath;
+use savefile::Fault;
+
+/// Hints on the capture of this number, which was not read to its end; if there are several, below its path.
+pub fn hint_capture<R, E: HintSink>(
+    paths: &[&str],
+    number: usize,
+    fault: Fault,
+    source: &ProbedInput<R>,
+    err: &mut E,
+)
+    ensures quiet { E.takes_hints err.old ≡ false → err.new ≡ err.old }
+{
+    if paths.len() > 1 {
+        if let Some(path) = paths.get(number) {
+            give_hint(format_args!("{}:", EscapedPath(*path)), err);
+        }
+    }
+    hint_input(source, fault, err);
+}
+
+/// Hints on a place at which a capture has no packet.
+pub(crate) fn hint_place<E: HintSink>(err: &mut E)
+    ensures quiet { E.takes_hints err.old ≡ false → err.new ≡ err.old }
+{
+    give_hint(
+        "places count from 0: without -p the last line is how many packets there are",
+        err,
+    );
+}
