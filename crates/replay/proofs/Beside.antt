@@ -1,16 +1,16 @@
 -- The feeders of tasks, beside what their threads are given.
 use Rattle.std.proofs.Common.{◌≡◌, List, [], ◌∷◌, map, refl, ap, ◌∙◌}
-use Rattle.replay.specs.Crews.{stage_line, stage_pair}
-use Rattle.replay.specs.Lines.{Line, entry_line}
-use Rattle.replay.specs.declared.crew.Stage.{Stage}
-use Rattle.replay.specs.declared.inlet.Entry.{Entry}
+use Rattle.replay.specs.TaskStates.{parts_line, parts_pair}
+use Rattle.replay.specs.Lines.{Line, loose_line}
+use Rattle.replay.specs.declared.states.task.TaskParts.{TaskParts}
+use Rattle.replay.specs.declared.states.feeder.LooseFeeder.{LooseFeeder}
 
 -- they are of the same pairs
-pub pairs-of-lines : {W : Type 0} (entries : List Entry) (stages : List (Stage W)) → map entry_line entries ≡ map stage_line stages
-    → map (λ e. e.feeder.pair) entries ≡ map stage_pair stages
+pub pairs-of-lines : {W : Type 0} (feeders : List LooseFeeder) (all_parts : List (TaskParts W)) → map loose_line feeders ≡ map parts_line all_parts
+    → map (λ e. e.feeder.pair) feeders ≡ map parts_pair all_parts
 pairs-of-lines [] [] e = refl
 pairs-of-lines [] (s ∷ ss) e = absurd cc
 pairs-of-lines (e ∷ es) [] h = absurd cc
 pairs-of-lines (e ∷ es) (s ∷ ss) h =
-    let first : entry_line e ≡ stage_line s = cc in let rest : map entry_line es ≡ map stage_line ss = cc in
-    ap (λ p. p ∷ map (λ e. e.feeder.pair) es) (ap (λ (l : Line). l.pair) first) ∙ ap (λ ps. stage_pair s ∷ ps) (pairs-of-lines es ss rest)
+    let first : loose_line e ≡ parts_line s = cc in let rest : map loose_line es ≡ map parts_line ss = cc in
+    ap (λ p. p ∷ map (λ e. e.feeder.pair) es) (ap (λ (l : Line). l.pair) first) ∙ ap (λ ps. parts_pair s ∷ ps) (pairs-of-lines es ss rest)

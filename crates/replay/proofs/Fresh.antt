@@ -2,8 +2,8 @@
 use Rattle.std.proofs.Common.{◌≡◌, List, [], ◌∷◌, All, length, map, refl, ap, sym, ◌∙◌, arith, subst}
 use Rattle.std.proofs.lemmas.List.Elements.{All-cons, All-head, All-nil, All-tail}
 use Rattle.std.proofs.lemmas.List.{length-map}
-use Rattle.replay.specs.Crews.{stage_line}
-use Rattle.replay.specs.declared.crew.Stage.{Stage}
+use Rattle.replay.specs.TaskStates.{parts_line}
+use Rattle.replay.specs.declared.states.task.TaskParts.{TaskParts}
 use Rattle.replay.specs.Lines.{IsFresh, Line, fed_all, with_asks}
 
 -- they are as behind a playlist of no packets
@@ -13,12 +13,12 @@ fresh-fed (l ∷ ls) h =
     ap (λ rs. with_asks l rs ∷ ls) (All-head IsFresh l ls h) ∙ ap (λ ks. fed_all [] l ∷ ks) (fresh-fed ls (All-tail IsFresh l ls h))
 
 -- the feeders of tasks whose threads were not started are such feeders
-fresh-stages : {W : Type 0} (stages : List (Stage W)) → All IsFresh (map stage_line stages)
-fresh-stages [] = All-nil IsFresh
-fresh-stages (s ∷ ss) = All-cons IsFresh (stage_line s) (map stage_line ss) refl (fresh-stages ss)
+fresh-all_parts : {W : Type 0} (all_parts : List (TaskParts W)) → All IsFresh (map parts_line all_parts)
+fresh-all_parts [] = All-nil IsFresh
+fresh-all_parts (s ∷ ss) = All-cons IsFresh (parts_line s) (map parts_line ss) refl (fresh-all_parts ss)
 
-pub fresh-lines : {W : Type 0} (ls ms : List Line) (stages : List (Stage W)) → ls ≡ ms → ms ≡ map stage_line stages → All IsFresh ls
-fresh-lines ls ms stages e f = subst (λ (ks : List Line). All IsFresh ks) (sym (e ∙ f)) (fresh-stages stages)
+pub fresh-lines : {W : Type 0} (ls ms : List Line) (all_parts : List (TaskParts W)) → ls ≡ ms → ms ≡ map parts_line all_parts → All IsFresh ls
+fresh-lines ls ms all_parts e f = subst (λ (ks : List Line). All IsFresh ks) (sym (e ∙ f)) (fresh-all_parts all_parts)
 
 -- lists of which the images are the same are as long
 pub as-long : {X Y Z V : Type 0} (f : X → V) (g : Y → V) (h : Z → V) (xs : List X) (ys : List Y) (zs : List Z) → map f xs ≡ map g ys → map g ys ≡ map h zs → length xs ≡ length zs

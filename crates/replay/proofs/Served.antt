@@ -11,13 +11,13 @@ use Rattle.handover.specs.Rule.{profile_of}
 use Rattle.handover.specs.declared.calls.Feed.{Feed}
 use Rattle.handover.specs.declared.calls.Feed.TheVariants as call
 use Rattle.handover.specs.declared.calls.Take.{Take}
-use Rattle.replay.specs.Crews.{crew_line, crew_pair}
+use Rattle.replay.specs.TaskStates.{threads_line, threads_pair}
 use Rattle.replay.specs.Lines.{EndedLine, ended_all, ended_line, ended_of, fed_all}
 use Rattle.replay.specs.Playing.{asked, asking_of}
 use Rattle.replay.specs.Replayed.{IsServed}
 use Rattle.replay.specs.Reports.{IsReported}
-use Rattle.replay.specs.declared.crew.Crew.{Crew}
-use Rattle.replay.specs.declared.ending.Ending.{Ending}
+use Rattle.replay.specs.declared.states.task.TaskThreads.{TaskThreads}
+use Rattle.replay.specs.declared.states.feeder.EndedFeeder.{EndedFeeder}
 use Rattle.replay_types.specs.declared.report.ListenerReport.{ListenerReport}
 use Rattle.replay_types.specs.declared.task.Task.{Task}
 use Rattle.replay.specs.Writing.{IsTimely}
@@ -58,30 +58,30 @@ served taken failures playlist task feeds takes r fed past profile reported = re
 }
 
 -- while threads of a task are left, so is an ended feeder
-pub ended-missing : {W : Type 0} (playlist : List Arrival) (ends : List Ending) (crews : List (Crew W)) (crew : Crew W) (crews' : List (Crew W))
-    → map ended_of ends ≡ ended_all (map (fed_all playlist) (map crew_line crews)) → crews ≡ crew ∷ crews' → length ends ≡ 0 → ⊥
-ended-missing {W} playlist [] crews crew crews' same f none =
-    let left : [] ≡ ended_all (map (fed_all playlist) (map crew_line (crew ∷ crews'))) = same ∙ ap (λ (cs : List (Crew W)). ended_all (map (fed_all playlist) (map crew_line cs))) f in
+pub ended-missing : {W : Type 0} (playlist : List Arrival) (ends : List EndedFeeder) (all_threads : List (TaskThreads W)) (threads : TaskThreads W) (all_threads' : List (TaskThreads W))
+    → map ended_of ends ≡ ended_all (map (fed_all playlist) (map threads_line all_threads)) → all_threads ≡ threads ∷ all_threads' → length ends ≡ 0 → ⊥
+ended-missing {W} playlist [] all_threads threads all_threads' same f none =
+    let left : [] ≡ ended_all (map (fed_all playlist) (map threads_line (threads ∷ all_threads'))) = same ∙ ap (λ (cs : List (TaskThreads W)). ended_all (map (fed_all playlist) (map threads_line cs))) f in
     absurd cc
-ended-missing {W} playlist (ending ∷ ends) crews crew crews' same f none = absurd (omega (arith, none))
+ended-missing {W} playlist (ending ∷ ends) all_threads threads all_threads' same f none = absurd (omega (arith, none))
 
 -- the ended feeders, of which the first is taken, and the tasks that they are of
-pub next-ended : {W : Type 0} (playlist : List Arrival) (ends : List Ending) (ending : Ending) (ends' : List Ending) (crews : List (Crew W)) (crew : Crew W)
-    (crews' : List (Crew W)) → map ended_of ends ≡ ended_all (map (fed_all playlist) (map crew_line crews)) → ends ≡ ending ∷ ends' → crews ≡ crew ∷ crews'
-    → (ended_of ending ≡ ended_line (fed_all playlist (crew_line crew))) × (map ended_of ends' ≡ ended_all (map (fed_all playlist) (map crew_line crews')))
-next-ended {W} playlist ends ending ends' crews crew crews' same e f =
-    let there : map ended_of (ending ∷ ends') ≡ ended_all (map (fed_all playlist) (map crew_line (crew ∷ crews'))) =
-    sym (ap (λ (es : List Ending). map ended_of es) e) ∙ same ∙ ap (λ (cs : List (Crew W)). ended_all (map (fed_all playlist) (map crew_line cs))) f in
+pub next-ended : {W : Type 0} (playlist : List Arrival) (ends : List EndedFeeder) (ending : EndedFeeder) (ends' : List EndedFeeder) (all_threads : List (TaskThreads W)) (threads : TaskThreads W)
+    (all_threads' : List (TaskThreads W)) → map ended_of ends ≡ ended_all (map (fed_all playlist) (map threads_line all_threads)) → ends ≡ ending ∷ ends' → all_threads ≡ threads ∷ all_threads'
+    → (ended_of ending ≡ ended_line (fed_all playlist (threads_line threads))) × (map ended_of ends' ≡ ended_all (map (fed_all playlist) (map threads_line all_threads')))
+next-ended {W} playlist ends ending ends' all_threads threads all_threads' same e f =
+    let there : map ended_of (ending ∷ ends') ≡ ended_all (map (fed_all playlist) (map threads_line (threads ∷ all_threads'))) =
+    sym (ap (λ (es : List EndedFeeder). map ended_of es) e) ∙ same ∙ ap (λ (cs : List (TaskThreads W)). ended_all (map (fed_all playlist) (map threads_line cs))) f in
     (cc, cc)
 
 -- what a feeder's messages are, by what it was asked for
-pub ended-timely : {W : Type 0} (playlist : List Arrival) (ending : Ending) (crew : Crew W) → All (λ (a : Arrival). IsTimely a.packet.nanos) playlist
-    → ended_of ending ≡ ended_line (fed_all playlist (crew_line crew)) → All (λ m. IsTimely m.nanos) (all_accepted (asks ending.feed.feeds))
-ended-timely playlist ending crew timely e =
-    subst (λ rs. All (λ m. IsTimely m.nanos) (all_accepted rs)) (sym (ap (λ (l : EndedLine). l.asks) e)) (asked-timely (asking_of crew.task.value) playlist timely)
+pub ended-timely : {W : Type 0} (playlist : List Arrival) (ending : EndedFeeder) (threads : TaskThreads W) → All (λ (a : Arrival). IsTimely a.packet.nanos) playlist
+    → ended_of ending ≡ ended_line (fed_all playlist (threads_line threads)) → All (λ m. IsTimely m.nanos) (all_accepted (asks ending.feed.feeds))
+ended-timely playlist ending threads timely e =
+    subst (λ rs. All (λ m. IsTimely m.nanos) (all_accepted rs)) (sym (ap (λ (l : EndedLine). l.asks) e)) (asked-timely (asking_of threads.task.value) playlist timely)
 
 -- the links of pairs, of which the first is taken, and the tasks that they are of
-pub next-paired : {W : Type 0} (crews crews' : List (Crew W)) (crew : Crew W) (links links' : List TableId) (link : TableId)
-    → map crew_pair crews ≡ links → crews ≡ crew ∷ crews' → links ≡ link ∷ links' → (crew_pair crew ≡ link) × (map crew_pair crews' ≡ links')
-next-paired {W} crews crews' crew links links' link same e f =
-    let there : map crew_pair (crew ∷ crews') ≡ link ∷ links' = sym (ap (λ (cs : List (Crew W)). map crew_pair cs) e) ∙ same ∙ f in (cc, cc)
+pub next-paired : {W : Type 0} (all_threads all_threads' : List (TaskThreads W)) (threads : TaskThreads W) (links links' : List TableId) (link : TableId)
+    → map threads_pair all_threads ≡ links → all_threads ≡ threads ∷ all_threads' → links ≡ link ∷ links' → (threads_pair threads ≡ link) × (map threads_pair all_threads' ≡ links')
+next-paired {W} all_threads all_threads' threads links links' link same e f =
+    let there : map threads_pair (threads ∷ all_threads') ≡ link ∷ links' = sym (ap (λ (cs : List (TaskThreads W)). map threads_pair cs) e) ∙ same ∙ f in (cc, cc)

@@ -22,7 +22,7 @@ use Rattle.replay.specs.Writing.{Writes, as_written}
 use Rattle.replay_types.specs.declared.report.ListenerReport.{ListenerReport}
 use Rattle.replay_types.specs.declared.report.TaskEnd.TheVariants.{Clean, Write, Unfinished}
 use Rattle.replay_types.specs.declared.task.Task.{Task}
-use Rattle.replay.specs.declared.writing.Written.{Written}
+use Rattle.replay.specs.declared.capture_output.Written.{Written}
 use Rattle.replay.proofs.Batches.{joins_buffers}
 
 -- the messages that were popped, those left in the ring, the hold and the rest are what was kept

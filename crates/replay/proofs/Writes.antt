@@ -12,8 +12,8 @@ use Rattle.savefile.specs.declared.packet.Packet.{Packet}
 use Rattle.savefile.specs.declared.writing.Writer.{Writer}
 use Rattle.savefile.specs.Savefile.{encoded}
 use Rattle.savefile.specs.Writer.{IsBeginning, HasWritten, HasWrittenPart, Sent}
-use Rattle.replay.specs.declared.writing.OutputFile.{OutputFile}
-use Rattle.replay.specs.declared.writing.Written.{Written}
+use Rattle.replay.specs.declared.capture_output.OutputFile.{OutputFile}
+use Rattle.replay.specs.declared.capture_output.Written.{Written}
 use Rattle.replay.specs.Reports.{BreaksBehind, IsFull}
 use Rattle.replay.specs.Writing.{as_written, Writes}
 

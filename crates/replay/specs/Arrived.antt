@@ -5,7 +5,7 @@ use Rattle.savefile.specs.Savefile.{IsWritable}
 use Rattle.savefile.specs.declared.packet.Packet.{Packet}
 use Rattle.replay.specs.Captures.{EndsSo, arrivals_from}
 use Rattle.replay.specs.Lines.{Line, HasArrived}
-use Rattle.replay.specs.declared.player.Player.{Player}
+use Rattle.replay.specs.declared.replaying_thread.Player.{Player}
 use Rattle.replay_types.specs.declared.report.InterfaceEnd.{InterfaceEnd}
 
 -- Packets of a capture arrived at the listeners, each writable, numbered from 0; and that is how it ended.

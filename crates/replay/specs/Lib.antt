@@ -1,6 +1,6 @@
 pub mod Arrived
 pub mod Captures
-pub mod Crews
+pub mod TaskStates
 pub mod Leaving
 pub mod Lines
 pub mod PlayedOut

@@ -7,10 +7,10 @@ use Rattle.handover.specs.Asks.{asks}
 use Rattle.handover.specs.declared.view.Profile.{Profile}
 use Rattle.replay.specs.Playing.{Asking, asked, asked_at}
 use Rattle.replay.specs.Rings.{Ring, ring_of}
-use Rattle.replay.specs.declared.ending.Ending.{Ending}
-use Rattle.replay.specs.declared.inlet.Entry.{Entry}
-use Rattle.replay.specs.declared.inlet.Inlet.{Inlet}
-use Rattle.replay.specs.declared.player.Player.{Player}
+use Rattle.replay.specs.declared.states.feeder.EndedFeeder.{EndedFeeder}
+use Rattle.replay.specs.declared.states.feeder.LooseFeeder.{LooseFeeder}
+use Rattle.replay.specs.declared.states.feeder.FeederSlot.{FeederSlot}
+use Rattle.replay.specs.declared.replaying_thread.Player.{Player}
 
 -- A feeder: its pair, its buffers and mode, what it is asked by, the ring that its rest goes into, and what it was asked.
 pub record Line : Type 0 where
@@ -20,7 +20,7 @@ pub record Line : Type 0 where
   pub ring : Ring
   pub asks : List Request
 
-abbrev pub line_of : Inlet → Line
+abbrev pub line_of : FeederSlot → Line
 line_of i = record {
   pair = i.feeder.pair;
   profile = i.feeder.profile;
@@ -30,8 +30,8 @@ line_of i = record {
 }
 
 -- the same of a feeder that stands apart from its link
-abbrev pub entry_line : Entry → Line
-entry_line e = record {
+abbrev pub loose_line : LooseFeeder → Line
+loose_line e = record {
   pair = e.feeder.pair;
   profile = e.feeder.profile;
   asking = record { program = e.feeder.program; snap = e.feeder.snap; flush_every = e.flush_every };
@@ -61,7 +61,7 @@ pub record EndedLine : Type 0 where
   pub ring : Ring
   pub asks : List Request
 
-abbrev pub ended_of : Ending → EndedLine
+abbrev pub ended_of : EndedFeeder → EndedLine
 ended_of e = record { pair = e.feed.pair; profile = e.feed.profile; ring = ring_of e.rest_in.end; asks = asks e.feed.feeds }
 
 abbrev pub ended_line : Line → EndedLine
@@ -72,4 +72,4 @@ ended_all ls = map ended_line ls
 
 -- this playlist arrived at the feeders, which began as `starts`
 abbrev pub HasArrived : List Line → List Arrival → Player → Type 0
-HasArrived starts playlist p = (p.arrived ≡ length playlist) × (map line_of p.inlets.items ≡ map (fed_all playlist) starts)
+HasArrived starts playlist p = (p.arrived ≡ length playlist) × (map line_of p.slots.items ≡ map (fed_all playlist) starts)

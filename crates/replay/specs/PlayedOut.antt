@@ -3,7 +3,7 @@ use Rattle.std.specs.Prelude.{◌≡◌, ℕ, List, length, map, All, Option}
 use Rattle.listener.specs.Messages.{Arrival}
 use Rattle.replay.specs.Captures.{GivesPlaylist}
 use Rattle.replay.specs.Lines.{Line, ended_all, ended_of, fed_all}
-use Rattle.replay.specs.declared.playing.PlayEnd.{PlayEnd}
+use Rattle.replay.specs.declared.replaying_thread.PlayEnd.{PlayEnd}
 use Rattle.replay.specs.Writing.{IsTimely}
 
 -- The packets of the captures arrived at the feeders, and these have ended.

@@ -9,8 +9,8 @@ use Rattle.listener.specs.Buffers.{Filled}
 use Rattle.listener.specs.declared.message.Message.{Message}
 use Rattle.handover.specs.Ends.{Draining}
 use Rattle.handover.specs.History.{batches_of, ended_in}
-use Rattle.replay.specs.declared.reading.ReaderEnd.{ReaderEnd}
-use Rattle.replay.specs.declared.reading.ReaderStop.TheVariants.{Ended}
+use Rattle.replay.specs.declared.reading_thread.ReaderEnd.{ReaderEnd}
+use Rattle.replay.specs.declared.reading_thread.ReaderStop.TheVariants.{Ended}
 
 -- the messages of each buffer
 abbrev pub messages_of : List Filled → List (List Message)

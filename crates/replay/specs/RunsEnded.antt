@@ -6,15 +6,15 @@ use Rattle.std.specs.declared.vec.Vec.{Vec}
 use Rattle.atomic_table.specs.Seated.{TableId}
 use Rattle.listener.specs.Messages.{Arrival}
 use Rattle.replay.specs.Captures.{GivesPlaylist}
-use Rattle.replay.specs.Crews.{crew_pair, crew_task}
+use Rattle.replay.specs.TaskStates.{threads_pair, threads_task}
 use Rattle.replay.specs.Replayed.{IsServed}
-use Rattle.replay.specs.declared.ready.Running.{Running}
+use Rattle.replay.specs.declared.states.interface.Running.{Running}
 use Rattle.replay_types.specs.declared.report.InterfaceReport.{InterfaceReport}
 use Rattle.replay_types.specs.declared.report.ListenerReport.{ListenerReport}
 
 -- the links of its tasks' pairs
 abbrev pub HasItsPairs : {S W : Type 0} → Vec TableId Global → Running S W → Type 0
-HasItsPairs links running = map crew_pair running.crews.items ≡ links.items
+HasItsPairs links running = map threads_pair running.all_threads.items ≡ links.items
 
 -- the pair whose past a report has
 abbrev pub past_pair : {W : Type 0} → ListenerReport W → TableId
@@ -26,5 +26,5 @@ pub record IsReportOf {S W : Type 0} (left : S → Option (List ℕ)) (broken : 
     (running : Running S W) (r : InterfaceReport S W) : Type 0 where
   pub playlist : List Arrival
   pub plays : GivesPlaylist left broken (length playlist) 0 running.player.promise.captures.value.items r.sources.items playlist r.end
-  pub pairs : map past_pair r.listeners.items ≡ map crew_pair running.crews.items
-  pub served : AllZip (IsServed taken failures playlist) (map crew_task running.crews.items) r.listeners.items
+  pub pairs : map past_pair r.listeners.items ≡ map threads_pair running.all_threads.items
+  pub served : AllZip (IsServed taken failures playlist) (map threads_task running.all_threads.items) r.listeners.items

@@ -6,7 +6,7 @@ use Rattle.replay.specs.Lines.{Line}
 use Rattle.replay.specs.Playing.{asking_of}
 use Rattle.replay.specs.Rings.{Ring}
 use Rattle.replay_types.specs.declared.task.Task.{Task}
-use Rattle.replay.specs.declared.writing.OutputFile.{OutputFile}
+use Rattle.replay.specs.declared.capture_output.OutputFile.{OutputFile}
 
 -- the savefile that its packets are written to
 abbrev pub output_of : {W : Type 0} → Task W → OutputFile W

@@ -5,8 +5,8 @@ use Rattle.savefile.specs.declared.packet.Packet.{Packet}
 use Rattle.savefile.specs.Savefile.{packet}
 use Rattle.savefile.specs.Writer.{HasWritten, Sent}
 use Rattle.replay.specs.Reports.{BreaksBehind, IsFull}
-use Rattle.replay.specs.declared.writing.OutputFile.{OutputFile}
-use Rattle.replay.specs.declared.writing.Written.{Written}
+use Rattle.replay.specs.declared.capture_output.OutputFile.{OutputFile}
+use Rattle.replay.specs.declared.capture_output.Written.{Written}
 
 -- The message as it is written. Less than a second of nanoseconds stays as it is.
 abbrev pub as_written : Message → Packet

@@ -8,8 +8,8 @@ use Rattle.listener.specs.Buffers.{Filled}
 use Rattle.listener.specs.Laws.{joined}
 use Rattle.replay.specs.Reading.{messages_of}
 use Rattle.replay.specs.Writing.{Writes}
-use Rattle.replay.specs.declared.writing.OutputFile.{OutputFile}
-use Rattle.replay.specs.declared.writer.WriteEnd.{WriteEnd}
+use Rattle.replay.specs.declared.capture_output.OutputFile.{OutputFile}
+use Rattle.replay.specs.declared.writer_thread.WriteEnd.{WriteEnd}
 
 -- what the buffers popped of the one ring contain was written, and then those of the other, which the rest comes through
 pub record HasWrittenOut {W : Type 0} (taken : W → Option (List ℕ)) (failures : W → ℕ) (o : OutputFile W)

@@ -1,4 +1,4 @@
-//! What is told of each step of a replay.
+//! What a replay calls at each of its steps.
 
 /// Is called at each step of a replay, by the thread that makes the step: it may watch a replay, and hold a thread back.
 ///

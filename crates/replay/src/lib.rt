@@ -1,31 +1,26 @@
 //! Replays captures to listeners in threads: packets arrive at each listener, and what it keeps is written as a savefile.
 #![tactic(auto)]
 
-mod crew;
-mod ending;
+mod backoff;
+mod capture_output;
 mod gate;
-mod inlet;
-mod interface;
-mod laid;
-mod launch;
-mod link;
-mod patience;
-mod player;
-mod playing;
-mod reading;
-mod ready;
+mod interface_threads;
+mod reading_thread;
+mod replaying_thread;
 mod reporting;
-mod room;
-mod running;
+mod reserved;
 mod settling;
 mod setup;
-mod threads;
-mod writer;
-mod writing;
+mod start_barrier;
+mod states;
+mod task_link;
+mod task_threads;
+mod whole_replay;
+mod writer_thread;
 
 pub use gate::{Gate, Open};
 pub use replay_types::{
     Interface, InterfaceEnd, InterfaceReport, ListenerReport, MAX_CAPTURES, MAX_INTERFACES,
     MAX_SPARES, MAX_TASKS, RunFault, Task, TaskEnd,
 };
-pub use running::run;
+pub use whole_replay::run;

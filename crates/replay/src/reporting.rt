@@ -1,4 +1,4 @@
-//! Waiting for the threads of interfaces, and telling what became of them.
+//! Waiting for the threads of interfaces, and reporting what became of them.
 
 ghost use Rattle.std.specs.Prelude.{◌≡◌, ◌≤◌, [], length, map, vec_capacity, List, All, IfErr, IfOk};
 ghost use Rattle.std.specs.List.{AllZip};
@@ -6,7 +6,7 @@ ghost use Rattle.handover.specs.Asks.{asks};
 ghost use Rattle.handover.specs.Rule.{profile_of};
 ghost use Rattle.listener.specs.LookingBack.{all_accepted};
 ghost use Rattle.listener.specs.Messages.{Arrival};
-ghost use Rattle.replay.specs.Crews.{crew_line, crew_pair, crew_task};
+ghost use Rattle.replay.specs.TaskStates.{threads_line, threads_pair, threads_task};
 ghost use Rattle.replay.specs.Lines.{ended_all, ended_of, fed_all};
 ghost use Rattle.replay.specs.Replayed.{IsServed};
 ghost use Rattle.replay.specs.Reports.{IsReported};
@@ -15,13 +15,11 @@ ghost use Rattle.replay.specs.RunsEnded.{HasItsPairs, IsReportOf, past_pair};
 ghost use Rattle.replay.specs.Writing.{IsTimely};
 ghost use Rattle.replay_types.specs.declared.fault.RunFault.TheVariants.{NoStart};
 
-use crate::crew::Crew;
-use crate::ending::Ending;
-use crate::link::TaskLink;
-use crate::playing::PlayEnd;
-use crate::ready::Running;
+use crate::replaying_thread::PlayEnd;
 use crate::settling::settled;
-use crate::threads::finish;
+use crate::states::{EndedFeeder, Running, TaskThreads};
+use crate::task_link::TaskLink;
+use crate::task_threads::finish;
 use replay_types::{InterfaceReport, ListenerReport, RunFault};
 use savefile::{Sink, Source};
 use std::thread::Threads;
@@ -30,19 +28,19 @@ use std::thread::Threads;
 fn report_task<W: Sink + Drop, R: Threads>(
     rt: &R,
     link: TaskLink,
-    ending: Ending,
-    crew: Crew<W>,
+    ending: EndedFeeder,
+    threads: TaskThreads<W>,
 ) -> Result<ListenerReport<W>, RunFault>
-    requires pair { (ending.feed.pair ≡ link) × (crew_pair crew ≡ link) }
-    requires profile { ending.feed.profile ≡ profile_of crew.task.value.capacity crew.task.value.mode }
-    requires ring { ring_of ending.rest_in.end ≡ ring_of crew.writer.promise.rest.value.end }
+    requires pair { (ending.feed.pair ≡ link) × (threads_pair threads ≡ link) }
+    requires profile { ending.feed.profile ≡ profile_of threads.task.value.capacity threads.task.value.mode }
+    requires ring { ring_of ending.rest_in.end ≡ ring_of threads.writer.promise.rest.value.end }
     requires timely { All (λ m. IsTimely m.nanos) (all_accepted (asks ending.feed.feeds)) }
-    ensures report { IfOk result (λ report. IsReported W.taken W.failures crew.task.value ending.feed.feeds report.past.takes report) }
-    ensures past { IfOk result (λ report. (report.past.pair ≡ crew_pair crew) × (report.past.feeds ≡ ending.feed.feeds)
+    ensures report { IfOk result (λ report. IsReported W.taken W.failures threads.task.value ending.feed.feeds report.past.takes report) }
+    ensures past { IfOk result (λ report. (report.past.pair ≡ threads_pair threads) × (report.past.feeds ≡ ending.feed.feeds)
         × (report.past.profile ≡ ending.feed.profile)) }
     ensures refused { IfErr result (λ fault. fault ≡ NoStart) }
 {
-    let Some(done) = finish(rt, crew) else {
+    let Some(done) = finish(rt, threads) else {
         return Err(RunFault::NoStart);
     };
     Ok(settled(link, ending, done))
@@ -52,29 +50,29 @@ fn report_task<W: Sink + Drop, R: Threads>(
 fn report_tasks<W: Sink + Drop, R: Threads>(
     rt: &R,
     links: Vec<TaskLink>,
-    ends: Vec<Ending>,
-    crews: Vec<Crew<W>>,
+    ends: Vec<EndedFeeder>,
+    all_threads: Vec<TaskThreads<W>>,
     mut reports: Vec<ListenerReport<W>>,
 ) -> Result<Vec<ListenerReport<W>>, RunFault>
-    requires pairs { map crew_pair crews.items ≡ links.items }
-    requires fed { (playlist : List Arrival) × All (λ a. IsTimely a.packet.nanos) playlist × (map ended_of ends.items ≡ ended_all (map (fed_all playlist) (map crew_line crews.items))) }
-    requires room { (reports.items ≡ []) × (length crews.items ≤ vec_capacity reports) }
-    ensures pairs { IfOk result (λ reports. map past_pair reports.items ≡ map crew_pair crews.items) }
+    requires pairs { map threads_pair all_threads.items ≡ links.items }
+    requires fed { (playlist : List Arrival) × All (λ a. IsTimely a.packet.nanos) playlist × (map ended_of ends.items ≡ ended_all (map (fed_all playlist) (map threads_line all_threads.items))) }
+    requires room { (reports.items ≡ []) × (length all_threads.items ≤ vec_capacity reports) }
+    ensures pairs { IfOk result (λ reports. map past_pair reports.items ≡ map threads_pair all_threads.items) }
     ensures served { IfOk result (λ reports. (playlist : List Arrival) → All (λ a. IsTimely a.packet.nanos) playlist →
-        map ended_of ends.items ≡ ended_all (map (fed_all playlist) (map crew_line crews.items)) →
-        AllZip (IsServed W.taken W.failures playlist) (map crew_task crews.items) reports.items) }
+        map ended_of ends.items ≡ ended_all (map (fed_all playlist) (map threads_line all_threads.items)) →
+        AllZip (IsServed W.taken W.failures playlist) (map threads_task all_threads.items) reports.items) }
     ensures refused { IfErr result (λ fault. fault ≡ NoStart) }
 {
     let mut links = links.into_iter();
     let mut ends = ends.into_iter();
-    for crew in crews {
+    for threads in all_threads {
         let Some(link) = links.next() else {
             unreachable!()
         };
         let Some(ending) = ends.next() else {
             unreachable!()
         };
-        let report = report_task(rt, link, ending, crew)?;
+        let report = report_task(rt, link, ending, threads)?;
         reports.push_reserved(report);
     }
     Ok(reports)
@@ -86,13 +84,13 @@ fn report_one<S: Source + Drop, W: Sink + Drop, R: Threads>(
     links: Vec<TaskLink>,
     running: Running<S, W>,
 ) -> Result<InterfaceReport<S, W>, RunFault>
-    requires { map crew_pair running.crews.items ≡ links.items }
+    requires { map threads_pair running.all_threads.items ≡ links.items }
     ensures report { IfOk result (IsReportOf S.left S.failures W.taken W.failures running) }
     ensures refused { IfErr result (λ fault. fault ≡ NoStart) }
 {
     let Running {
         player,
-        crews,
+        all_threads,
         reports,
     } = running;
     let Some(PlayEnd { ends, sources, end }) = player.join(rt) else {
@@ -101,7 +99,7 @@ fn report_one<S: Source + Drop, W: Sink + Drop, R: Threads>(
     Ok(InterfaceReport {
         end,
         sources,
-        listeners: report_tasks(rt, links, ends, crews, reports)?,
+        listeners: report_tasks(rt, links, ends, all_threads, reports)?,
     })
 }
 

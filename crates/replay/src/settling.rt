@@ -7,20 +7,19 @@ ghost use Rattle.listener.specs.LookingBack.{all_accepted};
 ghost use Rattle.rtrb.specs.Ring.{known_items, received, sent, IsFinishedOf, IsPair};
 ghost use Rattle.listener.specs.Laws.{joined};
 ghost use Rattle.listener.specs.declared.message.Message.{Message};
-ghost use Rattle.replay.specs.Crews.{IsDone};
+ghost use Rattle.replay.specs.TaskStates.{IsDone};
 ghost use Rattle.replay.specs.Leaving.{HasLeft};
 ghost use Rattle.replay.specs.Reading.{messages_of};
 ghost use Rattle.replay.specs.Reports.{IsReported};
 ghost use Rattle.replay.specs.Rings.{ring_of};
 ghost use Rattle.replay.specs.Writing.{IsTimely, Writes};
-ghost use Rattle.replay.specs.declared.writing.OutputFile.{OutputFile};
+ghost use Rattle.replay.specs.declared.capture_output.OutputFile.{OutputFile};
 
-use crate::crew::Done;
-use crate::ending::Ending;
-use crate::link::TaskLink;
-use crate::reading::{ReaderEnd, ReaderStop};
-use crate::writer::WriteEnd;
-use crate::writing::Written;
+use crate::capture_output::Written;
+use crate::reading_thread::{ReaderEnd, ReaderStop};
+use crate::states::{EndedFeeder, TaskDone};
+use crate::task_link::TaskLink;
+use crate::writer_thread::WriteEnd;
 use handover::{Past, Settled, settle};
 use listener::{Buffer, Counts};
 use replay_types::{ListenerReport, TaskEnd};
@@ -34,7 +33,7 @@ struct Left {
     rest: usize,
 }
 
-/// Whether so much that is left can be written: the rest comes last, so what was read and the hold can't come behind it.
+/// Whether so much that is left can be written: the rest comes last, so what was read and the hold can't come after it.
 fn is_in_order(left: &Left, hold: &Buffer) -> bool
     ensures { result ≡ true → left.now.rest ≡ 0 → (left.now.read ≡ 0) × (hold.now.messages ≡ []) }
 {
@@ -81,7 +80,7 @@ fn write_left<W: Sink>(written: &mut Written<W>, ring: &mut Consumer<Buffer>, le
     }
 }
 
-/// How a task ended, by why its reading stopped and whether its savefile works, of which so many bytes were sent. A
+/// How a task ended, by why its reading stopped and whether its savefile works, of which this many bytes were sent. A
 /// buffer of another capacity comes before a fault of the savefile, and that before an end that was not handed over.
 fn end_of(stop: ReaderStop, works: bool, sent: u64) -> TaskEnd
     ensures clean { result ≡ TaskEnd.Clean → (stop ≡ ReaderStop.Ended) × (works ≡ true) }
@@ -126,11 +125,11 @@ fn report<W: Sink>(
 }
 
 /// Settles the two ends. What the writer thread left is written: buffers in the ring of what was read, the hold, and the rest. Where
-/// no thread broke off, it has left nothing. An end that was not handed over comes before all that [`end_of`] tells.
+/// no thread broke off, it has left nothing. An end that was not handed over comes before all that [`end_of`] returns.
 pub(crate) fn settled<W: Sink + Drop>(
     link: TaskLink,
-    ending: Ending,
-    done: Done<W>,
+    ending: EndedFeeder,
+    done: TaskDone<W>,
 ) -> ListenerReport<W>
     requires pair { (ending.feed.pair ≡ link) × (done.read.drain.pair ≡ link) }
     requires profile { ending.feed.profile ≡ profile_of done.task.value.capacity done.task.value.mode }
@@ -142,8 +141,8 @@ pub(crate) fn settled<W: Sink + Drop>(
         × (result.past.profile ≡ ending.feed.profile) }
     ensures handed_over { done.read.finished ≡ None → result.end ≡ TaskEnd.Unfinished }
 {
-    let Ending { feed, rest_in } = ending;
-    let Done {
+    let EndedFeeder { feed, rest_in } = ending;
+    let TaskDone {
         task: _,
         read,
         write,
@@ -162,7 +161,7 @@ pub(crate) fn settled<W: Sink + Drop>(
     let Some(left) = left_in(&mut full, finished, &mut rest, rest_in, &hold) else {
         return report(written, counts, TaskEnd::Unfinished, past);
     };
-    // Behind a fault nothing more is written.
+    // After a fault nothing more is written.
     write_left(&mut written, &mut full, left.read);
     written.put_all(&hold);
     write_left(&mut written, &mut rest, left.rest);

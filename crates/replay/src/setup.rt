@@ -3,19 +3,17 @@
 ghost use Rattle.std.specs.Prelude.{◌≡◌, ◌<◌, ◌≤◌, [], All, IfErr, IfOk, map, vec_capacity};
 ghost use Rattle.std.specs.List.{AllZip};
 ghost use Rattle.rtrb.specs.Ring.{known_free, received, sent, IsPair};
-ghost use Rattle.replay.specs.Crews.{stage_line, stage_pair, stage_task};
-ghost use Rattle.replay.specs.Lines.{entry_line};
+ghost use Rattle.replay.specs.TaskStates.{parts_line, parts_pair, parts_task};
+ghost use Rattle.replay.specs.Lines.{loose_line};
 ghost use Rattle.replay_types.specs.Refusals.{IsInBounds};
 ghost use Rattle.replay.specs.Rings.{ring_of};
-ghost use Rattle.replay.specs.Setups.{HasLinks, IsLaidFor};
+ghost use Rattle.replay.specs.Setups.{HasLinks, IsPreparedFor};
 ghost use Rattle.replay_types.specs.declared.fault.RunFault.TheVariants.{NoStart};
 
-use crate::crew::Stage;
-use crate::inlet::Entry;
-use crate::laid::{AllLaid, Laid};
-use crate::link::TaskLink;
-use crate::room::{room_for, two_lists};
-use crate::writing::OutputFile;
+use crate::capture_output::OutputFile;
+use crate::reserved::{room_for, two_lists};
+use crate::states::{AllPrepared, LooseFeeder, Prepared, TaskParts};
+use crate::task_link::TaskLink;
 use handover::pair_as;
 use listener::Buffer;
 use replay_types::{Interface, RunFault, Task};
@@ -28,8 +26,8 @@ use std::snapshot::Snapshot;
 #[derive(Drop)]
 struct Made<W> {
     link: TaskLink,
-    entry: Entry,
-    stage: Stage<W>,
+    loose: LooseFeeder,
+    parts: TaskParts<W>,
 }
 
 /// The rings of a task: of what is read, of empty buffers, and of the rest.
@@ -44,11 +42,11 @@ struct Rings {
 #[derive(Drop)]
 struct AllMade<W> {
     links: Vec<TaskLink>,
-    entries: Vec<Entry>,
-    stages: Vec<Stage<W>>,
+    feeders: Vec<LooseFeeder>,
+    all_parts: Vec<TaskParts<W>>,
 }
 
-/// A ring with so many empty buffers in it.
+/// A ring with this many empty buffers in it.
 fn spare_buffers(
     alloc: Global,
     spares: usize,
@@ -80,9 +78,9 @@ fn rings_for(alloc: Global, spares: usize, capacity: usize) -> Result<Rings, Run
 
 /// Makes the two ends of a task, its rings and its buffers.
 fn make<W: Sink + Drop>(alloc: Global, task: Task<W>) -> Result<Made<W>, RunFault>
-    ensures task { IfOk result (λ m. m.stage.task.value ≡ task) }
-    ensures pair { IfOk result (λ m. m.stage.drain.pair ≡ m.link) }
-    ensures line { IfOk result (λ m. entry_line m.entry ≡ stage_line m.stage) }
+    ensures task { IfOk result (λ m. m.parts.task.value ≡ task) }
+    ensures pair { IfOk result (λ m. m.parts.drain.pair ≡ m.link) }
+    ensures line { IfOk result (λ m. loose_line m.loose ≡ parts_line m.parts) }
     ensures refused { IfErr result (λ fault. fault ≡ NoStart) }
 {
     let about = Snapshot::of(&task);
@@ -101,7 +99,7 @@ fn make<W: Sink + Drop>(alloc: Global, task: Task<W>) -> Result<Made<W>, RunFaul
     let Ok((link, feeder, drain)) = pair_as(alloc, program, snap, capacity, mode) else {
         return Err(RunFault::NoStart);
     };
-    let stage = Stage {
+    let parts = TaskParts {
         task: about,
         drain,
         full_in: full.0,
@@ -118,88 +116,88 @@ fn make<W: Sink + Drop>(alloc: Global, task: Task<W>) -> Result<Made<W>, RunFaul
     };
     Ok(Made {
         link: TaskLink::new(link),
-        entry: Entry {
+        loose: LooseFeeder {
             feeder,
             flush_every,
             rest_in: rest.0,
         },
-        stage,
+        parts,
     })
 }
 
-/// Room for what is made for so many tasks.
+/// Room for what is made for this many tasks.
 fn room_for_made<W: Sink + Drop>(alloc: Global, tasks: usize) -> Result<AllMade<W>, RunFault>
-    ensures empty { IfOk result (λ m. (m.links.items ≡ []) × (m.entries.items ≡ []) × (m.stages.items ≡ [])) }
-    ensures enough { IfOk result (λ m. (tasks ≤ vec_capacity m.links) × (tasks ≤ vec_capacity m.entries) × (tasks ≤ vec_capacity m.stages)) }
+    ensures empty { IfOk result (λ m. (m.links.items ≡ []) × (m.feeders.items ≡ []) × (m.all_parts.items ≡ [])) }
+    ensures enough { IfOk result (λ m. (tasks ≤ vec_capacity m.links) × (tasks ≤ vec_capacity m.feeders) × (tasks ≤ vec_capacity m.all_parts)) }
     ensures refused { IfErr result (λ fault. fault ≡ NoStart) }
 {
-    let stages = Vec::with_capacity(alloc, tasks)?;
-    let (links, entries) = two_lists(alloc, tasks, tasks)?;
+    let all_parts = Vec::with_capacity(alloc, tasks)?;
+    let (links, feeders) = two_lists(alloc, tasks, tasks)?;
     Ok(AllMade {
         links,
-        entries,
-        stages,
+        feeders,
+        all_parts,
     })
 }
 
 /// Makes all that the tasks of an interface need.
 fn make_all<W: Sink + Drop>(alloc: Global, tasks: Vec<Task<W>>) -> Result<AllMade<W>, RunFault>
-    ensures tasks { IfOk result (λ m. map stage_task m.stages.items ≡ tasks.items) }
-    ensures pairs { IfOk result (λ m. map stage_pair m.stages.items ≡ m.links.items) }
-    ensures lines { IfOk result (λ m. map entry_line m.entries.items ≡ map stage_line m.stages.items) }
+    ensures tasks { IfOk result (λ m. map parts_task m.all_parts.items ≡ tasks.items) }
+    ensures pairs { IfOk result (λ m. map parts_pair m.all_parts.items ≡ m.links.items) }
+    ensures lines { IfOk result (λ m. map loose_line m.feeders.items ≡ map parts_line m.all_parts.items) }
     ensures refused { IfErr result (λ fault. fault ≡ NoStart) }
 {
     let mut all = room_for_made(alloc, tasks.len())?;
     for task in tasks {
-        let Made { link, entry, stage } = make(alloc, task)?;
+        let Made { link, loose, parts } = make(alloc, task)?;
         all.links.push_reserved(link);
-        all.entries.push_reserved(entry);
-        all.stages.push_reserved(stage);
+        all.feeders.push_reserved(loose);
+        all.all_parts.push_reserved(parts);
     }
     Ok(all)
 }
 
 /// Makes all of an interface.
-fn lay<R: Drop, W: Sink + Drop>(
+fn prepare<R: Drop, W: Sink + Drop>(
     alloc: Global,
     interface: Interface<R, W>,
-) -> Result<(Vec<TaskLink>, Laid<R, W>), RunFault>
+) -> Result<(Vec<TaskLink>, Prepared<R, W>), RunFault>
     requires { IsInBounds interface }
     ensures links { IfOk result (λ p. HasLinks p.0 p.1) }
-    ensures laid { IfOk result (λ p. IsLaidFor interface p.1) }
+    ensures prepared { IfOk result (λ p. IsPreparedFor interface p.1) }
     ensures refused { IfErr result (λ fault. fault ≡ NoStart) }
 {
     let room = room_for(alloc, interface.captures.len(), interface.tasks.len())?;
     let Interface { captures, tasks } = interface;
     let AllMade {
         links,
-        entries,
-        stages,
+        feeders,
+        all_parts,
     } = make_all(alloc, tasks)?;
-    let laid = Laid {
+    let prepared = Prepared {
         captures,
-        entries,
-        stages,
+        feeders,
+        all_parts,
         room,
     };
-    Ok((links, laid))
+    Ok((links, prepared))
 }
 
 /// Makes all of all interfaces.
-pub(crate) fn lay_all<R: Drop, W: Sink + Drop>(
+pub(crate) fn prepare_all<R: Drop, W: Sink + Drop>(
     alloc: Global,
     interfaces: Vec<Interface<R, W>>,
-) -> Result<AllLaid<R, W>, RunFault>
+) -> Result<AllPrepared<R, W>, RunFault>
     requires { All IsInBounds interfaces.items }
-    ensures links { IfOk result (λ all. AllZip HasLinks all.links.items all.laid.items) }
-    ensures laid { IfOk result (λ all. AllZip IsLaidFor interfaces.items all.laid.items) }
+    ensures links { IfOk result (λ all. AllZip HasLinks all.links.items all.prepared.items) }
+    ensures prepared { IfOk result (λ all. AllZip IsPreparedFor interfaces.items all.prepared.items) }
     ensures refused { IfErr result (λ fault. fault ≡ NoStart) }
 {
-    let (mut links, mut laid) = two_lists(alloc, interfaces.len(), interfaces.len())?;
+    let (mut links, mut prepared) = two_lists(alloc, interfaces.len(), interfaces.len())?;
     for interface in interfaces {
-        let (its_links, its_own) = lay(alloc, interface)?;
+        let (its_links, its_own) = prepare(alloc, interface)?;
         links.push_reserved(its_links);
-        laid.push_reserved(its_own);
+        prepared.push_reserved(its_own);
     }
-    Ok(AllLaid { links, laid })
+    Ok(AllPrepared { links, prepared })
 }

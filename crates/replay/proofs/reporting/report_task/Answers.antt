@@ -13,7 +13,7 @@ settled-requires-clause-profile g c = c.requires.profile ∙ ap (λ (t : Task _)
 
 pub settled-requires-clause-ring : goal.settled-requires-clause-ring
 settled-requires-clause-ring g c =
-    c.requires.ring ∙ ring_of_same c.args.crew.writer.promise.rest.value.end c.in-Some.done.write.rest.end c.in-Some.ensures.rest.0
+    c.requires.ring ∙ ring_of_same c.args.threads.writer.promise.rest.value.end c.in-Some.done.write.rest.end c.in-Some.ensures.rest.0
 
 pub settled-requires-clause-timely : goal.settled-requires-clause-timely
 settled-requires-clause-timely g c = c.requires.timely
@@ -25,7 +25,7 @@ pub returns-clause-report : goal.returns-clause-report
 returns-clause-report g c =
     let feeds = c.args.ending.feed.feeds in
     let r = c.settled.result in
-    subst (λ ts. IsReported g.W.Sink.taken g.W.Sink.failures c.args.crew.task.value feeds ts r) (sym c.settled.ensures.past.2)
+    subst (λ ts. IsReported g.W.Sink.taken g.W.Sink.failures c.args.threads.task.value feeds ts r) (sym c.settled.ensures.past.2)
     (subst (λ (t : Task _). IsReported g.W.Sink.taken g.W.Sink.failures t feeds c.in-Some.done.read.drain.takes r) c.in-Some.ensures.task c.settled.ensures.report)
 
 pub returns-clause-past : goal.returns-clause-past

@@ -5,7 +5,7 @@ use Rattle.listener.specs.Laws.{joined}
 use Rattle.listener.specs.declared.message.Message.{Message}
 use Rattle.replay.specs.Reading.{messages_of}
 use Rattle.replay.specs.Writing.{Writes}
-use Rattle.replay.specs.declared.writing.OutputFile.{OutputFile}
+use Rattle.replay.specs.declared.capture_output.OutputFile.{OutputFile}
 use Rattle.replay.proofs.settling.write_left.Given as goal
 
 -- the buffers that were written, and those that are left

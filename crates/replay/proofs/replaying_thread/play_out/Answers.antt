@@ -1,0 +1,29 @@
+use Rattle.std.proofs.Common.{[], map, length, refl, ap, ◌∙◌, arith}
+use Rattle.std.proofs.lemmas.List.{length-map}
+use Rattle.replay.specs.Lines.{ended_all, fed_all, line_of}
+use Rattle.replay.proofs.Fresh.{fresh-fed}
+use Rattle.replay.proofs.Lists.{empty}
+use Rattle.replay.proofs.replaying_thread.play_out.Goals as goal
+
+pub give_captures-sources-requires-clause-so_far : goal.give_captures-sources-requires-clause-so_far
+give_captures-sources-requires-clause-so_far g c = (map line_of c.args.play.slots.items, [], (refl, fresh-fed (map line_of c.args.play.slots.items) c.args.play.fresh))
+
+pub end_all-ends-requires : goal.end_all-ends-requires
+end_all-ends-requires g c =
+    let starts = map line_of c.args.play.slots.items in
+    let (playlist, timely, arrived, plays) = c.give_captures-sources.ensures starts (refl, fresh-fed starts c.args.play.fresh) in
+    let same = ap length arrived.1 in
+    let a = length-map c.give_captures-sources.new.self.slots.items line_of in
+    let b = length-map starts (fed_all playlist) in
+    let d = length-map c.args.play.slots.items line_of in
+    let room = c.args.play.ends_fit.1 in record { room = (empty _ c.args.play.ends_fit.0, omega (arith, same, a, b, d, room)) }
+
+pub returns : goal.returns
+returns g c =
+    let starts = map line_of c.args.play.slots.items in
+    let (playlist, timely, arrived, plays) = c.give_captures-sources.ensures starts (refl, fresh-fed starts c.args.play.fresh) in record {
+      playlist = playlist;
+      timely = timely;
+      plays = plays;
+      ends = c.end_all-ends.ensures ∙ ap ended_all arrived.1;
+    }

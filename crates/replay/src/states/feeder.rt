@@ -1,0 +1,39 @@
+//! The states of a feeder: apart from its link, beside it, and ended.
+
+ghost use Rattle.std.specs.Prelude.{◌≡◌, ◌<◌, [], ◌∷◌};
+ghost use Rattle.replay.specs.Reading.{messages_of};
+ghost use Rattle.rtrb.specs.Ring.{known_free, sent};
+
+use crate::task_link::TaskLink;
+use handover::{FeedEnd, Feeder};
+use listener::Buffer;
+use rtrb::Producer;
+
+/// A feeder, after how many arrivals it is flushed, and where its rest goes once it has ended: what it still has in its store.
+#[derive(Drop)]
+pub(crate) struct LooseFeeder {
+    pub(crate) feeder: Feeder,
+    pub(crate) flush_every: u32,
+    pub(crate) rest_in: Producer<Buffer>,
+    ghost room: { (sent rest_in ≡ []) × (0 < known_free rest_in) },
+}
+
+/// Where packets go into one listener, after how many arrivals it is flushed, and where its rest goes.
+// The feeder stands first, so that a packet which it rejects takes one address of both.
+#[derive(Drop)]
+pub(crate) struct FeederSlot<'a> {
+    pub(crate) feeder: Feeder,
+    pub(crate) link: &'a TaskLink,
+    pub(crate) flush_every: u32,
+    pub(crate) rest_in: Producer<Buffer>,
+    ghost pair: { feeder.pair ≡ link.now },
+    ghost room: { (sent rest_in ≡ []) × (0 < known_free rest_in) },
+}
+
+/// A feeder that has ended, and the ring that its rest went into.
+#[derive(Drop)]
+pub(crate) struct EndedFeeder {
+    pub(crate) feed: FeedEnd,
+    pub(crate) rest_in: Producer<Buffer>,
+    ghost pushed: { messages_of (sent rest_in) ≡ feed.store ∷ [] },
+}
