@@ -1,6 +1,6 @@
 -- The bits of a packet, and the numbers that they are.
-use Rattle.std.proofs.Common.{◌≡◌, ℕ, zero, suc, ◌+◌, ◌-◌, ◌*◌, ◌/◌, ◌%◌, ◌^◌, ◌<◌, ◌≤◌, ◌⊎◌, inl, inr, Bool, true, false, ◌&&◌, List, [], ◌∷◌, length, take, drop, get_or, refl, sym, ap, ◌∙◌, arith, subst}
-use Rattle.std.specs.Prelude.{◌==◌, if◌then◌else◌, nat_lt, nat_le, bit_and, slice_index, fold, min}
+use Rattle.std.proofs.Common.{◌≡◌, ℕ, zero, suc, ◌+◌, ◌-◌, ◌*◌, ◌/◌, ◌%◌, ◌^◌, ◌<◌, ◌≤◌, inl, inr, Bool, true, false, ◌&&◌, List, [], ◌∷◌, length, take, drop, get_or, refl, sym, ap, ◌∙◌, arith, subst}
+use Rattle.std.specs.Prelude.{◌==◌, if◌then◌else◌, nat_lt, bit_and, slice_index, fold, min}
 use Rattle.std.specs.List.{AllByRecursion}
 use Rattle.std.specs.Int.{bit_at}
 use Rattle.std.proofs.lemmas.Bool.Decides.{nat_tests}
@@ -12,7 +12,7 @@ use Rattle.std.proofs.Math.Nat.{mod-eq_of_lt}
 use Rattle.std.proofs.Math.Numerals.{add-one}
 use Rattle.std.proofs.Common.{length-drop}
 use Rattle.bpfvm.specs.Machine.{big_endian}
-use Rattle.filter_meaning.specs.Meaning.{Packet, HasBytes}
+use Rattle.filter_meaning.specs.Meaning.{Packet}
 use Rattle.filter_same.specs.Graphs.{is_set, digit, number_of}
 use Rattle.filter_same.proofs.Numbers.{number-more}
 use Rattle.filter_same.specs.Packets.{bit_of, IsPacket}

@@ -1,17 +1,17 @@
 -- From graphs to what two expressions accept.
-use Rattle.std.proofs.Common.{◌≡◌, ℕ, ◌<◌, ◌≤◌, Bool, true, false, List, length, refl, sym, ap, ◌∙◌, arith, true≢false}
-use Rattle.std.specs.Prelude.{◌==◌, if◌then◌else◌, nat_le, bit_and, Option, Some, None}
+use Rattle.std.proofs.Common.{◌≡◌, ℕ, ◌<◌, Bool, true, false, List, length, refl, sym, ap, ◌∙◌, arith}
+use Rattle.std.specs.Prelude.{if◌then◌else◌, nat_le, bit_and, Option, Some, None}
 use Rattle.std.proofs.lemmas.Bool.{eqb-true, false≢true}
 use Rattle.std.proofs.lemmas.Nat.{and_le_r}
 use Rattle.filter_tree.specs.Trees.{Tree}
 use Rattle.filter_meaning.specs.declared.verdict.Verdict.TheVariants.{Yes, No, Abort}
-use Rattle.filter_meaning.specs.Meaning.{Packet, HasBytes, decided, byte, is_yes, accepts, meaning}
+use Rattle.filter_meaning.specs.Meaning.{byte, is_yes, accepts, meaning}
 use Rattle.filter_same.specs.declared.answer.Answer.{Answer}
 use Rattle.filter_same.specs.declared.answer.Answer.TheVariants.{Final, Never}
 use Rattle.filter_same.specs.declared.answer.Operation.TheVariants.{Agree}
 use Rattle.filter_same.specs.declared.table.Node.{Node}
 use Rattle.filter_same.specs.Graphs.{answer, joined, accepted_from, same_threshold, Gives}
-use Rattle.filter_same.specs.Packets.{bit_of, verdict_of, IsPacket, HasHeader, Means, AcceptSameOf}
+use Rattle.filter_same.specs.Packets.{bit_of, verdict_of, Means, AcceptSameOf}
 use Rattle.filter_same.specs.Same.{AcceptSame}
 
 -- where so many bytes were captured, a packet is accepted

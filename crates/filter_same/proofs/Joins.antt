@@ -1,10 +1,9 @@
 -- What was joined, as the table and the entries grow.
-use Rattle.std.proofs.Common.{◌≡◌, ℕ, ◌<◌, ◌≤◌, Bool, true, false, cond, List, [], ◌∷◌, ◌++◌, length, refl, sym, ap, ◌∙◌, arith, subst}
+use Rattle.std.proofs.Common.{◌≡◌, ℕ, Bool, true, false, cond, List, [], ◌∷◌, refl, sym, ap, ◌∙◌, arith, subst}
 use Rattle.std.specs.Prelude.{Option, Some, None, Result, Ok, Err, IfSome, IfOk, OnOk, OnErr, if◌then◌else◌}
 use Rattle.std.specs.Map.{lookup}
 use Rattle.indexmap.specs.IndexMap.{insert_entry}
 use Rattle.filter_same.specs.declared.answer.Answer.{Answer}
-use Rattle.filter_same.specs.declared.answer.Operation.{Operation}
 use Rattle.filter_same.specs.declared.table.Node.{Node}
 use Rattle.filter_same.specs.declared.graph.Pair.{Pair}
 use Rattle.filter_same.specs.Graphs.{answer, joined, Gives, Grew}

@@ -1,6 +1,6 @@
 -- What nodes mean.
-use Rattle.std.proofs.Common.{◌≡◌, ℕ, ◌+◌, ◌-◌, ◌*◌, ◌/◌, ◌%◌, ◌^◌, ◌<◌, ◌≤◌, ◌⊎◌, inl, inr, Bool, true, false, not, ◌&&◌, List, length, take, drop, max, refl, sym, ap, ◌∙◌, arith, subst}
-use Rattle.std.specs.Prelude.{◌==◌, if◌then◌else◌, nat_lt, nat_le, bit_and, Option, Some, None, Result, Ok, Err, IfOk, option_and_then}
+use Rattle.std.proofs.Common.{◌≡◌, ℕ, ◌+◌, ◌*◌, ◌%◌, ◌^◌, ◌<◌, ◌≤◌, inl, inr, Bool, true, false, not, ◌&&◌, List, length, take, drop, refl, sym, ap, ◌∙◌, arith, subst}
+use Rattle.std.specs.Prelude.{◌==◌, if◌then◌else◌, nat_lt, nat_le, bit_and, Option, Some, None, option_and_then}
 use Rattle.std.proofs.lemmas.Bool.Decides.{nat_tests}
 use Rattle.std.proofs.lemmas.Bool.{cases_lt}
 use Rattle.std.proofs.lemmas.Nat.{and_mask}
@@ -8,18 +8,17 @@ use Rattle.std.proofs.Math.Nat.{mod-eq_of_lt, pow-le-pow_right}
 use Rattle.bpfvm.specs.Machine.{number_at, big_endian}
 use Rattle.filter_meaning.specs.declared.verdict.Verdict.{Verdict}
 use Rattle.filter_meaning.specs.declared.verdict.Verdict.TheVariants.{Yes, No, Abort}
-use Rattle.filter_meaning.specs.Meaning.{Packet, Test, and_then, or_else, opposite, decided, check, byte, half, half_behind_header, within, and_test, or_test, not_test, is_address, address_number, has_address, meaning}
+use Rattle.filter_meaning.specs.Meaning.{Packet, Test, and_then, or_else, opposite, decided, check, byte, half, half_behind_header, within, and_test, or_test, is_address, address_number, has_address, meaning}
 use Rattle.filter_meaning.proofs.Numbers.{number-some, number-none}
 use Rattle.filter_same.specs.declared.answer.Answer.{Answer}
 use Rattle.filter_same.specs.declared.answer.Answer.TheVariants.{Final, Never}
-use Rattle.filter_same.specs.declared.answer.Operation.{Operation}
 use Rattle.filter_same.specs.declared.table.Node.{Node}
-use Rattle.filter_same.specs.Graphs.{answer, joined, and_answer, or_answer, accepted_from, same_threshold, Gives, Grew, number_of, by_order}
+use Rattle.filter_same.specs.Graphs.{answer, joined, and_answer, or_answer, Gives, Grew, number_of, by_order}
 use Rattle.filter_same.proofs.Tables.{grown-answer, grown_inside}
 use Rattle.filter_tree.specs.Trees.{Tree}
 use Rattle.filter_tree.specs.Trees as trees
 use Rattle.filter_same.specs.declared.case.Case.{Case}
-use Rattle.filter_same.specs.Packets.{bit_of, verdict_of, verdict_at, IsPacket, HasHeader, agrees, turned, conjunction, disjunction, Means}
+use Rattle.filter_same.specs.Packets.{bit_of, verdict_of, IsPacket, HasHeader, agrees, turned, conjunction, disjunction, Means}
 use Rattle.filter_same.proofs.Bits.{field-number, field-below, wire-number}
 
 -- ---- Answers and verdicts

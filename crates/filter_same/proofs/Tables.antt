@@ -1,16 +1,15 @@
 -- Tables that grow.
-use Rattle.std.proofs.Common.{◌≡◌, ℕ, zero, suc, inl, inr, ◌⊎◌, ◌+◌, ◌<◌, ◌≤◌, Bool, true, false, cond, List, [], ◌∷◌, ◌++◌, length, refl, sym, ap, ◌∙◌, arith, append_assoc, length-append, get_or, subst}
+use Rattle.std.proofs.Common.{◌≡◌, ℕ, inl, inr, ◌+◌, ◌<◌, ◌≤◌, Bool, true, false, cond, List, [], ◌∷◌, ◌++◌, length, refl, sym, ap, ◌∙◌, arith, append_assoc, length-append, subst}
 use Rattle.std.proofs.lemmas.List.{get_or_at, get_or_append_left, append-nil, take-append-drop, drop_more, length-take-le}
-use Rattle.std.specs.Prelude.{take, drop, Result, Ok, Err, IfOk}
-use Rattle.std.specs.Prelude.{slice_index_or, max, nat_le, if◌then◌else◌}
+use Rattle.std.specs.Prelude.{take, drop}
+use Rattle.std.specs.Prelude.{slice_index_or, if◌then◌else◌}
 use Rattle.std.proofs.lemmas.Bool.{cases_lt}
 use Rattle.std.specs.List.{list_any}
 use Rattle.filter_same.specs.declared.answer.Answer.{Answer}
-use Rattle.filter_same.specs.declared.answer.Answer.TheVariants.{Final, Never}
-use Rattle.filter_same.specs.declared.answer.Operation.{Operation}
+use Rattle.filter_same.specs.declared.answer.Answer.TheVariants.{Never}
 use Rattle.filter_same.specs.declared.table.Node.{Node}
 use Rattle.filter_same.specs.declared.table.Node.TheVariants.{Leaf, Branch}
-use Rattle.filter_same.specs.Graphs.{answer_of, answers, answer, node_answer, joined, IsBefore, IsTable, Gives, Grew}
+use Rattle.filter_same.specs.Graphs.{answer_of, answers, answer, node_answer, IsBefore, IsTable, Gives, Grew}
 
 -- the last node is answered by those before it
 answers-push : (v : ℕ → Bool) (known : List Answer) (ns : List Node) (n : Node) → answers v known (ns ++ n ∷ []) ≡ answers v known ns ++ answer_of v (answers v known ns) n ∷ []

@@ -1,9 +1,7 @@
 -- What a graph keeps of what was joined, and what a node asks. Private clauses alone say this.
-use Rattle.std.specs.Prelude.{◌≡◌, ⊤, ℕ, ◌<◌, ◌⊎◌, Bool, List, [], ◌∷◌, length}
-use Rattle.filter_same.specs.declared.answer.Operation.{Operation}
+use Rattle.std.specs.Prelude.{◌≡◌, ⊤, ℕ, ◌<◌, ◌⊎◌, List, [], ◌∷◌, length}
 use Rattle.filter_same.specs.declared.table.Node.{Node}
 use Rattle.filter_same.specs.declared.table.Node.TheVariants.{Leaf, Branch}
-use Rattle.filter_same.specs.declared.answer.Answer.{Answer}
 use Rattle.filter_same.specs.declared.graph.Pair.{Pair}
 use Rattle.filter_same.specs.declared.graph.Step.{Step}
 use Rattle.filter_same.specs.declared.graph.Step.TheVariants.{Answers, Bit}

@@ -1,8 +1,7 @@
 -- What the nodes of a graph say of packets.
-use Rattle.std.specs.Prelude.{◌≡◌, ⊤, ℕ, ◌+◌, ◌-◌, ◌*◌, ◌/◌, ◌%◌, ◌^◌, ◌<◌, ◌==◌, Bool, true, false, not, List, length, Option, Some, None, nat_lt, nat_le, bit_and, slice_index, if◌then◌else◌}
-use Rattle.bpfvm.specs.Machine.{number_at}
+use Rattle.std.specs.Prelude.{◌≡◌, ⊤, ℕ, ◌-◌, ◌/◌, ◌%◌, ◌^◌, ◌<◌, Bool, true, false, not, List, length, Option, Some, None, nat_lt, nat_le, bit_and, slice_index, if◌then◌else◌}
 use Rattle.filter_meaning.specs.declared.verdict.Verdict.{Verdict}
-use Rattle.filter_meaning.specs.declared.verdict.Verdict.TheVariants.{Yes, No, Abort}
+use Rattle.filter_meaning.specs.declared.verdict.Verdict.TheVariants.{Abort}
 use Rattle.filter_meaning.specs.Meaning.{Packet, HasBytes, Test, decided, opposite, byte, accepts}
 use Rattle.filter_tree.specs.Trees.{Tree}
 use Rattle.filter_same.specs.declared.answer.Answer.{Answer}

@@ -1,4 +1,4 @@
-use Rattle.std.proofs.Common.{sym, ◌∙◌, ◌<◌, ◌≤◌, length, arith}
+use Rattle.std.proofs.Common.{sym, ◌∙◌, arith}
 use Rattle.filter_same.specs.Graphs.{answer, joined}
 use Rattle.filter_same.proofs.Tables.{grown_more, grown-answer, halves-joined}
 use Rattle.filter_same.proofs.Joins.{map-ok, gives-as, join-on}

@@ -1,4 +1,4 @@
-use Rattle.std.proofs.Common.{rules, ◌≡◌, ◌∙◌, subst}
+use Rattle.std.proofs.Common.{rules, ◌∙◌, subst}
 use Rattle.std.specs.Prelude.{IfSome}
 use Rattle.filter_same.specs.Joins.{IsJoin}
 use Rattle.filter_same.proofs.Joins.{found-join}

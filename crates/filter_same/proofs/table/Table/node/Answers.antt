@@ -1,4 +1,4 @@
-use Rattle.std.proofs.Common.{rules, ◌≡◌, ◌<◌, length, slice_index_or, sym, subst}
+use Rattle.std.proofs.Common.{◌≡◌, ◌<◌, length, slice_index_or, sym, subst}
 use Rattle.filter_same.specs.declared.answer.Answer.TheVariants.{Never}
 use Rattle.filter_same.specs.declared.table.Node.TheVariants.{Leaf}
 use Rattle.filter_same.specs.Graphs.{answer, node_answer}
