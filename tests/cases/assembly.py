@@ -200,15 +200,38 @@ def a_program_is_printed_as_an_array_of_c(scene):
         "{ 0x28, 0, 0, 0x0000000c },\n{ 0x15, 0, 1, 0x00000800 },\n{ 0x6, 0, 0, 0x00040000 },\n{ 0x6, 0, 0, 0x00000000 },\n"))
 
 
+# A second line that is refused, its cause, and the hint below it.
+ADVICE = [
+    ("ret #1 /* end", "BadByte", "no word, number or sign: a comment begins with `;`, or is `/* .. */` on one line"),
+    ("ret #08", "BadNumber", "write a number as 12, -1, 014 (octal) or 0xc, from -2147483648 to 4294967295"),
+    ("L" * 33 + ": ret #1", "LongLabel", "a label has at most 32 bytes"),
+    ("RET #1", "UnknownName", "no instruction has this name: names are in small letters, and a comment begins with `;`"),
+    ("one: ret #1", "LabelTwice", "an earlier line has this label: choose another"),
+    ("(005) ret #1", "BadPlace", "the number in parentheses counts the instructions before it: leave it out, and jump to labels"),
+    ("ja nowhere", "NoLabel", "no line begins with this label and a colon"),
+    ("ja one", "JumpBack", "a jump leads to a later line: the machine has no loops"),
+]
+
+
+@case
+def assembly_is_advised_by_its_cause(scene):
+    """A line of assembly that is refused is shown with what to do."""
+    for line, cause, said in ADVICE:
+        scene.start({"bad.asm": f"one: ld #1\n{line}\nret #0\n"})
+        scene.expect("--hints check -f bad.asm", 1, f"bpftap: {cause} 2\n  line 2 is: {line}\n  {said}\n")
+
+
 @case
 def each_command_takes_assembly(scene):
-    """`cut`, `explain` and `check` read it, and a hint shows the line that is refused."""
+    """`cut`, `explain`, `compare` and `check` read it, and a hint shows the line that is refused."""
     scene.start({"in.pcap": FRAME, "program.bpf": "ldh [12]\njne #0x800, drop\nret #20\ndrop: ret #0\n", "bad.bpf": "ldh [12]\nret #x\n"})
     scene.expect("cut -s 0 -f program.bpf in.pcap out.pcap")
     scene.check("kept", len(scene.read("out.pcap")), 24 + 16 + 20)
     seen = scene.run("explain -f program.bpf in.pcap")
     scene.check("explained", seen.out.decode().splitlines()[-1], "1 packets: 1 Yes, 0 No, 0 Abort")
-    for words in "cut -s 0 -f bad.bpf in.pcap out.pcap", "explain -f bad.bpf in.pcap", "check -f bad.bpf":
+    seen = scene.run("compare -f program.bpf ip in.pcap")
+    scene.check("compared", seen.out.decode().splitlines()[-1], "1 packets: 0 differ, 0 accepted by the first alone, 0 by the second")
+    for words in "cut -s 0 -f bad.bpf in.pcap out.pcap", "explain -f bad.bpf in.pcap", "compare -f bad.bpf ip in.pcap", "check -f bad.bpf":
         seen = scene.run(f"--hints {words}")
         scene.check(f"hints of {words}", (seen.err.decode(), seen.status), (
-            "bpftap: BadOperand 2\n  line 2 is: ret #x\n  its form is: LABEL: NAME OPERAND, as docs/ASSEMBLY.md has it\n", 1))
+            "bpftap: BadOperand 2\n  line 2 is: ret #x\n  its form is: LABEL: NAME OPERAND, and docs/ASSEMBLY.md has the operands of each name\n", 1))

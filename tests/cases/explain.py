@@ -117,7 +117,7 @@ bytes, with those marked that the expression looked at:
 \t0x0020:  0002 0035 0035                           ...5.5
 \t              ^^^^
 
-program, with the registers behind each instruction:
+program, with the registers after each instruction:
 """
 
 

@@ -71,7 +71,7 @@ fn load_word_code(operand: Operand) -> Option<(u16, u32)>
     }
 }
 
-/// Those of `ldh` and `ldb`, which load bytes of a packet alone: at an offset, and at one behind the index register.
+/// The code and operand of `ldh` and `ldb`: at an offset, or at the index register plus an offset.
 fn load_bytes_code(direct: u16, indirect: u16, operand: Operand) -> Option<(u16, u32)>
     ensures { result ≡ load_bytes_code direct indirect operand }
 {

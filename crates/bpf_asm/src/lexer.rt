@@ -16,7 +16,7 @@ use crate::lexer::words::{keyword_of, label_of, sign_of};
 use crate::token::Token;
 use std::alloc::Global;
 
-/// What stands at the front of a text: nothing more, so many blanks, a token of so many bytes, or what is none.
+/// The front of a text: its end, this many blanks, a token of this many bytes, or what is none.
 #[derive(Clone, Copy)]
 pub(crate) enum Front {
     End,

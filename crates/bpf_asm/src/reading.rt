@@ -79,7 +79,8 @@ fn read_lines(alloc: Global, text: &[u8]) -> Result<Vec<Line>, AssemblyFault>
 /// The program that a text is assembly of.
 ///
 /// The notation is that of Linux's bpf_asm and of bpfc(8), and that of the image which `tcpdump -d` prints: docs/ASSEMBLY.md has
-/// its grammar. A jump leads forward, to a label or to a place of the program; one place is the next line's, whichever is not written.
+/// its grammar. A jump leads forward, to a label or to a place of the program. If a conditional jump
+/// has no second label, the next instruction is its second way.
 /// Each field that an instruction does not use is 0.
 ///
 /// `TextTooLong` comes first. Then come the faults of lines, each with the number of its line and its [`Cause`](crate::Cause): first

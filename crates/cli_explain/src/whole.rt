@@ -234,7 +234,7 @@ fn put_traced(
     program: &Program,
     run: &Traced,
 ) -> Result<(), NoMemory> {
-    text.push_str("\nprogram, with the registers behind each instruction:\n")?;
+    text.push_str("\nprogram, with the registers after each instruction:\n")?;
     put_executed(alloc, text, program, run.executed.as_slice())?;
     put_broken_off(text, program, run.executed.as_slice())?;
     write!(text, "answer {}\n", run.answer)?;

@@ -3,14 +3,11 @@
 ghost use Rattle.std.specs.Prelude.{◌≡◌, false};
 
 use crate::listing_hints::{hint_invalid, place_of};
-use bpf_asm::AssemblyFault;
+use bpf_asm::{AssemblyFault, Cause};
 use bpfvm::Invalid;
 use cli_report::HintSink;
-use cli_report::files::{hint_bad_line, show_line};
+use cli_report::files::show_line;
 use cli_report::stream::give_hint;
-
-/// The form of a line of assembly.
-const FORM: &str = "LABEL: NAME OPERAND, as docs/ASSEMBLY.md has it";
 
 /// Whether a byte is no blank of assembly.
 fn is_no_blank(byte: &u8) -> bool {
@@ -102,12 +99,37 @@ fn hint_program<E: HintSink>(text: &[u8], fault: Invalid, err: &mut E)
     hint_invalid(fault, "program", err)
 }
 
+/// How to fix a line of assembly.
+fn advice_of(cause: Cause) -> &'static str {
+    match cause {
+        Cause::BadByte =>
+            "no word, number or sign: a comment begins with `;`, or is `/* .. */` on one line",
+        Cause::BadNumber =>
+            "write a number as 12, -1, 014 (octal) or 0xc, from -2147483648 to 4294967295",
+        Cause::LongLabel => "a label has at most 32 bytes",
+        Cause::UnknownName =>
+            "no instruction has this name: names are in small letters, and a comment begins with `;`",
+        Cause::BadOperand =>
+            "its form is: LABEL: NAME OPERAND, and docs/ASSEMBLY.md has the operands of each name",
+        Cause::LabelTwice => "an earlier line has this label: choose another",
+        Cause::BadPlace =>
+            "the number in parentheses counts the instructions before it: leave it out, and jump to labels",
+        Cause::NoLabel => "no line begins with this label and a colon",
+        Cause::JumpBack => "a jump leads to a later line: the machine has no loops",
+        Cause::JumpTooFar =>
+            "a conditional jump passes at most 255 instructions: let it lead to a `ja`",
+    }
+}
+
 /// Hints on a text that is no assembly of a program: the line that is wrong, and what to do.
 pub(crate) fn hint_assembly<E: HintSink>(text: &[u8], fault: AssemblyFault, err: &mut E)
     ensures quiet { E.takes_hints err.old ≡ false → err.new ≡ err.old }
 {
     match fault {
-        AssemblyFault::Line(line, _) => hint_bad_line(text, line, FORM, err),
+        AssemblyFault::Line(line, cause) => {
+            show_line(text, line, err);
+            give_hint(advice_of(cause), err);
+        }
         AssemblyFault::Program(fault) => hint_program(text, fault, err),
         AssemblyFault::TextTooLong => give_hint(
             "assembly has at most 65536 bytes: a program of 512 instructions needs no more",

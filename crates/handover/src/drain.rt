@@ -79,11 +79,11 @@ impl Drain {
         self.capacity
     }
 
-    /// Takes the whole hold, and leaves the empty buffer that was brought, which has the pair's capacity, in its place.
-    /// Where there is nothing to read, that buffer is given back, with [`Read::Ended`] where the feeder had ended.
+    /// Takes the whole hold and puts the given empty buffer, of the pair's capacity, in its place. If there is nothing to read, that
+    /// buffer is given back, with [`Read::Ended`] if the feeder had ended.
     ///
-    /// It waits for nobody, and takes no memory. What it answers was so at its own load of `turn`, and a batch is unchanged since the
-    /// feeder handed it over: of all that the drain has seen it is what was handed over last.
+    /// It waits for nobody, and takes no memory. What it answers was so at its own load of `turn`. A batch is what was handed over
+    /// last, of all that the drain has seen. That the feeder made those steps, `settle` promises.
     pub fn read(&mut self, link: &Link, empty: Buffer) -> Read
         requires pair { self.old.pair ≡ link.now }
         requires empty { empty ≡ filled self.old.profile.capacity [] }

@@ -1,5 +1,5 @@
-//! Laws of the two lists of calls, of the history that they make, and of the steps. Each function is empty, and its contract is the
-//! law.
+//! Laws of the two lists of calls, of the history that they make, and of the steps, of a pair that is settled. Each function is empty,
+//! and its contract is the law.
 
 ghost use Rattle.handover.specs.Laws.{MergesHaveBoth, HistoriesAreSettled, StoredAreReadOrPend, KeptAreStored, OnlyDroppedAreMissing, OwnRunsAreRight, SeatsKeepTheRule, FeederLooksAtClosed, FeederLooksAtTurn, FeederGives, FeederEnds, DrainLooksAtEnded, DrainLooksAtTurn, DrainClears, DrainCloses};
 ghost use Rattle.handover.specs.Fresh.{FeederStepsAreFresh, DrainStepsAreFresh, SilentStepsChangeNothing, NoEndIsOverlooked, NoHoldIsOverlooked, NoCloseIsOverlooked, NoHoldIsMadeUp, NoEndIsMadeUp, NoCloseIsMadeUp, NoSightSuitsBoth};
