@@ -8,7 +8,8 @@
  *
  *   - A text, a capture or an array is a pointer and the number of its items. A text need not end with a zero byte.
  *   - What a call writes goes into memory of the caller. It takes that memory as a pointer and the number of items that it has room
- *     for, and writes nothing past those. A call that fails writes nothing, but for bpftap_cut at a record that cannot be read.
+ *     for, and writes nothing past those. A call that fails writes nothing, but for bpftap_cut and bpftap_steps at a record that cannot be
+ *     read.
  *   - A text that a call writes is followed by a zero byte. `size` does not count that byte, but there has to be room for it.
  *   - Nothing is kept between calls, and nothing that is allocated is handed out. There is no global state, and nothing is printed.
  *     Calls may run at the same time in different threads.
@@ -83,7 +84,13 @@ enum bpftap_fault {
     BPFTAP_COUNT_FULL = 73,      /* 2^64 - 1 records were read */
 
     /* The listener is not opened; also BPFTAP_BAD_SNAP. */
-    BPFTAP_BAD_CAPACITY = 80 /* a buffer has not the room that it needs */
+    BPFTAP_BAD_CAPACITY = 80, /* a buffer has not the room that it needs */
+
+    /* Steps are not played; also those of an expression, a listener and a capture, with its number. */
+    BPFTAP_LISTENERS = 88,      /* line `place` of the listeners, from 1, is not `SNAP CAPACITY EXPRESSION` */
+    BPFTAP_SCRIPT = 89,         /* line `place` of the script, from 1, is no step */
+    BPFTAP_STEPS_TOO_MANY = 90, /* there are more than 64 listeners, or more than 65,536 captures */
+    BPFTAP_NO_LISTENER = 91     /* step `place`, from 0, names a listener that there is not */
 };
 
 #define BPFTAP_MAX_INSNS 512        /* instructions of a program */
@@ -335,6 +342,32 @@ struct bpftap_message {
 /* Returns the message whose record begins at `*at`, 0 for the first one, and moves `*at` to the next one. Messages come oldest first.
  * Faults: END. */
 struct bpftap_message bpftap_listener_next(const struct bpftap_buffer *batch, size_t *at);
+
+/* ---- Steps ---- */
+
+/* A capture in memory. */
+struct bpftap_capture {
+    const uint8_t *bytes;
+    size_t size;
+};
+
+struct bpftap_replay {
+    uint32_t fault;
+    uint32_t number; /* which listener or capture the fault is of, from 0; 0 if it is of neither */
+    size_t size;     /* the bytes of the text, without the zero byte after it; also with BPFTAP_NO_ROOM */
+    size_t place;    /* where the fault is, if it has a place; else 0 */
+};
+
+/* Plays a script to listeners over captures, and writes the reports as `bpftap steps` prints them: for each listener its counts, the
+ * batches that were read from it, and what it still has.
+ * `listeners` and `script` are the contents of the files LISTENERS and SCRIPT of bpftap-steps(1): lines `SNAP CAPACITY EXPRESSION`, and
+ * lines `arrive`, `flush L`, `read L` and `close L`. How much room the text needs is not known before; with a `room` of 0 it is returned.
+ * If a record cannot be read, the packets before it are played, the reports are written, and the fault is returned beside their size:
+ * TORN_RECORD, BAD_FRACTION, RECORD_TOO_LONG, of record `place` of capture `number`.
+ * Other faults, where nothing is written: LISTENERS, SCRIPT, STEPS_TOO_MANY, NO_LISTENER; those of bpftap_open, of capture `number`; those
+ * of an expression, and BAD_CAPACITY, of listener `number`; NO_ROOM; NO_MEMORY. */
+struct bpftap_replay bpftap_steps(const char *listeners, size_t listeners_size, const char *script, size_t script_size,
+                                  const struct bpftap_capture *captures, size_t count, char *to, size_t room);
 
 /* ---- Texts ---- */
 

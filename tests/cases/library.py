@@ -6,7 +6,7 @@ import re
 import subprocess
 import sys
 
-from .common import LIMIT, ROOT, VETH, as_bytes, case, records
+from .common import LIMIT, ROOT, TORN, VETH, WHOLE, as_bytes, case, records
 
 SOURCES = ROOT / "tests" / "library"
 LIBRARY = pathlib.Path(os.environ.get("BPFTAP_LIBRARY") or ROOT / "out" / "lib" / "libbpftap.so.1").resolve()
@@ -205,12 +205,9 @@ def cuts_as_the_program_does(scene):
         scene.check(f"{name}: what was written", scene.read("out.pcap").hex(), written)
 
 
-@case
-def listeners_do_what_those_of_steps_do(scene):
-    """Random scripts over random listeners: what those of the library keep, drop and count is what `bpftap steps` reports."""
-    if not is_there(scene):
-        return
-    scene.start({"in.pcap": frames(), "veth.pcap": VETH.read_bytes()})
+def random_replays(scene):
+    """Random scripts over random listeners: the files of each, and what `bpftap steps` prints of them."""
+    scene.put({"in.pcap": frames(), "veth.pcap": VETH.read_bytes()})
     chance = random.Random(11)
     for _ in range(12):
         lines = []
@@ -224,7 +221,46 @@ def listeners_do_what_those_of_steps_do(scene):
         files = ["listeners", "script", "in.pcap", "veth.pcap"]
         ended = scene.run(["steps", *files])
         scene.check("steps", (ended.err, ended.status), (b"", 0))
-        scene.check("\n".join(lines), python(scene, "taps.py", files), ended.out.decode())
+        yield files, ended.out.decode()
+
+
+@case
+def listeners_do_what_those_of_steps_do(scene):
+    """What the listeners of the library keep, drop and count in random scripts is what `bpftap steps` reports."""
+    if is_there(scene):
+        scene.start({})
+        for files, printed in random_replays(scene):
+            scene.check(scene.read("listeners").decode(), python(scene, "taps.py", files), printed)
+
+
+# LISTENERS, SCRIPT and captures, each of which `bpftap steps` prints or refuses in its own way.
+PLAYED = [
+    "lesson.txt lesson.script veth.pcap", "l.txt s.txt whole.pcap", "l.txt s.txt torn.pcap whole.pcap", "l.txt s.txt whole.pcap torn.pcap",
+    "none.txt none.txt whole.pcap", "none.txt s.txt whole.pcap", "bad.txt bad.txt empty.pcap", "l.txt bad.txt empty.pcap",
+    "65.txt bad.txt empty.pcap", "65.txt s.txt empty.pcap", "65.txt read.txt empty.pcap", "refused.txt read.txt empty.pcap",
+    "refused.txt s.txt whole.pcap empty.pcap", "refused.txt s.txt whole.pcap", "deep.txt s.txt whole.pcap", "small.txt s.txt whole.pcap",
+]
+
+
+@case
+def steps_of_c_print_what_steps_prints(scene):
+    """Worked examples, each kind of fault and random scripts: `bpftap_steps` writes what `bpftap steps` prints, and returns the fault that it
+    reports."""
+    if not is_there(scene) or not scene.has("gcc"):
+        return
+    lesson = ROOT / "examples" / "steps"
+    scene.start({
+        "lesson.txt": (lesson / "listeners.txt").read_bytes(), "lesson.script": (lesson / "script.txt").read_bytes(), "veth.pcap": VETH.read_bytes(),
+        "whole.pcap": WHOLE, "torn.pcap": TORN, "empty.pcap": "", "l.txt": "32 64\n0 300000i ip", "s.txt": "arrive\nread 0\narrive\nflush 0\nread 0\narrive",
+        "none.txt": "", "bad.txt": "32 64\nx\n", "read.txt": "arrive\nread 65\n", "65.txt": "32 64\n" * 65, "refused.txt": "32 64\n32 64 tcp and 80\n",
+        "deep.txt": "32 64 " + "len + (" * 17 + "len" + ")" * 17 + " = 0\n", "small.txt": "32 64\n32 64\n32 48\n"})
+    program = compiled(scene, ["gcc", "-std=c11", "-O1", "-g", "-fsanitize=address,undefined"], "steps")
+    for words in PLAYED if program else []:
+        wanted = scene.run(f"steps {words}")
+        ended = subprocess.run([program, *words.split()], cwd=scene.folder, capture_output=True, timeout=LIMIT)
+        scene.check(f"steps {words}", (ended.stdout, ended.stderr, ended.returncode), (wanted.out, wanted.err, wanted.status))
+    for files, printed in random_replays(scene) if program else []:
+        scene.check(scene.read("listeners").decode(), done(scene, [program, *files]), (printed, 0))
 
 
 @case
@@ -265,7 +301,7 @@ def numbers_have_the_names_of_faults(scene):
     scene.start({})
     header = (ROOT / "include" / "bpftap.h").read_text().partition("enum bpftap_fault {")[2].partition("};")[0]
     numbers = {int(number): name for name, number in re.findall(r"BPFTAP_(\w+) = (\d+)", header)}
-    camel = {number: "".join(word.capitalize() for word in name.removeprefix("RECORD_").split("_")) for number, name in numbers.items()}
+    camel = {number: "".join(word.capitalize() for word in name.removeprefix("RECORD_").removeprefix("STEPS_").split("_")) for number, name in numbers.items()}
     seen = python(scene, "names.py", map(str, camel)).splitlines()
     scene.check("names", seen, list(camel.values()))
     explained = set(re.findall(r"\w+", (ROOT / "docs" / "FAULTS.md").read_text()))

@@ -406,6 +406,66 @@ static void cuts(void) {
     free(memory);
 }
 
+static struct bpftap_replay plays(const char *listeners, const char *script, const struct bpftap_capture *captures, size_t count, char *to, size_t room) {
+    char *lines = text_block(listeners), *words = text_block(script);
+    struct bpftap_replay replay = bpftap_steps(lines, strlen(listeners), words, strlen(script), captures, count, to, room);
+    free(lines);
+    free(words);
+    return replay;
+}
+
+static void plays_steps(void) {
+    static const char wanted[] =
+        "listener 0 received 2 matched 1 dropped 0\nbatch 0\ncapture 0 place 1 time 2.999999000 len 38 kept 10\nheld\n"
+        "listener 1 received 0 matched 0 dropped 0\nheld\n";
+    static const char listeners[] = "10 4096 udp\n0 300000 ip", script[] = "close 1\narrive\narrive\nflush 0\nread 0";
+    uint8_t *memory = capture();
+    struct bpftap_capture captures[2] = {{memory, 132}, {memory, 131}};
+    size_t size = strlen(wanted);
+    char *to = block(size + 1);
+    struct bpftap_replay replay = plays(listeners, script, captures, 1, to, size + 1);
+    CHECK(replay.fault == BPFTAP_OK && replay.size == size && replay.number == 0 && replay.place == 0 && !strcmp(to, wanted));
+    memset(to, 0xa5, size + 1);
+    replay = plays(listeners, script, captures, 1, to, size);
+    CHECK(replay.fault == BPFTAP_NO_ROOM && replay.size == size && untouched(to, size + 1));
+    free(to);
+
+    /* Without a capture no packet arrives. */
+    char text[400];
+    replay = plays("10 4096 udp", "arrive", captures, 0, text, sizeof text);
+    CHECK(replay.fault == BPFTAP_OK && !strcmp(text, "listener 0 received 0 matched 0 dropped 0\nheld\n"));
+
+    /* The packets before a torn record are played, and the fault is returned with its capture. */
+    replay = plays(listeners, "arrive\narrive\narrive\narrive", captures, 2, text, sizeof text);
+    CHECK(replay.fault == BPFTAP_TORN_RECORD && replay.number == 1 && replay.place == 1 && replay.size == strlen(text));
+    CHECK(!strncmp(text, "listener 0 received 3 matched 1 dropped 0\n", 42));
+    replay = plays(listeners, "arrive\narrive\narrive\narrive", captures, 2, text, 5);
+    CHECK(replay.fault == BPFTAP_NO_ROOM && replay.number == 0 && replay.place == 0);
+
+    struct {
+        const char *listeners, *script;
+        uint32_t fault, number;
+        size_t place;
+    } const bad[] = {
+        {"10 4096 udp\n10 x udp", "", BPFTAP_LISTENERS, 0, 2}, {"10 4096 udp", "arrive\n\narrive", BPFTAP_SCRIPT, 0, 2},
+        {"10 4096 udp", "arrive\nread 1", BPFTAP_NO_LISTENER, 0, 1}, {"10 4096 udp\n10 4096 port http", "", BPFTAP_BAD_WORD, 1, 5},
+        {"10 4096 udp\n10 47 udp", "", BPFTAP_BAD_CAPACITY, 1, 0},
+    };
+    memset(text, 0xa5, sizeof text);
+    for (size_t i = 0; i < sizeof bad / sizeof *bad; i++) {
+        replay = plays(bad[i].listeners, bad[i].script, captures, 1, text, sizeof text);
+        CHECK(replay.fault == bad[i].fault && replay.number == bad[i].number && replay.place == bad[i].place && replay.size == 0);
+        CHECK(untouched(text, sizeof text));
+    }
+    captures[1].size = 23;
+    replay = plays(listeners, script, captures, 2, text, sizeof text);
+    CHECK(replay.fault == BPFTAP_SHORT_HEADER && replay.number == 1 && replay.size == 0 && untouched(text, sizeof text));
+    char many[65 * 12 + 1] = "";
+    for (int i = 0; i < 65; i++) strcat(many, "10 4096 udp\n");
+    CHECK(plays(many, "", captures, 1, text, sizeof text).fault == BPFTAP_STEPS_TOO_MANY);
+    free(memory);
+}
+
 int main(void) {
     compiles();
     refuses_expressions();
@@ -419,5 +479,6 @@ int main(void) {
     reads();
     writes();
     cuts();
+    plays_steps();
     return failures != 0;
 }

@@ -42,6 +42,9 @@ static struct seen call(int which) {
     char *text = (char *)seen.written;
     struct bpftap_result result = {0, 0, 0};
     struct bpftap_reason reason;
+    struct bpftap_replay replay;
+    static const char listeners[] = "96 4096 tcp port 80\n96 4096i ip\n", script[] = "arrive\nflush 0\nread 1\nread 0\n";
+    const struct bpftap_capture captures[2] = {{capture, sizeof capture}, {capture, sizeof capture}};
     switch (which) {
         case 0: result = bpftap_compile(TEXT, strlen(TEXT), 100, (void *)seen.written, ROOM / 8); break;
         case 1: result = bpftap_write_listing(ALL, 1, text, ROOM); break;
@@ -49,6 +52,10 @@ static struct seen call(int which) {
         case 3: result = bpftap_print(TEXT, strlen(TEXT), text, ROOM); break;
         case 4: result = bpftap_cut(capture, sizeof capture, ALL, 1, 0, seen.written, ROOM); break;
         case 5: result = bpftap_fault_text(BPFTAP_BAD_WORD, 4, text, ROOM); break;
+        case 6:
+            replay = bpftap_steps(listeners, strlen(listeners), script, strlen(script), captures, 2, text, ROOM);
+            result.fault = replay.fault, result.size = replay.size;
+            break;
         default:
             reason = bpftap_why(TEXT, strlen(TEXT), packet, sizeof packet, sizeof packet, text, ROOM);
             result.fault = reason.fault, result.size = reason.size;
@@ -61,7 +68,7 @@ int main(void) {
     static const uint8_t header[24] = {0xd4, 0xc3, 0xb2, 0xa1, 2, 0, 4, 0, 0, 0, 0, 0, 0, 0, 0, 0, 0, 0, 4, 0, 1, 0, 0, 0};
     memcpy(capture, header, 24);
     capture[32] = capture[36] = 60;
-    for (int which = 0; which < 7; which++) {
+    for (int which = 0; which < 8; which++) {
         static struct seen whole;
         whole = call(which);
         CHECK(whole.fault == BPFTAP_OK && whole.size > 0);

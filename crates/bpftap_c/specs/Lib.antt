@@ -12,3 +12,4 @@ pub mod Cuts
 pub mod Buffers
 pub mod Messages
 pub mod Listeners
+pub mod Steps

@@ -13,6 +13,10 @@ use Rattle.listener.specs.declared.fault.OpenFault.{OpenFault}
 use Rattle.listener.specs.declared.fault.OpenFault.TheVariants as unopened
 use Rattle.savefile.specs.declared.fault.Fault.{Fault as CaptureFault}
 use Rattle.savefile.specs.declared.fault.Fault.TheVariants as unread
+use Rattle.cli_text.specs.declared.fault.LineFault.{LineFault}
+use Rattle.cli_text.specs.declared.fault.LineFault.TheVariants as lines
+use Rattle.tap.specs.declared.fault.Fault.{Fault as ReplayFault}
+use Rattle.tap.specs.declared.fault.Fault.TheVariants as unplayed
 use Rattle.bpftap_c.specs.declared.outcome.BpftapResult.{BpftapResult}
 use Rattle.bpftap_c.specs.declared.outcome.Failure.{Failure}
 use Rattle.bpftap_c.specs.declared.outcome.Failure.TheVariants as failures
@@ -118,6 +122,50 @@ capture_place unread.Device = 0
 capture_place unread.Failed = 0
 capture_place unread.CountFull = 0
 
+-- of the lines of LISTENERS and SCRIPT
+abbrev pub line_code : LineFault → ℕ
+line_code lines.NoMemory = 1
+line_code (lines.Listeners line) = 88
+line_code (lines.Script line) = 89
+
+abbrev pub line_place : LineFault → ℕ
+line_place lines.NoMemory = 0
+line_place (lines.Listeners line) = line
+line_place (lines.Script line) = line
+
+-- of steps that are not played
+abbrev pub replay_code : ReplayFault → ℕ
+replay_code unplayed.NoMemory = 1
+replay_code unplayed.TooMany = 90
+replay_code (unplayed.NoListener step) = 91
+replay_code (unplayed.Capture capture fault) = capture_code fault
+replay_code (unplayed.Expression listener fault) = text_code fault
+replay_code (unplayed.Compile listener refusal) = tree_code refusal
+replay_code (unplayed.Open listener fault) = open_code fault
+
+abbrev pub replay_place : ReplayFault → ℕ
+replay_place unplayed.NoMemory = 0
+replay_place unplayed.TooMany = 0
+replay_place (unplayed.NoListener step) = step
+replay_place (unplayed.Capture capture fault) = capture_place fault
+replay_place (unplayed.Expression listener fault) = text_place fault
+replay_place (unplayed.Compile listener refusal) = 0
+replay_place (unplayed.Open listener fault) = 0
+
+-- which listener or capture the fault is of
+abbrev pub replay_number : ReplayFault → ℕ
+replay_number unplayed.NoMemory = 0
+replay_number unplayed.TooMany = 0
+replay_number (unplayed.NoListener step) = 0
+replay_number (unplayed.Capture capture fault) = capture
+replay_number (unplayed.Expression listener fault) = listener
+replay_number (unplayed.Compile listener refusal) = listener
+replay_number (unplayed.Open listener fault) = listener
+
+abbrev pub number_of : Failure → ℕ
+number_of (failures.Replay fault) = replay_number fault
+number_of other = 0
+
 abbrev pub code_of : Failure → ℕ
 code_of failures.NoMemory = 1
 code_of (failures.NoRoom size) = 2
@@ -128,6 +176,8 @@ code_of (failures.Expression (expression.Text fault)) = text_code fault
 code_of (failures.Expression (expression.Tree refusal)) = tree_code refusal
 code_of (failures.Capture fault) = capture_code fault
 code_of (failures.Open fault) = open_code fault
+code_of (failures.Lines fault) = line_code fault
+code_of (failures.Replay fault) = replay_code fault
 
 abbrev pub place_of : Failure → ℕ
 place_of failures.NoMemory = 0
@@ -139,6 +189,8 @@ place_of (failures.Expression (expression.Text fault)) = text_place fault
 place_of (failures.Expression (expression.Tree refusal)) = 0
 place_of (failures.Capture fault) = capture_place fault
 place_of (failures.Open fault) = 0
+place_of (failures.Lines fault) = line_place fault
+place_of (failures.Replay fault) = replay_place fault
 
 -- how many items there are, where they find no room
 abbrev pub size_of : Failure → ℕ
@@ -150,6 +202,8 @@ size_of (failures.Listing fault) = 0
 size_of (failures.Expression fault) = 0
 size_of (failures.Capture fault) = 0
 size_of (failures.Open fault) = 0
+size_of (failures.Lines fault) = 0
+size_of (failures.Replay fault) = 0
 
 -- the result of a call that put this many items
 abbrev pub done : ℕ → BpftapResult

@@ -18,6 +18,7 @@ mod messages;
 mod outcome;
 mod programs;
 mod reasons;
+mod steps;
 mod texts;
 
 pub use batches::{BpftapPacket, BpftapSpan};
@@ -28,3 +29,4 @@ pub use listeners::BpftapListener;
 pub use messages::BpftapMessage;
 pub use outcome::{BpftapResult, Failure};
 pub use reasons::BpftapReason;
+pub use steps::{BpftapCapture, BpftapReplay};

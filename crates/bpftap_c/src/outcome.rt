@@ -1,9 +1,10 @@
 //! What a call returns: 0 or the number of a fault, a size and a place.
 
 ghost use Rattle.std.specs.Prelude.{◌≡◌};
-ghost use Rattle.bpftap_c.specs.Outcome.{invalid_code, invalid_place, listing_code, listing_place, text_code, text_place, tree_code, open_code, capture_code, capture_place, code_of, place_of, size_of, done, failed};
+ghost use Rattle.bpftap_c.specs.Outcome.{invalid_code, invalid_place, listing_code, listing_place, text_code, text_place, tree_code, open_code, capture_code, capture_place, line_code, line_place, replay_code, replay_place, replay_number, code_of, number_of, place_of, size_of, done, failed};
 
 use bpfvm::{Invalid, ListingFault};
+use cli_text::LineFault;
 use filtergen::{ExpressionFault, Refusal};
 use listener::OpenFault;
 
@@ -38,6 +39,10 @@ pub enum Failure {
     Capture(savefile::Fault),
     /// A listener is not opened, or a buffer is not of its capacity.
     Open(OpenFault),
+    /// A line of LISTENERS or SCRIPT is bad.
+    Lines(LineFault),
+    /// Steps cannot be played.
+    Replay(tap::Fault),
 }
 
 fn invalid_code(fault: Invalid) -> u32
@@ -182,6 +187,76 @@ fn capture_place(fault: savefile::Fault) -> usize
     }
 }
 
+fn line_code(fault: LineFault) -> u32
+    ensures { result ≡ line_code fault }
+{
+    match fault {
+        LineFault::NoMemory => 1,
+        LineFault::Listeners(_) => 88,
+        LineFault::Script(_) => 89,
+    }
+}
+
+fn line_place(fault: LineFault) -> usize
+    ensures { result ≡ line_place fault }
+{
+    match fault {
+        LineFault::NoMemory => 0,
+        LineFault::Listeners(line) => line,
+        LineFault::Script(line) => line,
+    }
+}
+
+fn replay_code(fault: tap::Fault) -> u32
+    ensures { result ≡ replay_code fault }
+{
+    match fault {
+        tap::Fault::NoMemory => 1,
+        tap::Fault::TooMany => 90,
+        tap::Fault::NoListener(_) => 91,
+        tap::Fault::Capture(_, fault) => capture_code(fault),
+        tap::Fault::Expression(_, fault) => text_code(fault),
+        tap::Fault::Compile(_, refusal) => tree_code(refusal),
+        tap::Fault::Open(_, fault) => open_code(fault),
+    }
+}
+
+fn replay_place(fault: tap::Fault) -> usize
+    ensures { result ≡ replay_place fault }
+{
+    match fault {
+        tap::Fault::NoMemory
+        | tap::Fault::TooMany
+        | tap::Fault::Compile(_, _)
+        | tap::Fault::Open(_, _) => 0,
+        tap::Fault::NoListener(step) => step,
+        tap::Fault::Capture(_, fault) => capture_place(fault),
+        tap::Fault::Expression(_, fault) => text_place(fault),
+    }
+}
+
+fn replay_number(fault: tap::Fault) -> u32
+    ensures { result ≡ replay_number fault }
+{
+    match fault {
+        tap::Fault::NoMemory | tap::Fault::TooMany | tap::Fault::NoListener(_) => 0,
+        tap::Fault::Capture(capture, _) => capture,
+        tap::Fault::Expression(listener, _) => listener,
+        tap::Fault::Compile(listener, _) => listener,
+        tap::Fault::Open(listener, _) => listener,
+    }
+}
+
+/// Which listener or capture a fault is of.
+pub(crate) fn number_of(failure: Failure) -> u32
+    ensures { result ≡ number_of failure }
+{
+    match failure {
+        Failure::Replay(fault) => replay_number(fault),
+        _ => 0,
+    }
+}
+
 /// The number of a fault, which stays from version to version.
 pub(crate) fn code_of(failure: Failure) -> u32
     ensures { result ≡ code_of failure }
@@ -196,6 +271,8 @@ pub(crate) fn code_of(failure: Failure) -> u32
         Failure::Expression(ExpressionFault::Tree(refusal)) => tree_code(refusal),
         Failure::Capture(fault) => capture_code(fault),
         Failure::Open(fault) => open_code(fault),
+        Failure::Lines(fault) => line_code(fault),
+        Failure::Replay(fault) => replay_code(fault),
     }
 }
 
@@ -211,6 +288,8 @@ fn place_of(failure: Failure) -> usize
         Failure::Expression(ExpressionFault::Tree(_)) => 0,
         Failure::Capture(fault) => capture_place(fault),
         Failure::Open(_) => 0,
+        Failure::Lines(fault) => line_place(fault),
+        Failure::Replay(fault) => replay_place(fault),
     }
 }
 
@@ -225,7 +304,9 @@ fn size_of(failure: Failure) -> usize
         | Failure::Listing(_)
         | Failure::Expression(_)
         | Failure::Capture(_)
-        | Failure::Open(_) => 0,
+        | Failure::Open(_)
+        | Failure::Lines(_)
+        | Failure::Replay(_) => 0,
     }
 }
 

@@ -69,6 +69,7 @@ fn fault_name(fault: u32) -> &'static str {
         32..=50 => expression_fault_name(fault),
         64..=73 => capture_fault_name(fault),
         80 => "BadCapacity",
+        88..=91 => steps_fault_name(fault),
         _ => "Unknown",
     }
 }
@@ -121,9 +122,18 @@ fn capture_fault_name(fault: u32) -> &'static str {
     }
 }
 
+fn steps_fault_name(fault: u32) -> &'static str {
+    match fault {
+        88 => "Listeners",
+        89 => "Script",
+        90 => "TooMany",
+        _ => "NoListener",
+    }
+}
+
 /// Whether a fault has a place.
 fn has_place(fault: u32) -> bool {
-    matches!(fault, 3 | 18..=21 | 24 | 33..=43 | 68..=70)
+    matches!(fault, 3 | 18..=21 | 24 | 33..=43 | 68..=70 | 88 | 89 | 91)
 }
 
 /// The line of a fault: its name, and its place where it has one.

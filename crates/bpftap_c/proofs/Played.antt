@@ -1,0 +1,83 @@
+-- The listeners that LISTENERS asks for are those that were played, though no more than 65 of them are kept.
+use Rattle.std.proofs.Common.{◌≡◌, ◌<◌, ◌≤◌, ◌⊎◌, ◌∙◌, inl, inr, sym, subst, ℕ, List, Option, length, take, arith, length-take, take_all}
+use Rattle.std.proofs.lemmas.Bool.{cases_lt}
+use Rattle.savefile.specs.declared.fault.Fault.{Fault as RecordFault}
+use Rattle.tap.specs.declared.fault.Fault.{Fault}
+use Rattle.tap.specs.declared.fault.Fault.TheVariants.{TooMany, NoListener, Capture, Expression, Compile, Open, NoMemory}
+use Rattle.tap.specs.Headline.{Replays}
+use Rattle.tap.specs.Refusals.{AreTooMany, IsFirst, NoneStands}
+use Rattle.tap_steps.specs.declared.filters.Spec.{Spec}
+use Rattle.tap_steps.specs.declared.step.Step.{Step}
+use Rattle.tap_steps.specs.declared.playlist.PlacedPacket.{PlacedPacket}
+use Rattle.tap_steps.specs.declared.report.Report.{Report}
+use Rattle.cli_text.specs.Files.{IsFileOf}
+use Rattle.cli_steps.specs.Listeners.{IsListenerLine, AreFirstOf}
+use Rattle.cli_steps.specs.Script.{IsStepLine}
+use Rattle.cli_steps.specs.Printed.{printed_reports}
+use Rattle.bpftap_c.specs.Steps.{IsReported, IsUnplayed}
+use Rattle.bpftap_c.specs.declared.outcome.Failure.TheVariants as failures
+
+-- 64 listeners are all kept
+few_are_kept : (all : List Spec) → length all ≤ 64 → take 65 all ≡ all
+few_are_kept all few = take_all 65 all (omega (arith, few))
+
+-- of more than 64 listeners too many are kept
+many_are_kept : (captures : List (List ℕ)) (all : List Spec) → 64 < length all → AreTooMany captures (take 65 all)
+many_are_kept captures all many = inl (omega (arith, many, length-take 65 all))
+
+-- if no fault applies, all listeners are kept
+all_kept : (captures : List (List ℕ)) (all : List Spec) (steps : List Step) → NoneStands captures (take 65 all) steps → take 65 all ≡ all
+all_kept captures all steps stands = by_number (cases_lt 64 (length all))
+  where
+    by_number : (64 < length all) ⊎ (length all ≤ 64) → take 65 all ≡ all
+    by_number (inl many) = absurd (stands.number (many_are_kept captures all many))
+    by_number (inr few) = few_are_kept all few
+
+-- the first fault that applies to the listeners that are kept applies to all
+first_of_all : (captures : List (List ℕ)) (all : List Spec) (steps : List Step) (fault : Fault) → IsFirst captures (take 65 all) steps fault → IsFirst captures all steps fault
+first_of_all captures all steps fault first = by_number (cases_lt 64 (length all))
+  where
+    by_fault : (fault : Fault) → 64 < length all → IsFirst captures (take 65 all) steps fault → IsFirst captures all steps fault
+    by_fault TooMany many is = inl many
+    by_fault (NoListener place) many is = absurd (is.0 (many_are_kept captures all many))
+    by_fault (Capture n fault) many is = absurd (is.0 (many_are_kept captures all many))
+    by_fault (Expression l fault) many is = absurd (is.0 (many_are_kept captures all many))
+    by_fault (Compile l fault) many is = absurd (is.0 (many_are_kept captures all many))
+    by_fault (Open l fault) many is = absurd (is.0 (many_are_kept captures all many))
+    by_fault NoMemory many is = tt
+
+    by_number : (64 < length all) ⊎ (length all ≤ 64) → IsFirst captures all steps fault
+    by_number (inl many) = by_fault fault many first
+    by_number (inr few) = subst (λ (specs : List Spec). IsFirst captures specs steps fault) (few_are_kept all few) first
+
+-- what was read, played and printed is reported
+pub is_reported : (listeners script : List ℕ) (captures : List (List ℕ)) (kept : List Spec) (steps : List Step) (record_fault : Option (ℕ × RecordFault))
+    (reports : List Report) (text : List ℕ) → AreFirstOf listeners kept → IsFileOf IsStepLine script steps →
+    (playlist : List PlacedPacket) × Replays captures kept steps playlist record_fault reports → NoneStands captures kept steps →
+    text ≡ printed_reports reports → IsReported listeners script captures text record_fault
+is_reported listeners script captures kept steps record_fault reports text asked of_script replays stands is =
+    let same : kept ≡ asked.all =
+    asked.first ∙ all_kept captures asked.all steps (subst (λ (specs : List Spec). NoneStands captures specs steps) asked.first stands) in
+    record {
+      specs = kept;
+      steps = steps;
+      of_listeners = subst (λ (specs : List Spec). IsFileOf IsListenerLine listeners specs) (sym same) asked.asked;
+      of_script = of_script;
+      playlist = replays.0;
+      reports = reports;
+      replays = replays.1;
+      none_stands = stands;
+      is = is;
+    }
+
+-- a fault of what was read and played is the first of what the files ask for
+pub is_unplayed : (listeners script : List ℕ) (captures : List (List ℕ)) (kept : List Spec) (steps : List Step) (fault : Fault) →
+    AreFirstOf listeners kept → IsFileOf IsStepLine script steps → IsFirst captures kept steps fault →
+    IsUnplayed listeners script captures (failures.Replay fault)
+is_unplayed listeners script captures kept steps fault asked of_script first = (
+  asked.all,
+  steps,
+  asked.asked,
+  of_script,
+  first_of_all captures asked.all steps fault (subst (λ (specs : List Spec). IsFirst captures specs steps fault) asked.first first),
+)

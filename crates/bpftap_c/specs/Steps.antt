@@ -1,0 +1,64 @@
+-- Steps that are played to listeners over captures.
+use Rattle.std.specs.Prelude.{◌≡◌, ◌==◌, ◌⊎◌, ℕ, List, Option, Some, None, map, if◌then◌else◌}
+use Rattle.savefile.specs.declared.fault.Fault.{Fault as RecordFault}
+use Rattle.tap_steps.specs.declared.filters.Spec.{Spec}
+use Rattle.tap_steps.specs.declared.step.Step.{Step}
+use Rattle.tap_steps.specs.declared.playlist.PlacedPacket.{PlacedPacket}
+use Rattle.tap_steps.specs.declared.report.Report.{Report}
+use Rattle.tap.specs.Headline.{Replays}
+use Rattle.tap.specs.Refusals.{IsFirst, NoneStands}
+use Rattle.cli_text.specs.Files.{IsFileOf}
+use Rattle.cli_steps.specs.Listeners.{IsListenerLine}
+use Rattle.cli_steps.specs.Script.{IsStepLine}
+use Rattle.cli_steps.specs.Stepping.{IsRefusedFiles}
+use Rattle.cli_steps.specs.Printed.{printed_reports}
+use Rattle.bpftap_c.specs.declared.outcome.BpftapResult.{BpftapResult}
+use Rattle.bpftap_c.specs.declared.outcome.Failure.{Failure}
+use Rattle.bpftap_c.specs.declared.outcome.Failure.TheVariants.{NoMemory, Lines, Replay}
+use Rattle.bpftap_c.specs.declared.steps.BpftapCapture.{BpftapCapture}
+use Rattle.bpftap_c.specs.declared.steps.BpftapReplay.{BpftapReplay}
+use Rattle.bpftap_c.specs.Memory.{PutsText}
+use Rattle.bpftap_c.specs.Outcome.{capture_code, capture_place, code_of, number_of, place_of, size_of}
+
+-- the bytes of each capture
+abbrev pub texts_of : List BpftapCapture → List (List ℕ)
+texts_of captures = map (λ c. c.bytes.now) captures
+
+-- The two texts say listeners and steps. Their replay gave reports, no fault applies, and this is the text of the reports.
+pub record IsReported (listeners script : List ℕ) (captures : List (List ℕ)) (text : List ℕ) (record_fault : Option (ℕ × RecordFault)) : Type 0 where
+  pub specs : List Spec
+  pub steps : List Step
+  pub of_listeners : IsFileOf IsListenerLine listeners specs
+  pub of_script : IsFileOf IsStepLine script steps
+  pub playlist : List PlacedPacket
+  pub reports : List Report
+  pub replays : Replays captures specs steps playlist record_fault reports
+  pub none_stands : NoneStands captures specs steps
+  pub is : text ≡ printed_reports reports
+
+-- Why there are no reports: the first bad line, the first fault of the replay that applies, or out of memory.
+abbrev pub IsUnplayed : List ℕ → List ℕ → List (List ℕ) → Failure → Type 0
+IsUnplayed listeners script captures (Lines fault) = IsRefusedFiles listeners script fault
+IsUnplayed listeners script captures (Replay fault) =
+    (specs : List Spec) × (steps : List Step)
+    × IsFileOf IsListenerLine listeners specs × IsFileOf IsStepLine script steps × IsFirst captures specs steps fault
+IsUnplayed listeners script captures NoMemory = Unit {0}
+IsUnplayed listeners script captures other = ⊥
+
+-- What a call returns that put the text: the record fault that a capture ended with, if the text found room, and else what `put` says.
+abbrev pub replay_of : BpftapResult → Option (ℕ × RecordFault) → BpftapReplay
+replay_of put None = record { fault = put.fault; number = 0; size = put.size; place = put.place }
+replay_of put (Some f) =
+    if put.fault == 0 then record { fault = capture_code f.1; number = f.0; size = put.size; place = capture_place f.1 }
+    else record { fault = put.fault; number = 0; size = put.size; place = put.place }
+
+-- what a call returns if there are no reports
+abbrev pub no_replay : Failure → BpftapReplay
+no_replay failure = record { fault = code_of failure; number = number_of failure; size = size_of failure; place = place_of failure }
+
+-- The text of the reports is put. Or there are none, and all is as it was.
+abbrev pub PutsReports : List ℕ → List ℕ → List (List ℕ) → List ℕ → List ℕ → BpftapReplay → Type 0
+PutsReports listeners script captures old new told =
+    ((text : List ℕ) × (record_fault : Option (ℕ × RecordFault)) × (put : BpftapResult) × IsReported listeners script captures text record_fault
+    × PutsText text old new put × (told ≡ replay_of put record_fault))
+    ⊎ ((failure : Failure) × IsUnplayed listeners script captures failure × (told ≡ no_replay failure) × (new ≡ old))
