@@ -94,14 +94,20 @@ def sweep(scene, commands, which):
 
 
 def is_wanting(seen):
-    """Whether out of memory is reported, with status 1, and nothing else."""
-    return re.fullmatch(rb"bpftap: (Capture \d+ )?NoMemory\n", seen.err) is not None and seen.status == 1
+    """Whether out of memory is reported, with status 1, and nothing else: for printing, for a capture, or for both."""
+    return re.fullmatch(rb"bpftap: NoMemory\n|(bpftap: NoMemory\n)?bpftap: Capture \d+ NoMemory\n", seen.err) is not None and seen.status == 1
+
+
+def lines_of(seen):
+    """What was printed. If memory for a later capture was refused, the counts of those before it follow, and are left out."""
+    return re.sub(rb"\d+ packets: .*\n$", b"", seen.out) if b"Capture" in seen.err else seen.out
 
 
 def check_beginning(scene, what, part, whole):
     """What was printed and written is a prefix of what it is undisturbed."""
     (seen, files), (wanted, texts) = part, whole
-    scene.check(f"printed {what}", wanted.out[: len(seen.out)], seen.out)
+    printed = lines_of(seen)
+    scene.check(f"printed {what}", wanted.out[: len(printed)], printed)
     scene.check(f"written {what}", [text[: len(one)] for one, text in zip(files, texts)], files)
 
 
