@@ -1,0 +1,53 @@
+//! A text as a JSON string.
+
+ghost use Rattle.std.specs.Prelude.{◌≡◌, ◌<◌, ◌++◌, OnOk, string_bytes};
+ghost use Rattle.cli_json.specs.Strings.{escaped, escape_text, json_string, needs_escape};
+
+use std::alloc::AllocError;
+
+/// Whether a JSON string has an escape for this byte: a quote, a backslash, or a control character.
+fn needs_escape(byte: u8) -> bool
+    ensures { result ≡ needs_escape byte }
+{
+    byte < 32 || byte == b'"' || byte == b'\\'
+}
+
+/// Appends the escape of a byte.
+fn put_escape(line: &mut String, byte: u8) -> Result<(), AllocError>
+    requires { byte < 128 }
+    ensures { OnOk result (string_bytes line.new ≡ string_bytes line.old ++ escape_text byte) }
+{
+    if byte < 32 {
+        write!(line, "\\u00{byte:02x}")
+    } else {
+        line.push_str("\\")?;
+        line.push(char::from(byte))
+    }
+}
+
+/// Appends a text, with an escape for each byte that needs one.
+fn put_escaped(line: &mut String, text: &str) -> Result<(), AllocError>
+    ensures { OnOk result (string_bytes line.new ≡ string_bytes line.old ++ escaped text.now) }
+{
+    let bytes = text.as_bytes();
+    let mut start = 0;
+    for at in 0..bytes.len() {
+        let byte = bytes[at];
+        if needs_escape(byte) {
+            line.push_str(&text[start..at])?;
+            put_escape(line, byte)?;
+            start = at + 1;
+        }
+    }
+    line.push_str(&text[start..])
+}
+
+/// Appends a text as a JSON string: in quotes, with `\"`, `\\`, and `\u00` with two digits for each control character below 32. All else
+/// stays as it is, in UTF-8. It fails if memory is refused; the line is then unspecified.
+pub fn put_string(line: &mut String, text: &str) -> Result<(), AllocError>
+    ensures { OnOk result (string_bytes line.new ≡ string_bytes line.old ++ json_string text.now) }
+{
+    line.push_str("\"")?;
+    put_escaped(line, text)?;
+    line.push_str("\"")
+}
