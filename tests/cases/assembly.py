@@ -205,9 +205,9 @@ ADVICE = [
     ("ret #1 /* end", "BadByte", "no word, number or sign: a comment begins with `;`, or is `/* .. */` on one line"),
     ("ret #08", "BadNumber", "write a number as 12, -1, 014 (octal) or 0xc, from -2147483648 to 4294967295"),
     ("L" * 33 + ": ret #1", "LongLabel", "a label has at most 32 bytes"),
-    ("RET #1", "UnknownName", "no instruction has this name: names are in small letters, and a comment begins with `;`"),
+    ("RET #1", "UnknownName", "no instruction has this name, or this label is a word of assembly: names are in small letters, comments begin with `;`"),
     ("one: ret #1", "LabelTwice", "an earlier line has this label: choose another"),
-    ("(005) ret #1", "BadPlace", "the number in parentheses counts the instructions before it: leave it out, and jump to labels"),
+    ("(005) ret #1", "BadPlace", "the number in parentheses counts the instructions before it: a line is missing or repeated, so print the image again"),
     ("ja nowhere", "NoLabel", "no line begins with this label and a colon"),
     ("ja one", "JumpBack", "a jump leads to a later line: the machine has no loops"),
 ]
@@ -234,4 +234,4 @@ def each_command_takes_assembly(scene):
     for words in "cut -s 0 -f bad.bpf in.pcap out.pcap", "explain -f bad.bpf in.pcap", "compare -f bad.bpf ip in.pcap", "check -f bad.bpf":
         seen = scene.run(f"--hints {words}")
         scene.check(f"hints of {words}", (seen.err.decode(), seen.status), (
-            "bpftap: BadOperand 2\n  line 2 is: ret #x\n  its form is: LABEL: NAME OPERAND, and docs/ASSEMBLY.md has the operands of each name\n", 1))
+            "bpftap: BadOperand 2\n  line 2 is: ret #x\n  write a number as #3, a jump as `jeq #3, LABEL`, a comment after `;`: docs/ASSEMBLY.md has the operands of each name\n", 1))

@@ -2,7 +2,7 @@
 
 `tests/vectors/codes.image` is what libpcap 1.10.3 prints (`bpf_image`) of the program of `codes.listing`, which has every code
 but 0x81, for which it has no name; `expression.*` are what `tcpdump -ddd` and `tcpdump -d` print of one expression, and
-`expressions.txt` has both of eighteen, with every addressing form: a line with the expression, the one and the other."""
+`expressions.txt` has both of seventeen, with every addressing form: a line with the expression, the one and the other."""
 import re
 
 from .common import IP, ROOT, case

@@ -54,7 +54,7 @@ pub fn is_assembly(text: &[u8]) -> bool
 /// The program of a text: of a decimal listing as [`read_listing`] reads it, or of assembly or an image as [`read_assembly`] does.
 /// [`is_assembly`] says which it is.
 ///
-/// The fault is that of the notation.
+/// The fault is that of the notation. `NoMemory` may come at any time for assembly.
 pub fn read_program(alloc: Global, text: &[u8]) -> Result<Program, ProgramTextFault>
     ensures ok { IfOk result (λ program. IsProgramText text.now program) }
     ensures fault { IfErr result (IsNoProgramText text.now) }

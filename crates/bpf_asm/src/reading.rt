@@ -85,7 +85,7 @@ fn read_lines(alloc: Global, text: &[u8]) -> Result<Vec<Line>, AssemblyFault>
 ///
 /// `TextTooLong` comes first. Then come the faults of lines, each with the number of its line and its [`Cause`](crate::Cause): first
 /// what is wrong with a line by itself, then with its label, place and jumps. In both, the first such line is named. `Program` comes
-/// if the instructions are no program, as [`Program::new`] says. `NoMemory` comes only if memory was refused.
+/// if the instructions are no program, as [`Program::new`] says. `NoMemory` may come at any time: no clause says that memory was refused.
 #[tactic(auto, unfolding(crate::specs::Assembly::assembled))]
 pub fn read_assembly(alloc: Global, text: &[u8]) -> Result<Program, AssemblyFault>
     ensures ok { IfOk result (λ program. assembled text.now ≡ Ok program) }

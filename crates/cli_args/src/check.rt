@@ -33,11 +33,11 @@ const CHECK_EXAMPLES: &str = "Examples:
 
 check prints a line with the number of instructions, then a line code jt jf k for each:
 tcpdump -ddd prints this form, and cut -f reads it. -d prints a line for each instruction with
-its name, as tcpdump -d does, and -dd an array of C. -f reads either form but the array, or
-assembly (docs/ASSEMBLY.md). -x prints the expression as it was read, on one line, even if its
+its name, as tcpdump -d does, and -dd an array of C. -f reads the first two, or assembly
+(docs/ASSEMBLY.md). -x prints the expression as it was read, on one line, even if its
 program is too long. -s applies to an expression, not to a listing. Write an expression that
 begins with - in parentheses; -x prints it so. The number after a fault's name is the byte of the
-expression at fault, from 0; docs/LANGUAGE.md has the language.
+expression at fault, from 0. `bpftap help expressions` prints the language on one page.
 
 Exit status: 0 the program is printed; 1 the expression or listing is refused or the program is
 too long, bad usage, or out of memory; 3 a file or standard output failed.";

@@ -108,12 +108,12 @@ fn advice_of(cause: Cause) -> &'static str {
             "write a number as 12, -1, 014 (octal) or 0xc, from -2147483648 to 4294967295",
         Cause::LongLabel => "a label has at most 32 bytes",
         Cause::UnknownName =>
-            "no instruction has this name: names are in small letters, and a comment begins with `;`",
+            "no instruction has this name, or this label is a word of assembly: names are in small letters, comments begin with `;`",
         Cause::BadOperand =>
-            "its form is: LABEL: NAME OPERAND, and docs/ASSEMBLY.md has the operands of each name",
+            "write a number as #3, a jump as `jeq #3, LABEL`, a comment after `;`: docs/ASSEMBLY.md has the operands of each name",
         Cause::LabelTwice => "an earlier line has this label: choose another",
         Cause::BadPlace =>
-            "the number in parentheses counts the instructions before it: leave it out, and jump to labels",
+            "the number in parentheses counts the instructions before it: a line is missing or repeated, so print the image again",
         Cause::NoLabel => "no line begins with this label and a colon",
         Cause::JumpBack => "a jump leads to a later line: the machine has no loops",
         Cause::JumpTooFar =>

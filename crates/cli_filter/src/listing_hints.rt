@@ -85,10 +85,10 @@ pub(crate) fn hint_invalid<E: HintSink>(fault: Invalid, text: &str, err: &mut E)
             err,
         ),
         Invalid::Cell(_) => give_hint(
-            "its K is a cell of the scratch memory, which has cells 0 to 15",
+            "the scratch memory has the cells 0 to 15",
             err,
         ),
-        Invalid::ZeroDivisor(_) => give_hint("its K is the divisor, and it is 0", err),
+        Invalid::ZeroDivisor(_) => give_hint("the divisor is 0", err),
         Invalid::NoReturn => give_hint(
             format_args!("the last instruction is not a return: is the {text} complete?"),
             err,
