@@ -36,6 +36,8 @@ pub(crate) enum Argument {
     Read,
     /// Whether only the exit status answers.
     Quiet(&'static str),
+    /// Whether JSON Lines are printed.
+    Json,
     /// An expression, as a word of its own, where no listing is given.
     Word,
 }
@@ -61,6 +63,7 @@ impl Argument {
             Argument::Unit => Ok(unit(alloc)),
             Argument::Read => read(alloc),
             Argument::Quiet(help) => Ok(quiet(alloc, help)),
+            Argument::Json => Ok(json(alloc)),
             Argument::Word => word(alloc),
         }
     }
@@ -169,6 +172,14 @@ fn read<'a>(alloc: Global) -> Result<Arg<'a>, AllocError> {
 /// Whether only the exit status answers.
 fn quiet<'a>(alloc: Global, help: &'a str) -> Arg<'a> {
     flag(alloc, "quiet", 'q', help)
+}
+
+/// Whether JSON Lines are printed.
+fn json<'a>(alloc: Global) -> Arg<'a> {
+    Arg::new(alloc, "json")
+        .long("json")
+        .action(ArgAction::SetTrue)
+        .help("Print JSON Lines: one object for each line; faults too")
 }
 
 /// An expression, as a word of its own, where no listing is given.

@@ -2,7 +2,7 @@
 
 use crate::arguments::Argument;
 use crate::subcommand::subcommand;
-use clap::{ArgMatches, Command};
+use clap::{ArgGroup, ArgMatches, Command};
 use cli_text::fields::snapshot_length;
 use std::alloc::{AllocError, Global};
 
@@ -20,6 +20,8 @@ pub struct CheckWords<'a> {
     pub named: u8,
     /// Whether the expression is printed as it was read, and no program.
     pub read: bool,
+    /// Whether the expression as it was read and the program are printed as JSON.
+    pub json: bool,
 }
 
 const CHECK_EXAMPLES: &str = "Examples:
@@ -33,22 +35,24 @@ const CHECK_EXAMPLES: &str = "Examples:
 
 check prints a line with the number of instructions, then a line code jt jf k for each:
 tcpdump -ddd prints this form, and cut -f reads it. -d prints a line for each instruction with
-its name, as tcpdump -d does, and -dd an array of C. -f reads the first two, or assembly
-(docs/ASSEMBLY.md). -x prints the expression as it was read, on one line, even if its
-program is too long. -s applies to an expression, not to a listing. Write an expression that
+its name, as tcpdump -d does, and -dd an array of C. -f reads either form but the array, or
+assembly (docs/ASSEMBLY.md). -x prints the expression as it was read, on one line, even if its
+program is too long. --json prints one object: the expression as read, and the instructions with
+their names and numbers. -s applies to an expression, not to a listing. Write an expression that
 begins with - in parentheses; -x prints it so. The number after a fault's name is the byte of the
-expression at fault, from 0. `bpftap help expressions` prints the language on one page.
+expression at fault, from 0; docs/LANGUAGE.md has the language.
 
 Exit status: 0 the program is printed; 1 the expression or listing is refused or the program is
 too long, bad usage, or out of memory; 3 a file or standard output failed.";
 
-static ARGUMENTS: [Argument; 5] = [
+static ARGUMENTS: [Argument; 6] = [
     Argument::Count(
         "named",
         'd',
         "Print instructions by name, as tcpdump -d does; -dd: as an array of C",
     ),
     Argument::Read,
+    Argument::Json,
     Argument::DefaultSnap,
     Argument::Text(
         "listing",
@@ -59,15 +63,25 @@ static ARGUMENTS: [Argument; 5] = [
     Argument::Word,
 ];
 
+/// In what form the program is printed: JSON has all of the others.
+fn form_group<'a>(alloc: Global) -> Result<ArgGroup<'a>, AllocError> {
+    ArgGroup::new(alloc, "form")
+        .arg("named")?
+        .arg("read")?
+        .arg("json")
+}
+
 /// The subcommand.
 pub fn check_usage<'a>(alloc: Global) -> Result<Command<'a>, AllocError> {
+    let form = form_group(alloc)?;
     subcommand(
         alloc,
         "check",
         "Print the program of a filter expression, or say what is wrong with it",
         CHECK_EXAMPLES,
         &ARGUMENTS,
-    )
+    )?
+    .group(form)
 }
 
 /// The words that were found, nothing if one is missing or the snapshot length is invalid.
@@ -78,5 +92,6 @@ pub fn check_words<'a>(matches: &ArgMatches<'a>) -> Option<CheckWords<'a>> {
         snap: snapshot_length(matches.get_str("snap")?.as_bytes())?,
         named: matches.get_count("named"),
         read: matches.get_flag("read"),
+        json: matches.get_flag("json"),
     })
 }

@@ -29,6 +29,8 @@ pub struct CutWords<'a> {
     pub unit: Unit,
     /// Whether the packets are counted on standard error.
     pub counted: bool,
+    /// Whether the counts and faults are printed as JSON.
+    pub json: bool,
     /// The path of the capture that is read.
     pub input: &'a str,
     /// The path of the capture that is written.
@@ -97,7 +99,7 @@ pub fn asks_hints<S: AsStr>(words: &[S]) -> bool {
     }
 }
 
-static CUT: [Argument; 8] = [
+static CUT: [Argument; 9] = [
     Argument::Snap,
     Argument::Listing,
     Argument::Text(
@@ -113,6 +115,7 @@ static CUT: [Argument; 8] = [
         'c',
         "Print on standard error how many of the packets were written",
     ),
+    Argument::Json,
     Argument::Path(
         "IN",
         "Capture to read: a classic savefile of Ethernet frames",
@@ -333,6 +336,7 @@ fn cut_words<'a>(matches: &ArgMatches<'a>) -> Option<CutWords<'a>> {
         order: order_of(matches),
         unit: unit_of(matches),
         counted: matches.get_flag("counted"),
+        json: matches.get_flag("json"),
         input: matches.get_str("IN")?,
         output: matches.get_str("OUT")?,
     })

@@ -19,6 +19,8 @@ pub struct ExplainWords<'a> {
     pub place: Option<u64>,
     /// Whether `-q` is given: nothing is printed, and the status says whether a packet is accepted.
     pub quiet: bool,
+    /// Whether `--json` is given.
+    pub json: bool,
     /// The paths of the captures, in order.
     pub inputs: Vec<&'a str>,
 }
@@ -38,6 +40,8 @@ count from 0 in each IN; tcpdump and Wireshark count packets from 1. Several IN 
 up to the first fault, and the counts are of all; -p explains the packet at PLACE of each. With -q
 the first packet that is accepted ends the reading, as with grep -q:
   if bpftap explain -q -e 'tcp port 8080' examples/veth.pcap; then echo seen; fi
+With --json each packet is an object on a line of its own, and so are the counts; -p has no JSON:
+  bpftap explain --json -e 'tcp port 8080' examples/veth.pcap | jq -r .answer | sort | uniq -c
 
 Exit status: 0 clean, with -q: a packet is accepted; 1 bad usage, invalid input, no packet at
 PLACE, or out of memory; 2 a torn or bad record, after the packets before it; 3 a file or device
@@ -52,7 +56,7 @@ fn filter_group<'a>(alloc: Global) -> Result<ArgGroup<'a>, AllocError> {
         .arg("listing")
 }
 
-static ARGUMENTS: [Argument; 6] = [
+static ARGUMENTS: [Argument; 7] = [
     Argument::DefaultSnap,
     Argument::Text(
         "expr",
@@ -68,6 +72,7 @@ static ARGUMENTS: [Argument; 6] = [
         "Explain only this packet, counted from 0, in full",
     ),
     Argument::Quiet("Print nothing, and end with status 0 if a packet is accepted, else with 4"),
+    Argument::Json,
     Argument::Paths(
         "IN",
         "Captures to read, in order: classic savefiles of Ethernet frames",
@@ -77,6 +82,11 @@ static ARGUMENTS: [Argument; 6] = [
 /// One packet in full, or nothing but a status: at most one of these.
 fn shown_group<'a>(alloc: Global) -> Result<ArgGroup<'a>, AllocError> {
     ArgGroup::new(alloc, "shown").arg("place")?.arg("quiet")
+}
+
+/// One packet in full has no form in JSON.
+fn form_group<'a>(alloc: Global) -> Result<ArgGroup<'a>, AllocError> {
+    ArgGroup::new(alloc, "form").arg("place")?.arg("json")
 }
 
 /// The subcommand, of which no filter is wanted.
@@ -94,7 +104,11 @@ fn bare_command<'a>(alloc: Global) -> Result<Command<'a>, AllocError> {
 pub fn explain_usage<'a>(alloc: Global) -> Result<Command<'a>, AllocError> {
     let filter = filter_group(alloc)?;
     let shown = shown_group(alloc)?;
-    bare_command(alloc)?.group(filter)?.group(shown)
+    let form = form_group(alloc)?;
+    bare_command(alloc)?
+        .group(filter)?
+        .group(shown)?
+        .group(form)
 }
 
 /// The place of a packet, where one is given; nothing inside where it is no number.
@@ -127,6 +141,7 @@ pub fn explain_words<'a>(
         listing: matches.get_str("listing"),
         place,
         quiet: matches.get_flag("quiet"),
+        json: matches.get_flag("json"),
         inputs: Vec::from_slice(alloc, inputs)?,
     }))
 }
