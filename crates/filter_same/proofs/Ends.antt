@@ -1,5 +1,5 @@
 -- From graphs to what two expressions accept.
-use Rattle.std.proofs.Common.{◌≡◌, ℕ, ◌<◌, Bool, true, false, List, length, refl, sym, ap, ◌∙◌, arith}
+use Rattle.std.proofs.Common.{◌≡◌, ℕ, ◌+◌, ◌%◌, ◌<◌, Bool, true, false, List, length, refl, sym, ap, ◌∙◌, arith}
 use Rattle.std.specs.Prelude.{if◌then◌else◌, nat_le, bit_and, Option, Some, None}
 use Rattle.std.proofs.lemmas.Bool.{eqb-true, false≢true}
 use Rattle.std.proofs.lemmas.Nat.{and_le_r}
@@ -47,11 +47,16 @@ agree-accepts g h header l r i t u ml mr gives all p ok head =
 pub no-header : (t u : Tree) → AcceptSameOf None t u → AcceptSame t u
 no-header t u h p bytes wire = h p (record { bytes = bytes; wire = wire }) tt
 
-pub each-header : (t u : Tree) → ((n : ℕ) → n < 16 → AcceptSameOf (Some n) t u) → AcceptSame t u
+turned : (m : ℕ) → m < 16 → ((m + 11) % 16 + 5) % 16 ≡ m
+turned m less = omega arith
+
+pub each-header : (t u : Tree) → ((n : ℕ) → n < 16 → AcceptSameOf (Some ((n + 5) % 16)) t u) → AcceptSame t u
 each-header t u each p bytes wire = by (byte 14 p) refl
   where
     by : (b : Option ℕ) → byte 14 p ≡ b → accepts t p ≡ accepts u p
     by None none = each 0 (omega arith) p (record { bytes = bytes; wire = wire }) (λ b there. absurd (let e : None ≡ Some b = sym none ∙ there in let f : ⊥ = cc in f))
     by (Some n) is =
-        each (bit_and n 15) (omega (arith, and_le_r n 15)) p (record { bytes = bytes; wire = wire })
-        (λ b there. let e : Some n ≡ Some b = sym is ∙ there in let f : b ≡ n = cc in ap (λ k. bit_and k 15) f)
+        let m = bit_and n 15 in
+        let small : m < 16 = omega (arith, and_le_r n 15) in
+        each ((m + 11) % 16) (omega arith) p (record { bytes = bytes; wire = wire })
+        (λ b there. let e : Some n ≡ Some b = sym is ∙ there in let f : b ≡ n = cc in ap (λ k. bit_and k 15) f ∙ sym (turned m small))

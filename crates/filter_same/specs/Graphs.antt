@@ -3,7 +3,7 @@ use Rattle.std.specs.Prelude.{◌≡◌, ⊤, ℕ, zero, suc, ◌+◌, ◌-◌, 
 use Rattle.filter_same.specs.declared.answer.Answer.{Answer}
 use Rattle.filter_same.specs.declared.answer.Answer.TheVariants.{Final, Never}
 use Rattle.filter_same.specs.declared.answer.Operation.{Operation}
-use Rattle.filter_same.specs.declared.answer.Operation.TheVariants.{And, Or, Agree}
+use Rattle.filter_same.specs.declared.answer.Operation.TheVariants.{And, Or, Agree, Apart}
 use Rattle.filter_same.specs.declared.table.Node.{Node}
 use Rattle.filter_same.specs.declared.table.Node.TheVariants.{Leaf, Branch}
 
@@ -33,11 +33,21 @@ same_threshold None (Some n) = false
 same_threshold (Some n) None = false
 same_threshold (Some n) (Some m) = n == m
 
+-- whether two answers are never Yes and No: No where they are, with as many captured bytes as both need
+abbrev pub apart_answer : Answer → Answer → Answer
+apart_answer Never second = Final 0 true
+apart_answer (Final need says) Never = Final 0 true
+apart_answer (Final need true) (Final more true) = Final 0 true
+apart_answer (Final need true) (Final more false) = Final (max need more) false
+apart_answer (Final need false) (Final more true) = Final (max need more) false
+apart_answer (Final need false) (Final more false) = Final 0 true
+
 -- an operation on two answers; `Agree` answers Yes where both accept from the same number of bytes on, else No
 abbrev pub joined : Operation → Answer → Answer → Answer
 joined And a b = and_answer a b
 joined Or a b = or_answer a b
 joined Agree a b = Final 0 (same_threshold (accepted_from a) (accepted_from b))
+joined Apart a b = apart_answer a b
 
 -- what a node answers at an assignment of bits, by the answers before it
 abbrev pub answer_of : (ℕ → Bool) → List Answer → Node → Answer

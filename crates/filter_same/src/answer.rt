@@ -1,7 +1,7 @@
 //! Answers, and operations on them.
 
 ghost use Rattle.std.specs.Prelude.{◌≡◌, IsTrue};
-ghost use Rattle.filter_same.specs.Graphs.{joined, accepted_from, and_answer, or_answer};
+ghost use Rattle.filter_same.specs.Graphs.{joined, accepted_from, and_answer, or_answer, apart_answer};
 ghost use Rattle.filter_same.specs.declared.answer.Answer.{Answer};
 
 /// An answer, and how many captured bytes it needs.
@@ -20,6 +20,8 @@ pub(crate) enum Operation {
     Or,
     /// Yes where both accept from the same number of captured bytes on, or neither ever does; else No.
     Agree,
+    /// No where one says Yes and the other No, from as many captured bytes on as both need; else Yes.
+    Apart,
 }
 
 impl Answer {
@@ -58,6 +60,21 @@ impl Answer {
             _ => None,
         }
     }
+
+    /// Whether two answers are never Yes and No: No where they are, from as many captured bytes on as both need.
+    fn apart(self, second: Answer) -> Answer
+        ensures { result ≡ apart_answer self second }
+    {
+        match (self, second) {
+            (Answer::Final(need, true), Answer::Final(more, false)) => {
+                Answer::Final(need.max(more), false)
+            }
+            (Answer::Final(need, false), Answer::Final(more, true)) => {
+                Answer::Final(need.max(more), false)
+            }
+            _ => Answer::Final(0, true),
+        }
+    }
 }
 
 impl Operation {
@@ -71,6 +88,7 @@ impl Operation {
             Operation::Agree => {
                 Answer::Final(0, first.accepted_from() == second.accepted_from())
             }
+            Operation::Apart => first.apart(second),
         }
     }
 
@@ -82,6 +100,7 @@ impl Operation {
             (Operation::And, Answer::Final(_, says)) => !says,
             (Operation::Or, Answer::Final(_, says)) => says,
             (Operation::Agree, _) => false,
+            (Operation::Apart, _) => false,
             (_, Answer::Never) => true,
         }
     }
@@ -101,6 +120,6 @@ impl Operation {
     pub(crate) fn keeps_same(self) -> bool
         ensures { IsTrue result → (answer : Answer) → joined self answer answer ≡ answer }
     {
-        self != Operation::Agree
+        matches!(self, Operation::And | Operation::Or)
     }
 }

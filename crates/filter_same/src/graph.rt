@@ -73,7 +73,7 @@ impl Graph {
     }
 
     /// The node at a place.
-    fn node(&self, place: usize) -> Node
+    pub fn node(&self, place: usize) -> Node
         requires { place < length self.now }
         ensures node { result ≡ slice_index_or self.now place (Node.Leaf Answer.Never) }
         ensures before { IsBefore place result }

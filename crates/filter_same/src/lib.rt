@@ -9,9 +9,12 @@ mod case;
 mod compare;
 mod fields;
 mod graph;
+mod plain;
 mod primitives;
 mod sameness;
 mod table;
 mod trees;
+mod witness;
 
 pub use sameness::{Cause, Sameness, decide};
+pub use witness::Witness;

@@ -90,12 +90,18 @@ fn decided(
 ) {
     let (first, second) = (expression(rt, first), expression(rt, second));
     let found = decide(rt.alloc(), &first, &second, budget).expect(rt, "there is memory");
-    same(rt, found, wanted);
+    same(rt, found == wanted, true);
 }
 
 #[test]
 fn what_is_not_decided_has_a_cause(rt: HostRuntime) {
-    decided(&rt, "tcp", "udp", 1000, Sameness::NotDecided(Cause::Graphs));
+    decided(
+        &rt,
+        "ip",
+        "ip and greater 14",
+        1000,
+        Sameness::NotDecided(Cause::Graphs),
+    );
     decided(
         &rt,
         "tcp",

@@ -1,0 +1,164 @@
+//! Packets that show a difference.
+
+ghost use Rattle.std.specs.Prelude.{◌<◌, ◌≤◌, length, IfSome};
+
+use crate::answer::Answer;
+use crate::graph::Graph;
+use crate::plain::{LENGTH, Plain};
+use crate::table::{Node, Stop};
+use std::alloc::Global;
+
+/// The longest Ethernet frame, without its checksum. A longer packet is captured only as far as an answer needs.
+const LONGEST: u32 = 1514;
+
+/// A packet: its captured bytes, and its length on the wire in bytes.
+#[derive(Debug, PartialEq, Eq, Drop)]
+pub struct Witness {
+    pub bytes: Vec<u8>,
+    pub wire: u32,
+}
+
+/// A bit by its name, and what it is.
+#[derive(Clone, Copy, Debug)]
+struct Bit {
+    name: u32,
+    one: bool,
+}
+
+impl Bit {
+    /// A length on the wire with this bit.
+    fn wire(self, wire: u32) -> u32 {
+        if self.name >= 32 {
+            return wire;
+        }
+        let place = 1u32 << (31 - self.name);
+        if self.one {
+            wire | place
+        } else {
+            wire & !place
+        }
+    }
+
+    /// Writes the bit into a frame, if the frame has it.
+    fn write(self, frame: &mut [u8]) {
+        if self.name < 32 {
+            return;
+        }
+        let name = self.name - 32;
+        let place = 0x80u8 >> (name % 8);
+        let offset = (name / 8) as usize;
+        if offset < frame.len() {
+            let byte = frame[offset];
+            frame[offset] = if self.one {
+                byte | place
+            } else {
+                byte & !place
+            };
+        }
+    }
+}
+
+impl Graph {
+    /// One step down to an answer other than Yes, if there is one to take: the bit that a node asks for, and the node after it. Where both
+    /// ways lead to such an answer, it takes that of the plain frame.
+    fn step_down(&self, place: usize, plain: Plain) -> Option<(Bit, usize)>
+        requires place { place < length self.now }
+        requires header { plain.header < 16 }
+        ensures less { IfSome result (λ step. step.1 < place) }
+    {
+        let Node::Branch(name, zero, one) = self.node(place) else {
+            return None;
+        };
+        let usual = plain.is_set(name);
+        let (there, other) = if usual { (one, zero) } else { (zero, one) };
+        if self.is(there, Answer::Final(0, true)) {
+            Some((Bit { name, one: !usual }, other))
+        } else {
+            Some((Bit { name, one: usual }, there))
+        }
+    }
+
+    /// The bits on the way down, and the answer there.
+    fn way_down(&self, alloc: Global, from: usize, plain: Plain) -> Result<(Vec<Bit>, Answer), Stop>
+        requires from { from < length self.now }
+        requires header { plain.header < 16 }
+    {
+        let mut bits = Vec::new(alloc);
+        let mut place = from;
+        while let Some((bit, next)) = self.step_down(place, plain) {
+            if bits.push(bit).is_err() {
+                return Err(Stop::Memory);
+            }
+            place = next;
+        }
+        match self.node(place) {
+            Node::Leaf(says) => Ok((bits, says)),
+            Node::Branch(_, _, _) => Ok((bits, Answer::Never)),
+        }
+    }
+
+    /// A packet whose bits lead from a node to a No, with as many captured bytes as that needs, if there is one.
+    pub fn witness(
+        &self,
+        alloc: Global,
+        from: usize,
+        header: Option<u32>,
+    ) -> Result<Option<Witness>, Stop>
+        requires from { from < length self.now }
+        requires header { IfSome header (λ n. n < 16) }
+    {
+        let plain = Plain {
+            header: header.unwrap_or(5),
+        };
+        let (bits, says) = self.way_down(alloc, from, plain)?;
+        let Answer::Final(need, false) = says else {
+            return Ok(None);
+        };
+        let wire = wire_of(&bits, need);
+        let bytes = frame(alloc, &bits, plain, captured(wire, need))?;
+        Ok(Some(Witness { bytes, wire }))
+    }
+}
+
+/// A length on the wire with these bits, and the others from another length.
+fn wire_from(bits: &[Bit], free: u32) -> u32 {
+    let mut wire = free;
+    for bit in bits {
+        wire = bit.wire(wire);
+    }
+    wire
+}
+
+/// A length on the wire with these bits: that of the plain frame, or else one that is at least `need`, if that can be.
+fn wire_of(bits: &[Bit], need: u32) -> u32 {
+    let usual = wire_from(bits, LENGTH);
+    if usual >= need {
+        return usual;
+    }
+    let least = wire_from(bits, need);
+    if least >= need {
+        return least;
+    }
+    wire_from(bits, u32::MAX)
+}
+
+/// How many bytes are captured: the whole packet, if it is not long, and at least `need`.
+fn captured(wire: u32, need: u32) -> u32 {
+    if wire > LONGEST { need } else { wire.max(need) }
+}
+
+/// A frame of so many bytes with these bits, which is else the plain one.
+fn frame(alloc: Global, bits: &[Bit], plain: Plain, size: u32) -> Result<Vec<u8>, Stop>
+    requires { plain.header < 16 }
+{
+    let mut frame = Vec::new(alloc);
+    for offset in 0..size {
+        if frame.push(plain.byte(offset)).is_err() {
+            return Err(Stop::Memory);
+        }
+    }
+    for bit in bits {
+        bit.write(&mut frame);
+    }
+    Ok(frame)
+}
