@@ -69,6 +69,40 @@ def the_count_comes_after_the_hints(scene):
     scene.expect("cut -s 0 -c torn.pcap out.pcap", 2, fault_lines("TornRecord 1") + "1 of 1 packets\n")
 
 
+@case
+def several_captures_are_cut_into_one(scene):
+    """OUT has what a split of all IN into it has, with its status, and `-c` counts the packets of all, up to the first fault."""
+    two = HEADER + ARP_RECORD + IP_RECORD
+    scene.put({"two.pcap": two, "one.pcap": WHOLE, "torn.pcap": TORN, "no.pcap": "no savefile, but a text", "kept.pcap": "kept",
+               "ip.bpf": IP, "lines.txt": "0 split.pcap ip\n"})
+    for captures, status, faults, kept, all_of in [
+            ("two.pcap one.pcap", 0, [], 2, 3), ("one.pcap two.pcap one.pcap", 0, [], 3, 4),
+            ("two.pcap torn.pcap one.pcap", 2, ["Capture 1 TornRecord 1"], 2, 3), ("two.pcap no.pcap one.pcap", 1, ["Capture 1 ShortHeader"], 1, 2),
+            ("two.pcap none.pcap one.pcap", 3, ["Capture 1 Device"], 1, 2)]:
+        counts = f"{kept} of {all_of} packets\n"
+        for words in ("-s 0 -e ip", "-s 0 -f ip.bpf"):
+            scene.expect(f"cut {words} {captures} out.pcap", status, fault_lines(*faults))
+            scene.check(f"OUT of {captures}", scene.read("out.pcap"), HEADER + IP_RECORD * kept)
+            scene.expect(f"cut -c {words} {captures} out.pcap", status, fault_lines(*faults) + counts)
+        scene.expect(f"split lines.txt {captures}", status, fault_lines(*faults), f"split.pcap {kept} of {all_of}\n")
+        scene.check(f"split of {captures}", scene.read("split.pcap"), scene.read("out.pcap"))
+    # The first header is refused, and OUT stays; or OUT fails, and nothing is counted.
+    scene.refuse("cut -c -s 0 no.pcap one.pcap kept.pcap", 1, "Capture 0 ShortHeader")
+    scene.refuse("cut -c -s 0 none.pcap one.pcap kept.pcap", 3, "Capture 0 Device")
+    scene.refuse("cut -c -s 0 one.pcap two.pcap gone/out.pcap", 3, "Device gone/out.pcap")
+    scene.refuse("cut -c -s 0 one.pcap torn.pcap /dev/full", 3, "Device /dev/full", "Capture 1 TornRecord 1")
+    # OUT is no file that is read; a missing IN could be made as OUT.
+    for out in ("one.pcap", "./two.pcap", "ip.bpf", "none.pcap"):
+        scene.refuse(f"cut -s 0 -f ip.bpf two.pcap one.pcap none.pcap {out}", 1, f"SameFile {out}")
+    # The header of OUT is that of one capture; a capture may come from a pipe, and OUT be one.
+    scene.expect("cut -s 5 -o big -u nano /dev/stdin one.pcap out.pcap", streams="< one.pcap")
+    nano = bytes.fromhex("00000002 00000000 00000005 0000000e ffffffffff")
+    scene.check("OUT", scene.read("out.pcap"), bytes.fromhex("a1b23c4d 00020004 00000000 00000000 00000005 00000001") + nano * 2)
+    scene.expect("cut -s 0 one.pcap one.pcap /dev/stdout", out=HEADER + IP_RECORD * 2)
+    seen = scene.run_unread("cut -s 0 one.pcap two.pcap /dev/stdout")
+    scene.check("OUT that nobody reads", (seen.err, seen.status), (b"", 3))
+
+
 # Options of a cut of one IPv4 record, and what OUT has then.
 OPTIONS = [
     (

@@ -9,7 +9,6 @@ WRONG = [
     "cut",
     "cut -s 0 in.pcap",
     "cut -s 0 -f x in.pcap",
-    "cut -s 0 -f x in.pcap out.pcap more",
     "cut -s 262145 -f x in.pcap out.pcap",
     "cut -s +5 -f x in.pcap out.pcap",
     "cut -s '' -f x in.pcap out.pcap",

@@ -17,7 +17,7 @@ use std::alloc::{AllocError, Global};
 use std::convert::AsStr;
 
 /// What one call of `bpftap cut` asks for.
-#[derive(Clone, Copy)]
+#[derive(Drop)]
 pub struct CutWords<'a> {
     /// The snapshot length, 1 to [`cli_text::MAX_SNAP`].
     pub snap: u32,
@@ -31,8 +31,8 @@ pub struct CutWords<'a> {
     pub counted: bool,
     /// Whether the counts and faults are printed as JSON.
     pub json: bool,
-    /// The path of the capture that is read.
-    pub input: &'a str,
+    /// The paths of the captures that are read, in order.
+    pub inputs: Vec<&'a str>,
     /// The path of the capture that is written.
     pub output: &'a str,
 }
@@ -76,8 +76,10 @@ const CUT_EXAMPLES: &str = "Examples:
   bpftap cut -s 0 -e 'udp port 5353' examples/veth.pcap dns.pcap
   bpftap cut -s 0 -f examples/ip.bpf examples/veth.pcap ip.pcap
   bpftap cut -s 64 examples/veth.pcap headers.pcap     the first 64 bytes of every packet
+  bpftap cut -s 0 -e arp examples/veth.pcap examples/veth-big-nano.pcap arp.pcap
 
--e and -f exclude each other. Write an expression that begins with - in parentheses, or after
+The last path is OUT. Several IN are read in order, up to the first fault; -c counts the packets of
+all. -e and -f exclude each other. Write an expression that begins with - in parentheses, or after
 -e=, as in -e='-1 + len > 60'.
 
 Exit status: 0 clean; 1 bad usage, invalid input, or out of memory; 2 a torn or bad record, after
@@ -116,13 +118,13 @@ static CUT: [Argument; 9] = [
         "Print on standard error how many of the packets were written",
     ),
     Argument::Json,
-    Argument::Path(
+    Argument::Paths(
         "IN",
-        "Capture to read: a classic savefile of Ethernet frames",
+        "Captures to read, in order: classic savefiles of Ethernet frames",
     ),
     Argument::Path(
         "OUT",
-        "Capture to write; created once the filter and the header of IN are accepted",
+        "Capture to write; created once the filter and the first header of IN are accepted",
     ),
 ];
 
@@ -189,13 +191,17 @@ pub(crate) fn unit_of(matches: &ArgMatches<'_>) -> Unit {
     }
 }
 
-/// What the words of a subcommand of one capture, or of none, ask for; nothing where one is missing or wrong.
-fn single_request_of<'a>(name: &str, words: &ArgMatches<'a>) -> Option<Request<'a>> {
-    match name {
-        "check" => Some(Request::Check(check_words(words)?)),
-        "cut" => Some(Request::Cut(cut_words(words)?)),
-        _ => None,
-    }
+/// What the words of `check` ask for; nothing if one is missing or invalid.
+fn check_request_of<'a>(words: &ArgMatches<'a>) -> Option<Request<'a>> {
+    Some(Request::Check(check_words(words)?))
+}
+
+/// What the words of `cut` ask for; nothing if one is missing or invalid.
+fn cut_request_of<'a>(
+    alloc: Global,
+    words: &ArgMatches<'a>,
+) -> Result<Option<Request<'a>>, AllocError> {
+    Ok(cut_words(alloc, words)?.map(Request::Cut))
 }
 
 /// What the words of `steps` ask for; nothing where one is missing.
@@ -250,7 +256,9 @@ fn request_of<'a>(
         "split" => split_request_of(alloc, words),
         "explain" => explain_request_of(alloc, words),
         "compare" => compare_request_of(alloc, words),
-        _ => Ok(single_request_of(name, words)),
+        "cut" => cut_request_of(alloc, words),
+        "check" => Ok(check_request_of(words)),
+        _ => Ok(None),
     }
 }
 
@@ -328,16 +336,31 @@ fn bad_snap(alloc: Global, name: &str) -> Result<Error, AllocError> {
     }
 }
 
-fn cut_words<'a>(matches: &ArgMatches<'a>) -> Option<CutWords<'a>> {
-    Some(CutWords {
-        snap: snapshot_length(matches.get_str("snap")?.as_bytes())?,
+/// The snapshot length, `None` if it is invalid.
+fn snap_of(matches: &ArgMatches<'_>) -> Option<u32> {
+    snapshot_length(matches.get_str("snap")?.as_bytes())
+}
+
+/// The words that were found, `None` if one is missing, or if the snapshot length is invalid.
+fn cut_words<'a>(
+    alloc: Global,
+    matches: &ArgMatches<'a>,
+) -> Result<Option<CutWords<'a>>, AllocError> {
+    let Some(snap) = snap_of(matches) else {
+        return Ok(None);
+    };
+    let (Some(inputs), Some(output)) = (matches.get_strs("IN"), matches.get_str("OUT")) else {
+        return Ok(None);
+    };
+    Ok(Some(CutWords {
+        snap,
         listing: matches.get_str("listing"),
         expr: matches.get_str("expr"),
         order: order_of(matches),
         unit: unit_of(matches),
         counted: matches.get_flag("counted"),
         json: matches.get_flag("json"),
-        input: matches.get_str("IN")?,
-        output: matches.get_str("OUT")?,
-    })
+        inputs: Vec::from_slice(alloc, inputs)?,
+        output,
+    }))
 }

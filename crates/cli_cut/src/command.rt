@@ -1,5 +1,6 @@
 //! `bpftap cut` and `bpftap check`, over files.
 
+use crate::captures::cut_several;
 use crate::hints::{hint_cut, hint_print};
 use crate::paths::{is_standard_output, late_output, open_apart};
 use crate::plan::{read_filter, read_program};
@@ -35,10 +36,11 @@ type FileJob<'r, 'p, R> = Job<
 fn prepare<'r, 'p, R: Files + AllocGlobal, E: HintSink>(
     rt: &'r R,
     words: &CutWords<'p>,
+    input: &str,
     err: &mut E,
 ) -> Result<FileJob<'r, 'p, R>, Status> {
     let program = read_filter(rt, words, err)?;
-    let input = open_apart(rt, words, err)?;
+    let input = open_apart(rt, words, input, err)?;
     let output = late_output(rt, words.output, err)?;
     Ok(Job {
         program,
@@ -69,12 +71,13 @@ fn report_end<F: Files, R, W: Write + Drop, E: HintSink>(
     rt: &F,
     end: &CutEnd<ProbedInput<R>, ProbedOutput<W>>,
     words: &CutWords<'_>,
+    from: &str,
     err: &mut E,
 ) -> Status {
     if is_unread(end) && is_standard_output(rt, words.output) {
         return Status::Failed;
     }
-    let status = report_cut(end, words.input, words.output, err);
+    let status = report_cut(end, from, words.output, err);
     hint_cut(end, err);
     status
 }
@@ -83,6 +86,7 @@ fn report_end<F: Files, R, W: Write + Drop, E: HintSink>(
 fn cut_and_report<F: Files + AllocGlobal, R: Read + Drop, W: Write + Drop, E: HintSink>(
     rt: &F,
     words: &CutWords<'_>,
+    from: &str,
     job: Job<ProbedInput<R>, ProbedOutput<W>>,
     err: &mut E,
 ) -> Status {
@@ -101,22 +105,36 @@ fn cut_and_report<F: Files + AllocGlobal, R: Read + Drop, W: Write + Drop, E: Hi
         output,
     );
     let end = flush(end);
-    let status = report_end(rt, &end, words, err);
+    let status = report_end(rt, &end, words, from, err);
     if words.counted {
         let _ = report_count(&end, err);
     }
     status
 }
 
-/// `bpftap cut`: the filter is accepted, and the paths are compared, before IN is opened. OUT is made at its first write.
+/// Cuts the only IN.
+fn cut_one<R: Files + AllocGlobal, E: HintSink>(
+    rt: &R,
+    words: &CutWords<'_>,
+    input: &str,
+    err: &mut E,
+) -> Result<Status, Status> {
+    let job = prepare(rt, words, input, err)?;
+    Ok(cut_and_report(rt, words, input, job, err))
+}
+
+/// `bpftap cut`: the filter is accepted, and the paths are compared, before an IN is opened. OUT is made at its first write.
 pub fn cut_command<R: Files + AllocGlobal, E: HintSink>(
     rt: &R,
     words: &CutWords<'_>,
     err: &mut E,
 ) -> Status {
-    match prepare(rt, words, err) {
-        Ok(job) => cut_and_report(rt, words, job, err),
-        Err(status) => status,
+    let ended = match words.inputs.as_slice() {
+        [input] => cut_one(rt, words, *input, err),
+        _ => cut_several(rt, words, err),
+    };
+    match ended {
+        Ok(status) | Err(status) => status,
     }
 }
 

@@ -1,6 +1,7 @@
 //! `bpftap cut` and `bpftap check`.
 #![tactic(auto)]
 
+pub mod captures;
 pub mod command;
 mod hints;
 mod paths;

@@ -10,6 +10,9 @@ use cli_files::retried::Retried;
 use cli_report::probe::{ProbedInput, ProbedOutput};
 use cli_report::{FailureProbe, HintSink};
 use cli_text::Status;
+use cli_text::report::report_fault;
+use savefile::Fault;
+use std::alloc::{AllocError, Global};
 use std::fs;
 use std::fs::Files;
 use std::os::unix::fs::MetadataExt;
@@ -17,16 +20,48 @@ use std::os::unix::fs::MetadataExt;
 /// How many bytes of output are gathered before they are written.
 const OUTPUT_BUFFER: usize = 1 << 18;
 
-/// Opens IN, once no file can be lost: OUT is neither of the files that are read, nor the one that standard error goes to.
+/// OUT, which is made at its first write, with a buffer in front of it.
+pub(crate) type LateOutput<'r, 'p, R> = ProbedOutput<LateFile<'r, 'p, R>>;
+
+/// Opens the only IN, once no file can be lost: OUT is neither of the files that are read, nor the one that standard error goes to.
 pub(crate) fn open_apart<R: Files + AllocGlobal, E: HintSink>(
     rt: &R,
     words: &CutWords<'_>,
+    input: &str,
     err: &mut E,
 ) -> Result<ProbedInput<Retried<R::File>>, Status> {
-    let listing = words.listing.unwrap_or(words.input);
-    let read = [listing, words.input];
+    let read = [words.listing.unwrap_or(input), input];
     refuse_shared_files(rt, Opening::First, None, &read, &[words.output], err)?;
-    open_input(rt, words.input, err)
+    open_input(rt, input, err)
+}
+
+/// The paths of all files that are read.
+fn read_paths<'a>(alloc: Global, words: &CutWords<'a>) -> Result<Vec<&'a str>, AllocError> {
+    let mut paths = Vec::from_slice(alloc, words.inputs.as_slice())?;
+    if let Some(listing) = words.listing {
+        paths.push(listing)?;
+    }
+    Ok(paths)
+}
+
+/// Refuses, with a line on `err`, an OUT that is a file which is read, or the one that standard error goes to. Of several IN each is opened
+/// while OUT is written.
+pub(crate) fn check_paths<R: Files + AllocGlobal, E: HintSink>(
+    rt: &R,
+    words: &CutWords<'_>,
+    err: &mut E,
+) -> Result<(), Status> {
+    let Ok(read) = read_paths(rt.alloc(), words) else {
+        return Err(report_fault(Fault::NoMemory, Status::Refused, err));
+    };
+    refuse_shared_files(
+        rt,
+        Opening::Late,
+        None,
+        read.as_slice(),
+        &[words.output],
+        err,
+    )
 }
 
 /// Refuses a listing that is the file which its program is printed to.
@@ -51,7 +86,7 @@ pub(crate) fn late_output<'r, 'p, R: Files + AllocGlobal, E: HintSink>(
     rt: &'r R,
     path: &'p str,
     err: &mut E,
-) -> Result<ProbedOutput<LateFile<'r, 'p, R>>, Status> {
+) -> Result<LateOutput<'r, 'p, R>, Status> {
     let late = FailureProbe::new(LateFile::new(rt, path));
     match with_buffer(rt.alloc(), OUTPUT_BUFFER, late) {
         Ok(output) => Ok(output),

@@ -52,7 +52,8 @@ fn tally_line(tally: Tally) -> io::Result<Line>
     Ok(line)
 }
 
-fn report_tally<E: Write>(tally: Tally, err: &mut E) -> io::Result<()>
+/// Reports a tally, in a line `67 of 253 packets`.
+pub(crate) fn report_tally<E: Write>(tally: Tally, err: &mut E) -> io::Result<()>
     ensures { Takes (E.contents err.old) (E.contents err.new) result (tally_line tally) }
 {
     let line = tally_line(tally)?;

@@ -46,7 +46,7 @@ fn plan_of<'p, E: HintSink>(
     }
 }
 
-/// Empties the buffers in front of all OUTs. What fails only now is a fault of its OUT too.
+/// Empties the buffers in front of all OUTs.
 fn flush_all<W: Write>(parts: &mut [PartEnd<Counted<W>>]) {
     for part in parts {
         if part.sink.inner.flush().is_err() {
@@ -55,8 +55,8 @@ fn flush_all<W: Write>(parts: &mut [PartEnd<Counted<W>>]) {
     }
 }
 
-/// Splits captures, and empties the buffers in front of their OUTs.
-fn split_flushed<R: Source + Drop, W: Write + Drop>(
+/// Splits captures, and empties the buffers in front of their OUTs. What fails only then is a fault of its OUT too.
+pub fn split_flushed<R: Source + Drop, W: Write + Drop>(
     alloc: Global,
     captures: Vec<R>,
     parts: Vec<Part<Counted<W>>>,

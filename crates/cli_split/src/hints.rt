@@ -23,7 +23,7 @@ fn hint_part<W: Write + Drop, E: HintSink>(
 }
 
 /// Hints on the captures that were not written, and on the one that ended the reading.
-pub(crate) fn hint_split<R, W: Write + Drop, E: HintSink>(
+pub fn hint_split<R, W: Write + Drop, E: HintSink>(
     inputs: &[&str],
     lines: &[SplitLine<'_>],
     end: &SplitEnd<ProbedInput<R>, ProbedOutput<W>>,

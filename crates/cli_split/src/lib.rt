@@ -2,7 +2,7 @@
 #![tactic(auto)]
 
 pub mod command;
-mod hints;
+pub mod hints;
 pub mod part;
 mod paths;
 pub mod plan;

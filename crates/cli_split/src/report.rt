@@ -68,8 +68,8 @@ fn write_parts<W, O: Write>(
     Ok(())
 }
 
-/// Whether the parts were started.
-fn was_begun(end: Result<(), Stop>) -> bool
+/// Whether the parts were started: the header of the first capture was read.
+pub fn was_begun(end: Result<(), Stop>) -> bool
     ensures { result ≡ passes_header end }
 {
     match end {
@@ -129,6 +129,19 @@ fn report_stop<E: Write>(end: Result<(), Stop>, err: &mut E) -> Status
     }
 }
 
+/// Reports the OUT of each part that was not written whole, and what ended the reading, and returns the greatest of their statuses, as
+/// [`report_split`] does.
+pub fn report_faults<R, W, E: Write>(
+    lines: &[SplitLine<'_>],
+    end: &SplitEnd<R, W>,
+    err: &mut E,
+) -> Status
+    ensures { result ≡ split_status end.now }
+{
+    let parts = report_parts(lines, end.parts.as_slice(), err);
+    parts.max(report_stop(end.end, err))
+}
+
 /// Prints a line `OUT 67 of 253` for each part that was written whole, in the order of the lines: how many of how many packets. If the
 /// header of the first capture was not read it prints nothing. Then it reports that standard output failed, if it did; the OUT of each
 /// part that was not written whole; and what ended the reading. It returns the greatest of the statuses of these.
@@ -146,7 +159,5 @@ pub fn report_split<R, W, O: Write, E: Write>(
 {
     let printed = print_split(lines, end, out);
     let _ = report_output(&printed, err);
-    let parts = report_parts(lines, end.parts.as_slice(), err);
-    let stop = report_stop(end.end, err);
-    print_status(&printed).max(parts.max(stop))
+    print_status(&printed).max(report_faults(lines, end, err))
 }

@@ -1,0 +1,125 @@
+//! `bpftap cut` of several captures, one after the other: a split into one OUT.
+
+ghost use Rattle.std.specs.Prelude.{◌≡◌, slice_get};
+ghost use Rattle.cli_text.specs.Sending.{Takes};
+ghost use Rattle.cli_cut.specs.Captures.{first_told, part_told, total_told};
+
+use crate::paths::{LateOutput, check_paths, is_standard_output, late_output};
+use crate::plan::read_filter;
+use crate::report::report_tally;
+use bpfvm::Program;
+use cli_args::command_line::CutWords;
+use cli_files::captures::{Input, inputs};
+use cli_report::HintSink;
+use cli_report::probe::ProbedOutput;
+use cli_split::command::split_flushed;
+use cli_split::hints::hint_split;
+use cli_split::part::{Part, PartEnd};
+use cli_split::plan::SplitLine;
+use cli_split::report::{report_faults, was_begun};
+use cli_split::split::SplitEnd;
+use cli_text::Status;
+use cli_text::report::report_fault;
+use savefile::Fault;
+use std::fs::Files;
+use std::io;
+use std::io::{ErrorKind, Write};
+
+/// Reports how many of the packets were written, if OUT was written whole.
+fn report_part<W, E: Write>(part: &PartEnd<W>, err: &mut E) -> io::Result<()>
+    ensures { Takes (E.contents err.old) (E.contents err.new) result (part_told part.now) }
+{
+    match part.written {
+        Ok(()) => report_tally(part.tally, err),
+        Err(_) => Ok(()),
+    }
+}
+
+/// Reports how many of the packets of all captures were written, in a line `67 of 253 packets`, if the header of the first capture was
+/// read and OUT, the only part, was written whole. Packets count up to the fault that ended the reading. Else it reports nothing. The
+/// error is that of standard error, which took a prefix of the line.
+pub fn report_total<R, W, E: Write>(end: &SplitEnd<R, W>, err: &mut E) -> io::Result<()>
+    ensures { Takes (E.contents err.old) (E.contents err.new) result (total_told end.now) }
+{
+    if !was_begun(end.end) {
+        return Ok(());
+    }
+    match end.parts.get(0) {
+        Some(part) => report_part(part, err),
+        None => Ok(()),
+    }
+}
+
+/// What a cut of several captures came to, over files.
+type FilesEnd<'r, 'p, R> = SplitEnd<Input<'r, 'p, R>, LateOutput<'r, 'p, R>>;
+
+/// Cuts the captures. OUT is made at its first write.
+fn cut_captures<'r, 'p, R: Files + AllocGlobal>(
+    rt: &'r R,
+    words: &CutWords<'p>,
+    program: Program,
+    sink: LateOutput<'r, 'p, R>,
+) -> io::Result<FilesEnd<'r, 'p, R>> {
+    let alloc = rt.alloc();
+    let captures = inputs(rt, alloc, words.inputs.as_slice())?;
+    let mut parts = Vec::with_capacity(alloc, 1)?;
+    parts.push(Part {
+        program,
+        snap: words.snap,
+        sink,
+    })?;
+    split_flushed(alloc, captures, parts, words.order, words.unit)
+}
+
+/// Whether OUT failed since it is a pipe that nobody reads any more.
+fn is_unread<R, W: Write + Drop>(end: &SplitEnd<R, ProbedOutput<W>>) -> bool {
+    end.parts.iter().any(is_part_unread)
+}
+
+fn is_part_unread<W: Write + Drop>(part: &PartEnd<ProbedOutput<W>>) -> bool {
+    match (part.written, part.sink.inner.get_ref().failure()) {
+        (Err(_), Some(error)) => error.kind() == ErrorKind::BrokenPipe,
+        _ => false,
+    }
+}
+
+/// Reports how a cut of several captures ended, as a split into this OUT, and returns the exit status. That nobody reads standard output
+/// any more is not reported.
+fn report_captures<R: Files, E: HintSink>(
+    rt: &R,
+    words: &CutWords<'_>,
+    end: &FilesEnd<'_, '_, R>,
+    err: &mut E,
+) -> Status {
+    if is_unread(end) && is_standard_output(rt, words.output) {
+        return Status::Failed;
+    }
+    let lines = [SplitLine {
+        snap: words.snap,
+        output: words.output,
+        expression: words.expr.unwrap_or(""),
+    }];
+    let status = report_faults(&lines, end, err);
+    hint_split(words.inputs.as_slice(), &lines, end, err);
+    status
+}
+
+/// `bpftap cut` of several captures: the filter is accepted, and the paths are compared, before one is opened. Each is opened when it is
+/// read first, and OUT made at its first write.
+pub(crate) fn cut_several<R: Files + AllocGlobal, E: HintSink>(
+    rt: &R,
+    words: &CutWords<'_>,
+    err: &mut E,
+) -> Result<Status, Status> {
+    let program = read_filter(rt, words, err)?;
+    check_paths(rt, words, err)?;
+    let sink = late_output(rt, words.output, err)?;
+    let Ok(end) = cut_captures(rt, words, program, sink) else {
+        return Err(report_fault(Fault::NoMemory, Status::Refused, err));
+    };
+    let status = report_captures(rt, words, &end, err);
+    if words.counted {
+        let _ = report_total(&end, err);
+    }
+    Ok(status)
+}
