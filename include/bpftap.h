@@ -8,11 +8,14 @@
  *
  *   - A text, a capture or an array is a pointer and the number of its items. A text need not end with a zero byte.
  *   - What a call writes goes into memory of the caller. It takes that memory as a pointer and the number of items that it has room
- *     for, and writes nothing past those. A call that fails writes nothing, but for bpftap_cut and bpftap_steps at a record that cannot be
- *     read.
+ *     for, and writes nothing past those. A call that fails writes nothing there, but for these: bpftap_cut and bpftap_steps write what
+ *     comes before a record that cannot be read; bpftap_program_init a program that rejects every packet; bpftap_listener_open a closed
+ *     listener.
  *   - A text that a call writes is followed by a zero byte. `size` does not count that byte, but there has to be room for it.
  *   - Nothing is kept between calls, and nothing that is allocated is handed out. There is no global state, and nothing is printed.
  *     Calls may run at the same time in different threads.
+ *   - 128 KiB of stack are enough for ordinary texts. Texts of 8 KB took up to 384 KiB in bpftap_compile, and up to 820 KiB in
+ *     bpftap_why: give 1 MiB to a thread that takes texts from outside. This is measured, not proved.
  *
  * What the caller owes
  *
@@ -20,6 +23,7 @@
  *   - Memory that a call writes does not overlap any other memory that the same call is given.
  *   - Memory that a call reads has been initialised, and a program by bpftap_program_init, a reader by bpftap_open, a listener by
  *     bpftap_listener_open. From then on only the calls write to a listener and its buffers, one call at a time.
+ *   - The `fault` of a reader is BPFTAP_OK when it is given to bpftap_next: test it after bpftap_open.
  *   - `malloc`, `realloc` and `free` come from one allocator, and no call is made from a signal handler.
  */
 #ifndef BPFTAP_H
@@ -84,13 +88,13 @@ enum bpftap_fault {
     BPFTAP_COUNT_FULL = 73,      /* 2^64 - 1 records were read */
 
     /* The listener is not opened; also BPFTAP_BAD_SNAP. */
-    BPFTAP_BAD_CAPACITY = 80, /* a buffer has not the room that it needs */
+    BPFTAP_BAD_CAPACITY = 80, /* a buffer lacks the room that it needs, or has too much */
 
     /* Steps are not played; also those of an expression, a listener and a capture, with its number. */
     BPFTAP_LISTENERS = 88,      /* line `place` of the listeners, from 1, is not `SNAP CAPACITY EXPRESSION` */
     BPFTAP_SCRIPT = 89,         /* line `place` of the script, from 1, is no step */
     BPFTAP_STEPS_TOO_MANY = 90, /* there are more than 64 listeners, or more than 65,536 captures */
-    BPFTAP_NO_LISTENER = 91     /* step `place`, from 0, names a listener that there is not */
+    BPFTAP_NO_LISTENER = 91     /* step `place`, from 0, names a listener that does not exist */
 };
 
 #define BPFTAP_MAX_INSNS 512        /* instructions of a program */
@@ -145,7 +149,8 @@ struct bpftap_result bpftap_print(const char *text, size_t text_size, char *to, 
 
 /* ---- Programs that are run ---- */
 
-/* A program in memory of the caller: bpftap_program_size() bytes, aligned as malloc aligns. It needs no clean-up.
+/* A program in memory of the caller: bpftap_program_size() bytes, aligned as malloc aligns. The size is the same at every call of one
+ * version, and may differ in the next. A program needs no clean-up.
  *
  * bpftap_program_init checks the instructions once and puts them there. If it returns a fault (those of instructions), the program
  * in the memory rejects every packet. bpftap_program_run may be called after it, any number of times and by several threads at
@@ -172,7 +177,8 @@ struct bpftap_span {
     uint32_t wire;
 };
 
-/* Check instructions once, and put what they answer to each packet into `answers`. Faults: those of instructions, NO_ROOM. */
+/* Check instructions once, and put what they answer to each packet into `answers`. Spans may come in any order, and overlap.
+ * Faults: those of instructions, NO_ROOM. */
 struct bpftap_result bpftap_run_each(const BPFTAP_INSN *insns, size_t size, const struct bpftap_packet *packets, size_t count,
                                      uint32_t *answers, size_t room);
 struct bpftap_result bpftap_run_spans(const BPFTAP_INSN *insns, size_t size, const uint8_t *memory, size_t memory_size,
@@ -221,6 +227,7 @@ struct bpftap_record {
 /* Reads the header of a capture. Faults: SHORT_HEADER, NOT_SAVEFILE, VERSION, LINK_TYPE.
  *
  *     struct bpftap_reader reader = bpftap_open(memory, size);
+ *     if (reader.fault) return complain(reader.fault, 0);
  *     struct bpftap_record record;
  *     while ((record = bpftap_next(memory, size, &reader)).fault == BPFTAP_OK)
  *         use(memory + record.offset, record.captured, record.wire);
@@ -231,20 +238,23 @@ struct bpftap_reader bpftap_open(const uint8_t *memory, size_t size);
 /* Reads the next record and moves the reader past it. If there is none, or it cannot be read, the reader stays where it is.
  * Faults: END, TORN_RECORD, BAD_FRACTION, RECORD_TOO_LONG, COUNT_FULL.
  *
- * The memory may be a window of a longer capture: at TORN_RECORD, move the bytes from reader.offset on to its front, append further
- * ones, set reader.offset to 0, and call again. */
+ * The memory may be a window of a longer capture, with room for a whole record: 262,160 bytes (BPFTAP_MAX_SNAP + 16). If TORN_RECORD or END
+ * is returned and the capture has further bytes, move the window's bytes from reader.offset on to its front, append further ones, set
+ * reader.offset to 0, and call again. */
 struct bpftap_record bpftap_next(const uint8_t *memory, size_t size, struct bpftap_reader *reader);
 
 /* Write the header of a capture, 24 bytes, and the record of a packet: 16 bytes and then `bytes`. The record has the time and the
- * wire length of `packet`, whose other members are not used but for `place` as the place of a fault. With microseconds the
- * nanoseconds are divided by 1,000 and the rest is dropped.
+ * wire length of `packet`, whose other members are not used but for `place` as the place of a fault. `order` and `unit` are those of a
+ * reader, and any number but 0 is taken as 1; `snap` is written as it is. With microseconds the nanoseconds are divided by 1,000 and the
+ * rest is dropped.
  * Faults: NO_ROOM; of a record also RECORD_TOO_LONG (more than BPFTAP_MAX_SNAP bytes) and BAD_FRACTION (nanos is a second or more). */
 struct bpftap_result bpftap_put_header(uint32_t order, uint32_t unit, uint32_t snap, uint8_t *to, size_t room);
 struct bpftap_result bpftap_put(uint32_t order, uint32_t unit, const struct bpftap_record *packet, const uint8_t *bytes, size_t captured,
                                 uint8_t *to, size_t room);
 
 /* Writes the packets of a capture that a program accepts, each cut to the least of `snap`, the program's answer and its captured length,
- * as a capture in the same byte order and unit of time. 0 for `snap` stands for BPFTAP_MAX_SNAP.
+ * as a capture in the same byte order and unit of time. 0 for `snap` stands for BPFTAP_MAX_SNAP. The snapshot length of the written header
+ * is `snap`, whatever that of the capture is.
  * If a record cannot be read (TORN_RECORD, BAD_FRACTION, RECORD_TOO_LONG), the packets before it are written, and `size` is that of what
  * was written. Room for the whole capture is always room enough.
  * Other faults: those of instructions and of bpftap_open, NO_ROOM, NO_MEMORY; nothing is written then. */
@@ -308,6 +318,7 @@ enum bpftap_fed {
 
 /* Opens a listener, of which the caller has set the bytes and the room of both buffers, `snap` and `mode`. Both buffers have the same room:
  * at least 32 bytes and `snap` rounded up to a multiple of 8, and at most BPFTAP_MAX_CAPACITY.
+ * Its counts and the sizes of its buffers are 0 then, and `closed` is 0. Any mode but 0 is BPFTAP_IMMEDIATE.
  * Faults: BAD_SNAP, BAD_CAPACITY; the listener is closed then. */
 uint32_t bpftap_listener_open(struct bpftap_listener *listener);
 
@@ -322,7 +333,7 @@ bool bpftap_listener_flush(struct bpftap_listener *listener);
 
 /* Reads the hold: its messages are in `batch` afterwards, `size` bytes, and what was in `batch` is forgotten. The two exchange their memory.
  * If there is nothing to read, `size` is 0.
- * Faults: BAD_CAPACITY (`batch` has not the room of the listener's buffers); all is as it was then. */
+ * Faults: BAD_CAPACITY (`batch` has more or less room than the listener's buffers); all is as it was then. */
 struct bpftap_result bpftap_listener_read(struct bpftap_listener *listener, struct bpftap_buffer *batch);
 
 /* Closes a listener: from now on nothing changes, nothing is read, and packets that arrive are not counted. */
@@ -340,6 +351,7 @@ struct bpftap_message {
 };
 
 /* Returns the message whose record begins at `*at`, 0 for the first one, and moves `*at` to the next one. Messages come oldest first.
+ * It also reads the messages of a listener's own `hold` and `store`, which stay there.
  * Faults: END. */
 struct bpftap_message bpftap_listener_next(const struct bpftap_buffer *batch, size_t *at);
 
@@ -361,7 +373,8 @@ struct bpftap_replay {
 /* Plays a script to listeners over captures, and writes the reports as `bpftap steps` prints them: for each listener its counts, the
  * batches that were read from it, and what it still has.
  * `listeners` and `script` are the contents of the files LISTENERS and SCRIPT of bpftap-steps(1): lines `SNAP CAPACITY EXPRESSION`, and
- * lines `arrive`, `flush L`, `read L` and `close L`. How much room the text needs is not known before; with a `room` of 0 it is returned.
+ * lines `arrive`, `flush L`, `read L` and `close L`. All lines are read before anything is played. How much room the text needs is not
+ * known before; with a `room` of 0 it is returned.
  * If a record cannot be read, the packets before it are played, the reports are written, and the fault is returned beside their size:
  * TORN_RECORD, BAD_FRACTION, RECORD_TOO_LONG, of record `place` of capture `number`.
  * Other faults, where nothing is written: LISTENERS, SCRIPT, STEPS_TOO_MANY, NO_LISTENER; those of bpftap_open, of capture `number`; those
@@ -371,10 +384,11 @@ struct bpftap_replay bpftap_steps(const char *listeners, size_t listeners_size, 
 
 /* ---- Texts ---- */
 
-/* Writes a fault as the program prints it: its name, and its place if it has one, as `BadWord 4`. */
+/* Writes a fault as the program prints it: its name, and its place if it has one, as `BadWord 4`. For a number that is no fault the text
+ * is `Unknown`. 64 bytes are always room enough. Faults: NO_ROOM, NO_MEMORY. */
 struct bpftap_result bpftap_fault_text(uint32_t fault, size_t place, char *to, size_t room);
 
-/* Writes the version of the library, as `1.0.0`. */
+/* Writes the version of the library, as `1.0.0`. 64 bytes are always room enough. Faults: NO_ROOM. */
 struct bpftap_result bpftap_version(char *to, size_t room);
 
 #ifdef __cplusplus
