@@ -9,11 +9,13 @@ from dataclasses import dataclass
 
 from ._errors import Fault, raise_fault
 from ._filters import Filter, FilterError
-from ._library import END, MAX_SNAP, OK, Reader, Record, lib
+from ._library import END, MAX_SNAP, OK, Reader, Record, in_range, lib
 
 
 class CaptureError(Fault):
     """A capture is refused or ends in a torn or bad record, or a packet cannot be written."""
+    written: bytes | None = None
+    """What `cut` wrote of the packets before; `None` if another call failed."""
 
 
 @dataclass(frozen=True)
@@ -31,7 +33,7 @@ class Packet:
 
 
 class Capture:
-    """A capture in memory: an iterator of its packets, up to its end. A torn or bad record raises a `CaptureError` after the packets
+    """A capture in memory: an iterable of its packets, up to its end. A torn or bad record raises a `CaptureError` after the packets
     before it."""
 
     def __init__(self, content: bytes):
@@ -70,6 +72,12 @@ def read(path: str | os.PathLike) -> Capture:
     return Capture(pathlib.Path(path).read_bytes())
 
 
+def record_of(packet: Packet, place: int, nanos: int) -> Record:
+    """The record of a packet, with this fraction of a second."""
+    return Record(place=in_range("place", place, 2**64 - 1), seconds=in_range("seconds", packet.seconds), nanos=in_range("nanos", nanos),
+                  wire=in_range("wire", packet.wire))
+
+
 def _put(result):
     raise_fault(CaptureError, result.fault, result.place)
 
@@ -78,12 +86,12 @@ def encode(packets: Iterable[Packet], snap: int = MAX_SNAP, nanoseconds: bool = 
     """The bytes of a capture of these packets."""
     order, unit = int(big_endian), int(nanoseconds)
     header = ctypes.create_string_buffer(24)
-    _put(lib.bpftap_put_header(order, unit, snap, header, 24))
+    _put(lib.bpftap_put_header(order, unit, in_range("snap", snap), header, 24))
     parts = [header.raw]
     for place, packet in enumerate(packets):
         room = len(packet.data) + 16
         to = ctypes.create_string_buffer(room)
-        record = Record(place=place, seconds=packet.seconds, nanos=packet.nanos, wire=packet.wire)
+        record = record_of(packet, place, min(packet.nanos, 10**9))  # BadFraction from a second on
         _put(lib.bpftap_put(order, unit, ctypes.byref(record), packet.data, len(packet.data), to, room))
         parts.append(to.raw)
     return b"".join(parts)
@@ -101,7 +109,7 @@ def cut(content: bytes, keep: Filter, snap: int = 0) -> bytes:
     If the capture ends in a torn or bad record, a `CaptureError` is raised; its attribute `written` is the cut of the packets before.
     """
     to = ctypes.create_string_buffer(max(1, len(content)))
-    result = lib.bpftap_cut(content, len(content), keep._insns, keep._size, snap, to, len(content))
+    result = lib.bpftap_cut(content, len(content), keep._insns, keep._size, in_range("snap", snap), to, len(content))
     written = to.raw[: result.size]
     if result.fault != OK:
         try:

@@ -9,7 +9,7 @@ from itertools import accumulate
 from typing import Any
 
 from ._errors import Fault, raise_fault
-from ._library import MAX_INSNS, MAX_SNAP, Insn, lib, text
+from ._library import MAX_INSNS, MAX_SNAP, Insn, buffer_of, in_range, lib, text
 
 
 class FilterError(Fault):
@@ -30,7 +30,7 @@ def _raised(result):
 
 
 def _wire(packet: bytes, wire: int | None) -> int:
-    return len(packet) if wire is None else wire
+    return len(packet) if wire is None else in_range("wire", wire)
 
 
 # How many packets are handed over at once: what they take stays in the processor's cache.
@@ -47,6 +47,22 @@ def _spans_of(packets: Sequence[bytes]) -> array[int]:
     return spans
 
 
+def _row(place: int, insn: Sequence[int]) -> tuple[int, ...]:
+    """The fields of an instruction."""
+    fields = tuple(insn)
+    if len(fields) != 4:
+        raise ValueError(f"instruction {place} is not (code, jt, jf, k): {fields}")
+    most = (2**16 - 1, 2**8 - 1, 2**8 - 1, 2**32 - 1)
+    return tuple(in_range(f"{what} of instruction {place}", *field) for what, *field in zip(("code", "jt", "jf", "k"), fields, most))
+
+
+def _rebuilt(program, expression):
+    """The filter of these instructions, which were compiled from this expression, if there is one."""
+    made = Filter.from_program(program)
+    made.expression = expression
+    return made
+
+
 class Filter:
     """A filter: an expression as of pcap-filter(7), compiled.
 
@@ -57,6 +73,7 @@ class Filter:
     def __init__(self, expression: str, snap: int = MAX_SNAP):
         insns = (Insn * MAX_INSNS)()
         code = expression.encode()
+        snap = snap if 0 < snap <= MAX_SNAP else 0  # BadSnap, if the text is an expression
         size = _raised(lib.bpftap_compile(code, len(code), snap, insns, MAX_INSNS)).size
         self._keep(insns, size, expression)
 
@@ -68,8 +85,8 @@ class Filter:
 
     @classmethod
     def from_program(cls, program: Iterable[Sequence[int]]) -> Filter:
-        """Of instructions, each `(code, jt, jf, k)`."""
-        rows = [tuple(insn) for insn in program]
+        """Of instructions, each four numbers `(code, jt, jf, k)`."""
+        rows = [_row(place, insn) for place, insn in enumerate(program)]
         insns = (Insn * max(1, len(rows)))(*rows)
         _raised(lib.bpftap_check(insns, len(rows)))
         return cls._of(insns, len(rows))
@@ -87,6 +104,10 @@ class Filter:
         # A buffer of ctypes is aligned to 16 bytes already; the room beside it costs nothing and makes sure.
         self._at = (ctypes.addressof(self._program) + 15) & ~15
         raise_fault(FilterError, lib.bpftap_program_init(self._at, insns, size), 0)
+
+    def __reduce__(self):
+        # copy, deepcopy and pickle: the addresses in here are those of this filter's own memory.
+        return _rebuilt, (self.program, self.expression)
 
     def __repr__(self):
         return f"Filter({self.expression!r})" if self.expression is not None else f"<Filter of {self._size} instructions>"
@@ -108,14 +129,17 @@ class Filter:
             answers += self.run_spans(b"".join(part), _spans_of(part))
         return answers
 
-    def run_spans(self, memory: bytes, spans: Any) -> array[int]:
-        """What the filter answers to each packet of a memory. `spans` is a buffer with 16 bytes for each: where it begins (64 bits), and
-        how many of its bytes were captured and were on the wire (32 bits each)."""
-        where = bytes(spans)
-        count = len(where) // 16
-        answers = array("I", bytes(4 * count))
-        if count:
-            _raised(lib.bpftap_run_spans(self._insns, self._size, memory, len(memory), where, count, answers.buffer_info()[0], count))
+    def run_spans(self, memory: Any, spans: Any) -> array[int]:
+        """What the filter answers to each packet of a memory. `spans` has 16 bytes for each: where it begins (64 bits), and how many of
+        its bytes were captured and were on the wire (32 bits each). Both are buffers (`bytes`, `bytearray`, `mmap`, `memoryview`, an array
+        of numpy), and are not copied."""
+        with buffer_of(memory) as (content, size), buffer_of(spans) as (where, spans_size):
+            if spans_size % 16:
+                raise ValueError(f"spans have {spans_size} bytes, which is not a multiple of 16")
+            count = spans_size // 16
+            answers = array("I", bytes(4 * count))
+            if count:
+                _raised(lib.bpftap_run_spans(self._insns, self._size, content, size, where, count, answers.buffer_info()[0], count))
         return answers
 
     def decide(self, packet: bytes, wire: int | None = None) -> tuple[Verdict, str]:

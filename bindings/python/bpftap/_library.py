@@ -1,9 +1,10 @@
 """The C library through ctypes: its types, its functions, and where it is found."""
+import contextlib
 import ctypes
 import ctypes.util
 import os
 import pathlib
-from ctypes import POINTER, c_bool, c_char_p, c_size_t, c_uint8, c_uint16, c_uint32, c_uint64, c_void_p
+from ctypes import POINTER, c_bool, c_char_p, c_int, c_size_t, c_ssize_t, c_uint8, c_uint16, c_uint32, c_uint64, c_void_p, py_object
 
 MAX_INSNS = 512
 MAX_SNAP = 262144
@@ -124,3 +125,31 @@ def text(call, room=4096):
         if result.fault != NO_ROOM:
             return result, memory.raw[: result.size]
         room = result.size + 1
+
+
+class _View(ctypes.Structure):
+    """`Py_buffer` of Python's buffer protocol."""
+    _fields_ = [("buf", c_void_p), ("obj", c_void_p), ("len", c_ssize_t), ("itemsize", c_ssize_t), ("readonly", c_int), ("ndim", c_int),
+                ("format", c_void_p), ("shape", c_void_p), ("strides", c_void_p), ("suboffsets", c_void_p), ("internal", c_void_p)]
+
+
+_get_buffer = ctypes.PYFUNCTYPE(c_int, py_object, POINTER(_View), c_int)(("PyObject_GetBuffer", ctypes.pythonapi))
+_release_buffer = ctypes.PYFUNCTYPE(None, POINTER(_View))(("PyBuffer_Release", ctypes.pythonapi))
+
+
+@contextlib.contextmanager
+def buffer_of(memory):
+    """Where the bytes of a buffer are, read-only or not, and how many there are. They are not copied."""
+    view = _View()
+    _get_buffer(memory, view, 0)
+    try:
+        yield c_char_p(view.buf if view.len else b""), view.len
+    finally:
+        _release_buffer(view)
+
+
+def in_range(what, number, most=2**32 - 1):
+    """The number, if it is from 0 to `most`. C would take its lower bits."""
+    if not 0 <= number <= most:
+        raise ValueError(f"{what} is {number}, which is not from 0 to {most}")
+    return number

@@ -5,10 +5,10 @@ import ctypes
 import enum
 from dataclasses import dataclass
 
-from ._captures import Packet
+from ._captures import Packet, record_of
 from ._errors import Fault, raise_fault
 from ._filters import Filter
-from ._library import MAX_CAPACITY, MAX_SNAP, OK, Buffer, Record, Tap, lib
+from ._library import MAX_CAPACITY, MAX_SNAP, OK, Buffer, Tap, in_range, lib
 
 
 class ListenerError(Fault):
@@ -59,6 +59,9 @@ class Listener:
 
     def __init__(self, keep: Filter | str, snap: int = MAX_SNAP, capacity: int = MAX_CAPACITY, immediate: bool = False):
         self.filter = Filter(keep) if isinstance(keep, str) else keep
+        # Out of their ranges they are refused as 0 is: BadSnap, BadCapacity.
+        snap = snap if 0 < snap <= MAX_SNAP else 0
+        capacity = capacity if 0 < capacity <= MAX_CAPACITY else 0
         self._memory = ctypes.create_string_buffer(max(1, 3 * capacity))
         begin = ctypes.addressof(self._memory)
         store, hold, self._batch = (Buffer(begin + n * capacity, capacity) for n in range(3))
@@ -70,9 +73,9 @@ class Listener:
         if not isinstance(packet, Packet):
             packet = Packet(packet, len(packet))
         answer = self.filter.run(packet.data, packet.wire)
-        place = self.received if place is None else place
-        record = Record(place=place, seconds=packet.seconds, nanos=packet.nanos, wire=packet.wire)
-        return Fed(lib.bpftap_listener_arrive(self._tap, answer, capture, record, packet.data, len(packet.data)))
+        record = record_of(packet, self.received if place is None else place, packet.nanos)
+        fed = lib.bpftap_listener_arrive(self._tap, answer, in_range("capture", capture), record, packet.data, len(packet.data))
+        return Fed(fed)
 
     def flush(self) -> bool:
         """Makes the store the hold if it has messages and the hold has none, as the read timeout of bpf(4) does; whether it did."""
@@ -106,6 +109,9 @@ class Listener:
     def dropped(self) -> int:
         """Those that the filter accepted and that found no room."""
         return self._tap.dropped
+
+    def __reduce__(self):
+        raise TypeError("a listener cannot be copied or pickled: its packets are in memory of its own")
 
     def __repr__(self):
         return f"<Listener of {self.filter!r}: received {self.received}, matched {self.matched}, dropped {self.dropped}>"

@@ -60,24 +60,37 @@ def _packets(captures: Iterable[Capture], replay: Replay) -> Iterator[tuple[int,
             return
 
 
+def _step(place: int, step: str, listeners: int) -> tuple[str, int]:
+    """What a step does, and to which listener."""
+    word, _, number = step.partition(" ")
+    if step == "arrive":
+        return step, 0
+    if word not in ("flush", "read", "close") or not number.isdecimal() or int(number) >= listeners:
+        raise ValueError(f"step {place} is not 'arrive', or 'flush', 'read' or 'close' with the number of a listener: {step!r}")
+    return word, int(number)
+
+
 def steps(listeners: Sequence[Listener], script: Iterable[str], captures: Iterable[Capture]) -> Replay:
     """Plays steps to listeners over captures, as `bpftap steps` does. A step is `arrive`, at which the next packet of the captures arrives at
-    every listener, or `flush L`, `read L` or `close L`, with the number of a listener from 0. After the last packet `arrive` does nothing."""
+    every listener, or `flush L`, `read L` or `close L`, with the number of a listener from 0. After the last packet `arrive` does nothing.
+
+    All steps are checked before the first one is played: a `ValueError` names one that is no step. The captures are read to their end, even
+    if the script ends before."""
+    played = [_step(place, step, len(listeners)) for place, step in enumerate(script)]
     replay, batches = Replay(), [[] for _ in listeners]
     packets = _packets(captures, replay)
-    for place, step in enumerate(script):
-        word, _, number = step.partition(" ")
-        if step == "arrive":
+    for word, number in played:
+        if word == "arrive":
             found = next(packets, None)
             if found:
                 for listener in listeners:
                     listener.arrive(found[2], found[0], found[1])
             continue
-        if word not in ("flush", "read", "close") or not number.isdecimal() or int(number) >= len(listeners):
-            raise ValueError(f"step {place} is not 'arrive', or 'flush', 'read' or 'close' with the number of a listener: {step!r}")
-        done = getattr(listeners[int(number)], word)()
+        done = getattr(listeners[number], word)()
         if word == "read" and done:
-            batches[int(number)].append(done)
+            batches[number].append(done)
+    for _ in packets:  # up to a torn or bad record, which becomes the fault
+        pass
     for listener, read in zip(listeners, batches):
         expression = listener.filter.expression
         shown = "a program" if expression is None else expression

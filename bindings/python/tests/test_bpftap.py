@@ -1,6 +1,11 @@
 """The package, by Python's own unittest: what its page says, and every error."""
+import copy
 import ctypes
+import dataclasses
+import mmap
 import pathlib
+import pickle
+import struct
 import tempfile
 import unittest
 import xml.etree.ElementTree
@@ -14,6 +19,7 @@ UDP = bytes.fromhex("ffffffffffff 000102030405 0800 45000018 00000000 40110000 0
 
 # `tcpdump -ddd ip` with a snapshot length of 96, and `tcpdump -d` of the same.
 LISTING = "4\n40 0 0 12\n21 0 1 2048\n6 0 0 96\n6 0 0 0\n"
+EXAMPLES = pathlib.Path(__file__).resolve().parents[3] / "examples"
 IMAGE = "(000) ldh      [12]\n(001) jeq      #0x800           jt 2\tjf 3\n(002) ret      #96\n(003) ret      #0\n"
 
 
@@ -59,6 +65,34 @@ class Filters(unittest.TestCase):
         for call in (lambda: listed.why(UDP), lambda: listed.canonical):
             self.assertRaises(TypeError, call)
 
+    def test_a_program_has_rows_of_four_numbers_in_their_ranges(self):
+        for row in [(6, 0, 0), (6, 0, 0, 0, 0), (65536, 0, 0, 0), (6, 256, 0, 0), (6, 0, -1, 0), (6, 0, 0, 2**32)]:
+            with self.assertRaisesRegex(ValueError, "instruction 1"):
+                Filter.from_program([(6, 0, 0, 0), row])
+
+    def test_numbers_out_of_range_are_refused_and_not_shortened(self):
+        for snap in (-1, 2**32 + 1, bpftap.MAX_SNAP + 1):
+            with self.assertRaisesRegex(FilterError, "^BadSnap$"):
+                Filter("ip", snap)
+        for wire in (-1, 2**32):
+            for call in (Filter("ip").run, Filter("ip").matches, Filter("ip").why, Filter("ip").decide):
+                with self.assertRaisesRegex(ValueError, "^wire is"):
+                    call(UDP, wire)
+
+    def test_copies_have_memory_of_their_own(self):
+        @dataclasses.dataclass
+        class Rule:
+            keep: Filter
+
+        for found in (Filter("udp", snap=7), Filter.from_listing(LISTING)):
+            answers = [found.run(UDP), found.run(TCP)]
+            copies = [copy.copy(found), copy.deepcopy(found), pickle.loads(pickle.dumps(found)), dataclasses.asdict(Rule(found))["keep"]]
+            wanted = (found.expression, found.program)
+            del found
+            for other in copies:
+                self.assertEqual(([other.run(UDP), other.run(TCP)], (other.expression, other.program)), (answers, wanted))
+            self.assertEqual(len({other._at for other in copies}), len(copies))
+
     def test_the_canonical_form(self):
         self.assertEqual(Filter("tcp dst port 80 or 443").canonical, "tcp dst port 80 or tcp dst port 443")
 
@@ -66,8 +100,28 @@ class Filters(unittest.TestCase):
         udp = Filter("udp", snap=7)
         self.assertEqual(list(udp.run_each([UDP, TCP, b"", UDP])), [7, 0, 0, 7])
         self.assertEqual(list(udp.run_each([])), [])
+
+    def test_spans_of_any_buffer(self):
+        udp, content = Filter("udp", snap=7), TCP + UDP
         spans = (bpftap._library.Span * 2)((38, 38, 38), (38, 20, 38))
-        self.assertEqual(list(udp.run_spans(TCP + UDP, spans)), [7, 0])
+        with tempfile.TemporaryFile() as file:
+            file.write(content)
+            file.flush()
+            with mmap.mmap(file.fileno(), 0, access=mmap.ACCESS_READ) as mapped:
+                for memory in (content, bytearray(content), memoryview(content), mapped):
+                    for where in (spans, bytes(spans), bytearray(spans), memoryview(spans)):
+                        self.assertEqual(list(udp.run_spans(memory, where)), [7, 0])
+        self.assertEqual(list(udp.run_spans(b"", spans)), [0, 0])
+        self.assertEqual(list(udp.run_spans(bytearray(), b"")), [])
+        grown = bytearray(content)
+        udp.run_spans(grown, spans)
+        grown.extend(b"the buffer was given back")
+        for size in (1, 15, 31):
+            with self.assertRaisesRegex(ValueError, f"^spans have {size} bytes"):
+                udp.run_spans(content, bytes(size))
+        for memory, where in ((7, spans), (content, 32), ("text", spans)):
+            self.assertRaises(TypeError, udp.run_spans, memory, where)
+        self.assertRaises(BufferError, udp.run_spans, memoryview(content)[::2], spans)
 
     def test_long_texts_are_whole(self):
         longest = Filter.from_program([(6, 0, 0, 262144)] * 512)
@@ -99,9 +153,24 @@ class Listeners(unittest.TestCase):
         self.assertEqual([message.data for message in tap.read()], [UDP[:20]])
 
     def test_a_refused_listener_has_a_name(self):
-        for snap, capacity, name in [(0, 64, "BadSnap"), (38, 71, "BadCapacity"), (38, bpftap.MAX_CAPACITY + 1, "BadCapacity"), (38, 0, "BadCapacity")]:
+        for snap, capacity, name in [(0, 64, "BadSnap"), (-1, 64, "BadSnap"), (2**32 + 38, 128, "BadSnap"), (38, 71, "BadCapacity"), (38, 0, "BadCapacity"),
+                                     (38, bpftap.MAX_CAPACITY + 1, "BadCapacity"), (38, -1, "BadCapacity"), (38, 2**64 + 128, "BadCapacity")]:
             with self.assertRaisesRegex(ListenerError, f"^{name}$"):
                 Listener("ip", snap=snap, capacity=capacity)
+
+
+    def test_numbers_out_of_range_change_nothing(self):
+        tap = Listener("ip")
+        for packet, capture, place, name in [(Packet(UDP, 2**32), 0, 0, "wire"), (Packet(UDP, 38, -1), 0, 0, "seconds"), (UDP, 2**32, 0, "capture"),
+                                             (Packet(UDP, 38, 0, 2**32), 0, 0, "nanos"), (UDP, 0, 2**64, "place"), (UDP, 0, -1, "place")]:
+            with self.assertRaisesRegex(ValueError, f"^{name} is"):
+                tap.arrive(packet, capture, place)
+        self.assertEqual((tap.received, tap.pending), (0, []))
+
+    def test_a_listener_has_no_copy(self):
+        for call in (copy.copy, copy.deepcopy, pickle.dumps):
+            with self.assertRaisesRegex(TypeError, "^a listener cannot be copied"):
+                call(Listener("ip"))
 
 
 class Steps(unittest.TestCase):
@@ -125,10 +194,18 @@ class Steps(unittest.TestCase):
         replay = bpftap.steps([Listener("ip")], ["arrive"] * 9, [bpftap.Capture(self.CAPTURE), bpftap.Capture(self.CAPTURE[:-1]), bpftap.Capture(self.CAPTURE)])
         self.assertEqual((replay.reports[0].received, replay.fault.name, replay.fault.place, replay.capture), (5, "TornRecord", 2, 1))
 
-    def test_what_is_no_step_is_refused(self):
+    def test_a_torn_record_after_the_last_step_is_the_fault_too(self):
+        for script in ([], ["arrive"], ["arrive"] * 4):
+            replay = bpftap.steps([Listener("ip")], script, [bpftap.Capture(self.CAPTURE), bpftap.Capture(self.CAPTURE[:-1])])
+            self.assertEqual((replay.reports[0].received, replay.fault.name, replay.fault.place, replay.capture), (len(script), "TornRecord", 2, 1))
+        self.assertIsNone(bpftap.steps([Listener("ip")], [], [bpftap.Capture(self.CAPTURE)]).fault)
+
+    def test_what_is_no_step_is_refused_before_one_is_played(self):
         for step in ["", "arrives", "arrive 0", "read", "read 1", "read -1", "read  0", "opens 0"]:
+            tap = Listener("ip")
             with self.assertRaisesRegex(ValueError, "^step 1 is not"):
-                bpftap.steps([Listener("ip")], ["arrive", step], [])
+                bpftap.steps([tap], ["arrive", step], [bpftap.Capture(self.CAPTURE)])
+            self.assertEqual(tap.received, 0)
 
 
 class Captures(unittest.TestCase):
@@ -146,6 +223,22 @@ class Captures(unittest.TestCase):
                 self.assertEqual(capture.big_endian, form.get("big_endian", False))
                 self.assertEqual(capture.snap, form.get("snap", bpftap.MAX_SNAP))
 
+    def test_the_examples_of_each_form_are_read(self):
+        for name, magic, order, parts in [("veth", b"\xd4\xc3\xb2\xa1", "<", 1000), ("veth-big-micro", b"\xa1\xb2\xc3\xd4", ">", 1000),
+                                          ("veth-little-nano", b"\x4d\x3c\xb2\xa1", "<", 1), ("veth-big-nano", b"\xa1\xb2\x3c\x4d", ">", 1)]:
+            content = (EXAMPLES / f"{name}.pcap").read_bytes()
+            self.assertEqual(content[:4], magic)
+            wanted, at = [], 24
+            while at < len(content):
+                seconds, part, captured, wire = struct.unpack(f"{order}4I", content[at : at + 16])
+                wanted.append(Packet(content[at + 16 : at + 16 + captured], wire, seconds, part * parts))
+                at += 16 + captured
+            capture = bpftap.Capture(content)
+            self.assertEqual((capture.big_endian, capture.nanoseconds, list(capture)), (order == ">", parts == 1, wanted))
+            self.assertGreater(len(wanted), 200)
+            form = {"big_endian": capture.big_endian, "nanoseconds": capture.nanoseconds}
+            self.assertEqual(bpftap._captures.encode(wanted, capture.snap, **form), content)
+
     def test_a_torn_record_comes_after_the_packets_before_it(self):
         content = bpftap._captures.encode(self.PACKETS)
         capture, seen = bpftap.Capture(content[:-1]), []
@@ -153,8 +246,9 @@ class Captures(unittest.TestCase):
             seen.extend(iter(capture))
         self.assertEqual(caught.exception.place, 1)
         self.assertEqual(next(iter(capture)), self.PACKETS[0])
-        with self.assertRaisesRegex(CaptureError, "^ShortHeader$"):
+        with self.assertRaisesRegex(CaptureError, "^ShortHeader$") as caught:
             bpftap.Capture(b"")
+        self.assertIsNone(caught.exception.written)
 
     def test_cut(self):
         content = bpftap._captures.encode(self.PACKETS)
@@ -169,6 +263,17 @@ class Captures(unittest.TestCase):
             with self.assertRaises(CaptureError) as caught:
                 bpftap._captures.encode([self.PACKETS[0], packet])
             self.assertEqual((caught.exception.name, caught.exception.place), (name, 1))
+
+
+    def test_numbers_out_of_range_are_not_written(self):
+        for packet, name in [(Packet(b"", -1), "wire"), (Packet(b"", 2**32), "wire"), (Packet(b"", 0, 2**32), "seconds"), (Packet(b"", 0, 0, -1), "nanos")]:
+            with self.assertRaisesRegex(ValueError, f"^{name} is"):
+                bpftap._captures.encode([packet])
+        with self.assertRaisesRegex(CaptureError, "^BadFraction 0$"):
+            bpftap._captures.encode([Packet(b"", 0, 0, 2**32)])
+        for snap in (-1, 2**32):
+            self.assertRaises(ValueError, bpftap._captures.encode, [], snap)
+            self.assertRaises(ValueError, bpftap.cut, bpftap._captures.encode([]), Filter("ip"), snap)
 
 
 class Assertions(unittest.TestCase):
