@@ -3,6 +3,7 @@
  *     cc -o filter filter.c -lbpftap
  *     ./filter 'udp port 5353' examples/veth.pcap dns.pcap
  */
+#include "file.h"
 #include <bpftap.h>
 #include <stdio.h>
 #include <stdlib.h>
@@ -15,20 +16,6 @@ static int fail(const char *what, uint32_t fault, size_t place) {
     return 1;
 }
 
-/* The bytes of a file, and how many there are. */
-static uint8_t *read_file(const char *path, size_t *size) {
-    FILE *file = fopen(path, "rb");
-    uint8_t *bytes = NULL;
-    if (file && fseek(file, 0, SEEK_END) == 0) {
-        *size = (size_t)ftell(file);
-        rewind(file);
-        bytes = malloc(*size + 1);
-        if (bytes && fread(bytes, 1, *size, file) != *size) *size = 0;
-    }
-    if (file) fclose(file);
-    return bytes;
-}
-
 int main(int argc, char **argv) {
     if (argc != 4) return fprintf(stderr, "usage: filter EXPRESSION IN OUT\n"), 1;
     struct bpftap_insn insns[BPFTAP_MAX_INSNS];
@@ -37,12 +24,14 @@ int main(int argc, char **argv) {
     struct bpftap_program *program = malloc(bpftap_program_size());
     size_t size = 0;
     uint8_t *memory = read_file(argv[2], &size);
-    FILE *out = fopen(argv[3], "wb");
-    if (!program || !memory || !out) return perror("filter"), 1;
+    if (!program || !memory) return perror("filter"), 1;
     bpftap_program_init(program, insns, compiled.size);
 
     struct bpftap_reader reader = bpftap_open(memory, size);
     if (reader.fault) return fail(argv[2], reader.fault, 0);
+    /* Only now, so that OUT is not lost if IN is no capture. */
+    FILE *out = fopen(argv[3], "wb");
+    if (!out) return perror("filter"), 1;
     uint8_t header[24];
     bpftap_put_header(reader.order, reader.unit, reader.snap, header, sizeof header);
     fwrite(header, 1, sizeof header, out);

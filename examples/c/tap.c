@@ -6,6 +6,7 @@
  * A listener with two buffers of 4,096 bytes keeps at most 96 bytes of each packet that the filter accepts. It is read after each EVERY
  * packets.
  */
+#include "file.h"
 #include <bpftap.h>
 #include <stdio.h>
 #include <stdlib.h>
@@ -35,11 +36,10 @@ int main(int argc, char **argv) {
     struct bpftap_result compiled = bpftap_compile(argv[1], strlen(argv[1]), SNAP, insns, BPFTAP_MAX_INSNS);
     if (compiled.fault) return fail(argv[1], compiled.fault, compiled.place);
     struct bpftap_program *program = malloc(bpftap_program_size());
-    static uint8_t capture[1 << 20], buffers[3 * ROOM];
-    FILE *file = fopen(argv[2], "rb");
-    if (!program || !file) return perror("tap"), 1;
-    size_t size = fread(capture, 1, sizeof capture, file);
-    fclose(file);
+    static uint8_t buffers[3 * ROOM];
+    size_t size = 0;
+    uint8_t *capture = read_file(argv[2], &size);
+    if (!program || !capture) return perror("tap"), 1;
     bpftap_program_init(program, insns, compiled.size);
 
     struct bpftap_listener listener = {
@@ -62,6 +62,7 @@ int main(int argc, char **argv) {
     if (bpftap_listener_flush(&listener)) read_hold(&listener, &batch);
     printf("received %llu, matched %llu, dropped %llu\n", (unsigned long long)listener.received, (unsigned long long)listener.matched,
            (unsigned long long)listener.dropped);
+    free(capture);
     free(program);
     return record.fault == BPFTAP_END ? 0 : fail(argv[2], record.fault, record.place);
 }

@@ -8,7 +8,7 @@ CAPTURE = pathlib.Path(__file__).resolve().parents[1] / "veth.pcap"
 
 
 def replay(every, capacity):
-    """A listener for packets above 50 bytes, which is read after each so many packets."""
+    """A listener for packets above 50 bytes, which is read after every N packets."""
     script = (["arrive"] * every + ["read 0"]) * (250 // every)
     return steps([Listener("len > 50", snap=96, capacity=capacity)], script, [read(CAPTURE)])
 

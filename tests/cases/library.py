@@ -69,7 +69,7 @@ def calls_do_what_the_header_says(scene):
 
 @case
 def threads_do_not_meet(scene):
-    """Two threads with a program each, and with one that both run."""
+    """Two threads with a program and a listener each, and with a program that both run."""
     if is_there(scene) and scene.has("gcc"):
         scene.start({})
         for flags in (["-O2"], ["-O1", "-g", "-fsanitize=thread"]):
@@ -124,6 +124,14 @@ def frames():
         captured = chance.randrange(len(record) - 16)
         short.append(record[:8] + captured.to_bytes(4, "little") + record[12 : 16 + captured])
     return VETH.read_bytes()[:24] + b"".join(chosen + short)
+
+
+def parts_of_each_form():
+    """The captures of examples/ in both byte orders and both units of time, by name: whole, and torn at many bytes."""
+    for form in sorted(VETH.parent.glob("veth*.pcap")):
+        whole = form.read_bytes()
+        for size in (*range(20, 60, 3), *range(1000, len(whole), 9973), len(whole)):
+            yield f"{form.stem}-{size}.pcap", whole[:size]
 
 
 def expression(chance, depth=0):
@@ -195,11 +203,15 @@ def cuts_as_the_program_does(scene):
     scene.start({"in.pcap": frames()})
     whole = scene.read("in.pcap")
     captures = {f"{size}.pcap": whole[:size] for size in [*range(0, 60), *range(1000, len(whole), 977), len(whole)]}
+    captures.update(parts_of_each_form())
+    scene.check("there are captures of four forms", len({capture[:4] for capture in captures.values() if len(capture) >= 24}), 4)
     scene.put(captures)
     texts = python(scene, "cuts.py", ["udp or arp", *captures]).splitlines()
     for name, text in zip(captures, texts):
         scene.put({"out.pcap": b""})
-        ended = scene.run(["cut", "-s", "64", "-e", "udp or arp", name, "out.pcap"])
+        order = "big" if captures[name][:1] == b"\xa1" else "little"
+        unit = "nano" if b"\x3c" in captures[name][:4] else "micro"
+        ended = scene.run(["cut", "-s", "64", "-o", order, "-u", unit, "-e", "udp or arp", name, "out.pcap"])
         fault, _, written = text.partition("\t")
         scene.check(f"{name}: the fault", ended.err.decode(), f"bpftap: {fault}\n" if fault else "")
         scene.check(f"{name}: what was written", scene.read("out.pcap").hex(), written)
@@ -288,11 +300,6 @@ def package_does_what_its_page_says(scene):
     scene.check("the installed package", (said, status), ("True\n", 0))
 
 
-# Names that are in no fault line of the program: those for memory and for texts, the end of a capture, and a snapshot length that the
-# command line does not let through.
-OWN = {"Ok", "NoRoom", "NotText", "End", "BadSnap"}
-
-
 @case
 def numbers_have_the_names_of_faults(scene):
     """Each number of the header prints as its name, which docs/FAULTS.md explains."""
@@ -305,7 +312,21 @@ def numbers_have_the_names_of_faults(scene):
     seen = python(scene, "names.py", map(str, camel)).splitlines()
     scene.check("names", seen, list(camel.values()))
     explained = set(re.findall(r"\w+", (ROOT / "docs" / "FAULTS.md").read_text()))
-    scene.check("names that docs/FAULTS.md lacks", [name for name in camel.values() if name not in explained | OWN], [])
+    scene.check("names that docs/FAULTS.md lacks", [name for name in camel.values() if name not in explained | {"Ok"}], [])
+
+
+def takes_long_captures(scene):
+    """The examples over a capture of some megabytes, and over files that are no capture: what is in OUT is not lost."""
+    whole = VETH.read_bytes()
+    long = whole[:24] + whole[24:] * 100
+    scene.put({"long.pcap": long, "kept": "kept", "text": "this is no capture, but a text of some length", "part.pcap": long[:-1]})
+    scene.check("filter: a long capture", done(scene, ["./filter", "udp port 5353", "long.pcap", "dns.pcap"]), ("6700 of 25300 packets\n", 0))
+    said, status = done(scene, ["./tap", "len > 50", "long.pcap", "90"])
+    scene.check("tap: a long capture", (said.splitlines()[-1].split(",")[0], status), ("received 25300", 0))
+    for words, wanted in ((["text", "kept"], "filter: text: NotSavefile\n"), (["none", "kept"], "filter: No such file or directory\n")):
+        scene.check(f"filter: {words[0]}", done(scene, ["./filter", "ip", *words]), (wanted, 1))
+    scene.check("what OUT had", scene.read("kept"), b"kept")
+    scene.check("filter: a torn capture", done(scene, ["./filter", "ip", "part.pcap", "dns.pcap"])[1], 1)
 
 
 def loses_what_steps_loses(scene):
@@ -336,6 +357,7 @@ def examples_do_what_they_say(scene):
         scene.check("what it kept", scene.read("dns.pcap") == scene.read("cut.pcap"), True)
         scene.check("a refused expression", done(scene, ["./filter", "port http", VETH, "x"]), ("filter: port http: BadWord 5\n", 1))
         loses_what_steps_loses(scene)
+        takes_long_captures(scene)
         said, status = done(scene, ["./attach", "tcp port 80"])
         scene.check("attach", (re.sub(r"\d+", "N", said), status), ("the kernel took N instructions\n", 0))
     environment = {**os.environ, "PYTHONPATH": str(ROOT / "bindings" / "python"), "BPFTAP_LIBRARY": str(LIBRARY), "PYTHONDONTWRITEBYTECODE": "1"}

@@ -92,6 +92,10 @@ static void refuses_long_and_deep_expressions(void) {
     CHECK(result.fault == BPFTAP_OK);
     result = bpftap_compile(text, 8193, SNAP, insns, BPFTAP_MAX_INSNS);
     CHECK(result.fault == BPFTAP_TEXT_TOO_LONG);
+    char to[100];
+    CHECK(bpftap_print(text, 8192, to, sizeof to).fault == BPFTAP_OK && bpftap_print(text, 8193, to, sizeof to).fault == BPFTAP_TEXT_TOO_LONG);
+    CHECK(bpftap_why(text, 8192, TCP, sizeof TCP, sizeof TCP, to, sizeof to).fault == BPFTAP_OK);
+    CHECK(bpftap_why(text, 8193, TCP, sizeof TCP, sizeof TCP, to, sizeof to).fault == BPFTAP_TEXT_TOO_LONG);
 
     /* 65 open parentheses. */
     size_t size = 0;

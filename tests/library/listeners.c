@@ -66,8 +66,10 @@ static void opens(void) {
         {1, BPFTAP_OK, BPFTAP_MAX_CAPACITY, BPFTAP_MAX_CAPACITY},
     };
     for (size_t i = 0; i < sizeof rows / sizeof *rows; i++) {
-        struct bpftap_listener listener = {.store = buffer(rows[i].store), .hold = buffer(rows[i].hold), .snap = rows[i].snap};
+        struct bpftap_listener listener = {.store = buffer(rows[i].store), .hold = buffer(rows[i].hold), .received = 5, .matched = 4, .dropped = 3, .snap = rows[i].snap};
         CHECK(bpftap_listener_open(&listener) == rows[i].fault && (listener.closed == 0) == (rows[i].fault == BPFTAP_OK));
+        CHECK(listener.received == 0 && listener.matched == 0 && listener.dropped == 0 && listener.store.size == 0 && listener.hold.size == 0);
+        CHECK(listener.snap == rows[i].snap && listener.store.room == rows[i].store && listener.hold.room == rows[i].hold);
         if (rows[i].fault) {
             struct bpftap_buffer batch = buffer(rows[i].store);
             CHECK(arrives(&listener, 100, 0, 8) == BPFTAP_CLOSED && !bpftap_listener_flush(&listener));

@@ -1,9 +1,9 @@
-/* Two threads, each with a program of its own and both with one that they share. */
+/* Two threads, each with a program and a listener of its own, and both with a program that they share. */
 #include "check.h"
 #include <bpftap.h>
 #include <pthread.h>
 
-enum { ROUNDS = 20000 };
+enum { ROUNDS = 20000, ROOM = 720 };
 
 static const uint8_t UDP[38] = {
     0xff, 0xff, 0xff, 0xff, 0xff, 0xff, 0, 1, 2, 3, 4, 5, 8, 0, 0x45, 0, 0, 0x18, 0, 0, 0, 0, 0x40, 17, 0, 0,
@@ -16,6 +16,33 @@ struct job {
     uint32_t answer;
     int wrong;
 };
+
+/* Leads a listener through packets, and returns what was wrong. Each ninth packet is kept and takes 72 bytes, so ten fill a buffer, and
+ * both buffers are read after each hundred packets. */
+static int listens(uint32_t number) {
+    uint8_t *memory = block(3 * ROOM);
+    struct bpftap_listener listener = {
+        .store = {.bytes = memory, .room = ROOM}, .hold = {.bytes = memory + ROOM, .room = ROOM}, .snap = 38, .mode = BPFTAP_BUFFERED};
+    struct bpftap_buffer batch = {.bytes = memory + 2 * ROOM, .room = ROOM};
+    int wrong = bpftap_listener_open(&listener) != BPFTAP_OK;
+    uint64_t next = 0;
+    for (uint64_t i = 0; i < ROUNDS; i++) {
+        struct bpftap_record packet = {.place = i, .wire = number};
+        bpftap_listener_arrive(&listener, i % 9 == 0 ? 100 : 0, number, &packet, UDP, sizeof UDP);
+        if (i % 100 != 99) continue;
+        bpftap_listener_flush(&listener);
+        wrong += bpftap_listener_read(&listener, &batch).fault != BPFTAP_OK;
+        struct bpftap_message message;
+        for (size_t at = 0; (message = bpftap_listener_next(&batch, &at)).fault == BPFTAP_OK; next += 9)
+            wrong += message.place != next || message.capture != number || message.wire != number || memcmp(batch.bytes + message.offset, UDP, 38) != 0;
+        bpftap_listener_flush(&listener);
+        bpftap_listener_read(&listener, &batch);
+        for (size_t at = 0; (message = bpftap_listener_next(&batch, &at)).fault == BPFTAP_OK; next += 9) wrong += message.place != next;
+    }
+    wrong += listener.received != ROUNDS || listener.matched != next / 9 || listener.dropped != 0;
+    free(memory);
+    return wrong;
+}
 
 static void *run(void *given) {
     struct job *job = given;
@@ -30,6 +57,7 @@ static void *run(void *given) {
         job->wrong += bpftap_program_run(shared, UDP, sizeof UDP, sizeof UDP) != 7;
     }
     free(own);
+    job->wrong += listens(job->answer + 1);
     return NULL;
 }
 
