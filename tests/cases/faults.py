@@ -151,7 +151,7 @@ PLACES = {"N": r"\d+", "C": r"\d+", "L": r"\d+", "I": r"\d+", "B": r"\d+", "PATH
 
 # The sections of the page that have the lines of a command; those of faults inside a line.
 SHARED = "Files and words"
-LISTINGS = "Listings: `cut -f`, `explain -f` and `check -f`"
+LISTINGS = "Programs: `-f` of `cut`, `explain`, `check` and `compare`"
 SECTIONS = {
     "check": {SHARED, "Expressions", LISTINGS},
     "explain": {SHARED, "Expressions", "Captures", LISTINGS, "`explain`"},
