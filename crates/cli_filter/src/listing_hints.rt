@@ -84,10 +84,7 @@ pub(crate) fn hint_invalid<E: HintSink>(fault: Invalid, text: &str, err: &mut E)
             format_args!("it jumps past the last instruction: is the {text} complete?"),
             err,
         ),
-        Invalid::Cell(_) => give_hint(
-            "the scratch memory has the cells 0 to 15",
-            err,
-        ),
+        Invalid::Cell(_) => give_hint("the scratch memory has the cells 0 to 15", err),
         Invalid::ZeroDivisor(_) => give_hint("the divisor is 0", err),
         Invalid::NoReturn => give_hint(
             format_args!("the last instruction is not a return: is the {text} complete?"),
