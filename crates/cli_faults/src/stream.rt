@@ -22,18 +22,23 @@ const NO_MEMORY_OBJECT: &str = "{\"fault\":\"NoMemory\",\"numbers\":[]}\n";
 /// A writer that faults are reported to: as lines, or with `--json` as objects, and then without hints. A line that is no fault goes out as
 /// it is, and so does a fault if memory for its object runs out.
 #[derive(Drop)]
-pub struct FaultStream<'a, E> {
+pub struct FaultStream<'a, 'e, E> {
     alloc: Global,
-    inner: E,
+    inner: &'e mut E,
     is_json: bool,
     inputs: Inputs<'a>,
     /// The part of a line that came so far.
     part: Vec<u8>,
 }
 
-impl<'a, E: Write> FaultStream<'a, E> {
+impl<'a, 'e, E: Write> FaultStream<'a, 'e, E> {
     /// A writer in front of another, for a command that reads these captures.
-    pub fn new(alloc: Global, inner: E, is_json: bool, inputs: Inputs<'a>) -> FaultStream<'a, E> {
+    pub fn new(
+        alloc: Global,
+        inner: &'e mut E,
+        is_json: bool,
+        inputs: Inputs<'a>,
+    ) -> FaultStream<'a, 'e, E> {
         FaultStream {
             alloc,
             inner,
@@ -46,22 +51,22 @@ impl<'a, E: Write> FaultStream<'a, E> {
     /// Writes the object of a fault.
     fn write_fault(&mut self, line: &str, fault: &str) -> io::Result<()> {
         if fault == NO_MEMORY {
-            return send(NO_MEMORY_OBJECT.as_bytes(), &mut self.inner);
+            return send(NO_MEMORY_OBJECT.as_bytes(), &mut *self.inner);
         }
         match object_of(self.alloc, fault, self.inputs) {
-            Ok(object) => send(object.as_bytes(), &mut self.inner),
-            Err(_) => send(line.as_bytes(), &mut self.inner),
+            Ok(object) => send(object.as_bytes(), &mut *self.inner),
+            Err(_) => send(line.as_bytes(), &mut *self.inner),
         }
     }
 
     /// Writes a line, with its end.
     fn write_line(&mut self, line: &[u8]) -> io::Result<()> {
         let Ok(text) = str::from_utf8(line) else {
-            return send(line, &mut self.inner);
+            return send(line, &mut *self.inner);
         };
         match text.strip_prefix(PREFIX) {
             Some(fault) => self.write_fault(text, fault.trim_end_matches('\n')),
-            None => send(line, &mut self.inner),
+            None => send(line, &mut *self.inner),
         }
     }
 
@@ -79,7 +84,7 @@ impl<'a, E: Write> FaultStream<'a, E> {
     }
 }
 
-impl<E: Write> Write for FaultStream<'_, E> {
+impl<E: Write> Write for FaultStream<'_, '_, E> {
     fn write(&mut self, from: &[u8]) -> io::Result<usize> {
         if !self.is_json {
             return self.inner.write(from);
@@ -97,8 +102,8 @@ impl<E: Write> Write for FaultStream<'_, E> {
     }
 }
 
-impl<E: HintSink> HintSink for FaultStream<'_, E> {
-    ghost takes_hints = { λ stream. if stream.is_json then false else E.takes_hints stream.inner };
+impl<E: HintSink> HintSink for FaultStream<'_, '_, E> {
+    ghost takes_hints = { λ stream. if stream.is_json then false else E.takes_hints stream.inner.now };
 
     fn takes_hints(&self) -> bool {
         !self.is_json && self.inner.takes_hints()
