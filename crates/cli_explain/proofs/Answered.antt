@@ -15,7 +15,9 @@ use Rattle.cli_explain.specs.declared.each.VerdictCounts.{VerdictCounts}
 use Rattle.cli_explain.specs.declared.each.Unprinted.{Unprinted}
 use Rattle.cli_explain.specs.declared.each.Unprinted.TheVariants.{NoMemory, Output}
 use Rattle.cli_explain.specs.declared.filter.AskedFilter.{AskedFilter}
-use Rattle.cli_explain.specs.Answers.{Answer, answer, IsAnswer, answer_line}
+use Rattle.cli_explain.specs.declared.form.PacketForm.{PacketForm}
+use Rattle.cli_explain.specs.Answers.{Answer, answer}
+use Rattle.cli_explain.specs.Forms.{IsAnswerIn, line_in}
 use Rattle.cli_explain.specs.Explained.{is_yes, is_no, is_abort, count_of, counted, AreCounts, answer_lines, packets_of, PrintsLine, IsLineBroken}
 
 -- one more of them
@@ -32,10 +34,10 @@ numbered-last f n (y ∷ xs) x =
     ap (λ (t : List ℕ). f n y ++ t) (numbered-last f (suc n) xs x ∙ ap (λ k. numbered f (suc n) xs ++ f k x) same)
     ∙ sym (append_assoc (f n y) (numbered f (suc n) xs) (f (n + suc (length xs)) x))
 
-lines-last : (answers : List Answer) (a : Answer) (place : ℕ) → place ≡ length answers → answer_lines (answers ++ a ∷ []) ≡ answer_lines answers ++ answer_line place a
-lines-last answers a place here =
+lines-last : (form : PacketForm) (answers : List Answer) (a : Answer) (place : ℕ) → place ≡ length answers → answer_lines form (answers ++ a ∷ []) ≡ answer_lines form answers ++ line_in form place a
+lines-last form answers a place here =
     let same : 0 + length answers ≡ place = omega (arith, here) in
-    numbered-last answer_line 0 answers a ∙ ap (λ k. answer_lines answers ++ answer_line k a) same
+    numbered-last (line_in form) 0 answers a ∙ ap (λ k. answer_lines form answers ++ line_in form k a) same
 
 pub packets-last : (answers : List Answer) (a : Answer) → packets_of (answers ++ a ∷ []) ≡ packets_of answers ++ a.packet ∷ []
 packets-last answers a = map-append (λ (b : Answer). b.packet) answers (a ∷ [])
@@ -95,37 +97,37 @@ counted-abort Abort c few = omega (arith, few)
 -- ---- One packet more
 
 -- it is answered, printed and counted
-pub goes-on : (f : AskedFilter) (old mid new : Option (List ℕ)) (answers : List Answer) (c after : VerdictCounts) (p : Packet) (v : Verdict) →
-    AllByRecursion (IsAnswer f) answers → Appends old mid (answer_lines answers) → AreCounts c answers →
-    PrintsLine f c.packets p mid new v → after ≡ counted v c →
-    (a : Answer) × (a.packet ≡ p) × AllByRecursion (IsAnswer f) (answers ++ a ∷ [])
-    × Appends old new (answer_lines (answers ++ a ∷ [])) × AreCounts after (answers ++ a ∷ [])
-goes-on f old mid new answers c after p v all lines are (reason, is, line) more =
+pub goes-on : (form : PacketForm) (f : AskedFilter) (old mid new : Option (List ℕ)) (answers : List Answer) (c after : VerdictCounts) (p : Packet) (v : Verdict) →
+    AllByRecursion (IsAnswerIn form f) answers → Appends old mid (answer_lines form answers) → AreCounts c answers →
+    PrintsLine form f c.packets p mid new v → after ≡ counted v c →
+    (a : Answer) × (a.packet ≡ p) × AllByRecursion (IsAnswerIn form f) (answers ++ a ∷ [])
+    × Appends old new (answer_lines form (answers ++ a ∷ [])) × AreCounts after (answers ++ a ∷ [])
+goes-on form f old mid new answers c after p v all lines are (reason, is, line) more =
     let a = answer p v reason in (
       a,
       refl,
-      all-more (IsAnswer f) answers a all is,
-      subst (Appends old new) (sym (lines-last answers a c.packets are.packets)) (Appends-trans old mid new (answer_lines answers) (answer_line c.packets a) lines line),
+      all-more (IsAnswerIn form f) answers a all is,
+      subst (Appends old new) (sym (lines-last form answers a c.packets are.packets)) (Appends-trans old mid new (answer_lines form answers) (line_in form c.packets a) lines line),
       subst (λ (k : VerdictCounts). AreCounts k (answers ++ a ∷ [])) (sym more) (counts-by v answers p reason c are),
     )
 
 -- or its line is not printed, or a beginning of it alone
-pub breaks-off : (f : AskedFilter) (old mid new : Option (List ℕ)) (answers : List Answer) (c : VerdictCounts) (p : Packet) (unprinted : Unprinted) →
-    AllByRecursion (IsAnswer f) answers → Appends old mid (answer_lines answers) → AreCounts c answers →
-    IsLineBroken f c.packets p mid new unprinted →
-    (told : List Answer) × AllByRecursion (IsAnswer f) told × ((packets_of told ≡ packets_of answers) ⊎ (packets_of told ≡ packets_of answers ++ p ∷ []))
-    × TakesPart old new (answer_lines told)
-breaks-off f old mid new answers c p NoMemory all lines are kept =
-    let taken = Appends-kept old mid new (answer_lines answers) lines kept in (
+pub breaks-off : (form : PacketForm) (f : AskedFilter) (old mid new : Option (List ℕ)) (answers : List Answer) (c : VerdictCounts) (p : Packet) (unprinted : Unprinted) →
+    AllByRecursion (IsAnswerIn form f) answers → Appends old mid (answer_lines form answers) → AreCounts c answers →
+    IsLineBroken form f c.packets p mid new unprinted →
+    (told : List Answer) × AllByRecursion (IsAnswerIn form f) told × ((packets_of told ≡ packets_of answers) ⊎ (packets_of told ≡ packets_of answers ++ p ∷ []))
+    × TakesPart old new (answer_lines form told)
+breaks-off form f old mid new answers c p NoMemory all lines are kept =
+    let taken = Appends-kept old mid new (answer_lines form answers) lines kept in (
       answers,
       all,
       inl refl,
-      record { part = answer_lines answers; begins = ([], sym (append-nil (answer_lines answers))); appends = taken },
+      record { part = answer_lines form answers; begins = ([], sym (append-nil (answer_lines form answers))); appends = taken },
     )
-breaks-off f old mid new answers c p (Output error) all lines are (v, reason, is, part) =
+breaks-off form f old mid new answers c p (Output error) all lines are (v, reason, is, part) =
     let a = answer p v reason in (
       answers ++ a ∷ [],
-      all-more (IsAnswer f) answers a all is,
+      all-more (IsAnswerIn form f) answers a all is,
       inr (packets-last answers a),
-      subst (TakesPart old new) (sym (lines-last answers a c.packets are.packets)) (TakesPart-then old mid new (answer_lines answers) (answer_line c.packets a) lines part),
+      subst (TakesPart old new) (sym (lines-last form answers a c.packets are.packets)) (TakesPart-then old mid new (answer_lines form answers) (line_in form c.packets a) lines part),
     )

@@ -18,8 +18,11 @@ use Rattle.cli_explain.specs.declared.each.Unprinted.{Unprinted}
 use Rattle.cli_explain.specs.declared.each.Unprinted.TheVariants as unprinted
 use Rattle.cli_explain.specs.declared.filter.AskedFilter.{AskedFilter}
 use Rattle.cli_explain.specs.declared.one.Found.{Found}
-use Rattle.cli_explain.specs.Answers.{Answer, IsAnswer, answer, answer_line}
-use Rattle.cli_explain.specs.Explained.{is_yes, is_no, is_abort, count_of, AreCounts, counts_text, counts_line, answer_lines, packets_of, IsLineBroken, IsUnopened, PrintsLine, PrintsLines, PrintsAll, PrintsFound, PrintsMore, PrintsWhole, GoesTo, Finds}
+use Rattle.cli_explain.specs.declared.form.PacketForm.{PacketForm}
+use Rattle.cli_explain.specs.declared.form.PacketForm.TheVariants.{Text, Json}
+use Rattle.cli_explain.specs.Answers.{Answer, answer, answer_line}
+use Rattle.cli_explain.specs.Forms.{IsAnswerIn, counts_in}
+use Rattle.cli_explain.specs.Explained.{is_yes, is_no, is_abort, count_of, AreCounts, counts_line, answer_lines, packets_of, IsLineBroken, IsUnopened, PrintsLine, PrintsLines, PrintsAll, PrintsFound, PrintsMore, PrintsWhole, GoesTo, Finds}
 
 -- the header was not read
 pub unopened : {R : Type 0} (left : R → Option (List ℕ)) (from back : R) (fault : Fault) → WasRefused (left from) fault ⊎ (fault ≡ Device) ⊎ (fault ≡ NoMemory) →
@@ -29,51 +32,51 @@ unopened left from back fault (inr (inl device)) kept (bytes, gave, short) = inr
 unopened left from back fault (inr (inr wanting)) kept given = inr (inr (wanting, kept wanting))
 
 -- it broke off
-pub broken-off : {A : Type 0} (f : AskedFilter) (from left : Option (List ℕ)) (header : Header) (old new : Option (List ℕ)) (c : VerdictCounts) (read : Result A Fault) (done : Result A Unprinted) (x : A) (u : Unprinted) (told : List Answer) →
-    read ≡ Ok x → done ≡ Err u → AllByRecursion (IsAnswer f) told → WasBegun from header (packets_of told) → TakesPart old new (answer_lines told) →
-    PrintsLines f from left header old new c read done
-broken-off f from left header old new c read done x u told reads stops all begun part =
+pub broken-off : {A : Type 0} (form : PacketForm) (f : AskedFilter) (from left : Option (List ℕ)) (header : Header) (old new : Option (List ℕ)) (c : VerdictCounts) (read : Result A Fault) (done : Result A Unprinted) (x : A) (u : Unprinted) (told : List Answer) →
+    read ≡ Ok x → done ≡ Err u → AllByRecursion (IsAnswerIn form f) told → WasBegun from header (packets_of told) → TakesPart old new (answer_lines form told) →
+    PrintsLines form f from left header old new c read done
+broken-off form f from left header old new c read done x u told reads stops all begun part =
     rw (reads, stops) (inl (told, all, begun, refl, refl, part))
 
 -- the capture was read to its end
-pub read-whole : {A : Type 0} (f : AskedFilter) (from left : Option (List ℕ)) (header : Header) (old new : Option (List ℕ)) (c : VerdictCounts) (read : Result A Fault) (done : Result A Unprinted) (x y : A) (answers : List Answer) →
-    read ≡ Ok x → done ≡ Ok y → AllByRecursion (IsAnswer f) answers → WasRead from header (packets_of answers) None →
-    Appends old new (answer_lines answers) → AreCounts c answers →
-    PrintsLines f from left header old new c read done
-read-whole f from left header old new c read done x y answers reads prints all was lines are =
+pub read-whole : {A : Type 0} (form : PacketForm) (f : AskedFilter) (from left : Option (List ℕ)) (header : Header) (old new : Option (List ℕ)) (c : VerdictCounts) (read : Result A Fault) (done : Result A Unprinted) (x y : A) (answers : List Answer) →
+    read ≡ Ok x → done ≡ Ok y → AllByRecursion (IsAnswerIn form f) answers → WasRead from header (packets_of answers) None →
+    Appends old new (answer_lines form answers) → AreCounts c answers →
+    PrintsLines form f from left header old new c read done
+read-whole form f from left header old new c read done x y answers reads prints all was lines are =
     rw (reads, prints) (inr (answers, all, inl (None, was, refl), refl, lines, are))
 
 -- or not so far
-pub read-part : {A : Type 0} (f : AskedFilter) (from left : Option (List ℕ)) (header : Header) (old new : Option (List ℕ)) (c : VerdictCounts) (read : Result A Fault) (done : Result A Unprinted) (fault : Fault) (y : A) (answers : List Answer) →
-    read ≡ Err fault → done ≡ Ok y → AllByRecursion (IsAnswer f) answers →
-    Appends old new (answer_lines answers) → AreCounts c answers → WasBegun from header (packets_of answers) → IsCause from left header (packets_of answers) fault →
-    PrintsLines f from left header old new c read done
-read-part f from left header old new c read done fault y answers reads prints all lines are begun (inl was) =
+pub read-part : {A : Type 0} (form : PacketForm) (f : AskedFilter) (from left : Option (List ℕ)) (header : Header) (old new : Option (List ℕ)) (c : VerdictCounts) (read : Result A Fault) (done : Result A Unprinted) (fault : Fault) (y : A) (answers : List Answer) →
+    read ≡ Err fault → done ≡ Ok y → AllByRecursion (IsAnswerIn form f) answers →
+    Appends old new (answer_lines form answers) → AreCounts c answers → WasBegun from header (packets_of answers) → IsCause from left header (packets_of answers) fault →
+    PrintsLines form f from left header old new c read done
+read-part form f from left header old new c read done fault y answers reads prints all lines are begun (inl was) =
     rw (reads, prints) (inr (answers, all, inl (Some fault, was, refl), refl, lines, are))
-read-part f from left header old new c read done fault y answers reads prints all lines are begun (inr (inl (device, taken))) =
+read-part form f from left header old new c read done fault y answers reads prints all lines are begun (inr (inl (device, taken))) =
     rw (reads, prints) (inr (answers, all, inr (begun, inl (ap Err device, taken)), refl, lines, are))
-read-part f from left header old new c read done fault y answers reads prints all lines are begun (inr (inr (full, many))) =
+read-part form f from left header old new c read done fault y answers reads prints all lines are begun (inr (inr (full, many))) =
     rw (reads, prints) (inr (answers, all, inr (begun, inr (ap Err full, many)), refl, lines, are))
 
 -- where the lines broke off, no counts are printed
-pub lines-alone : {A : Type 0} (f : AskedFilter) (from left : Option (List ℕ)) (header : Header) (old new : Option (List ℕ)) (c : VerdictCounts) (read : Result A Fault) (done : Result A Unprinted) →
-    is_err done ≡ true → PrintsLines f from left header old new c read done → PrintsAll f from left header old new c read done
-lines-alone f from left header old new c read (Ok x) failed lines = absurd (cc)
-lines-alone f from left header old new c read (Err u) failed (inl broke) = inl broke
-lines-alone f from left header old new c read (Err u) failed (inr (answers, all, reads, ok, lines, are)) = absurd (cc)
+pub lines-alone : {A : Type 0} (form : PacketForm) (f : AskedFilter) (from left : Option (List ℕ)) (header : Header) (old new : Option (List ℕ)) (c : VerdictCounts) (read : Result A Fault) (done : Result A Unprinted) →
+    is_err done ≡ true → PrintsLines form f from left header old new c read done → PrintsAll form f from left header old new c read done
+lines-alone form f from left header old new c read (Ok x) failed lines = absurd (cc)
+lines-alone form f from left header old new c read (Err u) failed (inl broke) = inl broke
+lines-alone form f from left header old new c read (Err u) failed (inr (answers, all, reads, ok, lines, are)) = absurd (cc)
 
 -- the lines, and then the counts
-pub lines-and-counts : {A : Type 0} (f : AskedFilter) (from left : Option (List ℕ)) (header : Header) (old mid new : Option (List ℕ)) (c : VerdictCounts) (read : Result A Fault) (done told : Result A Unprinted) →
-    is_err done ≡ false → PrintsLines f from left header old mid c read done → Takes mid new told (counts_text c.packets c.yes c.no c.abort) →
-    PrintsAll f from left header old new c read told
-lines-and-counts f from left header old mid new c read (Err u) told went lines taken = absurd (cc)
-lines-and-counts f from left header old mid new c read (Ok x) told went (inl (answers, all, begun, ok, err, part)) taken = absurd (cc)
-lines-and-counts f from left header old mid new c read (Ok x) (Ok y) went (inr (answers, all, reads, ok, lines, are)) taken =
-    let same : counts_text c.packets c.yes c.no c.abort ≡ counts_line answers = rw (are.packets, are.yes, are.no, are.abort) refl in
-    let more = Appends-trans old mid new (answer_lines answers) _ lines (subst (Appends mid new) same taken) in
+pub lines-and-counts : {A : Type 0} (form : PacketForm) (f : AskedFilter) (from left : Option (List ℕ)) (header : Header) (old mid new : Option (List ℕ)) (c : VerdictCounts) (read : Result A Fault) (done told : Result A Unprinted) →
+    is_err done ≡ false → PrintsLines form f from left header old mid c read done → Takes mid new told (counts_in form c.packets c.yes c.no c.abort) →
+    PrintsAll form f from left header old new c read told
+lines-and-counts form f from left header old mid new c read (Err u) told went lines taken = absurd (cc)
+lines-and-counts form f from left header old mid new c read (Ok x) told went (inl (answers, all, begun, ok, err, part)) taken = absurd (cc)
+lines-and-counts form f from left header old mid new c read (Ok x) (Ok y) went (inr (answers, all, reads, ok, lines, are)) taken =
+    let same : counts_in form c.packets c.yes c.no c.abort ≡ counts_line form answers = rw (are.packets, are.yes, are.no, are.abort) refl in
+    let more = Appends-trans old mid new (answer_lines form answers) _ lines (subst (Appends mid new) same taken) in
     inr (answers, all, reads, (more, are))
-lines-and-counts f from left header old mid new c read (Ok x) (Err u) went (inr (answers, all, reads, ok, lines, are)) taken =
-    let same : counts_text c.packets c.yes c.no c.abort ≡ counts_line answers = rw (are.packets, are.yes, are.no, are.abort) refl in
+lines-and-counts form f from left header old mid new c read (Ok x) (Err u) went (inr (answers, all, reads, ok, lines, are)) taken =
+    let same : counts_in form c.packets c.yes c.no c.abort ≡ counts_line form answers = rw (are.packets, are.yes, are.no, are.abort) refl in
     inr (answers, all, reads, (mid, lines, subst (TakesPart mid new) same taken))
 
 -- ---- One packet more
@@ -126,14 +129,14 @@ finds-it left from f place old new header r e (Err fault) begins same is (packet
 
 -- a packet's line, and then more
 pub prints-whole : {A : Type 0} (f : AskedFilter) (place : ℕ) (p : Packet) (old mid new : Option (List ℕ)) (v : Verdict) (result : Result A Unprinted) →
-    PrintsLine f place p old mid v → PrintsMore mid new result → PrintsWhole f place p old new result
+    PrintsLine Text f place p old mid v → PrintsMore mid new result → PrintsWhole f place p old new result
 prints-whole f place p old mid new v (Ok x) (reason, is, line) (text, taken) = (v, reason, is, text, Appends-trans old mid new _ text line taken)
 prints-whole f place p old mid new v (Err unprinted.NoMemory) (reason, is, line) kept = inr (v, (reason, is, Appends-kept old mid new _ line kept))
 prints-whole f place p old mid new v (Err (unprinted.Output error)) (reason, is, line) (text, part) = (v, reason, is, text, TakesPart-then old mid new _ text line part)
 
 -- or its line broke off
 pub broken-line : {A : Type 0} (f : AskedFilter) (place : ℕ) (p : Packet) (old new : Option (List ℕ)) (result : Result A Unprinted) (u : Unprinted) →
-    result ≡ Err u → IsLineBroken f place p old new u → PrintsWhole f place p old new result
+    result ≡ Err u → IsLineBroken Text f place p old new u → PrintsWhole f place p old new result
 broken-line f place p old new result unprinted.NoMemory is kept = rw is (inl kept)
 broken-line f place p old new result (unprinted.Output error) is (verdict, reason, answers, part) =
     rw is (verdict, reason, answers, [], TakesPart-more old new (answer_line place (answer p verdict reason)) [] part)

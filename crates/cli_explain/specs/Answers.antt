@@ -39,16 +39,26 @@ pub record Decides (tree : Tree) (a : Answer) : Type 0 where
 abbrev pub ended_as : Insn → ℕ → Verdict
 ended_as insn n = if is_return insn then (if n == 0 then No else Yes) else Abort
 
--- Of a program: the end of its run; told is the number that it answers, and its last instruction with its place.
-pub record EndsRun (program : List Insn) (a : Answer) : Type 0 where
+-- where the run of a program over a packet ends, and the number that it answers
+pub record IsEndOfRun (program : List Insn) (p : Packet) (number place : ℕ) (insn : Insn) : Type 0 where
   pub before : List Executed
   pub last : Executed
+  pub runs : Runs program p.bytes p.len beginning (before ++ last ∷ []) number
+  pub at_place : last.place ≡ place
+  pub here : slice_get program place ≡ Some insn
+
+-- Of a program: the end of its run; told is the number that it answers, and its last instruction with its place, in these words.
+pub record EndsRunAs (words : ℕ → ℕ → Insn → List ℕ) (program : List Insn) (a : Answer) : Type 0 where
   pub number : ℕ
-  pub runs : Runs program a.packet.bytes a.packet.len beginning (before ++ last ∷ []) number
+  pub place : ℕ
   pub insn : Insn
-  pub here : slice_get program last.place ≡ Some insn
+  pub ends : IsEndOfRun program a.packet number place insn
   pub answers : a.verdict ≡ ended_as insn number
-  pub told : a.reason ≡ end_text number last.place insn
+  pub told : a.reason ≡ words number place insn
+
+-- in words of the text
+abbrev pub EndsRun : List Insn → Answer → Type 0
+EndsRun program a = EndsRunAs end_text program a
 
 abbrev pub IsAnswerOf : Option Expr → List Insn → Answer → Type 0
 IsAnswerOf (Some expr) program a = Decides (tree_of expr) a

@@ -7,8 +7,10 @@ use Rattle.cli_explain.specs.declared.captures.Stop.{Stop}
 use Rattle.cli_explain.specs.declared.each.Explained.{Explained}
 use Rattle.cli_explain.specs.declared.each.VerdictCounts.{VerdictCounts}
 use Rattle.cli_explain.specs.declared.filter.AskedFilter.{AskedFilter}
+use Rattle.cli_explain.specs.declared.form.PacketForm.{PacketForm}
 use Rattle.cli_explain.specs.declared.seek.Sought.{Sought}
 use Rattle.cli_explain.specs.Explained.{ExplainsLines}
+use Rattle.cli_explain.specs.Forms.{of_capture}
 use Rattle.cli_explain.specs.Seeking.{Seeks}
 
 -- the capture that ended the reading
@@ -37,12 +39,12 @@ no_counts = record { packets = 0; yes = 0; no = 0; abort = 0 }
 
 -- Of these captures, of which the first has the number n, the lines of the packets were printed, each capture after the one before it, and
 -- counted after those so far; until a fault ended a capture, or the printing failed. `opened`: whether a header was read.
-abbrev pub ExplainsIn : {R : Type 0} → (R → Option (List ℕ)) → AskedFilter → ℕ → (opened : Bool) → VerdictCounts → List R → Option (List ℕ) → Option (List ℕ) → ExplainedCaptures R → Type 0
-ExplainsIn left filter n opened so_far [] old new end =
+abbrev pub ExplainsIn : {R : Type 0} → (R → Option (List ℕ)) → PacketForm → AskedFilter → ℕ → (opened : Bool) → VerdictCounts → List R → Option (List ℕ) → Option (List ℕ) → ExplainedCaptures R → Type 0
+ExplainsIn left form filter n opened so_far [] old new end =
     (end.opened ≡ opened) × (end.counts ≡ so_far) × IsOk end.read × IsOk end.printed × (new ≡ old)
-ExplainsIn {R = R} left filter n opened so_far (capture ∷ captures) old new end =
-    (e : Explained R) × (mid : Option (List ℕ)) × ExplainsLines left capture filter old mid e
-    × ((IsOk e.read × IsOk e.printed × ExplainsIn left filter (suc n) (opened || e.opened) (plus so_far e.counts) captures mid new end)
+ExplainsIn {R = R} left form filter n opened so_far (capture ∷ captures) old new end =
+    (e : Explained R) × (mid : Option (List ℕ)) × ExplainsLines left capture (of_capture form n) filter old mid e
+    × ((IsOk e.read × IsOk e.printed × ExplainsIn left form filter (suc n) (opened || e.opened) (plus so_far e.counts) captures mid new end)
     ⊎ ((fault : Fault) × (e.read ≡ Err fault) × IsOk e.printed × (end.read ≡ Err (stop n fault e.source)) × IsOk end.printed
     × (end.opened ≡ opened || e.opened) × (end.counts ≡ plus so_far e.counts) × (new ≡ mid))
     ⊎ (IsErr e.printed × (end.printed ≡ e.printed) × IsOk end.read × (end.opened ≡ opened || e.opened) × (new ≡ mid)))

@@ -19,7 +19,10 @@ use Rattle.cli_explain.specs.declared.each.Unprinted.{Unprinted}
 use Rattle.cli_explain.specs.declared.each.Unprinted.TheVariants as unprinted
 use Rattle.cli_explain.specs.declared.one.Found.{Found}
 use Rattle.cli_explain.specs.declared.filter.AskedFilter.{AskedFilter}
+use Rattle.cli_explain.specs.declared.form.PacketForm.{PacketForm}
+use Rattle.cli_explain.specs.declared.form.PacketForm.TheVariants.{Text}
 use Rattle.cli_explain.specs.Answers.{Answer, answer, IsAnswer, answer_line}
+use Rattle.cli_explain.specs.Forms.{IsAnswerIn, counts_in, line_in}
 
 -- ---- The counts
 
@@ -55,30 +58,25 @@ counted Yes c = record { packets = c.packets + 1; yes = c.yes + 1; no = c.no; ab
 counted No c = record { packets = c.packets + 1; yes = c.yes; no = c.no + 1; abort = c.abort }
 counted Abort c = record { packets = c.packets + 1; yes = c.yes; no = c.no; abort = c.abort + 1 }
 
--- `N packets: Y Yes, N No, A Abort`
-unfoldable pub counts_text : (packets accepted rejected aborted : ℕ) → List ℕ
-counts_text packets accepted rejected aborted = decimal packets ++ codes " packets: " ++ decimal accepted ++ codes " Yes, " ++ decimal rejected
-    ++ codes " No, " ++ decimal aborted ++ codes " Abort" ++ end_of_line
-
 -- ---- What is printed
 
 -- the line of each packet, numbered from 0
-abbrev pub answer_lines : List Answer → List ℕ
-answer_lines answers = numbered answer_line 0 answers
+abbrev pub answer_lines : PacketForm → List Answer → List ℕ
+answer_lines form answers = numbered (line_in form) 0 answers
 
 -- the line of the counts
-abbrev pub counts_line : List Answer → List ℕ
-counts_line answers = counts_text (length answers) (count_of is_yes answers) (count_of is_no answers) (count_of is_abort answers)
+abbrev pub counts_line : PacketForm → List Answer → List ℕ
+counts_line form answers = counts_in form (length answers) (count_of is_yes answers) (count_of is_no answers) (count_of is_abort answers)
 
 -- the lines of the packets, and that of the counts
-abbrev pub printed : List Answer → List ℕ
-printed answers = answer_lines answers ++ counts_line answers
+abbrev pub printed : PacketForm → List Answer → List ℕ
+printed form answers = answer_lines form answers ++ counts_line form answers
 
 -- All was printed and counted; or all lines of the packets were, and then a beginning of that of the counts.
-abbrev pub Prints : {A : Type 0} → Option (List ℕ) → Option (List ℕ) → List Answer → VerdictCounts → Result A Unprinted → Type 0
-Prints old new answers counts done =
-    MatchResult done (λ _. Appends old new (printed answers) × AreCounts counts answers)
-    (λ _. (mid : Option (List ℕ)) × Appends old mid (answer_lines answers) × TakesPart mid new (counts_line answers))
+abbrev pub Prints : {A : Type 0} → PacketForm → Option (List ℕ) → Option (List ℕ) → List Answer → VerdictCounts → Result A Unprinted → Type 0
+Prints form old new answers counts done =
+    MatchResult done (λ _. Appends old new (printed form answers) × AreCounts counts answers)
+    (λ _. (mid : Option (List ℕ)) × Appends old mid (answer_lines form answers) × TakesPart mid new (counts_line form answers))
 
 -- ---- What was read
 
@@ -111,51 +109,51 @@ IsUnopened left from back fault =
 -- ---- A capture
 
 -- The printing broke off at a line: a beginning of the lines of packets that the capture begins with was printed, and no counts.
-abbrev pub BreaksOff : {A : Type 0} → AskedFilter → Option (List ℕ) → Header → Option (List ℕ) → Option (List ℕ) → Result A Fault → Result A Unprinted → Type 0
-BreaksOff filter from header old new read done =
-    (answers : List Answer) × AllByRecursion (IsAnswer filter) answers × WasBegun from header (packets_of answers)
-    × IsOk read × IsErr done × TakesPart old new (answer_lines answers)
+abbrev pub BreaksOff : {A : Type 0} → PacketForm → AskedFilter → Option (List ℕ) → Header → Option (List ℕ) → Option (List ℕ) → Result A Fault → Result A Unprinted → Type 0
+BreaksOff form filter from header old new read done =
+    (answers : List Answer) × AllByRecursion (IsAnswerIn form filter) answers × WasBegun from header (packets_of answers)
+    × IsOk read × IsErr done × TakesPart old new (answer_lines form answers)
 
 -- the lines of the packets of a reader were printed and counted
-abbrev pub PrintsLines : {A : Type 0} → AskedFilter → Option (List ℕ) → Option (List ℕ) → Header → Option (List ℕ) → Option (List ℕ) → VerdictCounts → Result A Fault → Result A Unprinted → Type 0
-PrintsLines filter from left header old new counts read done =
-    BreaksOff filter from header old new read done
-    ⊎ ((answers : List Answer) × AllByRecursion (IsAnswer filter) answers × ReadsTo from left header (packets_of answers) read
-    × IsOk done × Appends old new (answer_lines answers) × AreCounts counts answers)
+abbrev pub PrintsLines : {A : Type 0} → PacketForm → AskedFilter → Option (List ℕ) → Option (List ℕ) → Header → Option (List ℕ) → Option (List ℕ) → VerdictCounts → Result A Fault → Result A Unprinted → Type 0
+PrintsLines form filter from left header old new counts read done =
+    BreaksOff form filter from header old new read done
+    ⊎ ((answers : List Answer) × AllByRecursion (IsAnswerIn form filter) answers × ReadsTo from left header (packets_of answers) read
+    × IsOk done × Appends old new (answer_lines form answers) × AreCounts counts answers)
 
 -- and then the counts
-abbrev pub PrintsAll : {A : Type 0} → AskedFilter → Option (List ℕ) → Option (List ℕ) → Header → Option (List ℕ) → Option (List ℕ) → VerdictCounts → Result A Fault → Result A Unprinted → Type 0
-PrintsAll filter from left header old new counts read done =
-    BreaksOff filter from header old new read done
-    ⊎ ((answers : List Answer) × AllByRecursion (IsAnswer filter) answers × ReadsTo from left header (packets_of answers) read
-    × Prints old new answers counts done)
+abbrev pub PrintsAll : {A : Type 0} → PacketForm → AskedFilter → Option (List ℕ) → Option (List ℕ) → Header → Option (List ℕ) → Option (List ℕ) → VerdictCounts → Result A Fault → Result A Unprinted → Type 0
+PrintsAll form filter from left header old new counts read done =
+    BreaksOff form filter from header old new read done
+    ⊎ ((answers : List Answer) × AllByRecursion (IsAnswerIn form filter) answers × ReadsTo from left header (packets_of answers) read
+    × Prints form old new answers counts done)
 
 -- The header was not read, and nothing was printed; or the packets up to some end were answered, and that was printed.
-abbrev pub Explains : {R : Type 0} → (R → Option (List ℕ)) → R → AskedFilter → Option (List ℕ) → Option (List ℕ) → Explained R → Type 0
-Explains left from filter old new e =
+abbrev pub Explains : {R : Type 0} → (R → Option (List ℕ)) → R → PacketForm → AskedFilter → Option (List ℕ) → Option (List ℕ) → Explained R → Type 0
+Explains left from form filter old new e =
     ((fault : Fault) × IsUnopened left from e.source fault × IsErrOf e.read fault × IsOk e.printed × Keeps old new × AreCounts e.counts []
     × (e.opened ≡ false))
-    ⊎ ((e.opened ≡ true) × (header : Header) × PrintsAll filter (left from) (left e.source) header old new e.counts e.read e.printed)
+    ⊎ ((e.opened ≡ true) × (header : Header) × PrintsAll form filter (left from) (left e.source) header old new e.counts e.read e.printed)
 
 -- the same without the line of the counts
-abbrev pub ExplainsLines : {R : Type 0} → (R → Option (List ℕ)) → R → AskedFilter → Option (List ℕ) → Option (List ℕ) → Explained R → Type 0
-ExplainsLines left from filter old new e =
+abbrev pub ExplainsLines : {R : Type 0} → (R → Option (List ℕ)) → R → PacketForm → AskedFilter → Option (List ℕ) → Option (List ℕ) → Explained R → Type 0
+ExplainsLines left from form filter old new e =
     ((fault : Fault) × IsUnopened left from e.source fault × IsErrOf e.read fault × IsOk e.printed × Keeps old new × AreCounts e.counts []
     × (e.opened ≡ false))
-    ⊎ ((e.opened ≡ true) × (header : Header) × PrintsLines filter (left from) (left e.source) header old new e.counts e.read e.printed)
+    ⊎ ((e.opened ≡ true) × (header : Header) × PrintsLines form filter (left from) (left e.source) header old new e.counts e.read e.printed)
 
 -- ---- A line
 
 -- the line of a packet was printed, whose answer is told
-abbrev pub PrintsLine : AskedFilter → ℕ → Packet → Option (List ℕ) → Option (List ℕ) → Verdict → Type 0
-PrintsLine filter place p old new verdict =
-    (reason : List ℕ) × IsAnswer filter (answer p verdict reason) × Appends old new (answer_line place (answer p verdict reason))
+abbrev pub PrintsLine : PacketForm → AskedFilter → ℕ → Packet → Option (List ℕ) → Option (List ℕ) → Verdict → Type 0
+PrintsLine form filter place p old new verdict =
+    (reason : List ℕ) × IsAnswerIn form filter (answer p verdict reason) × Appends old new (line_in form place (answer p verdict reason))
 
 -- or why it was not, or a beginning of it alone
-abbrev pub IsLineBroken : AskedFilter → ℕ → Packet → Option (List ℕ) → Option (List ℕ) → Unprinted → Type 0
-IsLineBroken filter place p old new unprinted.NoMemory = Keeps old new
-IsLineBroken filter place p old new (unprinted.Output error) =
-    (verdict : Verdict) × (reason : List ℕ) × IsAnswer filter (answer p verdict reason) × TakesPart old new (answer_line place (answer p verdict reason))
+abbrev pub IsLineBroken : PacketForm → AskedFilter → ℕ → Packet → Option (List ℕ) → Option (List ℕ) → Unprinted → Type 0
+IsLineBroken form filter place p old new unprinted.NoMemory = Keeps old new
+IsLineBroken form filter place p old new (unprinted.Output error) =
+    (verdict : Verdict) × (reason : List ℕ) × IsAnswerIn form filter (answer p verdict reason) × TakesPart old new (line_in form place (answer p verdict reason))
 
 -- ---- One packet
 
@@ -172,7 +170,7 @@ PrintsWhole filter place p old new (Ok done) =
     (verdict : Verdict) × (reason : List ℕ) × IsAnswer filter (answer p verdict reason)
     × (more : List ℕ) × Appends old new (answer_line place (answer p verdict reason) ++ more)
 PrintsWhole filter place p old new (Err unprinted.NoMemory) =
-    Keeps old new ⊎ ((verdict : Verdict) × PrintsLine filter place p old new verdict)
+    Keeps old new ⊎ ((verdict : Verdict) × PrintsLine Text filter place p old new verdict)
 PrintsWhole filter place p old new (Err (unprinted.Output error)) =
     (verdict : Verdict) × (reason : List ℕ) × IsAnswer filter (answer p verdict reason)
     × (more : List ℕ) × TakesPart old new (answer_line place (answer p verdict reason) ++ more)

@@ -4,6 +4,7 @@ use Rattle.std.specs.Fmt.{decimal}
 use Rattle.savefile.specs.declared.packet.Packet.{Packet}
 use Rattle.bpfvm.specs.declared.insn.Insn.{Insn}
 use Rattle.bpfvm.specs.Images.{brief_text}
+use Rattle.cli_text.specs.Telling.{end_of_line}
 use Rattle.cli_text.specs.Time.{nine_digits}
 
 -- `place P time S.NNNNNNNNN len W captured C `
@@ -14,3 +15,8 @@ packet_text place p = codes "place " ++ decimal place ++ codes " time " ++ decim
 -- the number that a program answers, the place of the instruction where its run ended, and that instruction
 unfoldable pub end_text : (number place : ℕ) → Insn → List ℕ
 end_text number place insn = decimal number ++ codes " at " ++ decimal place ++ codes ": " ++ brief_text insn
+
+-- `N packets: Y Yes, N No, A Abort`
+unfoldable pub counts_text : (packets accepted rejected aborted : ℕ) → List ℕ
+counts_text packets accepted rejected aborted = decimal packets ++ codes " packets: " ++ decimal accepted ++ codes " Yes, " ++ decimal rejected
+    ++ codes " No, " ++ decimal aborted ++ codes " Abort" ++ end_of_line

@@ -3,11 +3,12 @@
 ghost use Rattle.std.specs.Prelude.{◌≡◌, ◌||◌, true, false, Err, is_err, IsErr, IsOk};
 ghost use Rattle.savefile.specs.declared.fault.Fault.{Fault};
 ghost use Rattle.cli_text.specs.Sending.{Takes};
-ghost use Rattle.cli_explain.specs.Explained.{counts_text};
+ghost use Rattle.cli_explain.specs.Forms.{counts_in};
 ghost use Rattle.cli_explain.specs.Captures.{ExplainsIn, SeeksIn, no_counts, plus, stop};
 
 use crate::each::{Explained, Unprinted, VerdictCounts, explain_lines, print_counts};
 use crate::filter::AskedFilter;
+use crate::form::PacketForm;
 use crate::seek::{PacketTest, Sought, find_first};
 use savefile::{Fault, Source};
 use std::alloc::Global;
@@ -105,7 +106,7 @@ impl<R: Drop> ExplainedCaptures<R> {
 }
 
 /// Prints a line for each packet of several captures, in order, as [`explain_each`](crate::each::explain_each) does of each: places
-/// count from 0 in each capture.
+/// count from 0 in each capture. An object of JSON has the capture's number, from 0.
 ///
 /// The first fault ends the reading, and the lines of the packets before it are printed. If `printed` has a fault, `read` is `Ok`, since
 /// no further packet was read.
@@ -113,9 +114,10 @@ pub fn explain_captures<R: Source + Drop, O: Write>(
     alloc: Global,
     captures: Vec<R>,
     filter: &AskedFilter,
+    form: PacketForm,
     out: &mut O,
 ) -> ExplainedCaptures<R>
-    ensures { ExplainsIn R.left filter.now 0 false no_counts captures.items (O.contents out.old) (O.contents out.new) result }
+    ensures { ExplainsIn R.left form filter.now 0 false no_counts captures.items (O.contents out.old) (O.contents out.new) result }
 {
     let mut end = ExplainedCaptures {
         opened: false,
@@ -125,7 +127,8 @@ pub fn explain_captures<R: Source + Drop, O: Write>(
     };
     let mut number = 0;
     for capture in captures {
-        end = end.after(number, explain_lines(alloc, capture, filter, out));
+        let form = form.of_capture(number);
+        end = end.after(number, explain_lines(alloc, capture, filter, form, out));
         if end.is_over() {
             return end;
         }
@@ -138,6 +141,7 @@ pub fn explain_captures<R: Source + Drop, O: Write>(
 pub fn print_totals<R: Drop, O: Write>(
     alloc: Global,
     ended: ExplainedCaptures<R>,
+    form: PacketForm,
     out: &mut O,
 ) -> ExplainedCaptures<R>
     ensures opened { result.opened ≡ ended.opened }
@@ -146,7 +150,7 @@ pub fn print_totals<R: Drop, O: Write>(
     ensures none { ended.opened ≡ false → (result ≡ ended) × (out.new ≡ out.old) }
     ensures failed { IsErr ended.printed → (result ≡ ended) × (out.new ≡ out.old) }
     ensures prints { ended.opened ≡ true → IsOk ended.printed →
-        Takes (O.contents out.old) (O.contents out.new) result.printed (counts_text ended.counts.packets ended.counts.yes ended.counts.no ended.counts.abort) }
+        Takes (O.contents out.old) (O.contents out.new) result.printed (counts_in form ended.counts.packets ended.counts.yes ended.counts.no ended.counts.abort) }
 {
     let ExplainedCaptures {
         opened,
@@ -155,7 +159,7 @@ pub fn print_totals<R: Drop, O: Write>(
         printed,
     } = ended;
     let printed = if opened && printed.is_ok() {
-        print_counts(counts, &mut String::new(alloc), out)
+        print_counts(counts, form, &mut String::new(alloc), out)
     } else {
         printed
     };

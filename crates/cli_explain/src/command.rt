@@ -1,12 +1,12 @@
 //! `bpftap explain`, over files.
 
-use crate::AskedFilter;
 use crate::captures::{explain_captures, find_in_captures, print_totals};
 use crate::hints::{hint_capture, hint_place};
 use crate::one::explain_one;
 use crate::paths::check_paths;
 use crate::plan::read_filter;
 use crate::report::{report_captures, report_one, report_sought};
+use crate::{AskedFilter, PacketForm};
 use cli_args::explain::ExplainWords;
 use cli_files::captures::{inputs, output_buffer};
 use cli_report::HintSink;
@@ -87,6 +87,15 @@ fn explain_places<R: Read + Drop, O: Write, E: HintSink>(
     status
 }
 
+/// The form of the lines that the arguments ask for.
+fn form_of(words: &ExplainWords<'_>) -> PacketForm {
+    if words.json {
+        PacketForm::Json(0)
+    } else {
+        PacketForm::Text
+    }
+}
+
 /// Prints a line for each packet, and the counts if a header was read; and reports how that ended.
 fn explain_all<R: Read + Drop, O: Write, E: HintSink>(
     job: &Job<'_, '_>,
@@ -95,8 +104,9 @@ fn explain_all<R: Read + Drop, O: Write, E: HintSink>(
     err: &mut E,
 ) -> Status {
     let paths = job.words.inputs.as_slice();
-    let ended = explain_captures(job.alloc, captures, &job.filter, out);
-    let ended = print_totals(job.alloc, ended, out);
+    let form = form_of(job.words);
+    let ended = explain_captures(job.alloc, captures, &job.filter, form, out);
+    let ended = print_totals(job.alloc, ended, form, out);
     let status = report_captures(&ended, paths, err);
     if let Err(stop) = &ended.read {
         hint_capture(paths, stop.number, stop.fault, &stop.source, err);

@@ -7,9 +7,12 @@ ghost use Rattle.savefile.specs.Reader.{HasGiven};
 ghost use Rattle.cli_text.specs.Sending.{Takes};
 ghost use Rattle.cli_explain.specs.Captures.{plus};
 ghost use Rattle.cli_explain.specs.declared.each.Unprinted.TheVariants.{NoMemory, Output};
-ghost use Rattle.cli_explain.specs.Explained.{Explains, ExplainsLines, PrintsAll, PrintsLines, PrintsLine, IsLineBroken, counts_text, counted};
+ghost use Rattle.cli_explain.specs.Explained.{Explains, ExplainsLines, PrintsAll, PrintsLines, PrintsLine, IsLineBroken, counted};
+ghost use Rattle.cli_explain.specs.Forms.{counts_in, counts_json};
+ghost use Rattle.cli_explain.specs.Printed.{counts_text};
 
 use crate::filter::AskedFilter;
+use crate::form::{Asking, LineBuffer, PacketForm};
 use crate::line::put_line;
 use bpfvm::NoMemory;
 use cli_text::sending::send;
@@ -113,7 +116,8 @@ impl VerdictCounts {
 /// relation that decides, after `not` if an odd number of these apply to it. An Abort has its cause. A program answers Yes
 /// where it returns a number other than 0, No where it returns 0, and Abort where its run ends at a byte that was not captured
 /// or a division by 0; after that come the number, and the place and name of the instruction where the run ended. The last
-/// line is `253 packets: 67 Yes, 186 No, 0 Abort`.
+/// line is `253 packets: 67 Yes, 186 No, 0 Abort`. In JSON each line is an object with the same numbers:
+/// `{"capture":0,"place":2,"seconds":1600000000,"nanoseconds":0,"length":98,"captured":98,"answer":"yes","decided":"tcp port 8080"}`.
 ///
 /// Each line is sent before the next packet is read. `read` has the header's fault, and then nothing is printed; with
 /// [`Fault::NoMemory`] the source is as it was too. It has the fault of the first torn or bad record, after the line of the counts. It is
@@ -123,10 +127,11 @@ pub fn explain_each<R: Source, O: Write>(
     alloc: Global,
     from: R,
     filter: &AskedFilter,
+    form: PacketForm,
     out: &mut O,
 ) -> Explained<R>
     // What was answered, what was printed, and how that ended.
-    ensures explains { Explains R.left from filter.now (O.contents out.old) (O.contents out.new) result }
+    ensures explains { Explains R.left from form filter.now (O.contents out.old) (O.contents out.new) result }
 
     // The next bytes of the source are taken, and its fault is returned if and only if it failed.
     ensures gave { (given : List ℕ) × Consumes (R.left from) (R.left result.source) given }
@@ -144,7 +149,7 @@ pub fn explain_each<R: Source, O: Write>(
             };
         }
     };
-    let ended = print_all(alloc, &mut reader, filter, out);
+    let ended = print_all(alloc, &mut reader, &Asking { filter, form }, out);
     Explained {
         source: reader.close(),
         opened: true,
@@ -159,10 +164,11 @@ pub fn explain_lines<R: Source, O: Write>(
     alloc: Global,
     from: R,
     filter: &AskedFilter,
+    form: PacketForm,
     out: &mut O,
 ) -> Explained<R>
     // What was answered, what was printed, and how that ended.
-    ensures explains { ExplainsLines R.left from filter.now (O.contents out.old) (O.contents out.new) result }
+    ensures explains { ExplainsLines R.left from form filter.now (O.contents out.old) (O.contents out.new) result }
 
     // The next bytes of the source are taken, and its fault is reported exactly if it failed.
     ensures gave { (given : List ℕ) × Consumes (R.left from) (R.left result.source) given }
@@ -180,8 +186,14 @@ pub fn explain_lines<R: Source, O: Write>(
             };
         }
     };
-    let mut line = String::new(alloc);
-    let ended = print_lines(alloc, &mut reader, filter, &mut line, out);
+    let mut buffer = LineBuffer::new(alloc);
+    let ended = print_lines(
+        alloc,
+        &mut reader,
+        &Asking { filter, form },
+        &mut buffer,
+        out,
+    );
     Explained {
         source: reader.close(),
         opened: true,
@@ -214,20 +226,20 @@ fn outcome(
 fn print_all<R: Source, O: Write>(
     alloc: Global,
     reader: &mut Reader<R>,
-    filter: &AskedFilter,
+    asking: &Asking<'_>,
     out: &mut O,
 ) -> Explained<()>
     ensures prints { (from : Option (List ℕ)) (header : Header) → HasGiven R.left from header [] reader.old →
-        PrintsAll filter.now from (R.left reader.new.source) header (O.contents out.old) (O.contents out.new) result.counts result.read result.printed }
+        PrintsAll asking.now.form asking.now.filter.now from (R.left reader.new.source) header (O.contents out.old) (O.contents out.new) result.counts result.read result.printed }
     ensures taken { (bytes : List ℕ) × Consumes (R.left reader.old.source) (R.left reader.new.source) bytes }
     ensures source_broke { (result.read ≡ Err Fault.Device) ↔ (R.failures reader.new.source ≢ R.failures reader.old.source) }
 {
-    let mut line = String::new(alloc);
-    let ended = print_lines(alloc, reader, filter, &mut line, out);
+    let mut buffer = LineBuffer::new(alloc);
+    let ended = print_lines(alloc, reader, asking, &mut buffer, out);
     if ended.printed.is_err() {
         return ended;
     }
-    let printed = print_counts(ended.counts, &mut line, out);
+    let printed = print_counts(ended.counts, asking.form, &mut buffer.line, out);
     Explained {
         source: (),
         opened: true,
@@ -241,12 +253,12 @@ fn print_all<R: Source, O: Write>(
 fn print_lines<R: Source, O: Write>(
     alloc: Global,
     reader: &mut Reader<R>,
-    filter: &AskedFilter,
-    line: &mut String,
+    asking: &Asking<'_>,
+    buffer: &mut LineBuffer,
     out: &mut O,
 ) -> Explained<()>
     ensures prints { (from : Option (List ℕ)) (header : Header) → HasGiven R.left from header [] reader.old →
-        PrintsLines filter.now from (R.left reader.new.source) header (O.contents out.old) (O.contents out.new) result.counts result.read result.printed }
+        PrintsLines asking.now.form asking.now.filter.now from (R.left reader.new.source) header (O.contents out.old) (O.contents out.new) result.counts result.read result.printed }
     ensures taken { (bytes : List ℕ) × Consumes (R.left reader.old.source) (R.left reader.new.source) bytes }
     ensures source_broke { (result.read ≡ Err Fault.Device) ↔ (R.failures reader.new.source ≢ R.failures reader.old.source) }
 {
@@ -256,7 +268,7 @@ fn print_lines<R: Source, O: Write>(
             Ok(true) => {
                 // Where the printing breaks off, what was read so far begins what the capture holds.
                 given_so_far(reader);
-                match print_line(alloc, filter, counts.packets, &reader.packet(), line, out) {
+                match print_line(alloc, asking, counts.packets, &reader.packet(), buffer, out) {
                     Ok(verdict) => counts.count(verdict),
                     Err(unprinted) => return outcome(counts, Ok(()), Err(unprinted)),
                 }
@@ -270,29 +282,30 @@ fn print_lines<R: Source, O: Write>(
 /// Prints the line of a packet.
 pub(crate) fn print_line<O: Write>(
     alloc: Global,
-    filter: &AskedFilter,
+    asking: &Asking<'_>,
     place: u64,
     packet: &PacketRef<'_>,
-    line: &mut String,
+    buffer: &mut LineBuffer,
     out: &mut O,
 ) -> Result<Verdict, Unprinted>
-    ensures ok { IfOk result (PrintsLine filter.now place packet.now (O.contents out.old) (O.contents out.new)) }
-    ensures fault { IfErr result (IsLineBroken filter.now place packet.now (O.contents out.old) (O.contents out.new)) }
+    ensures ok { IfOk result (PrintsLine asking.now.form asking.now.filter.now place packet.now (O.contents out.old) (O.contents out.new)) }
+    ensures fault { IfErr result (IsLineBroken asking.now.form asking.now.filter.now place packet.now (O.contents out.old) (O.contents out.new)) }
 {
-    let verdict = put_line(alloc, line, filter, place, packet)?;
-    send(line.as_bytes(), out)?;
+    let verdict = put_line(alloc, buffer, asking, place, packet)?;
+    send(buffer.line.as_bytes(), out)?;
     Ok(verdict)
 }
 
 /// Prints the counts, and all that the writer has gathered; the line that it is put together in may have any text.
 pub fn print_counts<O: Write>(
     counts: VerdictCounts,
+    form: PacketForm,
     line: &mut String,
     out: &mut O,
 ) -> Result<(), Unprinted>
-    ensures { Takes (O.contents out.old) (O.contents out.new) result (counts_text counts.packets counts.yes counts.no counts.abort) }
+    ensures { Takes (O.contents out.old) (O.contents out.new) result (counts_in form counts.packets counts.yes counts.no counts.abort) }
 {
-    put_counts(line, counts)?;
+    put_counts(line, form, counts)?;
     send_last(line.as_bytes(), out)?;
     Ok(())
 }
@@ -306,12 +319,35 @@ pub fn send_last<O: Write>(text: &[u8], out: &mut O) -> io::Result<()>
 }
 
 /// Puts the line of the counts in place of what the line has.
-#[tactic(auto, unfolding(crate::specs::Explained::counts_text))]
-fn put_counts(line: &mut String, counts: VerdictCounts) -> Result<(), NoMemory>
+fn put_counts(line: &mut String, form: PacketForm, counts: VerdictCounts) -> Result<(), NoMemory>
+    ensures { OnOk result (string_bytes line.new ≡ counts_in form counts.packets counts.yes counts.no counts.abort) }
+{
+    match form {
+        PacketForm::Text => put_counts_text(line, counts),
+        PacketForm::Json(_) => put_counts_object(line, counts),
+    }
+}
+
+#[tactic(auto, unfolding(crate::specs::Printed::counts_text))]
+fn put_counts_text(line: &mut String, counts: VerdictCounts) -> Result<(), NoMemory>
     ensures { OnOk result (string_bytes line.new ≡ counts_text counts.packets counts.yes counts.no counts.abort) }
 {
     line.clear();
     write!(line, "{} packets: {} Yes, ", counts.packets, counts.yes)?;
     write!(line, "{} No, {} Abort\n", counts.no, counts.abort)?;
+    Ok(())
+}
+
+#[tactic(auto, unfolding(crate::specs::Forms::counts_json))]
+fn put_counts_object(line: &mut String, counts: VerdictCounts) -> Result<(), NoMemory>
+    ensures { OnOk result (string_bytes line.new ≡ counts_json counts.packets counts.yes counts.no counts.abort) }
+{
+    line.clear();
+    write!(
+        line,
+        "{{\"packets\":{},\"yes\":{}",
+        counts.packets, counts.yes
+    )?;
+    write!(line, ",\"no\":{},\"abort\":{}}}\n", counts.no, counts.abort)?;
     Ok(())
 }

@@ -6,7 +6,9 @@ pub mod command;
 mod dump;
 pub mod each;
 pub mod filter;
+pub mod form;
 pub mod hints;
+mod json;
 pub mod line;
 pub mod one;
 mod paths;
@@ -16,3 +18,4 @@ pub mod seek;
 mod whole;
 
 pub use filter::AskedFilter;
+pub use form::PacketForm;

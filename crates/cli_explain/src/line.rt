@@ -4,10 +4,13 @@ ghost use Rattle.std.specs.Prelude.{◌≡◌, ◌++◌, ℕ, List, length, IfOk
 ghost use Rattle.std.specs.Fmt.{decimal};
 ghost use Rattle.cli_text.specs.Time.{nine_digits};
 ghost use Rattle.filterlang.specs.Trees.{tree_of};
-ghost use Rattle.cli_explain.specs.Answers.{answer, answer_line, ended_as, Decides, EndsRun, IsAnswer, PutsAnswer};
+ghost use Rattle.cli_explain.specs.Answers.{answer, answer_line, ended_as, Decides, EndsRun, IsAnswer, IsEndOfRun, PutsAnswer};
+ghost use Rattle.cli_explain.specs.Forms.{line_in, IsAnswerIn};
 ghost use Rattle.cli_explain.specs.Printed.{packet_text, end_text};
 
 use crate::filter::AskedFilter;
+use crate::form::{Asking, LineBuffer, PacketForm};
+use crate::json::put_object;
 use bpfvm::{Brief, Insn, NoMemory, Program, code, trace};
 use cli_text::time::NineDigits;
 use filter_explain::{put_decision, put_verdict};
@@ -56,7 +59,7 @@ fn put_meaning(line: &mut String, expr: &Expr, packet: &PacketRef<'_>) -> Result
 }
 
 /// What an answer of a program counts as whose run ended with this instruction: a run that no return ended is an Abort.
-fn ended_as(insn: &Insn, answer: u32) -> Verdict
+pub(crate) fn ended_as(insn: &Insn, answer: u32) -> Verdict
     ensures { result ≡ ended_as insn.now answer }
 {
     if insn.code != code::RET_K && insn.code != code::RET_A {
@@ -77,14 +80,21 @@ fn put_number(line: &mut String, number: u32, place: usize, insn: &Insn) -> Resu
     Ok(())
 }
 
-/// Appends what a program answers to a packet, where its run ended, and the instruction there.
-fn put_end(
+/// Where the run of a program over a packet ended, and the number that it answered.
+#[derive(Clone, Copy)]
+pub(crate) struct RunEnd {
+    pub(crate) number: u32,
+    pub(crate) place: usize,
+    pub(crate) insn: Insn,
+}
+
+/// Where the run of a program over a packet ends.
+pub(crate) fn end_of_run(
     alloc: Global,
-    line: &mut String,
     program: &Program,
     packet: &PacketRef<'_>,
-) -> Result<Verdict, NoMemory>
-    ensures { IfOk result (PutsAnswer (string_bytes line.old) (string_bytes line.new) (EndsRun program.now) packet.now) }
+) -> Result<RunEnd, NoMemory>
+    ensures { IfOk result (λ end. IsEndOfRun program.now packet.now end.number end.place end.insn) }
 {
     let run = trace(alloc, program, packet.bytes, packet.len)?;
     // Each run executes an instruction of the program, so there is a last one.
@@ -94,9 +104,26 @@ fn put_end(
     let Some(insn) = program.insns().get(last.place) else {
         return Err(NoMemory);
     };
-    let verdict = ended_as(insn, run.answer);
+    Ok(RunEnd {
+        number: run.answer,
+        place: last.place,
+        insn: *insn,
+    })
+}
+
+/// Appends what a program answers to a packet, where its run ended, and the instruction there.
+fn put_end(
+    alloc: Global,
+    line: &mut String,
+    program: &Program,
+    packet: &PacketRef<'_>,
+) -> Result<Verdict, NoMemory>
+    ensures { IfOk result (PutsAnswer (string_bytes line.old) (string_bytes line.new) (EndsRun program.now) packet.now) }
+{
+    let end = end_of_run(alloc, program, packet)?;
+    let verdict = ended_as(&end.insn, end.number);
     put_verdict(line, verdict)?;
-    put_number(line, run.answer, last.place, insn)?;
+    put_number(line, end.number, end.place, &end.insn)?;
     Ok(verdict)
 }
 
@@ -115,8 +142,8 @@ pub fn put_answer(
     }
 }
 
-/// Puts the line of a packet in place of what the line has: its place and time, what the filter answers, and why.
-pub(crate) fn put_line(
+/// Puts the text of a packet in place of what the line has: its place and time, what the filter answers, and why.
+fn put_text(
     alloc: Global,
     line: &mut String,
     filter: &AskedFilter,
@@ -130,4 +157,28 @@ pub(crate) fn put_line(
     let verdict = put_answer(alloc, line, filter, packet)?;
     line.push('\n')?;
     Ok(verdict)
+}
+
+/// Puts the line of a packet in place of what the line has: its place and time, what the filter answers, and why.
+pub(crate) fn put_line(
+    alloc: Global,
+    buffer: &mut LineBuffer,
+    asking: &Asking<'_>,
+    place: u64,
+    packet: &PacketRef<'_>,
+) -> Result<Verdict, NoMemory>
+    ensures { IfOk result (λ verdict. (reason : List ℕ) × IsAnswerIn asking.now.form asking.now.filter.now (answer packet.now verdict reason)
+        × (string_bytes buffer.new.line ≡ line_in asking.now.form place (answer packet.now verdict reason))) }
+{
+    match asking.form {
+        PacketForm::Text => put_text(alloc, &mut buffer.line, asking.filter, place, packet),
+        PacketForm::Json(capture) => put_object(
+            alloc,
+            buffer,
+            asking.filter,
+            capture,
+            place,
+            packet,
+        ),
+    }
 }

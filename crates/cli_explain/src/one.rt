@@ -8,6 +8,7 @@ ghost use Rattle.cli_explain.specs.Explained.{Finds, GoesTo, PrintsFound, Prints
 
 use crate::each::{Unprinted, print_line, send_last};
 use crate::filter::AskedFilter;
+use crate::form::{Asking, LineBuffer, PacketForm};
 use crate::whole::whole_text;
 use savefile::laws::given_so_far;
 use savefile::{Fault, PacketRef, Reader, Source};
@@ -114,8 +115,12 @@ fn print_whole<O: Write>(
 ) -> Result<(), Unprinted>
     ensures { PrintsWhole filter.now place packet.now (O.contents out.old) (O.contents out.new) result }
 {
-    let mut line = String::new(alloc);
-    print_line(alloc, filter, place, packet, &mut line, out)?;
+    let mut buffer = LineBuffer::new(alloc);
+    let asking = Asking {
+        filter,
+        form: PacketForm::Text,
+    };
+    print_line(alloc, &asking, place, packet, &mut buffer, out)?;
     print_rest(alloc, filter, place, packet, out)
 }
 

@@ -1,6 +1,7 @@
 //! The caller that the page of `cli_explain` shows, crates/cli_explain/README.md.
 
 use crate::same::same;
+use cli_explain::PacketForm;
 use cli_explain::each::{VerdictCounts, explain_each};
 use cli_explain::filter::of_expression;
 use filtergen::ExpressionFault;
@@ -14,7 +15,7 @@ pub fn explained(
     told: &mut Vec<u8>,
 ) -> Result<VerdictCounts, ExpressionFault> {
     let filter = of_expression(alloc, expr, 262_144)?;
-    Ok(explain_each(alloc, capture, &filter, told).counts)
+    Ok(explain_each(alloc, capture, &filter, PacketForm::Text, told).counts)
 }
 
 /// A header; the first 14 bytes of an ARP frame at second 1, and of an IPv4 frame at second 2.

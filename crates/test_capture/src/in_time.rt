@@ -2,6 +2,7 @@
 
 use crate::same::same;
 use bpfvm::Program;
+use cli_explain::PacketForm;
 use cli_explain::each::explain_each;
 use cli_explain::filter::of_program;
 use cli_filter::filter;
@@ -84,7 +85,8 @@ fn explain_sends_each_line_before_it_reads_on(rt: HostRuntime) {
         calls: &calls,
     });
     let mut out = writer_of(&rt, &calls);
-    explain_each(rt.alloc(), source, &of_program(accept_all(&rt)), &mut out);
+    let filter = of_program(accept_all(&rt));
+    explain_each(rt.alloc(), source, &filter, PacketForm::Text, &mut out);
     same(&rt, out.seen.as_slice(), [2, 3, 4, 5].as_slice());
 }
 

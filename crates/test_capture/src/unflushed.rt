@@ -1,6 +1,7 @@
 //! `explain` into an output that takes all and sends nothing on.
 
 use crate::same::same;
+use cli_explain::PacketForm;
 use cli_explain::each::{Unprinted, explain_each};
 use cli_explain::filter::{AskedFilter, of_expression};
 use cli_explain::one::explain_one;
@@ -28,7 +29,13 @@ fn lines_that_are_not_sent_on_are_a_fault(rt: HostRuntime) {
     let (capture, filter) = asked(&rt);
     let taken = Vec::new(rt.alloc());
     let mut out = UnflushedWriter { taken };
-    let explained = explain_each(rt.alloc(), capture.as_slice(), &filter, &mut out);
+    let explained = explain_each(
+        rt.alloc(),
+        capture.as_slice(),
+        &filter,
+        PacketForm::Text,
+        &mut out,
+    );
     same(&rt, is_output(&explained.printed), true);
     assert!(rt; out.taken.ends_with(b"1 packets: 1 Yes, 0 No, 0 Abort\n"));
 }

@@ -24,7 +24,7 @@ loop-reader-preserved g c = record {
   prints = λ from header given.
       let (answers, gives, all, lines, are) = c.loop-reader.invariant.prints from header given in
       let p = c.advance.new.self.lent in
-      let (a, of, more, printed, counted) = goes-on c.args.filter.now _ _ _ answers c.loop-reader.counts c.count.new.self c.packet.result c.in-Ok.verdict all lines are c.in-Ok.ensures.ok c.count.ensures in (
+      let (a, of, more, printed, counted) = goes-on c.args.asking.now.form c.args.asking.now.filter.now _ _ _ answers c.loop-reader.counts c.count.new.self c.packet.result c.in-Ok.verdict all lines are c.in-Ok.ensures.ok c.count.ensures in (
         answers ++ a ∷ [],
         subst (λ (ps : List Packet). HasGiven g.R.Source.left from header ps c.advance.new.self)
             (sym (packets-last answers a ∙ ap (λ (q : Packet). packets_of answers ++ q ∷ []) (of ∙ c.packet.ensures)))
@@ -76,11 +76,12 @@ pub returns-in-Err-print_line-clause-prints : goal.returns-in-Err-print_line-cla
 returns-in-Err-print_line-clause-prints g c = λ from header given.
     let (answers, gives, all, lines, are) = c.loop-reader.invariant.prints from header given in
     let p = c.advance.new.self.lent in
-    let f = c.args.filter.now in
+    let form = c.args.asking.now.form in
+    let f = c.args.asking.now.filter.now in
     let begun = c.in-Ok-true.ensures.so_far from header (packets_of answers) gives in
     let further = c.given_so_far.ensures from header (packets_of answers ++ p ∷ []) (c.in-Ok-true.ensures.packet from header (packets_of answers) gives (ap Ok c.in-Ok-true.field-0-test)) in
-    let (told, every, which, part) = breaks-off f _ _ _ answers c.loop-reader.counts c.packet.result c.in-Err-print_line.unprinted all lines are c.in-Err-print_line.ensures.fault in
-    broken-off f from _ header _ _ _ _ _ _ _ told c.outcome.ensures.read c.outcome.ensures.printed every
+    let (told, every, which, part) = breaks-off form f _ _ _ answers c.loop-reader.counts c.packet.result c.in-Err-print_line.unprinted all lines are c.in-Err-print_line.ensures.fault in
+    broken-off form f from _ header _ _ _ _ _ _ _ told c.outcome.ensures.read c.outcome.ensures.printed every
     (elim which [
       | inl same ↦ subst (WasBegun from header) (sym same) begun
       | inr more ↦ subst (WasBegun from header) (sym (more ∙ ap (λ (q : Packet). packets_of answers ++ q ∷ []) c.packet.ensures)) further
@@ -91,7 +92,7 @@ pub returns-in-Ok-false-clause-prints : goal.returns-in-Ok-false-clause-prints
 returns-in-Ok-false-clause-prints g c = λ from header given.
     let (answers, gives, all, lines, are) = c.loop-reader.invariant.prints from header given in
     let told = c.outcome-in-Ok-false.ensures in
-    read-whole c.args.filter.now from _ header _ _ _ _ _ _ _ answers told.read told.printed all
+    read-whole c.args.asking.now.form c.args.asking.now.filter.now from _ header _ _ _ _ _ _ _ answers told.read told.printed all
     (c.in-Ok-false.ensures.end from header (packets_of answers) gives (ap Ok c.in-Ok-false.field-0-test)) lines
     (subst (λ (k : VerdictCounts). AreCounts k answers) (sym told.counts) are)
 
@@ -99,6 +100,6 @@ pub returns-in-Err-clause-prints : goal.returns-in-Err-clause-prints
 returns-in-Err-clause-prints g c = λ from header given.
     let (answers, gives, all, lines, are) = c.loop-reader.invariant.prints from header given in
     let told = c.outcome-in-Err.ensures in
-    read-part c.args.filter.now from _ header _ _ _ _ _ _ _ answers told.read told.printed all lines
+    read-part c.args.asking.now.form c.args.asking.now.filter.now from _ header _ _ _ _ _ _ _ answers told.read told.printed all lines
     (subst (λ (k : VerdictCounts). AreCounts k answers) (sym told.counts) are)
     (c.in-Err.ensures.so_far from header (packets_of answers) gives) (c.in-Err.ensures.cause from header (packets_of answers) gives)

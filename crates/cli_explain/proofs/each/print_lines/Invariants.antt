@@ -3,7 +3,8 @@ use Rattle.std.specs.List.{AllByRecursion}
 use Rattle.std.specs.Io.KnownBytes.{Appends, Consumes}
 use Rattle.savefile.specs.declared.header.Header.{Header}
 use Rattle.savefile.specs.Reader.{HasGiven}
-use Rattle.cli_explain.specs.Answers.{Answer, IsAnswer}
+use Rattle.cli_explain.specs.Answers.{Answer}
+use Rattle.cli_explain.specs.Forms.{IsAnswerIn}
 use Rattle.cli_explain.specs.Explained.{answer_lines, packets_of, AreCounts}
 use Rattle.cli_explain.proofs.each.print_lines.Given as goal
 
@@ -12,8 +13,8 @@ abbrev pub invariant-loop-reader : goal.invariant-loop-reader
 invariant-loop-reader g l =
     record {
       prints : (from : Option (List ℕ)) (header : Header) → HasGiven g.R.Source.left from header [] l.fn.reader →
-          (answers : List Answer) × HasGiven g.R.Source.left from header (packets_of answers) l.reader × AllByRecursion (IsAnswer l.filter) answers
-          × Appends (g.O.Write.contents l.fn.out) (g.O.Write.contents l.out) (answer_lines answers) × AreCounts l.counts answers;
+          (answers : List Answer) × HasGiven g.R.Source.left from header (packets_of answers) l.reader × AllByRecursion (IsAnswerIn l.asking.form l.asking.filter.now) answers
+          × Appends (g.O.Write.contents l.fn.out) (g.O.Write.contents l.out) (answer_lines l.asking.form answers) × AreCounts l.counts answers;
       packets : l.counts.packets ≤ l.reader.given;
       yes : l.counts.yes ≤ l.counts.packets;
       no : l.counts.no ≤ l.counts.packets;
