@@ -6,6 +6,7 @@ use Rattle.tap.specs.declared.fault.Fault.TheVariants.{TooMany, NoListener, Capt
 use Rattle.tap_steps.specs.declared.filters.Spec.{Spec}
 use Rattle.tap_steps.specs.declared.step.Step.{Step}
 use Rattle.tap.specs.Refusals.{AreTooMany, IsFirst}
+use Rattle.cli_json.specs.declared.form.LineForm.{LineForm}
 use Rattle.cli_text.specs.declared.report.Outcome.{Outcome}
 use Rattle.cli_text.specs.Sending.{Streams}
 use Rattle.cli_steps.specs.Playing.{Plays}
@@ -26,13 +27,13 @@ first-of-all captures all steps fault many first =
     by_fault NoMemory kept is = tt
 
 -- what plays the listeners that are kept plays all that were asked for
-pub plays-all : (explained : Bool) (captures : List (List ℕ)) (all kept : List Spec) (steps : List Step) (old new : Streams) (outcome : Outcome)
-    → kept ≡ take 65 all → Plays explained captures kept steps old new outcome → Plays explained captures all steps old new outcome
-plays-all explained captures all kept steps old new outcome is plays =
-    by_number (cases_lt 64 (length all)) (subst (λ (specs : List Spec). Plays explained captures specs steps old new outcome) is plays)
+pub plays-all : (form : LineForm) (explained : Bool) (captures : List (List ℕ)) (all kept : List Spec) (steps : List Step) (old new : Streams) (outcome : Outcome)
+    → kept ≡ take 65 all → Plays form explained captures kept steps old new outcome → Plays form explained captures all steps old new outcome
+plays-all form explained captures all kept steps old new outcome is plays =
+    by_number (cases_lt 64 (length all)) (subst (λ (specs : List Spec). Plays form explained captures specs steps old new outcome) is plays)
   where
-    by_number : (64 < length all) ⊎ (length all ≤ 64) → Plays explained captures (take 65 all) steps old new outcome → Plays explained captures all steps old new outcome
-    by_number (inr few) plays = subst (λ (specs : List Spec). Plays explained captures specs steps old new outcome) (take_all 65 all (omega (arith, few))) plays
+    by_number : (64 < length all) ⊎ (length all ≤ 64) → Plays form explained captures (take 65 all) steps old new outcome → Plays form explained captures all steps old new outcome
+    by_number (inr few) plays = subst (λ (specs : List Spec). Plays form explained captures specs steps old new outcome) (take_all 65 all (omega (arith, few))) plays
     by_number (inl many) (inl reported) = absurd (reported.2.none_stands.number (inl (omega (arith, many, length-take 65 all))))
     by_number (inl many) (inr (fault, refused)) = inr (
       fault,

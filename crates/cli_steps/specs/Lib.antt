@@ -2,6 +2,7 @@ pub mod Listeners
 pub mod Script
 pub mod Laws
 pub mod Reasons
+pub mod Members
 pub mod Rejections
 pub mod Answers
 pub mod Printed

@@ -14,6 +14,7 @@ use Rattle.tap.specs.Answers.{Traces}
 use Rattle.tap.specs.Filters.{AreExpressionsOf}
 use Rattle.tap.specs.Headline.{Replays}
 use Rattle.tap.specs.Refusals.{IsFirst, NoneStands}
+use Rattle.cli_json.specs.declared.form.LineForm.{LineForm}
 use Rattle.cli_text.specs.declared.status.Status.{Status}
 use Rattle.cli_text.specs.declared.status.Status.TheVariants as status
 use Rattle.cli_text.specs.declared.report.Outcome.{Outcome}
@@ -25,7 +26,7 @@ use Rattle.cli_steps.specs.declared.steps.Detail.TheVariants as detail
 use Rattle.cli_steps.specs.declared.steps.Replayed.{Replayed}
 use Rattle.cli_steps.specs.Answers.{cursors_of, answers_from, ArePrintedAnswers}
 use Rattle.cli_steps.specs.Faults.{fault_text}
-use Rattle.cli_steps.specs.Printed.{printed_reports}
+use Rattle.cli_steps.specs.Printed.{reports_in}
 
 -- How the printing of a text ended, as a status: the writer took the text, or it failed, and took a prefix of it.
 abbrev pub IsPrintStatus : Option (List ℕ) → Option (List ℕ) → List ℕ → Status → Type 0
@@ -48,23 +49,23 @@ record_fault_line (Some record_fault) = told_line (fault_text (Capture record_fa
 
 -- What is printed before the reports: if answers are explained, the legal answers of all listeners over this playlist, each with its
 -- reason, and else nothing.
-abbrev pub IsAnswersText : Bool → List (List ℕ) → List Spec → List Step → List PlacedPacket → Option (ℕ × RecordFault) → List ℕ → Type 0
-IsAnswersText true captures specs steps playlist record_fault text =
+abbrev pub IsAnswersText : LineForm → Bool → List (List ℕ) → List Spec → List Step → List PlacedPacket → Option (ℕ × RecordFault) → List ℕ → Type 0
+IsAnswersText form true captures specs steps playlist record_fault text =
     (answers : List (List Answered)) × Traces captures specs steps playlist record_fault answers
-    × ArePrintedAnswers specs steps playlist answers text
-IsAnswersText false captures specs steps playlist record_fault text = text ≡ []
+    × ArePrintedAnswers form specs steps playlist answers text
+IsAnswersText form false captures specs steps playlist record_fault text = text ≡ []
 
 -- A replay gave these reports, and this record fault of a capture, and no fault applies. The reports were printed, after the answers
 -- if these are explained; the record fault was reported; the status is the greatest that applies.
-pub record Reported (explained : Bool) (captures : List (List ℕ)) (specs : List Spec) (steps : List Step) (old new : Streams) (outcome : Outcome)
+pub record Reported (form : LineForm) (explained : Bool) (captures : List (List ℕ)) (specs : List Spec) (steps : List Step) (old new : Streams) (outcome : Outcome)
     (reports : List Report) (record_fault : Option (ℕ × RecordFault)) : Type 0 where
   pub playlist : List PlacedPacket
   pub replays : Replays captures specs steps playlist record_fault reports
   pub none_stands : NoneStands captures specs steps
   pub answers_text : List ℕ
-  pub explains : IsAnswersText explained captures specs steps playlist record_fault answers_text
+  pub explains : IsAnswersText form explained captures specs steps playlist record_fault answers_text
   pub print_status : Status
-  pub prints : IsPrintStatus old.out new.out (answers_text ++ printed_reports reports) print_status
+  pub prints : IsPrintStatus old.out new.out (answers_text ++ reports_in form reports) print_status
   pub tells : Takes old.err new.err outcome.told (failed_output_line print_status ++ record_fault_line record_fault)
   pub greatest : outcome.status ≡ greater print_status (record_fault_status record_fault)
 
@@ -75,9 +76,9 @@ pub record Refused (captures : List (List ℕ)) (specs : List Spec) (steps : Lis
   pub tells : Takes old.err new.err outcome.told (told_line (fault_text fault))
   pub refused : outcome.status ≡ status.Refused
 
-abbrev pub Plays : Bool → List (List ℕ) → List Spec → List Step → Streams → Streams → Outcome → Type 0
-Plays explained captures specs steps old new outcome =
-    ((reports : List Report) × (record_fault : Option (ℕ × RecordFault)) × Reported explained captures specs steps old new outcome reports record_fault)
+abbrev pub Plays : LineForm → Bool → List (List ℕ) → List Spec → List Step → Streams → Streams → Outcome → Type 0
+Plays form explained captures specs steps old new outcome =
+    ((reports : List Report) × (record_fault : Option (ℕ × RecordFault)) × Reported form explained captures specs steps old new outcome reports record_fault)
     ⊎ ((fault : Fault) × Refused captures specs steps old new outcome fault)
 
 -- ---- What is handed on
@@ -93,10 +94,10 @@ is_traced detail.Reports = false
 is_traced other = true
 
 -- what is printed of a trace before its reports
-abbrev pub trace_text : Bool → List Spec → List Step → Trace → List ℕ
-trace_text true specs steps trace =
-    answers_from 1 steps trace.playlist.items (cursors_of specs trace.expressions.items (map (λ a. a.items) trace.answers.items))
-trace_text false specs steps trace = []
+abbrev pub trace_text : LineForm → Bool → List Spec → List Step → Trace → List ℕ
+trace_text form true specs steps trace =
+    answers_from form 1 steps trace.playlist.items (cursors_of specs trace.expressions.items (map (λ a. a.items) trace.answers.items))
+trace_text form false specs steps trace = []
 
 -- This is the trace of a replay that gave these reports and this record fault: its answers are the legal ones over its playlist, and
 -- its expressions those that the filters read as.
@@ -114,8 +115,8 @@ HandsOn true captures specs steps reports record_fault None = ⊥
 HandsOn true captures specs steps reports record_fault (Some trace) = IsTraceOf captures specs steps reports record_fault trace
 
 -- what was played, and what is handed on of it: the record fault or the fault that was reported, and the trace that was printed
-abbrev pub PlaysAs : Bool → Bool → List (List ℕ) → List Spec → List Step → Streams → Streams → Outcome → Result Replayed Fault → Type 0
-PlaysAs explained traced captures specs steps old new outcome (Ok replayed) =
-    (reports : List Report) × Reported explained captures specs steps old new outcome reports replayed.record_fault
+abbrev pub PlaysAs : LineForm → Bool → Bool → List (List ℕ) → List Spec → List Step → Streams → Streams → Outcome → Result Replayed Fault → Type 0
+PlaysAs form explained traced captures specs steps old new outcome (Ok replayed) =
+    (reports : List Report) × Reported form explained captures specs steps old new outcome reports replayed.record_fault
     × HandsOn traced captures specs steps reports replayed.record_fault replayed.trace
-PlaysAs explained traced captures specs steps old new outcome (Err fault) = Refused captures specs steps old new outcome fault
+PlaysAs form explained traced captures specs steps old new outcome (Err fault) = Refused captures specs steps old new outcome fault

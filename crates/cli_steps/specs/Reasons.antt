@@ -6,7 +6,6 @@ use Rattle.listener.specs.declared.answer.Fed.TheVariants as fed
 use Rattle.tap_steps.specs.declared.answer.Answer.{Answer}
 use Rattle.tap_steps.specs.declared.answer.Answered.{Answered}
 use Rattle.tap_steps.specs.declared.answer.Answer.TheVariants.{Arrived, Flushed, Read, Closed}
-use Rattle.cli_text.specs.Telling.{end_of_line}
 use Rattle.cli_steps.specs.declared.reasons.ListenerState.{ListenerState}
 use Rattle.cli_steps.specs.declared.reasons.FullHold.{FullHold}
 use Rattle.cli_steps.specs.declared.reasons.FlushEnd.{FlushEnd}
@@ -76,7 +75,3 @@ reason before size (Arrived fed) = arrival_text before size fed
 reason before size (Flushed full) = flush_text (flush_end before)
 reason before size (Read full) = read_text (read_end before)
 reason before size Closed = codes "closed"
-
--- the line of the l-th listener below its step
-abbrev pub answer_line : ℕ → List ℕ → List ℕ
-answer_line l text = codes "  listener " ++ decimal l ++ codes " " ++ text ++ end_of_line

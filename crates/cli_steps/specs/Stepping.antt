@@ -3,6 +3,7 @@ use Rattle.std.specs.Prelude.{◌≡◌, ℕ, ◌⊎◌, false, List}
 use Rattle.std.specs.Io.KnownBytes.{Keeps}
 use Rattle.tap_steps.specs.declared.filters.Spec.{Spec}
 use Rattle.tap_steps.specs.declared.step.Step.{Step}
+use Rattle.cli_json.specs.declared.form.LineForm.{LineForm}
 use Rattle.cli_text.specs.declared.fault.LineFault.{LineFault}
 use Rattle.cli_text.specs.declared.fault.LineFault.TheVariants.{Listeners, Script, NoMemory}
 use Rattle.cli_text.specs.Files.{IsFileOf, IsFirstBad}
@@ -22,12 +23,12 @@ IsRefusedFiles listeners script (Script n) = ((specs : List Spec) × IsFileOf Is
 IsRefusedFiles listeners script NoMemory = Unit {0}
 
 -- The files say listeners and steps, and these were played.
-pub record Played (listeners script : List ℕ) (captures : List (List ℕ)) (old new : Streams) (outcome : Outcome) : Type 0 where
+pub record Played (form : LineForm) (listeners script : List ℕ) (captures : List (List ℕ)) (old new : Streams) (outcome : Outcome) : Type 0 where
   pub specs : List Spec
   pub steps : List Step
   pub of_listeners : IsFileOf IsListenerLine listeners specs
   pub of_script : IsFileOf IsStepLine script steps
-  pub plays : Plays false captures specs steps old new outcome
+  pub plays : Plays form false captures specs steps old new outcome
 
 -- The files are refused: the fault of their lines was reported, and nothing was printed.
 pub record Unread (listeners script : List ℕ) (old new : Streams) (outcome : Outcome) : Type 0 where
@@ -37,9 +38,9 @@ pub record Unread (listeners script : List ℕ) (old new : Streams) (outcome : O
   pub tells : Takes old.err new.err outcome.told (told_line (line_fault_text fault))
   pub one : outcome.status ≡ status.Refused
 
-abbrev pub Steps : List ℕ → List ℕ → List (List ℕ) → Streams → Streams → Outcome → Type 0
-Steps listeners script captures old new outcome = Played listeners script captures old new outcome ⊎ Unread listeners script old new outcome
+abbrev pub Steps : LineForm → List ℕ → List ℕ → List (List ℕ) → Streams → Streams → Outcome → Type 0
+Steps form listeners script captures old new outcome = Played form listeners script captures old new outcome ⊎ Unread listeners script old new outcome
 
 -- the same, of which only the exit status is known, as a number
-abbrev pub StepsTo : List ℕ → List ℕ → List (List ℕ) → Streams → Streams → ℕ → Type 0
-StepsTo listeners script captures old new number = (outcome : Outcome) × Steps listeners script captures old new outcome × (number ≡ code outcome.status)
+abbrev pub StepsTo : LineForm → List ℕ → List ℕ → List (List ℕ) → Streams → Streams → ℕ → Type 0
+StepsTo form listeners script captures old new number = (outcome : Outcome) × Steps form listeners script captures old new outcome × (number ≡ code outcome.status)

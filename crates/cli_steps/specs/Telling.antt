@@ -1,5 +1,6 @@
 -- What `bpftap steps` reports of what was played.
 use Rattle.std.specs.Prelude.{◌≡◌, ◌⊎◌, Bool, List, ℕ, [], ◌++◌, Option, Some, Result, IsOk, OnOk, codes}
+use Rattle.cli_json.specs.declared.form.LineForm.{LineForm}
 use Rattle.cli_text.specs.declared.report.Outcome.{Outcome}
 use Rattle.cli_text.specs.Sending.{Takes, streams}
 use Rattle.cli_text.specs.Telling.{told_line}
@@ -14,13 +15,13 @@ abbrev pub IsStillTold : List ℕ → List ℕ → Type 0
 IsStillTold told still = (still ≡ told) ⊎ (told ≡ told_line (codes "Device standard output") ++ still)
 
 -- Steps were played, and printed to what took this so far. What was reported of it in memory, and still is, standard error took.
-pub record TellsPlayed (explained traced : Bool) (captures : List (List ℕ)) (specs : List Spec) (steps : List Step) (old new : Option (List ℕ))
+pub record TellsPlayed (form : LineForm) (explained traced : Bool) (captures : List (List ℕ)) (specs : List Spec) (steps : List Step) (old new : Option (List ℕ))
     (outcome : Outcome) (replayed : Result Replayed Fault) : Type 0 where
   pub before : Option (List ℕ)
   pub after : Option (List ℕ)
   pub told : List ℕ
   pub played : Outcome
-  pub plays : PlaysAs explained traced captures specs steps (streams before (Some [])) (streams after (Some told)) played replayed
+  pub plays : PlaysAs form explained traced captures specs steps (streams before (Some [])) (streams after (Some told)) played replayed
   pub status : outcome.status ≡ played.status
   pub still : List ℕ
   pub is_still : IsStillTold told still

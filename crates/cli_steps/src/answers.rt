@@ -1,15 +1,17 @@
 //! What listeners answered, and why: what `bpftap steps -v` prints before the reports.
 
-ghost use Rattle.std.specs.Prelude.{◌≡◌, ◌++◌, map, IfOk, OnOk, Some, codes, string_bytes};
-ghost use Rattle.std.specs.Fmt.{decimal};
+ghost use Rattle.std.specs.Prelude.{◌≡◌, ◌++◌, map, IfOk, OnOk, Some, string_bytes};
 ghost use Rattle.cli_text.specs.Sending.{Takes};
 ghost use Rattle.cli_text.specs.Texts.{numbered};
-ghost use Rattle.cli_steps.specs.Answers.{cursor, cursors_of, fills_hold, next_line, arrived_line, advanced, one_advanced, line_at, placed_text, arrival_line, step_line, no_packet_line, own_line, step_text, packets_after, cursors_after, answers_from};
+ghost use Rattle.cli_steps.specs.Answers.{cursor, cursors_of, fills_hold, answer_head, answer_end, reason_in, next_line, arrived_line, advanced, one_advanced, line_at, placed_text, placed_members, arrival_line, no_packet_line, own_line, step_text, packets_after, cursors_after, answers_from};
+ghost use Rattle.cli_steps.specs.Members.{reason_members};
 ghost use Rattle.cli_steps.specs.Reasons.{state_before, reason};
 ghost use Rattle.tap_steps.specs.declared.step.Step.TheVariants.{Arrive};
 
+use crate::members::{ArrivalMembers, FlushMembers, ReadMembers};
 use crate::reasons::{ArrivalEnd, ListenerState, flush_end, read_end};
 use crate::rejections::put_rejection;
+use cli_json::LineForm;
 use cli_text::sending::send;
 use cli_text::time::NineDigits;
 use filter_print::Canonical;
@@ -25,22 +27,93 @@ use tap_steps::{Answer, Answered, PlacedPacket, Spec, Step};
 /// The bytes that a line has room for, beside what decides of a rejected packet.
 const LINE_ROOM: usize = 512;
 
-/// Replaces the line by the l-th listener's answer and why it was given. `size` is the size of an arrival's record, kept or not.
-fn put_answer(
-    line: &mut String,
-    l: usize,
+/// The form of the lines of a step, and the step's number, from 1.
+#[derive(Clone, Copy)]
+struct StepHead {
+    form: LineForm,
+    n: usize,
+}
+
+/// Puts what comes before the answer of the l-th listener in place of what the line has.
+fn put_answer_head(head: StepHead, l: usize, line: &mut String) -> Result<(), AllocError>
+    ensures { OnOk result (string_bytes line.new ≡ answer_head head.form head.n l) }
+{
+    line.clear();
+    match head.form {
+        LineForm::Text => write!(line, "  listener {l} "),
+        LineForm::Json => write!(line, "{{\"step\":{},\"listener\":{l},", head.n),
+    }
+}
+
+/// Appends an answer and why it was given. `size` is the size of an arrival's record, kept or not.
+fn put_text(
     before: ListenerState,
     size: usize,
     answer: Answer,
+    line: &mut String,
 ) -> Result<(), AllocError>
-    ensures { OnOk result (string_bytes line.new ≡ codes "  listener " ++ decimal l ++ codes " " ++ reason before size answer) }
+    ensures { OnOk result (string_bytes line.new ≡ string_bytes line.old ++ reason before size answer) }
 {
-    line.clear();
     match answer {
-        Answer::Arrived(fed) => write!(line, "  listener {l} {}", ArrivalEnd { before, size, fed }),
-        Answer::Flushed(_) => write!(line, "  listener {l} {}", flush_end(&before)),
-        Answer::Read(_) => write!(line, "  listener {l} {}", read_end(&before)),
-        Answer::Closed => write!(line, "  listener {l} closed"),
+        Answer::Arrived(fed) => write!(line, "{}", ArrivalEnd { before, size, fed }),
+        Answer::Flushed(_) => write!(line, "{}", flush_end(&before)),
+        Answer::Read(_) => write!(line, "{}", read_end(&before)),
+        Answer::Closed => write!(line, "closed"),
+    }
+}
+
+/// Appends the same as members of an object.
+fn put_members(
+    before: ListenerState,
+    size: usize,
+    answer: Answer,
+    line: &mut String,
+) -> Result<(), AllocError>
+    ensures { OnOk result (string_bytes line.new ≡ string_bytes line.old ++ reason_members before size answer) }
+{
+    match answer {
+        Answer::Arrived(fed) => write!(
+            line,
+            "\"action\":\"arrive\",{}",
+            ArrivalMembers(ArrivalEnd { before, size, fed })
+        ),
+        Answer::Flushed(_) => write!(
+            line,
+            "\"action\":\"flush\",{}",
+            FlushMembers(flush_end(&before))
+        ),
+        Answer::Read(_) => write!(
+            line,
+            "\"action\":\"read\",{}",
+            ReadMembers(read_end(&before))
+        ),
+        Answer::Closed => write!(line, "\"action\":\"close\",\"answer\":\"closed\""),
+    }
+}
+
+/// Appends an answer and why it was given, in a form.
+fn put_answer(
+    form: LineForm,
+    before: ListenerState,
+    size: usize,
+    answer: Answer,
+    line: &mut String,
+) -> Result<(), AllocError>
+    ensures { OnOk result (string_bytes line.new ≡ string_bytes line.old ++ reason_in form before size answer) }
+{
+    match form {
+        LineForm::Text => put_text(before, size, answer, line),
+        LineForm::Json => put_members(before, size, answer, line),
+    }
+}
+
+/// What comes after an answer.
+fn answer_end(form: LineForm) -> &'static str
+    ensures { result.now ≡ answer_end form }
+{
+    match form {
+        LineForm::Text => "\n",
+        LineForm::Json => "}\n",
     }
 }
 
@@ -99,42 +172,56 @@ impl<'a> AnswerCursor<'a> {
     }
 
     /// Puts an answer, as the l-th listener's, and why it was given, in place of what the line has.
-    fn put_reason(&self, l: usize, answered: &Answered, line: &mut String) -> Result<(), AllocError>
-        ensures { OnOk result (string_bytes line.new ≡ codes "  listener " ++ decimal l ++ codes " "
-            ++ reason (state_before answered.now self.now.held_since self.now.capacity) answered.now.size answered.now.answer) }
+    fn put_reason(
+        &self,
+        head: StepHead,
+        l: usize,
+        answered: &Answered,
+        line: &mut String,
+    ) -> Result<(), AllocError>
+        ensures { OnOk result (string_bytes line.new ≡ answer_head head.form head.n l
+            ++ reason_in head.form (state_before answered.now self.now.held_since self.now.capacity) answered.now.size answered.now.answer) }
     {
         let before = ListenerState::before(answered, self.held_since, self.capacity);
-        put_answer(line, l, before, answered.size, answered.answer)
+        put_answer_head(head, l, line)?;
+        put_answer(head.form, before, answered.size, answered.answer, line)
     }
 
     /// Writes the next answer, as the l-th listener's.
-    fn write_next<O: Write>(&self, l: usize, line: &mut String, out: &mut O) -> io::Result<()>
-        ensures { Takes (O.contents out.old) (O.contents out.new) result (next_line l self.now) }
+    fn write_next<O: Write>(
+        &self,
+        head: StepHead,
+        l: usize,
+        line: &mut String,
+        out: &mut O,
+    ) -> io::Result<()>
+        ensures { Takes (O.contents out.old) (O.contents out.new) result (next_line head.form head.n l self.now) }
     {
         let Some((answered, _)) = self.answers.split_first() else {
             return Ok(());
         };
-        self.put_reason(l, answered, line)?;
-        line.push('\n')?;
+        self.put_reason(head, l, answered, line)?;
+        line.push_str(answer_end(head.form))?;
         send(line.as_bytes(), out)
     }
 
     /// Writes the next answer, as the l-th listener's to this packet.
     fn write_arrived<O: Write>(
         &self,
+        head: StepHead,
         l: usize,
         placed: &PlacedPacket,
         line: &mut String,
         out: &mut O,
     ) -> io::Result<()>
-        ensures { Takes (O.contents out.old) (O.contents out.new) result (arrived_line placed.now l self.now) }
+        ensures { Takes (O.contents out.old) (O.contents out.new) result (arrived_line head.form head.n placed.now l self.now) }
     {
         let Some((answered, _)) = self.answers.split_first() else {
             return Ok(());
         };
-        self.put_reason(l, answered, line)?;
-        put_rejection(line, placed, self.expr, answered.answer)?;
-        line.push('\n')?;
+        self.put_reason(head, l, answered, line)?;
+        put_rejection(head.form, line, placed, self.expr, answered.answer)?;
+        line.push_str(answer_end(head.form))?;
         send(line.as_bytes(), out)
     }
 
@@ -189,15 +276,16 @@ pub fn line_for(alloc: Global, all: &[AnswerCursor<'_>]) -> Result<String, Alloc
 
 /// Writes the next answer of each listener, to this packet.
 fn write_all<O: Write>(
+    head: StepHead,
     placed: &PlacedPacket,
     all: &[AnswerCursor<'_>],
     line: &mut String,
     out: &mut O,
 ) -> io::Result<()>
-    ensures { Takes (O.contents out.old) (O.contents out.new) result (numbered (arrived_line placed.now) 0 all.now) }
+    ensures { Takes (O.contents out.old) (O.contents out.new) result (numbered (arrived_line head.form head.n placed.now) 0 all.now) }
 {
     for (l, one) in all.iter().enumerate() {
-        one.write_arrived(l, placed, line, out)?;
+        one.write_arrived(head, l, placed, line, out)?;
     }
     Ok(())
 }
@@ -213,15 +301,16 @@ fn advance_all(all: &mut Vec<AnswerCursor<'_>>, n: usize)
 
 /// Writes the next answer of the l-th listener.
 fn write_one<O: Write>(
+    head: StepHead,
     all: &[AnswerCursor<'_>],
     l: usize,
     line: &mut String,
     out: &mut O,
 ) -> io::Result<()>
-    ensures { Takes (O.contents out.old) (O.contents out.new) result (line_at l all.now) }
+    ensures { Takes (O.contents out.old) (O.contents out.new) result (line_at head.form head.n l all.now) }
 {
     match all.get(l) {
-        Some(one) => one.write_next(l, line, out),
+        Some(one) => one.write_next(head, l, line, out),
         None => Ok(()),
     }
 }
@@ -259,122 +348,163 @@ impl Display for Arriving<'_> {
     }
 }
 
-/// Puts the line of the n-th step, an arrival that takes this packet, in place of what the line has.
-fn put_arrival(line: &mut String, n: usize, placed: &PlacedPacket) -> Result<(), AllocError>
-    ensures { OnOk result (string_bytes line.new ≡ arrival_line n placed.now) }
-{
-    line.clear();
-    writeln!(line, "step {n} arrive {}", Arriving(placed))
+/// The same packet as members of an object.
+#[derive(Clone, Copy)]
+struct ArrivingMembers<'a>(&'a PlacedPacket);
+
+impl Display for ArrivingMembers<'_> {
+    ghost output = { λ arriving. Some (placed_members arriving.0.now) };
+
+    fn fmt<W: fmt::Write>(&self, f: &mut Formatter<W>) -> fmt::Result {
+        let PlacedPacket {
+            capture,
+            place,
+            packet,
+        } = self.0;
+        write!(
+            f,
+            "\"capture\":{capture},\"place\":{place},\"seconds\":{},\"nanoseconds\":{},\"length\":{}",
+            packet.sec, packet.nanos, packet.len
+        )
+    }
 }
 
-/// Writes the n-th step, an arrival that takes this packet, and all answers to it.
+/// Puts the line of a step, an arrival that takes this packet, in place of what the line has.
+fn put_arrival(head: StepHead, placed: &PlacedPacket, line: &mut String) -> Result<(), AllocError>
+    ensures { OnOk result (string_bytes line.new ≡ arrival_line head.form head.n placed.now) }
+{
+    let n = head.n;
+    line.clear();
+    match head.form {
+        LineForm::Text => writeln!(line, "step {n} arrive {}", Arriving(placed)),
+        LineForm::Json => writeln!(
+            line,
+            "{{\"step\":{n},\"action\":\"arrive\",{}}}",
+            ArrivingMembers(placed)
+        ),
+    }
+}
+
+/// Writes a step, an arrival that takes this packet, and all answers to it.
 fn write_arrival<O: Write>(
-    n: usize,
+    head: StepHead,
     placed: &PlacedPacket,
     all: &[AnswerCursor<'_>],
     line: &mut String,
     out: &mut O,
 ) -> io::Result<()>
-    ensures { Takes (O.contents out.old) (O.contents out.new) result (arrival_line n placed.now ++ numbered (arrived_line placed.now) 0 all.now) }
+    ensures { Takes (O.contents out.old) (O.contents out.new) result
+        (arrival_line head.form head.n placed.now ++ numbered (arrived_line head.form head.n placed.now) 0 all.now) }
 {
-    put_arrival(line, n, placed)?;
+    put_arrival(head, placed, line)?;
     send(line.as_bytes(), out)?;
-    write_all(placed, all, line, out)
+    write_all(head, placed, all, line, out)
 }
 
-/// Puts the line of the n-th step, with this text, in place of what the line has.
-fn put_step(line: &mut String, n: usize, text: &str) -> Result<(), AllocError>
-    ensures { OnOk result (string_bytes line.new ≡ step_line n text.now) }
+/// Puts the line of a step, an arrival for which no packet is left, in place of what the line has.
+fn put_no_packet(head: StepHead, line: &mut String) -> Result<(), AllocError>
+    ensures { OnOk result (string_bytes line.new ≡ no_packet_line head.form head.n) }
 {
+    let n = head.n;
     line.clear();
-    writeln!(line, "step {n} {text}")
+    match head.form {
+        LineForm::Text => writeln!(line, "step {n} arrive, no packet is left"),
+        LineForm::Json => writeln!(line, "{{\"step\":{n},\"action\":\"arrive\"}}"),
+    }
 }
 
-/// Writes the n-th step, an arrival for which no packet is left.
-fn write_no_packet<O: Write>(n: usize, line: &mut String, out: &mut O) -> io::Result<()>
-    ensures { Takes (O.contents out.old) (O.contents out.new) result (no_packet_line n) }
+/// Writes a step, an arrival for which no packet is left.
+fn write_no_packet<O: Write>(head: StepHead, line: &mut String, out: &mut O) -> io::Result<()>
+    ensures { Takes (O.contents out.old) (O.contents out.new) result (no_packet_line head.form head.n) }
 {
-    put_step(line, n, "arrive, no packet is left")?;
+    put_no_packet(head, line)?;
     send(line.as_bytes(), out)
 }
 
-/// Puts the line of the n-th step, which names the l-th listener, in place of what the line has.
-fn put_own(line: &mut String, n: usize, word: &str, l: usize) -> Result<(), AllocError>
-    ensures { OnOk result (string_bytes line.new ≡ own_line n word.now l) }
+/// Puts the line of a step, which names the l-th listener, in place of what the line has.
+fn put_own(head: StepHead, word: &str, l: usize, line: &mut String) -> Result<(), AllocError>
+    ensures { OnOk result (string_bytes line.new ≡ own_line head.form head.n word.now l) }
 {
+    let n = head.n;
     line.clear();
-    writeln!(line, "step {n} {word} {l}")
+    match head.form {
+        LineForm::Text => writeln!(line, "step {n} {word} {l}"),
+        LineForm::Json => writeln!(
+            line,
+            "{{\"step\":{n},\"action\":\"{word}\",\"listener\":{l}}}"
+        ),
+    }
 }
 
-/// Writes the n-th step, which names the l-th listener, and the answer to it.
+/// Writes a step, which names the l-th listener, and the answer to it.
 fn write_named<O: Write>(
-    n: usize,
+    head: StepHead,
     word: &str,
     l: usize,
     all: &[AnswerCursor<'_>],
     line: &mut String,
     out: &mut O,
 ) -> io::Result<()>
-    ensures { Takes (O.contents out.old) (O.contents out.new) result (own_line n word.now l ++ line_at l all.now) }
+    ensures { Takes (O.contents out.old) (O.contents out.new) result (own_line head.form head.n word.now l ++ line_at head.form head.n l all.now) }
 {
-    put_own(line, n, word, l)?;
+    put_own(head, word, l, line)?;
     send(line.as_bytes(), out)?;
-    write_one(all, l, line, out)
+    write_one(head, all, l, line, out)
 }
 
 /// Writes what [`write_named`] writes, and goes past the answer.
 fn write_own<O: Write>(
-    n: usize,
+    head: StepHead,
     word: &str,
     l: usize,
     all: &mut Vec<AnswerCursor<'_>>,
     line: &mut String,
     out: &mut O,
 ) -> io::Result<()>
-    ensures text { Takes (O.contents out.old) (O.contents out.new) result (own_line n word.now l ++ line_at l all.old.items) }
-    ensures left { OnOk result (all.new.items ≡ one_advanced n l all.old.items) }
+    ensures text { Takes (O.contents out.old) (O.contents out.new) result (own_line head.form head.n word.now l ++ line_at head.form head.n l all.old.items) }
+    ensures left { OnOk result (all.new.items ≡ one_advanced head.n l all.old.items) }
 {
-    write_named(n, word, l, all.as_slice(), line, out)?;
-    advance_one(all, n, l);
+    write_named(head, word, l, all.as_slice(), line, out)?;
+    advance_one(all, head.n, l);
     Ok(())
 }
 
-/// Writes the n-th step, an arrival, and all answers to it, and goes past these. If no packet is left, there are none.
+/// Writes a step, an arrival, and all answers to it, and goes past these. If no packet is left, there are none.
 fn write_arrive<O: Write>(
-    n: usize,
+    head: StepHead,
     packets: &[PlacedPacket],
     all: &mut Vec<AnswerCursor<'_>>,
     line: &mut String,
     out: &mut O,
 ) -> io::Result<()>
-    ensures text { Takes (O.contents out.old) (O.contents out.new) result (step_text n Arrive packets.now all.old.items) }
-    ensures left { OnOk result (all.new.items ≡ cursors_after n Arrive packets.now all.old.items) }
+    ensures text { Takes (O.contents out.old) (O.contents out.new) result (step_text head.form head.n Arrive packets.now all.old.items) }
+    ensures left { OnOk result (all.new.items ≡ cursors_after head.n Arrive packets.now all.old.items) }
 {
     let Some((placed, _)) = packets.split_first() else {
-        return write_no_packet(n, line, out);
+        return write_no_packet(head, line, out);
     };
-    write_arrival(n, placed, all.as_slice(), line, out)?;
-    advance_all(all, n);
+    write_arrival(head, placed, all.as_slice(), line, out)?;
+    advance_all(all, head.n);
     Ok(())
 }
 
-/// Writes the n-th step and the answers to it, and goes past these.
+/// Writes a step and the answers to it, and goes past these.
 fn write_step<O: Write>(
-    n: usize,
+    head: StepHead,
     step: Step,
     packets: &[PlacedPacket],
     all: &mut Vec<AnswerCursor<'_>>,
     line: &mut String,
     out: &mut O,
 ) -> io::Result<()>
-    ensures text { Takes (O.contents out.old) (O.contents out.new) result (step_text n step packets.now all.old.items) }
-    ensures left { OnOk result (all.new.items ≡ cursors_after n step packets.now all.old.items) }
+    ensures text { Takes (O.contents out.old) (O.contents out.new) result (step_text head.form head.n step packets.now all.old.items) }
+    ensures left { OnOk result (all.new.items ≡ cursors_after head.n step packets.now all.old.items) }
 {
     match step {
-        Step::Arrive => write_arrive(n, packets, all, line, out),
-        Step::Flush(l) => write_own(n, "flush", l as usize, all, line, out),
-        Step::Read(l) => write_own(n, "read", l as usize, all, line, out),
-        Step::Close(l) => write_own(n, "close", l as usize, all, line, out),
+        Step::Arrive => write_arrive(head, packets, all, line, out),
+        Step::Flush(l) => write_own(head, "flush", l as usize, all, line, out),
+        Step::Read(l) => write_own(head, "read", l as usize, all, line, out),
+        Step::Close(l) => write_own(head, "close", l as usize, all, line, out),
     }
 }
 
@@ -397,19 +527,23 @@ fn packets_after(step: Step, packets: &[PlacedPacket]) -> &[PlacedPacket]
 /// from 1, as the lines of SCRIPT. `all` are the answers of [`answer_cursors`], for a trace of these steps and this playlist. `line` is
 /// that of [`line_for`], which should have room for all of them: that it takes no more memory is not proved.
 ///
+/// In JSON each line is an object that has its step's number; that of an answer to an arrival also has the packet's capture and place.
+///
 /// If it fails, `out` took a prefix of the text and no more.
 pub fn write_answers<O: Write>(
+    form: LineForm,
     steps: &[Step],
     playlist: &[PlacedPacket],
     all: &mut Vec<AnswerCursor<'_>>,
     line: &mut String,
     out: &mut O,
 ) -> io::Result<()>
-    ensures { Takes (O.contents out.old) (O.contents out.new) result (answers_from 1 steps.now playlist.now all.old.items) }
+    ensures { Takes (O.contents out.old) (O.contents out.new) result (answers_from form 1 steps.now playlist.now all.old.items) }
 {
     let mut packets = playlist;
-    for (n, step) in steps.iter().enumerate() {
-        write_step(n + 1, *step, packets, all, line, out)?;
+    for (i, step) in steps.iter().enumerate() {
+        let head = StepHead { form, n: i + 1 };
+        write_step(head, *step, packets, all, line, out)?;
         packets = packets_after(*step, packets);
     }
     Ok(())

@@ -9,10 +9,11 @@ use crate::hints::{hint_line, hint_replay};
 use crate::paths::{check_paths, read_captures};
 use crate::picture::draw;
 use crate::plan::{StepsPlan, read_plan};
-use crate::steps::{Detail, Replayed, play_plan};
+use crate::steps::{Detail, Printing, Replayed, play_plan_in};
 use cli_args::steps::StepsWords;
 use cli_files::piped::Piped;
 use cli_files::reading::read_file;
+use cli_json::LineForm;
 use cli_report::failures::hint_output;
 use cli_report::files::hint_returns;
 use cli_report::{FailureProbe, HintSink};
@@ -46,16 +47,16 @@ fn omit_unread_output(report: &[u8], is_unread: bool) -> &[u8]
 
 /// Plays a plan, and prints by pieces. That nobody reads what is printed any more is not reported.
 ///
-/// If no hints are wanted, standard error took what [`play_plan`] reports, but for that.
+/// If no hints are wanted, standard error took what [`play_plan_in`] reports, but for that.
 pub fn play<O: Write, E: HintSink>(
     alloc: Global,
+    printing: Printing,
     plan: &StepsPlan,
     captures: &[&[u8]],
-    detail: Detail,
     out: &mut O,
     err: &mut E,
 ) -> (Outcome, Result<Replayed, tap::Fault>)
-    ensures { E.takes_hints err.old ≡ false → TellsPlayed (is_explained detail) (is_traced detail)
+    ensures { E.takes_hints err.old ≡ false → TellsPlayed printing.form (is_explained printing.detail) (is_traced printing.detail)
         (map (λ c. c.now) captures.now) plan.now.specs.items plan.now.steps.items (E.contents err.old) (E.contents err.new) result.0 result.1 }
 {
     let hinted = err.takes_hints();
@@ -70,7 +71,14 @@ pub fn play<O: Write, E: HintSink>(
         };
         return (outcome, Err(tap::Fault::NoMemory));
     };
-    let (outcome, replayed) = play_plan(alloc, plan, captures, detail, &mut printed, &mut report);
+    let (outcome, replayed) = play_plan_in(
+        alloc,
+        printing,
+        plan,
+        captures,
+        &mut printed,
+        &mut report,
+    );
     drop(printed);
     let sent = send(
         omit_unread_output(report.as_slice(), noted.get_ref().is_unread()),
@@ -116,6 +124,14 @@ fn detail_of(words: &StepsWords<'_>) -> Detail {
         Detail::Trace
     } else {
         Detail::Reports
+    }
+}
+
+/// What is printed of the replay: text.
+fn printing_of(words: &StepsWords<'_>) -> Printing {
+    Printing {
+        form: LineForm::Text,
+        detail: detail_of(words),
     }
 }
 
@@ -187,7 +203,7 @@ fn play_and_report<R: Files + AllocGlobal, O: Write, E: HintSink>(
         return report_fault(Fault::NoMemory, Status::Refused, err);
     };
     let captures = captures.as_slice();
-    let (outcome, replayed) = play(rt.alloc(), plan, captures, detail_of(words), out, err);
+    let (outcome, replayed) = play(rt.alloc(), printing_of(words), plan, captures, out, err);
     hint_replay(
         rt.alloc(),
         script.as_slice(),

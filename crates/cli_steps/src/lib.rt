@@ -7,6 +7,8 @@ pub mod faults;
 mod hints;
 pub mod laws;
 pub mod listeners;
+mod members;
+pub mod objects;
 mod paths;
 mod picture;
 pub mod plan;

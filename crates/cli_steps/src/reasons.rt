@@ -36,7 +36,7 @@ impl ListenerState {
         }
     }
 
-    fn hold(&self) -> FullHold
+    pub(crate) fn hold(&self) -> FullHold
         ensures { result ≡ full_hold_of self.now }
     {
         FullHold {

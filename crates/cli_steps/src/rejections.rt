@@ -4,8 +4,9 @@ ghost use Rattle.std.specs.Prelude.{◌≡◌, ◌++◌, OnOk, codes, string_byt
 ghost use Rattle.filter_tree.specs.Trees.{tree_of};
 ghost use Rattle.filter_meaning.specs.Meaning.{packet_of};
 ghost use Rattle.filter_explain.specs.Deciding.{decision_text};
-ghost use Rattle.cli_steps.specs.Rejections.{rejects, rejection};
+ghost use Rattle.cli_steps.specs.Rejections.{rejects, rejection, place_members, rejection_in};
 
+use cli_json::LineForm;
 use filter_explain::put_decision;
 use filterlang::Expr;
 use listener::Fed;
@@ -46,7 +47,7 @@ fn rejects(answer: Answer) -> bool
 }
 
 /// Appends to the answer to a packet why an expression rejected it, if one did.
-pub fn put_rejection(
+fn put_rejection_text(
     line: &mut String,
     placed: &PlacedPacket,
     expr: &Option<Expr>,
@@ -65,5 +66,32 @@ pub fn put_rejection(
             placed.packet.len,
         ),
         None => Ok(()),
+    }
+}
+
+/// Appends the capture and the place of a packet, as members of an object.
+fn put_place(line: &mut String, placed: &PlacedPacket) -> Result<(), AllocError>
+    ensures { OnOk result (string_bytes line.new ≡ string_bytes line.old ++ place_members placed.now) }
+{
+    write!(
+        line,
+        ",\"capture\":{},\"place\":{}",
+        placed.capture, placed.place
+    )
+}
+
+/// Appends to the answer to a packet why an expression rejected it, if one did, and before that in JSON the packet's capture and place.
+pub fn put_rejection(
+    form: LineForm,
+    line: &mut String,
+    placed: &PlacedPacket,
+    expr: &Option<Expr>,
+    answer: Answer,
+) -> Result<(), AllocError>
+    ensures { OnOk result (string_bytes line.new ≡ string_bytes line.old ++ rejection_in form placed.now expr.now answer) }
+{
+    match form {
+        LineForm::Text => put_rejection_text(line, placed, expr, answer),
+        LineForm::Json => put_place(line, placed),
     }
 }

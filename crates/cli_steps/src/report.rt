@@ -8,9 +8,12 @@ ghost use Rattle.cli_text.specs.Telling.{told_line, print_status_of};
 ghost use Rattle.cli_text.specs.Texts.{numbered};
 ghost use Rattle.cli_steps.specs.Faults.{fault_text};
 ghost use Rattle.cli_steps.specs.Playing.{record_fault_status, failed_output_line, record_fault_line};
-ghost use Rattle.cli_steps.specs.Printed.{message_line, message_lines, batch_lines, batch_line, listener_line, report_lines, printed_reports};
+ghost use Rattle.cli_steps.specs.Printed.{message_line, message_in, messages_in, part_line, part_in, part_lines, batches_in, listener_line, listener_in, report_lines, reports_in, printed_reports};
+ghost use Rattle.cli_steps.specs.declared.objects.ReportPart.TheVariants.{Batch};
 
 use crate::faults::FaultText;
+use crate::objects::{ReportPart, put_listener_object, put_message_object, put_part_object};
+use cli_json::LineForm;
 use cli_text::report::{Outcome, print_status, report_line};
 use cli_text::sending::send;
 use cli_text::time::NineDigits;
@@ -20,9 +23,9 @@ use std::io;
 use std::io::Write;
 use tap::{Fault, Report};
 
-/// Puts the line of a message in place of what the line has.
+/// Puts the text of a message in place of what the line has.
 #[tactic(auto, unfolding(crate::specs::Printed::message_line))]
-fn put_message(line: &mut Line, message: &Message) -> io::Result<()>
+fn put_message_text(line: &mut Line, message: &Message) -> io::Result<()>
     ensures { OnOk result (line.new ≡ message_line message.now) }
 {
     line.clear();
@@ -38,51 +41,95 @@ fn put_message(line: &mut Line, message: &Message) -> io::Result<()>
     writeln!(line, " len {} kept {kept}", message.len)
 }
 
-/// Messages, each on a line of its own.
-fn write_messages<O: Write>(messages: &[Message], line: &mut Line, out: &mut O) -> io::Result<()>
-    ensures { Takes (O.contents out.old) (O.contents out.new) result (message_lines messages.now) }
+/// Puts the line of a message in place of what the line has.
+fn put_message(
+    form: LineForm,
+    l: usize,
+    part: ReportPart,
+    message: &Message,
+    line: &mut Line,
+) -> io::Result<()>
+    ensures { OnOk result (line.new ≡ message_in form l part message.now) }
+{
+    match form {
+        LineForm::Text => put_message_text(line, message),
+        LineForm::Json => put_message_object(line, l, part, message),
+    }
+}
+
+/// Writes messages, each on a line of its own.
+fn write_messages<O: Write>(
+    form: LineForm,
+    l: usize,
+    part: ReportPart,
+    messages: &[Message],
+    line: &mut Line,
+    out: &mut O,
+) -> io::Result<()>
+    ensures { Takes (O.contents out.old) (O.contents out.new) result (messages_in form l part messages.now) }
 {
     for message in messages {
-        put_message(line, message)?;
+        put_message(form, l, part, message, line)?;
         send(line.as_bytes(), out)?;
     }
     Ok(())
 }
 
-/// Puts the line of a batch in place of what the line has.
-fn put_batch(line: &mut Line, b: usize) -> io::Result<()>
-    ensures { OnOk result (line.new ≡ batch_line b) }
+/// Puts the text of a part in place of what the line has.
+fn put_part_text(line: &mut Line, part: ReportPart) -> io::Result<()>
+    ensures { OnOk result (line.new ≡ part_line part) }
 {
     line.clear();
-    writeln!(line, "batch {b}")
+    match part {
+        ReportPart::Batch(b) => writeln!(line, "batch {b}"),
+        ReportPart::Held => writeln!(line, "held"),
+    }
 }
 
-/// A batch: its number, and its messages.
-fn write_batch<O: Write>(
-    b: usize,
-    batch: &[Message],
+/// Puts the line of a part in place of what the line has.
+fn put_part(form: LineForm, l: usize, part: ReportPart, line: &mut Line) -> io::Result<()>
+    ensures { OnOk result (line.new ≡ part_in form l part) }
+{
+    match form {
+        LineForm::Text => put_part_text(line, part),
+        LineForm::Json => put_part_object(line, l, part),
+    }
+}
+
+/// Writes a part: its line, and its messages.
+fn write_part<O: Write>(
+    form: LineForm,
+    l: usize,
+    part: ReportPart,
+    messages: &[Message],
     line: &mut Line,
     out: &mut O,
 ) -> io::Result<()>
-    ensures { Takes (O.contents out.old) (O.contents out.new) result (batch_lines b batch.now) }
+    ensures { Takes (O.contents out.old) (O.contents out.new) result (part_lines form l part messages.now) }
 {
-    put_batch(line, b)?;
+    put_part(form, l, part, line)?;
     send(line.as_bytes(), out)?;
-    write_messages(batch, line, out)
+    write_messages(form, l, part, messages, line, out)
 }
 
-/// Batches, numbered from 0.
-fn write_batches<O: Write>(batches: &[Vec<Message>], line: &mut Line, out: &mut O) -> io::Result<()>
-    ensures { Takes (O.contents out.old) (O.contents out.new) result (numbered (λ b batch. batch_lines b batch.items) 0 batches.now) }
+/// Writes the batches of the l-th listener, numbered from 0.
+fn write_batches<O: Write>(
+    form: LineForm,
+    l: usize,
+    batches: &[Vec<Message>],
+    line: &mut Line,
+    out: &mut O,
+) -> io::Result<()>
+    ensures { Takes (O.contents out.old) (O.contents out.new) result (numbered (λ b batch. part_lines form l (Batch b) batch.items) 0 batches.now) }
 {
     for (b, batch) in batches.iter().enumerate() {
-        write_batch(b, batch.as_slice(), line, out)?;
+        write_part(form, l, ReportPart::Batch(b), batch.as_slice(), line, out)?;
     }
     Ok(())
 }
 
-/// Puts the line of a listener in place of what the line has.
-fn put_listener(line: &mut Line, l: usize, report: &Report) -> io::Result<()>
+/// Puts the text of a listener's counts in place of what the line has.
+fn put_listener_text(line: &mut Line, l: usize, report: &Report) -> io::Result<()>
     ensures { OnOk result (line.new ≡ listener_line l report.now) }
 {
     line.clear();
@@ -93,35 +140,72 @@ fn put_listener(line: &mut Line, l: usize, report: &Report) -> io::Result<()>
     )
 }
 
-/// The l-th listener's counts, its batches, and what it holds.
-fn write_report<O: Write>(l: usize, report: &Report, line: &mut Line, out: &mut O) -> io::Result<()>
-    ensures { Takes (O.contents out.old) (O.contents out.new) result (report_lines l report.now) }
+/// Puts the line of a listener's counts in place of what the line has.
+fn put_listener(form: LineForm, l: usize, report: &Report, line: &mut Line) -> io::Result<()>
+    ensures { OnOk result (line.new ≡ listener_in form l report.now) }
 {
-    put_listener(line, l, report)?;
+    match form {
+        LineForm::Text => put_listener_text(line, l, report),
+        LineForm::Json => put_listener_object(line, l, report),
+    }
+}
+
+/// Writes the l-th listener's counts and its batches.
+fn write_read<O: Write>(
+    form: LineForm,
+    l: usize,
+    report: &Report,
+    line: &mut Line,
+    out: &mut O,
+) -> io::Result<()>
+    ensures { Takes (O.contents out.old) (O.contents out.new) result (listener_in form l report.now ++ batches_in form l report.now) }
+{
+    put_listener(form, l, report, line)?;
     send(line.as_bytes(), out)?;
-    write_batches(report.batches.as_slice(), line, out)?;
-    send(b"held\n", out)?;
-    write_messages(report.held.as_slice(), line, out)
+    write_batches(form, l, report.batches.as_slice(), line, out)
+}
+
+/// Writes the l-th listener's counts, its batches, and what it holds.
+fn write_report<O: Write>(
+    form: LineForm,
+    l: usize,
+    report: &Report,
+    line: &mut Line,
+    out: &mut O,
+) -> io::Result<()>
+    ensures { Takes (O.contents out.old) (O.contents out.new) result (report_lines form l report.now) }
+{
+    write_read(form, l, report, line, out)?;
+    write_part(form, l, ReportPart::Held, report.held.as_slice(), line, out)
 }
 
 /// Writes the reports of all listeners, in order, numbered from 0: a listener's counts, its batches, numbered from 0, with a line
 /// for each message, and what it holds. If that fails, `out` took a prefix of the text and no more. It takes no memory.
-pub fn write_reports<O: Write>(reports: &[Report], out: &mut O) -> io::Result<()>
-    ensures { Takes (O.contents out.old) (O.contents out.new) result (printed_reports reports.now) }
+///
+/// In JSON each line is an object that names its listener. That of a message has `"batch":B` or `"held":true`.
+pub fn write_reports<O: Write>(form: LineForm, reports: &[Report], out: &mut O) -> io::Result<()>
+    ensures { Takes (O.contents out.old) (O.contents out.new) result (reports_in form reports.now) }
 {
     let mut line = Line::new();
     for (l, report) in reports.iter().enumerate() {
-        write_report(l, report, &mut line, out)?;
+        write_report(form, l, report, &mut line, out)?;
     }
     Ok(())
 }
 
-/// Prints the reports, and passes on all that the writer has gathered of them.
+/// Prints the reports in a form, and passes on all that the writer has gathered of them.
+pub fn print_reports_in<O: Write>(form: LineForm, reports: &[Report], out: &mut O) -> io::Result<()>
+    ensures { Takes (O.contents out.old) (O.contents out.new) result (reports_in form reports.now) }
+{
+    write_reports(form, reports, out)?;
+    out.flush()
+}
+
+/// Prints the reports as text, and passes on all that the writer has gathered of them.
 pub fn print_reports<O: Write>(reports: &[Report], out: &mut O) -> io::Result<()>
     ensures { Takes (O.contents out.old) (O.contents out.new) result (printed_reports reports.now) }
 {
-    write_reports(reports, out)?;
-    out.flush()
+    print_reports_in(LineForm::Text, reports, out)
 }
 
 /// The exit status of a capture that ended with a record fault, if one did.

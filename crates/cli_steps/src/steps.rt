@@ -2,15 +2,17 @@
 
 ghost use Rattle.std.specs.Prelude.{◌≡◌, ◌++◌, true, false, map, IfOk, OnErr};
 ghost use Rattle.std.specs.Io.KnownBytes.{Keeps};
+ghost use Rattle.cli_json.specs.declared.form.LineForm.TheVariants.{Text};
 ghost use Rattle.cli_text.specs.Sending.{Takes, streams};
 ghost use Rattle.cli_steps.specs.Answers.{answers_from};
-ghost use Rattle.cli_steps.specs.Printed.{printed_reports};
+ghost use Rattle.cli_steps.specs.Printed.{reports_in};
 ghost use Rattle.cli_steps.specs.Playing.{trace_text, is_explained, is_traced, PlaysAs};
 ghost use Rattle.cli_steps.specs.Stepping.{Steps, StepsTo};
 
 use crate::answers::{AnswerCursor, answer_cursors, line_for, write_answers};
 use crate::plan::{StepsPlan, read_plan};
-use crate::report::{print_reports, report_end, report_refusal};
+use crate::report::{print_reports_in, report_end, report_refusal};
+use cli_json::LineForm;
 use cli_text::Status;
 use cli_text::report::{Outcome, report_line};
 use std::alloc::{AllocError, Global};
@@ -29,6 +31,13 @@ pub enum Detail {
     Answers,
 }
 
+/// What a replay prints and hands on, and the form of its lines.
+#[derive(Clone, Copy, Debug, PartialEq, Eq)]
+pub struct Printing {
+    pub form: LineForm,
+    pub detail: Detail,
+}
+
 /// The result of a replay, beside what is printed.
 #[derive(Drop)]
 pub struct Replayed {
@@ -40,6 +49,7 @@ pub struct Replayed {
 
 /// Prints the answers, and then the reports.
 fn print_both<O: Write>(
+    form: LineForm,
     steps: &[Step],
     trace: &Trace,
     cursors: &mut Vec<AnswerCursor<'_>>,
@@ -47,21 +57,22 @@ fn print_both<O: Write>(
     out: &mut O,
 ) -> io::Result<()>
     ensures { Takes (O.contents out.old) (O.contents out.new) result
-        (answers_from 1 steps.now trace.now.playlist.items cursors.old.items ++ printed_reports trace.now.reports.items) }
+        (answers_from form 1 steps.now trace.now.playlist.items cursors.old.items ++ reports_in form trace.now.reports.items) }
 {
-    write_answers(steps, trace.playlist.as_slice(), cursors, line, out)?;
-    print_reports(trace.reports.as_slice(), out)
+    write_answers(form, steps, trace.playlist.as_slice(), cursors, line, out)?;
+    print_reports_in(form, trace.reports.as_slice(), out)
 }
 
 /// Prints the answers of a trace, and then its reports. If memory is refused, nothing is printed.
 fn print_explained<O: Write>(
     alloc: Global,
+    form: LineForm,
     plan: &StepsPlan,
     trace: &Trace,
     out: &mut O,
 ) -> Result<io::Result<()>, AllocError>
     ensures prints { IfOk result (λ printed. Takes (O.contents out.old) (O.contents out.new) printed
-        (trace_text true plan.now.specs.items plan.now.steps.items trace.now ++ printed_reports trace.now.reports.items)) }
+        (trace_text form true plan.now.specs.items plan.now.steps.items trace.now ++ reports_in form trace.now.reports.items)) }
     ensures nothing { OnErr result (Keeps (O.contents out.old) (O.contents out.new)) }
 {
     let mut cursors = answer_cursors(
@@ -72,37 +83,39 @@ fn print_explained<O: Write>(
     )?;
     let mut line = line_for(alloc, cursors.as_slice())?;
     let steps = plan.steps.as_slice();
-    Ok(print_both(steps, trace, &mut cursors, &mut line, out))
+    Ok(print_both(form, steps, trace, &mut cursors, &mut line, out))
 }
 
-/// Prints a trace: with `explained` its answers, and then its reports. If memory is refused, nothing is printed.
+/// Prints a trace: its answers, if they are wanted, and then its reports. If memory is refused, nothing is printed.
 fn print_trace<O: Write>(
     alloc: Global,
+    printing: Printing,
     plan: &StepsPlan,
     trace: &Trace,
-    explained: bool,
     out: &mut O,
 ) -> Result<io::Result<()>, AllocError>
     ensures prints { IfOk result (λ printed. Takes (O.contents out.old) (O.contents out.new) printed
-        (trace_text explained plan.now.specs.items plan.now.steps.items trace.now ++ printed_reports trace.now.reports.items)) }
+        (trace_text printing.form (is_explained printing.detail) plan.now.specs.items plan.now.steps.items trace.now ++ reports_in printing.form trace.now.reports.items)) }
     ensures nothing { OnErr result (Keeps (O.contents out.old) (O.contents out.new)) }
 {
-    if explained {
-        print_explained(alloc, plan, trace, out)
-    } else {
-        Ok(print_reports(trace.reports.as_slice(), out))
+    let reports = trace.reports.as_slice();
+    match printing.detail {
+        Detail::Answers => print_explained(alloc, printing.form, plan, trace, out),
+        Detail::Trace => Ok(print_reports_in(printing.form, reports, out)),
+        Detail::Reports => Ok(print_reports_in(printing.form, reports, out)),
     }
 }
 
 /// Plays a plan over captures, and prints the reports.
 fn play_reports<O: Write, E: Write>(
     alloc: Global,
+    form: LineForm,
     plan: &StepsPlan,
     captures: &[&[u8]],
     out: &mut O,
     err: &mut E,
 ) -> (Outcome, Result<Replayed, Fault>)
-    ensures { PlaysAs false false (map (λ c. c.now) captures.now) plan.now.specs.items plan.now.steps.items
+    ensures { PlaysAs form false false (map (λ c. c.now) captures.now) plan.now.specs.items plan.now.steps.items
         (streams (O.contents out.old) (E.contents err.old)) (streams (O.contents out.new) (E.contents err.new)) result.0 result.1 }
 {
     match replay(
@@ -112,7 +125,7 @@ fn play_reports<O: Write, E: Write>(
         plan.steps.as_slice(),
     ) {
         Ok((reports, record_fault)) => {
-            let printed = print_reports(reports.as_slice(), out);
+            let printed = print_reports_in(form, reports.as_slice(), out);
             let replayed = Replayed {
                 record_fault,
                 trace: None,
@@ -123,16 +136,16 @@ fn play_reports<O: Write, E: Write>(
     }
 }
 
-/// Plays a plan over captures, prints with `explained` the answers, and then the reports, and hands the trace on.
+/// Plays a plan over captures, prints the answers if they are wanted, and then the reports, and hands the trace on.
 fn play_trace<O: Write, E: Write>(
     alloc: Global,
+    printing: Printing,
     plan: &StepsPlan,
     captures: &[&[u8]],
-    explained: bool,
     out: &mut O,
     err: &mut E,
 ) -> (Outcome, Result<Replayed, Fault>)
-    ensures { PlaysAs explained true (map (λ c. c.now) captures.now) plan.now.specs.items plan.now.steps.items
+    ensures { PlaysAs printing.form (is_explained printing.detail) true (map (λ c. c.now) captures.now) plan.now.specs.items plan.now.steps.items
         (streams (O.contents out.old) (E.contents err.old)) (streams (O.contents out.new) (E.contents err.new)) result.0 result.1 }
 {
     let traced = match trace(
@@ -144,7 +157,7 @@ fn play_trace<O: Write, E: Write>(
         Ok(traced) => traced,
         Err(fault) => return (report_refusal(fault, err), Err(fault)),
     };
-    match print_trace(alloc, plan, &traced, explained, out) {
+    match print_trace(alloc, printing, plan, &traced, out) {
         Ok(printed) => {
             let record_fault = traced.record_fault;
             let replayed = Replayed {
@@ -163,6 +176,25 @@ fn play_trace<O: Write, E: Write>(
 /// It prints, reports and returns what [`steps`] says, and also returns the result of the replay, or the fault that was
 /// reported. With [`Detail::Answers`] memory may also be refused after the replay; then only that is reported, and nothing is
 /// printed, unless it is refused for a line ([`line_for`]).
+pub fn play_plan_in<O: Write, E: Write>(
+    alloc: Global,
+    printing: Printing,
+    plan: &StepsPlan,
+    captures: &[&[u8]],
+    out: &mut O,
+    err: &mut E,
+) -> (Outcome, Result<Replayed, Fault>)
+    ensures { PlaysAs printing.form (is_explained printing.detail) (is_traced printing.detail) (map (λ c. c.now) captures.now) plan.now.specs.items plan.now.steps.items
+        (streams (O.contents out.old) (E.contents err.old)) (streams (O.contents out.new) (E.contents err.new)) result.0 result.1 }
+{
+    match printing.detail {
+        Detail::Reports => play_reports(alloc, printing.form, plan, captures, out, err),
+        Detail::Trace => play_trace(alloc, printing, plan, captures, out, err),
+        Detail::Answers => play_trace(alloc, printing, plan, captures, out, err),
+    }
+}
+
+/// Plays a plan as [`play_plan_in`] does, and prints text.
 pub fn play_plan<O: Write, E: Write>(
     alloc: Global,
     plan: &StepsPlan,
@@ -171,14 +203,11 @@ pub fn play_plan<O: Write, E: Write>(
     out: &mut O,
     err: &mut E,
 ) -> (Outcome, Result<Replayed, Fault>)
-    ensures { PlaysAs (is_explained detail) (is_traced detail) (map (λ c. c.now) captures.now) plan.now.specs.items plan.now.steps.items
+    ensures { PlaysAs Text (is_explained detail) (is_traced detail) (map (λ c. c.now) captures.now) plan.now.specs.items plan.now.steps.items
         (streams (O.contents out.old) (E.contents err.old)) (streams (O.contents out.new) (E.contents err.new)) result.0 result.1 }
 {
-    match detail {
-        Detail::Reports => play_reports(alloc, plan, captures, out, err),
-        Detail::Trace => play_trace(alloc, plan, captures, false, out, err),
-        Detail::Answers => play_trace(alloc, plan, captures, true, out, err),
-    }
+    let form = LineForm::Text;
+    play_plan_in(alloc, Printing { form, detail }, plan, captures, out, err)
 }
 
 /// [`steps`], with whether standard error took what was reported.
@@ -190,7 +219,7 @@ pub fn steps_told<O: Write, E: Write>(
     out: &mut O,
     err: &mut E,
 ) -> Outcome
-    ensures { Steps listeners.now script.now (map (λ c. c.now) captures.now)
+    ensures { Steps Text listeners.now script.now (map (λ c. c.now) captures.now)
         (streams (O.contents out.old) (E.contents err.old)) (streams (O.contents out.new) (E.contents err.new)) result }
 {
     match read_plan(alloc, listeners, script) {
@@ -220,7 +249,7 @@ pub fn steps<O: Write, E: Write>(
     out: &mut O,
     err: &mut E,
 ) -> u8
-    ensures { StepsTo listeners.now script.now (map (λ c. c.now) captures.now)
+    ensures { StepsTo Text listeners.now script.now (map (λ c. c.now) captures.now)
         (streams (O.contents out.old) (E.contents err.old)) (streams (O.contents out.new) (E.contents err.new)) result }
 {
     steps_told(alloc, listeners, script, captures, out, err)

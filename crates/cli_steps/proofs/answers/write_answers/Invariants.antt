@@ -4,7 +4,7 @@ use Rattle.cli_steps.proofs.Answering.{IsSoFar}
 use Rattle.cli_steps.proofs.answers.write_answers.Given as goal
 
 -- the steps before were written, and these are left
-abbrev pub invariant-loop-n : goal.invariant-loop-n
-invariant-loop-n g l =
-    IsSoFar (g.O.Write.contents l.fn.out) (g.O.Write.contents l.out) (answers_from 1 l.steps l.playlist l.fn.all.items)
-    (answers_from (suc l.n) (drop l.n l.steps) l.packets l.all.items)
+abbrev pub invariant-loop-i : goal.invariant-loop-i
+invariant-loop-i g l =
+    IsSoFar (g.O.Write.contents l.fn.out) (g.O.Write.contents l.out) (answers_from l.form 1 l.steps l.playlist l.fn.all.items)
+    (answers_from l.form (suc l.i) (drop l.i l.steps) l.packets l.all.items)

@@ -15,9 +15,9 @@ pub returns-in_err-send : goal.returns-in_err-send
 returns-in_err-send g c =
     let p = err_from_is_err_and c.from_residual-in_err-send.result c.from_residual-in_err-send.ensures.1 in
     let text = c.as_bytes.ensures.value ∙ c.in_ok-put_own.ensures in
-    rw p.1 (TakesPart-more _ _ (own_line c.args.n c.args.word.now c.args.l) (line_at c.args.l c.args.all.now) (subst (TakesPart _ _) text c.in_err-send.ensures))
+    rw p.1 (TakesPart-more _ _ (own_line c.args.head.form c.args.head.n c.args.word.now c.args.l) (line_at c.args.head.form c.args.head.n c.args.l c.args.all.now) (subst (TakesPart _ _) text c.in_err-send.ensures))
 
 pub returns : goal.returns
 returns g c =
     let text = c.as_bytes.ensures.value ∙ c.in_ok-put_own.ensures in
-    Takes-then _ _ _ (own_line c.args.n c.args.word.now c.args.l) (line_at c.args.l c.args.all.now) _ (subst (Appends _ _) text c.in_ok-send.ensures) c.write_one.ensures
+    Takes-then _ _ _ (own_line c.args.head.form c.args.head.n c.args.word.now c.args.l) (line_at c.args.head.form c.args.head.n c.args.l c.args.all.now) _ (subst (Appends _ _) text c.in_ok-send.ensures) c.write_one.ensures

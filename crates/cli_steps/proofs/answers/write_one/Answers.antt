@@ -9,9 +9,9 @@ use Rattle.cli_steps.proofs.answers.write_one.Goals as goal
 pub returns-in-Some : goal.returns-in-Some
 returns-in-Some g c =
     let (_, reads, _, (inside, _), _) = c.in-Some.ensures.lookup in
-    subst (Takes _ _ c.write_next.result) (sym (line_some c.args.l c.args.all.now c.in-Some.one.now inside reads)) c.write_next.ensures
+    subst (Takes _ _ c.write_next.result) (sym (line_some c.args.head.form c.args.head.n c.args.l c.args.all.now c.in-Some.one.now inside reads)) c.write_next.ensures
 
 pub returns-in-None : goal.returns-in-None
 returns-in-None g c =
     let past = ltb-false _ _ (sym c.in-None.ensures.lookup.0) in
-    subst (Appends _ _) (sym (line_none c.args.l c.args.all.now past)) (Appends-nil _)
+    subst (Appends _ _) (sym (line_none c.args.head.form c.args.head.n c.args.l c.args.all.now past)) (Appends-nil _)

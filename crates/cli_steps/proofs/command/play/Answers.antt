@@ -33,13 +33,13 @@ returns g c = elim c.if-hinted.branch [
   | else-hinted w ↦ λ quiet. record {
     before = None;
     after = None;
-    told = c.play_plan-replayed.new.err.items;
-    played = c.play_plan-replayed.result.0;
-    plays = rw c.in-Ok-Ok.ensures.items at c.play_plan-replayed.ensures;
+    told = c.play_plan_in-replayed.new.err.items;
+    played = c.play_plan_in-replayed.result.0;
+    plays = rw c.in-Ok-Ok.ensures.items at c.play_plan_in-replayed.ensures;
     status = refl;
-    whole = rw c.and.ensures (first_ok c.play_plan-replayed.result.0.told c.send-sent.result);
+    whole = rw c.and.ensures (first_ok c.play_plan_in-replayed.result.0.told c.send-sent.result);
     still = c.omit_unread_output.result.now;
     is_still = rw c.as_slice.ensures.value at c.omit_unread_output.ensures.still;
-    tells = rw (w.err-is, c.and.ensures) (takes_and _ _ c.play_plan-replayed.result.0.told c.send-sent.result c.omit_unread_output.result.now c.send-sent.ensures);
+    tells = rw (w.err-is, c.and.ensures) (takes_and _ _ c.play_plan_in-replayed.result.0.told c.send-sent.result c.omit_unread_output.result.now c.send-sent.ensures);
   }
 ]

@@ -1,5 +1,6 @@
 use Rattle.std.proofs.Common.{false, inl, inr, refl}
 use Rattle.std.proofs.KnownBytes.{Keeps-refl}
+use Rattle.cli_json.specs.declared.form.LineForm.TheVariants.{Text}
 use Rattle.cli_steps.proofs.Beyond.{plays-all}
 use Rattle.cli_steps.proofs.Ending.{plays-of}
 use Rattle.cli_steps.proofs.steps.steps_told.Goals as goal
@@ -12,7 +13,7 @@ returns-in-Ok g c =
       steps = c.in-Ok.plan.steps.items;
       of_listeners = asked.asked;
       of_script = c.in-Ok.ensures.script;
-      plays = plays-all false _ asked.all _ _ _ _ _ asked.first (plays-of false false _ _ _ _ _ _ _ c.play_plan.ensures);
+      plays = plays-all Text false _ asked.all _ _ _ _ _ asked.first (plays-of Text false false _ _ _ _ _ _ _ c.play_plan.ensures);
     })
 
 pub returns-in-Err : goal.returns-in-Err

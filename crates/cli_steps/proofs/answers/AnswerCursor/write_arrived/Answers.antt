@@ -11,9 +11,9 @@ returns-in_err-put_reason g c =
     let p = err_from_is_err_and c.from_residual.result c.from_residual.ensures.1 in
     rw p.1 (TakesPart-none _ _)
 
-pub returns-in_err-push : goal.returns-in_err-push
-returns-in_err-push g c =
-    let p = err_from_is_err_and c.from_residual-in_err-push.result c.from_residual-in_err-push.ensures.1 in
+pub returns-in_err-push_str : goal.returns-in_err-push_str
+returns-in_err-push_str g c =
+    let p = err_from_is_err_and c.from_residual-in_err-push_str.result c.from_residual-in_err-push_str.ensures.1 in
     rw p.1 (TakesPart-none _ _)
 
 pub returns-in_err-put_rejection : goal.returns-in_err-put_rejection
@@ -22,11 +22,10 @@ returns-in_err-put_rejection g c =
     rw p.1 (TakesPart-none _ _)
 
 pub returns : goal.returns
-unfolding lib.Utf8.encode
 returns g c =
     let inside = c.self.inside in
     let cut : inside.answers.now ≡ c.in-Some.answered.now ∷ c.in-Some.field-0-1.now = c.in-Some.ensures.cases.0 in
-    let line : c.as_bytes.result.now ≡ arrived_line c.args.placed.now c.args.l c.args.self.now =
-    c.as_bytes.ensures.value ∙ next_arrived c.args.placed.now c.args.l (cursor inside.expr.now inside.capacity inside.held_since inside.answers.now) c.args.self.now _ _ _ _ _
-    c.self.view_is cut c.in_ok-put_reason.ensures c.in_ok-put_rejection.ensures c.in_ok-push.ensures.bytes in
+    let line : c.as_bytes.result.now ≡ arrived_line c.args.head.form c.args.head.n c.args.placed.now c.args.l c.args.self.now =
+    c.as_bytes.ensures.value ∙ next_arrived c.args.head.form c.args.head.n c.args.placed.now c.args.l (cursor inside.expr.now inside.capacity inside.held_since inside.answers.now) c.args.self.now _ _ _ _ _ _ c.answer_end.ensures
+    c.self.view_is cut c.in_ok-put_reason.ensures c.in_ok-put_rejection.ensures c.in_ok-push_str.ensures.bytes in
     subst (λ (t : List ℕ). Takes (g.O.Write.contents c.args.out.now) (g.O.Write.contents c.send.new.out) c.send.result t) line c.send.ensures
