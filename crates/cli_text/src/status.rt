@@ -8,8 +8,10 @@ ghost use Rattle.cli_text.specs.Status.{code, greater};
 pub enum Status {
     /// All was done: 0.
     Clean,
-    /// The answer to what `-q` asks is no: 4. No fault came up, so a fault goes before it.
+    /// The answer is no: 4. No fault came up, so a fault goes before it.
     Negative,
+    /// What was asked is not decided: 5. No fault came up either.
+    Undecided,
     /// Bad usage, refused input, or out of memory: 1.
     Refused,
     /// A torn or bad record, after the packets before it: 2.
@@ -19,7 +21,7 @@ pub enum Status {
 }
 
 impl Status {
-    /// The exit status as the number that a process ends with, 0 to 4.
+    /// The exit status as the number that a process ends with, 0 to 5.
     pub fn code(self) -> u8
         ensures { result ≡ code self }
     {
@@ -29,6 +31,7 @@ impl Status {
             Status::Damaged => 2,
             Status::Failed => 3,
             Status::Negative => 4,
+            Status::Undecided => 5,
         }
     }
 
@@ -40,6 +43,7 @@ impl Status {
             (Status::Failed, _) | (_, Status::Failed) => Status::Failed,
             (Status::Damaged, _) | (_, Status::Damaged) => Status::Damaged,
             (Status::Refused, _) | (_, Status::Refused) => Status::Refused,
+            (Status::Undecided, _) | (_, Status::Undecided) => Status::Undecided,
             (Status::Negative, _) | (_, Status::Negative) => Status::Negative,
             (Status::Clean, Status::Clean) => Status::Clean,
         }
