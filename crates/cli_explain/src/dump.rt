@@ -105,7 +105,7 @@ fn put_marks(
 }
 
 /// Appends the bytes of a packet, each line with marks under the bytes that a test looked at.
-pub(crate) fn put_dump(text: &mut String, looks: &[Look], packet: &[u8]) -> Result<(), NoMemory> {
+pub fn put_dump(text: &mut String, looks: &[Look], packet: &[u8]) -> Result<(), NoMemory> {
     let mut at: usize = 0;
     for bytes in packet.chunks(ROW) {
         let width = put_row(text, at, bytes)?;

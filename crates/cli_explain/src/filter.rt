@@ -1,6 +1,6 @@
 //! The filter that is explained.
 
-ghost use Rattle.std.specs.Prelude.{◌≡◌, None, IfOk, IfErr};
+ghost use Rattle.std.specs.Prelude.{◌≡◌, None, IfOk, IfErr, option_map};
 ghost use Rattle.filtergen.specs.Expressions.{IsUncompiled};
 ghost use Rattle.cli_explain.specs.Filter.{IsOfExpression};
 
@@ -16,6 +16,15 @@ pub struct AskedFilter {
     /// The expression, where it is one.
     pub(crate) expr: Option<Expr>,
     pub(crate) program: Program,
+}
+
+impl AskedFilter {
+    /// The expression, if the filter is one.
+    pub fn expression(&self) -> Option<&Expr>
+        ensures { option_map (λ expr. expr.now) result ≡ self.now.expr }
+    {
+        self.expr.as_ref()
+    }
 }
 
 /// The filter of an expression, whose program answers the snapshot length, 1 to 262,144, where the expression accepts a packet.

@@ -3,7 +3,7 @@
 
 pub mod captures;
 pub mod command;
-mod dump;
+pub mod dump;
 pub mod each;
 pub mod filter;
 pub mod form;
