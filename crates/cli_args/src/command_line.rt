@@ -69,8 +69,9 @@ const EXAMPLES: &str = "Examples:
   bpftap help expressions     the filter language on one page
 
 Exit status: 0 clean; 1 bad usage, invalid input, or out of memory; 2 a torn or bad record, after
-the packets before it; 3 a file or device failed; 4 only with -q: explain accepts no packet,
-compare treats a packet differently.";
+the packets before it; 3 a file or device failed; 4 an answer, no fault: explain -q accepts no
+packet, compare -q or without IN finds one that is treated differently; 5 compare without IN has
+not decided it.";
 
 const CUT_EXAMPLES: &str = "Examples:
   bpftap cut -s 0 -e 'udp port 5353' examples/veth.pcap dns.pcap

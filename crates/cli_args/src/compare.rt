@@ -19,17 +19,21 @@ pub struct CompareWords<'a> {
     pub listing: Option<&'a str>,
     /// Whether `-q` is given: nothing is printed, and the status says whether a packet is treated differently.
     pub quiet: bool,
-    /// The paths of the captures, in order.
+    /// The path that a packet which shows the difference is written to, if `-w` is given. There are no captures then.
+    pub output: Option<&'a str>,
+    /// The paths of the captures, in order. Without any, the filters are decided for every packet.
     pub inputs: Vec<&'a str>,
 }
 
 const COMPARE_USAGE: &str = "bpftap compare [-s N] [-q] <EXPR1> <EXPR2> <IN>...
-       bpftap compare [-s N] [-q] -f <LISTING> <EXPR1> <IN>...";
+       bpftap compare [-s N] [-q] -f <LISTING> <EXPR1> <IN>...
+       bpftap compare [-s N] [-q] [-w <OUT>] <EXPR1> <EXPR2>";
 
 const COMPARE_EXAMPLES: &str = "Examples:
   bpftap compare 'tcp port 80' 'tcp dst port 80' examples/veth.pcap
   tcpdump -y EN10MB -ddd 'udp port 53' | bpftap compare -f /dev/stdin 'udp port 53' examples/veth.pcap
   bpftap compare -q 'port 80 or 443' 'port 443 or 80' examples/veth.pcap && echo the same here
+  bpftap compare 'tcp' 'ip proto 6' && echo the same on every packet there can be
 
 For each packet that one filter accepts and the other does not, a line is printed with its place,
 time and lengths, and what each filter answers and why, as explain prints it. No and Abort are the
@@ -37,14 +41,30 @@ same here: both reject the packet. At the end are the counts. Places count from 
 With -q the first such packet ends the reading. An expression that begins with - is written in
 parentheses.
 
-Exit status: 0 all was read, with -q: no packet is treated differently; 1 bad usage, a refused
-expression, file or listing, or out of memory; 2 a torn or bad record, after the packets before it;
-3 a file or device failed; 4 with -q: a packet is treated differently.";
+Without IN both expressions are decided for every packet. compare prints one of these:
+  same                                      on every packet, of every length
+  same as captured                          if no more bytes were captured than were on the wire
+  differ only where a frame is cut short    one is Yes where the other needs more captured bytes
+  differ                                    one is Yes and the other No
+  not decided: CAUSE                        nothing is claimed
+If they differ, a packet that shows it follows: its lengths, both answers, and its bytes. -w writes
+it to OUT, for bpftap explain -p 0 -e EXPR1 OUT.
 
-static ARGUMENTS: [Argument; 6] = [
+Exit status: 0 all was read, with -q: no packet is treated differently; without IN: the same;
+1 bad usage, a refused expression, file or listing, or out of memory; 2 a torn or bad record, after
+the packets before it; 3 a file or device failed; 4 with -q or without IN: a packet is treated
+differently; 5 not decided.";
+
+static ARGUMENTS: [Argument; 7] = [
     Argument::DefaultSnap,
     Argument::Listing,
     Argument::Quiet("Print nothing; end with status 0 if no packet is treated differently, else 4"),
+    Argument::Text(
+        "output",
+        'w',
+        "OUT",
+        "Without IN: write a packet that shows the difference, if there is one",
+    ),
     Argument::Path(
         "EXPR1",
         "First filter: an expression of pcap-filter(7), as one word",
@@ -55,7 +75,7 @@ static ARGUMENTS: [Argument; 6] = [
     ),
     Argument::Others(
         "IN",
-        "Captures to read, in order: classic savefiles of Ethernet frames",
+        "Captures to read, in order: classic savefiles of Ethernet frames; none: every packet",
     ),
 ];
 
@@ -64,7 +84,7 @@ pub fn compare_usage<'a>(alloc: Global) -> Result<Command<'a>, AllocError> {
     let command = subcommand(
         alloc,
         "compare",
-        "Print the packets of captures that two filters treat differently",
+        "Print the packets that two filters treat differently: of captures, or of all there can be",
         COMPARE_EXAMPLES,
         &ARGUMENTS,
     )?;
@@ -86,7 +106,26 @@ fn inputs_of<'a>(
     Ok(inputs)
 }
 
-/// The words that were found, `None` if one is missing, or if the snapshot length is none.
+/// Why words that `clap` took are none of `compare`.
+#[derive(Clone, Copy)]
+enum Objection {
+    Snap,
+    Filters,
+    Output,
+}
+
+impl Objection {
+    /// What is wanted instead.
+    fn wanted(self) -> &'static str {
+        match self {
+            Objection::Snap => "-s takes a number from 0 to 262144",
+            Objection::Filters => "compare takes EXPR1, and EXPR2 or -f LISTING",
+            Objection::Output => "-w OUT goes without IN",
+        }
+    }
+}
+
+/// The words that were found, `None` if one is missing, if the snapshot length is none, or if `-w` comes with captures.
 pub fn compare_words<'a>(
     alloc: Global,
     matches: &ArgMatches<'a>,
@@ -94,20 +133,20 @@ pub fn compare_words<'a>(
     let (Some(snap), Some(first)) = (snap_of(matches), matches.get_str("EXPR1")) else {
         return Ok(None);
     };
+    if objection_of(matches).is_some() {
+        return Ok(None);
+    }
     let listing = matches.get_str("listing");
     let second = matches.get_str("EXPR2");
     let others = matches.get_strs("IN").unwrap_or(&[]);
-    let inputs = inputs_of(alloc, listing.is_some(), second, others)?;
-    if inputs.is_empty() {
-        return Ok(None);
-    }
     Ok(Some(CompareWords {
         snap,
         first,
         second: if listing.is_some() { None } else { second },
         listing,
         quiet: matches.get_flag("quiet"),
-        inputs,
+        output: matches.get_str("output"),
+        inputs: inputs_of(alloc, listing.is_some(), second, others)?,
     }))
 }
 
@@ -116,15 +155,28 @@ fn snap_of(matches: &ArgMatches<'_>) -> Option<u32> {
     snapshot_length(matches.get_str("snap")?.as_bytes())
 }
 
-/// What is wrong with words that `clap` took.
-fn wanted_of(matches: &ArgMatches<'_>) -> &'static str {
-    match snap_of(matches) {
-        Some(_) => "compare takes EXPR1, EXPR2 or -f LISTING, and at least one IN",
-        None => "-s takes a number from 0 to 262144",
+/// What is wrong with words that `clap` took, if anything is.
+fn objection_of(matches: &ArgMatches<'_>) -> Option<Objection> {
+    let is_path = matches.get_str("listing").is_some();
+    let second = matches.get_str("EXPR2").is_some();
+    let others = !matches.get_strs("IN").unwrap_or(&[]).is_empty();
+    let is_over_captures = others || is_path && second;
+    if snap_of(matches).is_none() {
+        Some(Objection::Snap)
+    } else if !is_path && !second {
+        Some(Objection::Filters)
+    } else if is_over_captures && matches.get_str("output").is_some() {
+        Some(Objection::Output)
+    } else {
+        None
     }
 }
 
-/// The error of a snapshot length that has more than digits, or of words without IN.
+/// The error of a snapshot length that has more than digits, or of words that do not go together.
 pub fn bad_compare_words(alloc: Global, matches: &ArgMatches<'_>) -> Result<Error, AllocError> {
-    bad_value(compare_usage(alloc), "bpftap compare", wanted_of(matches))
+    let wanted = match objection_of(matches) {
+        Some(objection) => objection.wanted(),
+        None => Objection::Filters.wanted(),
+    };
+    bad_value(compare_usage(alloc), "bpftap compare", wanted)
 }
