@@ -1,3 +1,4 @@
 pub mod Differences
 pub mod Ending
 pub mod Several
+mod Sent

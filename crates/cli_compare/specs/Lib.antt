@@ -3,3 +3,4 @@ pub mod Printed
 pub mod Compared
 pub mod Captures
 pub mod Telling
+pub mod Deciding

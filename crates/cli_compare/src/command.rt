@@ -1,6 +1,7 @@
 //! `bpftap compare`, over files.
 
 use crate::captures::{compare_captures, print_totals};
+use crate::decide::decide_pair;
 use crate::pair::FilterPair;
 use crate::paths::check_paths;
 use crate::plan::read_pair;
@@ -58,7 +59,7 @@ fn ask_quietly<R: Read + Drop, E: HintSink>(
     status
 }
 
-/// Compares the filters by the captures.
+/// Compares the filters by the captures, or decides them for every packet if there are none.
 fn compare_files<R: Files + AllocGlobal, O: Write, E: HintSink>(
     rt: &R,
     words: &CompareWords<'_>,
@@ -67,6 +68,9 @@ fn compare_files<R: Files + AllocGlobal, O: Write, E: HintSink>(
 ) -> Result<Status, Status> {
     let pair = read_pair(rt, words, err)?;
     check_paths(rt, words, err)?;
+    if words.inputs.is_empty() {
+        return Ok(decide_pair(rt, words, &pair, out, err));
+    }
     let alloc = rt.alloc();
     let paths = words.inputs.as_slice();
     let Ok(captures) = inputs(rt, alloc, paths) else {

@@ -1,4 +1,4 @@
-//! The files of `compare`: none that it reads is the one that is printed to.
+//! The files of `compare`: none that it reads is the one that is printed to, and OUT is neither of these.
 
 use cli_args::compare::CompareWords;
 use cli_files::paths::{Opening, STANDARD_OUTPUT, refuse_shared_files};
@@ -18,7 +18,7 @@ fn read_paths<'a>(alloc: Global, words: &CompareWords<'a>) -> Result<Vec<&'a str
     Ok(paths)
 }
 
-/// Refuses, with a line on `err`, a file that is read if standard output goes to it.
+/// Refuses, with a line on `err`, a file that is read if standard output goes to it, and an OUT by which something would be lost.
 pub(crate) fn check_paths<R: Files + AllocGlobal, E: HintSink>(
     rt: &R,
     words: &CompareWords<'_>,
@@ -28,5 +28,6 @@ pub(crate) fn check_paths<R: Files + AllocGlobal, E: HintSink>(
         return Err(report_fault(Fault::NoMemory, Status::Refused, err));
     };
     let output = Some(STANDARD_OUTPUT);
-    refuse_shared_files(rt, Opening::Late, output, read.as_slice(), &[], err)
+    let written = words.output.as_slice();
+    refuse_shared_files(rt, Opening::Late, output, read.as_slice(), written, err)
 }

@@ -1,0 +1,109 @@
+//! Two expressions decided for every packet, over files.
+
+use crate::pair::FilterPair;
+use crate::report::report_answer;
+use crate::sameness::{BUDGET, print_listing_undecided, print_sameness, witness_of};
+use crate::witness::write_witness;
+use cli_args::compare::CompareWords;
+use cli_explain::each::Unprinted;
+use cli_explain::report::report_printed;
+use cli_files::captures::{OUTPUT_BUFFER, output_buffer, with_buffer};
+use cli_files::late::LateFile;
+use cli_files::reading::report_io;
+use cli_report::failures::{hint_failure, hint_output};
+use cli_report::{FailureProbe, HintSink};
+use cli_text::Status;
+use cli_text::report::report_device;
+use filter_same::{Sameness, Witness, decide};
+use filter_tree::Expr;
+use std::alloc::Global;
+use std::fs::Files;
+use std::io::Write;
+
+/// Writes a witness to OUT, which is made only now, and reports how that ended.
+fn write_out<R: Files + AllocGlobal, E: HintSink>(
+    rt: &R,
+    path: &str,
+    witness: &Witness,
+    err: &mut E,
+) -> Status {
+    let late = FailureProbe::new(LateFile::new(rt, path));
+    let sink = match with_buffer(rt.alloc(), OUTPUT_BUFFER, late) {
+        Ok(sink) => sink,
+        Err(error) => return report_io(&error, path, err),
+    };
+    let (mut sink, written) = write_witness(sink, witness);
+    if sink.inner.flush().is_ok() && written.is_ok() {
+        return Status::Clean;
+    }
+    let status = report_device(path, err);
+    hint_failure(sink.inner.get_ref(), err);
+    status
+}
+
+/// Decides two expressions, and prints the answer unless it is not wanted.
+fn answer<O: Write>(
+    alloc: Global,
+    first: &Expr,
+    second: &Expr,
+    quiet: bool,
+    out: &mut O,
+) -> Result<Sameness, Unprinted> {
+    if quiet {
+        Ok(decide(alloc, first, second, BUDGET)?)
+    } else {
+        print_sameness(alloc, first, second, BUDGET, out)
+    }
+}
+
+/// Decides two expressions, writes the packet that shows a difference to OUT, and reports how that ended.
+fn decide_expressions<R: Files + AllocGlobal, O: Write, E: HintSink>(
+    rt: &R,
+    words: &CompareWords<'_>,
+    (first, second): (&Expr, &Expr),
+    out: &mut O,
+    err: &mut E,
+) -> Status {
+    let answer = answer(rt.alloc(), first, second, words.quiet, out);
+    let status = report_answer(&answer, err);
+    let witness = match &answer {
+        Ok(sameness) => witness_of(sameness),
+        Err(_) => None,
+    };
+    match (words.output, witness) {
+        (Some(path), Some(witness)) => status.max(write_out(rt, path, witness, err)),
+        _ => status,
+    }
+}
+
+/// Says that nothing is decided of an expression and a program.
+fn leave_undecided<O: Write, E: HintSink>(quiet: bool, out: &mut O, err: &mut E) -> Status {
+    let printed = if quiet {
+        Ok(())
+    } else {
+        print_listing_undecided(out)
+    };
+    Status::Undecided.max(report_printed(&printed, err))
+}
+
+/// Decides both filters for every packet.
+pub(crate) fn decide_pair<R: Files + AllocGlobal, O: Write, E: HintSink>(
+    rt: &R,
+    words: &CompareWords<'_>,
+    pair: &FilterPair,
+    out: &mut O,
+    err: &mut E,
+) -> Status {
+    let mut out = match output_buffer(rt.alloc(), &mut *out, err) {
+        Ok(out) => out,
+        Err(status) => return status,
+    };
+    let status = match (pair.first.expression(), pair.second.expression()) {
+        (Some(first), Some(second)) => {
+            decide_expressions(rt, words, (first, second), &mut out, err)
+        }
+        _ => leave_undecided(words.quiet, &mut out, err),
+    };
+    hint_output(out.get_ref(), err);
+    status
+}
