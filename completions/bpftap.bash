@@ -7,7 +7,7 @@ _bpftap_value() {
   case $1,$2 in
     cut,-o | split,-o) mapfile -t COMPREPLY < <(compgen -W 'little big' -- "$3") ;;
     cut,-u | split,-u) mapfile -t COMPREPLY < <(compgen -W 'micro nano' -- "$3") ;;
-    check,-f | explain,-f | compare,-f | cut,-f | steps,-p) compopt -o default ;;
+    check,-f | explain,-f | compare,-f | compare,-w | cut,-f | steps,-p) compopt -o default ;;
     check,-s | explain,-s | explain,-e | explain,-p | compare,-s | cut,-s | cut,-e) ;;
     *) return 1 ;;
   esac
@@ -19,7 +19,7 @@ _bpftap_options() {
     '') echo '--hints -h --help -V --version' ;;
     check) echo '-d -x -s -f -h --help' ;;
     explain) echo '-s -e -f -p -q -h --help' ;;
-    compare) echo '-s -f -q -h --help' ;;
+    compare) echo '-s -f -q -w -h --help' ;;
     run) echo '-h --help' ;;
     cut) echo '-s -e -f -o -u -c -h --help' ;;
     split) echo '-o -u -h --help' ;;
