@@ -101,7 +101,7 @@ def faults_end_a_comparison(scene):
         ("ip ip in.pcap none.pcap", 3, "Device none.pcap"), ("ip ip in.pcap one.pcap", 0, None), ("ip ip text.pcap", 1, "NotSavefile"),
     ]:
         scene.expect(f"compare -q {words}", status, fault_lines(fault) if fault else "")
-    for words in ("compare", "compare ip", "compare ip arp", "compare -f ip.bpf ip", "compare -s x ip arp in.pcap", "compare -s -1 ip ip in.pcap"):
+    for words in ("compare", "compare ip", "compare -w out.pcap ip arp in.pcap", "compare -f ip.bpf -w out.pcap ip in.pcap", "compare -s x ip arp in.pcap", "compare -s -1 ip ip in.pcap"):
         seen = scene.run(words)
         scene.check(f"standard error of {words}", (b"Usage: bpftap compare" in seen.err, seen.out, seen.status), (True, b"", 1))
 

@@ -1,0 +1,218 @@
+"""`bpftap compare` without a capture: two expressions decided for every packet, and the packet that shows a difference."""
+import random
+import sys
+
+from .common import IP, ROOT, VETH, case, fault_lines
+
+sys.path.insert(0, str(ROOT / "bench"))
+import filters
+import meaning
+
+SAME, CAPTURED, SHORT, DIFFER = "same", "same as captured", "differ only where a frame is cut short", "differ"
+STATUS = {SAME: 0, CAPTURED: 0, SHORT: 4, DIFFER: 4}
+
+# Answers that the program may still leave undecided.
+LATER = (CAPTURED, SHORT)
+
+# Each pair with the answer that follows from docs/LANGUAGE.md, written down by hand. An `and` accepts if both sides do, whatever comes
+# first; an `or` whose first side needs a byte that was not captured aborts.
+PAIRS = {
+    SAME: [
+        ("tcp", "ip proto 6"), ("udp", "ip proto 17"), ("icmp", "ip proto 1"), ("sctp", "ip proto 132"), ("ip", "ether proto 0x800"),
+        ("arp", "ether proto 0x806"), ("rarp", "ether proto 0x8035"), ("tcp", "ip and tcp"), ("tcp and ip", "tcp"), ("tcp or udp", "udp or tcp"),
+        ("not not tcp", "tcp"), ("not (tcp or udp)", "not udp and not tcp"), ("not (tcp and less 100)", "not tcp or not less 100"),
+        ("less 100", "not greater 101"), ("greater 100", "not less 99"), ("less 100 or greater 101", ""), ("ip or arp", "arp or ip"),
+        ("ip and arp", "tcp and udp"), ("not (ip and not ip)", "not (arp and not arp)"), ("less 100 and greater 101", "ip and not ip"),
+        ("tcp and less 100", "less 100 and tcp"), ("tcp or arp", "arp or tcp"), ("host 10.0.0.1 and tcp", "tcp and host 10.0.0.1"),
+        ("src and dst host 10.0.0.1", "dst host 10.0.0.1 and src host 10.0.0.1"), ("host 10.0.0.1", "src host 10.0.0.1 or dst host 10.0.0.1"),
+        ("port 80", "tcp port 80 or udp port 80 or sctp port 80"), ("port 80", "src port 80 or dst port 80"),
+        ("tcp port 80", "tcp src port 80 or tcp dst port 80"), ("src portrange 80-90", "src portrange 80-85 or src portrange 86-90"),
+        ("dst portrange 1-3", "dst port 1 or 2 or 3"), ("tcp dst portrange 0-65535", "tcp and dst portrange 0-65535"),
+        ("src net 10.0.0.0/8", "src net 10.0.0.0/9 or src net 10.128.0.0/9"), ("ether broadcast", "ether dst ff:ff:ff:ff:ff:ff"),
+        ("ether host 1:2:3:4:5:6", "ether src 1:2:3:4:5:6 or ether dst 1:2:3:4:5:6"), ("ether src 1:2:3:4:5:6", "not not ether src 1:2:3:4:5:6"),
+        ("ether multicast and ether broadcast", "ether broadcast"), ("ether multicast or ether broadcast", "ether multicast"),
+        ("src port 80 or 443", "src port 443 or 80"), ("dst port 53 and udp", "udp dst port 53"), ("net 10.0.0.0/8 and tcp", "tcp and net 10.0.0.0/8"),
+        ("", "less 100 or not less 100"),
+    ],
+    CAPTURED: [
+        ("ip", "ip and greater 14"), ("arp", "arp and greater 14"), ("tcp", "tcp and greater 24"), ("tcp", "tcp and not less 23"),
+        ("ether broadcast", "ether broadcast and greater 6"), ("tcp or (ip and less 20)", "tcp"), ("less 5 and ip", "ip and not ip"),
+    ],
+    SHORT: [
+        ("port 80 or 443", "port 443 or 80"), ("host 10.0.0.1 or 10.0.0.2", "host 10.0.0.2 or 10.0.0.1"),
+        ("host 10.0.0.1", "dst host 10.0.0.1 or src host 10.0.0.1"), ("port 53", "dst port 53 or src port 53"), ("ip or less 100", "less 100 or ip"),
+        ("tcp or less 100", "less 100 or tcp"), ("portrange 80-90", "portrange 80-85 or portrange 86-90"),
+        ("net 10.0.0.0/8", "net 10.0.0.0/9 or net 10.128.0.0/9"), ("ether broadcast or ether multicast", "ether multicast"),
+        ("not (ip and not ip)", ""), ("ip or not ip", ""),
+    ],
+    DIFFER: [
+        ("tcp", "udp"), ("ip", "arp"), ("rarp", "arp"), ("net 10.0.0.0/8", "net 10.0.0.0/9"), ("src portrange 80-90", "src portrange 80-91"),
+        ("less 100", "less 101"), ("greater 100", "greater 101"), ("less 100", "greater 100"), ("src host 10.0.0.1", "src host 10.0.0.2"),
+        ("ether multicast", "ether broadcast"), ("port 80", "tcp port 80"), ("port 53", "udp port 53"), ("host 10.0.0.1", "ip host 10.0.0.1"),
+        ("tcp port 80", "tcp dst port 80"), ("not tcp and udp", "not (tcp and udp)"), ("tcp or udp and less 100", "tcp or (udp and less 100)"),
+        ("not port 80 or 443", "not (port 80 or 443)"), ("tcp", "tcp portrange 0-65535"), ("ip", "ip and greater 60"), ("ip", ""),
+        ("arp", "arp and host 10.0.0.1"), ("src net 10.0.0.0/8", "src net 10.0.0.0/8 and not src host 10.0.0.1"), ("icmp or tcp", "tcp"),
+        ("ether src 1:2:3:4:5:6", "ether dst 1:2:3:4:5:6"), ("ether host 1:2:3:4:5:6", "ether src 1:2:3:4:5:6"),
+        ("src host 10.0.0.1 and dst host 10.0.0.2", "host 10.0.0.1 and host 10.0.0.2"), ("src and dst port 53", "port 53"),
+        ("ip proto 6", "ether proto 0x806"), ("not ip", "arp"), ("not arp", "ip or rarp"), ("tcp and not port 22", "not port 22"),
+        ("udp port 53 or arp", "udp port 53 and arp"),
+    ],
+}
+
+
+# What a rewrite may do to an expression, so that it still accepts the same packets of every captured length.
+REWRITES = {
+    "twice": lambda expr: f"({expr}) and ({expr})",
+    "not not": lambda expr: f"not (not ({expr}))",
+    "never more": lambda expr: f"({expr}) or (tcp and udp and ({expr}))",
+}
+
+
+def printed(scene, first, second, *options):
+    """The answer, and the lines after it. The status is that of the answer, and nothing is reported."""
+    seen = scene.run(["compare", *options, first, second])
+    lines = seen.out.decode().splitlines()
+    answer = "not decided" if lines and lines[0].startswith("not decided: ") else "".join(lines[:1])
+    scene.check(f"{first!r} and {second!r}", (seen.status, seen.err), ({**STATUS, "not decided": 5}.get(answer), b""))
+    return answer, lines[1:]
+
+
+def witness_in(capture):
+    """The captured bytes and the length on the wire of the one packet of a savefile."""
+    captured, wire = (int.from_bytes(capture[at : at + 4], "little") for at in (32, 36))
+    return capture[40 : 40 + captured], wire
+
+
+def dump_of(frame):
+    """The lines that `tcpdump -XX` prints of a frame."""
+    for at in range(0, len(frame), 16):
+        row = frame[at : at + 16]
+        groups = "".join(f" {row[n : n + 2].hex()}" for n in range(0, len(row), 2))
+        characters = "".join(chr(byte) if 33 <= byte <= 126 else "." for byte in row)
+        yield f"\t0x{at:04x}: {groups:<40}  {characters}"
+
+
+def check_witness(scene, first, second, answer, lines):
+    """A packet is shown exactly if there is a difference; OUT has it, and `explain` says of it what was printed."""
+    out = scene.read("out.pcap")
+    scene.check(f"a packet of {first!r} and {second!r}", (out is not None, len(lines) > 0), (answer in (SHORT, DIFFER),) * 2)
+    if out is None:
+        return None
+    frame, wire = witness_in(out)
+    head = f"len {wire} captured {len(frame)} "
+    shown = [scene.run(["explain", "-e", expr, "out.pcap"]).out.decode().splitlines()[0].partition(head)[2] for expr in (first, second)]
+    line = f"{head}first {shown[0]} second {shown[1]}"
+    scene.check(f"the packet of {first!r} and {second!r}", lines, [line, *dump_of(frame)])
+    words = {text.split(" ")[0] for text in shown}
+    scene.check(f"the answers of {first!r} and {second!r}", words, {"Yes", "No" if answer == DIFFER else "Abort"})
+    scene.check(f"captured bytes of {first!r} and {second!r}", len(frame) <= wire, True)
+    return frame, wire
+
+
+@case
+def pairs_have_the_answer_that_follows_from_the_language(scene):
+    """Each is decided as written down by hand, in both orders; -q says the same by its status, and -w writes the packet that is printed."""
+    for wanted, pairs in PAIRS.items():
+        for first, second in pairs:
+            scene.start({})
+            answer, lines = printed(scene, first, second, "-w", "out.pcap")
+            undecided = answer == "not decided" and wanted in LATER
+            scene.check(f"{first!r} and {second!r}", answer, answer if undecided else wanted)
+            check_witness(scene, first, second, answer, lines)
+            scene.expect(["compare", "-q", second, first], 5 if undecided else STATUS[wanted])
+
+
+@case
+def rewrites_of_an_expression_are_the_same(scene):
+    """Each expression of bench/filters.py with up to four members, against rewrites of itself: none is said to differ."""
+    scene.start({})
+    decided = 0
+    for expr in filters.EXPRESSIONS:
+        if expr.count(" or ") + expr.count(" and ") > 3:
+            continue
+        for name, rewrite in REWRITES.items():
+            answer, _ = printed(scene, expr, rewrite(expr))
+            scene.check(f"{expr!r} {name}", answer in (SAME, "not decided"), True)
+            decided += answer == SAME
+    scene.check("many are decided", decided > 100, True)
+
+
+def changed(rng, tree):
+    """The tree with its operands in another order, or with another part in place of one."""
+    if rng.random() < 0.1:
+        return meaning.expression(rng, 0)
+    if tree[0] == "not":
+        return ("not", changed(rng, tree[1]))
+    if tree[0] in ("and", "or"):
+        left, right = changed(rng, tree[1]), changed(rng, tree[2])
+        return (tree[0], right, left) if rng.random() < 0.4 else (tree[0], left, right)
+    return tree
+
+
+def is_accepted(tree, frame, wire):
+    return meaning.answer_of(tree, frame, wire) is True
+
+
+@case
+def random_pairs_are_decided_as_they_mean(scene):
+    """`same` is not contradicted by frames that are cut at each byte; each packet that is shown has the answers of the tables of LANGUAGE."""
+    rng = random.Random(67)
+    seen = set()
+    for _ in range(60):
+        first = meaning.expression(rng, 1)
+        second = changed(rng, first)
+        texts = [meaning.text_of(tree) for tree in (first, second)]
+        if any(scene.run(["check", "--", text]).status for text in texts):
+            continue
+        scene.start({})
+        answer, lines = printed(scene, *(f"({text})" for text in texts), "-w", "out.pcap")
+        seen.add(answer)
+        found = check_witness(scene, *(f"({text})" for text in texts), answer, lines)
+        if found:
+            wanted = {True, False if answer == DIFFER else None}
+            scene.check(f"the meaning of {texts}", {meaning.answer_of(tree, *found) for tree in (first, second)}, wanted)
+        if answer not in (SAME, CAPTURED):
+            continue
+        for _ in range(20):
+            whole = meaning.frame(rng)
+            wire = rng.choice([len(whole), 60, 1500])
+            cuts = [whole[:length] for length in range(len(whole) + 1) if answer == SAME or length <= wire]
+            parted = [cut.hex() for cut in cuts if is_accepted(first, cut, wire) != is_accepted(second, cut, wire)]
+            scene.check(f"frames that part {texts}", parted, [])
+    scene.check("an answer of each kind that is decided", {SAME, DIFFER} <= seen, True)
+
+
+@case
+def what_is_not_decided_is_status_5(scene):
+    """A listing is not decided, nor arithmetic; -q prints nothing; a fault goes before the answer."""
+    scene.start({"ip.bpf": IP})
+    scene.expect("compare -f ip.bpf ip", 5, out="not decided: a listing\n")
+    scene.expect("compare -q -f ip.bpf ip", 5)
+    scene.expect("compare -w out.pcap -f ip.bpf ip", 5, out="not decided: a listing\n")
+    scene.expect("compare 'len - 14 = 100' 'len = 114'", 5, out="not decided: a relation\n")
+    scene.check("no packet", scene.files(), {"ip.bpf": IP.encode()})
+    scene.expect("compare ip arp", 3, fault_lines("Device standard output"), streams=">/dev/full")
+    scene.expect("compare -f ip.bpf ip", 3, fault_lines("Device standard output"), streams=">/dev/full")
+    scene.refuse("compare 'port http' arp", 1, "BadWord 5")
+    scene.refuse("compare arp 'port http'", 1, "BadWord 5")
+    scene.refuse("compare -f none.bpf arp", 3, "Device none.bpf")
+
+
+@case
+def a_packet_is_written_for_explain(scene):
+    """OUT is a savefile of one packet that `explain -p 0` goes on with; it is made only if there is a difference, and may not be lost."""
+    scene.start({"ip.bpf": IP})
+    scene.expect("compare -q -w out.pcap tcp udp", 4)
+    out = scene.read("out.pcap")
+    scene.check("its header", out[:24], bytes.fromhex("d4c3b2a1 02000400 00000000 00000000 00000400 01000000"))
+    scene.check("its time, and its length", (out[24:32], len(out)), (bytes(8), 40 + len(witness_in(out)[0])))
+    scene.check("explained in full", scene.run("explain -p 0 -e tcp out.pcap").status, 0)
+    scene.check("differs there", scene.run("compare -q tcp udp out.pcap").status, 4)
+    scene.start({"ip.bpf": IP})
+    scene.expect("compare -q -w out.pcap tcp 'ip proto 6'", 0)
+    scene.check("no packet", scene.read("out.pcap"), None)
+    scene.expect("compare -q -w none/out.pcap tcp udp", 3, fault_lines("Device none/out.pcap"))
+    scene.refuse("compare -w ip.bpf -f ip.bpf tcp", 1, "SameFile ip.bpf")
+    scene.check("the listing", scene.read("ip.bpf"), IP.encode())
+    seen = scene.run(f"compare -w out.pcap tcp udp {VETH}")
+    scene.check("-w beside a capture", (b"-w OUT goes without IN" in seen.err, seen.out, seen.status), (True, b"", 1))
