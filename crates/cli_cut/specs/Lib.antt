@@ -1,3 +1,4 @@
 pub mod Printing
 pub mod Telling
 pub mod Captures
+pub mod Objects

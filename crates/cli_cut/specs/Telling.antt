@@ -6,6 +6,8 @@ use Rattle.cli_text.specs.declared.status.Status.{Status}
 use Rattle.cli_text.specs.declared.status.Status.TheVariants as status
 use Rattle.cli_cut.specs.declared.print.PrintFault.{PrintFault}
 use Rattle.cli_cut.specs.declared.print.PrintFault.TheVariants as print
+use Rattle.cli_json.specs.declared.form.LineForm.{LineForm}
+use Rattle.cli_json.specs.declared.form.LineForm.TheVariants.{Text, Json}
 use Rattle.pcap_cut.specs.declared.cut.Tally.{Tally}
 use Rattle.pcap_cut.specs.declared.cut.End.{End}
 use Rattle.pcap_cut.specs.declared.cut.End.TheVariants.{Clean, Input, Output}
@@ -28,12 +30,20 @@ is_counted (Input fault) = is_damaged (fault_status fault)
 is_counted (Output fault) = false
 
 -- `W of R packets`
-unfoldable pub tally_line : Tally → List ℕ
-tally_line t = decimal t.written ++ codes " of " ++ decimal t.read ++ codes " packets" ++ end_of_line
+unfoldable pub tally_text : Tally → List ℕ
+tally_text t = decimal t.written ++ codes " of " ++ decimal t.read ++ codes " packets" ++ end_of_line
+
+-- `{"kept":W,"packets":R}`
+unfoldable pub tally_json : Tally → List ℕ
+tally_json t = codes "{\"kept\":" ++ decimal t.written ++ codes ",\"packets\":" ++ decimal t.read ++ codes "}" ++ end_of_line
+
+abbrev pub tally_line : LineForm → Tally → List ℕ
+tally_line Text t = tally_text t
+tally_line Json t = tally_json t
 
 -- how the tally of a cut is reported
-abbrev pub count_told : End → Tally → List ℕ
-count_told end t = if is_counted end then tally_line t else []
+abbrev pub count_told : LineForm → End → Tally → List ℕ
+count_told form end t = if is_counted end then tally_line form t else []
 
 -- the exit status of a print
 abbrev pub print_status : {A : Type 0} → Result A PrintFault → Status

@@ -4,12 +4,14 @@ ghost use Rattle.std.specs.Prelude.{◌≡◌, slice_get};
 ghost use Rattle.cli_text.specs.Sending.{Takes};
 ghost use Rattle.cli_cut.specs.Captures.{first_told, part_told, total_told};
 
+use crate::command::count_form;
 use crate::paths::{LateOutput, check_paths, is_standard_output, late_output};
 use crate::plan::read_filter;
 use crate::report::report_tally;
 use bpfvm::Program;
 use cli_args::command_line::CutWords;
 use cli_files::captures::{Input, inputs};
+use cli_json::LineForm;
 use cli_report::HintSink;
 use cli_report::probe::ProbedOutput;
 use cli_split::command::split_flushed;
@@ -26,26 +28,30 @@ use std::io;
 use std::io::{ErrorKind, Write};
 
 /// Reports how many of the packets were written, if OUT was written whole.
-fn report_part<W, E: Write>(part: &PartEnd<W>, err: &mut E) -> io::Result<()>
-    ensures { Takes (E.contents err.old) (E.contents err.new) result (part_told part.now) }
+fn report_part<W, E: Write>(part: &PartEnd<W>, form: LineForm, err: &mut E) -> io::Result<()>
+    ensures { Takes (E.contents err.old) (E.contents err.new) result (part_told form part.now) }
 {
     match part.written {
-        Ok(()) => report_tally(part.tally, err),
+        Ok(()) => report_tally(part.tally, form, err),
         Err(_) => Ok(()),
     }
 }
 
-/// Reports how many of the packets of all captures were written, in a line `67 of 253 packets`, if the header of the first capture was
+/// Reports how many of the packets of all captures were written, in a line `67 of 253 packets` or in an object of JSON, if the header of the first capture was
 /// read and OUT, the only part, was written whole. Packets count up to the fault that ended the reading. Else it reports nothing. The
 /// error is that of standard error, which took a prefix of the line.
-pub fn report_total<R, W, E: Write>(end: &SplitEnd<R, W>, err: &mut E) -> io::Result<()>
-    ensures { Takes (E.contents err.old) (E.contents err.new) result (total_told end.now) }
+pub fn report_total<R, W, E: Write>(
+    end: &SplitEnd<R, W>,
+    form: LineForm,
+    err: &mut E,
+) -> io::Result<()>
+    ensures { Takes (E.contents err.old) (E.contents err.new) result (total_told form end.now) }
 {
     if !was_begun(end.end) {
         return Ok(());
     }
     match end.parts.get(0) {
-        Some(part) => report_part(part, err),
+        Some(part) => report_part(part, form, err),
         None => Ok(()),
     }
 }
@@ -119,7 +125,7 @@ pub(crate) fn cut_several<R: Files + AllocGlobal, E: HintSink>(
     };
     let status = report_captures(rt, words, &end, err);
     if words.counted {
-        let _ = report_total(&end, err);
+        let _ = report_total(&end, count_form(words), err);
     }
     Ok(status)
 }

@@ -2,6 +2,7 @@
 
 use crate::captures::cut_several;
 use crate::hints::{hint_cut, hint_print};
+use crate::object::{check_object, show_object};
 use crate::paths::{is_standard_output, late_output, open_apart};
 use crate::plan::{read_filter, read_program};
 use crate::print::{PrintFault, ProgramForm, check, show, show_read};
@@ -11,6 +12,7 @@ use cli_args::check::CheckWords;
 use cli_args::command_line::CutWords;
 use cli_files::late::LateFile;
 use cli_files::retried::Retried;
+use cli_json::LineForm;
 use cli_report::HintSink;
 use cli_report::probe::{ProbedInput, ProbedOutput};
 use cli_text::{MAX_SNAP, Status};
@@ -82,6 +84,15 @@ fn report_end<F: Files, R, W: Write + Drop, E: HintSink>(
     status
 }
 
+/// The form of the counts that the arguments ask for.
+pub(crate) fn count_form(words: &CutWords<'_>) -> LineForm {
+    if words.json {
+        LineForm::Json
+    } else {
+        LineForm::Text
+    }
+}
+
 /// Cuts IN, and reports how that ended. The count comes after the fault and its hints.
 fn cut_and_report<F: Files + AllocGlobal, R: Read + Drop, W: Write + Drop, E: HintSink>(
     rt: &F,
@@ -107,7 +118,7 @@ fn cut_and_report<F: Files + AllocGlobal, R: Read + Drop, W: Write + Drop, E: Hi
     let end = flush(end);
     let status = report_end(rt, &end, words, from, err);
     if words.counted {
-        let _ = report_count(&end, err);
+        let _ = report_count(&end, count_form(words), err);
     }
     status
 }
@@ -154,13 +165,30 @@ fn print_program<R: Files + AllocGlobal, O: Write, E: HintSink>(
     Ok(show(rt.alloc(), &program, form, out))
 }
 
-/// Prints what is asked for: the expression as it was read, its listing, or a program in some form.
+/// Prints the object of an expression, or that of a listing's program.
+fn print_object<R: Files + AllocGlobal, O: Write, E: HintSink>(
+    rt: &R,
+    words: &CheckWords<'_>,
+    out: &mut O,
+    err: &mut E,
+) -> Result<Result<(), PrintFault>, Status> {
+    if let Some(expr) = words.expr {
+        return Ok(check_object(rt.alloc(), expr, words.snap, out));
+    }
+    let program = read_program(rt, words, err)?;
+    Ok(show_object(rt.alloc(), None, &program, out))
+}
+
+/// Prints what is asked for: the object, the expression as it was read, its listing, or a program in some form.
 fn print<R: Files + AllocGlobal, O: Write, E: HintSink>(
     rt: &R,
     words: &CheckWords<'_>,
     out: &mut O,
     err: &mut E,
 ) -> Result<Result<(), PrintFault>, Status> {
+    if words.json {
+        return print_object(rt, words, out, err);
+    }
     match (words.expr, words.read) {
         (Some(expr), true) => Ok(show_read(rt.alloc(), expr, out)),
         (Some(expr), false) if words.named == 0 && words.snap == MAX_SNAP => {

@@ -4,6 +4,7 @@
 pub mod captures;
 pub mod command;
 mod hints;
+pub mod object;
 mod paths;
 mod plan;
 pub mod print;

@@ -70,7 +70,7 @@ fn text_of(alloc: Global, program: &Program, form: ProgramForm) -> Result<Vec<u8
 }
 
 /// Prints a text. The fault is [`PrintFault::Output`], and then a prefix of it was printed.
-fn print<O: Write>(text: &[u8], out: &mut O) -> Result<(), PrintFault>
+pub(crate) fn print<O: Write>(text: &[u8], out: &mut O) -> Result<(), PrintFault>
     ensures printed { OnOk result (Appends (O.contents out.old) (O.contents out.new) text.now) }
     ensures fault { IfErr result (IsPart (O.contents out.old) (O.contents out.new) text.now) }
 {

@@ -3,9 +3,10 @@
 ghost use Rattle.std.specs.Prelude.{◌≡◌, IfOk};
 ghost use Rattle.cli_text.specs.Sending.{Takes};
 ghost use Rattle.cli_text.specs.Status.{code};
-ghost use Rattle.cli_cut.specs.Telling.{count_told, is_counted, print_status, status_of, tally_line};
+ghost use Rattle.cli_cut.specs.Telling.{count_told, is_counted, print_status, status_of, tally_json, tally_line, tally_text};
 
 use crate::print::PrintFault;
+use cli_json::LineForm;
 use cli_text::report::{fault_status, report_at, report_fault, report_unwritten};
 use cli_text::sending::send;
 use cli_text::{Line, Status};
@@ -43,30 +44,58 @@ fn is_counted(end: End) -> bool
     }
 }
 
-#[tactic(auto, unfolding(crate::specs::Telling::tally_line))]
-fn tally_line(tally: Tally) -> io::Result<Line>
-    ensures { IfOk result (λ line. line ≡ tally_line tally) }
+#[tactic(auto, unfolding(crate::specs::Telling::tally_text))]
+fn tally_text(tally: Tally) -> io::Result<Line>
+    ensures { IfOk result (λ line. line ≡ tally_text tally) }
 {
     let mut line = Line::new();
     writeln!(line, "{} of {} packets", tally.written, tally.read)?;
     Ok(line)
 }
 
-/// Reports a tally, in a line `67 of 253 packets`.
-pub(crate) fn report_tally<E: Write>(tally: Tally, err: &mut E) -> io::Result<()>
-    ensures { Takes (E.contents err.old) (E.contents err.new) result (tally_line tally) }
+#[tactic(auto, unfolding(crate::specs::Telling::tally_json))]
+fn tally_object(tally: Tally) -> io::Result<Line>
+    ensures { IfOk result (λ line. line ≡ tally_json tally) }
 {
-    let line = tally_line(tally)?;
+    let mut line = Line::new();
+    writeln!(
+        line,
+        "{{\"kept\":{},\"packets\":{}}}",
+        tally.written, tally.read
+    )?;
+    Ok(line)
+}
+
+/// The line of a tally.
+fn tally_line(tally: Tally, form: LineForm) -> io::Result<Line>
+    ensures { IfOk result (λ line. line ≡ tally_line form tally) }
+{
+    match form {
+        LineForm::Text => tally_text(tally),
+        LineForm::Json => tally_object(tally),
+    }
+}
+
+/// Reports a tally.
+pub(crate) fn report_tally<E: Write>(tally: Tally, form: LineForm, err: &mut E) -> io::Result<()>
+    ensures { Takes (E.contents err.old) (E.contents err.new) result (tally_line form tally) }
+{
+    let line = tally_line(tally, form)?;
     send(line.as_bytes(), err)
 }
 
-/// Reports how many of the packets were written, in a line `67 of 253 packets`, if the capture was read to its end or to a torn or bad
-/// record, and all was written. Else it reports nothing. The error is that of standard error, which took a prefix of the line.
-pub fn report_count<R, W, E: Write>(end: &CutEnd<R, W>, err: &mut E) -> io::Result<()>
-    ensures { Takes (E.contents err.old) (E.contents err.new) result (count_told end.now.end end.now.tally) }
+/// Reports how many of the packets were written, in a line `67 of 253 packets` or in an object of JSON, if the capture was read to its end
+/// or to a torn or bad record, and all was written. Else it reports nothing. The error is that of standard error, which took a prefix of the
+/// line.
+pub fn report_count<R, W, E: Write>(
+    end: &CutEnd<R, W>,
+    form: LineForm,
+    err: &mut E,
+) -> io::Result<()>
+    ensures { Takes (E.contents err.old) (E.contents err.new) result (count_told form end.now.end end.now.tally) }
 {
     if is_counted(end.end) {
-        report_tally(end.tally, err)
+        report_tally(end.tally, form, err)
     } else {
         Ok(())
     }
