@@ -2,7 +2,7 @@
 import re
 import subprocess
 
-from .common import ALL, ARP_RECORD, HEADER, IP, IP_RECORD, TCP_RECORD, TORN, UDP_RECORD, VETH, WHOLE, case, fault_lines
+from .common import ALL, ARP_RECORD, HEADER, IP, IP_RECORD, TCP_RECORD, TORN, UDP_RECORD, VETH, WHOLE, case, fault_lines, records
 
 MIXED = HEADER + ARP_RECORD + IP_RECORD + TCP_RECORD + UDP_RECORD
 
@@ -183,7 +183,8 @@ def faults_are_reported(scene):
     snap, place = "-s takes a number from 0 to 262144", "-p takes a number from 0 to 18446744073709551615"
     for words, said in [
         ("explain in.pcap", "<-e <EXPR>|-f <LISTING>>"), ("explain -p +1 -e ip in.pcap", place), ("explain -p -1 -e ip in.pcap", place),
-        ("explain -p x -e ip in.pcap", place), ("explain -s 262145 -e ip in.pcap", snap), ("explain -s -1 -e ip in.pcap", snap),
+        ("explain -p x -e ip in.pcap", place), ("explain -p 1- -e ip in.pcap", place), ("explain -p 2-1 -e ip in.pcap", place),
+        ("explain -p 0-1-2 -e ip in.pcap", place), ("explain -s 262145 -e ip in.pcap", snap), ("explain -s -1 -e ip in.pcap", snap),
     ]:
         seen = scene.run(words)
         reported = (said in seen.err.decode(), b"Usage: bpftap explain" in seen.err, b"tip:" in seen.err)
@@ -216,6 +217,27 @@ def several_captures_are_explained(scene):
     shown = [scene.run([*words, "-p", "0", name]).out.decode() for name in ("in.pcap", "one.pcap")]
     scene.expect([*words, "-p", "0", "in.pcap", "one.pcap"], out="".join(shown))
     scene.expect([*words, "-p", "2", "one.pcap", "in.pcap"], 1, fault_lines("NoPacket 2"), scene.run([*words, "-p", "2", "in.pcap"]).out.decode())
+
+
+@case
+def a_range_of_packets_is_explained_in_full(scene):
+    """`-p FIRST-LAST` prints what `-p` prints of each place, as far as the capture has it; then its fault, if it has one."""
+    scene.start({"in.pcap": MIXED, "one.pcap": WHOLE, "torn.pcap": TORN, "ip.bpf": IP})
+    for words in (["-e", "not tcp"], ["-f", "ip.bpf"]):
+        for name, last in (("in.pcap", len(records(MIXED)) - 1), (str(VETH), 9)):
+            shown = [scene.run(["explain", "-p", str(place), *words, name]).out.decode() for place in range(last + 1)]
+            for first, end in ((0, 0), (0, 1), (1, 2), (0, last), (last, last)):
+                scene.expect(["explain", "-p", f"{first}-{end}", *words, name], out="".join(shown[first : end + 1]))
+            if name == "in.pcap":
+                scene.expect(["explain", "-p", f"1-{2 ** 64 - 1}", *words, name], out="".join(shown[1:]))
+                scene.expect(["explain", "-p", f"{last + 1}-{last + 2}", *words, name], 1, fault_lines(f"NoPacket {last + 1}"))
+    one = scene.run("explain -p 0 -e ip one.pcap").out.decode()
+    scene.expect("explain -p 0-1 -e ip torn.pcap", 2, fault_lines("TornRecord 1"), one)
+    scene.expect("explain -p 0-0 -e ip torn.pcap", out=one)
+    scene.expect("explain -p 1-2 -e ip torn.pcap", 2, fault_lines("TornRecord 1"))
+    scene.expect("explain -p 0-5 -e ip one.pcap torn.pcap one.pcap", 2, fault_lines("Capture 1 TornRecord 1"), one + one)
+    scene.expect("explain -p 0-5 -e ip one.pcap none.pcap", 3, fault_lines("Device none.pcap"), one)
+    scene.expect("explain -p 0-5 -e ip one.pcap", 3, fault_lines("Device standard output"), streams=">/dev/full")
 
 
 # Words after `explain -q`, the status, and the line of a fault.

@@ -1,6 +1,7 @@
 //! The words of `bpftap explain`, by `clap`.
 
 use crate::arguments::Argument;
+use crate::places::{PLACES_WANTED, PlaceRange, place_range};
 use crate::subcommand::{bad_value, subcommand};
 use clap::{ArgGroup, ArgMatches, Command, Error};
 use cli_text::fields::snapshot_length;
@@ -15,8 +16,8 @@ pub struct ExplainWords<'a> {
     pub expr: Option<&'a str>,
     /// The path of the listing, where `-f` is given.
     pub listing: Option<&'a str>,
-    /// The place of the packet to explain in full, if `-p` is given.
-    pub place: Option<u64>,
+    /// The places of the packets to explain in full, if `-p` is given.
+    pub places: Option<PlaceRange>,
     /// Whether `-q` is given: nothing is printed, and the status says whether a packet is accepted.
     pub quiet: bool,
     /// Whether `--json` is given.
@@ -28,6 +29,7 @@ pub struct ExplainWords<'a> {
 const EXPLAIN_EXAMPLES: &str = "Examples:
   bpftap explain -e 'tcp dst port 80 or 443' examples/veth.pcap
   bpftap explain -p 2 -e 'tcp dst port 80 or 443' examples/veth.pcap
+  bpftap explain -p 2-4 -e 'tcp dst port 80 or 443' examples/veth.pcap
   tcpdump -y EN10MB -ddd 'udp port 53' | bpftap explain -f /dev/stdin examples/veth.pcap
 
 explain prints a line for each packet: its place, time and lengths; Yes, No or Abort; and the
@@ -35,10 +37,11 @@ primitive or relation that decided, after not if one applies to it. Abort means 
 a byte past the captured bytes, or a divisor was 0; not does not turn it. For a listing the line
 has the number that the program returned, and the place and name of the instruction where its run
 ended; -s applies to an expression, not to a listing. The counts come last. -p explains one packet
-in full: how the expression was read, what each primitive looked at, and the program's run. Places
-count from 0 in each IN; tcpdump and Wireshark count packets from 1. Several IN are read in order,
-up to the first fault, and the counts are of all; -p explains the packet at PLACE of each. With -q
-the first packet that is accepted ends the reading, as with grep -q:
+in full: how the expression was read, what each primitive looked at, and the program's run; with
+-p FIRST-LAST those from one place to another, as far as IN has them. Places count from 0 in each
+IN; tcpdump and Wireshark count packets from 1. Several IN are read in order, up to the first
+fault, and the counts are of all; -p explains the packet at PLACE of each. With -q the first packet
+that is accepted ends the reading, as with grep -q:
   if bpftap explain -q -e 'tcp port 8080' examples/veth.pcap; then echo seen; fi
 With --json each packet is an object on a line of its own, and so are the counts; -p has no JSON:
   bpftap explain --json -e 'tcp port 8080' examples/veth.pcap | jq -r .answer | sort | uniq -c
@@ -69,7 +72,7 @@ static ARGUMENTS: [Argument; 7] = [
         "place",
         'p',
         "PLACE",
-        "Explain only this packet, counted from 0, in full",
+        "Explain only this packet, counted from 0, in full; FIRST-LAST is several",
     ),
     Argument::Quiet("Print nothing, and end with status 0 if a packet is accepted, else with 4"),
     Argument::Json,
@@ -111,10 +114,10 @@ pub fn explain_usage<'a>(alloc: Global) -> Result<Command<'a>, AllocError> {
         .group(form)
 }
 
-/// The place of a packet, where one is given; nothing inside where it is no number.
-fn place_of(matches: &ArgMatches<'_>) -> Option<Option<u64>> {
+/// The places of packets, if they are given; `None` if they are invalid.
+fn places_of(matches: &ArgMatches<'_>) -> Option<Option<PlaceRange>> {
     match matches.get_str("place") {
-        Some(text) => Some(Some(cli_text::fields::number(text.as_bytes(), u64::MAX)?)),
+        Some(text) => Some(Some(place_range(text)?)),
         None => Some(None),
     }
 }
@@ -129,7 +132,7 @@ pub fn explain_words<'a>(
     alloc: Global,
     matches: &ArgMatches<'a>,
 ) -> Result<Option<ExplainWords<'a>>, AllocError> {
-    let (Some(snap), Some(place)) = (snap_of(matches), place_of(matches)) else {
+    let (Some(snap), Some(places)) = (snap_of(matches), places_of(matches)) else {
         return Ok(None);
     };
     let Some(inputs) = matches.get_strs("IN") else {
@@ -139,7 +142,7 @@ pub fn explain_words<'a>(
         snap,
         expr: matches.get_str("expr"),
         listing: matches.get_str("listing"),
-        place,
+        places,
         quiet: matches.get_flag("quiet"),
         json: matches.get_flag("json"),
         inputs: Vec::from_slice(alloc, inputs)?,
@@ -148,9 +151,9 @@ pub fn explain_words<'a>(
 
 /// What a snapshot length or a place has to be that was found to be none.
 fn range_of_value(matches: &ArgMatches<'_>) -> &'static str {
-    match place_of(matches) {
+    match places_of(matches) {
         Some(_) => "-s takes a number from 0 to 262144",
-        None => "-p takes a number from 0 to 18446744073709551615",
+        None => PLACES_WANTED,
     }
 }
 

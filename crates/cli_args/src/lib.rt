@@ -6,6 +6,7 @@ pub mod check;
 pub mod command_line;
 pub mod compare;
 pub mod explain;
+pub mod places;
 pub mod refusal;
 pub mod report;
 pub mod run;

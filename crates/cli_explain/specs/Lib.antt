@@ -6,3 +6,4 @@ pub mod Explained
 pub mod Telling
 pub mod Seeking
 pub mod Captures
+pub mod Range

@@ -2,12 +2,13 @@
 
 use crate::captures::{explain_captures, find_in_captures, print_totals};
 use crate::hints::{hint_capture, hint_place};
-use crate::one::explain_one;
 use crate::paths::check_paths;
 use crate::plan::read_filter;
+use crate::range::explain_range;
 use crate::report::{report_captures, report_one, report_sought};
 use crate::{AskedFilter, PacketForm};
 use cli_args::explain::ExplainWords;
+use cli_args::places::PlaceRange;
 use cli_files::captures::{inputs, output_buffer};
 use cli_report::HintSink;
 use cli_report::failures::hint_output;
@@ -42,19 +43,21 @@ fn prepare<'w, 'a, R: Files + AllocGlobal, E: HintSink>(
     })
 }
 
-/// Prints the packet at a place of the capture of this number in full, and reports how that ended; `Err` if no further capture is read.
-fn explain_place<R: Read + Drop, O: Write, E: HintSink>(
+/// Prints the packets of a range of places of the capture of this number in full, and reports how that ended; `Err` if no further capture is
+/// read.
+fn explain_places_of<R: Read + Drop, O: Write, E: HintSink>(
     job: &Job<'_, '_>,
-    place: u64,
+    places: PlaceRange,
     number: usize,
     input: ProbedInput<R>,
     out: &mut O,
     err: &mut E,
 ) -> Result<Status, Status> {
     let paths = job.words.inputs.as_slice();
-    let found = explain_one(job.alloc, input, &job.filter, place, out);
+    let PlaceRange { first, last } = places;
+    let found = explain_range(job.alloc, input, &job.filter, first, last, out);
     let (read, is_printed) = (found.read, found.printed.is_ok());
-    let status = report_one(&found, place, paths, number, err);
+    let status = report_one(&found, first, paths, number, err);
     match read {
         Ok(true) if is_printed => Ok(status),
         Ok(true) => Err(status),
@@ -69,17 +72,17 @@ fn explain_place<R: Read + Drop, O: Write, E: HintSink>(
     }
 }
 
-/// Prints the packet at a place of each capture in full.
+/// Prints the packets of a range of places of each capture in full.
 fn explain_places<R: Read + Drop, O: Write, E: HintSink>(
     job: &Job<'_, '_>,
-    place: u64,
+    places: PlaceRange,
     captures: Vec<ProbedInput<R>>,
     out: &mut O,
     err: &mut E,
 ) -> Status {
     let mut status = Status::Clean;
     for (number, input) in captures.into_iter().enumerate() {
-        match explain_place(job, place, number, input, out, err) {
+        match explain_places_of(job, places, number, input, out, err) {
             Ok(one) => status = status.max(one),
             Err(one) => return status.max(one),
         }
@@ -140,8 +143,8 @@ fn explain_and_report<R: Read + Drop, O: Write, E: HintSink>(
         Ok(out) => out,
         Err(status) => return status,
     };
-    let status = match job.words.place {
-        Some(place) => explain_places(job, place, captures, &mut out, err),
+    let status = match job.words.places {
+        Some(places) => explain_places(job, places, captures, &mut out, err),
         None => explain_all(job, captures, &mut out, err),
     };
     hint_output(out.get_ref(), err);

@@ -13,6 +13,7 @@ pub mod line;
 pub mod one;
 mod paths;
 pub mod plan;
+pub mod range;
 pub mod report;
 pub mod seek;
 mod whole;

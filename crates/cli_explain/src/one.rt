@@ -68,7 +68,7 @@ pub fn explain_one<R: Source, O: Write>(
 }
 
 /// Goes on to the packet at a place.
-fn go_to<R: Source>(reader: &mut Reader<R>, place: u64) -> Result<bool, Fault>
+pub(crate) fn go_to<R: Source>(reader: &mut Reader<R>, place: u64) -> Result<bool, Fault>
     ensures goes { (from : Option (List ℕ)) (header : Header) → HasGiven R.left from header [] reader.old →
         GoesTo R.left from header place reader.new result }
     ensures lends { result ≡ Ok true → Lends reader.new }
@@ -106,7 +106,7 @@ fn print_found<R: Source, O: Write>(
 }
 
 /// Prints a packet's line, and then everything else about it.
-fn print_whole<O: Write>(
+pub(crate) fn print_whole<O: Write>(
     alloc: Global,
     filter: &AskedFilter,
     place: u64,

@@ -1,0 +1,19 @@
+use Rattle.std.proofs.Common.{inl, inr, refl, ◌++◌}
+use Rattle.std.proofs.KnownBytes.{Consumes-trans, Keeps-refl}
+use Rattle.cli_explain.proofs.Printing.{unopened}
+use Rattle.cli_explain.proofs.range.explain_range.Goals as goal
+
+pub returns-in-Err-clause-finds : goal.returns-in-Err-clause-finds
+returns-in-Err-clause-finds g c =
+    inl (c.in-Err.fault, unopened g.R.Source.left c.args.from c.in-Err.source c.in-Err.fault c.in-Err.ensures.refused c.in-Err.ensures.unread c.in-Err.ensures.taken, refl, refl, Keeps-refl _)
+
+pub returns-clause-finds : goal.returns-clause-finds
+returns-clause-finds g c =
+    let header = c.in-Ok.reader.header in
+    rw c.close.ensures (inr (header, c.show_range-ended.ensures.shows (g.R.Source.left c.args.from) header c.in-Ok.ensures.ok))
+
+pub returns-clause-gave : goal.returns-clause-gave
+returns-clause-gave g c =
+    let (first, opened) = c.in-Ok.ensures.taken in
+    let (further, went) = c.show_range-ended.ensures.taken in
+    rw c.close.ensures (first ++ further, Consumes-trans _ _ _ first further opened went)
