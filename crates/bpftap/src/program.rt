@@ -8,6 +8,8 @@ use cli_args::report::{print_page, report_words_fault};
 use cli_compare::command::compare_command;
 use cli_cut::command::{check_command, cut_command};
 use cli_explain::command::explain_command;
+use cli_faults::FaultStream;
+use cli_faults::file::Inputs;
 use cli_files::late::reserve_std_fd;
 use cli_filter_hints::quotes::hint_unquoted;
 use cli_report::HintSink;
@@ -45,10 +47,22 @@ fn dispatch<
     E: HintSink,
 >(rt: &R, words: &[S], out: &mut O, err: &mut E) -> Status {
     match read_words(rt.alloc(), words) {
-        Ok(Request::Check(words)) => check_command(rt, &words, out, err),
-        Ok(Request::Explain(words)) => explain_command(rt, &words, out, err),
+        Ok(Request::Check(words)) => {
+            let inputs = Inputs::Captures(&[]);
+            let mut err = FaultStream::new(rt.alloc(), err, words.json, inputs);
+            check_command(rt, &words, out, &mut err)
+        }
+        Ok(Request::Explain(words)) => {
+            let inputs = Inputs::Captures(words.inputs.as_slice());
+            let mut err = FaultStream::new(rt.alloc(), err, words.json, inputs);
+            explain_command(rt, &words, out, &mut err)
+        }
         Ok(Request::Compare(words)) => compare_command(rt, &words, out, err),
-        Ok(Request::Cut(words)) => cut_command(rt, &words, err),
+        Ok(Request::Cut(words)) => {
+            let inputs = Inputs::Captures(words.inputs.as_slice());
+            let mut err = FaultStream::new(rt.alloc(), err, words.json, inputs);
+            cut_command(rt, &words, &mut err)
+        }
         Ok(Request::Steps(words)) => steps_command(rt, &words, out, err),
         Ok(Request::Run(words)) => run_command(rt, &words, out, err),
         Ok(Request::Split(words)) => split_command(rt, &words, out, err),
