@@ -17,11 +17,11 @@ _bpftap_value() {
 _bpftap_options() {
   case $1 in
     '') echo '--hints -h --help -V --version' ;;
-    check) echo '-d -x -s -f -h --help' ;;
-    explain) echo '-s -e -f -p -q -h --help' ;;
+    check) echo '-d -x --json -s -f -h --help' ;;
+    explain) echo '-s -e -f -p -q --json -h --help' ;;
     compare) echo '-s -f -q -w -h --help' ;;
     run) echo '-h --help' ;;
-    cut) echo '-s -e -f -o -u -c -h --help' ;;
+    cut) echo '-s -e -f -o -u -c --json -h --help' ;;
     split) echo '-o -u -h --help' ;;
     steps) echo '-v -p -h --help' ;;
   esac

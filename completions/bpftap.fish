@@ -17,6 +17,7 @@ complete -c bpftap -n '__fish_seen_subcommand_from help' -a 'check explain compa
 
 complete -c bpftap -n '__fish_seen_subcommand_from check; and not __fish_seen_subcommand_from help' -s d -d 'Print instructions by name'
 complete -c bpftap -n '__fish_seen_subcommand_from check; and not __fish_seen_subcommand_from help' -s x -d 'Print the expression as it was read'
+complete -c bpftap -n '__fish_seen_subcommand_from check; and not __fish_seen_subcommand_from help' -l json -d 'Print an object of JSON'
 complete -c bpftap -n '__fish_seen_subcommand_from check; and not __fish_seen_subcommand_from help' -s s -x -d 'Snapshot length that the program returns'
 complete -c bpftap -n '__fish_seen_subcommand_from check; and not __fish_seen_subcommand_from help' -s f -r -F -d 'Filter program'
 complete -c bpftap -n '__fish_seen_subcommand_from check; and not __fish_seen_subcommand_from help' -s h -l help -d 'Print help'
@@ -27,6 +28,7 @@ complete -c bpftap -n '__fish_seen_subcommand_from explain; and not __fish_seen_
 complete -c bpftap -n '__fish_seen_subcommand_from explain; and not __fish_seen_subcommand_from help' -s f -r -F -d 'Filter program'
 complete -c bpftap -n '__fish_seen_subcommand_from explain; and not __fish_seen_subcommand_from help' -s p -x -d 'Explain only this packet, in full'
 complete -c bpftap -n '__fish_seen_subcommand_from explain; and not __fish_seen_subcommand_from help' -s q -d 'Print nothing; the status says whether a packet is accepted'
+complete -c bpftap -n '__fish_seen_subcommand_from explain; and not __fish_seen_subcommand_from help' -l json -d 'Print objects of JSON'
 complete -c bpftap -n '__fish_seen_subcommand_from explain; and not __fish_seen_subcommand_from help' -s h -l help -d 'Print help'
 
 complete -c bpftap -n '__fish_seen_subcommand_from compare; and not __fish_seen_subcommand_from help' -F
@@ -43,6 +45,7 @@ complete -c bpftap -n '__fish_seen_subcommand_from cut; and not __fish_seen_subc
 complete -c bpftap -n '__fish_seen_subcommand_from cut; and not __fish_seen_subcommand_from help' -s o -x -a 'little big' -d 'Byte order of OUT'
 complete -c bpftap -n '__fish_seen_subcommand_from cut; and not __fish_seen_subcommand_from help' -s u -x -a 'micro nano' -d 'Unit of the time stamps of OUT'
 complete -c bpftap -n '__fish_seen_subcommand_from cut; and not __fish_seen_subcommand_from help' -s c -d 'Print how many packets were written'
+complete -c bpftap -n '__fish_seen_subcommand_from cut; and not __fish_seen_subcommand_from help' -l json -d 'Report counts and faults as JSON'
 complete -c bpftap -n '__fish_seen_subcommand_from cut; and not __fish_seen_subcommand_from help' -s h -l help -d 'Print help'
 
 complete -c bpftap -n '__fish_seen_subcommand_from split; and not __fish_seen_subcommand_from help' -F

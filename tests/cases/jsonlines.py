@@ -1,0 +1,200 @@
+"""`--json`: each object beside the line of text that the same call prints without it, and faults as objects."""
+import json
+import random
+import re
+
+from .common import ALL, ARP_RECORD, HEADER, IP_RECORD, ROOT, TCP_RECORD, TORN, UDP_RECORD, VETH, WHOLE, case, header
+
+MIXED = HEADER + ARP_RECORD + IP_RECORD + TCP_RECORD + UDP_RECORD
+
+LINE = re.compile(r"place (\d+) time (\d+)\.(\d{9}) len (\d+) captured (\d+) (Yes|No|Abort) (.*)")
+COUNTS = re.compile(r"(\d+) packets: (\d+) Yes, (\d+) No, (\d+) Abort")
+BYTE = re.compile(r"(.*), byte (\d+) is not captured")
+END = re.compile(r"(\d+) at (\d+): (.*)")
+
+DIVISOR = ", the divisor is 0"
+
+
+def decided_of(rest):
+    """The members that follow the answer of an expression, from its text."""
+    if rest.endswith(DIVISOR):
+        return {"decided": rest.removesuffix(DIVISOR), "cause": {"divisor": 0}}
+    if found := BYTE.fullmatch(rest):
+        return {"decided": found[1], "cause": {"byte": int(found[2])}}
+    return {"decided": rest}
+
+
+def end_of(rest):
+    """The members that follow the answer of a program, from its text."""
+    number, place, instruction = END.fullmatch(rest).groups()
+    return {"returned": int(number), "at": int(place), "instruction": instruction}
+
+
+def objects_of(text, is_program):
+    """The facts of the lines of `explain`, as its objects have them: a place 0 begins the next capture."""
+    capture = -1
+    for line in text.splitlines():
+        if found := COUNTS.fullmatch(line):
+            yield dict(zip(("packets", "yes", "no", "abort"), map(int, found.groups())))
+            continue
+        place, seconds, nanos, length, captured, answer, rest = LINE.fullmatch(line).groups()
+        capture += place == "0"
+        yield {
+            "capture": capture, "place": int(place), "seconds": int(seconds), "nanoseconds": int(nanos), "length": int(length),
+            "captured": int(captured), "answer": answer.lower(), **(end_of if is_program else decided_of)(rest)}
+
+
+def parsed(out):
+    return [json.loads(line) for line in out.decode().splitlines()]
+
+
+def compare(scene, words, is_program=False):
+    """Checks that a call of `explain` with `--json` has the facts of the same call without it, in order, and its status."""
+    text, objects = scene.run(["explain", *words]), scene.run(["explain", "--json", *words])
+    wanted = list(objects_of(text.out.decode(), is_program))
+    scene.check(f"objects of {words}", parsed(objects.out), wanted)
+    scene.check(f"members in order of {words}", [list(one) for one in parsed(objects.out)], [list(one) for one in wanted])
+    scene.check(f"status of {words}", objects.status, text.status)
+
+
+@case
+def each_packet_is_an_object(scene):
+    """Over the real captures each object has the facts of the line, for expressions and for programs."""
+    captures = sorted(str(path) for path in (ROOT / "examples").glob("*.pcap"))
+    for path in captures:
+        for expr in ("", "tcp port 80 or 8080", "not udp", "not (len / 0x0e = 1)", "1 / (len - 98) = 0", "ether[100] = 1"):
+            compare(scene, ["-e", expr, path])
+        for listing in ("ip.bpf", "ssh.asm"):
+            compare(scene, ["-f", str(ROOT / "examples" / listing), path], True)
+    compare(scene, ["-e", "arp or udp", *captures])
+
+
+@case
+def an_object_reads_so(scene):
+    """One of each form, byte for byte."""
+    scene.start({"in.pcap": MIXED})
+    head = '{"capture":0,"place":%d,"seconds":%d,"nanoseconds":0,"length":%d,"captured":%d,"answer":'
+    scene.expect("explain --json -e 'not tcp' in.pcap", out="".join([
+        head % (0, 1, 14, 14) + '"yes","decided":"not tcp"}\n',
+        head % (1, 2, 14, 14) + '"abort","decided":"not tcp","cause":{"byte":23}}\n',
+        head % (2, 1, 38, 38) + '"no","decided":"not tcp"}\n',
+        head % (3, 2, 38, 38) + '"yes","decided":"not tcp"}\n',
+        '{"packets":4,"yes":2,"no":1,"abort":1}\n']))
+
+
+def random_capture(numbers):
+    """A small capture of random frames, cut anywhere, with nanoseconds; sometimes it is torn."""
+    text = bytes.fromhex("4d3cb2a1") + header()[4:]
+    for _ in range(numbers.randrange(4)):
+        frame = numbers.randbytes(12) + numbers.choice([b"\x08\x00", b"\x08\x06", b"\x86\xdd"])
+        frame += bytes([0x45]) + numbers.randbytes(8) + numbers.choice([b"\x06", b"\x11", b"\x01"]) + numbers.randbytes(30)
+        kept = frame[:numbers.randrange(len(frame) + 1)]
+        times = [numbers.choice([0, 1, 2**31, 2**32 - 1]), numbers.randrange(10**9), len(kept), len(frame)]
+        text += b"".join(number.to_bytes(4, "little") for number in times) + kept
+    return text[:-1] if len(text) > 24 and numbers.random() < 0.1 else text
+
+
+@case
+def random_captures_have_the_same_facts(scene):
+    """A thousand random captures, in calls of ten, by expressions and programs."""
+    numbers = random.Random(65)
+    for group in range(100):
+        names = [f"{group}-{one}.pcap" for one in range(10)]
+        scene.start({name: random_capture(numbers) for name in names})
+        scene.put({"all.bpf": ALL, "byte.bpf": "3\n48 0 0 23\n22 0 0 0\n6 0 0 0\n"})
+        if group % 5:
+            compare(scene, ["-e", numbers.choice(["tcp", "not udp port 53", "ip[9] / (len - 56) = 1 or arp", "icmp"]), *names])
+        else:
+            compare(scene, ["-f", numbers.choice(["all.bpf", "byte.bpf"]), *names], True)
+
+
+@case
+def a_program_is_an_object(scene):
+    """`check --json` has the expression as `-x` prints it, the numbers of the listing and the names of the image."""
+    scene.start({"ip.bpf": "4\n40 0 0 12\n21 0 1 2048\n6 0 0 262144\n6 0 0 0\n"})
+    for expr in ("", "ip", "tcp dst port 80 or 443", "-1 + len > 60", "ip[9] = 17 and not host 10.0.0.1"):
+        words = ["--", expr] if expr.startswith("-") else [expr]
+        seen = json.loads(scene.run(["check", "--json", *words]).out)
+        read = scene.run(["check", "-x", *words]).out.decode().rstrip("\n")
+        scene.check(f"expression of {expr!r}", seen["expression"], read.strip("()") if read.startswith("(-") else read)
+        listing = scene.run(["check", *words]).out.decode().splitlines()[1:]
+        numbers = [" ".join(str(one[name]) for name in ("code", "jt", "jf", "k")) for one in seen["instructions"]]
+        scene.check(f"numbers of {expr!r}", numbers, listing)
+        scene.check(f"places of {expr!r}", [one["place"] for one in seen["instructions"]], list(range(len(listing))))
+        image = scene.run(["check", "-d", *words]).out.decode().splitlines()
+        for one, line in zip(seen["instructions"], image):
+            name = " ".join(line.partition(") ")[2].split("jt")[0].split())
+            if not name.startswith("ja"):
+                scene.check(f"name of {line}", one["name"], name)
+    scene.expect("check --json -f ip.bpf", out=(
+        '{"expression":null,"instructions":[{"place":0,"code":40,"jt":0,"jf":0,"k":12,"name":"ldh [12]"},'
+        '{"place":1,"code":21,"jt":0,"jf":1,"k":2048,"name":"jeq #0x800"},'
+        '{"place":2,"code":6,"jt":0,"jf":0,"k":262144,"name":"ret #262144"},{"place":3,"code":6,"jt":0,"jf":0,"k":0,"name":"ret #0"}]}\n'))
+    seen = json.loads(scene.run("check --json -s 96 ip").out)
+    scene.check("snapshot length", seen["instructions"][2]["k"], 96)
+
+
+@case
+def counts_are_an_object(scene):
+    """`cut -c --json` reports the counts of `cut -c`."""
+    scene.start({"torn.pcap": TORN, "whole.pcap": WHOLE})
+    scene.expect("cut --json -c -s 0 whole.pcap whole.pcap out.pcap", err='{"kept":2,"packets":2}\n')
+    scene.expect(["cut", "--json", "-c", "-s", "0", "-e", "udp port 5353", str(VETH), "out.pcap"], err='{"kept":67,"packets":253}\n')
+    scene.expect("cut --json -c -s 0 torn.pcap out.pcap", 2, '{"fault":"TornRecord","numbers":[1],"file":"torn.pcap"}\n{"kept":1,"packets":1}\n')
+
+
+# Words, the status, and the fault.
+FAULTS = [
+    ("explain --json -e ip torn.pcap", 2, {"fault": "TornRecord", "numbers": [1], "file": "torn.pcap"}),
+    ("explain --json -e ip whole.pcap torn.pcap", 2, {"fault": "Capture TornRecord", "numbers": [1, 1], "file": "torn.pcap"}),
+    ("explain --json -q -e arp whole.pcap torn.pcap", 2, {"fault": "Capture TornRecord", "numbers": [1, 1], "file": "torn.pcap"}),
+    ("explain --json -e ip 'no such\"file'", 3, {"fault": "Device", "numbers": [], "file": 'no such"file'}),
+    ("explain --json -e 'tcp and 80' torn.pcap", 1, {"fault": "NoQualifier", "numbers": [8]}),
+    ("explain --json -e ip -f all.bpf torn.pcap", 1, {"fault": "FilterTwice", "numbers": []}),
+    ("explain --json -e ip short.pcap", 1, {"fault": "ShortHeader", "numbers": [], "file": "short.pcap"}),
+    ("check --json 'tcp and 80'", 1, {"fault": "NoQualifier", "numbers": [8]}),
+    ("check --json -f jump.bpf", 1, {"fault": "Program JumpOut", "numbers": [0]}),
+    ("cut --json -s 0 torn.pcap out.pcap", 2, {"fault": "TornRecord", "numbers": [1], "file": "torn.pcap"}),
+    ("cut --json -s 0 whole.pcap torn.pcap out.pcap", 2, {"fault": "Capture TornRecord", "numbers": [1, 1], "file": "torn.pcap"}),
+    ("cut --json -s 0 whole.pcap whole.pcap", 1, {"fault": "SameFile", "numbers": [], "file": "whole.pcap"}),
+    ("cut --json -s 0 long.pcap out.pcap", 2, {"fault": "TooLong", "numbers": [0], "file": "long.pcap"}),
+]
+
+FILES = {
+    "torn.pcap": TORN, "whole.pcap": WHOLE, "short.pcap": "", "all.bpf": ALL, "jump.bpf": "2\n5 0 0 9\n6 0 0 0\n",
+    "long.pcap": HEADER + bytes.fromhex("01000000 00000000 01000400 01000400"),
+}
+
+
+@case
+def a_fault_is_an_object(scene):
+    """It has the names, the numbers and the file of the line without `--json`, on a line of its own, and no hints."""
+    scene.start(FILES)
+    for words, status, fault in FAULTS:
+        seen = scene.run(words)
+        scene.check(f"fault of {words}", (seen.err.count(b"\n"), json.loads(seen.err), seen.status), (1, fault, status))
+        scene.check(f"hints of {words}", scene.run(f"--hints {words}").err, seen.err)
+
+
+@case
+def a_failed_output_is_an_object(scene):
+    """What standard output does not take is reported so too."""
+    scene.start(FILES)
+    fault = '{"fault":"Device","numbers":[],"file":"standard output"}\n'
+    scene.expect("explain --json -e ip whole.pcap", 3, fault, streams=">/dev/full")
+    scene.expect("check --json ip", 3, fault, streams=">/dev/full")
+    for room in (0, 1, 100, 160):
+        seen = scene.run_into(room, "explain --json -e ip whole.pcap")
+        scene.check(f"fault with {room} bytes", (seen.err.decode(), seen.status), (fault, 3))
+        scene.check(f"a prefix of {room} bytes", scene.run("explain --json -e ip whole.pcap").out.startswith(seen.out), True)
+
+
+@case
+def forms_exclude_each_other(scene):
+    """What has no JSON is refused with it."""
+    scene.start(FILES)
+    for words in ("explain --json -p 0 -e ip whole.pcap", "check --json -d ip", "check --json -x ip"):
+        seen = scene.run(words)
+        scene.check(words, (seen.status, seen.out, b"cannot be used with" in seen.err), (1, b"", True))
+    scene.expect("explain --json -q -e ip whole.pcap")
+    scene.expect("explain --json -q -e arp whole.pcap", 4)
