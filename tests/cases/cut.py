@@ -94,6 +94,12 @@ def several_captures_are_cut_into_one(scene):
     # OUT is no file that is read; a missing IN could be made as OUT.
     for out in ("one.pcap", "./two.pcap", "ip.bpf", "none.pcap"):
         scene.refuse(f"cut -s 0 -f ip.bpf two.pcap one.pcap none.pcap {out}", 1, f"SameFile {out}")
+    # Options may come between the paths, of which the last one is OUT.
+    for words in ("-s 0 one.pcap two.pcap out.pcap", "one.pcap -s 0 two.pcap out.pcap", "one.pcap two.pcap -s 0 out.pcap", "one.pcap two.pcap out.pcap -s 0"):
+        scene.expect(f"cut {words}")
+        scene.check(f"OUT of {words}", scene.read("out.pcap"), WHOLE + ARP_RECORD + IP_RECORD)
+    scene.expect("cut one.pcap -s 0 out.pcap")
+    scene.check("OUT of one", scene.read("out.pcap"), WHOLE)
     # The header of OUT is that of one capture; a capture may come from a pipe, and OUT be one.
     scene.expect("cut -s 5 -o big -u nano /dev/stdin one.pcap out.pcap", streams="< one.pcap")
     nano = bytes.fromhex("00000002 00000000 00000005 0000000e ffffffffff")

@@ -119,24 +119,28 @@ static CUT: [Argument; 9] = [
         "Print on standard error how many of the packets were written",
     ),
     Argument::Json,
-    Argument::Paths(
+    Argument::Path(
         "IN",
         "Captures to read, in order: classic savefiles of Ethernet frames",
     ),
-    Argument::Path(
+    // Of the words after the first IN the last one is OUT, wherever options come between them.
+    Argument::Paths(
         "OUT",
-        "Capture to write; created once the filter and the first header of IN are accepted",
+        "Capture to write, the last path; created once the filter and the first header of IN are accepted",
     ),
 ];
 
+const CUT_USAGE: &str = "bpftap cut [OPTIONS] -s <N> <IN>... <OUT>";
+
 pub(crate) fn cut_usage<'a>(alloc: Global) -> Result<Command<'a>, AllocError> {
-    subcommand(
+    let command = subcommand(
         alloc,
         "cut",
         "Write each packet of IN that the filter accepts, cut to N bytes, to OUT",
         CUT_EXAMPLES,
         &CUT,
-    )
+    )?;
+    Ok(command.override_usage(CUT_USAGE))
 }
 
 fn hints_arg<'a>(alloc: Global) -> Arg<'a> {
@@ -342,6 +346,18 @@ fn snap_of(matches: &ArgMatches<'_>) -> Option<u32> {
     snapshot_length(matches.get_str("snap")?.as_bytes())
 }
 
+/// The paths of all IN: the first one, and the others.
+fn inputs_of<'a>(
+    alloc: Global,
+    first: &'a str,
+    others: &[&'a str],
+) -> Result<Vec<&'a str>, AllocError> {
+    let mut inputs = Vec::with_capacity(alloc, others.len().saturating_add(1))?;
+    inputs.push(first)?;
+    inputs.extend_from_slice(others)?;
+    Ok(inputs)
+}
+
 /// The words that were found, `None` if one is missing, or if the snapshot length is invalid.
 fn cut_words<'a>(
     alloc: Global,
@@ -350,7 +366,10 @@ fn cut_words<'a>(
     let Some(snap) = snap_of(matches) else {
         return Ok(None);
     };
-    let (Some(inputs), Some(output)) = (matches.get_strs("IN"), matches.get_str("OUT")) else {
+    let (Some(first), Some(paths)) = (matches.get_str("IN"), matches.get_strs("OUT")) else {
+        return Ok(None);
+    };
+    let Some((output, others)) = paths.split_last() else {
         return Ok(None);
     };
     Ok(Some(CutWords {
@@ -361,7 +380,7 @@ fn cut_words<'a>(
         unit: unit_of(matches),
         counted: matches.get_flag("counted"),
         json: matches.get_flag("json"),
-        inputs: Vec::from_slice(alloc, inputs)?,
-        output,
+        inputs: inputs_of(alloc, first, others)?,
+        output: *output,
     }))
 }
