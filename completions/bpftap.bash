@@ -23,7 +23,7 @@ _bpftap_options() {
     run) echo '-h --help' ;;
     cut) echo '-s -e -f -o -u -c --json -h --help' ;;
     split) echo '-o -u -h --help' ;;
-    steps) echo '-v -p -h --help' ;;
+    steps) echo '-v -p --json -h --help' ;;
   esac
 }
 

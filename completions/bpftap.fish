@@ -56,6 +56,7 @@ complete -c bpftap -n '__fish_seen_subcommand_from split; and not __fish_seen_su
 complete -c bpftap -n '__fish_seen_subcommand_from steps; and not __fish_seen_subcommand_from help' -F
 complete -c bpftap -n '__fish_seen_subcommand_from steps; and not __fish_seen_subcommand_from help' -s v -d 'Print the answers first, and why'
 complete -c bpftap -n '__fish_seen_subcommand_from steps; and not __fish_seen_subcommand_from help' -s p -r -F -d 'Draw what each step found'
+complete -c bpftap -n '__fish_seen_subcommand_from steps; and not __fish_seen_subcommand_from help' -l json -d 'Print objects of JSON'
 complete -c bpftap -n '__fish_seen_subcommand_from steps; and not __fish_seen_subcommand_from help' -s h -l help -d 'Print help'
 
 complete -c bpftap -n '__fish_seen_subcommand_from run; and not __fish_seen_subcommand_from help' -F

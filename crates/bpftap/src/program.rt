@@ -63,7 +63,11 @@ fn dispatch<
             let mut err = FaultStream::new(rt.alloc(), err, words.json, inputs);
             cut_command(rt, &words, &mut err)
         }
-        Ok(Request::Steps(words)) => steps_command(rt, &words, out, err),
+        Ok(Request::Steps(words)) => {
+            let inputs = Inputs::Captures(words.inputs.as_slice());
+            let mut err = FaultStream::new(rt.alloc(), err, words.json, inputs);
+            steps_command(rt, &words, out, &mut err)
+        }
         Ok(Request::Run(words)) => run_command(rt, &words, out, err),
         Ok(Request::Split(words)) => split_command(rt, &words, out, err),
         Ok(Request::Topic(page)) => print_page(page, out, err),

@@ -12,6 +12,8 @@ pub struct StepsWords<'a> {
     pub explained: bool,
     /// The path of the picture, if `-p` is given.
     pub picture: Option<&'a str>,
+    /// Whether JSON Lines are printed.
+    pub json: bool,
     /// The path of LISTENERS.
     pub listeners: &'a str,
     /// The path of SCRIPT.
@@ -36,7 +38,7 @@ Examples:
 Exit status: 0 clean; 1 bad usage, invalid input, or out of memory; 2 a torn or bad record, after
 the reports; 3 a file or device failed.";
 
-static ARGUMENTS: [Argument; 5] = [
+static ARGUMENTS: [Argument; 6] = [
     Argument::Flag(
         "explained",
         'v',
@@ -48,6 +50,7 @@ static ARGUMENTS: [Argument; 5] = [
         "FILE",
         "Draw what each step found in the buffers to FILE, as SVG",
     ),
+    Argument::Json,
     Argument::Path(
         "LISTENERS",
         "File with a line SNAP CAPACITY EXPRESSION for each listener",
@@ -88,6 +91,7 @@ pub fn steps_words<'a>(
     Ok(Some(StepsWords {
         explained: matches.get_flag("explained"),
         picture: matches.get_str("picture"),
+        json: matches.get_flag("json"),
         listeners,
         script,
         inputs: Vec::from_slice(alloc, inputs)?,

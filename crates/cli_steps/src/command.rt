@@ -127,10 +127,15 @@ fn detail_of(words: &StepsWords<'_>) -> Detail {
     }
 }
 
-/// What is printed of the replay: text.
+/// What is printed of the replay, and in which form.
 fn printing_of(words: &StepsWords<'_>) -> Printing {
+    let form = if words.json {
+        LineForm::Json
+    } else {
+        LineForm::Text
+    };
     Printing {
-        form: LineForm::Text,
+        form,
         detail: detail_of(words),
     }
 }
