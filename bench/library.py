@@ -2,7 +2,8 @@
 """Measures the library for C beside libpcap, and the batches of the Python package.
 
   bench/library.py        nanoseconds a packet, of 10 million of 100 bytes: libpcap's program by bpf_filter, and ours by it and by each call
-                          of the library; bpftap_next beside a plain loop in C; then run_each of Python on 100,000 packets
+                          of the library; bpftap_next beside a plain loop in C; then run_each of Python on 100,000 packets, and what of it
+                          is joining them and gathering their sizes
 
 It builds the library first (`./build bpftap_c`), and needs gcc and libpcap's header; without these only Python is measured.
 """
@@ -12,6 +13,7 @@ import subprocess
 import sys
 import tempfile
 import time
+from array import array
 
 ROOT = pathlib.Path(__file__).resolve().parent.parent
 
@@ -30,6 +32,13 @@ def measure_c():
             subprocess.run([program, expression], check=True)
 
 
+def gather(packets, batch):
+    """What `run_each` hands to C: the packets, joined, and their sizes."""
+    for begin in range(0, len(packets), batch):
+        part = packets[begin : begin + batch]
+        b"".join(part), array("I", [*map(len, part)])
+
+
 def measure_python():
     sys.path.insert(0, str(ROOT / "bindings" / "python"))
     import bpftap
@@ -38,7 +47,12 @@ def measure_python():
     tcp = bpftap.Filter("tcp port 80")
     memory = b"".join(packets)
     spans = (bpftap._library.Span * len(packets))(*[(100 * n, 100, 100) for n in range(len(packets))])
-    for what, call in (("run_each", lambda: tcp.run_each(packets)), ("run_spans", lambda: tcp.run_spans(memory, spans))):
+    calls = {
+        "run_each": lambda: tcp.run_each(packets),
+        "run_each without the run": lambda: gather(packets, bpftap._filters.BATCH),
+        "run_spans": lambda: tcp.run_spans(memory, spans),
+    }
+    for what, call in calls.items():
         best = 1e9
         for _ in range(20):
             began = time.process_time()

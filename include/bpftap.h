@@ -184,6 +184,11 @@ struct bpftap_result bpftap_run_each(const BPFTAP_INSN *insns, size_t size, cons
 struct bpftap_result bpftap_run_spans(const BPFTAP_INSN *insns, size_t size, const uint8_t *memory, size_t memory_size,
                                       const struct bpftap_span *spans, size_t count, uint32_t *answers, size_t room);
 
+/* The same of packets that lie in a memory one after the other, from byte 0 on. Packet `n` has `sizes[n]` bytes, on the wire too. Bytes
+ * past the memory are not captured. */
+struct bpftap_result bpftap_run_joined(const BPFTAP_INSN *insns, size_t size, const uint8_t *memory, size_t memory_size,
+                                       const uint32_t *sizes, size_t count, uint32_t *answers, size_t room);
+
 /* ---- Why ---- */
 
 enum bpftap_verdict { BPFTAP_NO = 0, BPFTAP_YES = 1, BPFTAP_ABORT = 2 };

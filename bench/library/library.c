@@ -15,6 +15,7 @@ enum { PACKETS = 10000000, KINDS = 1024, SIZE = 100, ROUNDS = PACKETS / KINDS };
 
 static uint8_t memory[KINDS * SIZE], *capture;
 static struct bpftap_span spans[KINDS];
+static uint32_t sizes[KINDS];
 static struct bpftap_packet packets[KINDS];
 static uint32_t answers[KINDS];
 static struct bpf_insn ours[BPFTAP_MAX_INSNS];
@@ -42,6 +43,7 @@ static void make_packets(void) {
         if (kind == 1) packet[34] = 0, packet[35] = 80;
         packets[i] = (struct bpftap_packet){packet, SIZE, SIZE};
         spans[i] = (struct bpftap_span){(uint64_t)i * SIZE, SIZE, SIZE};
+        sizes[i] = SIZE;
     }
 }
 
@@ -74,6 +76,11 @@ static void by_each(void) {
 static void by_spans(void) {
     for (int i = 0; i < ROUNDS; i++)
         sum += bpftap_run_spans(ours, size, memory, sizeof memory, spans, KINDS, answers, KINDS).size + answers[i % KINDS];
+}
+
+static void by_joined(void) {
+    for (int i = 0; i < ROUNDS; i++)
+        sum += bpftap_run_joined(ours, size, memory, sizeof memory, sizes, KINDS, answers, KINDS).size + answers[i % KINDS];
 }
 
 static void by_next(void) {
@@ -154,6 +161,7 @@ int main(int argc, char **argv) {
     measure("our program, bpftap_program_run", by_run);
     measure("our program, bpftap_run_each", by_each);
     measure("our program, bpftap_run_spans", by_spans);
+    measure("our program, bpftap_run_joined", by_joined);
     measure("bpftap_next", by_next);
     measure("a listener, each message read", by_listener);
     measure("a plain loop over records", by_plain_loop);

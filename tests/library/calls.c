@@ -240,6 +240,34 @@ static void runs_batches(void) {
     free(answers);
 }
 
+/* Packets that lie one after the other: of the third some bytes, of the fourth none are in the memory. */
+static void runs_joined(void) {
+    uint8_t *memory = block(2 * sizeof UDP + 14);
+    memcpy(memory, UDP, sizeof UDP);
+    memcpy(memory + sizeof UDP, TCP, sizeof TCP);
+    memcpy(memory + 2 * sizeof UDP, UDP, 14);
+    uint32_t const sizes[5] = {38, 38, 38, 38, 0};
+    uint32_t *answers = block(6 * sizeof *answers);
+    struct bpftap_result result = bpftap_run_joined(IP, 4, memory, 90, sizes, 5, answers, 6);
+    CHECK(result.fault == BPFTAP_OK && result.size == 5);
+    CHECK(answers[0] == 96 && answers[1] == 96 && answers[2] == 96 && answers[3] == 0 && answers[4] == 0);
+    CHECK(untouched(answers + 5, sizeof *answers));
+
+    /* What lies past the memory is not captured, whatever the sizes come to. */
+    uint32_t const most[2] = {UINT32_MAX, UINT32_MAX};
+    result = bpftap_run_joined(IP, 4, memory, 13, most, 2, answers, 6);
+    CHECK(result.fault == BPFTAP_OK && answers[0] == 0 && answers[1] == 0);
+    memset(answers, 0xa5, 6 * sizeof *answers);
+    result = bpftap_run_joined(IP, 4, memory, 90, sizes, 5, answers, 4);
+    CHECK(result.fault == BPFTAP_NO_ROOM && result.size == 5 && untouched(answers, 6 * sizeof *answers));
+    result = bpftap_run_joined(IP, 2, memory, 90, sizes, 5, answers, 6);
+    CHECK(result.fault == BPFTAP_JUMP_OUT && result.place == 1 && untouched(answers, 6 * sizeof *answers));
+    result = bpftap_run_joined(IP, 4, memory, 0, sizes, 0, answers, 0);
+    CHECK(result.fault == BPFTAP_OK && result.size == 0 && untouched(answers, 6 * sizeof *answers));
+    free(memory);
+    free(answers);
+}
+
 static void says_why(void) {
     static const char text[] = "ip and not (udp or tcp port 81)";
     struct {
@@ -478,6 +506,7 @@ int main(void) {
     lists();
     runs();
     runs_batches();
+    runs_joined();
     says_why();
     prints();
     reads();

@@ -5,7 +5,6 @@ import ctypes
 import enum
 from array import array
 from collections.abc import Iterable, Sequence
-from itertools import accumulate
 from typing import Any
 
 from ._errors import Fault, raise_fault
@@ -35,16 +34,6 @@ def _wire(packet: bytes, wire: int | None) -> int:
 
 # How many packets are handed over at once: what they take stays in the processor's cache.
 BATCH = 1024
-
-
-def _spans_of(packets: Sequence[bytes]) -> array[int]:
-    """Where packets lie that stand one after the other: of each an offset of 64 bits, and twice its length."""
-    sizes = array("I", map(len, packets))
-    spans = array("I", bytes(16 * len(sizes)))
-    # A batch is below 4 GiB: packets of 262,144 bytes at most, and the upper half of each offset is 0.
-    spans[0::4] = array("I", accumulate(sizes, initial=0))[:-1]
-    spans[2::4] = spans[3::4] = sizes
-    return spans
 
 
 def _row(place: int, insn: Sequence[int]) -> tuple[int, ...]:
@@ -123,10 +112,13 @@ class Filter:
 
     def run_each(self, packets: Sequence[bytes]) -> array[int]:
         """What the filter answers to each of many packets; each has all its bytes."""
-        answers = array("I")
+        answers = array("I", bytes(4 * len(packets)))
+        where, size = answers.buffer_info()[0], answers.itemsize
         for begin in range(0, len(packets), BATCH):
             part = packets[begin : begin + BATCH]
-            answers += self.run_spans(b"".join(part), _spans_of(part))
+            memory, sizes = b"".join(part), array("I", [*map(len, part)])
+            _raised(lib.bpftap_run_joined(
+                self._insns, self._size, memory, len(memory), sizes.buffer_info()[0], len(sizes), where + size * begin, len(sizes)))
         return answers
 
     def run_spans(self, memory: Any, spans: Any) -> array[int]:

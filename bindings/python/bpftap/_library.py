@@ -95,6 +95,7 @@ _FUNCTIONS = {
     "program_init": (c_uint32, [c_void_p, *_INSNS]),
     "program_run": (c_uint32, [c_void_p, *_BYTES, c_uint32]),
     "run_spans": (Result, [*_INSNS, *_BYTES, c_void_p, c_size_t, c_void_p, c_size_t]),
+    "run_joined": (Result, [*_INSNS, *_BYTES, c_void_p, c_size_t, c_void_p, c_size_t]),
     "why": (Reason, [*_BYTES, *_BYTES, c_uint32, *_ROOM]),
     "open": (Reader, _BYTES),
     "next": (Record, [*_BYTES, POINTER(Reader)]),

@@ -6,3 +6,4 @@ pub mod Prepared
 pub mod Rejecting
 pub mod UnreadText
 pub mod Stepping
+pub mod Joined

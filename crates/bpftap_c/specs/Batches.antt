@@ -1,5 +1,5 @@
 -- Many packets in one call.
-use Rattle.std.specs.Prelude.{◌≡◌, ◌⊎◌, ℕ, List, take, drop}
+use Rattle.std.specs.Prelude.{◌≡◌, ◌⊎◌, ℕ, List, [], ◌∷◌, take, drop}
 use Rattle.bpfvm.specs.declared.insn.Insn.{Insn}
 use Rattle.bpfvm.specs.declared.fault.Invalid.{Invalid}
 use Rattle.bpfvm.specs.Machine.{verdict}
@@ -21,6 +21,11 @@ packet_in memory span = take span.captured (drop span.offset memory)
 
 abbrev pub answer_in : List Insn → List ℕ → BpftapSpan → ℕ
 answer_in program memory span = verdict program (packet_in memory span) span.wire
+
+-- what a program answers to packets that lie in a memory one after the other, each with this many bytes
+abbrev pub answers_joined : List Insn → List ℕ → List ℕ → List ℕ
+answers_joined program memory [] = []
+answers_joined program memory (size ∷ sizes) = verdict program (take size memory) size ∷ answers_joined program (drop size memory) sizes
 
 -- these answers of a program are put; or it is none, and all is as it was
 abbrev pub Answers : List Insn → List ℕ → List ℕ → List ℕ → BpftapResult → Type 0

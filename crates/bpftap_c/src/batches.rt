@@ -1,7 +1,7 @@
 //! Many packets in one call.
 
 ghost use Rattle.std.specs.Prelude.{◌≡◌, length, map};
-ghost use Rattle.bpftap_c.specs.Batches.{packet_in, answer_in, answer_to, Answers};
+ghost use Rattle.bpftap_c.specs.Batches.{packet_in, answer_in, answer_to, answers_joined, Answers};
 ghost use Rattle.bpftap_c.specs.Insns.{insns_of};
 
 use crate::insns::{BpftapInsn, program_of};
@@ -58,6 +58,20 @@ fn fill_answers_in(program: &Program, memory: &[u8], spans: &[BpftapSpan], answe
     }
 }
 
+/// Fills an array with what a program answers to each packet of a memory in which they lie one after the other.
+fn fill_answers_joined(program: &Program, memory: &[u8], sizes: &[u32], answers: &mut [u32])
+    requires { length answers.old ≡ length sizes.now }
+    ensures { answers.new ≡ answers_joined program.now memory.now sizes.now }
+{
+    let mut rest = memory;
+    for place in 0..sizes.len() {
+        let size = sizes[place];
+        let (packet, after) = rest.split_at(rest.len().min(size as usize));
+        answers[place] = run(program, packet, size);
+        rest = after;
+    }
+}
+
 /// Validates instructions once, and puts what they answer to each packet into the front of the caller's array.
 #[unsafe(no_mangle)]
 pub extern "C" fn bpftap_run_each(
@@ -98,5 +112,29 @@ pub extern "C" fn bpftap_run_spans(
         return failed(Failure::NoRoom(size));
     }
     fill_answers_in(&program, memory, spans, &mut answers[..size]);
+    done(size)
+}
+
+/// Validates instructions once, and puts what they answer to each packet of a memory into the front of the caller's array. The packets lie
+/// in the memory one after the other, and each has all its bytes.
+#[unsafe(no_mangle)]
+#[tactic(auto, using(crate::proofs::Joined::length_joined))]
+pub extern "C" fn bpftap_run_joined(
+    insns: &[BpftapInsn],
+    memory: &[u8],
+    sizes: &[u32],
+    answers: &mut [u32],
+) -> BpftapResult
+    ensures { Answers (insns_of insns.now) (answers_joined (insns_of insns.now) memory.now sizes.now) answers.old answers.new result }
+{
+    let program = match program_of(insns) {
+        Ok(program) => program,
+        Err(fault) => return failed(Failure::Program(fault)),
+    };
+    let size = sizes.len();
+    if answers.len() < size {
+        return failed(Failure::NoRoom(size));
+    }
+    fill_answers_joined(&program, memory, sizes, &mut answers[..size]);
     done(size)
 }
