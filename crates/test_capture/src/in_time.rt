@@ -2,7 +2,10 @@
 
 use crate::same::same;
 use bpfvm::Program;
+use cli_compare::FilterPair;
+use cli_compare::captures::compare_captures;
 use cli_explain::PacketForm;
+use cli_explain::captures::explain_captures;
 use cli_explain::each::explain_each;
 use cli_explain::filter::of_program;
 use cli_filter::filter;
@@ -69,6 +72,25 @@ fn accept_all(rt: &(impl Abort + AllocGlobal)) -> Program {
     filter(rt.alloc(), Some(b"1\n6 0 0 262144\n"), None, 0).expect(rt, "a program")
 }
 
+/// The program that rejects all packets.
+fn reject_all(rt: &(impl Abort + AllocGlobal)) -> Program {
+    filter(rt.alloc(), Some(b"1\n6 0 0 0\n"), None, 0).expect(rt, "a program")
+}
+
+/// A capture as the only one of a list.
+fn sources_of<'a>(
+    rt: &(impl Abort + AllocGlobal),
+    capture: &'a [u8],
+    calls: &'a AtomicU64,
+) -> Vec<Counted<CallReader<'a>>> {
+    let mut captures = Vec::new(rt.alloc());
+    let left = capture;
+    captures
+        .push(Counted::new(CallReader { left, calls }))
+        .expect(rt, "memory");
+    captures
+}
+
 fn writer_of<'a>(rt: &impl AllocGlobal, calls: &'a AtomicU64) -> CallWriter<'a> {
     CallWriter {
         calls,
@@ -88,6 +110,31 @@ fn explain_sends_each_line_before_it_reads_on(rt: HostRuntime) {
     let filter = of_program(accept_all(&rt));
     explain_each(rt.alloc(), source, &filter, PacketForm::Text, &mut out);
     same(&rt, out.seen.as_slice(), [2, 3, 4, 5].as_slice());
+}
+
+#[test]
+fn explain_of_captures_sends_each_line_before_it_reads_on(rt: HostRuntime) {
+    let calls = AtomicU64::new(0);
+    let capture = three(&rt);
+    let captures = sources_of(&rt, capture.as_slice(), &calls);
+    let mut out = writer_of(&rt, &calls);
+    let filter = of_program(accept_all(&rt));
+    explain_captures(rt.alloc(), captures, &filter, PacketForm::Text, &mut out);
+    same(&rt, out.seen.as_slice(), [2, 3, 4].as_slice());
+}
+
+#[test]
+fn compare_sends_each_line_before_it_reads_on(rt: HostRuntime) {
+    let calls = AtomicU64::new(0);
+    let capture = three(&rt);
+    let captures = sources_of(&rt, capture.as_slice(), &calls);
+    let pair = FilterPair {
+        first: of_program(accept_all(&rt)),
+        second: of_program(reject_all(&rt)),
+    };
+    let mut out = writer_of(&rt, &calls);
+    compare_captures(rt.alloc(), captures, &pair, &mut out);
+    same(&rt, out.seen.as_slice(), [2, 3, 4].as_slice());
 }
 
 #[test]
@@ -116,12 +163,7 @@ fn cut_writes_each_packet_before_it_reads_on(rt: HostRuntime) {
 fn split_writes_each_packet_to_all_before_it_reads_on(rt: HostRuntime) {
     let calls = AtomicU64::new(0);
     let capture = three(&rt);
-    let mut captures = Vec::new(rt.alloc());
-    let source = Counted::new(CallReader {
-        left: capture.as_slice(),
-        calls: &calls,
-    });
-    captures.push(source).expect(&rt, "memory");
+    let captures = sources_of(&rt, capture.as_slice(), &calls);
     let mut parts = Vec::new(rt.alloc());
     for _ in 0..2 {
         let part = Part {
