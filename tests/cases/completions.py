@@ -41,7 +41,7 @@ OFFERED = [
     (["--hi"], ["--hints"]),
     (["--hints", "c"], ["check", "compare", "cut"]),
     (["help", ""], ["check", "explain", "compare", "cut", "split", "steps", "run"]),
-    (["cut", "--"], ["--help"]),
+    (["cut", "--"], ["--json", "--help"]),
     (["cut", "-o", ""], ["little", "big"]),
     (["cut", "-s", "0", "-o", "b"], ["big"]),
     (["cut", "-u", "n"], ["nano"]),
