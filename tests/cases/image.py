@@ -4,8 +4,10 @@
 but 0x81, for which it has no name; `expression.*` are what `tcpdump -ddd` and `tcpdump -d` print of one expression, and
 `expressions.txt` has both of seventeen, with every addressing form: a line with the expression, the one and the other."""
 import re
+import runpy
+import subprocess
 
-from .common import IP, ROOT, case
+from .common import IP, ROOT, VETH, case
 
 VECTORS = ROOT / "tests" / "vectors"
 
@@ -34,6 +36,21 @@ def listings_of_expressions_are_printed_as_tcpdump_prints_them(scene):
         scene.put({"listing.txt": listing})
         scene.check(f"names of {expression}", scene.run("check -d -f listing.txt").out.decode(), image)
         scene.expect("check -f listing.txt", out=listing)
+
+
+@case
+def images_of_tcpdump_are_read_as_its_programs(scene):
+    """For each expression of the bench the image of `tcpdump -d` is read as the program that `tcpdump -ddd` prints."""
+    if not scene.has("tcpdump"):
+        return
+    for expression in runpy.run_path(str(ROOT / "bench" / "filters.py"))["EXPRESSIONS"]:
+        image, listing = (subprocess.run(["tcpdump", "-r", VETH, form, expression], stdout=subprocess.PIPE, stderr=subprocess.DEVNULL).stdout
+                          for form in ("-d", "-ddd"))
+        scene.put({"image.txt": image})
+        seen = scene.run("check -f image.txt")
+        # libpcap's programs may be longer than a program of bpf(4). An image does not show the field of `tax`.
+        if listing.count(b"\n") <= 513:
+            scene.check(f"program of the image of {expression[:80]}", seen.out, re.sub(rb"(?m)^7 0 0 \d+$", b"7 0 0 0", listing))
 
 
 @case

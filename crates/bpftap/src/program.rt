@@ -52,16 +52,18 @@ fn dispatch<
             let mut err = FaultStream::new(rt.alloc(), err, words.json, inputs);
             check_command(rt, &words, out, &mut err)
         }
-        Ok(Request::Explain(words)) => {
-            let inputs = Inputs::Captures(words.inputs.as_slice());
-            let mut err = FaultStream::new(rt.alloc(), err, words.json, inputs);
-            explain_command(rt, &words, out, &mut err)
+        Ok(Request::Explain(asked)) => {
+            let inputs = Inputs::Captures(asked.inputs.as_slice());
+            let mut err = FaultStream::new(rt.alloc(), err, asked.json, inputs);
+            let status = explain_command(rt, &asked, out, &mut err);
+            hint_several(rt.alloc(), words, asked.inputs.as_slice(), status, &mut err)
         }
         Ok(Request::Compare(words)) => compare_command(rt, &words, out, err),
-        Ok(Request::Cut(words)) => {
-            let inputs = Inputs::Captures(words.inputs.as_slice());
-            let mut err = FaultStream::new(rt.alloc(), err, words.json, inputs);
-            cut_command(rt, &words, &mut err)
+        Ok(Request::Cut(asked)) => {
+            let inputs = Inputs::Captures(asked.inputs.as_slice());
+            let mut err = FaultStream::new(rt.alloc(), err, asked.json, inputs);
+            let status = cut_command(rt, &asked, &mut err);
+            hint_several(rt.alloc(), words, asked.inputs.as_slice(), status, &mut err)
         }
         Ok(Request::Steps(words)) => {
             let inputs = Inputs::Captures(words.inputs.as_slice());
@@ -73,6 +75,21 @@ fn dispatch<
         Ok(Request::Topic(page)) => print_page(page, out, err),
         Err(error) => report_usage(rt.alloc(), words, error, out, err),
     }
+}
+
+/// Hints on arguments of which several are taken for captures, if the command failed: they may be an expression without quotes. Returns the
+/// exit status.
+fn hint_several<S: AsStr, E: HintSink>(
+    alloc: Global,
+    words: &[S],
+    inputs: &[&str],
+    status: Status,
+    err: &mut E,
+) -> Status {
+    if inputs.len() > 1 && (status == Status::Refused || status == Status::Failed) {
+        hint_unquoted(alloc, words, err);
+    }
+    status
 }
 
 /// Reports what is wrong with the words, or prints help, and answers the exit status.
