@@ -57,7 +57,7 @@ returns-then-place-last-clause-prints g c = λ from header before length given.
     let (shown, here, gives, each) = c.loop-alloc.invariant.prints from header before given in
     let p = c.loop-alloc.reader.lent in
     let one = whole-one c.args.filter.now c.loop-alloc.place p (g.O.Write.contents c.loop-alloc.out) (g.O.Write.contents c.print_whole-printed.new.out) c.print_whole-printed.result (sym c.is_err.ensures.value ∙ c.if-is_err.false)
-        (subst (λ (r : Packet). PrintsWhole c.args.filter.now c.loop-alloc.place r (g.O.Write.contents c.loop-alloc.out) (g.O.Write.contents c.print_whole-printed.new.out) c.print_whole-printed.result) c.packet.ensures c.print_whole-printed.ensures) in
+    (subst (λ (r : Packet). PrintsWhole c.args.filter.now c.loop-alloc.place r (g.O.Write.contents c.loop-alloc.out) (g.O.Write.contents c.print_whole-printed.new.out) c.print_whole-printed.result) c.packet.ensures c.print_whole-printed.ensures) in
     range-whole from _ header c.args.filter.now c.args.first c.args.last c.loop-alloc.place before shown p (g.O.Write.contents c.args.out.now) (g.O.Write.contents c.loop-alloc.out) (g.O.Write.contents c.print_whole-printed.new.out) _ _ _
     c.outcome-then-place-last.ensures.read c.outcome-then-place-last.ensures.printed here c.if-place-last.true c.loop-alloc.invariant.within each one
     (c.given_so_far.ensures from header ((before ++ shown) ++ p ∷ []) gives)
@@ -67,7 +67,7 @@ returns-in-Ok-false-clause-prints g c = λ from header before length given.
     let (shown, here, gives, each) = c.loop-alloc.invariant.prints from header before given in
     let p = c.loop-alloc.reader.lent in
     let one = whole-one c.args.filter.now c.loop-alloc.place p (g.O.Write.contents c.loop-alloc.out) (g.O.Write.contents c.print_whole-printed.new.out) c.print_whole-printed.result (sym c.is_err.ensures.value ∙ c.if-is_err.false)
-        (subst (λ (r : Packet). PrintsWhole c.args.filter.now c.loop-alloc.place r (g.O.Write.contents c.loop-alloc.out) (g.O.Write.contents c.print_whole-printed.new.out) c.print_whole-printed.result) c.packet.ensures c.print_whole-printed.ensures) in
+    (subst (λ (r : Packet). PrintsWhole c.args.filter.now c.loop-alloc.place r (g.O.Write.contents c.loop-alloc.out) (g.O.Write.contents c.print_whole-printed.new.out) c.print_whole-printed.result) c.packet.ensures c.print_whole-printed.ensures) in
     range-ended from _ header c.args.filter.now c.args.first c.args.last c.loop-alloc.place before shown p (g.O.Write.contents c.args.out.now) (g.O.Write.contents c.loop-alloc.out) (g.O.Write.contents c.print_whole-printed.new.out) _ _ _
     c.outcome-in-Ok-false.ensures.read c.outcome-in-Ok-false.ensures.printed here c.if-place-last.false each one
     (c.in-Ok-false.ensures.end from header ((before ++ shown) ++ p ∷ []) gives (ap Ok c.in-Ok-false.field-0-test))
@@ -83,7 +83,7 @@ returns-in-Err-clause-prints g c = λ from header before length given.
     let (shown, here, gives, each) = c.loop-alloc.invariant.prints from header before given in
     let p = c.loop-alloc.reader.lent in
     let one = whole-one c.args.filter.now c.loop-alloc.place p (g.O.Write.contents c.loop-alloc.out) (g.O.Write.contents c.print_whole-printed.new.out) c.print_whole-printed.result (sym c.is_err.ensures.value ∙ c.if-is_err.false)
-        (subst (λ (r : Packet). PrintsWhole c.args.filter.now c.loop-alloc.place r (g.O.Write.contents c.loop-alloc.out) (g.O.Write.contents c.print_whole-printed.new.out) c.print_whole-printed.result) c.packet.ensures c.print_whole-printed.ensures) in
+    (subst (λ (r : Packet). PrintsWhole c.args.filter.now c.loop-alloc.place r (g.O.Write.contents c.loop-alloc.out) (g.O.Write.contents c.print_whole-printed.new.out) c.print_whole-printed.result) c.packet.ensures c.print_whole-printed.ensures) in
     range-stopped from _ header c.args.filter.now c.args.first c.args.last c.loop-alloc.place before shown p (g.O.Write.contents c.args.out.now) (g.O.Write.contents c.loop-alloc.out) (g.O.Write.contents c.print_whole-printed.new.out) _ _ c.in-Err.fault _
     c.outcome-in-Err.ensures.read c.outcome-in-Err.ensures.printed here c.if-place-last.false each one
     (c.in-Err.ensures.cause from header ((before ++ shown) ++ p ∷ []) gives)

@@ -7,7 +7,7 @@ use Rattle.cli_explain.proofs.range.show_range.Goals as goal
 pub returns-in-Ok-true-clause-shows : goal.returns-in-Ok-true-clause-shows
 returns-in-Ok-true-clause-shows g c = λ from header given.
     let (before, here, gives) = goes-found g.R.Source.left from header c.args.first c.go_to.new.reader c.go_to.result
-        (c.in-Ok-true.is ∙ ap Ok c.in-Ok-true.field-0-test) (c.go_to.ensures.goes from header given) in
+    (c.in-Ok-true.is ∙ ap Ok c.in-Ok-true.field-0-test) (c.go_to.ensures.goes from header given) in
     inl (before, here, c.print_range.ensures.prints from header before here gives)
 
 pub returns-in-Ok-true-clause-taken : goal.returns-in-Ok-true-clause-taken
