@@ -280,6 +280,7 @@ fn print_lines<R: Source, O: Write>(
 }
 
 /// Prints the line of a packet.
+#[inline(always)]
 pub(crate) fn print_line<O: Write>(
     alloc: Global,
     asking: &Asking<'_>,

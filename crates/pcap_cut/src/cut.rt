@@ -199,7 +199,8 @@ fn copy_accepted<R: Source, W: Sink>(
 ///
 /// The error is [`Fault::Device`] if and only if the sink failed, or [`Fault::CountFull`] if the text has 2^64 bytes or
 /// more. The sink then took a prefix of the text with this packet.
-#[inline]
+// It is in the loop of each cut, and of each part of a split.
+#[inline(always)]
 pub fn put_accepted<W: Sink>(
     writer: &mut Writer<W>,
     packet: &PacketRef<'_>,
