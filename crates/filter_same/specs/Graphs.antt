@@ -1,9 +1,9 @@
 -- What a decision graph answers, by the bits of a packet.
-use Rattle.std.specs.Prelude.{◌≡◌, ⊤, ℕ, zero, suc, ◌+◌, ◌-◌, ◌*◌, ◌/◌, ◌%◌, ◌^◌, ◌<◌, ◌==◌, ◌&&◌, if◌then◌else◌, nat_lt, Bool, true, false, cond, List, [], ◌∷◌, ◌++◌, Option, Some, None, length, max, slice_index_or}
+use Rattle.std.specs.Prelude.{◌≡◌, ⊤, ℕ, zero, suc, ◌+◌, ◌-◌, ◌*◌, ◌/◌, ◌%◌, ◌^◌, ◌<◌, ◌==◌, ◌&&◌, if◌then◌else◌, nat_lt, nat_le, Bool, true, false, cond, List, [], ◌∷◌, ◌++◌, Option, Some, None, length, min, max, slice_index_or}
 use Rattle.filter_same.specs.declared.answer.Answer.{Answer}
 use Rattle.filter_same.specs.declared.answer.Answer.TheVariants.{Final, Never}
 use Rattle.filter_same.specs.declared.answer.Operation.{Operation}
-use Rattle.filter_same.specs.declared.answer.Operation.TheVariants.{And, Or, Agree, Apart}
+use Rattle.filter_same.specs.declared.answer.Operation.TheVariants.{And, Or, Agree, Apart, Cut}
 use Rattle.filter_same.specs.declared.table.Node.{Node}
 use Rattle.filter_same.specs.declared.table.Node.TheVariants.{Leaf, Branch}
 
@@ -27,11 +27,12 @@ accepted_from Never = None
 accepted_from (Final need false) = None
 accepted_from (Final need true) = Some need
 
-abbrev pub same_threshold : Option ℕ → Option ℕ → Bool
-same_threshold None None = true
-same_threshold None (Some n) = false
-same_threshold (Some n) None = false
-same_threshold (Some n) (Some m) = n == m
+-- whether two answers accept from the same number of captured bytes on: No where they do not, with as many as the first to accept needs
+abbrev pub agree_from : Option ℕ → Option ℕ → Answer
+agree_from None None = Final 0 true
+agree_from None (Some m) = Final m false
+agree_from (Some n) None = Final n false
+agree_from (Some n) (Some m) = if n == m then Final 0 true else Final (min n m) false
 
 -- whether two answers are never Yes and No: No where they are, with as many captured bytes as both need
 abbrev pub apart_answer : Answer → Answer → Answer
@@ -42,12 +43,22 @@ apart_answer (Final need true) (Final more false) = Final (max need more) false
 apart_answer (Final need false) (Final more true) = Final (max need more) false
 apart_answer (Final need false) (Final more false) = Final 0 true
 
--- an operation on two answers; `Agree` answers Yes where both accept from the same number of bytes on, else No
+-- What is left of an answer by a comparison with the length on the wire, which says No where the packet is shorter than so many bytes: a No
+-- that needs as many is Yes, since they cannot be captured.
+abbrev pub cut_answer : Answer → Answer → Answer
+cut_answer Never second = second
+cut_answer (Final size true) second = second
+cut_answer (Final size false) Never = Never
+cut_answer (Final size false) (Final need true) = Final need true
+cut_answer (Final size false) (Final need false) = if nat_le size need then Final 0 true else Final need false
+
+-- an operation on two answers
 abbrev pub joined : Operation → Answer → Answer → Answer
 joined And a b = and_answer a b
 joined Or a b = or_answer a b
-joined Agree a b = Final 0 (same_threshold (accepted_from a) (accepted_from b))
+joined Agree a b = agree_from (accepted_from a) (accepted_from b)
 joined Apart a b = apart_answer a b
+joined Cut a b = cut_answer a b
 
 -- what a node answers at an assignment of bits, by the answers before it
 abbrev pub answer_of : (ℕ → Bool) → List Answer → Node → Answer

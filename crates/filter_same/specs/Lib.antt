@@ -2,3 +2,4 @@ pub mod Graphs
 pub mod Joins
 pub mod Packets
 pub mod Same
+pub mod Findings

@@ -2,8 +2,7 @@
 use Rattle.std.specs.Prelude.{◌≡◌, ⊤, ℕ, ◌-◌, ◌/◌, ◌%◌, ◌^◌, ◌<◌, Bool, true, false, not, List, length, Option, Some, None, nat_lt, nat_le, bit_and, slice_index, if◌then◌else◌}
 use Rattle.filter_meaning.specs.declared.verdict.Verdict.{Verdict}
 use Rattle.filter_meaning.specs.declared.verdict.Verdict.TheVariants.{Abort}
-use Rattle.filter_meaning.specs.Meaning.{Packet, HasBytes, Test, decided, opposite, byte, accepts}
-use Rattle.filter_tree.specs.Trees.{Tree}
+use Rattle.filter_meaning.specs.Meaning.{Packet, HasBytes, Test, decided, opposite, byte}
 use Rattle.filter_same.specs.declared.answer.Answer.{Answer}
 use Rattle.filter_same.specs.declared.answer.Answer.TheVariants.{Final, Never}
 use Rattle.filter_same.specs.declared.answer.Operation.{Operation}
@@ -59,7 +58,3 @@ disjunction false = And
 pub record Means (nodes : List Node) (case : Case) (t : Test) (i : ℕ) : Type 0 where
   pub inside : i < length nodes
   pub says : (p : Packet) → IsPacket p → HasHeader case.header p → verdict_at nodes i p ≡ turned case.wanted (t p)
-
--- two expressions accept the same packets of a header length
-abbrev pub AcceptSameOf : Option ℕ → Tree → Tree → Type 0
-AcceptSameOf header t u = (p : Packet) → IsPacket p → HasHeader header p → accepts t p ≡ accepts u p

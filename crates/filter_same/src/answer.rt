@@ -1,7 +1,7 @@
 //! Answers, and operations on them.
 
 ghost use Rattle.std.specs.Prelude.{◌≡◌, IsTrue};
-ghost use Rattle.filter_same.specs.Graphs.{joined, accepted_from, and_answer, or_answer, apart_answer};
+ghost use Rattle.filter_same.specs.Graphs.{joined, accepted_from, agree_from, and_answer, or_answer, apart_answer, cut_answer};
 ghost use Rattle.filter_same.specs.declared.answer.Answer.{Answer};
 
 /// An answer, and how many captured bytes it needs.
@@ -18,10 +18,13 @@ pub(crate) enum Answer {
 pub(crate) enum Operation {
     And,
     Or,
-    /// Yes where both accept from the same number of captured bytes on, or neither ever does; else No.
+    /// Yes where both accept from the same number of captured bytes on, or neither ever does. Else No, from as many on as the first to
+    /// accept needs.
     Agree,
     /// No where one says Yes and the other No, from as many captured bytes on as both need; else Yes.
     Apart,
+    /// The second answer, but Yes in place of a No that needs N bytes or more, where the first one says No of a packet shorter than N.
+    Cut,
 }
 
 impl Answer {
@@ -61,6 +64,32 @@ impl Answer {
         }
     }
 
+    /// Whether two answers accept from the same number of captured bytes on: No where they do not, from as many on as the first to accept
+    /// needs.
+    fn agree(self, second: Answer) -> Answer
+        ensures { result ≡ agree_from (accepted_from self) (accepted_from second) }
+    {
+        match (self.accepted_from(), second.accepted_from()) {
+            (None, None) => Answer::Final(0, true),
+            (Some(need), None) => Answer::Final(need, false),
+            (None, Some(need)) => Answer::Final(need, false),
+            (Some(need), Some(other)) if need == other => Answer::Final(0, true),
+            (Some(need), Some(other)) => Answer::Final(need.min(other), false),
+        }
+    }
+
+    /// What is left of the second answer where the first one is a comparison of the length on the wire with its need.
+    fn cut(self, second: Answer) -> Answer
+        ensures { result ≡ cut_answer self second }
+    {
+        match (self, second) {
+            (Answer::Final(size, false), Answer::Final(need, false)) if need >= size => {
+                Answer::Final(0, true)
+            }
+            _ => second,
+        }
+    }
+
     /// Whether two answers are never Yes and No: No where they are, from as many captured bytes on as both need.
     fn apart(self, second: Answer) -> Answer
         ensures { result ≡ apart_answer self second }
@@ -85,10 +114,9 @@ impl Operation {
         match self {
             Operation::And => first.and(second),
             Operation::Or => first.or(second),
-            Operation::Agree => {
-                Answer::Final(0, first.accepted_from() == second.accepted_from())
-            }
+            Operation::Agree => first.agree(second),
             Operation::Apart => first.apart(second),
+            Operation::Cut => first.cut(second),
         }
     }
 
@@ -101,6 +129,7 @@ impl Operation {
             (Operation::Or, Answer::Final(_, says)) => says,
             (Operation::Agree, _) => false,
             (Operation::Apart, _) => false,
+            (Operation::Cut, _) => false,
             (_, Answer::Never) => true,
         }
     }
@@ -112,6 +141,7 @@ impl Operation {
         match (self, first) {
             (Operation::And, Answer::Final(0, says)) => says,
             (Operation::Or, Answer::Final(0, says)) => !says,
+            (Operation::Cut, Answer::Final(_, says)) => says,
             _ => false,
         }
     }

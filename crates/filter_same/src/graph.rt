@@ -72,6 +72,13 @@ impl Graph {
         }
     }
 
+    /// How many nodes there are.
+    pub fn len(&self) -> usize
+        ensures { result ≡ length self.now }
+    {
+        self.table.len()
+    }
+
     /// The node at a place.
     pub fn node(&self, place: usize) -> Node
         requires { place < length self.now }

@@ -1,13 +1,14 @@
 //! Two filter expressions decided for every packet.
 //!
-//! [`decide`] says that two expressions accept the same packets, which is then so of every packet there can be, or that it has not
-//! decided it.
+//! [`decide`] says whether two expressions accept the same packets, of every packet there can be, or that it has not decided it.
 #![tactic(auto)]
 
 mod answer;
 mod case;
 mod compare;
+mod cut;
 mod fields;
+mod find;
 mod graph;
 mod plain;
 mod primitives;

@@ -1,14 +1,12 @@
 //! What is decided of two expressions.
 
-ghost use Rattle.std.specs.Prelude.{◌≡◌, ◌<◌, ◌≤◌, length, Ok, IfOk, IfSome, IsTrue};
+ghost use Rattle.std.specs.Prelude.{◌≡◌, ◌≤◌, length, IfOk, IsTrue};
 ghost use Rattle.filter_tree.specs.Trees.{tree_of};
-ghost use Rattle.filter_same.specs.Packets.{AcceptSameOf};
-ghost use Rattle.filter_same.specs.Same.{AcceptSame, AreApart, Holds, packet};
+ghost use Rattle.filter_same.specs.Same.{AreApart, AreNeverApart, IsShort, Holds, packet};
+ghost use Rattle.filter_same.specs.Findings.{Claims};
 
-use crate::answer::{Answer, Operation};
-use crate::case::{Case, Refusal};
-use crate::graph::Graph;
-use crate::trees::tree;
+use crate::case::Refusal;
+use crate::find::{Claim, Finding, find_all};
 use crate::witness::Witness;
 use bpfvm::NoMemory;
 use filter_meaning::{Verdict, evaluate};
@@ -18,7 +16,7 @@ use std::alloc::Global;
 /// Why two expressions are not decided.
 #[derive(Clone, Copy, Debug, PartialEq, Eq)]
 pub enum Cause {
-    /// Their graphs differ. The expressions may accept the same packets, or not.
+    /// Their graphs differ, and no packet was found that shows how the expressions do.
     Graphs,
     /// The budget is spent.
     Budget,
@@ -42,72 +40,6 @@ pub enum Sameness {
     NotDecided(Cause),
 }
 
-/// What is found of the packets of one header length.
-#[derive(Drop)]
-enum Finding {
-    /// Both expressions accept the same.
-    Same,
-    /// Nothing is known.
-    Other,
-    /// Perhaps this packet gets Yes from one of them and No from the other.
-    Apart(Witness),
-}
-
-/// Compares two expressions on the packets of one header length, or on all where none is given and none is asked for.
-fn find(
-    alloc: Global,
-    header: Option<u32>,
-    first: &Expr,
-    second: &Expr,
-    budget: usize,
-) -> Result<Finding, Refusal>
-    requires { IfSome header (λ n. n < 16) }
-    ensures { result ≡ Ok Finding.Same → AcceptSameOf header (tree_of first.now) (tree_of second.now) }
-{
-    let mut graph = Graph::new(alloc, budget);
-    let case = Case {
-        header,
-        wanted: true,
-    };
-    let left = tree(&mut graph, case, first)?;
-    let right = tree(&mut graph, case, second)?;
-    let agree = graph.join(Operation::Agree, left, right)?;
-    if graph.is(agree, Answer::Final(0, true)) {
-        return Ok(Finding::Same);
-    }
-    let apart = graph.join(Operation::Apart, left, right)?;
-    match graph.witness(alloc, apart, header)? {
-        Some(witness) => Ok(Finding::Apart(witness)),
-        None => Ok(Finding::Other),
-    }
-}
-
-/// The same of all header lengths, one after the other, the usual one first.
-fn find_each(alloc: Global, first: &Expr, second: &Expr, budget: usize) -> Result<Finding, Refusal>
-    ensures { result ≡ Ok Finding.Same → AcceptSame (tree_of first.now) (tree_of second.now) }
-{
-    let mut same = true;
-    for place in 0..16 {
-        match find(alloc, Some((place + 5) % 16), first, second, budget)? {
-            Finding::Same => {}
-            Finding::Other => same = false,
-            Finding::Apart(witness) => return Ok(Finding::Apart(witness)),
-        }
-    }
-    Ok(if same { Finding::Same } else { Finding::Other })
-}
-
-/// The same of all packets.
-fn find_all(alloc: Global, first: &Expr, second: &Expr, budget: usize) -> Result<Finding, Refusal>
-    ensures { result ≡ Ok Finding.Same → AcceptSame (tree_of first.now) (tree_of second.now) }
-{
-    match find(alloc, None, first, second, budget) {
-        Err(Refusal::Header) => find_each(alloc, first, second, budget),
-        Err(other) => Err(other),
-        Ok(found) => Ok(found),
-    }
-}
-
 /// Whether a packet gets Yes from one expression and No from the other.
 fn are_apart(first: &Expr, second: &Expr, witness: &Witness) -> bool
     ensures { IsTrue result → AreApart (tree_of first.now) (tree_of second.now) (packet witness.now) }
@@ -117,6 +49,18 @@ fn are_apart(first: &Expr, second: &Expr, witness: &Witness) -> bool
         Verdict::Yes => answer == Verdict::No,
         Verdict::No => answer == Verdict::Yes,
         Verdict::Abort => false,
+    }
+}
+
+/// Whether a packet gets Yes from one expression, on which the other aborts.
+fn is_short(first: &Expr, second: &Expr, witness: &Witness) -> bool
+    ensures { IsTrue result → IsShort (tree_of first.now) (tree_of second.now) (packet witness.now) }
+{
+    let answer = evaluate(first, &witness.bytes, witness.wire);
+    match evaluate(second, &witness.bytes, witness.wire) {
+        Verdict::Yes => answer == Verdict::Abort,
+        Verdict::No => false,
+        Verdict::Abort => answer == Verdict::Yes,
     }
 }
 
@@ -139,17 +83,42 @@ pub fn decide(
     ensures { IfOk result (Holds (tree_of first.now) (tree_of second.now)) }
 {
     match find_all(alloc, first, second, budget) {
-        Ok(Finding::Same) => Ok(Sameness::Same),
-        Ok(Finding::Apart(witness)) => Ok(told(first, second, witness)),
-        Ok(Finding::Other) => Ok(Sameness::NotDecided(Cause::Graphs)),
+        Ok(found) => Ok(sameness_of(first, second, found)),
         Err(Refusal::Memory) => Err(NoMemory),
         Err(Refusal::Relation) => Ok(Sameness::NotDecided(Cause::Relation)),
         Err(_) => Ok(Sameness::NotDecided(Cause::Budget)),
     }
 }
 
+/// What is known by a finding, once `evaluate` has judged its packet.
+fn sameness_of(first: &Expr, second: &Expr, found: Finding) -> Sameness
+    requires { Claims (tree_of first.now) (tree_of second.now) found.claim }
+    ensures { Holds (tree_of first.now) (tree_of second.now) result }
+{
+    let Finding { claim, witness } = found;
+    match (claim, witness) {
+        (Claim::Same, _) => Sameness::Same,
+        (Claim::SameAsCaptured, _) => Sameness::SameAsCaptured,
+        (Claim::NeverApart, Some(witness)) => short(first, second, witness),
+        (Claim::Nothing, Some(witness)) => apart(first, second, witness),
+        (_, None) => Sameness::NotDecided(Cause::Graphs),
+    }
+}
+
+/// What a packet shows of two expressions that are never apart.
+fn short(first: &Expr, second: &Expr, witness: Witness) -> Sameness
+    requires { AreNeverApart (tree_of first.now) (tree_of second.now) }
+    ensures { Holds (tree_of first.now) (tree_of second.now) result }
+{
+    if is_captured(&witness) && is_short(first, second, &witness) {
+        Sameness::Short(witness)
+    } else {
+        Sameness::NotDecided(Cause::Graphs)
+    }
+}
+
 /// What a packet shows of two expressions.
-fn told(first: &Expr, second: &Expr, witness: Witness) -> Sameness
+fn apart(first: &Expr, second: &Expr, witness: Witness) -> Sameness
     ensures { Holds (tree_of first.now) (tree_of second.now) result }
 {
     if is_captured(&witness) && are_apart(first, second, &witness) {

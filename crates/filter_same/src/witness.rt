@@ -18,6 +18,15 @@ pub struct Witness {
     pub wire: u32,
 }
 
+/// How much of a packet is captured.
+#[derive(Clone, Copy, Debug, PartialEq, Eq)]
+pub(crate) enum Extent {
+    /// The whole packet, if it is not long.
+    Whole,
+    /// No more than an answer needs.
+    Least,
+}
+
 /// A bit by its name, and what it is.
 #[derive(Clone, Copy, Debug)]
 struct Bit {
@@ -97,12 +106,13 @@ impl Graph {
         }
     }
 
-    /// A packet whose bits lead from a node to a No, with as many captured bytes as that needs, if there is one.
+    /// A packet whose bits lead from a node to a No, with as many captured bytes as that needs or more, if there is one.
     pub fn witness(
         &self,
         alloc: Global,
         from: usize,
         header: Option<u32>,
+        extent: Extent,
     ) -> Result<Option<Witness>, Stop>
         requires from { from < length self.now }
         requires header { IfSome header (λ n. n < 16) }
@@ -115,7 +125,7 @@ impl Graph {
             return Ok(None);
         };
         let wire = wire_of(&bits, need);
-        let bytes = frame(alloc, &bits, plain, captured(wire, need))?;
+        let bytes = frame(alloc, &bits, plain, extent.captured(wire, need))?;
         Ok(Some(Witness { bytes, wire }))
     }
 }
@@ -142,9 +152,15 @@ fn wire_of(bits: &[Bit], need: u32) -> u32 {
     wire_from(bits, u32::MAX)
 }
 
-/// How many bytes are captured: the whole packet, if it is not long, and at least `need`.
-fn captured(wire: u32, need: u32) -> u32 {
-    if wire > LONGEST { need } else { wire.max(need) }
+impl Extent {
+    /// How many bytes of a packet are captured, at least `need`.
+    fn captured(self, wire: u32, need: u32) -> u32 {
+        if self == Extent::Least || wire > LONGEST {
+            need
+        } else {
+            wire.max(need)
+        }
+    }
 }
 
 /// A frame of so many bytes with these bits, which is else the plain one.

@@ -97,13 +97,6 @@ fn decided(
 fn what_is_not_decided_has_a_cause(rt: HostRuntime) {
     decided(
         &rt,
-        "ip",
-        "ip and greater 14",
-        1000,
-        Sameness::NotDecided(Cause::Graphs),
-    );
-    decided(
-        &rt,
         "tcp",
         "ip proto 6",
         3,

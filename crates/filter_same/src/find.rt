@@ -1,0 +1,174 @@
+//! What the graphs of two expressions show.
+
+ghost use Rattle.std.specs.Prelude.{◌≡◌, ℕ, ◌<◌, Bool, length, Some, true, IsTrue, IfOk, IfSome};
+ghost use Rattle.filter_tree.specs.Trees.{Tree, tree_of};
+ghost use Rattle.filter_meaning.specs.Meaning.{Packet, meaning};
+ghost use Rattle.filter_same.specs.declared.answer.Answer.TheVariants.{Final};
+ghost use Rattle.filter_same.specs.Graphs.{answer};
+ghost use Rattle.filter_same.specs.Packets.{Means};
+ghost use Rattle.filter_same.specs.Findings.{ClaimOf, ClaimsOf, Claims};
+
+use crate::answer::{Answer, Operation};
+use crate::case::{Case, Refusal};
+use crate::graph::Graph;
+use crate::table::Stop;
+use crate::trees::tree;
+use crate::witness::{Extent, Witness};
+use filter_tree::Expr;
+use std::alloc::Global;
+
+/// What is so of two expressions. Each claim is so where the one before it is.
+#[derive(Clone, Copy, Debug, PartialEq, Eq)]
+pub(crate) enum Claim {
+    /// They accept the same packets.
+    Same,
+    /// The same of packets of which no more was captured than was on the wire.
+    SameAsCaptured,
+    /// No packet of those gets Yes from one and No from the other.
+    NeverApart,
+    /// Nothing is claimed.
+    Nothing,
+}
+
+/// What is found of two expressions: what is so of them, and a packet that perhaps shows that no more is.
+#[derive(Drop)]
+pub(crate) struct Finding {
+    pub claim: Claim,
+    pub witness: Option<Witness>,
+}
+
+impl Claim {
+    /// The one of two claims that says less.
+    fn weaker(self, other: Claim) -> Claim
+        ensures first { (t u : Tree) → (p : Packet) → ClaimOf t u self p → ClaimOf t u result p }
+        ensures second { (t u : Tree) → (p : Packet) → ClaimOf t u other p → ClaimOf t u result p }
+    {
+        match (self, other) {
+            (Claim::Nothing, _) => self,
+            (_, Claim::Nothing) => other,
+            (Claim::NeverApart, _) => self,
+            (_, Claim::NeverApart) => other,
+            (Claim::SameAsCaptured, _) => self,
+            (Claim::Same, _) => other,
+        }
+    }
+}
+
+impl Graph {
+    /// Whether a node says Yes of everything.
+    fn is_always(&self, place: usize) -> bool
+        requires { place < length self.now }
+        ensures { IsTrue result → (v : ℕ → Bool) → answer self.now v place ≡ Final 0 true }
+    {
+        self.is(place, Answer::Final(0, true))
+    }
+}
+
+/// Compares two expressions on the packets of one header length, by the nodes that they are.
+#[tactic(auto, using(crate::proofs::Tables::grown_more, crate::proofs::Tables::grown_inside))]
+fn find_in(
+    graph: &mut Graph,
+    alloc: Global,
+    header: Option<u32>,
+    left: usize,
+    right: usize,
+) -> Result<Finding, Stop>
+    requires header { IfSome header (λ n. n < 16) }
+    requires left { left < length graph.old }
+    requires right { right < length graph.old }
+    ensures { IfOk result (λ found. (t u : Tree) → Means graph.old (record { header = header; wanted = true }) (meaning t) left
+        → Means graph.old (record { header = header; wanted = true }) (meaning u) right → ClaimsOf header t u found.claim) }
+{
+    let agree = graph.join(Operation::Agree, left, right)?;
+    if graph.is_always(agree) {
+        return Ok(Finding {
+            claim: Claim::Same,
+            witness: None,
+        });
+    }
+    let short = graph.cut(agree)?;
+    if graph.is_always(short) {
+        return Ok(Finding {
+            claim: Claim::SameAsCaptured,
+            witness: None,
+        });
+    }
+    let apart = graph.join(Operation::Apart, left, right)?;
+    let clash = graph.cut(apart)?;
+    if graph.is_always(clash) {
+        return Ok(Finding {
+            claim: Claim::NeverApart,
+            witness: graph.witness(alloc, short, header, Extent::Least)?,
+        });
+    }
+    Ok(Finding {
+        claim: Claim::Nothing,
+        witness: graph.witness(alloc, clash, header, Extent::Whole)?,
+    })
+}
+
+/// Compares two expressions on the packets of one header length, or on all where none is given and none is asked for.
+fn find(
+    alloc: Global,
+    header: Option<u32>,
+    first: &Expr,
+    second: &Expr,
+    budget: usize,
+) -> Result<Finding, Refusal>
+    requires { IfSome header (λ n. n < 16) }
+    ensures { IfOk result (λ found. ClaimsOf header (tree_of first.now) (tree_of second.now) found.claim) }
+{
+    let mut graph = Graph::new(alloc, budget);
+    let case = Case {
+        header,
+        wanted: true,
+    };
+    let left = tree(&mut graph, case, first)?;
+    let right = tree(&mut graph, case, second)?;
+    let found = find_in(&mut graph, alloc, header, left, right)?;
+    Ok(found)
+}
+
+/// The same of all header lengths, one after the other, the usual one first.
+fn find_each(alloc: Global, first: &Expr, second: &Expr, budget: usize) -> Result<Finding, Refusal>
+    ensures { IfOk result (λ found. Claims (tree_of first.now) (tree_of second.now) found.claim) }
+{
+    let mut least = Claim::Same;
+    let mut shown = None;
+    for place in 0..16 {
+        let header = Some((place + 5) % 16);
+        let found = find(alloc, header, first, second, budget)?;
+        let Finding { claim, witness } = found;
+        if claim == Claim::Nothing {
+            return Ok(Finding {
+                claim: Claim::Nothing,
+                witness,
+            });
+        }
+        least = least.weaker(claim);
+        if shown.is_none() {
+            shown = witness;
+        }
+    }
+    Ok(Finding {
+        claim: least,
+        witness: shown,
+    })
+}
+
+/// The same of all packets.
+#[tactic(auto, using(crate::proofs::Ends::no_header))]
+pub(crate) fn find_all(
+    alloc: Global,
+    first: &Expr,
+    second: &Expr,
+    budget: usize,
+) -> Result<Finding, Refusal>
+    ensures { IfOk result (λ found. Claims (tree_of first.now) (tree_of second.now) found.claim) }
+{
+    match find(alloc, None, first, second, budget) {
+        Err(Refusal::Header) => find_each(alloc, first, second, budget),
+        Err(other) => Err(other),
+        Ok(found) => Ok(found),
+    }
+}
