@@ -70,8 +70,16 @@ fn dispatch<
             let mut err = FaultStream::new(rt.alloc(), err, words.json, inputs);
             steps_command(rt, &words, out, &mut err)
         }
-        Ok(Request::Run(words)) => run_command(rt, &words, out, err),
-        Ok(Request::Split(words)) => split_command(rt, &words, out, err),
+        Ok(Request::Run(words)) => {
+            let inputs = Inputs::Interfaces(words.inputs.as_slice());
+            let mut err = FaultStream::new(rt.alloc(), err, words.json, inputs);
+            run_command(rt, &words, out, &mut err)
+        }
+        Ok(Request::Split(words)) => {
+            let inputs = Inputs::Captures(words.inputs.as_slice());
+            let mut err = FaultStream::new(rt.alloc(), err, words.json, inputs);
+            split_command(rt, &words, out, &mut err)
+        }
         Ok(Request::Topic(page)) => print_page(page, out, err),
         Err(error) => report_usage(rt.alloc(), words, error, out, err),
     }

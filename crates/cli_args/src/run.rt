@@ -10,6 +10,8 @@ use std::alloc::{AllocError, Global};
 pub struct RunWords<'a> {
     /// The path of LISTENERS.
     pub listeners: &'a str,
+    /// Whether JSON Lines are printed.
+    pub json: bool,
     /// The paths of the captures of each interface, in order.
     pub inputs: Vec<Vec<&'a str>>,
 }
@@ -29,14 +31,20 @@ that is stored can be read at once.
 its OUT as soon as its writer has nothing more to write, so an OUT can be followed: with FLUSH 1,
 or with an i, packet by packet. Threads that wait for captures take no processor.
 
+At the end run prints a line for each listener: how many packets it received, matched, dropped and
+wrote, and Clean, Write B or Unfinished. With --json the line is an object of JSON, whose end is
+clean, write (with the bytes of OUT) or unfinished.
+
 Examples:
   bpftap run examples/run/listeners.txt examples/veth.pcap
   bpftap run examples/run/two.txt examples/veth.pcap + examples/veth-big-nano.pcap
+  bpftap run --json examples/run/listeners.txt examples/veth.pcap | jq .dropped
 
 Exit status: 0 clean; 1 bad usage, invalid input, an Unfinished listener, or out of memory; 2 a
 torn or bad record, after the packets before it; 3 a file or device failed.";
 
-static ARGUMENTS: [Argument; 2] = [
+static ARGUMENTS: [Argument; 3] = [
+    Argument::Json,
     Argument::Path(
         "LISTENERS",
         "File with a line INTERFACE FLUSH SNAP CAPACITY SPARES OUT EXPRESSION for each listener",
@@ -83,6 +91,7 @@ pub fn run_words<'a>(
     };
     Ok(Some(RunWords {
         listeners,
+        json: matches.get_flag("json"),
         inputs: by_interface(alloc, inputs)?,
     }))
 }

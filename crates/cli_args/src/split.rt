@@ -16,6 +16,8 @@ pub struct SplitWords<'a> {
     pub order: Order,
     /// The unit of time of each OUT.
     pub unit: Unit,
+    /// Whether JSON Lines are printed.
+    pub json: bool,
     /// The paths of the captures, in order.
     pub inputs: Vec<&'a str>,
 }
@@ -26,18 +28,21 @@ const SPLIT_EXAMPLES: &str =
 one after the other, up to the first fault; each IN is read once. A packet that several lines
 accept goes into each of their OUTs, and one that none accepts into none.
 
-split prints a line OUT 67 of 253 for each: 67 of the 253 packets were written.
+split prints a line OUT 67 of 253 for each: 67 of the 253 packets were written. With --json the
+line is an object of JSON: {\"file\":\"OUT\",\"kept\":67,\"packets\":253}.
 
 Examples:
   bpftap split examples/split/lines.txt examples/veth.pcap
   bpftap split examples/split/lines.txt examples/veth.pcap examples/veth-big-nano.pcap
+  bpftap split --json examples/split/lines.txt examples/veth.pcap | jq .kept
 
 Exit status: 0 clean; 1 bad usage, invalid input, or out of memory; 2 a torn or bad record, after
 the packets before it; 3 a file or device failed.";
 
-static ARGUMENTS: [Argument; 4] = [
+static ARGUMENTS: [Argument; 5] = [
     Argument::Order,
     Argument::Unit,
+    Argument::Json,
     Argument::Path(
         "LINES",
         "File with a line SNAP OUT EXPRESSION for each capture to write",
@@ -71,6 +76,7 @@ pub fn split_words<'a>(
         lines,
         order: order_of(matches),
         unit: unit_of(matches),
+        json: matches.get_flag("json"),
         inputs: Vec::from_slice(alloc, inputs)?,
     }))
 }

@@ -1,8 +1,11 @@
--- The text that is printed of a split.
+-- What is printed of a split, as text and as JSON Lines.
 use Rattle.std.specs.Prelude.{ℕ, List, [], ◌++◌, Option, Some, None, Result, Ok, Err, codes, slice_get, if◌then◌else◌}
 use Rattle.std.specs.Fmt.{decimal}
 use Rattle.savefile.specs.declared.fault.Fault.{Fault}
 use Rattle.pcap_cut.specs.declared.cut.Tally.{Tally}
+use Rattle.cli_json.specs.declared.form.LineForm.{LineForm}
+use Rattle.cli_json.specs.declared.form.LineForm.TheVariants.{Text, Json}
+use Rattle.cli_json.specs.Strings.{json_string}
 use Rattle.cli_text.specs.Telling.{end_of_line}
 use Rattle.cli_text.specs.Texts.{numbered}
 use Rattle.cli_split.specs.declared.part.PartEnd.{PartEnd}
@@ -10,17 +13,26 @@ use Rattle.cli_split.specs.declared.plan.SplitLine.{SplitLine}
 use Rattle.cli_split.specs.declared.split.SplitEnd.{SplitEnd}
 use Rattle.cli_split.specs.Splitting.{passes_header}
 
--- ` 67 of 253`, and the end of the line
-abbrev pub count_text : Tally → List ℕ
-count_text tally = codes " " ++ decimal tally.written ++ codes " of " ++ decimal tally.read ++ end_of_line
+-- `OUT 67 of 253`
+unfoldable pub count_text : List ℕ → Tally → List ℕ
+count_text output tally = output ++ codes " " ++ decimal tally.written ++ codes " of " ++ decimal tally.read ++ end_of_line
+
+-- `{"file":"OUT","kept":67,"packets":253}`
+unfoldable pub count_object : List ℕ → Tally → List ℕ
+count_object output tally = codes "{\"file\":" ++ json_string output ++ codes ",\"kept\":" ++ decimal tally.written
+    ++ codes ",\"packets\":" ++ decimal tally.read ++ codes "}" ++ end_of_line
+
+abbrev pub count_line : LineForm → List ℕ → Tally → List ℕ
+count_line Text output tally = count_text output tally
+count_line Json output tally = count_object output tally
 
 -- the line of a part with this OUT, where it was written whole
-abbrev pub told_part : List ℕ → Tally → Result (Unit {0}) Fault → List ℕ
-told_part output tally (Ok done) = output ++ count_text tally
-told_part output tally (Err fault) = []
+abbrev pub told_part : LineForm → List ℕ → Tally → Result (Unit {0}) Fault → List ℕ
+told_part form output tally (Ok done) = count_line form output tally
+told_part form output tally (Err fault) = []
 
-abbrev pub part_line : {W : Type 0} → List ℕ → PartEnd W → List ℕ
-part_line output part = told_part output part.tally part.written
+abbrev pub part_line : {W : Type 0} → LineForm → List ℕ → PartEnd W → List ℕ
+part_line form output part = told_part form output part.tally part.written
 
 -- the OUT of a line
 abbrev pub output_of : Option SplitLine → List ℕ
@@ -28,9 +40,9 @@ output_of None = []
 output_of (Some line) = line.output.now
 
 -- the line of the n-th part, from 0, whose OUT is that of the n-th line
-abbrev pub line_text : {W : Type 0} → List SplitLine → ℕ → PartEnd W → List ℕ
-line_text lines n part = part_line (output_of (slice_get lines n)) part
+abbrev pub line_text : {W : Type 0} → LineForm → List SplitLine → ℕ → PartEnd W → List ℕ
+line_text form lines n part = part_line form (output_of (slice_get lines n)) part
 
 -- the lines of all parts, where these were begun
-abbrev pub printed_split : {R W : Type 0} → List SplitLine → SplitEnd R W → List ℕ
-printed_split lines end = if passes_header end.end then numbered (line_text lines) 0 end.parts.items else []
+abbrev pub printed_split : {R W : Type 0} → LineForm → List SplitLine → SplitEnd R W → List ℕ
+printed_split form lines end = if passes_header end.end then numbered (line_text form lines) 0 end.parts.items else []

@@ -2,6 +2,7 @@
 use Rattle.std.specs.Prelude.{◌≡◌, List, ℕ, Option, fold, Result, Ok, Err}
 use Rattle.std.specs.declared.io.Error.{Error}
 use Rattle.savefile.specs.declared.fault.Fault.{Fault}
+use Rattle.cli_json.specs.declared.form.LineForm.{LineForm}
 use Rattle.cli_text.specs.Sending.{Takes}
 use Rattle.cli_text.specs.Status.{greater}
 use Rattle.cli_text.specs.Telling.{fault_status, print_status_of}
@@ -34,7 +35,7 @@ abbrev pub split_status : {R W : Type 0} → SplitEnd R W → Status
 split_status end = greater (parts_status end.parts.items) (stop_status end.end)
 
 -- The lines were printed: all of them, or a prefix if standard output failed. The status is the greatest of all.
-pub record ReportsSplit {R W : Type 0} (lines : List SplitLine) (end : SplitEnd R W) (old new : Option (List ℕ)) (status : Status) : Type 0 where
+pub record ReportsSplit {R W : Type 0} (form : LineForm) (lines : List SplitLine) (end : SplitEnd R W) (old new : Option (List ℕ)) (status : Status) : Type 0 where
   pub printed : Result (Unit {0}) Error
-  pub prints : Takes old new printed (printed_split lines end)
+  pub prints : Takes old new printed (printed_split form lines end)
   pub greatest : status ≡ greater (print_status_of printed) (split_status end)

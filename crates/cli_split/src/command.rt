@@ -1,6 +1,7 @@
 //! `bpftap split`, over files.
 
 use crate::hints::hint_split;
+use crate::line::line_for;
 use crate::part::{Part, PartEnd};
 use crate::paths::{SplitOutput, check_paths, parts};
 use crate::plan::{MAX_LINES, SplitLine, fault_text, read_plan};
@@ -12,6 +13,7 @@ use cli_files::captures::{Input, inputs, output_buffer};
 use cli_files::reading::read_file;
 use cli_filter::plan::{Plan, PlanFault};
 use cli_filter::plan_hints::hint_plan;
+use cli_json::LineForm;
 use cli_report::HintSink;
 use cli_report::failures::hint_printed;
 use cli_report::files::{LINES, hint_returns};
@@ -81,6 +83,15 @@ fn split_lines<'r, 'p, R: Files>(
     split_flushed(alloc, captures, parts, words.order, words.unit)
 }
 
+/// The form of the lines that are printed.
+fn form_of(words: &SplitWords<'_>) -> LineForm {
+    if words.json {
+        LineForm::Json
+    } else {
+        LineForm::Text
+    }
+}
+
 /// Splits the captures as the plan says, and prints how many packets each part has.
 fn split_plan<R: Files + AllocGlobal, O: Write, E: HintSink>(
     rt: &R,
@@ -90,11 +101,15 @@ fn split_plan<R: Files + AllocGlobal, O: Write, E: HintSink>(
     err: &mut E,
 ) -> Result<Status, Status> {
     let Plan { lines, programs } = plan;
-    let mut out = output_buffer(rt.alloc(), &mut *out, err)?;
-    let Ok(end) = split_lines(rt, rt.alloc(), words, lines.as_slice(), programs) else {
+    let (alloc, form) = (rt.alloc(), form_of(words));
+    let mut out = output_buffer(alloc, &mut *out, err)?;
+    let Ok(mut line) = line_for(alloc, form, lines.as_slice()) else {
         return Err(report_fault(Fault::NoMemory, Status::Refused, err));
     };
-    let status = report_split(lines.as_slice(), &end, &mut out, err);
+    let Ok(end) = split_lines(rt, alloc, words, lines.as_slice(), programs) else {
+        return Err(report_fault(Fault::NoMemory, Status::Refused, err));
+    };
+    let status = report_split(form, lines.as_slice(), &end, &mut line, &mut out, err);
     hint_split(words.inputs.as_slice(), lines.as_slice(), &end, err);
     hint_printed(out.get_ref(), err);
     Ok(status)

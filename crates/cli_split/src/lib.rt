@@ -3,6 +3,7 @@
 
 pub mod command;
 pub mod hints;
+pub mod line;
 pub mod part;
 mod paths;
 pub mod plan;

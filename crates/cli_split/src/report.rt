@@ -1,45 +1,38 @@
 //! What `bpftap split` prints of each OUT, what it reports, and its exit status.
 
-ghost use Rattle.std.specs.Prelude.{◌≡◌, OnOk, slice_get};
+ghost use Rattle.std.specs.Prelude.{◌≡◌, slice_get};
 ghost use Rattle.cli_text.specs.Sending.{Takes};
 ghost use Rattle.cli_text.specs.Texts.{numbered};
-ghost use Rattle.cli_split.specs.Printed.{count_text, line_text, output_of, part_line, printed_split};
+ghost use Rattle.cli_split.specs.Printed.{line_text, output_of, part_line, printed_split};
 ghost use Rattle.cli_split.specs.Splitting.{passes_header};
 ghost use Rattle.cli_split.specs.Statuses.{ReportsSplit, parts_status, split_status, stop_status, written_status};
 
+use crate::line::put_count;
 use crate::part::PartEnd;
 use crate::plan::SplitLine;
 use crate::split::{SplitEnd, Stop};
+use cli_json::LineForm;
 use cli_text::report::{fault_status, print_status, report_device, report_fault, report_output};
 use cli_text::sending::send;
-use cli_text::{CaptureFaultText, Line, Status};
-use pcap_cut::cut::Tally;
+use cli_text::{CaptureFaultText, Status};
 use savefile::Fault;
 use std::io;
 use std::io::Write;
 
-/// Puts how many of how many packets were written, and the end of the line, in place of what the line has.
-fn put_count(line: &mut Line, tally: Tally) -> io::Result<()>
-    ensures { OnOk result (line.new ≡ count_text tally) }
-{
-    line.clear();
-    writeln!(line, " {} of {}", tally.written, tally.read)
-}
-
 /// The line of a part that was written whole; no line of another one.
 fn write_part<W, O: Write>(
+    form: LineForm,
     output: &str,
     part: &PartEnd<W>,
-    line: &mut Line,
+    line: &mut String,
     out: &mut O,
 ) -> io::Result<()>
-    ensures { Takes (O.contents out.old) (O.contents out.new) result (part_line output.now part.now) }
+    ensures { Takes (O.contents out.old) (O.contents out.new) result (part_line form output.now part.now) }
 {
     if part.written.is_err() {
         return Ok(());
     }
-    send(output.as_bytes(), out)?;
-    put_count(line, part.tally)?;
+    put_count(form, line, output, part.tally)?;
     send(line.as_bytes(), out)
 }
 
@@ -55,15 +48,16 @@ fn output_at<'a>(lines: &[SplitLine<'a>], n: usize) -> &'a str
 
 /// The lines of all parts.
 fn write_parts<W, O: Write>(
+    form: LineForm,
     lines: &[SplitLine<'_>],
     parts: &[PartEnd<W>],
+    line: &mut String,
     out: &mut O,
 ) -> io::Result<()>
-    ensures { Takes (O.contents out.old) (O.contents out.new) result (numbered (line_text lines.now) 0 parts.now) }
+    ensures { Takes (O.contents out.old) (O.contents out.new) result (numbered (line_text form lines.now) 0 parts.now) }
 {
-    let mut line = Line::new();
     for (n, part) in parts.iter().enumerate() {
-        write_part(output_at(lines, n), part, &mut line, out)?;
+        write_part(form, output_at(lines, n), part, line, out)?;
     }
     Ok(())
 }
@@ -80,16 +74,18 @@ pub fn was_begun(end: Result<(), Stop>) -> bool
 
 /// Prints the lines of all parts that were started, and all that the writer has gathered of them.
 fn print_split<R, W, O: Write>(
+    form: LineForm,
     lines: &[SplitLine<'_>],
     end: &SplitEnd<R, W>,
+    line: &mut String,
     out: &mut O,
 ) -> io::Result<()>
-    ensures { Takes (O.contents out.old) (O.contents out.new) result (printed_split lines.now end.now) }
+    ensures { Takes (O.contents out.old) (O.contents out.new) result (printed_split form lines.now end.now) }
 {
     if !was_begun(end.end) {
         return Ok(());
     }
-    write_parts(lines, end.parts.as_slice(), out)?;
+    write_parts(form, lines, end.parts.as_slice(), line, out)?;
     out.flush()
 }
 
@@ -142,22 +138,28 @@ pub fn report_faults<R, W, E: Write>(
     parts.max(report_stop(end.end, err))
 }
 
-/// Prints a line `OUT 67 of 253` for each part that was written whole, in the order of the lines: how many of how many packets. If the
-/// header of the first capture was not read it prints nothing. Then it reports that standard output failed, if it did; the OUT of each
-/// part that was not written whole; and what ended the reading. It returns the greatest of the statuses of these.
+/// Prints a line `OUT 67 of 253` for each part that was written whole, in the order of the lines: how many of how many packets; as JSON an
+/// object `{"file":"OUT","kept":67,"packets":253}`. If the header of the first capture was not read it prints nothing. Then it reports
+/// that standard output failed, if it did; the OUT of each part that was not written whole; and what ended the reading. It returns the
+/// greatest of the statuses of these.
+///
+/// `line` is that of [`line_for`](crate::line::line_for), so that no memory is needed: if more were, and it is refused, that counts as
+/// standard output that failed.
 ///
 /// `out` took exactly these lines, or a prefix of them if it failed; then the status is [`Status::Failed`]. The status of a part is that of
 /// its fault, [`Status::Failed`] if its sink failed. So is that of a capture: [`Status::Failed`] if its source failed, and
 /// [`Status::Damaged`] for the fault of a record.
 pub fn report_split<R, W, O: Write, E: Write>(
+    form: LineForm,
     lines: &[SplitLine<'_>],
     end: &SplitEnd<R, W>,
+    line: &mut String,
     out: &mut O,
     err: &mut E,
 ) -> Status
-    ensures { ReportsSplit lines.now end.now (O.contents out.old) (O.contents out.new) result }
+    ensures { ReportsSplit form lines.now end.now (O.contents out.old) (O.contents out.new) result }
 {
-    let printed = print_split(lines, end, out);
+    let printed = print_split(form, lines, end, line, out);
     let _ = report_output(&printed, err);
     print_status(&printed).max(report_faults(lines, end, err))
 }

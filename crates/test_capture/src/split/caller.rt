@@ -4,6 +4,8 @@ use crate::same::same;
 use crate::split::{item, text_of};
 use bpfvm::Program;
 use cli_filter::plan::Plan;
+use cli_json::LineForm;
+use cli_split::line::line_for;
 use cli_split::part::{Part, PartEnd};
 use cli_split::plan::{SplitLine, read_plan};
 use cli_split::report::report_split;
@@ -56,10 +58,18 @@ fn split_texts(
     let alloc: Global = rt.alloc();
     let Plan { lines, programs } = read_plan(alloc, lines).expect(rt, "each line has its form");
     let parts = parts_of(rt, lines.as_slice(), programs);
+    let mut line = line_for(alloc, LineForm::Text, lines.as_slice()).expect(rt, "memory");
     let captures = Vec::from_slice(alloc, texts).expect(rt, "memory");
     let end = split(alloc, captures, parts, Order::Little, Unit::Micro).expect(rt, "memory");
     let (mut out, mut err) = (Vec::new(alloc), Vec::new(alloc));
-    let status = report_split(lines.as_slice(), &end, &mut out, &mut err);
+    let status = report_split(
+        LineForm::Text,
+        lines.as_slice(),
+        &end,
+        &mut line,
+        &mut out,
+        &mut err,
+    );
     assert_eq!(rt; status, Status::Clean);
     (out, written_of(rt, end.parts))
 }

@@ -1,6 +1,8 @@
 //! What is printed and reported of a split.
 
 use crate::same::same;
+use cli_json::LineForm;
+use cli_split::line::line_for;
 use cli_split::part::PartEnd;
 use cli_split::plan::read_plan;
 use cli_split::report::report_split;
@@ -46,13 +48,16 @@ fn end_of(
 /// What is reported of an end, the status, and what is printed into a writer.
 fn told<O: Write>(
     rt: &(impl Abort + AllocGlobal),
+    form: LineForm,
     end: SplitEnd<(), ()>,
     out: &mut O,
 ) -> (Status, Vec<u8>) {
     let alloc: Global = rt.alloc();
     let mut err = Vec::new(alloc);
     let plan = read_plan(alloc, LINES).expect(rt, "each line has its form");
-    let status = report_split(plan.lines.as_slice(), &end, out, &mut err);
+    let lines = plan.lines.as_slice();
+    let mut line = line_for(alloc, form, lines).expect(rt, "memory");
+    let status = report_split(form, lines, &end, &mut line, out, &mut err);
     (status, err)
 }
 
@@ -125,7 +130,7 @@ static CASES: [Case; 8] = [
 fn is_told(rt: &(impl Abort + AllocGlobal), case: Case) {
     let (written, end, printed, err, status) = case;
     let mut out = Vec::new(rt.alloc());
-    let (found, told) = told(rt, end_of(rt, written, end), &mut out);
+    let (found, told) = told(rt, LineForm::Text, end_of(rt, written, end), &mut out);
     same(rt, out.as_slice(), printed.as_bytes());
     same(rt, (told.as_slice(), found), (err.as_bytes(), status));
 }
@@ -143,7 +148,7 @@ fn standard_output_that_fails_is_reported_first(rt: HostRuntime) {
     let mut out = BreakingWriter { taken, room: 10 };
     let stop = Err(Stop::AtRecord(0, Fault::TooLong(9)));
     let end = end_of(&rt, [Ok(()), Ok(())], stop);
-    let (status, err) = told(&rt, end, &mut out);
+    let (status, err) = told(&rt, LineForm::Text, end, &mut out);
     same(&rt, out.taken.as_slice(), b"a.pcap 0 o".as_slice());
     let wanted = b"bpftap: Device standard output\nbpftap: Capture 0 TooLong 9\n";
     same(
@@ -158,9 +163,25 @@ fn lines_that_are_not_sent_on_are_a_device_fault(rt: HostRuntime) {
     let taken = Vec::new(rt.alloc());
     let mut out = UnflushedWriter { taken };
     let end = end_of(&rt, [Ok(()), Ok(())], Ok(()));
-    let (status, err) = told(&rt, end, &mut out);
+    let (status, err) = told(&rt, LineForm::Text, end, &mut out);
     same(&rt, out.taken.as_slice(), BOTH.as_bytes());
     let wanted = b"bpftap: Device standard output\n";
+    same(
+        &rt,
+        (err.as_slice(), status),
+        (wanted.as_slice(), Status::Failed),
+    );
+}
+
+#[test]
+fn a_part_is_an_object(rt: HostRuntime) {
+    let mut out = Vec::new(rt.alloc());
+    let stop = Err(Stop::AtRecord(0, Fault::TooLong(9)));
+    let end = end_of(&rt, [Err(Fault::Device), Ok(())], stop);
+    let (status, err) = told(&rt, LineForm::Json, end, &mut out);
+    let object = b"{\"file\":\"b.pcap\",\"kept\":1,\"packets\":9}\n";
+    same(&rt, out.as_slice(), object.as_slice());
+    let wanted = b"bpftap: Device a.pcap\nbpftap: Capture 0 TooLong 9\n";
     same(
         &rt,
         (err.as_slice(), status),
