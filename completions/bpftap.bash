@@ -20,9 +20,9 @@ _bpftap_options() {
     check) echo '-d -x --json -s -f -h --help' ;;
     explain) echo '-s -e -f -p -q --json -h --help' ;;
     compare) echo '-s -f -q -w -h --help' ;;
-    run) echo '-h --help' ;;
+    run) echo '--json -h --help' ;;
     cut) echo '-s -e -f -o -u -c --json -h --help' ;;
-    split) echo '-o -u -h --help' ;;
+    split) echo '-o -u --json -h --help' ;;
     steps) echo '-v -p --json -h --help' ;;
   esac
 }

@@ -51,6 +51,7 @@ complete -c bpftap -n '__fish_seen_subcommand_from cut; and not __fish_seen_subc
 complete -c bpftap -n '__fish_seen_subcommand_from split; and not __fish_seen_subcommand_from help' -F
 complete -c bpftap -n '__fish_seen_subcommand_from split; and not __fish_seen_subcommand_from help' -s o -x -a 'little big' -d 'Byte order of each OUT'
 complete -c bpftap -n '__fish_seen_subcommand_from split; and not __fish_seen_subcommand_from help' -s u -x -a 'micro nano' -d 'Unit of the time stamps of each OUT'
+complete -c bpftap -n '__fish_seen_subcommand_from split; and not __fish_seen_subcommand_from help' -l json -d 'Print objects of JSON'
 complete -c bpftap -n '__fish_seen_subcommand_from split; and not __fish_seen_subcommand_from help' -s h -l help -d 'Print help'
 
 complete -c bpftap -n '__fish_seen_subcommand_from steps; and not __fish_seen_subcommand_from help' -F
@@ -60,4 +61,5 @@ complete -c bpftap -n '__fish_seen_subcommand_from steps; and not __fish_seen_su
 complete -c bpftap -n '__fish_seen_subcommand_from steps; and not __fish_seen_subcommand_from help' -s h -l help -d 'Print help'
 
 complete -c bpftap -n '__fish_seen_subcommand_from run; and not __fish_seen_subcommand_from help' -F
+complete -c bpftap -n '__fish_seen_subcommand_from run; and not __fish_seen_subcommand_from help' -l json -d 'Print objects of JSON'
 complete -c bpftap -n '__fish_seen_subcommand_from run; and not __fish_seen_subcommand_from help' -s h -l help -d 'Print help'

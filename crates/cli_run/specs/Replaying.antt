@@ -7,6 +7,7 @@ use Rattle.replay_types.specs.declared.report.InterfaceReport.{InterfaceReport}
 use Rattle.replay_types.specs.declared.report.ListenerReport.{ListenerReport}
 use Rattle.replay_types.specs.declared.report.TaskEnd.{TaskEnd}
 use Rattle.replay_types.specs.declared.report.TaskEnd.TheVariants as task
+use Rattle.cli_json.specs.declared.form.LineForm.{LineForm}
 use Rattle.cli_text.specs.declared.report.Outcome.{Outcome}
 use Rattle.cli_text.specs.Sending.{Streams, Takes}
 use Rattle.cli_text.specs.declared.status.Status.{Status}
@@ -41,8 +42,8 @@ run_status reports = fold (λ status report. greater status (report_status repor
 
 -- A replay's reports were printed: all of them, or a prefix if standard output failed. What is reported is that it failed, if it did, and
 -- then each interface that did not end clean. The status is the greatest of all.
-pub record ReportsRun {R W : Type 0} (reports : List (InterfaceReport R W)) (old new : Streams) (outcome : Outcome) : Type 0 where
+pub record ReportsRun {R W : Type 0} (form : LineForm) (reports : List (InterfaceReport R W)) (old new : Streams) (outcome : Outcome) : Type 0 where
   pub printed : Result (Unit {0}) Error
-  pub prints : Takes old.out new.out printed (printed_replay reports)
+  pub prints : Takes old.out new.out printed (printed_replay form reports)
   pub tells : Takes old.err new.err outcome.told (output_line printed ++ told_replay reports)
   pub greatest : outcome.status ≡ greater (print_status_of printed) (run_status reports)

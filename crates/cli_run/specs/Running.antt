@@ -6,6 +6,7 @@ use Rattle.std.specs.Io.KnownBytes.{Keeps}
 use Rattle.std.specs.declared.alloc.Global.{Global}
 use Rattle.std.specs.declared.vec.Vec.{Vec}
 use Rattle.bpfvm.specs.declared.insn.Insn.{Insn}
+use Rattle.cli_json.specs.declared.form.LineForm.TheVariants.{Text}
 use Rattle.cli_text.specs.declared.report.Outcome.{Outcome}
 use Rattle.cli_text.specs.declared.status.Status.TheVariants.{Refused}
 use Rattle.cli_text.specs.Status.{code}
@@ -57,7 +58,7 @@ pub record Ran {S W M : Type 0} (left : S → Option (List ℕ)) (broken : S →
   pub made : Makes step make lines sinks last
   pub reports : List (InterfaceReport S W)
   pub replayed : IsReplayOf left broken taken failures lines programs captures sinks reports
-  pub tells : ReportsRun reports old new outcome
+  pub tells : ReportsRun Text reports old new outcome
   pub all_back : length back ≡ length lines
   pub in_order : AreSinksOf (places_of lines) reports back
 

@@ -13,6 +13,7 @@ use cli_files::captures::output_buffer;
 use cli_files::reading::read_file;
 use cli_filter::plan::Plan;
 use cli_filter::plan_hints::hint_plan;
+use cli_json::LineForm;
 use cli_report::HintSink;
 use cli_report::failures::hint_printed;
 use cli_report::files::{LISTENERS_OF_RUN, hint_returns};
@@ -73,6 +74,15 @@ impl NamesFiles for HostRuntime {
     }
 }
 
+/// The form of the lines that are printed.
+fn form_of(words: &RunWords<'_>) -> LineForm {
+    if words.json {
+        LineForm::Json
+    } else {
+        LineForm::Text
+    }
+}
+
 /// Replays the captures, and reports how that ended, with hints.
 fn replay_files<R: Threads + Wait + Sync + AllocGlobal, O: Write, E: HintSink>(
     rt: &R,
@@ -90,7 +100,7 @@ fn replay_files<R: Threads + Wait + Sync + AllocGlobal, O: Write, E: HintSink>(
     } = late;
     match replay_plan(rt, alloc, plan, captures, sinks) {
         Ok(mut reports) => {
-            let outcome = report_flushed(reports.as_mut_slice(), out, err);
+            let outcome = report_flushed(form_of(words), reports.as_mut_slice(), out, err);
             hint_run(words.inputs.as_slice(), reports.as_slice(), err);
             Ok(outcome.status)
         }

@@ -6,6 +6,7 @@ pub mod faults;
 mod hints;
 pub mod laws;
 pub mod layout;
+mod object;
 pub mod paths;
 pub mod plan;
 pub mod report;

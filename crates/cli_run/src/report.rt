@@ -1,12 +1,15 @@
 //! What `bpftap run` prints of each listener, what it reports of each interface, and its exit status.
 
 ghost use Rattle.std.specs.Prelude.{◌≡◌, ◌++◌, OnOk, Some};
+ghost use Rattle.cli_json.specs.declared.form.LineForm.TheVariants.{Text};
 ghost use Rattle.cli_text.specs.Sending.{Takes, streams};
 ghost use Rattle.cli_text.specs.Telling.{output_line};
 ghost use Rattle.cli_text.specs.Texts.{numbered};
-ghost use Rattle.cli_run.specs.Printed.{end_text, interface_told, listener_line, printed_replay, told_replay};
+ghost use Rattle.cli_run.specs.Printed.{end_text, interface_told, listener_line, listener_text, printed_replay, told_replay};
 ghost use Rattle.cli_run.specs.Replaying.{ReportsRun, interface_status, listeners_status, report_status, run_status, task_status};
 
+use crate::object::put_listener_object;
+use cli_json::LineForm;
 use cli_text::report::{Outcome, fault_status, print_status, report_line, report_output};
 use cli_text::sending::send;
 use cli_text::{CaptureFaultText, Line, Status};
@@ -31,14 +34,14 @@ impl Display for EndText {
     }
 }
 
-/// Puts the line of the l-th listener of the i-th interface in place of what the line has.
-fn put_listener<W>(
+/// Puts the text of the l-th listener of the i-th interface in place of what the line has.
+fn put_listener_text<W>(
     line: &mut Line,
     i: usize,
     l: usize,
     report: &ListenerReport<W>,
 ) -> io::Result<()>
-    ensures { OnOk result (line.new ≡ listener_line i l report.now) }
+    ensures { OnOk result (line.new ≡ listener_text i l report.now) }
 {
     line.clear();
     writeln!(
@@ -52,38 +55,63 @@ fn put_listener<W>(
     )
 }
 
+/// Puts the line of the l-th listener of the i-th interface in place of what the line has.
+fn put_listener<W>(
+    form: LineForm,
+    line: &mut Line,
+    i: usize,
+    l: usize,
+    report: &ListenerReport<W>,
+) -> io::Result<()>
+    ensures { OnOk result (line.new ≡ listener_line form i l report.now) }
+{
+    match form {
+        LineForm::Text => put_listener_text(line, i, l, report),
+        LineForm::Json => put_listener_object(line, i, l, report),
+    }
+}
+
 /// The lines of the i-th interface's listeners, numbered from 0.
 fn write_listeners<W, O: Write>(
+    form: LineForm,
     i: usize,
     reports: &[ListenerReport<W>],
     line: &mut Line,
     out: &mut O,
 ) -> io::Result<()>
-    ensures { Takes (O.contents out.old) (O.contents out.new) result (numbered (listener_line i) 0 reports.now) }
+    ensures { Takes (O.contents out.old) (O.contents out.new) result (numbered (listener_line form i) 0 reports.now) }
 {
     for (l, report) in reports.iter().enumerate() {
-        put_listener(line, i, l, report)?;
+        put_listener(form, line, i, l, report)?;
         send(line.as_bytes(), out)?;
     }
     Ok(())
 }
 
 /// A line for each listener, by interface and then by listener.
-fn write_reports<R, W, O: Write>(reports: &[InterfaceReport<R, W>], out: &mut O) -> io::Result<()>
-    ensures { Takes (O.contents out.old) (O.contents out.new) result (printed_replay reports.now) }
+fn write_reports<R, W, O: Write>(
+    form: LineForm,
+    reports: &[InterfaceReport<R, W>],
+    out: &mut O,
+) -> io::Result<()>
+    ensures { Takes (O.contents out.old) (O.contents out.new) result (printed_replay form reports.now) }
 {
     let mut line = Line::new();
     for (i, report) in reports.iter().enumerate() {
-        write_listeners(i, report.listeners.as_slice(), &mut line, out)?;
+        write_listeners(form, i, report.listeners.as_slice(), &mut line, out)?;
     }
     Ok(())
 }
 
 /// Prints the reports, and all that the writer has gathered of them.
-fn print_reports<R, W, O: Write>(reports: &[InterfaceReport<R, W>], out: &mut O) -> io::Result<()>
-    ensures { Takes (O.contents out.old) (O.contents out.new) result (printed_replay reports.now) }
+fn print_reports<R, W, O: Write>(
+    form: LineForm,
+    reports: &[InterfaceReport<R, W>],
+    out: &mut O,
+) -> io::Result<()>
+    ensures { Takes (O.contents out.old) (O.contents out.new) result (printed_replay form reports.now) }
 {
-    write_reports(reports, out)?;
+    write_reports(form, reports, out)?;
     out.flush()
 }
 
@@ -178,20 +206,35 @@ fn report_all<R, W, E: Write>(
 /// Prints a line for each listener, by interface, `interface I listener L received R matched M dropped D written N END`, reports each
 /// interface that did not end clean, and returns the greatest status of all.
 ///
+/// As JSON a line is an object, `{"interface":I,"listener":L,"received":R,"matched":M,"dropped":D,"written":N,"end":"clean"}`; the end may
+/// also be `"unfinished"`, or `"write"` with the member `"bytes":B`.
+///
 /// `out` took exactly these lines, or a prefix of them if it failed; that is reported first, unless nobody reads `out` any more, and the
 /// status is [`Status::Failed`]. A listener has [`Status::Refused`] for `Unfinished` and [`Status::Failed`] for `Write B`; an interface
 /// [`Status::Failed`] if a source failed, [`Status::Damaged`] for the fault of a record, and [`Status::Refused`] for any other.
-pub fn report_run<R, W, O: Write, E: Write>(
+pub fn report_run_in<R, W, O: Write, E: Write>(
+    form: LineForm,
     reports: &[InterfaceReport<R, W>],
     out: &mut O,
     err: &mut E,
 ) -> Outcome
-    ensures { ReportsRun reports.now (streams (O.contents out.old) (E.contents err.old)) (streams (O.contents out.new) (E.contents err.new)) result }
+    ensures { ReportsRun form reports.now (streams (O.contents out.old) (E.contents err.old)) (streams (O.contents out.new) (E.contents err.new)) result }
 {
-    let printed = print_reports(reports, out);
+    let printed = print_reports(form, reports, out);
     let told = report_all(&printed, reports, err);
     Outcome {
         status: print_status(&printed).max(run_status(reports)),
         told,
     }
+}
+
+/// [`report_run_in`], as text.
+pub fn report_run<R, W, O: Write, E: Write>(
+    reports: &[InterfaceReport<R, W>],
+    out: &mut O,
+    err: &mut E,
+) -> Outcome
+    ensures { ReportsRun Text reports.now (streams (O.contents out.old) (E.contents err.old)) (streams (O.contents out.new) (E.contents err.new)) result }
+{
+    report_run_in(LineForm::Text, reports, out, err)
 }

@@ -2,6 +2,7 @@
 //! over files.
 
 ghost use Rattle.std.specs.Prelude.{◌≡◌, ◌<◌, ◌≤◌, List, All, IfErr, IfOk, IfSome, length, vec_capacity, vec_len};
+ghost use Rattle.cli_json.specs.declared.form.LineForm.TheVariants.{Text};
 ghost use Rattle.cli_text.specs.Sending.{Takes, streams};
 ghost use Rattle.cli_text.specs.Telling.{told_line};
 ghost use Rattle.cli_text.specs.declared.status.Status.TheVariants.{Refused};
@@ -111,7 +112,7 @@ fn end_run<R: Drop, W: Drop, O: Write, E: Write>(
     requires there { All (λ place. place < length replayed.reports.items) replayed.places.items }
     requires counts { HaveTheirListeners replayed.places.items replayed.reports.items }
     requires room { (vec_len replayed.sinks ≡ 0) × (length replayed.places.items ≤ vec_capacity replayed.sinks) }
-    ensures reports { ReportsRun replayed.reports.items (streams (O.contents out.old) (E.contents err.old)) (streams (O.contents out.new) (E.contents err.new)) result.0 }
+    ensures reports { ReportsRun Text replayed.reports.items (streams (O.contents out.old) (E.contents err.old)) (streams (O.contents out.new) (E.contents err.new)) result.0 }
     ensures all { length result.1.items ≡ length replayed.places.items }
     ensures back { AreSinksOf replayed.places.items replayed.reports.items result.1.items }
 {

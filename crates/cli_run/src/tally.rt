@@ -8,7 +8,8 @@ ghost use Rattle.cli_text.specs.Sending.{streams};
 ghost use Rattle.cli_run.specs.Flushing.{AreFlushed, IsFlushed, bytes_of, packets_of};
 ghost use Rattle.cli_run.specs.Replaying.{ReportsRun};
 
-use crate::report::report_run;
+use crate::report::report_run_in;
+use cli_json::LineForm;
 use cli_text::report::Outcome;
 use replay_types::{InterfaceReport, ListenerReport, TaskEnd};
 use savefile::Counted;
@@ -209,15 +210,16 @@ pub fn flush_all<R, W: Write + Drop>(reports: &mut [InterfaceReport<R, Output<W>
     }
 }
 
-/// Empties the buffers in front of all captures that are written, and then prints and reports as [`report_run`] does.
+/// Empties the buffers in front of all captures that are written, and then prints and reports as [`report_run_in`] does.
 pub fn report_flushed<R, W: Write + Drop, O: Write, E: Write>(
+    form: LineForm,
     reports: &mut [InterfaceReport<R, Output<W>>],
     out: &mut O,
     err: &mut E,
 ) -> Outcome
     ensures flushed { AllZip (AreFlushed W.contents) reports.old reports.new }
-    ensures reports { ReportsRun reports.new (streams (O.contents out.old) (E.contents err.old)) (streams (O.contents out.new) (E.contents err.new)) result }
+    ensures reports { ReportsRun form reports.new (streams (O.contents out.old) (E.contents err.old)) (streams (O.contents out.new) (E.contents err.new)) result }
 {
     flush_all(reports);
-    report_run(reports, out, err)
+    report_run_in(form, reports, out, err)
 }

@@ -2,8 +2,9 @@
 
 use crate::same::same;
 use bpfvm::read_listing;
+use cli_json::LineForm;
 use cli_run::faults::RunFaultText;
-use cli_run::report::report_run;
+use cli_run::report::{report_run, report_run_in};
 use cli_run::run::run;
 use cli_text::Status;
 use handover::{Past, pair, settle};
@@ -154,6 +155,23 @@ fn an_end_that_is_not_reached_is_reported(rt: HostRuntime) {
         &rt,
         (out.as_slice(), outcome.status),
         (line.as_slice(), Status::Refused),
+    );
+    let fault = b"bpftap: Interface 0 CountFull\n";
+    same(&rt, err.as_slice(), fault.as_slice());
+}
+
+#[test]
+fn an_end_that_is_not_reached_is_an_object(rt: HostRuntime) {
+    let reports = uncounted(&rt);
+    let mut out: Vec<u8> = Vec::new(rt.alloc());
+    let mut err: Vec<u8> = Vec::new(rt.alloc());
+    let outcome = report_run_in(LineForm::Json, reports.as_slice(), &mut out, &mut err);
+    let object =
+        b"{\"interface\":0,\"listener\":0,\"received\":4,\"matched\":3,\"dropped\":1,\"written\":2,\"end\":\"unfinished\"}\n";
+    same(
+        &rt,
+        (out.as_slice(), outcome.status),
+        (object.as_slice(), Status::Refused),
     );
     let fault = b"bpftap: Interface 0 CountFull\n";
     same(&rt, err.as_slice(), fault.as_slice());

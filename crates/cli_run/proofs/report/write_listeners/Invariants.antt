@@ -6,4 +6,4 @@ use Rattle.cli_run.proofs.report.write_listeners.Given as goal
 
 -- the lines before were taken
 abbrev pub invariant-loop-l : goal.invariant-loop-l
-invariant-loop-l g l = Appends (g.O.Write.contents l.fn.out) (g.O.Write.contents l.out) (numbered (listener_line l.i) 0 (take l.l l.reports))
+invariant-loop-l g l = Appends (g.O.Write.contents l.fn.out) (g.O.Write.contents l.out) (numbered (listener_line l.form l.i) 0 (take l.l l.reports))

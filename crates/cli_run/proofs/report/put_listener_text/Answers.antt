@@ -1,6 +1,6 @@
 use Rattle.std.specs.Prelude.{codes}
 use Rattle.cli_run.proofs.Printing.{in_place, regrouped}
-use Rattle.cli_run.proofs.report.put_listener.Goals as goal
+use Rattle.cli_run.proofs.report.put_listener_text.Goals as goal
 
 pub returns : goal.returns
 returns g c =
