@@ -194,11 +194,7 @@ impl ListKind {
             head: self.head,
             ..other
         };
-        if self.is(alike) {
-            self.sides.is_broader(other.sides)
-        } else {
-            false
-        }
+        self.is(alike) && self.sides.is_broader(other.sides)
     }
 
     /// Whether it loads both ports, and the other kind looks at bytes of these.
@@ -215,10 +211,7 @@ impl ListKind {
     pub fn settles(self, other: ListKind) -> bool
         ensures { OnTrue result (Covers self other) }
     {
-        if self.is_broader(other) {
-            return true;
-        }
-        self.has_ports(other)
+        self.is_broader(other) || self.has_ports(other)
     }
 
     /// Whether all tests of this kind are No if one of them is and a test of the other kind aborts: the packet then has another type or
@@ -239,27 +232,20 @@ impl ListKind {
     pub(crate) fn of_other_protocol(self) -> Option<ListKind>
         ensures { IfSome result (λ other. AreJoined self other (of_tcp_or_udp self)) }
     {
-        match self.form {
-            Form::TcpPorts => Some(ListKind {
-                form: Form::UdpPorts,
-                ..self
-            }),
-            Form::UdpPorts => Some(ListKind {
-                form: Form::TcpPorts,
-                ..self
-            }),
-            _ => None,
-        }
+        let form = match self.form {
+            Form::TcpPorts => Form::UdpPorts,
+            Form::UdpPorts => Form::TcpPorts,
+            _ => return None,
+        };
+        Some(ListKind { form, ..self })
     }
 
     /// The kind of the same ports of TCP or UDP.
     pub(crate) fn of_tcp_or_udp(self) -> ListKind
         ensures { result ≡ of_tcp_or_udp self }
     {
-        ListKind {
-            form: Form::TcpOrUdpPorts,
-            ..self
-        }
+        let form = Form::TcpOrUdpPorts;
+        ListKind { form, ..self }
     }
 
     /// Whether it is for both ports of TCP or UDP, at which relations may look as well.
@@ -297,12 +283,9 @@ impl Chain {
     pub fn facts_after(self, known: PacketFacts, left: Option<&Expr>) -> PacketFacts
         ensures { MatchOption left.entry (result ≡ known) (λ t. result ≡ after_left self known (tree_of t.now)) }
     {
-        match left {
-            None => known,
-            Some(left) => match self {
-                Chain::AnyOf => known,
-                Chain::NoneOf => known.after_expr(left),
-            },
+        match (self, left) {
+            (Chain::NoneOf, Some(left)) => known.after_expr(left),
+            _ => known,
         }
     }
 }
@@ -330,11 +313,9 @@ fn net_form(network: Option<Network>) -> Form
 {
     match network {
         None => Form::Net,
-        Some(network) => match network {
-            Network::Ip => Form::IpNet,
-            Network::Arp => Form::ArpNet,
-            Network::Rarp => Form::RarpNet,
-        },
+        Some(Network::Ip) => Form::IpNet,
+        Some(Network::Arp) => Form::ArpNet,
+        Some(Network::Rarp) => Form::RarpNet,
     }
 }
 
@@ -343,11 +324,9 @@ fn ports_form(transport: Option<Transport>) -> Form
 {
     match transport {
         None => Form::Ports,
-        Some(transport) => match transport {
-            Transport::Tcp => Form::TcpPorts,
-            Transport::Udp => Form::UdpPorts,
-            Transport::Sctp => Form::SctpPorts,
-        },
+        Some(Transport::Tcp) => Form::TcpPorts,
+        Some(Transport::Udp) => Form::UdpPorts,
+        Some(Transport::Sctp) => Form::SctpPorts,
     }
 }
 
@@ -412,10 +391,7 @@ fn low_literal(value: &Value) -> Option<u16>
     ensures { IfSome result (λ n. amount_of value.now ≡ literal n) }
 {
     match value {
-        Value::Number(n) => match u16::try_from(*n) {
-            Ok(n) => Some(n),
-            Err(_) => None,
-        },
+        Value::Number(n) => u16::try_from(*n).ok(),
         _ => None,
     }
 }
@@ -429,6 +405,7 @@ impl Member {
           primitive = None;
         } }
     {
+        let (low, high) = (number, number);
         Member {
             kind: ListKind {
                 form,
@@ -437,10 +414,7 @@ impl Member {
                 head: 0,
                 bytes: NO_BYTES,
             },
-            range: ValueRange {
-                low: number,
-                high: number,
-            },
+            range: ValueRange { low, high },
             primitive: None,
         }
     }
@@ -454,23 +428,10 @@ impl Member {
         ensures same { IfSome result (λ m. (p : Packet) → in_any_net network direction address mask p ≡ member_test m p) }
         ensures weighs { IfSome result (λ m. list_weight m.kind.form 1 ≡ 40) }
     {
-        match sides_of(direction) {
-            Some(sides) => Some(Member {
-                kind: ListKind {
-                    form: net_form(network),
-                    sides,
-                    mask,
-                    head: 0,
-                    bytes: NO_BYTES,
-                },
-                range: ValueRange {
-                    low: address,
-                    high: address,
-                },
-                primitive: None,
-            }),
-            None => None,
-        }
+        let mut member = Member::numbered(net_form(network), address);
+        member.kind.sides = sides_of(direction)?;
+        member.kind.mask = mask;
+        Some(member)
     }
 
     fn of_ports(
@@ -482,20 +443,10 @@ impl Member {
         ensures same { IfSome result (λ m. (p : Packet) → has_any_ports transport direction low high p ≡ member_test m p) }
         ensures weighs { IfSome result (λ m. list_weight m.kind.form 1 ≡ 40) }
     {
-        match sides_of(direction) {
-            Some(sides) => Some(Member {
-                kind: ListKind {
-                    form: ports_form(transport),
-                    sides,
-                    mask: 0,
-                    head: 0,
-                    bytes: NO_BYTES,
-                },
-                range: ValueRange { low, high },
-                primitive: None,
-            }),
-            None => None,
-        }
+        let mut member = Member::numbered(ports_form(transport), low);
+        member.kind.sides = sides_of(direction)?;
+        member.range.high = high;
+        Some(member)
     }
 
     fn of_ethernet(direction: Direction, address: EthernetAddress) -> Option<Member>
@@ -503,19 +454,11 @@ impl Member {
             → by_direction direction (is_address address.octets 6) (is_address address.octets 0) p ≡ member_test m p) }
         ensures weighs { IfSome result (λ m. list_weight m.kind.form 1 ≡ 40) }
     {
-        let sides = sides_of(direction)?;
         let [a, b, c, d, e, f] = address.octets;
-        let head = u16::from_be_bytes([a, b]);
-        let tail = u32::from_be_bytes([c, d, e, f]);
-        let member = Member::numbered(Form::EtherHost, tail);
-        Some(Member {
-            kind: ListKind {
-                sides,
-                head,
-                ..member.kind
-            },
-            ..member
-        })
+        let mut member = Member::numbered(Form::EtherHost, u32::from_be_bytes([c, d, e, f]));
+        member.kind.sides = sides_of(direction)?;
+        member.kind.head = u16::from_be_bytes([a, b]);
+        Some(member)
     }
 
     /// A protocol word. `ip` is no member: what follows it has to know that the packet is IPv4.
@@ -568,11 +511,9 @@ impl Member {
         ensures weighs { IfSome result (λ m. list_weight m.kind.form 1 ≡ 40) }
         ensures member { IfSome result IsMember }
     {
-        let member = Member::asked_by(primitive)?;
-        Some(Member {
-            primitive: Some(primitive),
-            ..member
-        })
+        let mut member = Member::asked_by(primitive)?;
+        member.primitive = Some(primitive);
+        Some(member)
     }
 
     /// A relation that compares bytes, at an index that is written as a number, with a number.
@@ -583,20 +524,10 @@ impl Member {
     {
         match value {
             Value::Accessor(layer, index, size) => {
-                let index = low_literal(index)?;
-                let bytes = Bytes {
-                    layer: *layer,
-                    index,
-                    size: *size,
-                };
-                let member = Member::numbered(Form::Bytes, number);
-                Some(Member {
-                    kind: ListKind {
-                        bytes,
-                        ..member.kind
-                    },
-                    ..member
-                })
+                let (layer, index, size) = (*layer, low_literal(index)?, *size);
+                let mut member = Member::numbered(Form::Bytes, number);
+                member.kind.bytes = Bytes { layer, index, size };
+                Some(member)
             }
             _ => None,
         }
@@ -608,11 +539,8 @@ impl Member {
             list_weight m.kind.form 1 ≤ 10 + (value_weight (amount_of left.now) + value_weight (amount_of right.now))) }
         ensures member { IfSome result IsMember }
     {
-        match comparison {
-            Comparison::Equal => match right {
-                Value::Number(n) => Member::of_bytes(left, *n),
-                _ => None,
-            },
+        match (comparison, right) {
+            (Comparison::Equal, Value::Number(n)) => Member::of_bytes(left, *n),
             _ => None,
         }
     }
@@ -632,7 +560,6 @@ impl Member {
         }
     }
 
-    /// An expression as a member.
     fn of_expr(expr: &Expr) -> Option<Member>
         ensures same { IfSome result (λ m. (p : Packet) → meaning (tree_of expr.now) p ≡ member_test m p) }
         ensures weighs { IfSome result (λ m. list_weight m.kind.form 1 ≤ weight (tree_of expr.now)) }
@@ -654,12 +581,10 @@ impl Member {
         ensures weighs { IfSome result (λ m. list_weight m.kind.form 1 ≤ weight (tree_of expr.now)) }
         ensures member { IfSome result IsMember }
     {
-        match chain {
-            Chain::AnyOf => Member::of_expr(expr),
-            Chain::NoneOf => match expr {
-                Expr::Not(operand) => Member::of_expr(operand),
-                _ => None,
-            },
+        match (chain, expr) {
+            (Chain::AnyOf, _) => Member::of_expr(expr),
+            (Chain::NoneOf, Expr::Not(operand)) => Member::of_expr(operand),
+            _ => None,
         }
     }
 }

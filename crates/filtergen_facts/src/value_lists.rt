@@ -148,14 +148,12 @@ fn count_links(
         return found;
     }
     match (chain, expr) {
-        (Chain::AnyOf, Expr::Or(left, right)) => match Member::of_link(chain, right) {
-            Some(member) => count_links(chain, left, member.kind, kinds, found + 1),
-            None => found,
-        },
-        (Chain::NoneOf, Expr::And(left, right)) => match Member::of_link(chain, right) {
-            Some(member) => count_links(chain, left, member.kind, kinds, found + 1),
-            None => found,
-        },
+        (Chain::AnyOf, Expr::Or(left, right)) | (Chain::NoneOf, Expr::And(left, right)) => {
+            match Member::of_link(chain, right) {
+                Some(member) => count_links(chain, left, member.kind, kinds, found + 1),
+                None => found,
+            }
+        }
         _ => found + 1,
     }
 }
@@ -379,9 +377,8 @@ impl ValueLists {
             (λ rest. EndsIn chain (tree_of left.now) (tree_of right.now) (Some (tree_of rest.now)) found.0.first
             found.0.others.members.items)) }
     {
-        let mut others = OtherMembers {
-            members: ArrayVec::new(),
-        };
+        let members = ArrayVec::new();
+        let mut others = OtherMembers { members };
         if !others.take_link(chain, right) {
             return None;
         }

@@ -11,7 +11,7 @@ returns-then-are_free c =
     let t = tree_of c.args.left.now in
     let u = tree_of c.args.right.now in
     let one = c.take_link.new.self.members.items in
-    let right = rw c.new.ensures at c.if-not-take_link.ensures.taken in
+    let right = rw c.new-members.ensures at c.if-not-take_link.ensures.taken in
     let parts : all ≡ others ++ (first ∷ []) = c.pop.ensures.items ∙ ap (λ o. others ++ option_to_list o) c.in_ok-first.was in
     map-both c.take_links-rest.result c.take_links-rest.ensures c.if-are_free.ensures
     (λ takes free. ends-in c.args.chain t u None first one all others right takes parts c.pop.ensures.room free)
