@@ -24,6 +24,10 @@ IsPlace code place = (0 < place) × (place ≤ length code)
 abbrev pub AreExits : List Insn → Exits → Type 0
 AreExits code exits = IsPlace code exits.yes × IsPlace code exits.no
 
+-- the code has room for so many more instructions, which may go on at these exits
+abbrev pub CanEmit : ℕ → Exits → List Insn → Type 0
+CanEmit most exits code = (length code + most ≤ MAX_CODE) × AreExits code exits
+
 -- all 16 cells of the scratch memory are there
 abbrev pub HasCells : Registers → Type 0
 HasCells r = length r.memory ≡ 16

@@ -1,11 +1,12 @@
 -- What code does whose targets depend on what is known of the packet. Only private clauses use this.
-use Rattle.std.specs.Prelude.{◌≡◌, ◌≢◌, ◌⊎◌, ℕ, ◌+◌, Bool, true, false, List, Option, Some, None, Result}
+use Rattle.std.specs.Prelude.{◌≡◌, ◌≢◌, ◌⊎◌, ℕ, ◌+◌, ◌≤◌, Bool, true, false, List, length, Option, Some, None, Result}
 use Rattle.bpfvm.specs.declared.insn.Insn.{Insn}
 use Rattle.filter_tree.specs.declared.tree.Transport.{Transport}
 use Rattle.filtergen_code.specs.declared.entries.Entry.{Entry}
 use Rattle.filtergen_code.specs.declared.entries.Targets.{Targets}
 use Rattle.filter_meaning.specs.declared.verdict.Verdict.TheVariants.{Yes, No}
 use Rattle.filter_meaning.specs.Meaning.{Packet, HasBytes, Test, and_test, is_type, is_first_fragment_of, protocol_number}
+use Rattle.filtergen_trim.specs.declared.unreached.TheConstants.{MAX_CODE}
 use Rattle.filtergen_code.specs.Parts.{is_any_first, of_transport}
 use Rattle.filtergen_code.specs.Emission.{IsPlace, Answers, Extends, outcome, Decides, OrFull}
 use Rattle.filtergen_code.specs.declared.code.Exits.{Exits}
@@ -41,6 +42,10 @@ pub record IsEntry (code : List Insn) (entry : Entry) : Type 0 where
 
 abbrev pub AreTargets : List Insn → Targets → Type 0
 AreTargets code targets = IsEntry code targets.yes × IsEntry code targets.no
+
+-- the code has room for so many more instructions, which may go on at these targets
+abbrev pub CanEmitBy : ℕ → Targets → List Insn → Type 0
+CanEmitBy most targets code = (length code + most ≤ MAX_CODE) × AreTargets code targets
 
 -- the target of an answer
 abbrev pub for_answer : Bool → Targets → Entry

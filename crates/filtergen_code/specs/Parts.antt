@@ -24,15 +24,15 @@ use Rattle.filtergen_code.specs.Remaining.{is_unfragmented}
 use Rattle.filter_meaning.specs.Meaning.{Packet, arithmetic_of, in_frame, behind_ethernet, behind_header, Test, and_test, or_test, check, byte, half, is_type, is_first_fragment_of, protocol_number, has_address, is_address, within}
 
 abbrev pub side_cost : FieldTest → ℕ
-side_cost (sides.Ip offset address mask) = 5
+side_cost (sides.Ip offset net) = 5
 side_cost (sides.Ethernet offset address) = 8
 
 abbrev pub side_offset : FieldTest → ℕ
-side_offset (sides.Ip offset address mask) = offset
+side_offset (sides.Ip offset net) = offset
 side_offset (sides.Ethernet offset address) = offset
 
 abbrev pub side_test : FieldTest → Test
-side_test (sides.Ip offset address mask) = has_address address mask offset
+side_test (sides.Ip offset net) = has_address net.address net.mask offset
 side_test (sides.Ethernet offset address) = is_address address.octets offset
 
 -- a port, where the index register has the length of the IPv4 header

@@ -11,21 +11,24 @@ use Rattle.filtergen_facts.specs.declared.lists.Chain.{Chain}
 use Rattle.filtergen_facts.specs.declared.lists.Chain.TheVariants as chains
 use Rattle.filtergen_facts.specs.declared.lists.Form.{Form}
 use Rattle.filtergen_facts.specs.declared.lists.Form.TheVariants as forms
+use Rattle.filtergen_facts.specs.declared.lists.ListKind.{ListKind}
 use Rattle.filtergen_facts.specs.declared.lists.ValueRange.{ValueRange}
 use Rattle.filtergen_facts.specs.Weights.{weight, need}
 use Rattle.filtergen_facts.specs.declared.lists.Member.{Member}
+use Rattle.filtergen_facts.specs.declared.value_lists.Group.{Group}
 use Rattle.filtergen_facts.specs.Lists.{any_of, list_weight, member_test, members_weight, AreFree, chained, left_chained, left_weight, left_size, left_need, size, after_left}
 use Rattle.filtergen_code.specs.declared.code.Exits.{Exits}
 use Rattle.filtergen_code.specs.declared.code.Full.{Full}
 use Rattle.filtergen_code.specs.declared.insns.Field.{Field}
 use Rattle.filtergen_code.specs.declared.value_in_list.Location.{Location}
 use Rattle.filtergen_code.specs.declared.value_in_list.Location.TheVariants as locations
+use Rattle.filtergen_code.specs.declared.entries.Context.{Context}
 use Rattle.filtergen_code.specs.declared.entries.Entry.{Entry}
 use Rattle.filtergen_code.specs.declared.entries.Targets.{Targets}
 use Rattle.filtergen_code.specs.declared.compiler.Emitted.{Emitted}
 use Rattle.filtergen_code.specs.declared.compiler.RightEnd.{RightEnd}
-use Rattle.filtergen_code.specs.Emission.{IsPlace, AreExits, run_from, Extends, front, field_of, same_index, Follows, OrFull}
-use Rattle.filtergen_code.specs.Entries.{RelaysBoth, DecidesGiven}
+use Rattle.filtergen_code.specs.Emission.{IsPlace, AreExits, run_from, Extends, front, field_of, same_index, Follows, OrFull, Emits}
+use Rattle.filtergen_code.specs.Entries.{RelaysBoth, DecidesGiven, EmitsEntry, EmitsGiven}
 
 -- in one of these ranges
 abbrev pub in_ranges : List ValueRange → ℕ → Bool
@@ -163,6 +166,21 @@ abbrev pub targets_for_chain : Chain → Targets → Targets
 targets_for_chain chains.AnyOf targets = targets
 targets_for_chain chains.NoneOf targets = record { yes = targets.no; no = targets.yes }
 
+-- a call emits the test whether any member of a group holds, whose cost is that of so many members
+abbrev pub EmitsGroup : (ℕ → ℕ) → (ListKind → ValueRange → Test) → Group → Targets → List Insn → List Insn → Result Entry Full → Type 0
+EmitsGroup cost test group targets old new result =
+    EmitsEntry (cost (length group.ranges.items)) (any_of (test group.kind) group.ranges.items) targets old new result
+
+-- a call emits what such a test needs of a packet of which something is known
+abbrev pub EmitsGroupGiven : (ℕ → ℕ) → (ListKind → ValueRange → Test) → Group → Context → List Insn → List Insn → Result Entry Full → Type 0
+EmitsGroupGiven cost test group context old new result =
+    EmitsGiven context.known (cost (length group.ranges.items)) (any_of (test group.kind) group.ranges.items) context.targets old new result
+
+-- a call emits such a test for packets that have all that the members share, with two exits
+abbrev pub EmitsGroupLookup : (ℕ → ℕ) → (ListKind → ValueRange → Test) → Group → Exits → List Insn → List Insn → Result ℕ Full → Type 0
+EmitsGroupLookup cost test group exits old new result =
+    Emits (cost (length group.ranges.items)) (any_of (test group.kind) group.ranges.items) exits old new result
+
 -- a call emits what a test needs of a packet of which something is known, and returns its entry and relays of its targets
 abbrev pub EmitsRelayed : PacketFacts → ℕ → Test → Targets → List Insn → List Insn → Result Emitted Full → Type 0
 EmitsRelayed known cost test targets old new result = OrFull cost old result (λ emitted.
@@ -197,3 +215,8 @@ abbrev pub EmitsRightEnd : PacketFacts → Chain → Tree → Tree → Targets �
 EmitsRightEnd known chain first second targets old new end = MatchOption end.left
     (EmitsEnd known chain first second targets end.emitted old new None)
     (λ rest. EmitsEnd known chain first second targets end.emitted old new (Some (tree_of rest.now)))
+
+-- a call emits the lists that such a chain ends in, if it ends in any
+abbrev pub EmitsLists : PacketFacts → Chain → Tree → Tree → Targets → List Insn → List Insn → Result (Option RightEnd) Full → Type 0
+EmitsLists known chain first second targets old new result = OrFull (weight first + weight second) old result (λ found.
+    MatchOption found (new ≡ old) (EmitsRightEnd known chain first second targets old new))

@@ -12,7 +12,7 @@ ghost use Rattle.filter_meaning.specs.Meaning.{check, within};
 ghost use Rattle.filtergen_trim.specs.Reaching.{IsAllReached};
 ghost use Rattle.filtergen_code.specs.Insns.{plain_insn};
 ghost use Rattle.filtergen_code.specs.ValueLists.{in_ranges, IgnoresAccumulator, GoesOnAs, FailsTo, Skips};
-ghost use Rattle.filtergen_code.specs.Emission.{IsPlace, AreExits, comparison_of, condition, field_of, Passes, GoesOnAt, IsRelay, Chooses, Decides};
+ghost use Rattle.filtergen_code.specs.Emission.{IsPlace, AreExits, comparison_of, condition, field_of, Passes, GoesOnAt, IsRelay, Chooses, Decides, CanEmit};
 
 use crate::insns::{Field, Jump, Operand, branch_insn, load_insn, plain_insn};
 use crate::value_lists::has_number;
@@ -33,14 +33,11 @@ pub(crate) struct Exits {
 }
 
 impl Exits {
-    /// The exits of the opposite test.
     pub fn opposite(self) -> Exits
         ensures { result ≡ record { yes = self.no; no = self.yes } }
     {
-        Exits {
-            yes: self.no,
-            no: self.yes,
-        }
+        let (yes, no) = (self.no, self.yes);
+        Exits { yes, no }
     }
 }
 
@@ -148,8 +145,7 @@ impl Code {
 
     /// Emits a comparison of the accumulator that goes to an exit.
     pub fn emit_branch(&mut self, jump: Jump, operand: Operand, exits: Exits)
-        requires room { length self.old + 3 ≤ MAX_CODE }
-        requires exits { AreExits self.old exits }
+        requires { CanEmit 3 exits self.old }
         ensures { Chooses 3 (condition jump operand) exits self.old self.new }
     {
         // The jump to `yes` may need an instruction in front of the one to `no`.
@@ -167,19 +163,15 @@ impl Code {
 
     /// Emits the comparison of the accumulator with the numbers from low to high.
     pub fn emit_range_branch(&mut self, low: u32, high: u32, exits: Exits)
-        requires room { length self.old + 6 ≤ MAX_CODE }
-        requires exits { AreExits self.old exits }
+        requires { CanEmit 6 exits self.old }
         ensures { Chooses 6 (λ r. within low high r.accumulator) exits self.old self.new }
     {
         if low == high {
             self.emit_branch(Jump::Equal, Operand::Constant(low), exits);
         } else {
             self.emit_branch(Jump::Greater, Operand::Constant(high), exits.opposite());
-            let upper = self.len();
-            let exits = Exits {
-                yes: upper,
-                ..exits
-            };
+            let yes = self.len();
+            let exits = Exits { yes, ..exits };
             self.emit_branch(Jump::GreaterOrEqual, Operand::Constant(low), exits);
         }
     }
@@ -205,13 +197,11 @@ impl Code {
         ensures yes { Passes insn exits.yes result.yes self.now }
         ensures no { Passes insn exits.no result.no self.now }
     {
-        Exits {
-            yes: self.place_after(insn, exits.yes),
-            no: self.place_after(insn, exits.no),
-        }
+        let yes = self.place_after(insn, exits.yes);
+        let no = self.place_after(insn, exits.no);
+        Exits { yes, no }
     }
 
-    /// The instruction at a place.
     fn insn_at(&self, place: usize) -> Insn
         requires { IsPlace self.now place }
         ensures here { slice_get self.now (length self.now - place) ≡ Some result }
@@ -291,8 +281,7 @@ impl Code {
 
     /// Emits the comparison of a field. An exit that begins with the same load is entered after it: the number is still in the accumulator.
     pub fn emit_test(&mut self, field: Field, jump: Jump, value: u32, exits: Exits) -> usize
-        requires room { length self.old + 4 ≤ MAX_CODE }
-        requires exits { AreExits self.old exits }
+        requires { CanEmit 4 exits self.old }
         ensures { Decides 4 (λ p. check (λ n. holds (comparison_of jump) n value) (field_of field p)) exits result
             self.old self.new }
     {
@@ -305,8 +294,7 @@ impl Code {
 
     /// Emits the comparison of the bits of a field under a mask.
     pub fn emit_masked_test(&mut self, field: Field, mask: u32, bits: u32, exits: Exits) -> usize
-        requires room { length self.old + 5 ≤ MAX_CODE }
-        requires exits { AreExits self.old exits }
+        requires { CanEmit 5 exits self.old }
         ensures { Decides 5 (λ p. check (λ n. holds (comparison_of Jump.Equal) (bit_and n mask) bits) (field_of field p)) exits
             result self.old self.new }
     {

@@ -11,11 +11,11 @@ ghost use Rattle.filtergen_code.specs.Emission.{OrFull};
 ghost use Rattle.filtergen_code.specs.Entries.{AreTargets, DecidesGiven, RelaysBoth};
 ghost use Rattle.filtergen_facts.specs.declared.lists.Form.TheVariants.{Bytes, EtherHost};
 ghost use Rattle.filtergen_facts.specs.Lists.{any_of, kind_test, list_weight, members_weight, IsMember, IsAlone};
-ghost use Rattle.filtergen_code.specs.ValueLists.{targets_for_chain, EmitsMembers, EmitsRelayed, EmitsRightEnd};
+ghost use Rattle.filtergen_code.specs.ValueLists.{targets_for_chain, EmitsMembers, EmitsRelayed, EmitsRightEnd, EmitsLists};
 ghost use Rattle.filtergen_code.specs.Ends.{chain_of, left_targets, kept_targets, kept_with_end, Leaves};
 
 use crate::code::{Code, Full};
-use crate::entries::{Entry, Targets};
+use crate::entries::{Context, Entry, Targets};
 use crate::primitives::cost;
 use bpfvm::Program;
 use filter_tree::{Expr, Primitive};
@@ -53,26 +53,21 @@ impl KeptTargets {
     fn with_last(self, last: Targets) -> Targets
         ensures { result ≡ kept_targets self last }
     {
-        Targets {
-            yes: self.yes.unwrap_or(last.yes),
-            no: self.no.unwrap_or(last.no),
-        }
+        let yes = self.yes.unwrap_or(last.yes);
+        let no = self.no.unwrap_or(last.no);
+        Targets { yes, no }
     }
 
     /// These, and the relay that the code to the left of a right end does not use.
     fn with_end(self, chain: Chain, targets: Targets) -> KeptTargets
         ensures { result ≡ kept_with_end chain self targets }
     {
+        let KeptTargets { mut yes, mut no } = self;
         match chain {
-            Chain::AnyOf => KeptTargets {
-                yes: self.yes,
-                no: Some(self.no.unwrap_or(targets.no)),
-            },
-            Chain::NoneOf => KeptTargets {
-                yes: Some(self.yes.unwrap_or(targets.yes)),
-                no: self.no,
-            },
+            Chain::AnyOf => no = Some(no.unwrap_or(targets.no)),
+            Chain::NoneOf => yes = Some(yes.unwrap_or(targets.yes)),
         }
+        KeptTargets { yes, no }
     }
 }
 
@@ -81,15 +76,10 @@ impl Emitted {
     fn left_targets(self, chain: Chain) -> Targets
         ensures { result ≡ left_targets chain self.entry self.targets }
     {
+        let (entry, Targets { yes, no }) = (self.entry, self.targets);
         match chain {
-            Chain::AnyOf => Targets {
-                yes: self.targets.yes,
-                no: self.entry,
-            },
-            Chain::NoneOf => Targets {
-                yes: self.entry,
-                no: self.targets.no,
-            },
+            Chain::AnyOf => Targets { yes, no: entry },
+            Chain::NoneOf => Targets { yes: entry, no },
         }
     }
 }
@@ -125,57 +115,44 @@ impl Code {
     #[inline(never)]
     fn emit_primitive_with_relays(
         &mut self,
-        known: PacketFacts,
         primitive: Primitive,
-        targets: Targets,
+        context: Context,
     ) -> Result<Emitted, Full>
-        requires targets { AreTargets self.old targets }
-        ensures { EmitsRelayed known 40 (primitive_test primitive) targets self.old self.new result }
+        requires targets { AreTargets self.old context.targets }
+        ensures { EmitsRelayed context.known 40 (primitive_test primitive) context.targets self.old self.new result }
     {
         self.room(2 + cost(primitive))?;
-        let targets = self.emit_relays(targets);
-        let entry = self.emit_primitive_given(known, primitive, targets);
+        let targets = self.emit_relays(context.targets);
+        let entry = self.emit_primitive_given(primitive, Context { targets, ..context });
         Ok(Emitted { entry, targets })
     }
 
     /// Emits a group of at least two members.
-    fn emit_many_members(
-        &mut self,
-        known: PacketFacts,
-        group: &Group,
-        targets: Targets,
-    ) -> Result<Emitted, Full>
+    fn emit_many_members(&mut self, group: &Group, context: Context) -> Result<Emitted, Full>
         requires many { 2 ≤ length group.now.ranges.items }
-        requires targets { AreTargets self.old targets }
-        ensures { EmitsRelayed known (list_weight group.now.kind.form (length group.now.ranges.items))
-            (any_of (kind_test group.now.kind) group.now.ranges.items) targets self.old self.new result }
+        requires targets { AreTargets self.old context.targets }
+        ensures { EmitsRelayed context.known (list_weight group.now.kind.form (length group.now.ranges.items))
+            (any_of (kind_test group.now.kind) group.now.ranges.items) context.targets self.old self.new result }
     {
         self.room(2)?;
-        let targets = self.emit_relays(targets);
-        let entry = self.emit_list(known, group.kind, group.ranges.as_slice(), targets)?;
+        let targets = self.emit_relays(context.targets);
+        let entry = self.emit_list(group, Context { targets, ..context })?;
         Ok(Emitted { entry, targets })
     }
 
     /// Emits a group of one member that is a relation or an Ethernet host.
-    fn emit_one_member(
-        &mut self,
-        known: PacketFacts,
-        group: &Group,
-        targets: Targets,
-    ) -> Result<Emitted, Full>
+    fn emit_one_member(&mut self, group: &Group, context: Context) -> Result<Emitted, Full>
         requires form { (group.now.kind.form ≡ Bytes) ⊎ (group.now.kind.form ≡ EtherHost) }
         requires some { length group.now.ranges.items ≡ 1 }
-        requires targets { AreTargets self.old targets }
-        ensures { EmitsRelayed known (list_weight group.now.kind.form (length group.now.ranges.items))
-            (any_of (kind_test group.now.kind) group.now.ranges.items) targets self.old self.new result }
+        requires targets { AreTargets self.old context.targets }
+        ensures { EmitsRelayed context.known (list_weight group.now.kind.form (length group.now.ranges.items))
+            (any_of (kind_test group.now.kind) group.now.ranges.items) context.targets self.old self.new result }
     {
         self.room(2)?;
-        let targets = self.emit_relays(targets);
-        let kind = group.kind;
-        let ranges = group.ranges.as_slice();
-        let entry = match kind.form {
-            Form::EtherHost => self.emit_ethernet_list(kind.sides, kind.head, ranges, targets)?,
-            _ => self.emit_bytes_list(known, kind.bytes, ranges, targets)?,
+        let targets = self.emit_relays(context.targets);
+        let entry = match group.kind.form {
+            Form::EtherHost => self.emit_ethernet_list(group, targets)?,
+            _ => self.emit_bytes_list(group, Context { targets, ..context })?,
         };
         Ok(Emitted { entry, targets })
     }
@@ -183,52 +160,47 @@ impl Code {
     /// Emits the members of one kind. A single member is emitted as its primitive, except an Ethernet host: the lists of such hosts enter
     /// each other after their loads.
     #[inline(never)]
-    fn emit_group(
-        &mut self,
-        known: PacketFacts,
-        group: &Group,
-        targets: Targets,
-    ) -> Result<Emitted, Full>
+    fn emit_group(&mut self, group: &Group, context: Context) -> Result<Emitted, Full>
         requires some { 0 < length group.now.ranges.items }
         requires alone { IsAlone group.now.kind group.now.primitive group.now.ranges.items }
-        requires targets { AreTargets self.old targets }
-        ensures { EmitsRelayed known (list_weight group.now.kind.form (length group.now.ranges.items))
-            (any_of (kind_test group.now.kind) group.now.ranges.items) targets self.old self.new result }
+        requires targets { AreTargets self.old context.targets }
+        ensures { EmitsRelayed context.known (list_weight group.now.kind.form (length group.now.ranges.items))
+            (any_of (kind_test group.now.kind) group.now.ranges.items) context.targets self.old self.new result }
     {
         if group.ranges.len() > 1 {
-            return self.emit_many_members(known, group, targets);
+            return self.emit_many_members(group, context);
         }
         match group.primitive {
             Some(primitive) => match group.kind.form {
-                Form::EtherHost => self.emit_one_member(known, group, targets),
-                _ => self.emit_primitive_with_relays(known, primitive, targets),
+                Form::EtherHost => self.emit_one_member(group, context),
+                _ => self.emit_primitive_with_relays(primitive, context),
             },
-            None => self.emit_one_member(known, group, targets),
+            None => self.emit_one_member(group, context),
         }
     }
 
     /// Emits all members, kind by kind: in a run the kind of the first member comes first.
     fn emit_members(
         &mut self,
-        known: PacketFacts,
         first: Member,
         others: &mut OtherMembers,
-        targets: Targets,
+        context: Context,
     ) -> Result<Emitted, Full>
         requires first { IsMember first }
         requires others { All IsMember others.old.members.items }
         requires room { length others.old.members.items < MAX_INSNS }
-        requires targets { AreTargets self.old targets }
+        requires targets { AreTargets self.old context.targets }
         ensures { OrFull (list_weight first.kind.form 1 + members_weight others.old.members.items) self.old result (λ emitted.
-            EmitsMembers known first others.old.members.items targets emitted.targets emitted.entry self.old self.new) }
+            EmitsMembers context.known first others.old.members.items context.targets emitted.targets emitted.entry self.old self.new) }
     {
         let group = others.group_of(first);
         let Some(next) = others.pop() else {
-            return self.emit_group(known, &group, targets);
+            return self.emit_group(&group, context);
         };
-        let second = self.emit_members(known, next, others, targets)?;
+        let second = self.emit_members(next, others, context)?;
         let (yes, no) = (second.targets.yes, second.entry);
-        let head = self.emit_group(known, &group, Targets { yes, no })?;
+        let targets = Targets { yes, no };
+        let head = self.emit_group(&group, Context { targets, ..context })?;
         let (yes, no) = (head.targets.yes, second.targets.no);
         let (entry, targets) = (head.entry, Targets { yes, no });
         Ok(Emitted { entry, targets })
@@ -239,28 +211,21 @@ impl Code {
     #[inline(never)]
     fn emit_value_lists<'a>(
         &mut self,
-        known: PacketFacts,
         chain: Chain,
         left: &'a Expr,
         right: &Expr,
-        targets: Targets,
+        context: Context,
     ) -> Result<Option<RightEnd<'a>>, Full>
-        requires targets { AreTargets self.old targets }
-        ensures { OrFull (weight (tree_of left.now) + weight (tree_of right.now)) self.old result (λ found.
-            MatchOption found (self.new ≡ self.old)
-            (EmitsRightEnd known chain (tree_of left.now) (tree_of right.now) targets self.old self.new)) }
+        requires targets { AreTargets self.old context.targets }
+        ensures { EmitsLists context.known chain (tree_of left.now) (tree_of right.now) context.targets self.old self.new result }
     {
         let Some((list, left)) = ValueLists::at_end(chain, left, right) else {
             return Ok(None);
         };
-        let known = chain.facts_after(known, left);
+        let known = chain.facts_after(context.known, left);
+        let targets = targets_for_chain(chain, context.targets);
         let mut others = list.others;
-        let members = self.emit_members(
-            known,
-            list.first,
-            &mut others,
-            targets_for_chain(chain, targets),
-        )?;
+        let members = self.emit_members(list.first, &mut others, Context { known, targets })?;
         let (entry, targets) = (members.entry, targets_for_chain(chain, members.targets));
         let emitted = Emitted { entry, targets };
         Ok(Some(RightEnd { emitted, left }))
@@ -269,43 +234,39 @@ impl Code {
     /// Looks first whether the chain can end in lists, and only then emits them: no stack is cleared in vain.
     fn emit_lists_if_any<'a>(
         &mut self,
-        known: PacketFacts,
         chain: Chain,
         left: &'a Expr,
         right: &Expr,
-        targets: Targets,
+        context: Context,
     ) -> Result<Option<RightEnd<'a>>, Full>
-        requires targets { AreTargets self.old targets }
-        ensures { OrFull (weight (tree_of left.now) + weight (tree_of right.now)) self.old result (λ found.
-            MatchOption found (self.new ≡ self.old)
-            (EmitsRightEnd known chain (tree_of left.now) (tree_of right.now) targets self.old self.new)) }
+        requires targets { AreTargets self.old context.targets }
+        ensures { EmitsLists context.known chain (tree_of left.now) (tree_of right.now) context.targets self.old self.new result }
     {
         if !may_be_listed(chain, left, right) {
             return Ok(None);
         }
-        self.emit_value_lists(known, chain, left, right, targets)
+        self.emit_value_lists(chain, left, right, context)
     }
 
     /// Emits the lists in which a chain of these two ends, or else its last link.
     #[cycle(expression)]
     fn emit_last_link<'a>(
         &mut self,
-        known: PacketFacts,
         chain: Chain,
         left: &'a Expr,
         right: &Expr,
-        targets: Targets,
+        context: Context,
     ) -> Result<RightEnd<'a>, Full>
         requires need { need (tree_of right.now) ≤ 16 }
-        requires targets { AreTargets self.old targets }
+        requires targets { AreTargets self.old context.targets }
         ensures { OrFull (weight (tree_of left.now) + weight (tree_of right.now)) self.old result
-            (EmitsRightEnd known chain (tree_of left.now) (tree_of right.now) targets self.old self.new) }
+            (EmitsRightEnd context.known chain (tree_of left.now) (tree_of right.now) context.targets self.old self.new) }
     {
-        if let Some(listed) = self.emit_lists_if_any(known, chain, left, right, targets)? {
+        if let Some(listed) = self.emit_lists_if_any(chain, left, right, context)? {
             return Ok(listed);
         }
-        let known = chain.facts_after(known, Some(left));
-        let emitted = self.emit_expr(known, right, targets)?;
+        let known = chain.facts_after(context.known, Some(left));
+        let emitted = self.emit_expr(right, Context { known, ..context })?;
         let left = Some(left);
         Ok(RightEnd { emitted, left })
     }
@@ -313,42 +274,40 @@ impl Code {
     /// Emits the right end of an expression: the last link or the lists of a chain, and the whole of any other expression.
     #[inline(never)]
     #[cycle(expression)]
-    fn emit_right_end<'a>(
-        &mut self,
-        known: PacketFacts,
-        expr: &'a Expr,
-        targets: Targets,
-    ) -> Result<RightEnd<'a>, Full>
+    fn emit_right_end<'a>(&mut self, expr: &'a Expr, context: Context) -> Result<RightEnd<'a>, Full>
         requires need { need (tree_of expr.now) ≤ 16 }
-        requires targets { AreTargets self.old targets }
+        requires targets { AreTargets self.old context.targets }
         ensures { OrFull (weight (tree_of expr.now)) self.old result (λ end. MatchOption end.left
-            (DecidesGiven known (weight (tree_of expr.now)) (meaning (tree_of expr.now)) targets end.emitted.entry self.old self.new
-            × RelaysBoth targets end.emitted.targets self.old self.new)
-            (λ rest. Leaves known (tree_of expr.now) (tree_of rest.now) targets end.emitted.targets end.emitted.entry
+            (DecidesGiven context.known (weight (tree_of expr.now)) (meaning (tree_of expr.now)) context.targets end.emitted.entry self.old self.new
+            × RelaysBoth context.targets end.emitted.targets self.old self.new)
+            (λ rest. Leaves context.known (tree_of expr.now) (tree_of rest.now) context.targets end.emitted.targets end.emitted.entry
             self.old self.new)) }
     {
+        let targets = context.targets;
         let emitted = match expr {
             Expr::Everything => {
                 let entry = targets.yes;
                 Emitted { entry, targets }
             }
-            Expr::Test(primitive) => self.emit_primitive_with_relays(known, *primitive, targets)?,
+            Expr::Test(primitive) => self.emit_primitive_with_relays(*primitive, context)?,
             Expr::Relation(comparison, left, right) => {
                 self.room(2)?;
                 let targets = self.emit_relays(targets);
-                let entry = self.emit_relation_given(known, *comparison, left, right, targets)?;
+                let context = Context { targets, ..context };
+                let entry = self.emit_relation_given(*comparison, left, right, context)?;
                 Emitted { entry, targets }
             }
             Expr::Not(operand) => {
-                let inner = self.emit_expr(known, operand, targets.opposite())?;
+                let targets = targets.opposite();
+                let inner = self.emit_expr(operand, Context { targets, ..context })?;
                 let (entry, targets) = (inner.entry, inner.targets.opposite());
                 Emitted { entry, targets }
             }
             Expr::And(left, right) => {
-                return self.emit_last_link(known, Chain::NoneOf, left, right, targets);
+                return self.emit_last_link(Chain::NoneOf, left, right, context);
             }
             Expr::Or(left, right) => {
-                return self.emit_last_link(known, Chain::AnyOf, left, right, targets);
+                return self.emit_last_link(Chain::AnyOf, left, right, context);
             }
         };
         let left = None;
@@ -358,22 +317,18 @@ impl Code {
     /// Emits an expression, or only what it needs of a packet of which something is known. A loop goes from its right end to its left, so a
     /// long chain takes no more stack than a short one.
     #[cycle(expression)]
-    fn emit_expr(
-        &mut self,
-        known: PacketFacts,
-        expr: &Expr,
-        targets: Targets,
-    ) -> Result<Emitted, Full>
+    fn emit_expr(&mut self, expr: &Expr, context: Context) -> Result<Emitted, Full>
         requires need { need (tree_of expr.now) ≤ 16 }
-        requires targets { AreTargets self.old targets }
-        ensures { EmitsRelayed known (weight (tree_of expr.now)) (meaning (tree_of expr.now)) targets self.old self.new result }
+        requires targets { AreTargets self.old context.targets }
+        ensures { EmitsRelayed context.known (weight (tree_of expr.now)) (meaning (tree_of expr.now)) context.targets self.old self.new result }
     {
+        let known = context.known;
         let mut rest = expr;
-        let mut on = targets;
+        let mut on = context.targets;
         let (yes, no) = (None, None);
         let mut kept = KeptTargets { yes, no };
         'ends: loop {
-            let end = self.emit_right_end(known, rest, on)?;
+            let end = self.emit_right_end(rest, Context { known, targets: on })?;
             let emitted = end.emitted;
             let Some(left) = end.left else {
                 let (entry, targets) = (emitted.entry, kept.with_last(emitted.targets));
@@ -395,8 +350,9 @@ fn program_of(expr: &Expr, snap: u32) -> Result<Program, Full>
     ensures full { IsErr result → 500 < weight (tree_of expr.now) }
 {
     let mut code = Code::new(snap);
-    let (yes, no) = (Entry::at(2), Entry::at(1));
-    let emitted = code.emit_expr(PacketFacts::Nothing, expr, Targets { yes, no })?;
+    let (known, yes, no) = (PacketFacts::Nothing, Entry::at(2), Entry::at(1));
+    let targets = Targets { yes, no };
+    let emitted = code.emit_expr(expr, Context { known, targets })?;
     code.room(1)?;
     code.emit_relay(emitted.entry.any, 0);
     code.into_program()

@@ -4,11 +4,12 @@ ghost use Rattle.std.specs.Prelude.{◌≡◌, ◌+◌, ◌≤◌, ◌⊎◌, le
 ghost use Rattle.std.specs.Bool.{OnTrue};
 ghost use Rattle.filtergen_trim.specs.declared.unreached.TheConstants.{MAX_CODE};
 ghost use Rattle.filtergen_code.specs.Emission.{IsPlace, Extends};
-ghost use Rattle.filtergen_code.specs.Entries.{IsEntry, AreTargets, for_answer, AreOther, with_other_protocol, Relays, RelaysBoth};
+ghost use Rattle.filtergen_code.specs.Entries.{IsEntry, for_answer, IsFor, AreOther, with_other_protocol, Relays, RelaysBoth, CanEmitBy};
 
 use crate::code::{Code, Exits, REACH};
 use filter_meaning::protocol_number;
 use filter_tree::Transport;
+use filtergen_facts::PacketFacts;
 
 /// The entry of a piece of code: the place for any packet, and places for packets of which a test before has shown something, which need
 /// not be tested for it again. If that spares nothing, the places are the same.
@@ -45,25 +46,18 @@ impl Entry {
         ensures { (result ≡ self) ⊎ (AreOther asked next.transport × (result ≡ with_other_protocol self next)) }
     {
         match (asked, next.transport) {
-            (Some(own), Some(other)) => {
-                if protocol_number(own) == protocol_number(other) {
-                    self
-                } else {
-                    Entry {
-                        first_fragment: next.first_fragment,
-                        transport: next.transport,
-                        ..self
-                    }
-                }
-            }
+            (Some(own), Some(other)) if protocol_number(own) != protocol_number(other) => Entry {
+                first_fragment: next.first_fragment,
+                transport: next.transport,
+                ..self
+            },
             _ => self,
         }
     }
 
     /// The place for a first fragment of this protocol.
     fn first_fragment_of(self, transport: Option<Transport>) -> usize
-        ensures { (result ≡ self.ip)
-            ⊎ ((result ≡ self.first_fragment) × ((self.transport ≡ None) ⊎ (self.transport ≡ transport))) }
+        ensures { IsFor transport result self }
     {
         match (self.transport, transport) {
             (None, _) => self.first_fragment,
@@ -80,52 +74,47 @@ pub(crate) struct Targets {
     pub no: Entry,
 }
 
+/// What is known of a packet at a test, and where the test goes on.
+#[derive(Clone, Copy)]
+pub(crate) struct Context {
+    pub known: PacketFacts,
+    pub targets: Targets,
+}
+
 impl Targets {
-    /// The targets of the opposite test.
     pub fn opposite(self) -> Targets
         ensures { result ≡ record { yes = self.no; no = self.yes } }
     {
-        Targets {
-            yes: self.no,
-            no: self.yes,
-        }
+        let (yes, no) = (self.no, self.yes);
+        Targets { yes, no }
     }
 
-    /// The target for Yes or No.
     pub fn for_answer(self, holds: bool) -> Entry
         ensures { result ≡ for_answer holds self }
     {
         if holds { self.yes } else { self.no }
     }
 
-    /// The exits for any packet.
     pub fn any_exits(self) -> Exits
         ensures { result ≡ record { yes = self.yes.any; no = self.no.any } }
     {
-        Exits {
-            yes: self.yes.any,
-            no: self.no.any,
-        }
+        let (yes, no) = (self.yes.any, self.no.any);
+        Exits { yes, no }
     }
 
-    /// The exits for a packet of IPv4.
     pub fn ip_exits(self) -> Exits
         ensures { result ≡ record { yes = self.yes.ip; no = self.no.ip } }
     {
-        Exits {
-            yes: self.yes.ip,
-            no: self.no.ip,
-        }
+        let (yes, no) = (self.yes.ip, self.no.ip);
+        Exits { yes, no }
     }
 
     /// The exits for a packet of another type.
     pub fn other_exits(self) -> Exits
         ensures { result ≡ record { yes = self.yes.other; no = self.no.other } }
     {
-        Exits {
-            yes: self.yes.other,
-            no: self.no.other,
-        }
+        let (yes, no) = (self.yes.other, self.no.other);
+        Exits { yes, no }
     }
 
     /// Whether a packet of IPv4 goes on at the same places as one of another type.
@@ -137,15 +126,12 @@ impl Targets {
 
     /// The exits for a first fragment of this protocol; `None` is any protocol with ports.
     pub fn first_fragment_exits(self, transport: Option<Transport>) -> Exits
-        ensures yes { (result.yes ≡ self.yes.ip)
-            ⊎ ((result.yes ≡ self.yes.first_fragment) × ((self.yes.transport ≡ None) ⊎ (self.yes.transport ≡ transport))) }
-        ensures no { (result.no ≡ self.no.ip)
-            ⊎ ((result.no ≡ self.no.first_fragment) × ((self.no.transport ≡ None) ⊎ (self.no.transport ≡ transport))) }
+        ensures yes { IsFor transport result.yes self.yes }
+        ensures no { IsFor transport result.no self.no }
     {
-        Exits {
-            yes: self.yes.first_fragment_of(transport),
-            no: self.no.first_fragment_of(transport),
-        }
+        let yes = self.yes.first_fragment_of(transport);
+        let no = self.no.first_fragment_of(transport);
+        Exits { yes, no }
     }
 }
 
@@ -183,8 +169,7 @@ impl Code {
     /// Emits relays of the targets that a jump at the front does not reach. All tests that come in front share them, so a long chain takes
     /// few of them.
     pub fn emit_relays(&mut self, targets: Targets) -> Targets
-        requires room { length self.old + 2 ≤ MAX_CODE }
-        requires targets { AreTargets self.old targets }
+        requires { CanEmitBy 2 targets self.old }
         ensures extends { Extends 2 self.old self.new }
         ensures relays { RelaysBoth targets result self.old self.new }
     {

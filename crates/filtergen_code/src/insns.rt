@@ -37,12 +37,8 @@ pub(crate) enum Field {
 pub(crate) fn plain_insn(code: u16, k: u32) -> Insn
     ensures { result ≡ plain_insn code k }
 {
-    Insn {
-        code,
-        jt: 0,
-        jf: 0,
-        k,
-    }
+    let (jt, jf) = (0, 0);
+    Insn { code, jt, jf, k }
 }
 
 fn branch_code(jump: Jump, operand: Operand) -> u16
@@ -74,12 +70,8 @@ pub(crate) fn constant_of(operand: Operand) -> u32
 pub(crate) fn branch_insn(jump: Jump, operand: Operand, jt: u8, jf: u8) -> Insn
     ensures { result ≡ branch_insn jump operand jt jf }
 {
-    Insn {
-        code: branch_code(jump, operand),
-        jt,
-        jf,
-        k: constant_of(operand),
-    }
+    let (code, k) = (branch_code(jump, operand), constant_of(operand));
+    Insn { code, jt, jf, k }
 }
 
 /// The load of a field into the accumulator.

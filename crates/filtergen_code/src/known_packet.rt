@@ -2,9 +2,8 @@
 //!
 //! Code is written from its end, so what a run does last is emitted first. `next` is where a run goes on after a test.
 
-ghost use Rattle.std.specs.Prelude.{◌≡◌, ◌+◌, ◌≤◌, ◌⊎◌, true, Some, None, length, max};
+ghost use Rattle.std.specs.Prelude.{◌≡◌, ◌+◌, ◌≤◌, ◌⊎◌, true, Some, None, max};
 ghost use Rattle.std.specs.Bool.{OnTrue};
-ghost use Rattle.filtergen_trim.specs.declared.unreached.TheConstants.{MAX_CODE};
 ghost use Rattle.filter_tree.specs.declared.tree.Network.TheVariants as networks;
 ghost use Rattle.filter_tree.specs.Trees.{amount_of};
 ghost use Rattle.filtergen_facts.specs.Weights.{value_weight, value_need};
@@ -12,11 +11,11 @@ ghost use Rattle.filter_meaning.specs.Meaning.{is_protocol, plain_test, in_any_n
 ghost use Rattle.filter_meaning.specs.declared.headers.TheConstants.{IP};
 ghost use Rattle.filtergen_facts.specs.Facts.{has_type, has_protocol, begins_with_ip};
 ghost use Rattle.filtergen_code.specs.Parts.{plain_cost, cost, relation_cost};
-ghost use Rattle.filtergen_code.specs.Emission.{IsPlace};
-ghost use Rattle.filtergen_code.specs.Entries.{AreTargets, DecidesGiven, EmitsGiven, GuardsIp, GuardsKnown};
+ghost use Rattle.filtergen_code.specs.Emission.{CanEmit};
+ghost use Rattle.filtergen_code.specs.Entries.{AreTargets, DecidesGiven, EmitsGiven, GuardsIp, GuardsKnown, CanEmitBy};
 
 use crate::code::{Code, Exits, Full};
-use crate::entries::{Entry, Targets};
+use crate::entries::{Context, Entry};
 use crate::primitives::{IP_ADDRESSES, NetTest, PortTest};
 use filter_meaning::{IP, protocol_number};
 use filter_tree::{Comparison, Network, Plain, Primitive, Transport, Value};
@@ -35,125 +34,96 @@ fn may_be_ip(network: Option<Network>) -> bool
 
 impl Code {
     /// Emits the test for IPv4 in front of a test for IPv4 packets, unless the packet is known to be one.
-    pub fn emit_ip_guard_given(
-        &mut self,
-        known: PacketFacts,
-        next: usize,
-        targets: Targets,
-    ) -> Entry
-        requires room { length self.old + 4 ≤ MAX_CODE }
-        requires next { IsPlace self.old next }
-        requires other { IsPlace self.old targets.no.other }
-        ensures { GuardsIp known next targets result self.old self.new }
+    pub fn emit_ip_guard_given(&mut self, next: usize, context: Context) -> Entry
+        requires { CanEmit 4 (record { yes = next; no = context.targets.no.other }) self.old }
+        ensures { GuardsIp context.known next context.targets result self.old self.new }
     {
-        if known.has_type(IP) {
+        if context.known.has_type(IP) {
             return Entry::at(next);
         }
-        self.emit_ip_guard(next, targets.no.other)
+        self.emit_ip_guard(next, context.targets.no.other)
     }
 
     /// Emits the test for a first fragment in front of a test for first fragments, unless the packet is known to be one. It is known to be of
     /// this protocol.
     pub fn emit_fragment_guard_given(
         &mut self,
-        known: PacketFacts,
         asked: Option<Transport>,
         transport: Transport,
         first_fragment: usize,
-        targets: Targets,
+        context: Context,
     ) -> Entry
-        requires known { has_protocol known (protocol_number transport) ≡ true }
+        requires known { has_protocol context.known (protocol_number transport) ≡ true }
         requires asked { (asked ≡ None) ⊎ (asked ≡ Some transport) }
-        requires room { length self.old + 4 ≤ MAX_CODE }
-        requires first_fragment { IsPlace self.old first_fragment }
-        requires ip { IsPlace self.old targets.no.ip }
-        ensures { GuardsKnown known asked transport first_fragment targets result self.old self.new }
+        requires ready { CanEmit 4 (record { yes = first_fragment; no = context.targets.no.ip }) self.old }
+        ensures { GuardsKnown context.known asked transport first_fragment context.targets result self.old self.new }
     {
-        if known.has_first_fragment(protocol_number(transport)) {
+        if context.known.has_first_fragment(protocol_number(transport)) {
             return Entry::at(first_fragment);
         }
-        let any = self.emit_fragment_test(Exits {
-            yes: first_fragment,
-            no: targets.no.ip,
-        });
-        Entry {
-            first_fragment,
-            transport: Some(transport),
-            ..Entry::at(any)
-        }
+        let (yes, no) = (first_fragment, context.targets.no.ip);
+        let mut entry = Entry::at(self.emit_fragment_test(Exits { yes, no }));
+        entry.first_fragment = first_fragment;
+        entry.transport = Some(transport);
+        entry
     }
 
     /// Emits the test for ports from low to high of a packet that is known to be of this protocol.
     fn emit_ports_given(
         &mut self,
-        known: PacketFacts,
         asked: Option<Transport>,
         transport: Transport,
         ports: PortTest,
-        targets: Targets,
+        context: Context,
     ) -> Entry
-        requires known { has_protocol known (protocol_number transport) ≡ true }
+        requires known { has_protocol context.known (protocol_number transport) ≡ true }
         requires asked { (asked ≡ None) ⊎ (asked ≡ Some transport) }
-        requires room { length self.old + 19 ≤ MAX_CODE }
-        requires targets { AreTargets self.old targets }
-        ensures { DecidesGiven known 19 (has_any_ports asked ports.direction ports.low ports.high) targets result self.old self.new }
+        requires ready { CanEmitBy 19 context.targets self.old }
+        ensures { DecidesGiven context.known 19 (has_any_ports asked ports.direction ports.low ports.high) context.targets result
+            self.old self.new }
     {
-        let exits = targets.first_fragment_exits(Some(transport));
+        let exits = context.targets.first_fragment_exits(Some(transport));
         let first_fragment = self.emit_header_and_ports(ports, exits);
-        self.emit_fragment_guard_given(known, asked, transport, first_fragment, targets)
+        self.emit_fragment_guard_given(asked, transport, first_fragment, context)
     }
 
     /// Emits the test for a host or a net of a packet that is known to be IPv4.
-    fn emit_net_given(
-        &mut self,
-        known: PacketFacts,
-        network: Option<Network>,
-        net: NetTest,
-        targets: Targets,
-    ) -> Entry
-        requires known { has_type known IP ≡ true }
+    fn emit_net_given(&mut self, network: Option<Network>, net: NetTest, context: Context) -> Entry
+        requires known { has_type context.known IP ≡ true }
         requires network { (network ≡ None) ⊎ (network ≡ Some networks.Ip) }
-        requires room { length self.old + 10 ≤ MAX_CODE }
-        requires targets { AreTargets self.old targets }
-        ensures { DecidesGiven known 10 (in_any_net network net.direction net.address net.mask) targets result self.old self.new }
+        requires ready { CanEmitBy 10 context.targets self.old }
+        ensures { DecidesGiven context.known 10 (in_any_net network net.direction net.address net.mask) context.targets result
+            self.old self.new }
     {
-        let exits = targets.ip_exits();
+        let exits = context.targets.ip_exits();
         Entry::at(self.emit_addresses(IP_ADDRESSES, net, exits))
     }
 
     /// Emits what the test for IPv4 with this protocol number needs.
-    fn emit_ip_protocol_given(&mut self, known: PacketFacts, number: u32, targets: Targets) -> Entry
-        requires room { length self.old + 8 ≤ MAX_CODE }
-        requires targets { AreTargets self.old targets }
-        ensures { DecidesGiven known 8 (is_protocol number) targets result self.old self.new }
+    fn emit_ip_protocol_given(&mut self, number: u32, context: Context) -> Entry
+        requires { CanEmitBy 8 context.targets self.old }
+        ensures { DecidesGiven context.known 8 (is_protocol number) context.targets result self.old self.new }
     {
-        if known.has_protocol(number) {
-            return targets.yes;
+        if context.known.has_protocol(number) {
+            return context.targets.yes;
         }
-        if known.has_type(IP) {
-            let exits = targets.ip_exits();
+        if context.known.has_type(IP) {
+            let exits = context.targets.ip_exits();
             return Entry::at(self.emit_protocol_number(number, exits));
         }
-        self.emit_ip_protocol(number, targets)
+        self.emit_ip_protocol(number, context.targets)
     }
 
-    /// Emits what the test of a protocol word needs.
-    fn emit_protocol_word_given(
-        &mut self,
-        known: PacketFacts,
-        word: Plain,
-        targets: Targets,
-    ) -> Entry
-        requires room { length self.old + plain_cost word ≤ MAX_CODE }
-        requires targets { AreTargets self.old targets }
-        ensures { DecidesGiven known (plain_cost word) (plain_test word) targets result self.old self.new }
+    fn emit_protocol_word_given(&mut self, word: Plain, context: Context) -> Entry
+        requires { CanEmitBy (plain_cost word) context.targets self.old }
+        ensures { DecidesGiven context.known (plain_cost word) (plain_test word) context.targets result self.old self.new }
     {
         match word {
-            Plain::Icmp => self.emit_ip_protocol_given(known, ICMP, targets),
-            Plain::Tcp => self.emit_ip_protocol_given(known, TCP, targets),
-            Plain::Udp => self.emit_ip_protocol_given(known, UDP, targets),
-            Plain::Sctp => self.emit_ip_protocol_given(known, SCTP, targets),
-            _ => self.emit_protocol_word(word, targets),
+            Plain::Icmp => self.emit_ip_protocol_given(ICMP, context),
+            Plain::Tcp => self.emit_ip_protocol_given(TCP, context),
+            Plain::Udp => self.emit_ip_protocol_given(UDP, context),
+            Plain::Sctp => self.emit_ip_protocol_given(SCTP, context),
+            _ => self.emit_protocol_word(word, context.targets),
         }
     }
 
@@ -161,63 +131,52 @@ impl Code {
     #[tactic(auto, using(crate::proofs::Bounds::relation_bound))]
     pub fn emit_relation_given(
         &mut self,
-        known: PacketFacts,
         comparison: Comparison,
         left: &Value,
         right: &Value,
-        targets: Targets,
+        context: Context,
     ) -> Result<Entry, Full>
         requires need { max (value_need (amount_of left.now)) (1 + value_need (amount_of right.now)) ≤ 16 }
-        requires targets { AreTargets self.old targets }
-        ensures { EmitsGiven known (8 + (value_weight (amount_of left.now) + value_weight (amount_of right.now)))
-            (relation_test comparison (amount_of left.now) (amount_of right.now)) targets self.old self.new result }
+        requires targets { AreTargets self.old context.targets }
+        ensures { EmitsGiven context.known (8 + (value_weight (amount_of left.now) + value_weight (amount_of right.now)))
+            (relation_test comparison (amount_of left.now) (amount_of right.now)) context.targets self.old self.new result }
     {
         if PacketFacts::begins_with_ip(left) {
-            return self.emit_ip_relation_given(known, comparison, left, right, targets);
+            return self.emit_ip_relation_given(comparison, left, right, context);
         }
-        let place = self.emit_relation(known, comparison, left, right, targets.any_exits())?;
+        let exits = context.targets.any_exits();
+        let place = self.emit_relation(context.known, comparison, left, right, exits)?;
         Ok(Entry::at(place))
     }
 
     /// Emits what a relation needs whose first accessor is of IPv4: an IPv4 packet enters it after the test of the type.
     fn emit_ip_relation_given(
         &mut self,
-        known: PacketFacts,
         comparison: Comparison,
         left: &Value,
         right: &Value,
-        targets: Targets,
+        context: Context,
     ) -> Result<Entry, Full>
         requires need { max (value_need (amount_of left.now)) (1 + value_need (amount_of right.now)) ≤ 16 }
         requires begins { begins_with_ip (amount_of left.now) ≡ true }
-        requires targets { AreTargets self.old targets }
-        ensures { EmitsGiven known (relation_cost (amount_of left.now) (amount_of right.now) + 4)
-            (relation_test comparison (amount_of left.now) (amount_of right.now)) targets self.old self.new result }
+        requires targets { AreTargets self.old context.targets }
+        ensures { EmitsGiven context.known (relation_cost (amount_of left.now) (amount_of right.now) + 4)
+            (relation_test comparison (amount_of left.now) (amount_of right.now)) context.targets self.old self.new result }
     {
-        let of_ip = known.with_fact(PacketFacts::Type(IP));
-        let next = self.emit_relation(of_ip, comparison, left, right, targets.ip_exits())?;
+        let of_ip = context.known.with_fact(PacketFacts::Type(IP));
+        let exits = context.targets.ip_exits();
+        let next = self.emit_relation(of_ip, comparison, left, right, exits)?;
         self.room(4)?;
-        Ok(self.emit_ip_guard_given(known, next, targets))
+        Ok(self.emit_ip_guard_given(next, context))
     }
 
-    /// Emits what a primitive needs.
-    pub fn emit_primitive_given(
-        &mut self,
-        known: PacketFacts,
-        primitive: Primitive,
-        targets: Targets,
-    ) -> Entry
-        requires room { length self.old + cost primitive ≤ MAX_CODE }
-        requires targets { AreTargets self.old targets }
-        ensures { DecidesGiven known (cost primitive) (primitive_test primitive) targets result self.old self.new }
+    pub fn emit_primitive_given(&mut self, primitive: Primitive, context: Context) -> Entry
+        requires { CanEmitBy (cost primitive) context.targets self.old }
+        ensures { DecidesGiven context.known (cost primitive) (primitive_test primitive) context.targets result self.old self.new }
     {
         match primitive {
-            Primitive::Protocol(word) => self.emit_protocol_word_given(known, word, targets),
-            Primitive::IpProto(number) => self.emit_ip_protocol_given(
-                known,
-                u32::from(number),
-                targets,
-            ),
+            Primitive::Protocol(word) => self.emit_protocol_word_given(word, context),
+            Primitive::IpProto(number) => self.emit_ip_protocol_given(u32::from(number), context),
             Primitive::Ports {
                 transport: asked,
                 direction,
@@ -225,11 +184,9 @@ impl Code {
                 high,
             } => {
                 let ports = PortTest::new(direction, low, high);
-                match known.transport_of(asked) {
-                    Some(transport) => self.emit_ports_given(
-                        known, asked, transport, ports, targets,
-                    ),
-                    None => self.emit_primitive(primitive, targets),
+                match context.known.transport_of(asked) {
+                    Some(transport) => self.emit_ports_given(asked, transport, ports, context),
+                    None => self.emit_primitive(primitive, context.targets),
                 }
             }
             Primitive::Net {
@@ -238,18 +195,18 @@ impl Code {
                 address,
                 mask,
             } => {
-                if known.has_type(IP) && may_be_ip(network) {
+                if context.known.has_type(IP) && may_be_ip(network) {
                     let net = NetTest {
                         direction,
                         address,
                         mask,
                     };
-                    self.emit_net_given(known, network, net, targets)
+                    self.emit_net_given(network, net, context)
                 } else {
-                    self.emit_primitive(primitive, targets)
+                    self.emit_primitive(primitive, context.targets)
                 }
             }
-            _ => self.emit_primitive(primitive, targets),
+            _ => self.emit_primitive(primitive, context.targets),
         }
     }
 }

@@ -1,6 +1,6 @@
 //! The primitives. Code is written from its end, so what a run does last is emitted first. `next` is where a run goes on after a test.
 
-ghost use Rattle.std.specs.Prelude.{◌≡◌, ◌≢◌, ℕ, ◌+◌, ◌≤◌, ◌==◌, true, if◌then◌else◌, None, length};
+ghost use Rattle.std.specs.Prelude.{◌≡◌, ◌≢◌, ◌+◌, ◌≤◌, ◌==◌, true, if◌then◌else◌, None, length};
 ghost use Rattle.filtergen_trim.specs.declared.unreached.TheConstants.{MAX_CODE};
 ghost use Rattle.filter_tree.specs.declared.tree.Primitive.TheVariants.{IpMulticast, Less};
 ghost use Rattle.filter_meaning.specs.declared.headers.TheConstants.{IP};
@@ -8,8 +8,8 @@ ghost use Rattle.filtergen_facts.specs.declared.packet_facts.TheConstants.{TCP, 
 ghost use Rattle.filtergen_code.specs.declared.primitives.TheConstants.{ARP_ADDRESSES};
 ghost use Rattle.filter_meaning.specs.Meaning.{check, byte, and_test, is_type, is_protocol, plain_test, by_direction, has_address, in_net, in_any_net, is_address, within, has_port, has_any_ports, protocol_number, primitive_test};
 ghost use Rattle.filtergen_code.specs.Insns.{plain_insn};
-ghost use Rattle.filtergen_code.specs.Emission.{IsPlace, AreExits, Chooses, ChoosesAfter, same_index, Follows, Decides};
-ghost use Rattle.filtergen_code.specs.Entries.{IsEntry, AreTargets, DecidesBy, GuardsPorts};
+ghost use Rattle.filtergen_code.specs.Emission.{IsPlace, CanEmit, Chooses, ChoosesAfter, same_index, Follows, Decides};
+ghost use Rattle.filtergen_code.specs.Entries.{DecidesBy, GuardsPorts, CanEmitBy};
 ghost use Rattle.filtergen_code.specs.Parts.{side_cost, side_offset, side_test, port_after, has_tcp_or_udp_number, has_port_number, number_of, plain_cost, cost};
 ghost use Rattle.filtergen_code.specs.Remaining.{is_unfragmented};
 
@@ -30,17 +30,9 @@ pub(crate) const ARP_ADDRESSES: (u32, u32) = (28, 38);
 /// A test of the source or the destination, at an offset in the frame.
 #[derive(Clone, Copy)]
 pub(crate) enum FieldTest {
-    /// The bits of an IPv4 address under a mask.
-    Ip {
-        offset: u32,
-        address: u32,
-        mask: u32,
-    },
-    /// An Ethernet address.
-    Ethernet {
-        offset: u32,
-        address: EthernetAddress,
-    },
+    /// The address of a host or a net of IPv4.
+    Ip(u32, NetTest),
+    Ethernet(u32, EthernetAddress),
 }
 
 /// A test of the ports from low to high on the sides that a direction chooses.
@@ -101,19 +93,15 @@ pub(crate) fn cost(primitive: Primitive) -> usize
 }
 
 impl Code {
-    /// Emits the test of the Ethernet type.
     pub fn emit_ether_type(&mut self, number: u32, exits: Exits) -> usize
-        requires room { length self.old + 4 ≤ MAX_CODE }
-        requires exits { AreExits self.old exits }
+        requires { CanEmit 4 exits self.old }
         ensures { Decides 4 (is_type number) exits result self.old self.new }
     {
         self.emit_test(Field::Half(12), Jump::Equal, number, exits)
     }
 
-    /// Emits the test of the protocol number of IPv4.
     pub fn emit_protocol_number(&mut self, number: u32, exits: Exits) -> usize
-        requires room { length self.old + 4 ≤ MAX_CODE }
-        requires exits { AreExits self.old exits }
+        requires { CanEmit 4 exits self.old }
         ensures { Decides 4 (λ p. check (λ b. b == number) (byte 23 p)) exits result self.old self.new }
     {
         self.emit_test(Field::Byte(23), Jump::Equal, number, exits)
@@ -121,70 +109,44 @@ impl Code {
 
     /// Emits the test for IPv4 in front of a test for IPv4 packets. A packet of another type goes to the other place.
     pub fn emit_ip_guard(&mut self, next: usize, other: usize) -> Entry
-        requires room { length self.old + 4 ≤ MAX_CODE }
-        requires next { IsPlace self.old next }
-        requires other { IsPlace self.old other }
+        requires { CanEmit 4 (record { yes = next; no = other }) self.old }
         ensures test { Decides 4 (is_type IP) (record { yes = next; no = other }) result.any self.old self.new }
         ensures places { result ≡
             record { any = result.any; ip = next; other = other; first_fragment = next; transport = None } }
     {
-        let exits = Exits {
-            yes: next,
-            no: other,
-        };
-        Entry {
-            any: self.emit_ether_type(IP, exits),
-            other,
-            ..Entry::at(next)
-        }
+        self.emit_ip_split(Entry::at(next), other)
     }
 
     /// Emits the test for IPv4. A packet of IPv4 goes on at the given entry, a packet of another type at the other place.
-    pub fn emit_ip_split(&mut self, of_ip: Entry, other: usize) -> Entry
-        requires room { length self.old + 4 ≤ MAX_CODE }
-        requires of_ip { IsPlace self.old of_ip.ip }
-        requires other { IsPlace self.old other }
-        ensures test { Decides 4 (is_type IP) (record { yes = of_ip.ip; no = other }) result.any self.old self.new }
-        ensures places { result ≡ record {
-          any = result.any;
-          ip = of_ip.ip;
-          other = other;
-          first_fragment = of_ip.first_fragment;
-          transport = of_ip.transport;
-        } }
+    pub fn emit_ip_split(&mut self, ip: Entry, other: usize) -> Entry
+        requires { CanEmit 4 (record { yes = ip.ip; no = other }) self.old }
+        ensures test { Decides 4 (is_type IP) (record { yes = ip.ip; no = other }) result.any self.old self.new }
+        ensures places { result ≡
+            record { any = result.any; ip = ip.ip; other = other; first_fragment = ip.first_fragment; transport = ip.transport } }
     {
-        let (yes, no) = (of_ip.ip, other);
+        let (yes, no) = (ip.ip, other);
         let any = self.emit_ether_type(IP, Exits { yes, no });
-        Entry {
-            any,
-            other,
-            ..of_ip
-        }
+        Entry { any, other, ..ip }
     }
 
     /// Emits the test of an Ethernet type other than IPv4. If the targets differ for IPv4, that type is tested first.
     fn emit_non_ip_type(&mut self, number: u32, targets: Targets) -> Entry
         requires number { number ≢ IP }
-        requires room { length self.old + 8 ≤ MAX_CODE }
-        requires targets { AreTargets self.old targets }
+        requires ready { CanEmitBy 8 targets self.old }
         ensures { DecidesBy 8 (is_type number) targets result self.old self.new }
     {
         if targets.is_one_for_all_types() {
-            let other = self.emit_ether_type(number, targets.any_exits());
-            return Entry {
-                any: other,
-                other,
-                ..targets.no
-            };
+            let mut entry = targets.no;
+            entry.any = self.emit_ether_type(number, targets.any_exits());
+            entry.other = entry.any;
+            return entry;
         }
         let other = self.emit_ether_type(number, targets.other_exits());
         self.emit_ip_split(targets.no, other)
     }
 
-    /// Emits the test of any Ethernet type.
     fn emit_any_type(&mut self, number: u32, targets: Targets) -> Entry
-        requires room { length self.old + 8 ≤ MAX_CODE }
-        requires targets { AreTargets self.old targets }
+        requires { CanEmitBy 8 targets self.old }
         ensures { DecidesBy 8 (is_type number) targets result self.old self.new }
     {
         if number == IP {
@@ -196,8 +158,7 @@ impl Code {
 
     /// Emits the test for IPv4 with this protocol number.
     pub fn emit_ip_protocol(&mut self, number: u32, targets: Targets) -> Entry
-        requires room { length self.old + 8 ≤ MAX_CODE }
-        requires targets { AreTargets self.old targets }
+        requires { CanEmitBy 8 targets self.old }
         ensures { DecidesBy 8 (is_protocol number) targets result self.old self.new }
     {
         let next = self.emit_protocol_number(number, targets.ip_exits());
@@ -206,8 +167,7 @@ impl Code {
 
     /// Emits the test that an IPv4 packet is no later fragment.
     pub fn emit_fragment_test(&mut self, exits: Exits) -> usize
-        requires room { length self.old + 4 ≤ MAX_CODE }
-        requires exits { AreExits self.old exits }
+        requires { CanEmit 4 exits self.old }
         ensures { Decides 4 is_unfragmented exits result self.old self.new }
     {
         self.emit_test(Field::Half(20), Jump::AnyBit, 0x1fff, exits.opposite())
@@ -215,23 +175,17 @@ impl Code {
 
     /// Emits the comparisons of the accumulator with the protocol numbers of TCP and UDP.
     fn emit_tcp_or_udp_branch(&mut self, exits: Exits)
-        requires room { length self.old + 6 ≤ MAX_CODE }
-        requires exits { AreExits self.old exits }
+        requires { CanEmit 6 exits self.old }
         ensures { Chooses 6 (λ r. if r.accumulator == TCP then true else r.accumulator == UDP) exits self.old self.new }
     {
         self.emit_branch(Jump::Equal, Operand::Constant(UDP), exits);
-        let udp = self.len();
-        self.emit_branch(
-            Jump::Equal,
-            Operand::Constant(TCP),
-            Exits { no: udp, ..exits },
-        );
+        let no = self.len();
+        self.emit_branch(Jump::Equal, Operand::Constant(TCP), Exits { no, ..exits });
     }
 
     /// Emits the test for the protocol number of TCP or UDP. An exit that begins with the same load is entered after it.
     pub fn emit_tcp_or_udp(&mut self, exits: Exits) -> usize
-        requires room { length self.old + 7 ≤ MAX_CODE }
-        requires exits { AreExits self.old exits }
+        requires { CanEmit 7 exits self.old }
         ensures { Decides 7 has_tcp_or_udp_number exits result self.old self.new }
     {
         let load = load_insn(Field::Byte(23));
@@ -243,8 +197,7 @@ impl Code {
 
     /// Emits the test for a protocol number with ports. An exit that begins with the same load is entered after it.
     fn emit_protocol_with_ports(&mut self, exits: Exits) -> usize
-        requires room { length self.old + 10 ≤ MAX_CODE }
-        requires exits { AreExits self.old exits }
+        requires { CanEmit 10 exits self.old }
         ensures { Decides 10 has_port_number exits result self.old self.new }
     {
         let load = load_insn(Field::Byte(23));
@@ -259,8 +212,7 @@ impl Code {
     /// Emits the test for a port from low to high, at an offset after the IPv4 header whose length is in the index register.
     fn emit_port(&mut self, offset: u32, low: u32, high: u32, exits: Exits) -> usize
         requires offset { offset ≤ 2 }
-        requires room { length self.old + 7 ≤ MAX_CODE }
-        requires exits { AreExits self.old exits }
+        requires ready { CanEmit 7 exits self.old }
         ensures { ChoosesAfter 6 (plain_insn 0x48 (14 + offset)) (λ r. within low high r.accumulator) exits result
             self.old self.new }
     {
@@ -271,8 +223,7 @@ impl Code {
 
     /// Emits the tests of the ports that a direction chooses. They share the header's length in the index register.
     fn emit_port_sides(&mut self, ports: PortTest, exits: Exits) -> usize
-        requires room { length self.old + 14 ≤ MAX_CODE }
-        requires exits { AreExits self.old exits }
+        requires { CanEmit 14 exits self.old }
         ensures test { Follows same_index 14
             (λ r. by_direction ports.direction (port_after r.index ports.low ports.high 0) (port_after r.index ports.low ports.high 2))
             exits result self.old self.new }
@@ -296,8 +247,7 @@ impl Code {
     /// Emits the load of the IPv4 header's length and the tests of the ports. An exit that begins with the same load is entered after it: the
     /// length is still in the index register.
     pub fn emit_header_and_ports(&mut self, ports: PortTest, exits: Exits) -> usize
-        requires room { length self.old + 15 ≤ MAX_CODE }
-        requires exits { AreExits self.old exits }
+        requires { CanEmit 15 exits self.old }
         ensures { Decides 15 (by_direction ports.direction (has_port ports.low ports.high 0) (has_port ports.low ports.high 2)) exits
             result self.old self.new }
     {
@@ -310,8 +260,7 @@ impl Code {
 
     /// Emits the test of the protocol number of a transport protocol; `None` is any with ports.
     fn emit_transport_number(&mut self, asked: Option<Transport>, exits: Exits) -> usize
-        requires room { length self.old + 10 ≤ MAX_CODE }
-        requires exits { AreExits self.old exits }
+        requires { CanEmit 10 exits self.old }
         ensures { Decides 10 (number_of asked) exits result self.old self.new }
     {
         match asked {
@@ -334,24 +283,18 @@ impl Code {
         requires other { IsPlace self.old targets.no.other }
         ensures { GuardsPorts asked first_fragment targets result self.old self.new }
     {
-        let no = targets.no.ip;
-        let yes = self.emit_fragment_test(Exits {
-            yes: first_fragment,
-            no,
-        });
+        let (yes, no) = (first_fragment, targets.no.ip);
+        let yes = self.emit_fragment_test(Exits { yes, no });
         let ip = self.emit_transport_number(asked, Exits { yes, no });
-        let entry = self.emit_ip_guard(ip, targets.no.other);
-        Entry {
-            first_fragment,
-            transport: asked,
-            ..entry
-        }
+        let mut entry = self.emit_ip_guard(ip, targets.no.other);
+        entry.first_fragment = first_fragment;
+        entry.transport = asked;
+        entry
     }
 
     /// Emits the test for ports from low to high of one protocol or of any.
     fn emit_ports(&mut self, asked: Option<Transport>, ports: PortTest, targets: Targets) -> Entry
-        requires room { length self.old + 33 ≤ MAX_CODE }
-        requires targets { AreTargets self.old targets }
+        requires { CanEmitBy 33 targets self.old }
         ensures { DecidesBy 33 (has_any_ports asked ports.direction ports.low ports.high) targets result self.old self.new }
     {
         let exits = targets.first_fragment_exits(asked);
@@ -361,8 +304,7 @@ impl Code {
 
     /// Emits the test of an IPv4 address under a mask. A mask of ones takes no instruction.
     fn emit_address(&mut self, offset: u32, address: u32, mask: u32, exits: Exits) -> usize
-        requires room { length self.old + 5 ≤ MAX_CODE }
-        requires exits { AreExits self.old exits }
+        requires { CanEmit 5 exits self.old }
         ensures { Decides 5 (has_address address mask offset) exits result self.old self.new }
     {
         if mask == u32::MAX {
@@ -375,8 +317,7 @@ impl Code {
     /// Emits the test of an Ethernet address. The last four bytes come first, so that a byte past the captured ones aborts in any case.
     fn emit_ethernet(&mut self, offset: u32, address: EthernetAddress, exits: Exits) -> usize
         requires offset { offset ≤ 40 }
-        requires room { length self.old + 8 ≤ MAX_CODE }
-        requires exits { AreExits self.old exits }
+        requires ready { CanEmit 8 exits self.old }
         ensures { Decides 8 (is_address address.octets offset) exits result self.old self.new }
     {
         let [a, b, c, d, e, f] = address.octets;
@@ -387,20 +328,14 @@ impl Code {
         self.emit_test(Field::Word(offset + 2), Jump::Equal, low, exits)
     }
 
-    /// Emits the test of one side.
     fn emit_side(&mut self, side: FieldTest, exits: Exits) -> usize
         requires offset { side_offset side ≤ 40 }
-        requires room { length self.old + side_cost side ≤ MAX_CODE }
-        requires exits { AreExits self.old exits }
+        requires ready { CanEmit (side_cost side) exits self.old }
         ensures { Decides (side_cost side) (side_test side) exits result self.old self.new }
     {
         match side {
-            FieldTest::Ip {
-                offset,
-                address,
-                mask,
-            } => self.emit_address(offset, address, mask, exits),
-            FieldTest::Ethernet { offset, address } => self.emit_ethernet(offset, address, exits),
+            FieldTest::Ip(offset, net) => self.emit_address(offset, net.address, net.mask, exits),
+            FieldTest::Ethernet(offset, address) => self.emit_ethernet(offset, address, exits),
         }
     }
 
@@ -414,8 +349,7 @@ impl Code {
     ) -> usize
         requires source { side_offset source ≤ 40 }
         requires destination { side_offset destination ≤ 40 }
-        requires room { length self.old + (side_cost destination + side_cost source) ≤ MAX_CODE }
-        requires exits { AreExits self.old exits }
+        requires ready { CanEmit (side_cost destination + side_cost source) exits self.old }
         ensures { Decides (side_cost destination + side_cost source)
             (by_direction direction (side_test source) (side_test destination)) exits result self.old self.new }
     {
@@ -437,30 +371,20 @@ impl Code {
     pub fn emit_addresses(&mut self, offsets: (u32, u32), net: NetTest, exits: Exits) -> usize
         requires source { offsets.0 ≤ 40 }
         requires destination { offsets.1 ≤ 40 }
-        requires room { length self.old + 10 ≤ MAX_CODE }
-        requires exits { AreExits self.old exits }
+        requires ready { CanEmit 10 exits self.old }
         ensures { Decides 10
             (by_direction net.direction (has_address net.address net.mask offsets.0) (has_address net.address net.mask offsets.1)) exits
             result self.old self.new }
     {
-        let source = FieldTest::Ip {
-            offset: offsets.0,
-            address: net.address,
-            mask: net.mask,
-        };
-        let destination = FieldTest::Ip {
-            offset: offsets.1,
-            address: net.address,
-            mask: net.mask,
-        };
+        let source = FieldTest::Ip(offsets.0, net);
+        let destination = FieldTest::Ip(offsets.1, net);
         self.emit_sides(net.direction, source, destination, exits)
     }
 
     /// Emits the test for a host or a net of ARP or RARP. A packet of another type may still be IPv4, so it goes to the exits for any packet.
     #[tactic(auto, using(crate::proofs::Leading::decides_any))]
     fn emit_arp_net(&mut self, number: u32, net: NetTest, targets: Targets) -> Entry
-        requires room { length self.old + 14 ≤ MAX_CODE }
-        requires targets { AreTargets self.old targets }
+        requires { CanEmitBy 14 targets self.old }
         ensures { DecidesBy 14 (and_test (is_type number)
             (by_direction net.direction (has_address net.address net.mask ARP_ADDRESSES.0) (has_address net.address net.mask ARP_ADDRESSES.1)))
             targets result self.old self.new }
@@ -470,10 +394,8 @@ impl Code {
         Entry::at(self.emit_ether_type(number, Exits { yes: next, ..exits }))
     }
 
-    /// Emits the test for a host or a net of one protocol.
     fn emit_net(&mut self, network: Network, net: NetTest, targets: Targets) -> Entry
-        requires room { length self.old + 14 ≤ MAX_CODE }
-        requires targets { AreTargets self.old targets }
+        requires { CanEmitBy 14 targets self.old }
         ensures { DecidesBy 14 (in_net network net.direction net.address net.mask) targets result self.old self.new }
     {
         match network {
@@ -489,42 +411,29 @@ impl Code {
     /// Emits the test for a host or a net of any protocol: three comparisons of one type. ARP and RARP have their addresses at the same
     /// offsets.
     fn emit_any_net(&mut self, net: NetTest, targets: Targets) -> Entry
-        requires room { length self.old + 30 ≤ MAX_CODE }
-        requires targets { AreTargets self.old targets }
+        requires { CanEmitBy 30 targets self.old }
         ensures { DecidesBy 30 (in_any_net None net.direction net.address net.mask) targets result self.old self.new }
     {
         let exits = targets.other_exits();
         let next = self.emit_addresses(ARP_ADDRESSES, net, exits);
         let arp = Exits { yes: next, ..exits };
         self.emit_branch(Jump::Equal, Operand::Constant(RARP), arp);
-        let rarp = self.len();
-        self.emit_branch(
-            Jump::Equal,
-            Operand::Constant(ARP),
-            Exits { no: rarp, ..arp },
-        );
-        let other = self.len();
-        let ip = self.emit_addresses(IP_ADDRESSES, net, targets.ip_exits());
-        self.emit_branch(
-            Jump::Equal,
-            Operand::Constant(IP),
-            Exits { yes: ip, no: other },
-        );
+        let no = self.len();
+        self.emit_branch(Jump::Equal, Operand::Constant(ARP), Exits { no, ..arp });
+        let no = self.len();
+        let yes = self.emit_addresses(IP_ADDRESSES, net, targets.ip_exits());
+        self.emit_branch(Jump::Equal, Operand::Constant(IP), Exits { yes, no });
         self.emit(load_insn(Field::Half(12)));
-        let any = self.len();
         // The place for other types compares the accumulator with them, so a packet known to be of another type enters at the load.
-        Entry {
-            any,
-            other: any,
-            ..Entry::at(ip)
-        }
+        let mut entry = Entry::at(yes);
+        entry.any = self.len();
+        entry.other = entry.any;
+        entry
     }
 
-    /// Emits the test of a protocol word.
     #[tactic(auto, using(crate::proofs::Leading::decides_any))]
     pub fn emit_protocol_word(&mut self, word: Plain, targets: Targets) -> Entry
-        requires room { length self.old + plain_cost word ≤ MAX_CODE }
-        requires targets { AreTargets self.old targets }
+        requires { CanEmitBy (plain_cost word) targets self.old }
         ensures { DecidesBy (plain_cost word) (plain_test word) targets result self.old self.new }
     {
         match word {
@@ -538,52 +447,42 @@ impl Code {
         }
     }
 
-    /// Emits the test for an Ethernet host.
     fn emit_ether_host(
         &mut self,
         direction: Direction,
         address: EthernetAddress,
         exits: Exits,
     ) -> usize
-        requires room { length self.old + 16 ≤ MAX_CODE }
-        requires exits { AreExits self.old exits }
+        requires { CanEmit 16 exits self.old }
         ensures { Decides 16 (by_direction direction (is_address address.octets 6) (is_address address.octets 0)) exits
             result self.old self.new }
     {
-        let source = FieldTest::Ethernet { offset: 6, address };
-        let destination = FieldTest::Ethernet { offset: 0, address };
+        let source = FieldTest::Ethernet(6, address);
+        let destination = FieldTest::Ethernet(0, address);
         self.emit_sides(direction, source, destination, exits)
     }
 
     /// Emits the test for a multicast destination of IPv4, from 224.0.0.0 on.
     fn emit_ip_multicast(&mut self, targets: Targets) -> Entry
-        requires room { length self.old + 8 ≤ MAX_CODE }
-        requires targets { AreTargets self.old targets }
+        requires { CanEmitBy 8 targets self.old }
         ensures { DecidesBy 8 (primitive_test IpMulticast) targets result self.old self.new }
     {
-        let next = self.emit_test(
-            Field::Byte(30),
-            Jump::GreaterOrEqual,
-            224,
-            targets.ip_exits(),
-        );
+        let exits = targets.ip_exits();
+        let next = self.emit_test(Field::Byte(30), Jump::GreaterOrEqual, 224, exits);
         self.emit_ip_guard(next, targets.no.other)
     }
 
     /// Emits the test for a wire length of at most `bytes`.
     fn emit_less(&mut self, bytes: u32, exits: Exits) -> usize
-        requires room { length self.old + 4 ≤ MAX_CODE }
-        requires exits { AreExits self.old exits }
+        requires { CanEmit 4 exits self.old }
         ensures { Decides 4 (primitive_test (Less bytes)) exits result self.old self.new }
     {
         self.emit_test(Field::Length, Jump::Greater, bytes, exits.opposite())
     }
 
-    /// Emits a primitive.
     #[tactic(auto, using(crate::proofs::Leading::decides_any))]
     pub fn emit_primitive(&mut self, primitive: Primitive, targets: Targets) -> Entry
-        requires room { length self.old + cost primitive ≤ MAX_CODE }
-        requires targets { AreTargets self.old targets }
+        requires { CanEmitBy (cost primitive) targets self.old }
         ensures { DecidesBy (cost primitive) (primitive_test primitive) targets result self.old self.new }
     {
         let exits = targets.any_exits();
@@ -622,12 +521,9 @@ impl Code {
             }
             Primitive::IpMulticast => self.emit_ip_multicast(targets),
             Primitive::Less(bytes) => Entry::at(self.emit_less(bytes, exits)),
-            Primitive::Greater(bytes) => Entry::at(self.emit_test(
-                Field::Length,
-                Jump::GreaterOrEqual,
-                bytes,
-                exits,
-            )),
+            Primitive::Greater(bytes) => {
+                Entry::at(self.emit_test(Field::Length, Jump::GreaterOrEqual, bytes, exits))
+            }
         }
     }
 }

@@ -1,14 +1,13 @@
 //! Relations. Code is written from its end, so what a run does last is emitted first. `next` is where a run goes on after a test.
 
-ghost use Rattle.std.specs.Prelude.{◌≡◌, ◌+◌, ◌≤◌, length, max, bit_and, option_map, Some, IfSome};
-ghost use Rattle.filtergen_trim.specs.declared.unreached.TheConstants.{MAX_CODE};
+ghost use Rattle.std.specs.Prelude.{◌≡◌, ◌+◌, ◌≤◌, max, bit_and, option_map, Some, IfSome};
 ghost use Rattle.filter_tree.specs.Trees.{amount_of};
 ghost use Rattle.filter_tree.specs.declared.tree.Comparison.TheVariants.{NotEqual};
 ghost use Rattle.filter_meaning.specs.Meaning.{Packet, value, compared, check, check_both};
 ghost use Rattle.filtergen_facts.specs.Weights.{value_need};
 ghost use Rattle.filtergen_code.specs.Remaining.{rest_of_type, rest_of_protocol, rest_of_first_fragment, rest_of, rest_of_layers, rest_of_relation};
 ghost use Rattle.filtergen_code.specs.Parts.{value_cost, layers_cost, compare_cost, relation_cost};
-ghost use Rattle.filtergen_code.specs.Emission.{AreExits, field_of, value_of, Chooses, Decides, Emits};
+ghost use Rattle.filtergen_code.specs.Emission.{AreExits, field_of, value_of, Chooses, Decides, Emits, CanEmit};
 
 use crate::code::{Code, Exits, Full};
 use crate::constants::constant;
@@ -40,8 +39,7 @@ fn split_mask(amount: &Value) -> Option<(&Value, u32)>
 impl Code {
     /// Emits the test of the Ethernet type, unless it is known.
     fn emit_rest_of_type(&mut self, known: PacketFacts, number: u32, exits: Exits) -> usize
-        requires room { length self.old + 4 ≤ MAX_CODE }
-        requires exits { AreExits self.old exits }
+        requires { CanEmit 4 exits self.old }
         ensures { Decides 4 (rest_of_type known number) exits result self.old self.new }
     {
         if known.has_type(number) {
@@ -52,8 +50,7 @@ impl Code {
 
     /// Emits what a test for IPv4 with this protocol number needs.
     fn emit_rest_of_protocol(&mut self, known: PacketFacts, number: u32, exits: Exits) -> usize
-        requires room { length self.old + 8 ≤ MAX_CODE }
-        requires exits { AreExits self.old exits }
+        requires { CanEmit 8 exits self.old }
         ensures { Decides 8 (rest_of_protocol known number) exits result self.old self.new }
     {
         if known.has_protocol(number) {
@@ -65,14 +62,8 @@ impl Code {
     }
 
     /// Emits what a test for a first fragment of this protocol needs.
-    fn emit_rest_of_first_fragment(
-        &mut self,
-        known: PacketFacts,
-        number: u32,
-        exits: Exits,
-    ) -> usize
-        requires room { length self.old + 12 ≤ MAX_CODE }
-        requires exits { AreExits self.old exits }
+    fn emit_rest_of_fragment(&mut self, known: PacketFacts, number: u32, exits: Exits) -> usize
+        requires { CanEmit 12 exits self.old }
         ensures { Decides 12 (rest_of_first_fragment known number) exits result self.old self.new }
     {
         if known.has_first_fragment(number) {
@@ -84,23 +75,15 @@ impl Code {
     }
 
     /// Emits what the test of a fact needs.
-    pub fn emit_rest_of_fact(
-        &mut self,
-        known: PacketFacts,
-        fact: PacketFacts,
-        exits: Exits,
-    ) -> usize
-        requires room { length self.old + 12 ≤ MAX_CODE }
-        requires exits { AreExits self.old exits }
+    pub fn emit_rest_of(&mut self, known: PacketFacts, fact: PacketFacts, exits: Exits) -> usize
+        requires { CanEmit 12 exits self.old }
         ensures { Decides 12 (rest_of known fact) exits result self.old self.new }
     {
         match fact {
             PacketFacts::Nothing => exits.yes,
             PacketFacts::Type(number) => self.emit_rest_of_type(known, number, exits),
             PacketFacts::Protocol(number) => self.emit_rest_of_protocol(known, number, exits),
-            PacketFacts::FirstFragment(number) => self.emit_rest_of_first_fragment(
-                known, number, exits,
-            ),
+            PacketFacts::FirstFragment(number) => self.emit_rest_of_fragment(known, number, exits),
         }
     }
 
@@ -132,15 +115,13 @@ impl Code {
                 let next = self.emit_layers(known.with_fact(fact), index, exits)?;
                 self.room(12)?;
                 let exits = Exits { yes: next, ..exits };
-                Ok(self.emit_rest_of_fact(known, fact, exits))
+                Ok(self.emit_rest_of(known, fact, exits))
             }
         }
     }
 
-    /// Emits the comparison of the accumulator with an operand.
     fn emit_comparison(&mut self, comparison: Comparison, operand: Operand, exits: Exits)
-        requires room { length self.old + 3 ≤ MAX_CODE }
-        requires exits { AreExits self.old exits }
+        requires { CanEmit 3 exits self.old }
         ensures { Chooses 3 (λ r. compared comparison r.accumulator (value_of operand r)) exits self.old self.new }
     {
         match comparison {
@@ -161,8 +142,7 @@ impl Code {
         n: u32,
         exits: Exits,
     ) -> usize
-        requires room { length self.old + 4 ≤ MAX_CODE }
-        requires exits { AreExits self.old exits }
+        requires { CanEmit 4 exits self.old }
         ensures { Decides 4 (λ p. check (λ m. compared comparison m n) (field_of field p)) exits result self.old self.new }
     {
         let load = load_insn(field);
@@ -272,11 +252,8 @@ impl Code {
         ensures { Emits (relation_cost (amount_of left.now) (amount_of right.now))
             (rest_of_relation known comparison (amount_of left.now) (amount_of right.now)) exits self.old self.new result }
     {
-        let compared = self.emit_value_comparison(comparison, left, right, exits)?;
-        let exits = Exits {
-            yes: compared,
-            ..exits
-        };
+        let yes = self.emit_value_comparison(comparison, left, right, exits)?;
+        let exits = Exits { yes, ..exits };
         let next = self.emit_layers(known.after_layers(left), right, exits)?;
         let exits = Exits { yes: next, ..exits };
         self.emit_layers(known, left, exits)

@@ -3,20 +3,20 @@
 //! The jumps that compare the accumulator with each member are the list's comparisons; with the load in front of them they are a lookup.
 //! Code is written from its end, so what a run does last is emitted first.
 
-ghost use Rattle.std.specs.Prelude.{◌≡◌, ℕ, ◌+◌, ◌-◌, ◌<◌, ◌≤◌, length, take, drop, bit_and, option_map};
+ghost use Rattle.std.specs.Prelude.{◌≡◌, ◌+◌, ◌-◌, ◌<◌, ◌≤◌, length, bit_and, option_map};
 ghost use Rattle.filtergen_trim.specs.declared.unreached.TheConstants.{MAX_CODE};
 ghost use Rattle.bpfvm.specs.Machine.{Registers};
 ghost use Rattle.filter_tree.specs.declared.tree.Direction.TheVariants.{SrcOrDst};
 ghost use Rattle.filter_meaning.specs.Meaning.{Packet, HasBytes, check, word, by_direction, bytes_of, accessed};
 ghost use Rattle.filtergen_facts.specs.Lists.{any_of, direction_of, in_range, has_tail, addresses_test, header_ports_test, ether_host_test};
-ghost use Rattle.filtergen_code.specs.ValueLists.{in_ranges, ChoosesFrom, comparisons_cost, lookup_cost, sides_cost, sides_before_cost, port_sides_cost, tails_cost, ethernet_cost, location_value, found_at, LoadsLocation, PassesLocation, AreComparisons, EmitsComparisons, EmitsLookup};
+ghost use Rattle.filtergen_code.specs.ValueLists.{in_ranges, comparisons_cost, lookup_cost, sides_cost, sides_before_cost, port_sides_cost, tails_cost, ethernet_cost, location_value, found_at, LoadsLocation, PassesLocation, AreComparisons, EmitsComparisons, EmitsLookup, EmitsGroupLookup};
 ghost use Rattle.filtergen_code.specs.Emission.{AreExits, Extends, Emits, OrFull};
 
 use crate::code::{Code, Exits, Full, REACH};
 use crate::insns::{Field, Jump, load_insn, plain_insn};
 use crate::values::base_of;
 use bpfvm::code;
-use filtergen_facts::{Bytes, Sides, ValueRange};
+use filtergen_facts::{Group, Sides, ValueRange};
 
 /// The reach of a list's exit for its jumps: the code of one more member fits between.
 const LIST_REACH: usize = REACH - 6;
@@ -44,9 +44,9 @@ impl Location {
     }
 }
 
-/// Whether a list is of two hosts, as source or destination.
-pub(crate) fn are_two_hosts(sides: Sides, mask: u32, ranges: &[ValueRange]) -> bool {
-    sides == Sides::Either && mask == u32::MAX && ranges.len() == 2
+/// Whether a group is of two hosts, as source or destination.
+pub(crate) fn are_two_hosts(group: &Group) -> bool {
+    group.kind.sides == Sides::Either && group.kind.mask == u32::MAX && group.ranges.len() == 2
 }
 
 impl Code {
@@ -70,7 +70,6 @@ impl Code {
         Ok(no)
     }
 
-    /// Emits the load of the number at a location.
     fn emit_load(&mut self, location: Location)
         requires room { length self.old + 2 ≤ MAX_CODE }
         ensures { LoadsLocation location self.old self.new }
@@ -119,19 +118,19 @@ impl Code {
     /// and all but the first that of the source.
     fn emit_side_lookups(
         &mut self,
-        sides: Sides,
         source: Location,
         destination: Location,
-        ranges: &[ValueRange],
+        group: &Group,
         exits: Exits,
     ) -> Result<usize, Full>
-        requires many { 2 ≤ length ranges.now }
+        requires many { 2 ≤ length group.now.ranges.items }
         requires exits { AreExits self.old exits }
-        ensures { EmitsLookup (sides_cost (length ranges.now))
-            (λ r. any_of (λ x. by_direction (direction_of sides) (found_at source r x) (found_at destination r x)) ranges.now) exits
-            self.old self.new result }
+        ensures { EmitsLookup (sides_cost (length group.now.ranges.items)) (λ r. any_of
+            (λ x. by_direction (direction_of group.now.kind.sides) (found_at source r x) (found_at destination r x)) group.now.ranges.items)
+            exits self.old self.new result }
     {
-        match sides {
+        let ranges = group.ranges.as_slice();
+        match group.kind.sides {
             Sides::Source => self.emit_lookup(source, ranges, exits),
             Sides::Destination => self.emit_lookup(destination, ranges, exits),
             Sides::Either => {
@@ -144,85 +143,42 @@ impl Code {
     }
 
     /// Emits the lookup of bytes of a layer, for a packet that has the layer.
-    pub fn emit_bytes_lookup(
-        &mut self,
-        bytes: Bytes,
-        ranges: &[ValueRange],
-        exits: Exits,
-    ) -> Result<usize, Full>
-        requires some { 0 < length ranges.now }
+    pub fn emit_bytes_lookup(&mut self, group: &Group, exits: Exits) -> Result<usize, Full>
+        requires some { 0 < length group.now.ranges.items }
         requires exits { AreExits self.old exits }
-        ensures { Emits (lookup_cost (length ranges.now))
-            (λ p. check (in_ranges ranges.now) (accessed bytes.layer (bytes_of bytes.size) p bytes.index)) exits self.old self.new result }
+        ensures { let bytes = group.now.kind.bytes in Emits (lookup_cost (length group.now.ranges.items))
+            (λ p. check (in_ranges group.now.ranges.items) (accessed bytes.layer (bytes_of bytes.size) p bytes.index)) exits self.old self.new result }
     {
-        self.emit_comparisons(ranges, exits)?;
+        self.emit_comparisons(group.ranges.as_slice(), exits)?;
         self.room(2)?;
-        let index = u32::from(bytes.index);
+        let bytes = group.kind.bytes;
+        let index = u32::from(group.kind.bytes.index);
         self.emit_access_at(base_of(bytes.layer), bytes.size, index);
         Ok(self.len())
     }
 
     /// Emits the comparisons with which the lookup of a list of addresses ends: with all members, of one side or of the destination.
-    pub fn emit_last_comparisons(
-        &mut self,
-        ranges: &[ValueRange],
-        exits: Exits,
-    ) -> Result<usize, Full>
-        requires some { 0 < length ranges.now }
+    pub fn emit_last_comparisons(&mut self, group: &Group, exits: Exits) -> Result<usize, Full>
+        requires some { 0 < length group.now.ranges.items }
         requires exits { AreExits self.old exits }
-        ensures { OrFull (comparisons_cost (length ranges.now)) self.old result (λ entry.
-            Extends (comparisons_cost (length ranges.now)) self.old self.new
-            × AreComparisons ranges.now exits (length self.new) self.new
+        ensures { OrFull (comparisons_cost (length group.now.ranges.items)) self.old result (λ entry.
+            Extends (comparisons_cost (length group.now.ranges.items)) self.old self.new
+            × AreComparisons group.now.ranges.items exits (length self.new) self.new
             × (entry ≡ length self.new)) }
     {
-        self.emit_comparisons(ranges, exits)
+        self.emit_comparisons(group.ranges.as_slice(), exits)
     }
 
     /// Emits the load of one address in front of its comparisons.
-    fn emit_address_load(
-        &mut self,
-        offset: u32,
-        mask: u32,
-        ranges: &[ValueRange],
-        exits: Exits,
-    ) -> Result<usize, Full>
-        requires some { 0 < length ranges.now }
+    fn emit_address_load(&mut self, offset: u32, group: &Group, exits: Exits) -> Result<usize, Full>
+        requires some { 0 < length group.now.ranges.items }
         requires exits { AreExits self.old exits }
-        requires last { AreComparisons ranges.now exits (length self.old) self.old }
-        ensures { Emits 2 (any_of (λ x. in_range x mask offset) ranges.now) exits self.old self.new result }
+        requires last { AreComparisons group.now.ranges.items exits (length self.old) self.old }
+        ensures { EmitsGroupLookup (λ n. 2) (λ k x. in_range x k.mask offset) group.now exits self.old self.new result }
     {
         self.room(2)?;
-        self.emit_load(Location::of_address(offset, mask));
+        self.emit_load(Location::of_address(offset, group.kind.mask));
         Ok(self.len())
-    }
-
-    /// Emits the comparisons with all members but the first, which stands last in the list.
-    fn emit_comparisons_but_first(
-        &mut self,
-        ranges: &[ValueRange],
-        exits: Exits,
-    ) -> Result<usize, Full>
-        requires many { 2 ≤ length ranges.now }
-        requires exits { AreExits self.old exits }
-        ensures { OrFull (comparisons_cost (length ranges.now - 1)) self.old result (λ entry.
-            ChoosesFrom (comparisons_cost (length ranges.now - 1)) (λ r. in_ranges (take (length ranges.now - 1) ranges.now) r.accumulator) exits
-            entry self.old self.new
-            × (entry ≡ length self.new)) }
-    {
-        let others = ranges.len() - 1;
-        self.emit_comparisons(&ranges[..others], exits)
-    }
-
-    /// Emits the comparison with the first member.
-    fn emit_first_comparison(&mut self, ranges: &[ValueRange], exits: Exits) -> Result<usize, Full>
-        requires many { 2 ≤ length ranges.now }
-        requires exits { AreExits self.old exits }
-        ensures { OrFull 7 self.old result (λ entry.
-            ChoosesFrom 7 (λ r. in_ranges (drop (length ranges.now - 1) ranges.now) r.accumulator) exits entry self.old self.new
-            × (entry ≡ length self.new)) }
-    {
-        let others = ranges.len() - 1;
-        self.emit_comparisons(&ranges[others..], exits)
     }
 
     /// Emits the lookup of either address in front of the last comparisons, those of the destination. The first member's source is looked up
@@ -231,27 +187,27 @@ impl Code {
     fn emit_either_address(
         &mut self,
         offsets: (u32, u32),
-        mask: u32,
-        ranges: &[ValueRange],
+        group: &Group,
         exits: Exits,
     ) -> Result<usize, Full>
         requires destination { offsets.1 ≤ 40 }
-        requires many { 2 ≤ length ranges.now }
+        requires many { 2 ≤ length group.now.ranges.items }
         requires exits { AreExits self.old exits }
-        requires last { AreComparisons ranges.now exits (length self.old) self.old }
-        ensures { Emits (sides_before_cost (length ranges.now))
-            (any_of (addresses_test SrcOrDst mask offsets.0 offsets.1) ranges.now) exits self.old self.new result }
+        requires last { AreComparisons group.now.ranges.items exits (length self.old) self.old }
+        ensures { EmitsGroupLookup sides_before_cost (λ k. addresses_test SrcOrDst k.mask offsets.0 offsets.1) group.now exits self.old self.new result }
     {
+        let ranges = group.ranges.as_slice();
+        let others = ranges.len() - 1;
         self.room(2)?;
-        self.emit_load(Location::of_address(offsets.1, mask));
+        self.emit_load(Location::of_address(offsets.1, group.kind.mask));
         let last = self.len();
-        self.emit_comparisons_but_first(ranges, Exits { no: last, ..exits })?;
+        self.emit_comparisons(&ranges[..others], Exits { no: last, ..exits })?;
         self.room(1)?;
         self.emit(plain_insn(code::LDX_MSH, offsets.1 + 3));
         let no = self.len();
-        self.emit_first_comparison(ranges, Exits { no, ..exits })?;
+        self.emit_comparisons(&ranges[others..], Exits { no, ..exits })?;
         self.room(2)?;
-        self.emit_load(Location::of_address(offsets.0, mask));
+        self.emit_load(Location::of_address(offsets.0, group.kind.mask));
         Ok(self.len())
     }
 
@@ -259,22 +215,19 @@ impl Code {
     pub fn emit_address_lookup_before(
         &mut self,
         offsets: (u32, u32),
-        sides: Sides,
-        mask: u32,
-        ranges: &[ValueRange],
+        group: &Group,
         exits: Exits,
     ) -> Result<usize, Full>
         requires destination { offsets.1 ≤ 40 }
-        requires many { 2 ≤ length ranges.now }
+        requires many { 2 ≤ length group.now.ranges.items }
         requires exits { AreExits self.old exits }
-        requires last { AreComparisons ranges.now exits (length self.old) self.old }
-        ensures { Emits (sides_before_cost (length ranges.now))
-            (any_of (addresses_test (direction_of sides) mask offsets.0 offsets.1) ranges.now) exits self.old self.new result }
+        requires last { AreComparisons group.now.ranges.items exits (length self.old) self.old }
+        ensures { EmitsGroupLookup sides_before_cost (λ k. addresses_test (direction_of k.sides) k.mask offsets.0 offsets.1) group.now exits self.old self.new result }
     {
-        match sides {
-            Sides::Source => self.emit_address_load(offsets.0, mask, ranges, exits),
-            Sides::Destination => self.emit_address_load(offsets.1, mask, ranges, exits),
-            Sides::Either => self.emit_either_address(offsets, mask, ranges, exits),
+        match group.kind.sides {
+            Sides::Source => self.emit_address_load(offsets.0, group, exits),
+            Sides::Destination => self.emit_address_load(offsets.1, group, exits),
+            Sides::Either => self.emit_either_address(offsets, group, exits),
         }
     }
 
@@ -283,51 +236,38 @@ impl Code {
     pub fn emit_address_lookup(
         &mut self,
         offsets: (u32, u32),
-        sides: Sides,
-        mask: u32,
-        ranges: &[ValueRange],
+        group: &Group,
         exits: Exits,
     ) -> Result<usize, Full>
         requires destination { offsets.1 ≤ 40 }
-        requires many { 2 ≤ length ranges.now }
+        requires many { 2 ≤ length group.now.ranges.items }
         requires exits { AreExits self.old exits }
-        ensures { Emits (sides_cost (length ranges.now))
-            (any_of (addresses_test (direction_of sides) mask offsets.0 offsets.1) ranges.now) exits self.old self.new result }
+        ensures { EmitsGroupLookup sides_cost (λ k. addresses_test (direction_of k.sides) k.mask offsets.0 offsets.1) group.now exits self.old self.new result }
     {
-        if are_two_hosts(sides, mask, ranges) {
-            let source = Location::of_address(offsets.0, mask);
-            let destination = Location::of_address(offsets.1, mask);
-            return self.emit_side_lookups(sides, source, destination, ranges, exits);
+        if are_two_hosts(group) {
+            let source = Location::of_address(offsets.0, group.kind.mask);
+            let destination = Location::of_address(offsets.1, group.kind.mask);
+            return self.emit_side_lookups(source, destination, group, exits);
         }
-        self.emit_last_comparisons(ranges, exits)?;
-        self.emit_address_lookup_before(offsets, sides, mask, ranges, exits)
+        self.emit_last_comparisons(group, exits)?;
+        self.emit_address_lookup_before(offsets, group, exits)
     }
 
     /// Emits the lookup of Ethernet hosts that share their first two bytes, at an offset of the frame. The last four bytes are loaded first: if
     /// they are there, all six are. If they match and the first two do not, what comes next is entered after its own comparisons of other last
     /// four bytes.
-    fn emit_tail_lookup(
-        &mut self,
-        offset: u32,
-        head: u16,
-        ranges: &[ValueRange],
-        exits: Exits,
-    ) -> Result<usize, Full>
+    fn emit_tail_lookup(&mut self, offset: u32, group: &Group, exits: Exits) -> Result<usize, Full>
         requires offset { offset ≤ 40 }
-        requires some { 0 < length ranges.now }
+        requires some { 0 < length group.now.ranges.items }
         requires exits { AreExits self.old exits }
-        ensures { Emits (tails_cost (length ranges.now)) (any_of (λ x. has_tail head x offset) ranges.now) exits self.old self.new result }
+        ensures { EmitsGroupLookup tails_cost (λ k x. has_tail k.head x offset) group.now exits self.old self.new result }
     {
         self.room(4)?;
-        let tail = Field::Word(offset + 2);
+        let (head, tail) = (Field::Half(offset), Field::Word(offset + 2));
+        let ranges = group.ranges.as_slice();
         let no = self.place_past_comparisons(tail, ranges, exits.no);
-        let number = u32::from(head);
-        let yes = self.emit_test(
-            Field::Half(offset),
-            Jump::Equal,
-            number,
-            Exits { no, ..exits },
-        );
+        let number = u32::from(group.kind.head);
+        let yes = self.emit_test(head, Jump::Equal, number, Exits { no, ..exits });
         let load = load_insn(tail);
         let exits = self.exits_after(load, Exits { yes, ..exits });
         self.emit_comparisons(ranges, exits)?;
@@ -338,44 +278,31 @@ impl Code {
 
     /// Emits the lookups of Ethernet hosts that share their first two bytes. In the frame the destination stands before the source, so it is
     /// there if the source is: all members share the lookup of the source, which comes first.
-    pub fn emit_ethernet_lookup(
-        &mut self,
-        sides: Sides,
-        head: u16,
-        ranges: &[ValueRange],
-        exits: Exits,
-    ) -> Result<usize, Full>
-        requires some { 0 < length ranges.now }
+    pub fn emit_ethernet_lookup(&mut self, group: &Group, exits: Exits) -> Result<usize, Full>
+        requires some { 0 < length group.now.ranges.items }
         requires exits { AreExits self.old exits }
-        ensures { Emits (ethernet_cost (length ranges.now)) (any_of (ether_host_test (direction_of sides) head) ranges.now) exits
-            self.old self.new result }
+        ensures { EmitsGroupLookup ethernet_cost (λ k. ether_host_test (direction_of k.sides) k.head) group.now exits self.old self.new result }
     {
-        match sides {
-            Sides::Source => self.emit_tail_lookup(6, head, ranges, exits),
-            Sides::Destination => self.emit_tail_lookup(0, head, ranges, exits),
+        match group.kind.sides {
+            Sides::Source => self.emit_tail_lookup(6, group, exits),
+            Sides::Destination => self.emit_tail_lookup(0, group, exits),
             Sides::Either => {
-                let next = self.emit_tail_lookup(0, head, ranges, exits)?;
-                self.emit_tail_lookup(6, head, ranges, Exits { no: next, ..exits })
+                let next = self.emit_tail_lookup(0, group, exits)?;
+                self.emit_tail_lookup(6, group, Exits { no: next, ..exits })
             }
         }
     }
 
     /// Emits the lookup of ports after the IPv4 header, whose length it loads. An exit that begins with the same load is entered after it.
-    pub fn emit_port_lookup(
-        &mut self,
-        sides: Sides,
-        ranges: &[ValueRange],
-        exits: Exits,
-    ) -> Result<usize, Full>
-        requires many { 2 ≤ length ranges.now }
+    pub fn emit_port_lookup(&mut self, group: &Group, exits: Exits) -> Result<usize, Full>
+        requires many { 2 ≤ length group.now.ranges.items }
         requires exits { AreExits self.old exits }
-        ensures { Emits (port_sides_cost (length ranges.now)) (any_of (header_ports_test (direction_of sides)) ranges.now) exits
-            self.old self.new result }
+        ensures { EmitsGroupLookup port_sides_cost (λ k. header_ports_test (direction_of k.sides)) group.now exits self.old self.new result }
     {
         let header = plain_insn(code::LDX_MSH, 14);
         let exits = self.exits_after(header, exits);
         let (source, destination) = (Location::Indirect(14), Location::Indirect(16));
-        self.emit_side_lookups(sides, source, destination, ranges, exits)?;
+        self.emit_side_lookups(source, destination, group, exits)?;
         self.room(1)?;
         self.emit(header);
         Ok(self.len())

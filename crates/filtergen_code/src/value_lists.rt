@@ -6,19 +6,19 @@ ghost use Rattle.std.specs.Prelude.{◌≡◌, ◌<◌, ◌≤◌, length};
 ghost use Rattle.filter_meaning.specs.Meaning.{is_type, is_first_fragment_of, protocol_number, in_layer, within};
 ghost use Rattle.filter_meaning.specs.declared.headers.TheConstants.{IP};
 ghost use Rattle.filtergen_facts.specs.Lists.{any_of, direction_of, ip_addresses_test, arp_addresses_test, any_net_test, ip_net_test, arp_net_test, ports_test, tcp_or_udp_ports_test, ip_protocol_test, ether_type_test, ether_host_test, bytes_test, kind_test};
-ghost use Rattle.filtergen_code.specs.ValueLists.{in_ranges, comparisons_cost, net_sides_cost, any_net_cost, one_net_cost, ports_cost, number_cost, ethernet_cost, bytes_cost, list_cost, AreComparisons};
+ghost use Rattle.filtergen_code.specs.ValueLists.{in_ranges, comparisons_cost, net_sides_cost, any_net_cost, one_net_cost, ports_cost, number_cost, ethernet_cost, bytes_cost, list_cost, AreComparisons, EmitsGroup, EmitsGroupGiven};
 ghost use Rattle.filtergen_code.specs.Emission.{AreExits, Extends, Decides, OrFull};
-ghost use Rattle.filtergen_code.specs.Entries.{AreTargets, EmitsEntry, EmitsGiven};
+ghost use Rattle.filtergen_code.specs.Entries.{AreTargets};
 
 use crate::code::{Code, Exits, Full};
-use crate::entries::{Entry, Targets};
+use crate::entries::{Context, Entry, Targets};
 use crate::insns::{Field, Jump, Operand, load_insn};
 use crate::primitives::{ARP_ADDRESSES, IP_ADDRESSES};
 use crate::value_in_list::{Location, are_two_hosts};
 use filter_meaning::{ARP, IP, RARP, protocol_number};
 use filter_tree::Transport::{Sctp, Tcp, Udp};
 use filter_tree::{Layer, Transport};
-use filtergen_facts::{Bytes, Form, ListKind, PacketFacts, Sides, ValueRange};
+use filtergen_facts::{Form, Group, PacketFacts, ValueRange};
 
 fn is_within(range: ValueRange, number: u32) -> bool
     ensures { result ≡ within range.low range.high number }
@@ -41,67 +41,47 @@ pub(crate) fn has_number(ranges: &[ValueRange], number: u32) -> bool
 
 impl Code {
     /// Emits a list of Ethernet types. Its answer for IPv4 is known here, so the type is compared with IPv4 first.
-    fn emit_type_list(&mut self, ranges: &[ValueRange], targets: Targets) -> Result<Entry, Full>
-        requires many { 2 ≤ length ranges.now }
+    fn emit_type_list(&mut self, group: &Group, targets: Targets) -> Result<Entry, Full>
+        requires many { 2 ≤ length group.now.ranges.items }
         requires targets { AreTargets self.old targets }
-        ensures { EmitsEntry (number_cost (length ranges.now)) (any_of ether_type_test ranges.now) targets self.old self.new result }
+        ensures { EmitsGroup number_cost (λ k. ether_type_test) group.now targets self.old self.new result }
     {
+        let ranges = group.ranges.as_slice();
         let other = self.emit_lookup(Location::At(Field::Half(12)), ranges, targets.other_exits())?;
         self.room(4)?;
         Ok(self.emit_ip_split(targets.for_answer(has_number(ranges, IP)), other))
     }
 
-    /// Emits a list of protocol numbers of IPv4.
-    fn emit_protocol_list(
-        &mut self,
-        known: PacketFacts,
-        ranges: &[ValueRange],
-        targets: Targets,
-    ) -> Result<Entry, Full>
-        requires many { 2 ≤ length ranges.now }
-        requires targets { AreTargets self.old targets }
-        ensures { EmitsGiven known (number_cost (length ranges.now)) (any_of ip_protocol_test ranges.now) targets self.old self.new result }
+    fn emit_protocol_list(&mut self, group: &Group, context: Context) -> Result<Entry, Full>
+        requires many { 2 ≤ length group.now.ranges.items }
+        requires targets { AreTargets self.old context.targets }
+        ensures { EmitsGroupGiven number_cost (λ k. ip_protocol_test) group.now context self.old self.new result }
     {
-        let next = self.emit_lookup(Location::At(Field::Byte(23)), ranges, targets.ip_exits())?;
+        let ranges = group.ranges.as_slice();
+        let exits = context.targets.ip_exits();
+        let next = self.emit_lookup(Location::At(Field::Byte(23)), ranges, exits)?;
         self.room(4)?;
-        Ok(self.emit_ip_guard_given(known, next, targets))
+        Ok(self.emit_ip_guard_given(next, context))
     }
 
-    /// Emits a list of hosts or nets of IPv4.
-    fn emit_ip_net_list(
-        &mut self,
-        known: PacketFacts,
-        sides: Sides,
-        mask: u32,
-        ranges: &[ValueRange],
-        targets: Targets,
-    ) -> Result<Entry, Full>
-        requires many { 2 ≤ length ranges.now }
-        requires targets { AreTargets self.old targets }
-        ensures { EmitsGiven known (one_net_cost (length ranges.now)) (any_of (ip_net_test (direction_of sides) mask) ranges.now) targets
-            self.old self.new result }
+    fn emit_ip_net_list(&mut self, group: &Group, context: Context) -> Result<Entry, Full>
+        requires many { 2 ≤ length group.now.ranges.items }
+        requires targets { AreTargets self.old context.targets }
+        ensures { EmitsGroupGiven one_net_cost (λ k. ip_net_test (direction_of k.sides) k.mask) group.now context self.old self.new result }
     {
-        let next = self.emit_address_lookup(IP_ADDRESSES, sides, mask, ranges, targets.ip_exits())?;
+        let next = self.emit_address_lookup(IP_ADDRESSES, group, context.targets.ip_exits())?;
         self.room(4)?;
-        Ok(self.emit_ip_guard_given(known, next, targets))
+        Ok(self.emit_ip_guard_given(next, context))
     }
 
     /// Emits a list of hosts or nets of ARP or RARP. A packet of another type may still be IPv4, so it goes to the exits for any packet.
-    fn emit_arp_net_list(
-        &mut self,
-        number: u32,
-        sides: Sides,
-        mask: u32,
-        ranges: &[ValueRange],
-        targets: Targets,
-    ) -> Result<Entry, Full>
-        requires many { 2 ≤ length ranges.now }
+    fn emit_arp_list(&mut self, number: u32, group: &Group, targets: Targets) -> Result<Entry, Full>
+        requires many { 2 ≤ length group.now.ranges.items }
         requires targets { AreTargets self.old targets }
-        ensures { EmitsEntry (one_net_cost (length ranges.now)) (any_of (arp_net_test number (direction_of sides) mask) ranges.now) targets
-            self.old self.new result }
+        ensures { EmitsGroup one_net_cost (λ k. arp_net_test number (direction_of k.sides) k.mask) group.now targets self.old self.new result }
     {
         let exits = targets.any_exits();
-        let next = self.emit_address_lookup(ARP_ADDRESSES, sides, mask, ranges, exits)?;
+        let next = self.emit_address_lookup(ARP_ADDRESSES, group, exits)?;
         self.room(4)?;
         Ok(Entry::at(self.emit_ether_type(number, Exits { yes: next, ..exits })))
     }
@@ -110,23 +90,23 @@ impl Code {
     fn emit_last_comparisons_of_others(
         &mut self,
         of_ip: usize,
-        ranges: &[ValueRange],
+        group: &Group,
         targets: Targets,
     ) -> Result<(), Full>
-        requires some { 0 < length ranges.now }
+        requires some { 0 < length group.now.ranges.items }
         requires ip { AreExits self.old (record { yes = targets.yes.ip; no = targets.no.ip }) }
         requires other { AreExits self.old (record { yes = targets.yes.other; no = targets.no.other }) }
-        requires there { AreComparisons ranges.now (record { yes = targets.yes.ip; no = targets.no.ip }) of_ip self.old }
-        ensures { OrFull (comparisons_cost (length ranges.now)) self.old result (λ done.
-            Extends (comparisons_cost (length ranges.now)) self.old self.new
-            × AreComparisons ranges.now (record { yes = targets.yes.other; no = targets.no.other }) (length self.new) self.new) }
+        requires there { AreComparisons group.now.ranges.items (record { yes = targets.yes.ip; no = targets.no.ip }) of_ip self.old }
+        ensures { OrFull (comparisons_cost (length group.now.ranges.items)) self.old result (λ done.
+            Extends (comparisons_cost (length group.now.ranges.items)) self.old self.new
+            × AreComparisons group.now.ranges.items (record { yes = targets.yes.other; no = targets.no.other }) (length self.new) self.new) }
     {
         if targets.is_one_for_all_types() {
             self.room(1)?;
             self.emit_relay(of_ip, 0);
             Ok(())
         } else {
-            self.emit_last_comparisons(ranges, targets.other_exits())?;
+            self.emit_last_comparisons(group, targets.other_exits())?;
             Ok(())
         }
     }
@@ -134,277 +114,200 @@ impl Code {
     /// Emits the lookups of hosts or nets for packets whose type is known, and returns the place for IPv4 and the place for ARP and RARP, which
     /// have their addresses at the same offsets. All types share the last comparisons if they lead to the same exits. Two hosts are
     /// looked up otherwise, with so few last comparisons that each type has its own.
-    fn emit_net_lookups(
-        &mut self,
-        sides: Sides,
-        mask: u32,
-        ranges: &[ValueRange],
-        targets: Targets,
-    ) -> Result<(usize, usize), Full>
-        requires many { 2 ≤ length ranges.now }
+    fn emit_net_lookups(&mut self, group: &Group, targets: Targets) -> Result<(usize, usize), Full>
+        requires many { 2 ≤ length group.now.ranges.items }
         requires targets { AreTargets self.old targets }
-        ensures { OrFull (net_sides_cost (length ranges.now)) self.old result (λ places.
-            Decides (net_sides_cost (length ranges.now)) (any_of (ip_addresses_test (direction_of sides) mask) ranges.now)
+        ensures { OrFull (net_sides_cost (length group.now.ranges.items)) self.old result (λ places.
+            Decides (net_sides_cost (length group.now.ranges.items))
+            (any_of (ip_addresses_test (direction_of group.now.kind.sides) group.now.kind.mask) group.now.ranges.items)
             (record { yes = targets.yes.ip; no = targets.no.ip }) places.0 self.old self.new
-            × Decides (net_sides_cost (length ranges.now)) (any_of (arp_addresses_test (direction_of sides) mask) ranges.now)
+            × Decides (net_sides_cost (length group.now.ranges.items))
+            (any_of (arp_addresses_test (direction_of group.now.kind.sides) group.now.kind.mask) group.now.ranges.items)
             (record { yes = targets.yes.other; no = targets.no.other }) places.1 self.old self.new) }
     {
         let (of_ip, of_others) = (targets.ip_exits(), targets.other_exits());
-        if are_two_hosts(sides, mask, ranges) {
-            let ip = self.emit_address_lookup(IP_ADDRESSES, sides, mask, ranges, of_ip)?;
-            let next = self.emit_address_lookup(ARP_ADDRESSES, sides, mask, ranges, of_others)?;
+        if are_two_hosts(group) {
+            let ip = self.emit_address_lookup(IP_ADDRESSES, group, of_ip)?;
+            let next = self.emit_address_lookup(ARP_ADDRESSES, group, of_others)?;
             return Ok((ip, next));
         }
-        let last = self.emit_last_comparisons(ranges, of_ip)?;
-        let ip = self.emit_address_lookup_before(IP_ADDRESSES, sides, mask, ranges, of_ip)?;
-        self.emit_last_comparisons_of_others(last, ranges, targets)?;
-        let next = self.emit_address_lookup_before(ARP_ADDRESSES, sides, mask, ranges, of_others)?;
+        let last = self.emit_last_comparisons(group, of_ip)?;
+        let ip = self.emit_address_lookup_before(IP_ADDRESSES, group, of_ip)?;
+        self.emit_last_comparisons_of_others(last, group, targets)?;
+        let next = self.emit_address_lookup_before(ARP_ADDRESSES, group, of_others)?;
         Ok((ip, next))
     }
 
     /// Emits a list of hosts or nets of any protocol: three comparisons of one type.
-    fn emit_any_net_list(
-        &mut self,
-        sides: Sides,
-        mask: u32,
-        ranges: &[ValueRange],
-        targets: Targets,
-    ) -> Result<Entry, Full>
-        requires many { 2 ≤ length ranges.now }
+    fn emit_any_net_list(&mut self, group: &Group, targets: Targets) -> Result<Entry, Full>
+        requires many { 2 ≤ length group.now.ranges.items }
         requires targets { AreTargets self.old targets }
-        ensures { EmitsEntry (any_net_cost (length ranges.now)) (any_of (any_net_test (direction_of sides) mask) ranges.now) targets
-            self.old self.new result }
+        ensures { EmitsGroup any_net_cost (λ k. any_net_test (direction_of k.sides) k.mask) group.now targets self.old self.new result }
     {
-        let (ip, yes) = self.emit_net_lookups(sides, mask, ranges, targets)?;
+        let (ip, yes) = self.emit_net_lookups(group, targets)?;
         self.room(10)?;
         let exits = targets.other_exits();
         let arp = Exits { yes, ..exits };
         self.emit_branch(Jump::Equal, Operand::Constant(RARP), arp);
-        let rarp = self.len();
-        self.emit_branch(
-            Jump::Equal,
-            Operand::Constant(ARP),
-            Exits { no: rarp, ..arp },
-        );
-        let other = self.len();
-        self.emit_branch(
-            Jump::Equal,
-            Operand::Constant(IP),
-            Exits { yes: ip, no: other },
-        );
+        let no = self.len();
+        self.emit_branch(Jump::Equal, Operand::Constant(ARP), Exits { no, ..arp });
+        let (yes, no) = (ip, self.len());
+        self.emit_branch(Jump::Equal, Operand::Constant(IP), Exits { yes, no });
         self.emit(load_insn(Field::Half(12)));
-        let any = self.len();
-        Ok(Entry {
-            any,
-            other: any,
-            ..Entry::at(ip)
-        })
+        let mut entry = Entry::at(ip);
+        entry.any = self.len();
+        entry.other = entry.any;
+        Ok(entry)
     }
 
     /// Emits a list of hosts or nets of any protocol, or only what it needs of a packet known to be IPv4.
-    fn emit_net_list(
-        &mut self,
-        known: PacketFacts,
-        sides: Sides,
-        mask: u32,
-        ranges: &[ValueRange],
-        targets: Targets,
-    ) -> Result<Entry, Full>
-        requires many { 2 ≤ length ranges.now }
-        requires targets { AreTargets self.old targets }
-        ensures { EmitsGiven known (any_net_cost (length ranges.now)) (any_of (any_net_test (direction_of sides) mask) ranges.now) targets
-            self.old self.new result }
+    fn emit_net_list(&mut self, group: &Group, context: Context) -> Result<Entry, Full>
+        requires many { 2 ≤ length group.now.ranges.items }
+        requires targets { AreTargets self.old context.targets }
+        ensures { EmitsGroupGiven any_net_cost (λ k. any_net_test (direction_of k.sides) k.mask) group.now context self.old self.new result }
     {
-        if known.has_type(IP) {
-            self.emit_ip_net_list(known, sides, mask, ranges, targets)
+        if context.known.has_type(IP) {
+            self.emit_ip_net_list(group, context)
         } else {
-            self.emit_any_net_list(sides, mask, ranges, targets)
+            self.emit_any_net_list(group, context.targets)
         }
     }
 
-    /// Emits a list of ports or port ranges.
     fn emit_port_list(
         &mut self,
-        known: PacketFacts,
         asked: Option<Transport>,
-        sides: Sides,
-        ranges: &[ValueRange],
-        targets: Targets,
+        group: &Group,
+        context: Context,
     ) -> Result<Entry, Full>
-        requires many { 2 ≤ length ranges.now }
-        requires targets { AreTargets self.old targets }
-        ensures { EmitsGiven known (ports_cost (length ranges.now)) (any_of (ports_test asked (direction_of sides)) ranges.now) targets
-            self.old self.new result }
+        requires many { 2 ≤ length group.now.ranges.items }
+        requires targets { AreTargets self.old context.targets }
+        ensures { EmitsGroupGiven ports_cost (λ k. ports_test asked (direction_of k.sides)) group.now context self.old self.new result }
     {
-        match known.transport_of(asked) {
+        match context.known.transport_of(asked) {
             Some(transport) => {
-                let exits = targets.first_fragment_exits(Some(transport));
-                let next = self.emit_port_lookup(sides, ranges, exits)?;
+                let exits = context.targets.first_fragment_exits(Some(transport));
+                let next = self.emit_port_lookup(group, exits)?;
                 self.room(4)?;
-                Ok(self.emit_fragment_guard_given(known, asked, transport, next, targets))
+                Ok(self.emit_fragment_guard_given(asked, transport, next, context))
             }
             None => {
-                let exits = targets.first_fragment_exits(asked);
-                let next = self.emit_port_lookup(sides, ranges, exits)?;
+                let exits = context.targets.first_fragment_exits(asked);
+                let next = self.emit_port_lookup(group, exits)?;
                 self.room(18)?;
-                let entry = self.emit_transport_guard(asked, next, targets);
-                Ok(entry.with_other_protocol(asked, targets.no))
+                let entry = self.emit_transport_guard(asked, next, context.targets);
+                Ok(entry.with_other_protocol(asked, context.targets.no))
             }
         }
     }
 
     /// Emits a list of ports or port ranges of TCP or UDP. Both protocols share all but the comparison of the protocol number.
-    fn emit_tcp_or_udp_port_list(
-        &mut self,
-        known: PacketFacts,
-        sides: Sides,
-        ranges: &[ValueRange],
-        targets: Targets,
-    ) -> Result<Entry, Full>
-        requires many { 2 ≤ length ranges.now }
-        requires targets { AreTargets self.old targets }
-        ensures { EmitsGiven known (ports_cost (length ranges.now)) (any_of (tcp_or_udp_ports_test (direction_of sides)) ranges.now) targets
-            self.old self.new result }
+    fn emit_tcp_or_udp_port_list(&mut self, group: &Group, context: Context) -> Result<Entry, Full>
+        requires many { 2 ≤ length group.now.ranges.items }
+        requires targets { AreTargets self.old context.targets }
+        ensures { EmitsGroupGiven ports_cost (λ k. tcp_or_udp_ports_test (direction_of k.sides)) group.now context self.old self.new result }
     {
-        let exits = targets.ip_exits();
-        let yes = self.emit_port_lookup(sides, ranges, exits)?;
+        let exits = context.targets.ip_exits();
+        let yes = self.emit_port_lookup(group, exits)?;
         self.room(15)?;
         let yes = self.emit_fragment_test(Exits { yes, ..exits });
         let next = self.emit_tcp_or_udp(Exits { yes, ..exits });
-        Ok(self.emit_ip_guard_given(known, next, targets))
+        Ok(self.emit_ip_guard_given(next, context))
     }
 
     /// Emits a list of Ethernet hosts that share their first two bytes.
     #[tactic(auto, using(crate::proofs::Leading::decides_any))]
-    pub fn emit_ethernet_list(
-        &mut self,
-        sides: Sides,
-        head: u16,
-        ranges: &[ValueRange],
-        targets: Targets,
-    ) -> Result<Entry, Full>
-        requires some { 0 < length ranges.now }
+    pub fn emit_ethernet_list(&mut self, group: &Group, targets: Targets) -> Result<Entry, Full>
+        requires some { 0 < length group.now.ranges.items }
         requires targets { AreTargets self.old targets }
-        ensures { EmitsEntry (ethernet_cost (length ranges.now)) (any_of (ether_host_test (direction_of sides) head) ranges.now) targets
-            self.old self.new result }
+        ensures { EmitsGroup ethernet_cost (λ k. ether_host_test (direction_of k.sides) k.head) group.now targets self.old self.new result }
     {
-        let entry = self.emit_ethernet_lookup(sides, head, ranges, targets.any_exits())?;
+        let entry = self.emit_ethernet_lookup(group, targets.any_exits())?;
         Ok(Entry::at(entry))
     }
 
     /// Emits a list of bytes of TCP or UDP. A packet known to be a first fragment of the protocol is only looked up.
     fn emit_transport_bytes_list(
         &mut self,
-        known: PacketFacts,
         transport: Transport,
-        bytes: Bytes,
-        ranges: &[ValueRange],
-        targets: Targets,
+        group: &Group,
+        context: Context,
     ) -> Result<Entry, Full>
-        requires layer { in_layer bytes.layer ≡ is_first_fragment_of (protocol_number transport) }
-        requires some { 0 < length ranges.now }
-        requires targets { AreTargets self.old targets }
-        ensures { EmitsGiven known (bytes_cost (length ranges.now)) (any_of (bytes_test bytes) ranges.now) targets self.old self.new result }
+        requires layer { in_layer group.now.kind.bytes.layer ≡ is_first_fragment_of (protocol_number transport) }
+        requires some { 0 < length group.now.ranges.items }
+        requires targets { AreTargets self.old context.targets }
+        ensures { EmitsGroupGiven bytes_cost (λ k. bytes_test k.bytes) group.now context self.old self.new result }
     {
         let asked = Some(transport);
-        let exits = targets.first_fragment_exits(asked);
-        let next = self.emit_bytes_lookup(bytes, ranges, exits)?;
-        if known.has_protocol(protocol_number(transport)) {
+        let exits = context.targets.first_fragment_exits(asked);
+        let next = self.emit_bytes_lookup(group, exits)?;
+        if context.known.has_protocol(protocol_number(transport)) {
             self.room(4)?;
-            Ok(self.emit_fragment_guard_given(known, asked, transport, next, targets))
+            Ok(self.emit_fragment_guard_given(asked, transport, next, context))
         } else {
             self.room(18)?;
-            Ok(self.emit_transport_guard(asked, next, targets))
+            Ok(self.emit_transport_guard(asked, next, context.targets))
         }
     }
 
-    /// Emits a list of bytes of the IPv4 packet.
-    fn emit_ip_bytes_list(
-        &mut self,
-        known: PacketFacts,
-        bytes: Bytes,
-        ranges: &[ValueRange],
-        targets: Targets,
-    ) -> Result<Entry, Full>
-        requires layer { in_layer bytes.layer ≡ is_type IP }
-        requires some { 0 < length ranges.now }
-        requires targets { AreTargets self.old targets }
-        ensures { EmitsGiven known (bytes_cost (length ranges.now)) (any_of (bytes_test bytes) ranges.now) targets self.old self.new result }
+    fn emit_ip_bytes_list(&mut self, group: &Group, context: Context) -> Result<Entry, Full>
+        requires layer { in_layer group.now.kind.bytes.layer ≡ is_type IP }
+        requires some { 0 < length group.now.ranges.items }
+        requires targets { AreTargets self.old context.targets }
+        ensures { EmitsGroupGiven bytes_cost (λ k. bytes_test k.bytes) group.now context self.old self.new result }
     {
-        let next = self.emit_bytes_lookup(bytes, ranges, targets.ip_exits())?;
+        let next = self.emit_bytes_lookup(group, context.targets.ip_exits())?;
         self.room(4)?;
-        Ok(self.emit_ip_guard_given(known, next, targets))
+        Ok(self.emit_ip_guard_given(next, context))
     }
 
     /// Emits a list of bytes of a layer whose test spares the code after it nothing.
-    fn emit_other_bytes_list(
-        &mut self,
-        known: PacketFacts,
-        bytes: Bytes,
-        ranges: &[ValueRange],
-        targets: Targets,
-    ) -> Result<Entry, Full>
-        requires some { 0 < length ranges.now }
-        requires targets { AreTargets self.old targets }
-        ensures { EmitsGiven known (bytes_cost (length ranges.now)) (any_of (bytes_test bytes) ranges.now) targets self.old self.new result }
+    fn emit_other_bytes_list(&mut self, group: &Group, context: Context) -> Result<Entry, Full>
+        requires some { 0 < length group.now.ranges.items }
+        requires targets { AreTargets self.old context.targets }
+        ensures { EmitsGroupGiven bytes_cost (λ k. bytes_test k.bytes) group.now context self.old self.new result }
     {
-        let exits = targets.any_exits();
-        let next = self.emit_bytes_lookup(bytes, ranges, exits)?;
+        let exits = context.targets.any_exits();
+        let next = self.emit_bytes_lookup(group, exits)?;
         self.room(12)?;
-        let layer = PacketFacts::of_layer(bytes.layer);
-        Ok(Entry::at(self.emit_rest_of_fact(known, layer, Exits { yes: next, ..exits })))
+        let layer = PacketFacts::of_layer(group.kind.bytes.layer);
+        Ok(Entry::at(self.emit_rest_of(context.known, layer, Exits { yes: next, ..exits })))
     }
 
-    /// Emits a list of bytes of a layer.
-    pub fn emit_bytes_list(
-        &mut self,
-        known: PacketFacts,
-        bytes: Bytes,
-        ranges: &[ValueRange],
-        targets: Targets,
-    ) -> Result<Entry, Full>
-        requires some { 0 < length ranges.now }
-        requires targets { AreTargets self.old targets }
-        ensures { EmitsGiven known (bytes_cost (length ranges.now)) (any_of (bytes_test bytes) ranges.now) targets self.old self.new result }
+    pub fn emit_bytes_list(&mut self, group: &Group, context: Context) -> Result<Entry, Full>
+        requires some { 0 < length group.now.ranges.items }
+        requires targets { AreTargets self.old context.targets }
+        ensures { EmitsGroupGiven bytes_cost (λ k. bytes_test k.bytes) group.now context self.old self.new result }
     {
-        match bytes.layer {
-            Layer::Ip => self.emit_ip_bytes_list(known, bytes, ranges, targets),
-            Layer::Tcp => self.emit_transport_bytes_list(known, Tcp, bytes, ranges, targets),
-            Layer::Udp => self.emit_transport_bytes_list(known, Udp, bytes, ranges, targets),
+        match group.kind.bytes.layer {
+            Layer::Ip => self.emit_ip_bytes_list(group, context),
+            Layer::Tcp => self.emit_transport_bytes_list(Tcp, group, context),
+            Layer::Udp => self.emit_transport_bytes_list(Udp, group, context),
             Layer::Ether | Layer::Arp | Layer::Rarp | Layer::Icmp => {
-                self.emit_other_bytes_list(known, bytes, ranges, targets)
+                self.emit_other_bytes_list(group, context)
             }
         }
     }
 
     /// Emits a list of at least two members, or only what it needs of a packet of which something is known.
-    pub fn emit_list(
-        &mut self,
-        known: PacketFacts,
-        kind: ListKind,
-        ranges: &[ValueRange],
-        targets: Targets,
-    ) -> Result<Entry, Full>
-        requires many { 2 ≤ length ranges.now }
-        requires targets { AreTargets self.old targets }
-        ensures { EmitsGiven known (list_cost kind.form (length ranges.now)) (any_of (kind_test kind) ranges.now) targets
-            self.old self.new result }
+    pub fn emit_list(&mut self, group: &Group, context: Context) -> Result<Entry, Full>
+        requires many { 2 ≤ length group.now.ranges.items }
+        requires targets { AreTargets self.old context.targets }
+        ensures { EmitsGroupGiven (list_cost group.now.kind.form) kind_test group.now context self.old self.new result }
     {
-        let (sides, mask) = (kind.sides, kind.mask);
-        match kind.form {
-            Form::Net => self.emit_net_list(known, sides, mask, ranges, targets),
-            Form::IpNet => self.emit_ip_net_list(known, sides, mask, ranges, targets),
-            Form::ArpNet => self.emit_arp_net_list(ARP, sides, mask, ranges, targets),
-            Form::RarpNet => self.emit_arp_net_list(RARP, sides, mask, ranges, targets),
-            Form::Ports => self.emit_port_list(known, None, sides, ranges, targets),
-            Form::TcpPorts => self.emit_port_list(known, Some(Tcp), sides, ranges, targets),
-            Form::UdpPorts => self.emit_port_list(known, Some(Udp), sides, ranges, targets),
-            Form::SctpPorts => self.emit_port_list(known, Some(Sctp), sides, ranges, targets),
-            Form::TcpOrUdpPorts => self.emit_tcp_or_udp_port_list(known, sides, ranges, targets),
-            Form::IpProto => self.emit_protocol_list(known, ranges, targets),
-            Form::EtherProto => self.emit_type_list(ranges, targets),
-            Form::EtherHost => self.emit_ethernet_list(sides, kind.head, ranges, targets),
-            Form::Bytes => self.emit_bytes_list(known, kind.bytes, ranges, targets),
+        match group.kind.form {
+            Form::Net => self.emit_net_list(group, context),
+            Form::IpNet => self.emit_ip_net_list(group, context),
+            Form::ArpNet => self.emit_arp_list(ARP, group, context.targets),
+            Form::RarpNet => self.emit_arp_list(RARP, group, context.targets),
+            Form::Ports => self.emit_port_list(None, group, context),
+            Form::TcpPorts => self.emit_port_list(Some(Tcp), group, context),
+            Form::UdpPorts => self.emit_port_list(Some(Udp), group, context),
+            Form::SctpPorts => self.emit_port_list(Some(Sctp), group, context),
+            Form::TcpOrUdpPorts => self.emit_tcp_or_udp_port_list(group, context),
+            Form::IpProto => self.emit_protocol_list(group, context),
+            Form::EtherProto => self.emit_type_list(group, context.targets),
+            Form::EtherHost => self.emit_ethernet_list(group, context.targets),
+            Form::Bytes => self.emit_bytes_list(group, context),
         }
     }
 }

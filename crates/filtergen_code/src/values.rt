@@ -57,16 +57,12 @@ fn farthest(base: Base) -> u32
     }
 }
 
-/// The leaf that a value is.
 fn leaf_of(amount: &Value) -> Option<Leaf>
     ensures { IfSome result (λ leaf. IsLeaf leaf (amount_of amount.now)) }
 {
     match amount {
         Value::Length => Some(Leaf::Length),
-        _ => match constant(amount) {
-            Some(n) => Some(Leaf::Number(n)),
-            None => None,
-        },
+        _ => Some(Leaf::Number(constant(amount)?)),
     }
 }
 

@@ -32,5 +32,5 @@ returns-in_ok-next-in-Binary t c =
 pub returns-in_ok-room-in-Accessor : goal.returns-in_ok-room-in-Accessor
 returns-in_ok-room-in-Accessor t c =
     let index = rw (c.with_fact.ensures, c.deref-in-Accessor.ensures, c.of_layer-fact.ensures) at c.in_ok-next-in-Accessor.ensures in
-    let layer = rw c.of_layer-fact.ensures at c.emit_rest_of_fact.ensures in
+    let layer = rw c.of_layer-fact.ensures at c.emit_rest_of.ensures in
     rw c.in-Accessor.is (decides-both c.requires index layer)

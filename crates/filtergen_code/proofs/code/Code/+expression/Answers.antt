@@ -37,11 +37,11 @@ emit_right_end-returns-in-Or t c =
 
 pub emit_right_end-returns : goal.emit_right_end-returns
 emit_right_end-returns t c =
-    let targets = c.args.targets in
+    let targets = c.args.context.targets in
     elim c.match-expr.branch [
       | emit_right_end-in-Everything w ↦
           rw (w.emitted-is, w.self-is, w.in-Everything.is)
-          (given-passed c.args.known _ targets c.args.self.now c.requires.targets.0 (λ p holds. refl), relays-none targets c.args.self.now c.requires.targets)
+          (given-passed c.args.context.known _ targets c.args.self.now c.requires.targets.0 (λ p holds. refl), relays-none targets c.args.self.now c.requires.targets)
       | emit_right_end-in-Test+in_ok-emitted-in-Test w ↦ rw (w.emitted-is, w.self-is, w.in-Test.is) w.in_ok-emitted-in-Test.ensures
       | emit_right_end-in-Relation+in_ok-room-in-Relation+in_ok-entry-in-Relation w ↦
           let relayed = w.emit_relays-targets.ensures in
@@ -49,8 +49,8 @@ emit_right_end-returns t c =
           rw (w.emitted-is, w.self-is, w.in-Relation.is)
           (given-more _ (omega arith) (given-relayed relayed.extends relayed.relays done), relays-all-later relayed.relays done.extends)
       | emit_right_end-in-Not+in_ok-inner-in-Not w ↦
-          let done = rw (w.deref.ensures, w.opposite.ensures) at w.in_ok-inner-in-Not.ensures in
-          rw (w.emitted-is, w.self-is, w.in-Not.is, w.opposite-targets.ensures) (given-not done.0, relays-not done.1)
+          let done = rw (w.deref.ensures, w.opposite-targets.ensures) at w.in_ok-inner-in-Not.ensures in
+          rw (w.emitted-is, w.self-is, w.in-Not.is, w.opposite-targets-in-Not.ensures) (given-not done.0, relays-not done.1)
     ]
 
 pub emit_last_link-returns-in-Some : goal.emit_last_link-returns-in-Some
@@ -59,7 +59,7 @@ emit_last_link-returns-in-Some t c = rw c.in-Some.is at c.in_ok-listed.ensures
 pub emit_last_link-returns : goal.emit_last_link-returns
 emit_last_link-returns t c =
     let same = rw c.in_default.is at c.in_ok-listed.ensures in
-    emits-link c.args.known c.args.chain (rw (c.facts_after-known.ensures, same) at c.in_ok-emitted.ensures)
+    emits-link c.args.context.known c.args.chain (rw (c.facts_after-known.ensures, same) at c.in_ok-emitted.ensures)
 
 pub emit_expr-ends-init : goal.emit_expr-ends-init
-emit_expr-ends-init t c = continues-none c.args.known (tree_of c.args.expr.now) c.args.targets c.args.self.now c.requires.targets
+emit_expr-ends-init t c = continues-none c.args.context.known (tree_of c.args.expr.now) c.args.context.targets c.args.self.now c.requires.targets

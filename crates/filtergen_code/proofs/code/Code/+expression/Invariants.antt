@@ -15,7 +15,7 @@ abbrev pub decreases-emit_last_link : goal.decreases-emit_last_link
 decreases-emit_last_link l = 3 * (size (tree_of l.left.now) + size (tree_of l.right.now)) + 3
 
 abbrev pub invariant-emit_expr-ends : goal.invariant-emit_expr-ends
-invariant-emit_expr-ends l = Continues l.known (tree_of l.expr) (tree_of l.rest) l.fn.targets l.on l.kept l.fn.self l.self
+invariant-emit_expr-ends l = Continues l.fn.context.known (tree_of l.expr) (tree_of l.rest) l.fn.context.targets l.on l.kept l.fn.self l.self
 
 abbrev pub decreases-emit_expr-ends : goal.decreases-emit_expr-ends
 decreases-emit_expr-ends l = size (tree_of l.rest)

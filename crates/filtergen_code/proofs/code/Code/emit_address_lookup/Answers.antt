@@ -9,7 +9,7 @@ pub returns-then-are_two_hosts : goal.returns-then-are_two_hosts
 returns-then-are_two_hosts c =
     MatchResult-weaker c.emit_side_lookups.result c.emit_side_lookups.ensures
     (λ entry done.
-    decides-locations (direction_of c.args.sides) c.of_address-source.result c.of_address-destination.result c.args.mask c.args.offsets.0 c.args.offsets.1 c.args.ranges.now
+    decides-locations (direction_of c.args.group.now.kind.sides) c.of_address-source.result c.of_address-destination.result c.args.group.now.kind.mask c.args.offsets.0 c.args.offsets.1 c.args.group.now.ranges.items
     c.of_address-source.ensures c.of_address-destination.ensures done.0)
     (λ e full. full)
 

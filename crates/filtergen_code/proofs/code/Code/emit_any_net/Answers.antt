@@ -14,6 +14,6 @@ returns c =
     let m = c.args.net.mask in
     let arp = rw c.other_exits-exits.ensures at c.emit_addresses-next.ensures in
     let rarp-jump = rw c.other_exits-exits.ensures at c.emit_branch.ensures in
-    let ip = rw c.ip_exits.ensures at c.emit_addresses-ip.ensures in
-    rw (c.at.ensures, c.len-any.ensures.value, c.emit.ensures, c.load_insn.ensures)
-    (decides-any-net (by_direction d (has_address a m 26) (has_address a m 30)) (by_direction d (has_address a m 28) (has_address a m 38)) c.args.targets c.requires.targets arp c.len-rarp.ensures.value c.len-other.ensures.value rarp-jump c.emit_branch-2.ensures ip c.emit_branch-3.ensures)
+    let ip = rw c.ip_exits.ensures at c.emit_addresses-yes.ensures in
+    rw (c.at-entry.ensures, c.len.ensures.value, c.emit.ensures, c.load_insn.ensures)
+    (decides-any-net (by_direction d (has_address a m 26) (has_address a m 30)) (by_direction d (has_address a m 28) (has_address a m 38)) c.args.targets c.requires.1 arp c.len-no.ensures.value c.len-no-2.ensures.value rarp-jump c.emit_branch-2.ensures ip c.emit_branch-3.ensures)

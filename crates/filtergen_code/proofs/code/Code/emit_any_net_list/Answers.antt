@@ -15,15 +15,15 @@ emit-requires-clause-sound c = rw c.load_insn.ensures (load-sound (fields.Half 1
 
 pub returns : goal.returns
 returns c =
-    let ranges = c.args.ranges.now in
-    let d = direction_of c.args.sides in
-    let m = c.args.mask in
+    let ranges = c.args.group.now.ranges.items in
+    let d = direction_of c.args.group.now.kind.sides in
+    let m = c.args.group.now.kind.mask in
     let some : 0 < length ranges = omega (arith, c.requires.many) in
     let t = λ (x : ValueRange). by_direction d (in_range x m 26) (in_range x m 30) in
     let u = λ (x : ValueRange). by_direction d (in_range x m 28) (in_range x m 38) in
     let both = c.in_ok-ip.ensures in
     let rarp-jump = rw c.other_exits-exits.ensures at c.emit_branch.ensures in
-    rw (c.at.ensures, c.len-any.ensures.value, c.emit.ensures, c.load_insn.ensures)
+    rw (c.at-entry.ensures, c.len.ensures.value, c.emit.ensures, c.load_insn.ensures)
     (decides-by-same _ (any_of (λ x. of_any_type (t x) (u x)) ranges) (λ p bytes. types-shared t u ranges p some)
     (decides-by-more _ (omega arith)
-    (decides-listed-nets (any_of t ranges) (any_of u ranges) c.args.targets c.requires.targets both.0 (extends-none _) both.1 c.len-rarp.ensures.value c.len-other.ensures.value rarp-jump c.emit_branch-2.ensures c.emit_branch-3.ensures)))
+    (decides-listed-nets (any_of t ranges) (any_of u ranges) c.args.targets c.requires.targets both.0 (extends-none _) both.1 c.len-no.ensures.value c.len-no-2.ensures.value rarp-jump c.emit_branch-2.ensures c.emit_branch-3.ensures)))

@@ -7,4 +7,4 @@ returns c =
     let targets = c.args.targets in
     let inner = rw c.any_exits-exits.ensures at c.emit_addresses-next.ensures in
     let typed = rw c.any_exits-exits.ensures at c.emit_ether_type.ensures in
-    rw c.at.ensures (decides_any targets (decides-both (c.requires.targets.0.any, c.requires.targets.1.any) inner typed))
+    rw c.at.ensures (decides_any targets (decides-both (c.requires.1.0.any, c.requires.1.1.any) inner typed))

@@ -20,4 +20,4 @@ emit-requires-clause-sound c =
 pub returns : goal.returns
 returns c =
     rw (c.emit.ensures, c.branch_insn.ensures, c.len-2.ensures.value, c.len-3.ensures.value)
-    (branch-chooses c.args.jump c.args.operand c.args.exits c.if-len-exits-gt-REACH.reach c.emit_relay-no.result c.emit_relay-yes.result c.args.self.now c.emit_relay-no.new.self c.emit_relay-yes.new.self c.requires.exits c.emit_relay-no.ensures c.emit_relay-yes.ensures)
+    (branch-chooses c.args.jump c.args.operand c.args.exits c.if-len-exits-gt-REACH.reach c.emit_relay-no.result c.emit_relay-yes.result c.args.self.now c.emit_relay-no.new.self c.emit_relay-yes.new.self c.requires.1 c.emit_relay-no.ensures c.emit_relay-yes.ensures)

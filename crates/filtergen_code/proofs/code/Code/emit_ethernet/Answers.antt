@@ -10,4 +10,4 @@ returns c =
     let octets = c.args.address.octets in
     decides-same _ (is_address octets o)
     (λ p bytes. six-parted o c.from-high.result c.from_be_bytes-low.result (address_number octets) p bytes (omega (arith, c.from_be_bytes-low.type_inv)) (omega (arith, c.from-high.ensures, c.from_be_bytes.ensures, c.from_be_bytes-low.ensures)))
-    (decides-both c.requires.exits c.emit_test-next.ensures c.emit_test.ensures)
+    (decides-both c.requires.ready.1 c.emit_test-next.ensures c.emit_test.ensures)

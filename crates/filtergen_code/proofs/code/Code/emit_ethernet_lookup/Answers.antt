@@ -15,8 +15,8 @@ returns-in-Destination c =
 
 pub returns-in_ok-next-in-Either : goal.returns-in_ok-next-in-Either
 returns-in_ok-next-in-Either c =
-    let ranges = c.args.ranges.now in
-    let head = c.args.head in
+    let ranges = c.args.group.now.ranges.items in
+    let head = c.args.group.now.kind.head in
     let second = c.in_ok-next-in-Either.ensures in
     rw c.in-Either.is
     (MatchResult-weaker c.emit_tail_lookup-in-Either-2.result c.emit_tail_lookup-in-Either-2.ensures

@@ -19,5 +19,5 @@ returns-in_default c =
     let told = alone-told group.kind group.primitive group.ranges.items c.requires.alone c.requires.some (omega (arith, c.len.ensures.value, c.if-len-gt1.false)) in
     let is = rw c.in-Some.is at told in
     MatchResult-weaker c.emit_primitive_with_relays.result c.emit_primitive_with_relays.ensures
-    (λ emitted done. (given-more _ (omega (arith, is.1)) (given-same c.args.known _ _ (λ p holds. is.0 p) done.0), done.1))
+    (λ emitted done. (given-more _ (omega (arith, is.1)) (given-same c.args.context.known _ _ (λ p holds. is.0 p) done.0), done.1))
     (λ e full. omega (arith, full, is.1))

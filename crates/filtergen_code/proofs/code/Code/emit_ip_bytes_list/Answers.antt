@@ -8,11 +8,11 @@ use Rattle.filtergen_code.proofs.code.Code.emit_ip_bytes_list.Goals as goal
 
 pub returns : goal.returns
 returns c =
-    let ranges = c.args.ranges.now in
-    let b = c.args.bytes in
+    let ranges = c.args.group.now.ranges.items in
+    let b = c.args.group.now.kind.bytes in
     let number : Test = λ p. check (in_ranges ranges) (accessed b.layer (bytes_of b.size) p b.index) in
     let inner = rw c.ip_exits.ensures at c.in_ok-next.ensures in
     given-more _ (omega arith)
-    (given-same c.args.known (and_test (is_type 0x0800) number) (any_of (bytes_test b) ranges)
+    (given-same c.args.context.known (and_test (is_type 0x0800) number) (any_of (bytes_test b) ranges)
     (λ p holds. ap (λ (t : Test). and_then (t p) (number p)) (sym c.requires.layer) ∙ layer-shared b ranges p c.requires.some)
     (c.emit_ip_guard_given.ensures.guards (7 * length ranges + 2) number c.args.self.now c.requires.targets inner))

@@ -8,17 +8,17 @@ use Rattle.filtergen_code.proofs.code.Code.emit_ip_guard_given.Goals as goal
 
 pub returns-then-has_type : goal.returns-then-has_type
 returns-then-has_type c =
-    let known = c.args.known in
+    let known = c.args.context.known in
     let typed : has_type known 0x0800 ≡ true = sym c.if-has_type.ensures in
     rw c.at.ensures
     (record {
       guards = λ most test before are tested.
           given-more (most + 4) (omega arith)
-          (given-ip known (and_test (is_type 0x0800) test) c.args.targets (λ p holds. type-from known 0x0800 p holds typed)
+          (given-ip known (and_test (is_type 0x0800) test) c.args.context.targets (λ p holds. type-from known 0x0800 p holds typed)
           (λ p holds. sym (ap (λ v. and_then v (test p)) (type-from known 0x0800 p holds typed))) tested);
     })
 
 pub returns : goal.returns
 returns c =
     rw c.emit_ip_guard.ensures.places
-    (record { guards = λ most test before are tested. given-any c.args.known (decides-guarded c.args.targets are tested c.emit_ip_guard.ensures.test) })
+    (record { guards = λ most test before are tested. given-any c.args.context.known (decides-guarded c.args.context.targets are tested c.emit_ip_guard.ensures.test) })

@@ -8,11 +8,11 @@ use Rattle.filtergen_code.proofs.code.Code.emit_ip_net_list.Goals as goal
 
 pub returns : goal.returns
 returns c =
-    let ranges = c.args.ranges.now in
-    let m = c.args.mask in
+    let ranges = c.args.group.now.ranges.items in
+    let m = c.args.group.now.kind.mask in
     let some : 0 < length ranges = omega (arith, c.requires.many) in
     let inner = rw c.ip_exits.ensures at c.in_ok-next.ensures in
-    let t = λ (x : ValueRange). by_direction (direction_of c.args.sides) (in_range x m 26) (in_range x m 30) in
+    let t = λ (x : ValueRange). by_direction (direction_of c.args.group.now.kind.sides) (in_range x m 26) (in_range x m 30) in
     given-more _ (omega arith)
-    (given-same c.args.known _ (any_of (λ x. and_test (is_type 0x0800) (t x)) ranges) (λ p holds. sym (any-guarded (is_type 0x0800) t ranges p some))
+    (given-same c.args.context.known _ (any_of (λ x. and_test (is_type 0x0800) (t x)) ranges) (λ p holds. sym (any-guarded (is_type 0x0800) t ranges p some))
     (c.emit_ip_guard_given.ensures.guards (14 * length ranges + 6) (any_of t ranges) c.args.self.now c.requires.targets inner))

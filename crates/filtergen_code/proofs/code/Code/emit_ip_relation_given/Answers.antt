@@ -10,10 +10,10 @@ use Rattle.filtergen_code.proofs.code.Code.emit_ip_relation_given.Goals as goal
 
 pub returns : goal.returns
 returns c =
-    let known = c.args.known in
+    let known = c.args.context.known in
     let comparison = c.args.comparison in
     let left = amount_of c.args.left.now in
     let right = amount_of c.args.right.now in
-    let inner = rw (c.ip_exits.ensures, c.with_fact-of_ip.ensures) at c.in_ok-next.ensures in
+    let inner = rw (c.ip_exits-exits.ensures, c.with_fact-of_ip.ensures) at c.in_ok-next.ensures in
     given-same known _ (relation_test comparison left right) (λ p holds. relation-ip known comparison left right p c.requires.begins holds)
     (c.emit_ip_guard_given.ensures.guards (relation_cost left right) (rest_of_relation (with_fact known (facts.Type 0x0800)) comparison left right) c.args.self.now c.requires.targets inner)

@@ -6,7 +6,7 @@ use Rattle.filtergen_code.proofs.code.Code.emit_last_comparisons_of_others.Goals
 
 pub returns-in_ok-room : goal.returns-in_ok-room
 returns-in_ok-room c =
-    let ranges = c.args.ranges.now in
+    let ranges = c.args.group.now.ranges.items in
     let same = c.if-is_one_for_all_types.ensures in
     let nears = c.emit_relay.ensures in
     rw (same.0, same.1) (

@@ -13,11 +13,11 @@ returns-in-IpNet c =
 
 pub returns-in-ArpNet : goal.returns-in-ArpNet
 returns-in-ArpNet c =
-    rw c.in-ArpNet.is (MatchResult-weaker c.emit_arp_net_list.result c.emit_arp_net_list.ensures (λ entry done. given-more _ (omega (arith, c.requires.many)) (given-any c.args.known done)) (λ e full. omega (arith, full, c.requires.many)))
+    rw c.in-ArpNet.is (MatchResult-weaker c.emit_arp_list.result c.emit_arp_list.ensures (λ entry done. given-more _ (omega (arith, c.requires.many)) (given-any c.args.context.known done)) (λ e full. omega (arith, full, c.requires.many)))
 
 pub returns-in-RarpNet : goal.returns-in-RarpNet
 returns-in-RarpNet c =
-    rw c.in-RarpNet.is (MatchResult-weaker c.emit_arp_net_list-in-RarpNet.result c.emit_arp_net_list-in-RarpNet.ensures (λ entry done. given-more _ (omega (arith, c.requires.many)) (given-any c.args.known done)) (λ e full. omega (arith, full, c.requires.many)))
+    rw c.in-RarpNet.is (MatchResult-weaker c.emit_arp_list-in-RarpNet.result c.emit_arp_list-in-RarpNet.ensures (λ entry done. given-more _ (omega (arith, c.requires.many)) (given-any c.args.context.known done)) (λ e full. omega (arith, full, c.requires.many)))
 
 pub returns-in-Ports : goal.returns-in-Ports
 returns-in-Ports c =
@@ -45,11 +45,11 @@ returns-in-IpProto c =
 
 pub returns-in-EtherProto : goal.returns-in-EtherProto
 returns-in-EtherProto c =
-    rw c.in-EtherProto.is (MatchResult-weaker c.emit_type_list.result c.emit_type_list.ensures (λ entry done. given-more _ (omega (arith, c.requires.many)) (given-any c.args.known done)) (λ e full. omega (arith, full, c.requires.many)))
+    rw c.in-EtherProto.is (MatchResult-weaker c.emit_type_list.result c.emit_type_list.ensures (λ entry done. given-more _ (omega (arith, c.requires.many)) (given-any c.args.context.known done)) (λ e full. omega (arith, full, c.requires.many)))
 
 pub returns-in-EtherHost : goal.returns-in-EtherHost
 returns-in-EtherHost c =
-    rw c.in-EtherHost.is (MatchResult-weaker c.emit_ethernet_list.result c.emit_ethernet_list.ensures (λ entry done. given-more _ (omega (arith, c.requires.many)) (given-any c.args.known done)) (λ e full. omega (arith, full, c.requires.many)))
+    rw c.in-EtherHost.is (MatchResult-weaker c.emit_ethernet_list.result c.emit_ethernet_list.ensures (λ entry done. given-more _ (omega (arith, c.requires.many)) (given-any c.args.context.known done)) (λ e full. omega (arith, full, c.requires.many)))
 
 pub returns-in-Bytes : goal.returns-in-Bytes
 returns-in-Bytes c = rw c.in-Bytes.is c.emit_bytes_list.ensures

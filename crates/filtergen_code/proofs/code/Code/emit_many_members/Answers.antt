@@ -8,5 +8,5 @@ pub returns : goal.returns
 returns c =
     let group = c.args.group.now in
     let relayed = c.emit_relays-targets.ensures in
-    let done = rw c.as_slice.ensures.value at c.in_ok-entry.ensures in
+    let done = c.in_ok-entry.ensures in
     (given-more _ (listed_fits group.kind.form (length group.ranges.items) c.requires.many) (given-relayed relayed.extends relayed.relays done), relays-all-later relayed.relays done.extends)

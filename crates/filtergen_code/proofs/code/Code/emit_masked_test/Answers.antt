@@ -15,4 +15,4 @@ emit-requires-2-clause-sound c = rw c.load_insn.ensures (load-sound c.args.field
 pub returns : goal.returns
 returns c =
     rw (c.len.ensures.value, c.emit-2.ensures, c.load_insn.ensures, c.emit.ensures, c.plain_insn.ensures)
-    (decides-masked (load_insn c.args.field) c.args.mask (field_of c.args.field) (λ n. n == c.args.bits) (load-effect c.args.field) c.requires.exits c.emit_branch.ensures)
+    (decides-masked (load_insn c.args.field) c.args.mask (field_of c.args.field) (λ n. n == c.args.bits) (load-effect c.args.field) c.requires.1 c.emit_branch.ensures)

@@ -11,10 +11,10 @@ use Rattle.filtergen_code.proofs.code.Code.emit_net_list.Goals as goal
 
 pub returns-then-has_type : goal.returns-then-has_type
 returns-then-has_type c =
-    let ranges = c.args.ranges.now in
-    let d = direction_of c.args.sides in
-    let m = c.args.mask in
-    let known = c.args.known in
+    let ranges = c.args.group.now.ranges.items in
+    let d = direction_of c.args.group.now.kind.sides in
+    let m = c.args.group.now.kind.mask in
+    let known = c.args.context.known in
     let t = λ (x : ValueRange). by_direction d (in_range x m 26) (in_range x m 30) in
     let u = λ (x : ValueRange). by_direction d (in_range x m 28) (in_range x m 38) in
     let typed : has_type known 0x0800 ≡ true = sym c.if-has_type.ensures in
@@ -28,4 +28,4 @@ returns-then-has_type c =
 
 pub returns-else-has_type : goal.returns-else-has_type
 returns-else-has_type c =
-    MatchResult-weaker c.emit_any_net_list.result c.emit_any_net_list.ensures (λ entry done. given-any c.args.known done) (λ e full. full)
+    MatchResult-weaker c.emit_any_net_list.result c.emit_any_net_list.ensures (λ entry done. given-any c.args.context.known done) (λ e full. full)

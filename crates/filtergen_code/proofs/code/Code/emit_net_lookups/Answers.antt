@@ -12,7 +12,7 @@ emit_last_comparisons_of_others-requires-clause-there c =
     let last = rw c.ip_exits-of_ip.ensures at c.in_ok-last.ensures in
     let kept = rw c.ip_exits-of_ip.ensures at c.in_ok-ip-2.ensures in
     rw last.2
-    (choice-kept (λ r. in_ranges c.args.ranges.now r.accumulator)
+    (choice-kept (λ r. in_ranges c.args.group.now.ranges.items r.accumulator)
     (exits-kept (record { yes = targets.yes.ip; no = targets.no.ip }) _ _ (c.requires.targets.0.ip, c.requires.targets.1.ip) last.0) kept.extends last.1)
 
 pub returns-then-are_two_hosts : goal.returns-then-are_two_hosts

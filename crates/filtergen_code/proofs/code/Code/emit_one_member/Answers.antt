@@ -14,9 +14,9 @@ pub returns-in_ok-entry-in-EtherHost : goal.returns-in_ok-entry-in-EtherHost
 returns-in_ok-entry-in-EtherHost c =
     let group = c.args.group.now in
     let relayed = c.emit_relays-targets.ensures in
-    let done = rw c.as_slice-ranges.ensures.value at c.in_ok-entry-in-EtherHost.ensures in (
+    let done = c.in_ok-entry-in-EtherHost.ensures in (
       given-more _ (host-fits group.kind group.ranges.items c.in-EtherHost.is c.requires.some)
-          (given-same c.args.known _ _ (λ p holds. host-kind group.kind group.ranges.items p c.in-EtherHost.is) (given-relayed relayed.extends relayed.relays (given-any c.args.known done))),
+          (given-same c.args.context.known _ _ (λ p holds. host-kind group.kind group.ranges.items p c.in-EtherHost.is) (given-relayed relayed.extends relayed.relays (given-any c.args.context.known done))),
       relays-all-later relayed.relays done.extends,
     )
 
@@ -24,9 +24,9 @@ pub returns-in_ok-entry-in_default : goal.returns-in_ok-entry-in_default
 returns-in_ok-entry-in_default c =
     let group = c.args.group.now in
     let relayed = c.emit_relays-targets.ensures in
-    let done = rw c.as_slice-ranges.ensures.value at c.in_ok-entry-in_default.ensures in
+    let done = c.in_ok-entry-in_default.ensures in
     let bytes = only-bytes group.kind c.requires.form c.in_default.not-EtherHost in (
       given-more _ (relation-fits group.kind group.ranges.items bytes c.requires.some)
-          (given-same c.args.known _ _ (λ p holds. bytes-kind group.kind group.ranges.items p bytes) (given-relayed relayed.extends relayed.relays done)),
+          (given-same c.args.context.known _ _ (λ p holds. bytes-kind group.kind group.ranges.items p bytes) (given-relayed relayed.extends relayed.relays done)),
       relays-all-later relayed.relays done.extends,
     )

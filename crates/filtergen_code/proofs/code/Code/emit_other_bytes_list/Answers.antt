@@ -8,11 +8,11 @@ use Rattle.filtergen_code.proofs.code.Code.emit_other_bytes_list.Goals as goal
 
 pub returns : goal.returns
 returns c =
-    let ranges = c.args.ranges.now in
-    let targets = c.args.targets in
+    let ranges = c.args.group.now.ranges.items in
+    let targets = c.args.context.targets in
     let inner = rw c.any_exits-exits.ensures at c.in_ok-next.ensures in
-    let rest = rw (c.of_layer-layer.ensures, c.any_exits-exits.ensures) at c.emit_rest_of_fact.ensures in
+    let rest = rw (c.of_layer-layer.ensures, c.any_exits-exits.ensures) at c.emit_rest_of.ensures in
     rw c.at.ensures
     (given-more _ (omega arith)
-    (given-rest c.args.known (any_of (bytes_test c.args.bytes) ranges) (λ p holds. bytes-shared c.args.known c.args.bytes ranges p c.requires.some holds)
+    (given-rest c.args.context.known (any_of (bytes_test c.args.group.now.kind.bytes) ranges) (λ p holds. bytes-shared c.args.context.known c.args.group.now.kind.bytes ranges p c.requires.some holds)
     (decides_any targets (decides-both (c.requires.targets.0.any, c.requires.targets.1.any) inner rest))))

@@ -14,8 +14,8 @@ emit-requires-clause-sound c = rw c.plain_insn-header.ensures refl
 
 pub returns : goal.returns
 returns c =
-    let ranges = c.args.ranges.now in
-    let d = direction_of c.args.sides in
+    let ranges = c.args.group.now.ranges.items in
+    let d = direction_of c.args.group.now.kind.sides in
     let some : 0 < length ranges = omega (arith, c.requires.many) in
     let passed = rw c.plain_insn-header.ensures at c.exits_after-exits.ensures in
     let done = c.in_ok-emit_side_lookups.ensures in

@@ -10,4 +10,4 @@ returns c =
     let high = c.args.ports.high in
     let exits = c.first_fragment_exits-exits.ensures in
     decides-by-same _ (has_any_ports c.args.asked d low high) (λ p bytes. of-transport-is c.args.asked d low high p)
-    (c.emit_transport_guard.ensures.guards 15 (by_direction d (has_port low high 0) (has_port low high 2)) c.first_fragment_exits-exits.result c.args.self.now c.requires.targets exits.yes exits.no c.emit_header_and_ports-first_fragment.ensures)
+    (c.emit_transport_guard.ensures.guards 15 (by_direction d (has_port low high 0) (has_port low high 2)) c.first_fragment_exits-exits.result c.args.self.now c.requires.1 exits.yes exits.no c.emit_header_and_ports-first_fragment.ensures)

@@ -13,10 +13,10 @@ returns-in-Some c =
     rw c.in-Ports.is (given-more 33 (omega arith) (rw c.new-ports.ensures at c.emit_ports_given.ensures))
 
 pub returns-in-None : goal.returns-in-None
-returns-in-None c = rw c.in-Ports.is (given-any c.args.known c.emit_primitive.ensures)
+returns-in-None c = rw c.in-Ports.is (given-any c.args.context.known c.emit_primitive.ensures)
 
 pub returns-else-has_type : goal.returns-else-has_type
-returns-else-has_type c = rw c.in-Net.is (given-any c.args.known c.emit_primitive-else-has_type.ensures)
+returns-else-has_type c = rw c.in-Net.is (given-any c.args.context.known c.emit_primitive-else-has_type.ensures)
 
 pub returns-in_default : goal.returns-in_default
-returns-in_default c = given-any c.args.known c.emit_primitive-in_default.ensures
+returns-in_default c = given-any c.args.context.known c.emit_primitive-in_default.ensures

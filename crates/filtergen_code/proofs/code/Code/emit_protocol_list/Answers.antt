@@ -12,10 +12,10 @@ number x p = check (within x.low x.high) (byte 23 p)
 
 pub returns : goal.returns
 returns c =
-    let ranges = c.args.ranges.now in
+    let ranges = c.args.group.now.ranges.items in
     let some : 0 < length ranges = omega (arith, c.requires.many) in
-    let done = rw c.ip_exits.ensures at c.in_ok-next.ensures.0 in
+    let done = rw (c.as_slice-ranges.ensures.value, c.ip_exits-exits.ensures) at c.in_ok-next.ensures.0 in
     let inner = decides-followed _ (any_of number ranges) (λ r p bytes. refl) done in
     given-more _ (omega arith)
-    (given-same c.args.known _ (any_of (λ x. and_test (is_type 0x0800) (number x)) ranges) (λ p holds. sym (any-guarded (is_type 0x0800) number ranges p some))
+    (given-same c.args.context.known _ (any_of (λ x. and_test (is_type 0x0800) (number x)) ranges) (λ p holds. sym (any-guarded (is_type 0x0800) number ranges p some))
     (c.emit_ip_guard_given.ensures.guards (7 * length ranges + 2) (any_of number ranges) c.args.self.now c.requires.targets inner))

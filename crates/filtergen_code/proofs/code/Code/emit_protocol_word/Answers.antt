@@ -10,7 +10,7 @@ returns-in-Ip c =
     let exits : Exits = record { yes = w.yes.ip; no = w.no.ip } in
     rw (c.in-Ip.is, c.emit_ip_guard.ensures.places)
     (decides-by-same _ (is_type 0x0800) (λ p bytes. and-yes (is_type 0x0800 p))
-    (decides-guarded w c.requires.targets (decides-always exits c.args.self.now (c.requires.targets.0.ip, c.requires.targets.1.ip)) c.emit_ip_guard.ensures.test))
+    (decides-guarded w c.requires.1 (decides-always exits c.args.self.now (c.requires.1.0.ip, c.requires.1.1.ip)) c.emit_ip_guard.ensures.test))
 
 pub returns-in-Icmp : goal.returns-in-Icmp
 returns-in-Icmp c = rw c.in-Icmp.is c.emit_ip_protocol.ensures

@@ -2,7 +2,7 @@ use Rattle.filtergen_code.proofs.Narrowed.{given-any}
 use Rattle.filtergen_code.proofs.code.Code.emit_protocol_word_given.Goals as goal
 
 pub returns-in_default : goal.returns-in_default
-returns-in_default c = given-any c.args.known c.emit_protocol_word.ensures
+returns-in_default c = given-any c.args.context.known c.emit_protocol_word.ensures
 
 pub returns-in-Icmp : goal.returns-in-Icmp
 returns-in-Icmp c = rw c.in-Icmp.is c.emit_ip_protocol_given.ensures

@@ -18,4 +18,4 @@ returns-else-low-high c =
     let high = c.args.high in
     let above = rw c.opposite.ensures at c.emit_branch-else-low-high.ensures in
     chooses-same _ (λ r. within low high r.accumulator) (λ r. within-bounds low high r.accumulator)
-    (chooses-both (λ r. nat_le low r.accumulator) (λ r. if nat_lt high r.accumulator then false else true) c.requires.exits c.len-upper.ensures.value (chooses-not (λ r. nat_lt high r.accumulator) above) c.emit_branch-else-low-high-2.ensures)
+    (chooses-both (λ r. nat_le low r.accumulator) (λ r. if nat_lt high r.accumulator then false else true) c.requires.1 c.len-yes.ensures.value (chooses-not (λ r. nat_lt high r.accumulator) above) c.emit_branch-else-low-high-2.ensures)

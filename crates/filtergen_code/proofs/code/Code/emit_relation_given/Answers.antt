@@ -22,7 +22,7 @@ returns c =
     let left = amount_of c.args.left.now in
     let right = amount_of c.args.right.now in
     let comparison = c.args.comparison in
-    let done = rw c.any_exits.ensures at c.in_ok-place.ensures in
+    let done = rw c.any_exits-exits.ensures at c.in_ok-place.ensures in
     rw c.at.ensures
     (given-more _ (omega (arith, relation_bound left right))
-    (given-rest c.args.known (relation_test comparison left right) (λ p holds. rest-relation c.args.known comparison left right p holds) (decides_any c.args.targets done)))
+    (given-rest c.args.context.known (relation_test comparison left right) (λ p holds. rest-relation c.args.context.known comparison left right p holds) (decides_any c.args.context.targets done)))

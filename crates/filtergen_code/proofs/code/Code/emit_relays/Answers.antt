@@ -7,6 +7,6 @@ returns-clause-extends c = extends-both c.emit_entry_relays-no.ensures.extends c
 
 pub returns-clause-relays : goal.returns-clause-relays
 returns-clause-relays c = record {
-  yes = relays-after c.requires.targets.0 c.emit_entry_relays-no.ensures.extends c.emit_entry_relays-yes.ensures.relays;
+  yes = relays-after c.requires.1.0 c.emit_entry_relays-no.ensures.extends c.emit_entry_relays-yes.ensures.relays;
   no = relays-later c.emit_entry_relays-no.ensures.relays c.emit_entry_relays-yes.ensures.extends;
 }

@@ -13,11 +13,11 @@ emit-requires-clause-sound c = rw c.load_insn-load.ensures (load-sound (fields.W
 pub returns : goal.returns
 returns c =
     let o = c.args.offset in
-    let ranges = c.args.ranges.now in
-    let choice = c.in_ok-emit_comparisons.ensures in
+    let ranges = c.args.group.now.ranges.items in
+    let choice = rw c.as_slice-ranges.ensures.value at c.in_ok-emit_comparisons.ensures in
     let head = rw c.from-number.ensures at c.emit_test-yes.ensures in
     let passed = rw c.load_insn-load.ensures at c.exits_after-exits.ensures in
     rw (c.len.ensures.value, c.emit.ensures, c.load_insn-load.ensures)
     (decides-more _ (omega arith)
-    (decides-same _ (any_of (λ x. has_tail c.args.head x o) ranges) (λ p bytes. tails-shared c.args.head o ranges p bytes c.requires.some)
-    (decides-beyond (fields.Word (o + 2)) ranges c.requires.exits (choice.1 c.requires.some) c.place_past_comparisons-no.ensures head passed.yes passed.no choice.0)))
+    (decides-same _ (any_of (λ x. has_tail c.args.group.now.kind.head x o) ranges) (λ p bytes. tails-shared c.args.group.now.kind.head o ranges p bytes c.requires.some)
+    (decides-beyond (fields.Word (o + 2)) ranges c.requires.exits (choice.1 c.requires.some) (rw c.as_slice-ranges.ensures.value at c.place_past_comparisons-no.ensures) head passed.yes passed.no choice.0)))

@@ -9,23 +9,23 @@ use Rattle.filtergen_code.proofs.code.Code.emit_transport_bytes_list.Goals as go
 
 pub returns-in_ok-room : goal.returns-in_ok-room
 returns-in_ok-room c =
-    let ranges = c.args.ranges.now in
-    let b = c.args.bytes in
+    let ranges = c.args.group.now.ranges.items in
+    let b = c.args.group.now.kind.bytes in
     let number : Test = λ p. check (in_ranges ranges) (accessed b.layer (bytes_of b.size) p b.index) in
     let exits = c.first_fragment_exits-exits.ensures in
     given-more _ (omega arith)
-    (given-same c.args.known (and_test (is_first_fragment_of (protocol_number c.args.transport)) number) (any_of (bytes_test b) ranges)
+    (given-same c.args.context.known (and_test (is_first_fragment_of (protocol_number c.args.transport)) number) (any_of (bytes_test b) ranges)
     (λ p holds. ap (λ (t : Test). and_then (t p) (number p)) (sym c.requires.layer) ∙ layer-shared b ranges p c.requires.some)
     (c.emit_fragment_guard_given.ensures.guards (7 * length ranges + 2) number c.first_fragment_exits-exits.result c.args.self.now c.requires.targets exits.yes exits.no c.in_ok-next.ensures))
 
 pub returns-in_ok-room-2 : goal.returns-in_ok-room-2
 returns-in_ok-room-2 c =
-    let ranges = c.args.ranges.now in
-    let b = c.args.bytes in
+    let ranges = c.args.group.now.ranges.items in
+    let b = c.args.group.now.kind.bytes in
     let number : Test = λ p. check (in_ranges ranges) (accessed b.layer (bytes_of b.size) p b.index) in
     let exits = c.first_fragment_exits-exits.ensures in
     given-more _ (omega arith)
-    (given-any c.args.known
+    (given-any c.args.context.known
     (decides-by-same (and_test (is_first_fragment_of (protocol_number c.args.transport)) number) (any_of (bytes_test b) ranges)
     (λ p bytes. ap (λ (t : Test). and_then (t p) (number p)) (sym c.requires.layer) ∙ layer-shared b ranges p c.requires.some)
     (c.emit_transport_guard.ensures.guards (7 * length ranges + 2) number c.first_fragment_exits-exits.result c.args.self.now c.requires.targets exits.yes exits.no c.in_ok-next.ensures)))

@@ -14,14 +14,14 @@ number x p = check (within x.low x.high) (half 12 p)
 
 pub returns : goal.returns
 returns c =
-    let ranges = c.args.ranges.now in
+    let ranges = c.args.group.now.ranges.items in
     let some : 0 < length ranges = omega (arith, c.requires.many) in
-    let done = rw c.other_exits.ensures at c.in_ok-other.ensures.0 in
+    let done = rw (c.as_slice-ranges.ensures.value, c.other_exits.ensures) at c.in_ok-other.ensures.0 in
     let tested = decides-followed _ (any_of number ranges) (λ r p bytes. refl) done in
     let same : (p : Packet) → any_of number ranges p ≡ check (in_ranges ranges) (half 12 p) =
     λ p. any-same number (λ (x : ValueRange) q. check (within x.low x.high) (half 12 p)) p (λ x. refl) ranges ∙ any-checked ranges p (half 12 p) some in
-    let first = rw (c.for_answer.ensures, c.has_number.ensures) at c.emit_ip_split.ensures.test in
-    rw (c.emit_ip_split.ensures.places, c.for_answer.ensures, c.has_number.ensures)
+    let first = rw (c.for_answer.ensures, c.has_number.ensures, c.as_slice-ranges.ensures.value) at c.emit_ip_split.ensures.test in
+    rw (c.emit_ip_split.ensures.places, c.for_answer.ensures, c.has_number.ensures, c.as_slice-ranges.ensures.value)
     (decides-by-more _ (omega arith)
     (decides-apart (in_ranges ranges 0x0800) c.args.targets c.requires.targets (λ p is. same p ∙ type-known (in_ranges ranges) (half 12 p) is)
     (λ p is. same p ∙ type-missing (in_ranges ranges) (half 12 p) is) tested first))
