@@ -23,7 +23,6 @@
  *   - Memory that a call writes does not overlap any other memory that the same call is given.
  *   - Memory that a call reads has been initialised, and a program by bpftap_program_init, a reader by bpftap_open, a listener by
  *     bpftap_listener_open. From then on only the calls write to a listener and its buffers, one call at a time.
- *   - The `fault` of a reader is BPFTAP_OK when it is given to bpftap_next: test it after bpftap_open.
  *   - `malloc`, `realloc` and `free` come from one allocator, and no call is made from a signal handler.
  */
 #ifndef BPFTAP_H
@@ -154,7 +153,7 @@ struct bpftap_result bpftap_print(const char *text, size_t text_size, char *to, 
  *
  * bpftap_program_init checks the instructions once and puts them there. If it returns a fault (those of instructions), the program
  * in the memory rejects every packet. bpftap_program_run may be called after it, any number of times and by several threads at
- * once, until the memory is used for something else. */
+ * once, until the memory is used for something else: it only reads the program. */
 struct bpftap_program;
 size_t bpftap_program_size(void);
 uint32_t bpftap_program_init(struct bpftap_program *program, const BPFTAP_INSN *insns, size_t size);
@@ -222,7 +221,7 @@ struct bpftap_reader {
 struct bpftap_record {
     size_t offset;     /* where the captured bytes begin in the memory */
     uint64_t place;    /* the number of records before this one */
-    uint32_t fault;    /* BPFTAP_OK, BPFTAP_END, or why the record cannot be read; the numbers below are 0 then */
+    uint32_t fault;    /* BPFTAP_OK, BPFTAP_END, or why there is no record; the numbers below are 0 then */
     uint32_t seconds;  /* since 1970 */
     uint32_t nanos;    /* below 1,000,000,000 */
     uint32_t captured; /* the number of captured bytes, at most BPFTAP_MAX_SNAP */
@@ -241,7 +240,7 @@ struct bpftap_record {
 struct bpftap_reader bpftap_open(const uint8_t *memory, size_t size);
 
 /* Reads the next record and moves the reader past it. If there is none, or it cannot be read, the reader stays where it is.
- * Faults: END, TORN_RECORD, BAD_FRACTION, RECORD_TOO_LONG, COUNT_FULL.
+ * Faults: END, TORN_RECORD, BAD_FRACTION, RECORD_TOO_LONG, COUNT_FULL; of a reader whose header was refused, the fault of bpftap_open.
  *
  * The memory may be a window of a longer capture, with room for a whole record: 262,160 bytes (BPFTAP_MAX_SNAP + 16). If TORN_RECORD or END
  * is returned and the capture has further bytes, move the window's bytes from reader.offset on to its front, append further ones, set
@@ -324,7 +323,7 @@ enum bpftap_fed {
 /* Opens a listener, of which the caller has set the bytes and the room of both buffers, `snap` and `mode`. Both buffers have the same room:
  * at least 32 bytes and `snap` rounded up to a multiple of 8, and at most BPFTAP_MAX_CAPACITY.
  * Its counts and the sizes of its buffers are 0 then, and `closed` is 0. Any mode but 0 is BPFTAP_IMMEDIATE.
- * Faults: BAD_SNAP, BAD_CAPACITY; the listener is closed then. */
+ * Faults: BAD_SNAP, BAD_CAPACITY. The listener is closed then: `closed` is 1, its counts and sizes are 0, and all else is as it was. */
 uint32_t bpftap_listener_open(struct bpftap_listener *listener);
 
 /* A packet arrives, with the place, the time and the wire length of `packet`, from the capture of this number. `answer` is what a filter

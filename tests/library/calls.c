@@ -368,6 +368,14 @@ static void reads(void) {
     memory[30] = 0, memory[34] = 0xff;
     CHECK(bpftap_next(memory, 132, &reader).fault == BPFTAP_RECORD_TOO_LONG && reader.offset == 24);
 
+    /* A reader whose header was refused gives that fault again. */
+    reader = bpftap_open(memory, 23);
+    for (int i = 0; i < 2; i++) {
+        record = bpftap_next(memory, 132, &reader);
+        CHECK(record.fault == BPFTAP_SHORT_HEADER && record.place == 0 && record.offset == 0 && record.captured == 0 && record.wire == 0);
+        CHECK(reader.fault == BPFTAP_SHORT_HEADER && reader.offset == 0 && reader.place == 0);
+    }
+
     CHECK(bpftap_open(memory, 23).fault == BPFTAP_SHORT_HEADER);
     CHECK(bpftap_open(memory, 0).fault == BPFTAP_SHORT_HEADER);
     memory[20] = 101;

@@ -1,6 +1,7 @@
 pub mod Buffering
 pub mod EndedText
 pub mod FoundCut
+pub mod Lending
 pub mod Played
 pub mod Prepared
 pub mod Rejecting

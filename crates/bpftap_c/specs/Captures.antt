@@ -1,5 +1,5 @@
 -- Captures in memory: read record by record, and written.
-use Rattle.std.specs.Prelude.{◌≡◌, ◌<◌, ◌≤◌, ◌+◌, ◌-◌, ◌^◌, ◌==◌, ◌⊎◌, ℕ, List, [], length, drop, Some, if◌then◌else◌}
+use Rattle.std.specs.Prelude.{◌≡◌, ◌≢◌, ◌<◌, ◌≤◌, ◌+◌, ◌-◌, ◌^◌, ◌==◌, ◌⊎◌, ℕ, List, [], length, drop, Some, if◌then◌else◌}
 use Rattle.savefile.specs.declared.fault.Fault.{Fault}
 use Rattle.savefile.specs.declared.fault.Fault.TheVariants.{TooLong, BadFraction, CountFull}
 use Rattle.savefile.specs.declared.header.Header.{Header}
@@ -62,21 +62,27 @@ abbrev pub unread : BpftapReader → ℕ → BpftapRecord
 unread reader fault =
     record { offset = reader.offset; place = reader.place; fault = fault; seconds = 0; nanos = 0; captured = 0; wire = 0 }
 
--- the reader behind the record of a packet
+-- the reader after the record of a packet
 abbrev pub advanced : BpftapReader → Packet → BpftapReader
 advanced reader p =
     record { offset = reader.offset + (16 + length p.bytes); place = reader.place + 1; fault = reader.fault; order = reader.order; unit = reader.unit; snap = reader.snap }
 
--- The record that comes next, and the reader is behind it. Or there is none: nothing is left, it has this fault, or no more can be
+-- The record that comes next, and the reader is after it. Or there is none: nothing is left, it has this fault, or no more can be
 -- counted; and the reader is where it was.
-abbrev pub GivesNext : List ℕ → BpftapReader → BpftapReader → BpftapRecord → Type 0
-GivesNext memory old new given =
+abbrev pub FindsNext : List ℕ → BpftapReader → BpftapReader → BpftapRecord → Type 0
+FindsNext memory old new given =
     ((p : Packet) × IsRecord (header_in old).order (header_in old).unit (rest_of memory old) p (rest_of memory new)
     × (given ≡ record_found old p) × (new ≡ advanced old p))
     ⊎ ((rest_of memory old ≡ []) × (given ≡ unread old 4) × (new ≡ old))
     ⊎ ((fault : Fault) × (first_fault (header_in old).order (header_in old).unit old.place (rest_of memory old) ≡ Some fault)
     × (given ≡ unread old (capture_code fault)) × (new ≡ old))
     ⊎ ((old.place ≡ 2 ^ 64 - 1) × (given ≡ unread old (capture_code CountFull)) × (new ≡ old))
+
+-- A reader whose header was refused gives the fault of that, and stays as it is.
+abbrev pub GivesNext : List ℕ → BpftapReader → BpftapReader → BpftapRecord → Type 0
+GivesNext memory old new given =
+    ((old.fault ≡ 0) × FindsNext memory old new given)
+    ⊎ ((old.fault ≢ 0) × (given ≡ unread old old.fault) × (new ≡ old))
 
 -- The record of a packet is put; or it may not be written, and all is as it was.
 abbrev pub PutsRecord : Order → TimeUnit → BpftapRecord → List ℕ → List ℕ → List ℕ → BpftapResult → Type 0

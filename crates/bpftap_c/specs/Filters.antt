@@ -1,5 +1,5 @@
 -- What is made of the text of an expression.
-use Rattle.std.specs.Prelude.{◌≡◌, ◌≤◌, ℕ, List, length, Result, Ok, Err, IsUtf8}
+use Rattle.std.specs.Prelude.{◌≡◌, ◌<◌, ◌≤◌, ◌↔◌, ℕ, List, length, Result, Ok, Err, IsUtf8}
 use Rattle.std.specs.Str.Lossy.{utf8_valid_len}
 use Rattle.bpfvm.specs.declared.insn.Insn.{Insn}
 use Rattle.filterlang.specs.Texts.{ReadsAs}
@@ -18,13 +18,13 @@ abbrev pub IsNotText : List ℕ → Failure → Type 0
 IsNotText bytes (NotText place) = (IsUtf8 bytes → ⊥) × (place ≡ utf8_valid_len bytes)
 IsNotText bytes other = ⊥
 
--- A program of the expression, all of whose instructions can be reached. An expression that is refused has no program, or memory was
--- wanting; one that fits is refused for want of memory alone.
+-- A program of the expression, all of whose instructions can be reached. An expression that is refused has no program, or memory ran
+-- out; one that fits is refused only if memory ran out. A text above 8,192 bytes is refused for its length.
 abbrev pub IsCompiled : List ℕ → ℕ → Result (List Insn) Failure → Type 0
 IsCompiled text snap (Ok program) =
-    IsProgramOf text snap program × IsAllReached program × (IsBadSnap snap → ⊥)
+    (length text ≤ 8192) × IsProgramOf text snap program × IsAllReached program × (IsBadSnap snap → ⊥)
     × ((tree : Tree) → ReadsAs text tree → need tree ≤ 16)
 IsCompiled text snap (Err (Expression fault)) =
-    IsUncompiled text snap fault
+    ((fault ≡ expression.Text misread.TextTooLong) ↔ (8192 < length text)) × IsUncompiled text snap fault
     × ((tree : Tree) → length text ≤ 8192 → ReadsAs text tree → Fits tree snap → fault ≡ expression.Text misread.NoMemory)
 IsCompiled text snap (Err failure) = IsNotText text failure

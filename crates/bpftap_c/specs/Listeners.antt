@@ -71,25 +71,35 @@ fed_code Rotated = 3
 fed_code Dropped = 4
 fed_code Closed = 5
 
--- why a listener of two buffers is not opened
+-- Why a listener of two buffers is not opened: its snapshot length, the capacity of its store, or another one of its hold.
 abbrev pub RefusesListener : BpftapListener → OpenFault → Type 0
 RefusesListener l NoMemory = ⊥
-RefusesListener l fault = RefusesOpen l.snap (capacity l.store) fault ⊎ ((fault ≡ BadCapacity) × (capacity l.hold ≢ capacity l.store))
+RefusesListener l fault =
+    RefusesOpen l.snap (capacity l.store) fault
+    ⊎ ((fault ≡ BadCapacity) × InRange l.snap (capacity l.store) × (capacity l.hold ≢ capacity l.store))
+
+-- a buffer without messages, in the same memory
+abbrev pub emptied : BpftapBuffer → BpftapBuffer
+emptied b = record { bytes = b.bytes; size = 0 }
+
+-- a listener of the same buffers, snapshot length and mode, to which nothing has arrived
+abbrev pub reset : BpftapListener → ℕ → BpftapListener
+reset l closed = record { store = emptied l.store; hold = emptied l.hold; received = 0; matched = 0; dropped = 0; snap = l.snap; mode = l.mode; closed = closed }
 
 -- The listener is open, and nothing has arrived. Or it is refused for this fault, and is closed.
 abbrev pub Opens : BpftapListener → BpftapListener → ℕ → Type 0
 Opens old new fault =
-    ((fault ≡ 0) × (new.closed ≡ 0) × IsOpen new × (list_of new ≡ empty) × (new.snap ≡ old.snap) × (terms_of new ≡ terms_of old))
-    ⊎ ((why : OpenFault) × RefusesListener old why × (fault ≡ open_code why) × (is_closed new.closed ≡ true))
+    ((fault ≡ 0) × IsOpen new × (list_of new ≡ empty) × (new ≡ reset old 0))
+    ⊎ ((why : OpenFault) × RefusesListener old why × (fault ≡ open_code why) × (new ≡ reset old 1))
 
 -- the messages that a read took
 abbrev pub batch_of : Option (List Message) → List Message
 batch_of None = []
 batch_of (Some ms) = ms
 
--- The hold was read into a buffer that was brought. Or that has not the capacity of the listener's, and all is as it was.
+-- The hold was read into a buffer of the listener's capacity that was brought. Or that has another capacity, and all is as it was.
 abbrev pub Reads : BpftapListener → BpftapBuffer → BpftapListener → BpftapBuffer → BpftapResult → Type 0
 Reads old brought new batch told =
-    ((taken : Option (List Message)) × Takes old (read taken) new × (messages batch ≡ batch_of taken) × IsBuffer batch
+    ((taken : Option (List Message)) × (capacity brought ≡ capacity old.store) × Takes old (read taken) new × (messages batch ≡ batch_of taken) × IsBuffer batch
     × (capacity batch ≡ capacity brought) × (told ≡ done batch.size))
     ⊎ ((capacity brought ≢ capacity old.store) × (told ≡ failed (Open BadCapacity)) × (new ≡ old) × (batch ≡ brought))

@@ -1,5 +1,5 @@
 -- What is printed of an expression.
-use Rattle.std.specs.Prelude.{◌≡◌, ◌≤◌, ℕ, List, length, Result, Ok, Err}
+use Rattle.std.specs.Prelude.{◌≡◌, ◌<◌, ◌≤◌, ◌↔◌, ℕ, List, codes, length, Result, Ok, Err}
 use Rattle.filter_tree.specs.Trees.{Tree}
 use Rattle.filter_print.specs.Canonical.{canonical}
 use Rattle.filterlang.specs.Texts.{ReadsAs, IsRefusalOf}
@@ -9,17 +9,25 @@ use Rattle.bpftap_c.specs.declared.outcome.Failure.{Failure}
 use Rattle.bpftap_c.specs.declared.outcome.Failure.TheVariants.{NoMemory, Expression}
 use Rattle.bpftap_c.specs.Filters.{IsNotText}
 
--- Why a text is not read as an expression. One that has a tree is refused for want of memory alone.
+-- the expression of a text that is not too long
+abbrev pub IsRead : List ℕ → Tree → Type 0
+IsRead text tree = (length text ≤ 8192) × ReadsAs text tree
+
+-- Why a text is not read as an expression. One that has a tree is refused only if memory ran out, and one above 8,192 bytes for its length.
 abbrev pub IsUnread : List ℕ → Failure → Type 0
 IsUnread text (Expression (expression.Text fault)) =
-    IsRefusalOf text fault × ((tree : Tree) → length text ≤ 8192 → ReadsAs text tree → fault ≡ misread.NoMemory)
-IsUnread text NoMemory = Unit {0}
+    ((fault ≡ misread.TextTooLong) ↔ (8192 < length text)) × IsRefusalOf text fault × ((tree : Tree) → length text ≤ 8192 → ReadsAs text tree → fault ≡ misread.NoMemory)
+IsUnread text NoMemory = length text ≤ 8192
 IsUnread text failure = IsNotText text failure
 
 -- the canonical text of the expression, or why there is none
 abbrev pub IsPrinted : List ℕ → Result (List ℕ) Failure → Type 0
-IsPrinted text (Ok line) = (tree : Tree) × ReadsAs text tree × (line ≡ canonical tree)
+IsPrinted text (Ok line) = (tree : Tree) × IsRead text tree × (line ≡ canonical tree)
 IsPrinted text (Err failure) = IsUnread text failure
+
+-- the version of the library
+abbrev pub version : List ℕ
+version = codes "1.1.0"
 
 -- some text, or memory was refused
 abbrev pub MayLackMemory : Result (List ℕ) Failure → Type 0

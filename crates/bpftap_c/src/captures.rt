@@ -39,7 +39,7 @@ pub struct BpftapRecord {
     pub offset: usize,
     /// How many records stand before it.
     pub place: u64,
-    /// 0, or the number of a fault: that there is no further record, or why it cannot be read.
+    /// 0, or the number of a fault: that there is no further record, or why it cannot be read, or why the header was refused.
     pub fault: u32,
     pub seconds: u32,
     pub nanos: u32,
@@ -149,11 +149,15 @@ fn record_found(reader: &BpftapReader, packet: &PacketRef<'_>) -> BpftapRecord
     }
 }
 
-/// Reads the next record, and moves the reader past it. A reader whose next record can't be read stays where it is.
+/// Reads the next record, and moves the reader past it. A reader whose next record can't be read stays where it is. If its header was
+/// refused, that fault is returned again.
 #[unsafe(no_mangle)]
 pub extern "C" fn bpftap_next(memory: &[u8], reader: &mut BpftapReader) -> BpftapRecord
     ensures { GivesNext memory.now reader.old reader.new result }
 {
+    if reader.fault != 0 {
+        return unread(reader, reader.fault);
+    }
     if reader.place == u64::MAX {
         return unread(reader, code_of(Failure::Capture(Fault::CountFull)));
     }

@@ -2,15 +2,19 @@
 
 ghost use Rattle.std.specs.Prelude.{◌≡◌, IfErr, IfOk, Result, List};
 ghost use Rattle.bpfvm.specs.declared.insn.Insn.{Insn};
+ghost use Rattle.filter_tree.specs.Trees.{tree_of};
 ghost use Rattle.bpftap_c.specs.declared.outcome.Failure.{Failure};
 ghost use Rattle.bpftap_c.specs.Filters.{IsNotText, IsCompiled};
 ghost use Rattle.bpftap_c.specs.Insns.{insns_of};
 ghost use Rattle.bpftap_c.specs.Memory.{Delivers};
+ghost use Rattle.bpftap_c.specs.Texts.{IsRead, IsUnread};
 
 use crate::insns::{BpftapInsn, put_insns};
 use crate::outcome::{BpftapResult, Failure, failed};
 use bpfvm::Program;
-use filtergen::compile_text;
+use filter_tree::Expr;
+use filtergen::{ExpressionFault, compile_text};
+use filterlang::parse;
 use std::alloc::Global;
 
 /// The text that bytes are.
@@ -21,6 +25,21 @@ pub(crate) fn text_of(bytes: &[u8]) -> Result<&str, Failure>
     match str::from_utf8(bytes) {
         Ok(text) => Ok(text),
         Err(error) => Err(Failure::NotText(error.valid_up_to())),
+    }
+}
+
+/// The expression that bytes are.
+pub(crate) fn expression_of(alloc: Global, bytes: &[u8]) -> Result<Expr, Failure>
+    ensures ok { IfOk result (λ expr. IsRead bytes.now (tree_of expr)) }
+    ensures err { IfErr result (IsUnread bytes.now) }
+{
+    let text = match text_of(bytes) {
+        Ok(text) => text,
+        Err(failure) => return Err(failure),
+    };
+    match parse(alloc, text) {
+        Ok(expr) => Ok(expr),
+        Err(fault) => Err(Failure::Expression(ExpressionFault::Text(fault))),
     }
 }
 

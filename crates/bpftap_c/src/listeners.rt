@@ -4,7 +4,7 @@ ghost use Rattle.std.specs.Prelude.{◌≡◌, ◌<◌, ◌-◌, ◌^◌, ◌≤
 ghost use Rattle.listener.specs.declared.answer.Fed.{Fed};
 ghost use Rattle.listener.specs.PlainList.{arrived, flushed, closed};
 ghost use Rattle.bpftap_c.specs.Buffers.{arrival_of};
-ghost use Rattle.bpftap_c.specs.Listeners.{kept_by_answer, fed_code, IsListener, Takes, Opens, Reads};
+ghost use Rattle.bpftap_c.specs.Listeners.{kept_by_answer, fed_code, reset, IsListener, Takes, Opens, Reads};
 
 use crate::buffers::BpftapBuffer;
 use crate::captures::BpftapRecord;
@@ -33,17 +33,24 @@ pub struct BpftapListener<'a> {
     pub closed: u32,
 }
 
-/// Opens a listener, whose two buffers have one capacity.
-#[unsafe(no_mangle)]
-pub extern "C" fn bpftap_listener_open(listener: &mut BpftapListener<'_>) -> u32
-    ensures { Opens listener.old listener.new result }
+/// Empties both buffers of a listener, and sets its counts to 0.
+fn reset(listener: &mut BpftapListener<'_>, closed: u32)
+    ensures { listener.new ≡ reset listener.old closed }
 {
     listener.store.size = 0;
     listener.hold.size = 0;
     listener.received = 0;
     listener.matched = 0;
     listener.dropped = 0;
-    listener.closed = 1;
+    listener.closed = closed;
+}
+
+/// Opens a listener, whose two buffers have one capacity.
+#[unsafe(no_mangle)]
+pub extern "C" fn bpftap_listener_open(listener: &mut BpftapListener<'_>) -> u32
+    ensures { Opens listener.old listener.new result }
+{
+    reset(listener, 1);
     if let Err(fault) = check_range(listener.snap, listener.store.bytes.len()) {
         return code_of(Failure::Open(fault));
     }

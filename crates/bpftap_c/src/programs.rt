@@ -8,7 +8,7 @@ ghost use Rattle.bpfvm.specs.Machine.{verdict};
 ghost use Rattle.bpfvm.specs.Validity.{IsValidProgram, IsRefusedAs};
 ghost use Rattle.bpfvm.specs.contracts.program.Program.{the_row};
 ghost use Rattle.bpftap_c.specs.Insns.{insns_of};
-ghost use Rattle.bpftap_c.specs.Programs.{reject_all, IsPrepared, Prepares, HasFault};
+ghost use Rattle.bpftap_c.specs.Programs.{reject_all, IsLayout, IsPrepared, Prepares, HasFault, Lent, lies_lent};
 
 use crate::insns::{BpftapInsn, program_of};
 use crate::outcome::{Failure, code_of};
@@ -23,7 +23,9 @@ pub struct BpftapProgram {
 
 /// How many bytes a program takes.
 #[unsafe(no_mangle)]
-pub extern "C" fn bpftap_program_size() -> usize {
+pub extern "C" fn bpftap_program_size() -> usize
+    ensures { IsLayout result }
+{
     std::mem::size_of::<Program>()
 }
 
@@ -81,16 +83,16 @@ fn answer(program: &Program, packet: &[u8], wire: u32) -> u32
     run(program, packet, wire)
 }
 
-/// What the program in the caller's memory answers to a packet.
+/// What the program in the caller's memory answers to a packet. It only reads the program, as others may do at the same time.
 #[unsafe(no_mangle)]
 pub unsafe extern "C" fn bpftap_program_run(
     program: *const BpftapProgram,
     packet: &[u8],
     wire: u32,
 ) -> u32
-    ghost insns: { List Insn }
-    requires* { sem 𝓛 (lies_at the_row full_share program insns) }
-    ensures* { sem 𝓛 (lies_at the_row full_share program insns) ∗ ⌜ result ≡ verdict insns packet.now wire ⌝ }
+    ghost lent: { Lent }
+    requires* { sem 𝓛 (lies_lent program lent) }
+    ensures* { sem 𝓛 (lies_lent program lent) ∗ ⌜ result ≡ verdict lent.insns packet.now wire ⌝ }
 {
     let at = program as *const Program;
     answer(&*at, packet, wire)

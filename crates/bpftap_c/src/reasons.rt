@@ -6,13 +6,11 @@ ghost use Rattle.bpftap_c.specs.declared.outcome.Failure.{Failure};
 ghost use Rattle.bpftap_c.specs.Memory.{DeliversText};
 ghost use Rattle.bpftap_c.specs.Reasons.{verdict_code, Decides, IsReason};
 
-use crate::filters::text_of;
+use crate::filters::expression_of;
 use crate::memory::put_text;
 use crate::outcome::{BpftapResult, Failure, failed};
 use filter_explain::put_decision;
 use filter_meaning::Verdict;
-use filtergen::ExpressionFault;
-use filterlang::parse;
 use std::alloc::Global;
 
 /// What `bpftap_why` returns.
@@ -41,13 +39,9 @@ fn explained(alloc: Global, text: &[u8], packet: &[u8], wire: u32) -> Result<Dec
     ensures ok { IfOk result (λ d. Decides text.now packet.now wire (verdict_code d.verdict) (Result.Ok (Rattle.std.specs.Prelude.string_bytes d.line))) }
     ensures err { IfErr result (λ failure. Decides text.now packet.now wire 0 (Result.Err failure)) }
 {
-    let text = match text_of(text) {
-        Ok(text) => text,
-        Err(failure) => return Err(failure),
-    };
-    let expr = match parse(alloc, text) {
+    let expr = match expression_of(alloc, text) {
         Ok(expr) => expr,
-        Err(fault) => return Err(Failure::Expression(ExpressionFault::Text(fault))),
+        Err(failure) => return Err(failure),
     };
     let mut line = String::new(alloc);
     match put_decision(&mut line, &expr, packet, wire) {

@@ -3,14 +3,12 @@
 ghost use Rattle.std.specs.Prelude.{◌≡◌, IfErr, IfOk, Result, List, ℕ};
 ghost use Rattle.bpftap_c.specs.declared.outcome.Failure.{Failure};
 ghost use Rattle.bpftap_c.specs.Memory.{DeliversText, PutsText};
-ghost use Rattle.bpftap_c.specs.Texts.{IsPrinted, MayLackMemory};
+ghost use Rattle.bpftap_c.specs.Texts.{version, IsPrinted, MayLackMemory};
 
-use crate::filters::text_of;
+use crate::filters::expression_of;
 use crate::memory::put_text;
 use crate::outcome::{BpftapResult, Failure, failed};
 use filter_print::Canonical;
-use filtergen::ExpressionFault;
-use filterlang::parse;
 use std::alloc::{AllocError, Global};
 
 /// The canonical text of an expression, or why there is none.
@@ -18,13 +16,9 @@ fn printed(alloc: Global, text: &[u8]) -> Result<String, Failure>
     ensures ok { IfOk result (λ line. IsPrinted text.now (Result.Ok (Rattle.std.specs.Prelude.string_bytes line))) }
     ensures err { IfErr result (λ failure. IsPrinted text.now (Result.Err failure)) }
 {
-    let text = match text_of(text) {
-        Ok(text) => text,
-        Err(failure) => return Err(failure),
-    };
-    let expr = match parse(alloc, text) {
+    let expr = match expression_of(alloc, text) {
         Ok(expr) => expr,
-        Err(fault) => return Err(Failure::Expression(ExpressionFault::Text(fault))),
+        Err(failure) => return Err(failure),
     };
     let mut line = String::new(alloc);
     match write!(line, "{}", Canonical(&expr)) {
@@ -50,7 +44,7 @@ const VERSION: &str = "1.1.0";
 /// Writes the version.
 #[unsafe(no_mangle)]
 pub extern "C" fn bpftap_version(to: &mut [u8]) -> BpftapResult
-    ensures { (text : List ℕ) × PutsText text to.old to.new result }
+    ensures { PutsText version to.old to.new result }
 {
     put_text(VERSION.as_bytes(), to)
 }

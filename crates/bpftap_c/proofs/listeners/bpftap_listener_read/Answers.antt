@@ -14,6 +14,7 @@ returns-then-listener-ne0 c =
     let brought : BpftapBuffer = record { bytes = c.args.batch.now.bytes; size = 0 } in
     inl (
       None,
+      c.if-batch-listener.false,
       record { steps = record { is_right = inl (closed_now l.closed (omega (arith, c.if-listener-ne0.true))); change = refl }; snap = refl; terms = refl; is = c.requires },
       none_in brought refl,
       record { within = omega arith; records = no_records },
@@ -31,6 +32,7 @@ returns c =
     let told = c.done-2.ensures ∙ ap (λ (b : BpftapBuffer). done b.size) c.swap.ensures.y_after in
     rw (c.swap.ensures.x_after, c.swap.ensures.y_after) (inl (
       step.0,
+      c.if-batch-listener.false,
       record {
         steps = step.1;
         snap = refl;
