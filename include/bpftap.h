@@ -8,8 +8,8 @@
  *
  *   - A text, a capture or an array is a pointer and the number of its items. A text need not end with a zero byte.
  *   - What a call writes goes into memory of the caller. It takes that memory as a pointer and the number of items that it has room
- *     for, and writes nothing past those. A call that fails writes nothing there, but for these: bpftap_cut and bpftap_steps write what
- *     comes before a record that cannot be read; bpftap_program_init a program that rejects every packet; bpftap_listener_open a closed
+ *     for, and writes nothing past those. A call that fails writes nothing there, but for these: bpftap_cut, bpftap_steps and
+ *     bpftap_steps_json write what comes before a record that cannot be read; bpftap_program_init a program that rejects every packet; bpftap_listener_open a closed
  *     listener.
  *   - A text that a call writes is followed by a zero byte. `size` does not count that byte, but there has to be room for it.
  *   - Nothing is kept between calls, and nothing that is allocated is handed out. There is no global state, and nothing is printed.
@@ -400,3 +400,8 @@ struct bpftap_result bpftap_version(char *to, size_t room);
 #endif
 
 #endif
+/* Does the same, and writes the reports as JSON Lines, as `bpftap steps --json` prints them: an object for each line of the text, which
+ * names its listener. Faults are those of bpftap_steps. */
+struct bpftap_replay bpftap_steps_json(const char *listeners, size_t listeners_size, const char *script, size_t script_size,
+                                       const struct bpftap_capture *captures, size_t count, char *to, size_t room);
+

@@ -257,7 +257,7 @@ PLAYED = [
 @case
 def steps_of_c_print_what_steps_prints(scene):
     """Worked examples, each kind of fault and random scripts: `bpftap_steps` writes what `bpftap steps` prints, and returns the fault that it
-    reports."""
+    reports; `bpftap_steps_json` what `steps --json` prints."""
     if not is_there(scene) or not scene.has("gcc"):
         return
     lesson = ROOT / "examples" / "steps"
@@ -299,8 +299,13 @@ def package_does_what_its_page_says(scene):
                         env={**bare, "PYTHONPATH": str(into)})
     scene.check("the installed package", (said, status), ("True\n", 0))
 
+        objects = scene.run(f"steps --json {words}")
+        ended = subprocess.run([program, "--json", *words.split()], cwd=scene.folder, capture_output=True, timeout=LIMIT)
+        scene.check(f"steps --json {words}", (ended.stdout, ended.stderr, ended.returncode), (objects.out, wanted.err, objects.status))
 
 @case
+        objects = scene.run(["steps", "--json", *files]).out.decode()
+        scene.check(f"{scene.read('listeners').decode()} as JSON", done(scene, [program, "--json", *files]), (objects, 0))
 def numbers_have_the_names_of_faults(scene):
     """Each number of the header prints as its name, which docs/FAULTS.md explains."""
     if not is_there(scene):

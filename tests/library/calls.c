@@ -454,6 +454,38 @@ static struct bpftap_replay plays(const char *listeners, const char *script, con
     return replay;
 }
 
+static struct bpftap_replay plays_json(const char *listeners, const char *script, const struct bpftap_capture *captures, size_t count, char *to, size_t room) {
+    char *lines = text_block(listeners), *words = text_block(script);
+    struct bpftap_replay replay = bpftap_steps_json(lines, strlen(listeners), words, strlen(script), captures, count, to, room);
+    free(lines);
+    free(words);
+    return replay;
+}
+
+/* The reports as JSON Lines, and the fault of a listener. */
+static void plays_steps_as_json(void) {
+    static const char wanted[] =
+        "{\"listener\":0,\"received\":2,\"matched\":1,\"dropped\":0}\n{\"listener\":0,\"batch\":0}\n"
+        "{\"listener\":0,\"batch\":0,\"capture\":0,\"place\":1,\"seconds\":2,\"nanoseconds\":999999000,\"length\":38,\"kept\":10}\n"
+        "{\"listener\":0,\"held\":true}\n";
+    uint8_t *memory = capture();
+    struct bpftap_capture captures[1] = {{memory, 132}};
+    size_t size = strlen(wanted);
+    char *to = block(size + 1);
+    struct bpftap_replay replay = plays_json("10 4096 udp", "arrive\narrive\nflush 0\nread 0", captures, 1, to, size + 1);
+    CHECK(replay.fault == BPFTAP_OK && replay.size == size && replay.number == 0 && replay.place == 0 && !strcmp(to, wanted));
+    memset(to, 0xa5, size + 1);
+    replay = plays_json("10 4096 udp", "arrive\narrive\nflush 0\nread 0", captures, 1, to, size);
+    CHECK(replay.fault == BPFTAP_NO_ROOM && replay.size == size && untouched(to, size + 1));
+    replay = plays_json("10 4096 udp\n10 4096 port http", "", captures, 1, to, size + 1);
+    CHECK(replay.fault == BPFTAP_BAD_WORD && replay.number == 1 && replay.place == 5 && replay.size == 0 && untouched(to, size + 1));
+    captures[0].size = 131;
+    replay = plays_json("10 4096 udp", "arrive\narrive", captures, 1, to, size + 1);
+    CHECK(replay.fault == BPFTAP_TORN_RECORD && replay.number == 0 && replay.place == 1 && replay.size == strlen(to));
+    free(to);
+    free(memory);
+}
+
 static void plays_steps(void) {
     static const char wanted[] =
         "listener 0 received 2 matched 1 dropped 0\nbatch 0\ncapture 0 place 1 time 2.999999000 len 38 kept 10\nheld\n"

@@ -46,6 +46,7 @@ static struct seen call(int which) {
     static const char listeners[] = "96 4096 tcp port 80\n96 4096i ip\n", script[] = "arrive\nflush 0\nread 1\nread 0\n";
     const struct bpftap_capture captures[2] = {{capture, sizeof capture}, {capture, sizeof capture}};
     switch (which) {
+    int json = which == 8;
         case 0: result = bpftap_compile(TEXT, strlen(TEXT), 100, (void *)seen.written, ROOM / 8); break;
         case 1: result = bpftap_write_listing(ALL, 1, text, ROOM); break;
         case 2: result = bpftap_image(ALL, 1, text, ROOM); break;
@@ -53,7 +54,8 @@ static struct seen call(int which) {
         case 4: result = bpftap_cut(capture, sizeof capture, ALL, 1, 0, seen.written, ROOM); break;
         case 5: result = bpftap_fault_text(BPFTAP_BAD_WORD, 4, text, ROOM); break;
         case 6:
-            replay = bpftap_steps(listeners, strlen(listeners), script, strlen(script), captures, 2, text, ROOM);
+        case 8:
+            replay = (json ? bpftap_steps_json : bpftap_steps)(listeners, strlen(listeners), script, strlen(script), captures, 2, text, ROOM);
             result.fault = replay.fault, result.size = replay.size;
             break;
         default:
@@ -68,7 +70,7 @@ int main(void) {
     static const uint8_t header[24] = {0xd4, 0xc3, 0xb2, 0xa1, 2, 0, 4, 0, 0, 0, 0, 0, 0, 0, 0, 0, 0, 0, 4, 0, 1, 0, 0, 0};
     memcpy(capture, header, 24);
     capture[32] = capture[36] = 60;
-    for (int which = 0; which < 8; which++) {
+    for (int which = 0; which < 10; which++) {
         static struct seen whole;
         whole = call(which);
         CHECK(whole.fault == BPFTAP_OK && whole.size > 0);

@@ -1,8 +1,8 @@
-/* Plays a script to listeners over captures, by bpftap_steps.
+/* Plays a script to listeners over captures, by bpftap_steps, and with --json by bpftap_steps_json.
  *
- *     steps LISTENERS SCRIPT CAPTURE..
+ *     steps [--json] LISTENERS SCRIPT CAPTURE..
  *
- * Prints what `bpftap steps` prints, on standard error too, with its exit status. */
+ * Prints what `bpftap steps` prints, on standard error too, with its exit status. Faults are printed as text in either form. */
 #include "check.h"
 #include <bpftap.h>
 
@@ -38,6 +38,10 @@ static void print_fault(struct bpftap_replay replay) {
 }
 
 int main(int argc, char **argv) {
+    int json = argc > 1 && !strcmp(argv[1], "--json");
+    struct bpftap_replay (*play)(const char *, size_t, const char *, size_t, const struct bpftap_capture *, size_t, char *, size_t) =
+        json ? bpftap_steps_json : bpftap_steps;
+    argc -= json, argv += json;
     if (argc < 3) return 9;
     struct bpftap_capture files[100];
     for (int i = 1; i < argc && i <= 100; i++) files[i - 1] = content(argv[i]);
@@ -45,12 +49,12 @@ int main(int argc, char **argv) {
     size_t lines = files[0].size, words = files[1].size, count = argc - 3;
 
     /* Without room the size is returned, or the fault for which there are no reports. */
-    struct bpftap_replay needed = bpftap_steps(listeners, lines, script, words, files + 2, count, (char[1]){0}, 0), replay = needed;
+    struct bpftap_replay needed = play(listeners, lines, script, words, files + 2, count, (char[1]){0}, 0), replay = needed;
     if (needed.fault == BPFTAP_NO_ROOM) {
         char *text = block(needed.size + 1);
-        replay = bpftap_steps(listeners, lines, script, words, files + 2, count, text, needed.size);
+        replay = play(listeners, lines, script, words, files + 2, count, text, needed.size);
         CHECK(replay.fault == BPFTAP_NO_ROOM && replay.size == needed.size && untouched(text, needed.size + 1));
-        replay = bpftap_steps(listeners, lines, script, words, files + 2, count, text, needed.size + 1);
+        replay = play(listeners, lines, script, words, files + 2, count, text, needed.size + 1);
         CHECK(replay.size == needed.size && strlen(text) == needed.size);
         fwrite(text, 1, replay.size, stdout);
         free(text);

@@ -7,11 +7,12 @@ use Rattle.tap_steps.specs.declared.playlist.PlacedPacket.{PlacedPacket}
 use Rattle.tap_steps.specs.declared.report.Report.{Report}
 use Rattle.tap.specs.Headline.{Replays}
 use Rattle.tap.specs.Refusals.{IsFirst, NoneStands}
+use Rattle.cli_json.specs.declared.form.LineForm.{LineForm}
 use Rattle.cli_text.specs.Files.{IsFileOf}
 use Rattle.cli_steps.specs.Listeners.{IsListenerLine}
 use Rattle.cli_steps.specs.Script.{IsStepLine}
 use Rattle.cli_steps.specs.Stepping.{IsRefusedFiles}
-use Rattle.cli_steps.specs.Printed.{printed_reports}
+use Rattle.cli_steps.specs.Printed.{reports_in}
 use Rattle.bpftap_c.specs.declared.outcome.BpftapResult.{BpftapResult}
 use Rattle.bpftap_c.specs.declared.outcome.Failure.{Failure}
 use Rattle.bpftap_c.specs.declared.outcome.Failure.TheVariants.{NoMemory, Lines, Replay}
@@ -24,8 +25,8 @@ use Rattle.bpftap_c.specs.Outcome.{capture_code, capture_place, code_of, number_
 abbrev pub texts_of : List BpftapCapture → List (List ℕ)
 texts_of captures = map (λ c. c.bytes.now) captures
 
--- The two texts say listeners and steps. Their replay gave reports, no fault applies, and this is the text of the reports.
-pub record IsReported (listeners script : List ℕ) (captures : List (List ℕ)) (text : List ℕ) (record_fault : Option (ℕ × RecordFault)) : Type 0 where
+-- The two texts say listeners and steps. Their replay gave reports, no fault applies, and these are the reports in this form.
+pub record IsReported (form : LineForm) (listeners script : List ℕ) (captures : List (List ℕ)) (text : List ℕ) (record_fault : Option (ℕ × RecordFault)) : Type 0 where
   pub specs : List Spec
   pub steps : List Step
   pub of_listeners : IsFileOf IsListenerLine listeners specs
@@ -34,7 +35,7 @@ pub record IsReported (listeners script : List ℕ) (captures : List (List ℕ))
   pub reports : List Report
   pub replays : Replays captures specs steps playlist record_fault reports
   pub none_stands : NoneStands captures specs steps
-  pub is : text ≡ printed_reports reports
+  pub is : text ≡ reports_in form reports
 
 -- Why there are no reports: the first bad line, the first fault of the replay that applies, or out of memory.
 abbrev pub IsUnplayed : List ℕ → List ℕ → List (List ℕ) → Failure → Type 0
@@ -56,9 +57,9 @@ replay_of put (Some f) =
 abbrev pub no_replay : Failure → BpftapReplay
 no_replay failure = record { fault = code_of failure; number = number_of failure; size = size_of failure; place = place_of failure }
 
--- The text of the reports is put. Or there are none, and all is as it was.
-abbrev pub PutsReports : List ℕ → List ℕ → List (List ℕ) → List ℕ → List ℕ → BpftapReplay → Type 0
-PutsReports listeners script captures old new told =
-    ((text : List ℕ) × (record_fault : Option (ℕ × RecordFault)) × (put : BpftapResult) × IsReported listeners script captures text record_fault
+-- The reports are put in this form. Or there are none, and all is as it was.
+abbrev pub PutsReports : LineForm → List ℕ → List ℕ → List (List ℕ) → List ℕ → List ℕ → BpftapReplay → Type 0
+PutsReports form listeners script captures old new told =
+    ((text : List ℕ) × (record_fault : Option (ℕ × RecordFault)) × (put : BpftapResult) × IsReported form listeners script captures text record_fault
     × PutsText text old new put × (told ≡ replay_of put record_fault))
     ⊎ ((failure : Failure) × IsUnplayed listeners script captures failure × (told ≡ no_replay failure) × (new ≡ old))

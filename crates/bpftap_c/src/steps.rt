@@ -1,12 +1,14 @@
 //! Steps that are played to listeners over captures.
 
 ghost use Rattle.std.specs.Prelude.{◌≡◌, IfErr, IfOk, map};
+ghost use Rattle.cli_json.specs.declared.form.LineForm.TheVariants.{Text, Json};
 ghost use Rattle.bpftap_c.specs.Steps.{texts_of, replay_of, no_replay, IsReported, IsUnplayed, PutsReports};
 
 use crate::memory::put_text;
 use crate::outcome::{BpftapResult, Failure, failed, number_of};
+use cli_json::LineForm;
 use cli_steps::plan::read_plan;
-use cli_steps::report::print_reports;
+use cli_steps::report::print_reports_in;
 use std::alloc::{AllocError, Global};
 use tap::replay;
 
@@ -42,14 +44,15 @@ fn slices_of<'a>(alloc: Global, captures: &[BpftapCapture<'a>]) -> Result<Vec<&'
     Ok(slices)
 }
 
-/// The text of the reports, and the record fault that a capture ended with, with the number of that capture; or why there are no reports.
+/// The reports in this form, and the record fault that a capture ended with, with the number of that capture; or why there are no reports.
 fn reports_text(
     alloc: Global,
+    form: LineForm,
     listeners: &[u8],
     script: &[u8],
     captures: &[&[u8]],
 ) -> Result<(Vec<u8>, Option<(u32, savefile::Fault)>), Failure>
-    ensures ok { IfOk result (λ r. IsReported listeners.now script.now (map (λ c. c.now) captures.now) r.0.items r.1) }
+    ensures ok { IfOk result (λ r. IsReported form listeners.now script.now (map (λ c. c.now) captures.now) r.0.items r.1) }
     ensures err { IfErr result (IsUnplayed listeners.now script.now (map (λ c. c.now) captures.now)) }
 {
     let plan = match read_plan(alloc, listeners, script) {
@@ -66,7 +69,7 @@ fn reports_text(
         Err(fault) => return Err(Failure::Replay(fault)),
     };
     let mut text = Vec::new(alloc);
-    match print_reports(reports.as_slice(), &mut text) {
+    match print_reports_in(form, reports.as_slice(), &mut text) {
         Ok(()) => Ok((text, record_fault)),
         Err(_) => Err(Failure::NoMemory),
     }
@@ -108,6 +111,27 @@ fn no_replay(failure: Failure) -> BpftapReplay
     }
 }
 
+/// Plays a script to listeners over captures, and puts the reports in this form into the caller's memory.
+fn put_reports(
+    alloc: Global,
+    form: LineForm,
+    listeners: &[u8],
+    script: &[u8],
+    captures: &[BpftapCapture<'_>],
+    to: &mut [u8],
+) -> BpftapReplay
+    ensures { PutsReports form listeners.now script.now (texts_of captures.now) to.old to.new result }
+{
+    let captures = match slices_of(alloc, captures) {
+        Ok(captures) => captures,
+        Err(AllocError) => return no_replay(Failure::NoMemory),
+    };
+    match reports_text(alloc, form, listeners, script, captures.as_slice()) {
+        Ok((text, record_fault)) => replay_of(put_text(text.as_slice(), to), record_fault),
+        Err(failure) => no_replay(failure),
+    }
+}
+
 /// Plays a script to listeners over captures, and puts what `bpftap steps` prints of it, the reports, into the caller's memory. If a
 /// capture ends with a record fault, the packets before it are played, and that fault is returned beside the size. If there are no
 /// reports, the fault that `bpftap steps` prints is returned, with the number of its listener or capture, and nothing is put.
@@ -119,14 +143,21 @@ pub extern "C" fn bpftap_steps(
     captures: &[BpftapCapture<'_>],
     to: &mut [u8],
 ) -> BpftapReplay
-    ensures { PutsReports listeners.now script.now (texts_of captures.now) to.old to.new result }
+    ensures { PutsReports Text listeners.now script.now (texts_of captures.now) to.old to.new result }
 {
-    let captures = match slices_of(alloc, captures) {
-        Ok(captures) => captures,
-        Err(AllocError) => return no_replay(Failure::NoMemory),
-    };
-    match reports_text(alloc, listeners, script, captures.as_slice()) {
-        Ok((text, record_fault)) => replay_of(put_text(text.as_slice(), to), record_fault),
-        Err(failure) => no_replay(failure),
-    }
+    put_reports(alloc, LineForm::Text, listeners, script, captures, to)
+}
+
+/// Does what [`bpftap_steps`] does, and puts the reports as JSON Lines, as `bpftap steps --json` prints them.
+#[unsafe(no_mangle)]
+pub extern "C" fn bpftap_steps_json(
+    alloc: Global,
+    listeners: &[u8],
+    script: &[u8],
+    captures: &[BpftapCapture<'_>],
+    to: &mut [u8],
+) -> BpftapReplay
+    ensures { PutsReports Json listeners.now script.now (texts_of captures.now) to.old to.new result }
+{
+    put_reports(alloc, LineForm::Json, listeners, script, captures, to)
 }
