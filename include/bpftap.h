@@ -205,6 +205,43 @@ struct bpftap_reason {
 struct bpftap_reason bpftap_why(const char *text, size_t text_size, const uint8_t *packet, size_t captured, uint32_t wire, char *to,
                                 size_t room);
 
+/* ---- Whether two expressions accept the same packets ---- */
+
+/* What is decided of two expressions. The numbers stay from version to version. */
+enum bpftap_sameness {
+    BPFTAP_SAME = 0,             /* both accept the same packets, of every captured length and every length on the wire */
+    BPFTAP_SAME_AS_CAPTURED = 1, /* so it is of packets of which no more bytes were captured than were on the wire */
+    BPFTAP_SHORT = 2,            /* one accepts the packet that is written, and the other one aborts; of packets of which no more bytes were
+                                    captured than were on the wire, none gets YES from one and NO from the other */
+    BPFTAP_DIFFER = 3,           /* one answers YES to the packet that is written, and the other one NO */
+    BPFTAP_NOT_DECIDED = 4       /* nothing is claimed */
+};
+
+/* Why nothing is claimed. */
+enum bpftap_cause {
+    BPFTAP_GRAPHS = 1,  /* their decision graphs differ, and no packet was found that shows how they do */
+    BPFTAP_BUDGET = 2,  /* the budget is spent */
+    BPFTAP_RELATION = 3 /* one of them has a relation, as `ip[8] < 5` */
+};
+
+struct bpftap_comparison {
+    uint32_t fault;
+    uint32_t number; /* which expression the fault is of: 0 the first, 1 the second */
+    uint32_t answer; /* enum bpftap_sameness; BPFTAP_NOT_DECIDED with a fault other than BPFTAP_NO_ROOM */
+    uint32_t cause;  /* enum bpftap_cause, if the answer is BPFTAP_NOT_DECIDED; 0 with a fault and with any other answer */
+    uint32_t wire;   /* the length on the wire of the packet that is written */
+    size_t size;     /* its captured bytes; also with BPFTAP_NO_ROOM */
+    size_t place;    /* where the fault is, if it has a place; else 0 */
+};
+
+/* Decides for every packet that there can be whether two expressions accept it alike, and writes a packet that shows a difference, if it
+ * has one: its captured bytes. 1,514 bytes are mostly room enough; without enough the answer is returned all the same, with NO_ROOM.
+ * `budget` is how many nodes a decision graph may have, and how many pairs of them it may join: `bpftap compare` takes 2,000,000. The
+ * more of it is needed, the more memory and time are taken.
+ * Faults: those of bpftap_print, of expression `number`. */
+struct bpftap_comparison bpftap_compare(const char *first, size_t first_size, const char *second, size_t second_size, size_t budget,
+                                        uint8_t *to, size_t room);
+
 /* ---- Captures ---- */
 
 /* How far a capture in memory was read. The capture is a pcap file (pcap-savefile(5)) of Ethernet frames, in either byte order, with
@@ -386,6 +423,11 @@ struct bpftap_replay {
 struct bpftap_replay bpftap_steps(const char *listeners, size_t listeners_size, const char *script, size_t script_size,
                                   const struct bpftap_capture *captures, size_t count, char *to, size_t room);
 
+/* Does the same, and writes the reports as JSON Lines, as `bpftap steps --json` prints them: an object for each line of the text, which
+ * names its listener. Faults are those of bpftap_steps. */
+struct bpftap_replay bpftap_steps_json(const char *listeners, size_t listeners_size, const char *script, size_t script_size,
+                                       const struct bpftap_capture *captures, size_t count, char *to, size_t room);
+
 /* ---- Texts ---- */
 
 /* Writes a fault as the program prints it: its name, and its place if it has one, as `BadWord 4`. For a number that is no fault the text
@@ -400,8 +442,3 @@ struct bpftap_result bpftap_version(char *to, size_t room);
 #endif
 
 #endif
-/* Does the same, and writes the reports as JSON Lines, as `bpftap steps --json` prints them: an object for each line of the text, which
- * names its listener. Faults are those of bpftap_steps. */
-struct bpftap_replay bpftap_steps_json(const char *listeners, size_t listeners_size, const char *script, size_t script_size,
-                                       const struct bpftap_capture *captures, size_t count, char *to, size_t room);
-

@@ -181,6 +181,34 @@ def answers_as_the_program_does(scene):
     scene.check("some are accepted and some refused", (len(good) > 5000, len(refused) > 100), (True, True))
 
 
+# The first line that `bpftap compare` prints of two expressions without a capture.
+DECIDED = {"SAME": "same", "SAME_AS_CAPTURED": "same as captured", "SHORT": "differ only where a frame is cut short", "DIFFER": "differ",
+           "NOT_DECIDED": "not decided"}
+
+
+@case
+def compares_as_the_program_does(scene):
+    """Pairs of expressions: Python's `compare` decides what `bpftap compare` decides, and its packet is the one that `-w` writes."""
+    if not is_there(scene):
+        return
+    scene.start({})
+    chance = random.Random(13)
+    texts = [text for text in (expression(chance, 2) for _ in range(400)) if scene.run(["check", text]).status == 0]
+    pairs = [*zip(texts[::2], texts[1::2]), *((text, f"not not ({text})") for text in texts[:40] if text)]
+    seen = python(scene, "comparisons.py", [], "".join(f"{first}\t{second}\n" for first, second in pairs)).splitlines()
+    scene.check("lines", len(seen), len(pairs))
+    for (first, second), line in zip(pairs, seen):
+        answer, _, packet = line.partition(" ")
+        (scene.folder / "out.pcap").unlink(missing_ok=True)
+        printed = scene.run(["compare", "-w", "out.pcap", first, second]).out.decode().partition("\n")[0]
+        scene.check(f"{first} and {second}", DECIDED[answer], printed.partition(":")[0])
+        if packet:
+            written = (scene.folder / "out.pcap").read_bytes()
+            scene.check(f"{first} and {second}: the packet", packet, f"{int.from_bytes(written[36:40], 'little')} {written[40:].hex()}")
+    answers = {line.partition(" ")[0] for line in seen}
+    scene.check("answers that are among these", {"SAME", "DIFFER", "NOT_DECIDED"} <= answers, True)
+
+
 def differing(texts, seen, wanted):
     """The first ten texts whose answers differ."""
     return [text for text, one, other in zip(texts, seen, wanted) if one != other][:10] or [] if len(seen) == len(wanted) else ["the number of lines"]
@@ -271,8 +299,13 @@ def steps_of_c_print_what_steps_prints(scene):
         wanted = scene.run(f"steps {words}")
         ended = subprocess.run([program, *words.split()], cwd=scene.folder, capture_output=True, timeout=LIMIT)
         scene.check(f"steps {words}", (ended.stdout, ended.stderr, ended.returncode), (wanted.out, wanted.err, wanted.status))
+        objects = scene.run(f"steps --json {words}")
+        ended = subprocess.run([program, "--json", *words.split()], cwd=scene.folder, capture_output=True, timeout=LIMIT)
+        scene.check(f"steps --json {words}", (ended.stdout, ended.stderr, ended.returncode), (objects.out, wanted.err, objects.status))
     for files, printed in random_replays(scene) if program else []:
         scene.check(scene.read("listeners").decode(), done(scene, [program, *files]), (printed, 0))
+        objects = scene.run(["steps", "--json", *files]).out.decode()
+        scene.check(f"{scene.read('listeners').decode()} as JSON", done(scene, [program, "--json", *files]), (objects, 0))
 
 
 @case
@@ -299,13 +332,8 @@ def package_does_what_its_page_says(scene):
                         env={**bare, "PYTHONPATH": str(into)})
     scene.check("the installed package", (said, status), ("True\n", 0))
 
-        objects = scene.run(f"steps --json {words}")
-        ended = subprocess.run([program, "--json", *words.split()], cwd=scene.folder, capture_output=True, timeout=LIMIT)
-        scene.check(f"steps --json {words}", (ended.stdout, ended.stderr, ended.returncode), (objects.out, wanted.err, objects.status))
 
 @case
-        objects = scene.run(["steps", "--json", *files]).out.decode()
-        scene.check(f"{scene.read('listeners').decode()} as JSON", done(scene, [program, "--json", *files]), (objects, 0))
 def numbers_have_the_names_of_faults(scene):
     """Each number of the header prints as its name, which docs/FAULTS.md explains."""
     if not is_there(scene):

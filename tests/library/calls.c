@@ -538,6 +538,68 @@ static void plays_steps(void) {
     free(memory);
 }
 
+static struct bpftap_comparison compare(const char *first, const char *second, size_t budget, uint8_t *to, size_t room) {
+    char *one = text_block(first), *other = text_block(second);
+    struct bpftap_comparison result = bpftap_compare(one, strlen(first), other, strlen(second), budget, to, room);
+    free(one);
+    free(other);
+    return result;
+}
+
+static uint32_t verdict_of(const char *text, const uint8_t *packet, size_t captured, uint32_t wire) {
+    char line[200];
+    struct bpftap_reason reason = bpftap_why(text, strlen(text), packet, captured, wire, line, sizeof line);
+    CHECK(reason.fault == BPFTAP_OK);
+    return reason.verdict;
+}
+
+enum { BUDGET = 2000000 };
+
+static void compares(void) {
+    uint8_t to[2000];
+    memset(to, 0xa5, sizeof to);
+    struct bpftap_comparison result = compare("port 80", "src port 80 or dst port 80", BUDGET, to, sizeof to);
+    CHECK(result.fault == BPFTAP_OK && result.answer == BPFTAP_SAME && result.size == 0 && result.wire == 0 && result.cause == 0);
+    result = compare("", "ip or not ip", BUDGET, to, 0);
+    CHECK(result.fault == BPFTAP_OK && result.answer != BPFTAP_SAME && untouched(to, sizeof to));
+
+    /* A packet that one accepts and the other rejects, with exactly the room that it needs, and one byte less. */
+    result = compare("tcp", "udp", BUDGET, to, sizeof to);
+    CHECK(result.fault == BPFTAP_OK && result.answer == BPFTAP_DIFFER && result.size > 23 && result.size <= result.wire && result.cause == 0);
+    size_t size = result.size;
+    uint32_t tcp = verdict_of("tcp", to, size, result.wire), udp = verdict_of("udp", to, size, result.wire);
+    CHECK((tcp == BPFTAP_YES && udp == BPFTAP_NO) || (tcp == BPFTAP_NO && udp == BPFTAP_YES));
+    CHECK(untouched(to + size, sizeof to - size));
+    uint8_t *exact = block(size);
+    result = compare("tcp", "udp", BUDGET, exact, size);
+    CHECK(result.fault == BPFTAP_OK && result.size == size && !memcmp(exact, to, size));
+    memset(exact, 0xa5, size);
+    result = compare("tcp", "udp", BUDGET, exact, size - 1);
+    CHECK(result.fault == BPFTAP_NO_ROOM && result.answer == BPFTAP_DIFFER && result.size == size && untouched(exact, size));
+    free(exact);
+
+    result = compare("tcp", "udp", 1, to, sizeof to);
+    CHECK(result.fault == BPFTAP_OK && result.answer == BPFTAP_NOT_DECIDED && result.cause == BPFTAP_BUDGET && result.size == 0);
+
+    /* Where the order of two addresses shows, it is on a packet that is cut short. */
+    result = compare("host 10.0.0.1 or host 10.0.0.2", "host 10.0.0.2 or host 10.0.0.1", BUDGET, to, sizeof to);
+    CHECK(result.answer == BPFTAP_SHORT || (result.answer == BPFTAP_NOT_DECIDED && result.cause == BPFTAP_GRAPHS));
+
+    struct {
+        const char *first, *second;
+        uint32_t fault, number;
+        size_t place;
+    } const bad[] = {
+        {"port http", "tcp and", BPFTAP_BAD_WORD, 0, 5}, {"tcp", "tcp and", BPFTAP_SYNTAX, 1, 7}, {"tcp", "\xff", BPFTAP_NOT_TEXT, 1, 0},
+    };
+    memset(to, 0xa5, sizeof to);
+    for (size_t i = 0; i < sizeof bad / sizeof *bad; i++) {
+        result = compare(bad[i].first, bad[i].second, BUDGET, to, sizeof to);
+        CHECK(result.fault == bad[i].fault && result.number == bad[i].number && result.place == bad[i].place && result.size == 0);
+        CHECK(result.answer == BPFTAP_NOT_DECIDED && result.cause == 0 && result.wire == 0 && untouched(to, sizeof to));
+    }
+}
+
 int main(void) {
     compiles();
     refuses_expressions();
@@ -553,5 +615,7 @@ int main(void) {
     writes();
     cuts();
     plays_steps();
+    plays_steps_as_json();
+    compares();
     return failures != 0;
 }

@@ -43,10 +43,11 @@ static struct seen call(int which) {
     struct bpftap_result result = {0, 0, 0};
     struct bpftap_reason reason;
     struct bpftap_replay replay;
+    struct bpftap_comparison comparison;
     static const char listeners[] = "96 4096 tcp port 80\n96 4096i ip\n", script[] = "arrive\nflush 0\nread 1\nread 0\n";
     const struct bpftap_capture captures[2] = {{capture, sizeof capture}, {capture, sizeof capture}};
-    switch (which) {
     int json = which == 8;
+    switch (which) {
         case 0: result = bpftap_compile(TEXT, strlen(TEXT), 100, (void *)seen.written, ROOM / 8); break;
         case 1: result = bpftap_write_listing(ALL, 1, text, ROOM); break;
         case 2: result = bpftap_image(ALL, 1, text, ROOM); break;
@@ -57,6 +58,10 @@ static struct seen call(int which) {
         case 8:
             replay = (json ? bpftap_steps_json : bpftap_steps)(listeners, strlen(listeners), script, strlen(script), captures, 2, text, ROOM);
             result.fault = replay.fault, result.size = replay.size;
+            break;
+        case 9:
+            comparison = bpftap_compare("tcp", 3, "udp", 3, 2000000, seen.written, ROOM);
+            result.fault = comparison.fault, result.size = comparison.size;
             break;
         default:
             reason = bpftap_why(TEXT, strlen(TEXT), packet, sizeof packet, sizeof packet, text, ROOM);

@@ -8,16 +8,17 @@
     'No tcp port 80'
 
 A `Filter` is a filter expression that was compiled, or a program that was handed in. `read` goes through the packets of a capture,
-`write` makes one, and `cut` filters one. A `Listener` keeps and drops packets as a listener of bpf(4) does, and
+`write` makes one, and `cut` filters one. `compare` decides whether two expressions accept the same packets. A `Listener` keeps and drops packets as a listener of bpf(4) does, and
 `steps` plays a script to several. What goes wrong is a
 `FilterError`, a `CaptureError` or a `ListenerError`, each with the name of the fault and its place.
 """
 from ._captures import Capture, CaptureError, Packet, cut, read, write
+from ._comparisons import Cause, Comparison, Sameness, compare
 from ._filters import Filter, FilterError, Verdict
 from ._library import MAX_CAPACITY, MAX_SNAP, Insn
 from ._listeners import Fed, Listener, ListenerError, Message
 from ._packets import assert_all_match, version
 from ._steps import Replay, Report, steps
 
-__all__ = ["MAX_CAPACITY", "MAX_SNAP", "Capture", "CaptureError", "Fed", "Filter", "FilterError", "Insn", "Listener", "ListenerError",
-           "Message", "Packet", "Replay", "Report", "Verdict", "assert_all_match", "cut", "read", "steps", "version", "write"]
+__all__ = ["MAX_CAPACITY", "MAX_SNAP", "Capture", "CaptureError", "Cause", "Comparison", "Fed", "Filter", "FilterError", "Insn", "Listener", "ListenerError",
+           "Message", "Packet", "Replay", "Report", "Sameness", "Verdict", "assert_all_match", "compare", "cut", "read", "steps", "version", "write"]

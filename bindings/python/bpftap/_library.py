@@ -26,6 +26,11 @@ class Reason(ctypes.Structure):
     _fields_ = [("fault", c_uint32), ("verdict", c_uint32), ("size", c_size_t), ("place", c_size_t)]
 
 
+class Comparison(ctypes.Structure):
+    _fields_ = [("fault", c_uint32), ("number", c_uint32), ("answer", c_uint32), ("cause", c_uint32), ("wire", c_uint32),
+                ("size", c_size_t), ("place", c_size_t)]
+
+
 class Span(ctypes.Structure):
     _fields_ = [("offset", c_uint64), ("captured", c_uint32), ("wire", c_uint32)]
 
@@ -97,6 +102,7 @@ _FUNCTIONS = {
     "run_spans": (Result, [*_INSNS, *_BYTES, c_void_p, c_size_t, c_void_p, c_size_t]),
     "run_joined": (Result, [*_INSNS, *_BYTES, c_void_p, c_size_t, c_void_p, c_size_t]),
     "why": (Reason, [*_BYTES, *_BYTES, c_uint32, *_ROOM]),
+    "compare": (Comparison, [*_BYTES, *_BYTES, c_size_t, *_ROOM]),
     "open": (Reader, _BYTES),
     "next": (Record, [*_BYTES, POINTER(Reader)]),
     "put_header": (Result, [c_uint32, c_uint32, c_uint32, *_ROOM]),

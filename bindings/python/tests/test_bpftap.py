@@ -129,6 +129,22 @@ class Filters(unittest.TestCase):
         self.assertEqual(longest.image.count("\n"), 512)
 
 
+class Comparisons(unittest.TestCase):
+    def test_the_same_and_different(self):
+        self.assertEqual(bpftap.compare("port 80", "src port 80 or dst port 80"), bpftap.Comparison(bpftap.Sameness.SAME))
+        found = bpftap.compare("tcp", "udp")
+        answers = {Filter(text).decide(found.packet, found.wire)[0] for text in ("tcp", "udp")}
+        self.assertEqual((found.answer, answers, found.cause), (bpftap.Sameness.DIFFER, {bpftap.Verdict.YES, bpftap.Verdict.NO}, None))
+        self.assertEqual(bpftap.compare("tcp", "udp", budget=1), bpftap.Comparison(bpftap.Sameness.NOT_DECIDED, cause=bpftap.Cause.BUDGET))
+
+    def test_a_refused_expression_has_a_name_and_a_place(self):
+        with self.assertRaises(bpftap.FilterError) as raised:
+            bpftap.compare("tcp", "port http")
+        self.assertEqual((raised.exception.name, raised.exception.place), ("BadWord", 5))
+        with self.assertRaises(ValueError):
+            bpftap.compare("tcp", "udp", budget=-1)
+
+
 class Listeners(unittest.TestCase):
     def test_it_keeps_reads_and_drops(self):
         # Two records of 72 bytes: 32 of fields, and 38 of a frame up to a multiple of 8.

@@ -29,6 +29,17 @@ pub struct Reason {
 }
 
 #[repr(C)]
+pub struct Comparison {
+    pub fault: u32,
+    pub number: u32,
+    pub answer: u32,
+    pub cause: u32,
+    pub wire: u32,
+    pub size: usize,
+    pub place: usize,
+}
+
+#[repr(C)]
 #[derive(Clone, Debug)]
 pub struct Reader {
     pub offset: usize,
@@ -89,6 +100,9 @@ extern "C" {
     pub fn bpftap_program_init(program: *mut u8, insns: *const Insn, size: usize) -> u32;
     pub fn bpftap_program_run(program: *const u8, packet: *const u8, captured: usize, wire: u32) -> u32;
     pub fn bpftap_why(text: *const u8, text_size: usize, packet: *const u8, captured: usize, wire: u32, to: *mut u8, room: usize) -> Reason;
+    pub fn bpftap_compare(
+        first: *const u8, first_size: usize, second: *const u8, second_size: usize, budget: usize, to: *mut u8, room: usize,
+    ) -> Comparison;
     pub fn bpftap_open(memory: *const u8, size: usize) -> Reader;
     pub fn bpftap_next(memory: *const u8, size: usize, reader: &mut Reader) -> Record;
     pub fn bpftap_listener_open(listener: &mut Listener) -> u32;

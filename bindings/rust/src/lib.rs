@@ -11,9 +11,11 @@ use std::alloc::Layout;
 use std::fmt;
 use std::ptr::NonNull;
 
+mod comparison;
 mod ffi;
 mod listener;
 
+pub use comparison::{compare, Cause, Sameness, Witness};
 pub use ffi::Insn;
 pub use listener::{Fed, Listener, Message, Messages, Mode, MAX_CAPACITY};
 

@@ -1,5 +1,5 @@
 //! The crate over the real capture of `examples/`, and its errors.
-use bpftap::{Fed, Filter, Listener, Mode, Packet, Packets};
+use bpftap::{compare, Cause, Fed, Filter, Listener, Mode, Packet, Packets, Sameness};
 
 /// 253 Ethernet frames; tcpdump counts 67 with UDP port 5353.
 const VETH: &[u8] = include_bytes!("../../../examples/veth.pcap");
@@ -70,4 +70,14 @@ fn a_listener_is_refused_by_name() {
     for capacity in [0, 71, bpftap::MAX_CAPACITY + 1, usize::MAX] {
         assert_eq!(open(38, capacity), Err("BadCapacity".to_owned()));
     }
+}
+
+#[test]
+fn expressions_are_compared() {
+    assert_eq!(compare("port 80", "src port 80 or dst port 80", 2_000_000).unwrap(), Sameness::Same);
+    let Ok(Sameness::Differ(packet)) = compare("tcp", "udp", 2_000_000) else { panic!("they differ") };
+    let accepted = ["tcp", "udp"].map(|text| Filter::new(text).unwrap().matches(&packet.data, packet.wire));
+    assert!(accepted[0] != accepted[1]);
+    assert_eq!(compare("tcp", "udp", 1).unwrap(), Sameness::NotDecided(Cause::Budget));
+    assert_eq!(compare("tcp", "port http", 1).unwrap_err().to_string(), "BadWord 5");
 }

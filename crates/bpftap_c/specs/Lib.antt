@@ -7,6 +7,7 @@ pub mod Batches
 pub mod Programs
 pub mod Reasons
 pub mod Texts
+pub mod Comparisons
 pub mod Captures
 pub mod Cuts
 pub mod Buffers

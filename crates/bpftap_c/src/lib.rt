@@ -7,6 +7,7 @@
 mod batches;
 mod buffers;
 mod captures;
+mod comparisons;
 mod cuts;
 mod filters;
 mod insns;
@@ -24,6 +25,7 @@ mod texts;
 pub use batches::{BpftapPacket, BpftapSpan};
 pub use buffers::BpftapBuffer;
 pub use captures::{BpftapReader, BpftapRecord};
+pub use comparisons::BpftapComparison;
 pub use insns::BpftapInsn;
 pub use listeners::BpftapListener;
 pub use messages::BpftapMessage;

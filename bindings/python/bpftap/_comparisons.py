@@ -1,0 +1,54 @@
+"""Whether two expressions accept the same packets."""
+from __future__ import annotations
+
+import enum
+from dataclasses import dataclass
+
+from ._filters import FilterError
+from ._errors import raise_fault
+from ._library import in_range, lib, text
+
+
+class Sameness(enum.IntEnum):
+    """What is decided of two expressions.
+
+    `SAME`: both accept the same packets, of every captured length and every length on the wire. `SAME_AS_CAPTURED`: so it is of packets of
+    which no more bytes were captured than were on the wire. `SHORT`: one accepts a packet on which the other aborts; of packets of which no
+    more bytes were captured than were on the wire, none gets Yes from one and No from the other. `DIFFER`: one answers Yes to a packet, and
+    the other No. `NOT_DECIDED`: nothing is claimed."""
+    SAME = 0
+    SAME_AS_CAPTURED = 1
+    SHORT = 2
+    DIFFER = 3
+    NOT_DECIDED = 4
+
+
+class Cause(enum.IntEnum):
+    """Why nothing is claimed: the decision graphs differ, and no packet was found that shows how the expressions do; the budget is spent;
+    one of the expressions has a relation."""
+    GRAPHS = 1
+    BUDGET = 2
+    RELATION = 3
+
+
+@dataclass(frozen=True)
+class Comparison:
+    """What is decided; the packet that shows a difference, by its captured bytes and its length on the wire, or None; why nothing is
+    claimed, or None."""
+    answer: Sameness
+    packet: bytes | None = None
+    wire: int | None = None
+    cause: Cause | None = None
+
+
+def compare(first: str, second: str, budget: int = 2_000_000) -> Comparison:
+    """Decides for every packet that there can be whether two expressions accept it alike. `budget` bounds the decision graphs, and so the
+    memory and the time. An expression that is refused is a `FilterError`."""
+    one, other = first.encode(), second.encode()
+    in_range("budget", budget, 2**64 - 1)
+    result, packet = text(lambda to, room: lib.bpftap_compare(one, len(one), other, len(other), budget, to, room))
+    raise_fault(FilterError, result.fault, result.place)
+    answer = Sameness(result.answer)
+    if answer in (Sameness.SHORT, Sameness.DIFFER):
+        return Comparison(answer, packet, result.wire)
+    return Comparison(answer, cause=Cause(result.cause) if result.cause else None)
