@@ -18,6 +18,7 @@ use cli_run::command::{NamesFiles, run_command};
 use cli_split::command::split_command;
 use cli_steps::command::steps_command;
 use cli_text::Status;
+use cli_watch::Screen;
 use std::alloc::Global;
 use std::convert::AsStr;
 use std::fs::Files;
@@ -28,7 +29,7 @@ use std::thread::Threads;
 /// Runs the command that the words ask for, the program's name first. What was asked for goes to `out`, faults go to
 /// `err`, and the exit status comes back.
 pub fn run<
-    R: Files + AllocGlobal + NamesFiles + Threads + Wait + Sync,
+    R: Files + AllocGlobal + NamesFiles + Screen + Threads + Wait + Sync,
     S: AsStr,
     O: Write,
     E: HintSink,
@@ -41,7 +42,7 @@ pub fn run<
 
 /// [`run`], once all standard streams are open.
 fn dispatch<
-    R: Files + AllocGlobal + NamesFiles + Threads + Wait + Sync,
+    R: Files + AllocGlobal + NamesFiles + Screen + Threads + Wait + Sync,
     S: AsStr,
     O: Write,
     E: HintSink,

@@ -9,49 +9,88 @@ use crate::report::{report_captures, report_sameness};
 use cli_args::compare::CompareWords;
 use cli_explain::captures::find_in_captures;
 use cli_explain::hints::hint_capture;
-use cli_files::captures::{inputs, output_buffer};
+use cli_files::captures::output_buffer;
 use cli_report::HintSink;
 use cli_report::failures::hint_output;
 use cli_report::probe::ProbedInput;
 use cli_text::Status;
 use cli_text::report::report_fault;
+use cli_watch::captures::watched_inputs;
+use cli_watch::frames::FrameCounts;
+use cli_watch::hints::{hint_unseen, is_asked};
+use cli_watch::output::WatchedOutput;
+use cli_watch::{Screen, Watch};
 use savefile::Fault;
 use std::alloc::Global;
 use std::fs::Files;
 use std::io::{Read, Write};
 
-/// Prints the packets that are treated differently and the counts, and reports how that ended.
-fn compare_and_report<R: Read + Drop, O: Write, E: HintSink>(
+/// What one call of `compare` by captures has: its arguments, its filters, and what is seen of its captures.
+#[derive(Drop)]
+struct Job<'w, 'a, 'r, R> {
     alloc: Global,
-    paths: &[&str],
+    words: &'w CompareWords<'a>,
+    pair: FilterPair,
+    watch: Watch<'r, R>,
+}
+
+/// Prints the packets that are treated differently and the counts, and reports how that ended.
+fn compare_all<F: Screen, R: Read + Drop, O: Write, E: HintSink>(
+    job: &Job<'_, '_, '_, F>,
     captures: Vec<ProbedInput<R>>,
-    pair: &FilterPair,
     out: &mut O,
     err: &mut E,
 ) -> Status {
-    let mut out = match output_buffer(alloc, &mut *out, err) {
-        Ok(out) => out,
-        Err(status) => return status,
-    };
-    let ended = compare_captures(alloc, captures, pair, &mut out);
-    let ended = print_totals(alloc, ended, &mut out);
+    let paths = job.words.inputs.as_slice();
+    let ended = compare_captures(job.alloc, captures, &job.pair, out);
+    job.watch.erase();
+    let ended = print_totals(job.alloc, ended, out);
     let status = report_captures(&ended, paths, err);
     if let Err(stop) = &ended.read {
         hint_capture(paths, stop.number, stop.fault, &stop.source, err);
     }
+    status
+}
+
+/// Hints on the frames of the captures that the expressions do not look into. A listing's program may.
+fn hint_frames<E: HintSink>(
+    words: &CompareWords<'_>,
+    frames: FrameCounts,
+    status: Status,
+    err: &mut E,
+) {
+    if words.listing.is_none() && (is_asked(words.first) || words.second.is_some_and(is_asked)) {
+        hint_unseen(frames, status, err);
+    }
+}
+
+/// [`compare_all`], with a buffer in front of the output.
+fn compare_and_report<F: Screen, R: Read + Drop, O: Write, E: HintSink>(
+    job: &Job<'_, '_, '_, F>,
+    captures: Vec<ProbedInput<R>>,
+    out: &mut O,
+    err: &mut E,
+) -> Status {
+    let out = WatchedOutput::new(&mut *out, &job.watch);
+    let mut out = match output_buffer(job.alloc, out, err) {
+        Ok(out) => out,
+        Err(status) => return status,
+    };
+    let status = compare_all(job, captures, &mut out, err);
     hint_output(out.get_ref(), err);
+    hint_frames(job.words, job.watch.frames(), status, err);
     status
 }
 
 /// Reports only by the status whether a packet is treated differently.
-fn ask_quietly<R: Read + Drop, E: HintSink>(
-    alloc: Global,
-    paths: &[&str],
+fn ask_quietly<F: Screen, R: Read + Drop, E: HintSink>(
+    job: &Job<'_, '_, '_, F>,
     captures: Vec<ProbedInput<R>>,
-    pair: &FilterPair,
     err: &mut E,
 ) -> Status {
-    let sought = find_in_captures(alloc, captures, pair);
+    let paths = job.words.inputs.as_slice();
+    let sought = find_in_captures(job.alloc, captures, &job.pair);
+    job.watch.erase();
     let status = report_sameness(&sought, paths, err);
     if let Err(stop) = &sought {
         hint_capture(paths, stop.number, stop.fault, &stop.source, err);
@@ -59,8 +98,26 @@ fn ask_quietly<R: Read + Drop, E: HintSink>(
     status
 }
 
+/// Compares the filters by the captures.
+fn compare_job<'r, R: Files + Screen, O: Write, E: HintSink>(
+    rt: &'r R,
+    job: &Job<'_, '_, 'r, R>,
+    out: &mut O,
+    err: &mut E,
+) -> Status {
+    let paths = job.words.inputs.as_slice();
+    let Ok(captures) = watched_inputs(rt, job.alloc, paths, &job.watch) else {
+        return report_fault(Fault::NoMemory, Status::Refused, err);
+    };
+    if job.words.quiet {
+        ask_quietly(job, captures, err)
+    } else {
+        compare_and_report(job, captures, out, err)
+    }
+}
+
 /// Compares the filters by the captures, or decides them for every packet if there are none.
-fn compare_files<R: Files + AllocGlobal, O: Write, E: HintSink>(
+fn compare_files<R: Files + AllocGlobal + Screen, O: Write, E: HintSink>(
     rt: &R,
     words: &CompareWords<'_>,
     out: &mut O,
@@ -71,20 +128,17 @@ fn compare_files<R: Files + AllocGlobal, O: Write, E: HintSink>(
     if words.inputs.is_empty() {
         return Ok(decide_pair(rt, words, &pair, out, err));
     }
-    let alloc = rt.alloc();
-    let paths = words.inputs.as_slice();
-    let Ok(captures) = inputs(rt, alloc, paths) else {
-        return Err(report_fault(Fault::NoMemory, Status::Refused, err));
+    let job = Job {
+        alloc: rt.alloc(),
+        words,
+        pair,
+        watch: Watch::new(rt, words.inputs.as_slice(), err.takes_hints()),
     };
-    Ok(if words.quiet {
-        ask_quietly(alloc, paths, captures, &pair, err)
-    } else {
-        compare_and_report(alloc, paths, captures, &pair, out, err)
-    })
+    Ok(compare_job(rt, &job, out, err))
 }
 
 /// `bpftap compare`: both filters are accepted and the paths are compared before a capture is opened.
-pub fn compare_command<R: Files + AllocGlobal, O: Write, E: HintSink>(
+pub fn compare_command<R: Files + AllocGlobal + Screen, O: Write, E: HintSink>(
     rt: &R,
     words: &CompareWords<'_>,
     out: &mut O,

@@ -5,12 +5,12 @@ ghost use Rattle.cli_text.specs.Sending.{Takes};
 ghost use Rattle.cli_cut.specs.Captures.{first_told, part_told, total_told};
 
 use crate::command::count_form;
+use crate::hints::hint_frames;
 use crate::paths::{LateOutput, check_paths, is_standard_output, late_output};
 use crate::plan::read_filter;
 use crate::report::report_tally;
 use bpfvm::Program;
 use cli_args::command_line::CutWords;
-use cli_files::captures::{Input, inputs};
 use cli_json::LineForm;
 use cli_report::HintSink;
 use cli_report::probe::ProbedOutput;
@@ -22,7 +22,10 @@ use cli_split::report::{report_faults, was_begun};
 use cli_split::split::SplitEnd;
 use cli_text::Status;
 use cli_text::report::report_fault;
-use savefile::Fault;
+use cli_watch::captures::{WatchedInput, watched_inputs};
+use cli_watch::{Screen, Watch};
+use savefile::{Counted, Fault, Source};
+use std::alloc::Global;
 use std::fs::Files;
 use std::io;
 use std::io::{ErrorKind, Write};
@@ -57,17 +60,16 @@ pub fn report_total<R, W, E: Write>(
 }
 
 /// What a cut of several captures came to, over files.
-type FilesEnd<'r, 'p, R> = SplitEnd<Input<'r, 'p, R>, LateOutput<'r, 'p, R>>;
+type FilesEnd<'w, 'r, 'p, R> = SplitEnd<WatchedInput<'w, 'r, 'p, R>, LateOutput<'r, 'p, R>>;
 
 /// Cuts the captures. OUT is made at its first write.
-fn cut_captures<'r, 'p, R: Files + AllocGlobal>(
-    rt: &'r R,
-    words: &CutWords<'p>,
+fn cut_captures<I: Source + Drop, W: Write + Drop>(
+    alloc: Global,
+    words: &CutWords<'_>,
     program: Program,
-    sink: LateOutput<'r, 'p, R>,
-) -> io::Result<FilesEnd<'r, 'p, R>> {
-    let alloc = rt.alloc();
-    let captures = inputs(rt, alloc, words.inputs.as_slice())?;
+    captures: Vec<I>,
+    sink: Counted<W>,
+) -> io::Result<SplitEnd<I, Counted<W>>> {
     let mut parts = Vec::with_capacity(alloc, 1)?;
     parts.push(Part {
         program,
@@ -91,10 +93,10 @@ fn is_part_unread<W: Write + Drop>(part: &PartEnd<ProbedOutput<W>>) -> bool {
 
 /// Reports how a cut of several captures ended, as a split into this OUT, and returns the exit status. That nobody reads standard output
 /// any more is not reported.
-fn report_captures<R: Files, E: HintSink>(
+fn report_captures<R: Files + Screen, E: HintSink>(
     rt: &R,
     words: &CutWords<'_>,
-    end: &FilesEnd<'_, '_, R>,
+    end: &FilesEnd<'_, '_, '_, R>,
     err: &mut E,
 ) -> Status {
     if is_unread(end) && is_standard_output(rt, words.output) {
@@ -112,20 +114,27 @@ fn report_captures<R: Files, E: HintSink>(
 
 /// `bpftap cut` of several captures: the filter is accepted, and the paths are compared, before one is opened. Each is opened when it is
 /// read first, and OUT made at its first write.
-pub(crate) fn cut_several<R: Files + AllocGlobal, E: HintSink>(
-    rt: &R,
+pub(crate) fn cut_several<'r, R: Files + AllocGlobal + Screen, E: HintSink>(
+    rt: &'r R,
     words: &CutWords<'_>,
+    watch: &Watch<'r, R>,
     err: &mut E,
 ) -> Result<Status, Status> {
     let program = read_filter(rt, words, err)?;
     check_paths(rt, words, err)?;
     let sink = late_output(rt, words.output, err)?;
-    let Ok(end) = cut_captures(rt, words, program, sink) else {
+    let paths = words.inputs.as_slice();
+    let Ok(captures) = watched_inputs(rt, rt.alloc(), paths, watch) else {
         return Err(report_fault(Fault::NoMemory, Status::Refused, err));
     };
+    let Ok(end) = cut_captures(rt.alloc(), words, program, captures, sink) else {
+        return Err(report_fault(Fault::NoMemory, Status::Refused, err));
+    };
+    watch.erase();
     let status = report_captures(rt, words, &end, err);
     if words.counted {
         let _ = report_total(&end, count_form(words), err);
+        hint_frames(words, watch.frames(), status, err);
     }
     Ok(status)
 }

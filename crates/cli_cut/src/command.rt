@@ -1,7 +1,7 @@
 //! `bpftap cut` and `bpftap check`, over files.
 
 use crate::captures::cut_several;
-use crate::hints::{hint_cut, hint_print};
+use crate::hints::{hint_cut, hint_frames, hint_print};
 use crate::object::{check_object, show_object};
 use crate::paths::{is_standard_output, late_output, open_apart};
 use crate::plan::{read_filter, read_program};
@@ -10,12 +10,11 @@ use crate::report::{report_count, report_cut, report_print};
 use bpfvm::Program;
 use cli_args::check::CheckWords;
 use cli_args::command_line::CutWords;
-use cli_files::late::LateFile;
-use cli_files::retried::Retried;
 use cli_json::LineForm;
 use cli_report::HintSink;
 use cli_report::probe::{ProbedInput, ProbedOutput};
 use cli_text::{MAX_SNAP, Status};
+use cli_watch::{Screen, Watch};
 use pcap_cut::cut::{CutEnd, End, cut};
 use savefile::{Counted, Fault};
 use std::fs::Files;
@@ -26,29 +25,6 @@ struct Job<I, O> {
     program: Program,
     input: I,
     output: O,
-}
-
-/// The job of a cut over files.
-type FileJob<'r, 'p, R> = Job<
-    ProbedInput<Retried<<R as Files>::File>>,
-    ProbedOutput<LateFile<'r, 'p, R>>,
->;
-
-/// Accepts the filter, compares the paths, and opens IN, in this order.
-fn prepare<'r, 'p, R: Files + AllocGlobal, E: HintSink>(
-    rt: &'r R,
-    words: &CutWords<'p>,
-    input: &str,
-    err: &mut E,
-) -> Result<FileJob<'r, 'p, R>, Status> {
-    let program = read_filter(rt, words, err)?;
-    let input = open_apart(rt, words, input, err)?;
-    let output = late_output(rt, words.output, err)?;
-    Ok(Job {
-        program,
-        input,
-        output,
-    })
 }
 
 /// Empties the buffer in front of OUT. What fails only now is a fault of OUT too, and goes before a torn record.
@@ -94,11 +70,12 @@ pub(crate) fn count_form(words: &CutWords<'_>) -> LineForm {
 }
 
 /// Cuts IN, and reports how that ended. The count comes after the fault and its hints.
-fn cut_and_report<F: Files + AllocGlobal, R: Read + Drop, W: Write + Drop, E: HintSink>(
+fn cut_and_report<F: Files + AllocGlobal + Screen, R: Read + Drop, W: Write + Drop, E: HintSink>(
     rt: &F,
     words: &CutWords<'_>,
     from: &str,
     job: Job<ProbedInput<R>, ProbedOutput<W>>,
+    watch: &Watch<'_, F>,
     err: &mut E,
 ) -> Status {
     let Job {
@@ -116,33 +93,44 @@ fn cut_and_report<F: Files + AllocGlobal, R: Read + Drop, W: Write + Drop, E: Hi
         output,
     );
     let end = flush(end);
+    watch.erase();
     let status = report_end(rt, &end, words, from, err);
     if words.counted {
         let _ = report_count(&end, count_form(words), err);
+        hint_frames(words, watch.frames(), status, err);
     }
     status
 }
 
-/// Cuts the only IN.
-fn cut_one<R: Files + AllocGlobal, E: HintSink>(
-    rt: &R,
+/// Cuts the only IN: accepts the filter, compares the paths, and opens IN, in this order.
+fn cut_one<'r, R: Files + AllocGlobal + Screen, E: HintSink>(
+    rt: &'r R,
     words: &CutWords<'_>,
-    input: &str,
+    path: &str,
+    watch: &Watch<'r, R>,
     err: &mut E,
 ) -> Result<Status, Status> {
-    let job = prepare(rt, words, input, err)?;
-    Ok(cut_and_report(rt, words, input, job, err))
+    let program = read_filter(rt, words, err)?;
+    let input = open_apart(rt, words, path, watch, err)?;
+    let output = late_output(rt, words.output, err)?;
+    let job = Job {
+        program,
+        input,
+        output,
+    };
+    Ok(cut_and_report(rt, words, path, job, watch, err))
 }
 
 /// `bpftap cut`: the filter is accepted, and the paths are compared, before an IN is opened. OUT is made at its first write.
-pub fn cut_command<R: Files + AllocGlobal, E: HintSink>(
+pub fn cut_command<R: Files + AllocGlobal + Screen, E: HintSink>(
     rt: &R,
     words: &CutWords<'_>,
     err: &mut E,
 ) -> Status {
+    let watch = Watch::new(rt, words.inputs.as_slice(), err.takes_hints());
     let ended = match words.inputs.as_slice() {
-        [input] => cut_one(rt, words, *input, err),
-        _ => cut_several(rt, words, err),
+        [input] => cut_one(rt, words, *input, &watch, err),
+        _ => cut_several(rt, words, &watch, err),
     };
     match ended {
         Ok(status) | Err(status) => status,

@@ -1,10 +1,14 @@
 //! Hints on a cut or a print that failed.
 
 use crate::print::PrintFault;
+use cli_args::command_line::CutWords;
 use cli_filter::hint_expression;
 use cli_report::HintSink;
 use cli_report::failures::{hint_failure, hint_input, hint_unprinted};
 use cli_report::probe::{ProbedInput, ProbedOutput};
+use cli_text::Status;
+use cli_watch::frames::FrameCounts;
+use cli_watch::hints::{hint_unseen, is_asked};
 use pcap_cut::cut::{CutEnd, End};
 use std::alloc::Global;
 use std::io::Write;
@@ -18,6 +22,18 @@ pub(crate) fn hint_cut<R, W: Write + Drop, E: HintSink>(
         End::Clean => {}
         End::Input(fault) => hint_input(&end.source, fault, err),
         End::Output(_) => hint_failure(end.sink.inner.get_ref(), err),
+    }
+}
+
+/// Hints on the frames of the captures that the expression does not look into, if there is one.
+pub(crate) fn hint_frames<E: HintSink>(
+    words: &CutWords<'_>,
+    frames: FrameCounts,
+    status: Status,
+    err: &mut E,
+) {
+    if words.expr.is_some_and(is_asked) {
+        hint_unseen(frames, status, err);
     }
 }
 

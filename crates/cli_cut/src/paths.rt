@@ -3,14 +3,14 @@
 use cli_args::command_line::CutWords;
 use cli_files::captures::with_buffer;
 use cli_files::late::LateFile;
-use cli_files::opening::open_input;
 use cli_files::paths::{Opening, STANDARD_OUTPUT, refuse_shared_files};
 use cli_files::reading::report_io;
-use cli_files::retried::Retried;
-use cli_report::probe::{ProbedInput, ProbedOutput};
+use cli_report::probe::ProbedOutput;
 use cli_report::{FailureProbe, HintSink};
 use cli_text::Status;
 use cli_text::report::report_fault;
+use cli_watch::captures::{WatchedFile, open_watched};
+use cli_watch::{Screen, Watch};
 use savefile::Fault;
 use std::alloc::{AllocError, Global};
 use std::fs;
@@ -24,15 +24,16 @@ const OUTPUT_BUFFER: usize = 1 << 18;
 pub(crate) type LateOutput<'r, 'p, R> = ProbedOutput<LateFile<'r, 'p, R>>;
 
 /// Opens the only IN, once no file can be lost: OUT is neither of the files that are read, nor the one that standard error goes to.
-pub(crate) fn open_apart<R: Files + AllocGlobal, E: HintSink>(
+pub(crate) fn open_apart<'w, 'r, R: Files + AllocGlobal + Screen, E: HintSink>(
     rt: &R,
     words: &CutWords<'_>,
     input: &str,
+    watch: &'w Watch<'r, R>,
     err: &mut E,
-) -> Result<ProbedInput<Retried<R::File>>, Status> {
+) -> Result<WatchedFile<'w, 'r, R>, Status> {
     let read = [words.listing.unwrap_or(input), input];
     refuse_shared_files(rt, Opening::First, None, &read, &[words.output], err)?;
-    open_input(rt, input, err)
+    open_watched(rt, input, watch, err)
 }
 
 /// The paths of all files that are read.

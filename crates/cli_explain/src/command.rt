@@ -9,44 +9,50 @@ use crate::report::{report_captures, report_one, report_sought};
 use crate::{AskedFilter, PacketForm};
 use cli_args::explain::ExplainWords;
 use cli_args::places::PlaceRange;
-use cli_files::captures::{inputs, output_buffer};
+use cli_files::captures::output_buffer;
 use cli_report::HintSink;
 use cli_report::failures::hint_output;
 use cli_report::probe::ProbedInput;
 use cli_text::Status;
 use cli_text::report::report_fault;
+use cli_watch::captures::watched_inputs;
+use cli_watch::hints::{hint_unseen, is_asked};
+use cli_watch::output::WatchedOutput;
+use cli_watch::{Screen, Watch};
 use savefile::Fault;
 use std::alloc::Global;
 use std::fs::Files;
 use std::io::{Read, Write};
 
-/// What one call of `explain` has: its arguments and its filter.
+/// What one call of `explain` has: its arguments, its filter, and what is seen of its captures.
 #[derive(Drop)]
-struct Job<'w, 'a> {
+struct Job<'w, 'a, 'r, R> {
     alloc: Global,
     words: &'w ExplainWords<'a>,
     filter: AskedFilter,
+    watch: Watch<'r, R>,
 }
 
 /// Accepts the filter and compares the paths, in this order.
-fn prepare<'w, 'a, R: Files + AllocGlobal, E: HintSink>(
-    rt: &R,
+fn prepare<'w, 'a, 'r, R: Files + AllocGlobal + Screen, E: HintSink>(
+    rt: &'r R,
     words: &'w ExplainWords<'a>,
     err: &mut E,
-) -> Result<Job<'w, 'a>, Status> {
+) -> Result<Job<'w, 'a, 'r, R>, Status> {
     let filter = read_filter(rt, words, err)?;
     check_paths(rt, words, err)?;
     Ok(Job {
         alloc: rt.alloc(),
         words,
         filter,
+        watch: Watch::new(rt, words.inputs.as_slice(), err.takes_hints()),
     })
 }
 
 /// Prints the packets of a range of places of the capture of this number in full, and reports how that ended; `Err` if no further capture is
 /// read.
-fn explain_places_of<R: Read + Drop, O: Write, E: HintSink>(
-    job: &Job<'_, '_>,
+fn explain_places_of<F: Screen, R: Read + Drop, O: Write, E: HintSink>(
+    job: &Job<'_, '_, '_, F>,
     places: PlaceRange,
     number: usize,
     input: ProbedInput<R>,
@@ -57,6 +63,7 @@ fn explain_places_of<R: Read + Drop, O: Write, E: HintSink>(
     let PlaceRange { first, last } = places;
     let found = explain_range(job.alloc, input, &job.filter, first, last, out);
     let (read, is_printed) = (found.read, found.printed.is_ok());
+    job.watch.erase();
     let status = report_one(&found, first, paths, number, err);
     match read {
         Ok(true) if is_printed => Ok(status),
@@ -73,8 +80,8 @@ fn explain_places_of<R: Read + Drop, O: Write, E: HintSink>(
 }
 
 /// Prints the packets of a range of places of each capture in full.
-fn explain_places<R: Read + Drop, O: Write, E: HintSink>(
-    job: &Job<'_, '_>,
+fn explain_places<F: Screen, R: Read + Drop, O: Write, E: HintSink>(
+    job: &Job<'_, '_, '_, F>,
     places: PlaceRange,
     captures: Vec<ProbedInput<R>>,
     out: &mut O,
@@ -100,8 +107,8 @@ fn form_of(words: &ExplainWords<'_>) -> PacketForm {
 }
 
 /// Prints a line for each packet, and the counts if a header was read; and reports how that ended.
-fn explain_all<R: Read + Drop, O: Write, E: HintSink>(
-    job: &Job<'_, '_>,
+fn explain_all<F: Screen, R: Read + Drop, O: Write, E: HintSink>(
+    job: &Job<'_, '_, '_, F>,
     captures: Vec<ProbedInput<R>>,
     out: &mut O,
     err: &mut E,
@@ -109,6 +116,7 @@ fn explain_all<R: Read + Drop, O: Write, E: HintSink>(
     let paths = job.words.inputs.as_slice();
     let form = form_of(job.words);
     let ended = explain_captures(job.alloc, captures, &job.filter, form, out);
+    job.watch.erase();
     let ended = print_totals(job.alloc, ended, form, out);
     let status = report_captures(&ended, paths, err);
     if let Err(stop) = &ended.read {
@@ -118,13 +126,14 @@ fn explain_all<R: Read + Drop, O: Write, E: HintSink>(
 }
 
 /// Reports only by the status whether the filter accepts a packet.
-fn ask_quietly<R: Read + Drop, E: HintSink>(
-    job: &Job<'_, '_>,
+fn ask_quietly<F: Screen, R: Read + Drop, E: HintSink>(
+    job: &Job<'_, '_, '_, F>,
     captures: Vec<ProbedInput<R>>,
     err: &mut E,
 ) -> Status {
     let paths = job.words.inputs.as_slice();
     let sought = find_in_captures(job.alloc, captures, &job.filter);
+    job.watch.erase();
     let status = report_sought(&sought, paths, err);
     if let Err(stop) = &sought {
         hint_capture(paths, stop.number, stop.fault, &stop.source, err);
@@ -133,13 +142,14 @@ fn ask_quietly<R: Read + Drop, E: HintSink>(
 }
 
 /// Prints what the arguments ask for of the captures, with a buffer in front of the output.
-fn explain_and_report<R: Read + Drop, O: Write, E: HintSink>(
-    job: &Job<'_, '_>,
+fn explain_and_report<F: Screen, R: Read + Drop, O: Write, E: HintSink>(
+    job: &Job<'_, '_, '_, F>,
     captures: Vec<ProbedInput<R>>,
     out: &mut O,
     err: &mut E,
 ) -> Status {
-    let mut out = match output_buffer(job.alloc, &mut *out, err) {
+    let out = WatchedOutput::new(&mut *out, &job.watch);
+    let mut out = match output_buffer(job.alloc, out, err) {
         Ok(out) => out,
         Err(status) => return status,
     };
@@ -148,17 +158,21 @@ fn explain_and_report<R: Read + Drop, O: Write, E: HintSink>(
         None => explain_all(job, captures, &mut out, err),
     };
     hint_output(out.get_ref(), err);
+    if job.words.places.is_none() && job.words.expr.is_some_and(is_asked) {
+        hint_unseen(job.watch.frames(), status, err);
+    }
     status
 }
 
 /// Does what the arguments ask for.
-fn explain_job<R: Files, O: Write, E: HintSink>(
-    rt: &R,
-    job: &Job<'_, '_>,
+fn explain_job<'r, R: Files + Screen, O: Write, E: HintSink>(
+    rt: &'r R,
+    job: &Job<'_, '_, 'r, R>,
     out: &mut O,
     err: &mut E,
 ) -> Status {
-    let Ok(captures) = inputs(rt, job.alloc, job.words.inputs.as_slice()) else {
+    let paths = job.words.inputs.as_slice();
+    let Ok(captures) = watched_inputs(rt, job.alloc, paths, &job.watch) else {
         return report_fault(Fault::NoMemory, Status::Refused, err);
     };
     if job.words.quiet {
@@ -170,7 +184,7 @@ fn explain_job<R: Files, O: Write, E: HintSink>(
 
 /// `bpftap explain`: the filter is accepted and the paths are compared before a capture is opened, and no capture is the file that is
 /// printed to.
-pub fn explain_command<R: Files + AllocGlobal, O: Write, E: HintSink>(
+pub fn explain_command<R: Files + AllocGlobal + Screen, O: Write, E: HintSink>(
     rt: &R,
     words: &ExplainWords<'_>,
     out: &mut O,

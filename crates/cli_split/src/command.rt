@@ -1,6 +1,6 @@
 //! `bpftap split`, over files.
 
-use crate::hints::hint_split;
+use crate::hints::{hint_frames, hint_split};
 use crate::line::line_for;
 use crate::part::{Part, PartEnd};
 use crate::paths::{SplitOutput, check_paths, parts};
@@ -9,7 +9,7 @@ use crate::report::report_split;
 use crate::split::{SplitEnd, split};
 use bpfvm::Program;
 use cli_args::split::SplitWords;
-use cli_files::captures::{Input, inputs, output_buffer};
+use cli_files::captures::output_buffer;
 use cli_files::reading::read_file;
 use cli_filter::plan::{Plan, PlanFault};
 use cli_filter::plan_hints::hint_plan;
@@ -20,6 +20,8 @@ use cli_report::files::{LINES, hint_returns};
 use cli_report::stream::give_hint;
 use cli_text::Status;
 use cli_text::report::report_fault;
+use cli_watch::captures::watched_inputs;
+use cli_watch::{Screen, Watch};
 use savefile::{Counted, Fault, Order, Source, Unit};
 use std::alloc::Global;
 use std::fs::Files;
@@ -71,15 +73,15 @@ pub fn split_flushed<R: Source + Drop, W: Write + Drop>(
 }
 
 /// Splits the captures as the lines ask. An OUT is made at its first write.
-fn split_lines<'r, 'p, R: Files>(
+fn split_lines<'r, 'p, R: Files + AllocGlobal, I: Source + Drop>(
     rt: &'r R,
-    alloc: Global,
     words: &SplitWords<'p>,
     lines: &[SplitLine<'p>],
     programs: Vec<Program>,
-) -> io::Result<SplitEnd<Input<'r, 'p, R>, SplitOutput<'r, 'p, R>>> {
+    captures: Vec<I>,
+) -> io::Result<SplitEnd<I, SplitOutput<'r, 'p, R>>> {
+    let alloc = rt.alloc();
     let parts = parts(rt, alloc, lines, programs)?;
-    let captures = inputs(rt, alloc, words.inputs.as_slice())?;
     split_flushed(alloc, captures, parts, words.order, words.unit)
 }
 
@@ -93,30 +95,37 @@ fn form_of(words: &SplitWords<'_>) -> LineForm {
 }
 
 /// Splits the captures as the plan says, and prints how many packets each part has.
-fn split_plan<R: Files + AllocGlobal, O: Write, E: HintSink>(
-    rt: &R,
+fn split_plan<'r, R: Files + AllocGlobal + Screen, O: Write, E: HintSink>(
+    rt: &'r R,
     words: &SplitWords<'_>,
     plan: Plan<SplitLine<'_>>,
+    watch: &Watch<'r, R>,
     out: &mut O,
     err: &mut E,
 ) -> Result<Status, Status> {
     let Plan { lines, programs } = plan;
     let (alloc, form) = (rt.alloc(), form_of(words));
     let mut out = output_buffer(alloc, &mut *out, err)?;
+    let paths = words.inputs.as_slice();
     let Ok(mut line) = line_for(alloc, form, lines.as_slice()) else {
         return Err(report_fault(Fault::NoMemory, Status::Refused, err));
     };
-    let Ok(end) = split_lines(rt, alloc, words, lines.as_slice(), programs) else {
+    let Ok(captures) = watched_inputs(rt, alloc, paths, watch) else {
         return Err(report_fault(Fault::NoMemory, Status::Refused, err));
     };
+    let Ok(end) = split_lines(rt, words, lines.as_slice(), programs, captures) else {
+        return Err(report_fault(Fault::NoMemory, Status::Refused, err));
+    };
+    watch.erase();
     let status = report_split(form, lines.as_slice(), &end, &mut line, &mut out, err);
-    hint_split(words.inputs.as_slice(), lines.as_slice(), &end, err);
+    hint_split(paths, lines.as_slice(), &end, err);
     hint_printed(out.get_ref(), err);
+    hint_frames(lines.as_slice(), watch.frames(), status, err);
     Ok(status)
 }
 
 /// Compares the paths, and splits as the plan says.
-fn split_apart<R: Files + AllocGlobal, O: Write, E: HintSink>(
+fn split_apart<R: Files + AllocGlobal + Screen, O: Write, E: HintSink>(
     rt: &R,
     words: &SplitWords<'_>,
     plan: Plan<SplitLine<'_>>,
@@ -124,11 +133,12 @@ fn split_apart<R: Files + AllocGlobal, O: Write, E: HintSink>(
     err: &mut E,
 ) -> Result<Status, Status> {
     check_paths(rt, words, plan.lines.as_slice(), err)?;
-    split_plan(rt, words, plan, out, err)
+    let watch = Watch::new(rt, words.inputs.as_slice(), err.takes_hints());
+    split_plan(rt, words, plan, &watch, out, err)
 }
 
 /// Reads LINES, and splits as it asks.
-fn split_files<R: Files + AllocGlobal, O: Write, E: HintSink>(
+fn split_files<R: Files + AllocGlobal + Screen, O: Write, E: HintSink>(
     rt: &R,
     words: &SplitWords<'_>,
     out: &mut O,
@@ -142,7 +152,7 @@ fn split_files<R: Files + AllocGlobal, O: Write, E: HintSink>(
 }
 
 /// `bpftap split`: LINES is accepted and the paths are compared before a capture is opened.
-pub fn split_command<R: Files + AllocGlobal, O: Write, E: HintSink>(
+pub fn split_command<R: Files + AllocGlobal + Screen, O: Write, E: HintSink>(
     rt: &R,
     words: &SplitWords<'_>,
     out: &mut O,

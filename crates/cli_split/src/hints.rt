@@ -7,7 +7,10 @@ use cli_report::HintSink;
 use cli_report::failures::{hint_failure, hint_source};
 use cli_report::probe::{ProbedInput, ProbedOutput};
 use cli_report::stream::give_hint;
+use cli_text::Status;
 use cli_text::report::EscapedPath;
+use cli_watch::frames::FrameCounts;
+use cli_watch::hints::{hint_unseen, is_asked};
 use std::io::Write;
 
 /// Hints on a capture that was not written.
@@ -19,6 +22,18 @@ fn hint_part<W: Write + Drop, E: HintSink>(
     if part.written.is_err() {
         give_hint(format_args!("{}:", EscapedPath(line.output)), err);
         hint_failure(part.sink.inner.get_ref(), err);
+    }
+}
+
+/// Hints on the frames of the captures that the expressions of the lines do not look into.
+pub(crate) fn hint_frames<E: HintSink>(
+    lines: &[SplitLine<'_>],
+    frames: FrameCounts,
+    status: Status,
+    err: &mut E,
+) {
+    if lines.iter().any(|line| is_asked(line.expression)) {
+        hint_unseen(frames, status, err);
     }
 }
 

@@ -28,3 +28,5 @@ mod system;
 mod telling;
 #[cfg(test)]
 mod unflushed;
+#[cfg(test)]
+mod watched;
