@@ -11,13 +11,13 @@ use std::{fmt, io};
 
 /// What to do with a capture that is no savefile.
 const ANOTHER_FORMAT: &str =
-    "this is another capture format: convert it with editcap -F pcap IN OUT";
+    "this is another capture format: convert it with editcap -F nsecpcap IN OUT";
 
 /// What files of other formats begin with, and what to do with them.
 static OTHER_FORMATS: [(&[u8], &str); 8] = [
     (
         &[0x0a, 0x0d, 0x0d, 0x0a],
-        "this is pcapng: convert it with editcap -F pcap IN OUT",
+        "this is pcapng: convert it with editcap -F nsecpcap IN OUT",
     ),
     (
         &[0x1f, 0x8b],
@@ -105,6 +105,10 @@ fn hint_link_type<E: HintSink>(header: &[u8; 24], err: &mut E)
             link_name(number)
         ),
         err,
+    );
+    give_hint(
+        "capture on an Ethernet interface, as with tcpdump -i eth0 -w OUT",
+        err,
     )
 }
 
@@ -124,7 +128,7 @@ fn hint_version<E: HintSink>(header: &[u8; 24], err: &mut E)
     };
     give_hint(
         format_args!(
-            "version {major}.{minor}; only 2.4 is supported: convert it with editcap -F pcap IN OUT"
+            "version {major}.{minor}; only 2.4 is supported: convert it with editcap -F nsecpcap IN OUT"
         ),
         err,
     )

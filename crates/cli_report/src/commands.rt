@@ -1,4 +1,4 @@
-//! Hints on commands that there are not.
+//! Hints on commands and options that there are not, and on words that mean something else here.
 
 ghost use Rattle.std.specs.Prelude.{◌≡◌, false};
 
@@ -6,7 +6,7 @@ use crate::stream::{HintSink, give_hint};
 use std::convert::AsStr;
 
 /// How to do what commands of other tools do, by the name that one may try.
-static WAYS: [(&str, &str); 8] = [
+static WAYS: [(&str, &str); 20] = [
     (
         "count",
         "to count packets: bpftap cut -c -s 0 -e EXPR IN /dev/null",
@@ -18,7 +18,7 @@ static WAYS: [(&str, &str); 8] = [
     ("read", "to look at packets: bpftap explain -e EXPR IN"),
     (
         "merge",
-        "to merge by time: mergecap -F pcap -w OUT IN.., and then bpftap cut",
+        "to merge by time: mergecap -F nsecpcap -w OUT IN.., and then bpftap cut",
     ),
     ("compile", "to print a program: bpftap check -d EXPR"),
     (
@@ -26,12 +26,72 @@ static WAYS: [(&str, &str); 8] = [
         "to replay captures: bpftap steps, or in threads bpftap run",
     ),
     ("capture", "to capture: tcpdump -i INTERFACE -w OUT"),
-    ("convert", "to read pcapng: editcap -F pcap IN OUT"),
+    ("convert", "to read pcapng: editcap -F nsecpcap IN OUT"),
+    ("print", PRINT),
+    ("show", PRINT),
+    ("dump", PRINT),
+    (
+        "hexdump",
+        "to print the bytes of a packet: bpftap explain -p PLACE -e '' IN",
+    ),
+    (
+        "diff",
+        "to compare two filters: bpftap compare EXPR1 EXPR2 IN",
+    ),
+    ("version", "to print the version: bpftap --version"),
+    ("info", "to describe a capture: capinfos IN"),
+    ("head", FIRST_PACKETS),
+    (
+        "assemble",
+        "to print the program of assembly: bpftap check -f FILE",
+    ),
+    (
+        "disassemble",
+        "to print a program as assembly: bpftap check -d -f FILE",
+    ),
+    ("completions", COMPLETIONS),
+    ("completion", COMPLETIONS),
 ];
 
-/// How to do what a command of this name would do, if there is another way.
-fn way_of(name: &str) -> Option<&'static str> {
-    for (known, way) in WAYS.iter() {
+/// How to print packets.
+const PRINT: &str = "to print packets: tcpdump -nr IN";
+
+/// How to keep the first packets of a capture.
+const FIRST_PACKETS: &str = "to keep the first ten packets: editcap -r -F nsecpcap IN OUT 1-10";
+
+/// Where the completions of shells are.
+const COMPLETIONS: &str =
+    "completions for bash, zsh and fish are files: ./install puts them where shells look for them";
+
+/// How to do what options of other tools do.
+static OPTION_WAYS: [(&str, &str); 8] = [
+    (
+        "-F",
+        "to read an expression from a file: -e \"$(cat FILE)\", or for check \"$(cat FILE)\"",
+    ),
+    ("-A", BETWEEN_TIMES),
+    ("-B", BETWEEN_TIMES),
+    ("-r", WITHOUT_OPTION),
+    ("-w", WITHOUT_OPTION),
+    ("-n", "addresses are never looked up: leave this option out"),
+    (
+        "-nn",
+        "addresses are never looked up: leave this option out",
+    ),
+    ("-i", "to capture: tcpdump -i INTERFACE -w OUT"),
+];
+
+/// How to keep the packets between two times.
+const BETWEEN_TIMES: &str =
+    "to keep packets between two times: editcap -A START -B STOP -F nsecpcap IN OUT";
+
+/// How captures are given.
+const WITHOUT_OPTION: &str =
+    "captures are words without an option: IN, and for cut OUT as the last word";
+
+/// The way beside a name in a list.
+fn way_of(ways: &[(&'static str, &'static str)], name: &str) -> Option<&'static str> {
+    for (known, way) in ways.iter() {
         if *known == name {
             return Some(*way);
         }
@@ -39,18 +99,113 @@ fn way_of(name: &str) -> Option<&'static str> {
     None
 }
 
+/// The command among the arguments, with the program's name first: the argument after that name and `--hints`.
+fn command_of<S: AsStr>(words: &[S]) -> Option<&str> {
+    let first = words.get(1)?.as_str();
+    if first == "--hints" {
+        Some(words.get(2)?.as_str())
+    } else {
+        Some(first)
+    }
+}
+
 /// Hints on the name of a command that there is not, among the arguments with the program's name first: the argument after that
 /// name and `--hints`.
 pub fn hint_command<S: AsStr, E: HintSink>(words: &[S], err: &mut E)
     ensures quiet { E.takes_hints err.old ≡ false → err.new ≡ err.old }
 {
-    let name = match words.get(1) {
-        Some(first) if first.as_str() == "--hints" => words.get(2),
-        first => first,
-    };
-    if let Some(name) = name {
-        if let Some(way) = way_of(name.as_str()) {
+    if let Some(name) = command_of(words) {
+        if let Some(way) = way_of(&WAYS, name) {
             give_hint(way, err);
         }
+    }
+}
+
+/// How to do what the first of the arguments does that is an option of another tool. `compare` has a `-w` of its own.
+fn option_way<S: AsStr>(words: &[S]) -> Option<&'static str> {
+    for word in words {
+        let word = word.as_str();
+        if word == "-w" && command_of(words) == Some("compare") {
+            continue;
+        }
+        if let Some(way) = way_of(&OPTION_WAYS, word) {
+            return Some(way);
+        }
+    }
+    None
+}
+
+/// A hint on an option that there is not, if one of the arguments is an option of another tool.
+pub fn hint_option<S: AsStr, E: HintSink>(words: &[S], err: &mut E)
+    ensures quiet { E.takes_hints err.old ≡ false → err.new ≡ err.old }
+{
+    if let Some(hint) = option_way(words) {
+        give_hint(hint, err);
+    }
+}
+
+/// Whether one of the arguments is this word.
+fn has_word<S: AsStr>(words: &[S], wanted: &str) -> bool {
+    words.iter().any(|word| word.as_str() == wanted)
+}
+
+/// Whether these are arguments of `cut`.
+fn is_cut<S: AsStr>(words: &[S]) -> bool {
+    command_of(words) == Some("cut")
+}
+
+/// A hint on arguments of `cut` of which one is missing: the snapshot length, or OUT where packets are only counted.
+pub fn hint_missing<S: AsStr, E: HintSink>(words: &[S], err: &mut E)
+    ensures quiet { E.takes_hints err.old ≡ false → err.new ≡ err.old }
+{
+    if !is_cut(words) {
+        return;
+    }
+    if !words.iter().any(|word| word.as_str().starts_with("-s")) {
+        give_hint("-s 0 keeps packets whole", err)
+    } else if has_word(words, "-c") {
+        give_hint("to count only, give /dev/null as OUT", err)
+    }
+}
+
+/// Whether a word is a number.
+fn is_number(word: &str) -> bool {
+    !word.is_empty() && word.bytes().all(|byte| byte.is_ascii_digit())
+}
+
+/// Whether a number follows `-c`, which counts packets and takes none.
+fn counts_by_number<S: AsStr>(words: &[S]) -> bool {
+    words.windows(2).any(|pair| match pair {
+        [first, second] => first.as_str() == "-c" && is_number(second.as_str()),
+        _ => false,
+    })
+}
+
+/// Hints on arguments with which a command failed to open a file: a `-` that was meant as a stream, or a number after the `-c` of
+/// `cut`.
+pub fn hint_failed_words<S: AsStr, E: HintSink>(words: &[S], err: &mut E)
+    ensures quiet { E.takes_hints err.old ≡ false → err.new ≡ err.old }
+{
+    if has_word(words, "-") {
+        give_hint(
+            "`-` is the name of a file here: standard input is /dev/stdin, standard output /dev/stdout",
+            err,
+        );
+    }
+    if is_cut(words) && counts_by_number(words) {
+        give_hint("-c takes no number: it counts packets", err);
+        give_hint(FIRST_PACKETS, err);
+    }
+}
+
+/// A hint on the OUT of `cut` that is a file named `-`.
+pub fn hint_dash_output<E: HintSink>(output: &str, err: &mut E)
+    ensures quiet { E.takes_hints err.old ≡ false → err.new ≡ err.old }
+{
+    if output == "-" {
+        give_hint(
+            "the packets are in a file named `-`: standard output is /dev/stdout",
+            err,
+        )
     }
 }
