@@ -52,6 +52,8 @@ OFFERED = [
     (["cut", "-s", "0", ""], ["FILES"]),
     (["cut", "-s", "0", "in.pcap", "o"], ["FILES"]),
     (["cut", "-s", "0", "--", "-"], ["FILES"]),
+    (["split", "--"], ["--json", "--help"]),
+    (["run", "--j"], ["--json"]),
     (["split", "-o", ""], ["little", "big"]),
     (["split", "-u", "m"], ["micro"]),
     (["split", ""], ["FILES"]),
