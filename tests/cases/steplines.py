@@ -4,6 +4,7 @@ import json
 import re
 
 from .common import HEADER, ROOT, TCP_RECORD, TORN, UDP_RECORD, VETH, WHOLE, Scene, case
+from .jsonlines import decided_of
 from .replays import Dice
 from .stepping import put
 
@@ -16,7 +17,7 @@ ARRIVE = (r"step (\d+) arrive capture (\d+) place (\d+) time (\d+)\.(\d{9}) len 
 OWN = r"step (\d+) (flush|read|close) (\d+)"
 NO_PACKET = r"step (\d+) arrive, no packet is left"
 ANSWERS = [
-    (r"Passed, the filter rejects it(?:: .*)?", {"answer": "passed"}, ""),
+    (r"Passed, the filter rejects it", {"answer": "passed"}, ""),
     (rf"Stored, {SUM} are within (\d+)", {"answer": "stored"}, "stored size capacity"),
     (rf"Held, {SUM} are within (\d+), and the empty hold takes them at once", {"answer": "held"}, "stored size capacity"),
     (rf"Rotated, {SUM} exceed (\d+), and the empty hold takes the \d+", {"answer": "rotated"}, "stored size capacity"),
@@ -33,6 +34,16 @@ ANSWERS = [
 ]
 COUNTS = (r"listener (\d+) received (\d+) matched (\d+) dropped (\d+)", "listener received matched dropped")
 MESSAGE = (r"capture (\d+) place (\d+) time (\d+)\.(\d{9}) len (\d+) kept (\d+)", "capture place seconds nanoseconds length kept")
+
+
+# What an expression answers to a packet that it rejects, and what decides.
+REJECTED = re.compile(r"(Passed, the filter rejects it): (No|Abort) (.*)")
+
+
+def rejection_of(text):
+    """The text of an answer without what decided of a rejected packet, and that as members."""
+    found = REJECTED.fullmatch(text)
+    return (found[1], {"verdict": found[2].lower()} | decided_of(found[3])) if found else (text, {})
 
 
 def members(form, names, line):
@@ -60,10 +71,11 @@ class Reader:
 
     def answer_of(self, line):
         listener, text = re.fullmatch(r"  listener (\d+) (.*)", line).groups()
+        answer, decided = rejection_of(text)
         for form, fixed, names in ANSWERS:
-            found = members(form, names, text)
+            found = members(form, names, answer)
             if found is not None:
-                return self.step | {"listener": int(listener)} | fixed | found | self.packet
+                return self.step | {"listener": int(listener)} | fixed | found | self.packet | decided
         raise ValueError(line)
 
     def report_of(self, line):
@@ -110,9 +122,13 @@ def each_line_is_an_object(scene):
     script = "arrive\n" * 40 + "read 0\nflush 1\nread 1\n" * 2 + "arrive\n" * 300 + "close 1\nflush 1\nread 1\narrive\nflush 0\n"
     scene.put({"l.txt": "96 4096 tcp\n0 262176i \n64 96 not udp\n", "s.txt": script})
     compare(scene, f"l.txt s.txt {captures}")
+    # What decides is a primitive, a relation or the empty expression, after `not` or not, and aborts for each cause.
+    listeners = ["not tcp or arp", "not (len / 0x0e = 1)", "1 / (len - 98) = 0", "ether[100] = 1", "not (not (ip[9] = 17))", "not (arp or icmp)"]
+    scene.put({"l.txt": "".join(f"64 96 {expr}\n" for expr in listeners)})
+    compare(scene, f"l.txt s.txt {captures}")
 
 
-# The lines of one packet that is stored, of another that is read, and of one that no filter accepts.
+# The lines of one packet that is stored, of another that is read, and of one that two filters reject.
 STORED = (
     '{"step":1,"action":"arrive","capture":0,"place":0,"seconds":2,"nanoseconds":0,"length":14}\n'
     '{"step":1,"listener":0,"action":"arrive","answer":"stored","stored":0,"size":48,"capacity":64,"capture":0,"place":0}\n'
@@ -133,6 +149,14 @@ READ = (
     '{"listener":0,"held":true}\n')
 
 
+REJECTED_LINES = (
+    '{"step":1,"action":"arrive","capture":0,"place":0,"seconds":2,"nanoseconds":0,"length":14}\n'
+    '{"step":1,"listener":0,"action":"arrive","answer":"passed","capture":0,"place":0,"verdict":"no","decided":"not ip"}\n'
+    '{"step":1,"listener":1,"action":"arrive","answer":"passed","capture":0,"place":0,"verdict":"abort","decided":"not tcp","cause":{"byte":23}}\n'
+    '{"step":1,"listener":2,"action":"arrive","answer":"passed","capture":0,"place":0,"verdict":"abort","decided":"(1 / (len - 14)) = 0",'
+    '"cause":{"divisor":0}}\n')
+
+
 @case
 def an_object_reads_so(scene):
     """One of each form, byte for byte; a fault is an object too, and has no hints."""
@@ -140,17 +164,23 @@ def an_object_reads_so(scene):
                  "whole.pcap": WHOLE, "torn.pcap": TORN})
     scene.expect("steps --json -v l.txt s.txt whole.pcap", out=STORED)
     scene.expect("steps --json -v i.txt r.txt whole.pcap", out=READ)
+    scene.put({"no.txt": "32 64 not ip\n32 64 not tcp\n32 64 1 / (len - 14) = 0\n"})
+    rejected = "".join(line for line in scene.run("steps --json -v no.txt s.txt whole.pcap").out.decode().splitlines(True) if "step" in line)
+    scene.check("rejected packets", rejected, REJECTED_LINES)
     torn = '{"fault":"Capture TornRecord","numbers":[0,1],"file":"torn.pcap"}\n'
     scene.expect("--hints steps --json -v l.txt s.txt torn.pcap", 2, torn, STORED)
     scene.expect("steps --json whole.pcap s.txt whole.pcap", 1, '{"fault":"Listeners","numbers":[1]}\n')
     scene.expect("steps --json l.txt s.txt none.pcap", 3, '{"fault":"Device","numbers":[],"file":"none.pcap"}\n')
 
 
+EXPRESSIONS = ("", "tcp", "udp", "not tcp", "not udp port 53", "ether[60] = 1", "1 / (len - 38) = 0")
+
+
 def random_call(dice):
     """LISTENERS, SCRIPT and a capture that look random."""
     count = 1 + dice.roll(3)
     listeners = "".join(
-        f"{(16, 38)[dice.roll(2)]} {80 + 8 * dice.roll(20)}{'i' * dice.roll(2)} {('', 'tcp', 'udp', 'not tcp')[dice.roll(4)]}\n"
+        f"{(16, 38)[dice.roll(2)]} {80 + 8 * dice.roll(20)}{'i' * dice.roll(2)} {EXPRESSIONS[dice.roll(len(EXPRESSIONS))]}\n"
         for _ in range(count))
     steps = ("arrive", "arrive", "arrive", "flush {}", "read {}", "close {}")
     script = "".join(steps[dice.roll(6) if dice.roll(4) else 0].format(dice.roll(count)) + "\n" for _ in range(dice.roll(24)))

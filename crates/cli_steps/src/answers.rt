@@ -8,6 +8,7 @@ ghost use Rattle.cli_steps.specs.Members.{reason_members};
 ghost use Rattle.cli_steps.specs.Reasons.{state_before, reason};
 ghost use Rattle.tap_steps.specs.declared.step.Step.TheVariants.{Arrive};
 
+use crate::buffer::LineBuffer;
 use crate::members::{ArrivalMembers, FlushMembers, ReadMembers};
 use crate::reasons::{ArrivalEnd, ListenerState, flush_end, read_end};
 use crate::rejections::put_rejection;
@@ -211,7 +212,7 @@ impl<'a> AnswerCursor<'a> {
         head: StepHead,
         l: usize,
         placed: &PlacedPacket,
-        line: &mut String,
+        buffer: &mut LineBuffer,
         out: &mut O,
     ) -> io::Result<()>
         ensures { Takes (O.contents out.old) (O.contents out.new) result (arrived_line head.form head.n placed.now l self.now) }
@@ -219,10 +220,10 @@ impl<'a> AnswerCursor<'a> {
         let Some((answered, _)) = self.answers.split_first() else {
             return Ok(());
         };
-        self.put_reason(head, l, answered, line)?;
-        put_rejection(head.form, line, placed, self.expr, answered.answer)?;
-        line.push_str(answer_end(head.form))?;
-        send(line.as_bytes(), out)
+        self.put_reason(head, l, answered, &mut buffer.line)?;
+        put_rejection(head.form, buffer, placed, self.expr, answered.answer)?;
+        buffer.line.push_str(answer_end(head.form))?;
+        send(buffer.line.as_bytes(), out)
     }
 
     /// Goes past the next answer, which is that to the n-th step.
@@ -263,7 +264,7 @@ fn put_twice(line: &mut String, expr: &Expr) -> Result<(), AllocError> {
 
 /// A line with room for each answer of these listeners. What decides on a packet is part of an expression, so twice the expression's
 /// own text has room for it, with any parentheses.
-pub fn line_for(alloc: Global, all: &[AnswerCursor<'_>]) -> Result<String, AllocError> {
+fn room_for(alloc: Global, all: &[AnswerCursor<'_>]) -> Result<String, AllocError> {
     let mut line = String::with_capacity(alloc, LINE_ROOM)?;
     for one in all {
         if let Some(expr) = one.expr {
@@ -274,18 +275,26 @@ pub fn line_for(alloc: Global, all: &[AnswerCursor<'_>]) -> Result<String, Alloc
     Ok(line)
 }
 
+/// A line with room for each answer of these listeners, and for what decides on a packet.
+pub fn line_for(alloc: Global, all: &[AnswerCursor<'_>]) -> Result<LineBuffer, AllocError> {
+    Ok(LineBuffer {
+        line: room_for(alloc, all)?,
+        text: room_for(alloc, all)?,
+    })
+}
+
 /// Writes the next answer of each listener, to this packet.
 fn write_all<O: Write>(
     head: StepHead,
     placed: &PlacedPacket,
     all: &[AnswerCursor<'_>],
-    line: &mut String,
+    buffer: &mut LineBuffer,
     out: &mut O,
 ) -> io::Result<()>
     ensures { Takes (O.contents out.old) (O.contents out.new) result (numbered (arrived_line head.form head.n placed.now) 0 all.now) }
 {
     for (l, one) in all.iter().enumerate() {
-        one.write_arrived(head, l, placed, line, out)?;
+        one.write_arrived(head, l, placed, buffer, out)?;
     }
     Ok(())
 }
@@ -390,15 +399,15 @@ fn write_arrival<O: Write>(
     head: StepHead,
     placed: &PlacedPacket,
     all: &[AnswerCursor<'_>],
-    line: &mut String,
+    buffer: &mut LineBuffer,
     out: &mut O,
 ) -> io::Result<()>
     ensures { Takes (O.contents out.old) (O.contents out.new) result
         (arrival_line head.form head.n placed.now ++ numbered (arrived_line head.form head.n placed.now) 0 all.now) }
 {
-    put_arrival(head, placed, line)?;
-    send(line.as_bytes(), out)?;
-    write_all(head, placed, all, line, out)
+    put_arrival(head, placed, &mut buffer.line)?;
+    send(buffer.line.as_bytes(), out)?;
+    write_all(head, placed, all, buffer, out)
 }
 
 /// Puts the line of a step, an arrival for which no packet is left, in place of what the line has.
@@ -474,16 +483,16 @@ fn write_arrive<O: Write>(
     head: StepHead,
     packets: &[PlacedPacket],
     all: &mut Vec<AnswerCursor<'_>>,
-    line: &mut String,
+    buffer: &mut LineBuffer,
     out: &mut O,
 ) -> io::Result<()>
     ensures text { Takes (O.contents out.old) (O.contents out.new) result (step_text head.form head.n Arrive packets.now all.old.items) }
     ensures left { OnOk result (all.new.items ≡ cursors_after head.n Arrive packets.now all.old.items) }
 {
     let Some((placed, _)) = packets.split_first() else {
-        return write_no_packet(head, line, out);
+        return write_no_packet(head, &mut buffer.line, out);
     };
-    write_arrival(head, placed, all.as_slice(), line, out)?;
+    write_arrival(head, placed, all.as_slice(), buffer, out)?;
     advance_all(all, head.n);
     Ok(())
 }
@@ -494,17 +503,17 @@ fn write_step<O: Write>(
     step: Step,
     packets: &[PlacedPacket],
     all: &mut Vec<AnswerCursor<'_>>,
-    line: &mut String,
+    buffer: &mut LineBuffer,
     out: &mut O,
 ) -> io::Result<()>
     ensures text { Takes (O.contents out.old) (O.contents out.new) result (step_text head.form head.n step packets.now all.old.items) }
     ensures left { OnOk result (all.new.items ≡ cursors_after head.n step packets.now all.old.items) }
 {
     match step {
-        Step::Arrive => write_arrive(head, packets, all, line, out),
-        Step::Flush(l) => write_own(head, "flush", l as usize, all, line, out),
-        Step::Read(l) => write_own(head, "read", l as usize, all, line, out),
-        Step::Close(l) => write_own(head, "close", l as usize, all, line, out),
+        Step::Arrive => write_arrive(head, packets, all, buffer, out),
+        Step::Flush(l) => write_own(head, "flush", l as usize, all, &mut buffer.line, out),
+        Step::Read(l) => write_own(head, "read", l as usize, all, &mut buffer.line, out),
+        Step::Close(l) => write_own(head, "close", l as usize, all, &mut buffer.line, out),
     }
 }
 
@@ -524,10 +533,11 @@ fn packets_after(step: Step, packets: &[PlacedPacket]) -> &[PlacedPacket]
 }
 
 /// Writes a line for each step, and below it a line for each listener that it reaches: what it answered, and why. Steps are counted
-/// from 1, as the lines of SCRIPT. `all` are the answers of [`answer_cursors`], for a trace of these steps and this playlist. `line` is
+/// from 1, as the lines of SCRIPT. `all` are the answers of [`answer_cursors`], for a trace of these steps and this playlist. `buffer` is
 /// that of [`line_for`], which should have room for all of them: that it takes no more memory is not proved.
 ///
-/// In JSON each line is an object that has its step's number; that of an answer to an arrival also has the packet's capture and place.
+/// In JSON each line is an object that has its step's number; that of an answer to an arrival also has the packet's capture and place, and
+/// what decided if an expression rejects it.
 ///
 /// If it fails, `out` took a prefix of the text and no more.
 pub fn write_answers<O: Write>(
@@ -535,7 +545,7 @@ pub fn write_answers<O: Write>(
     steps: &[Step],
     playlist: &[PlacedPacket],
     all: &mut Vec<AnswerCursor<'_>>,
-    line: &mut String,
+    buffer: &mut LineBuffer,
     out: &mut O,
 ) -> io::Result<()>
     ensures { Takes (O.contents out.old) (O.contents out.new) result (answers_from form 1 steps.now playlist.now all.old.items) }
@@ -543,7 +553,7 @@ pub fn write_answers<O: Write>(
     let mut packets = playlist;
     for (i, step) in steps.iter().enumerate() {
         let head = StepHead { form, n: i + 1 };
-        write_step(head, *step, packets, all, line, out)?;
+        write_step(head, *step, packets, all, buffer, out)?;
         packets = packets_after(*step, packets);
     }
     Ok(())

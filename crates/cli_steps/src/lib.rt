@@ -2,6 +2,7 @@
 #![tactic(auto)]
 
 pub mod answers;
+pub mod buffer;
 pub mod command;
 pub mod faults;
 mod hints;

@@ -3,11 +3,14 @@
 ghost use Rattle.std.specs.Prelude.{◌≡◌, ◌++◌, OnOk, codes, string_bytes};
 ghost use Rattle.filter_tree.specs.Trees.{tree_of};
 ghost use Rattle.filter_meaning.specs.Meaning.{packet_of};
+ghost use Rattle.filter_explain.specs.Asking.{question_of};
 ghost use Rattle.filter_explain.specs.Deciding.{decision_text};
-ghost use Rattle.cli_steps.specs.Rejections.{rejects, rejection, place_members, rejection_in};
+ghost use Rattle.cli_steps.specs.Rejections.{rejects, rejection, place_members, verdict_member, cause_member, question_members, decision_members, rejection_members, rejection_in};
 
-use cli_json::LineForm;
-use filter_explain::put_decision;
+use crate::buffer::LineBuffer;
+use cli_json::{LineForm, put_string};
+use filter_explain::{AskedPart, decide, put_decision, put_part};
+use filter_meaning::{AbortCause, Verdict};
 use filterlang::Expr;
 use listener::Fed;
 use std::alloc::AllocError;
@@ -80,18 +83,101 @@ fn put_place(line: &mut String, placed: &PlacedPacket) -> Result<(), AllocError>
     )
 }
 
-/// Appends to the answer to a packet why an expression rejected it, if one did, and before that in JSON the packet's capture and place.
-pub fn put_rejection(
-    form: LineForm,
-    line: &mut String,
+/// Appends what an expression answers, as a member.
+fn put_verdict(line: &mut String, verdict: Verdict) -> Result<(), AllocError>
+    ensures { OnOk result (string_bytes line.new ≡ string_bytes line.old ++ verdict_member verdict) }
+{
+    line.push_str(match verdict {
+        Verdict::Yes => ",\"verdict\":\"yes\"",
+        Verdict::No => ",\"verdict\":\"no\"",
+        Verdict::Abort => ",\"verdict\":\"abort\"",
+    })
+}
+
+/// Appends why a primitive or a relation aborted, if it did, as a member.
+fn put_cause(line: &mut String, cause: Option<AbortCause>) -> Result<(), AllocError>
+    ensures { OnOk result (string_bytes line.new ≡ string_bytes line.old ++ cause_member cause) }
+{
+    match cause {
+        None => Ok(()),
+        Some(AbortCause::NotCaptured(place)) => write!(line, ",\"cause\":{{\"byte\":{place}}}"),
+        Some(AbortCause::ZeroDivisor) => line.push_str(",\"cause\":{\"divisor\":0}"),
+    }
+}
+
+/// Appends the primitive or relation that decides, and why it aborted, as members. `text` may have any text.
+fn put_asked(line: &mut String, text: &mut String, asked: &AskedPart<'_>) -> Result<(), AllocError>
+    ensures { OnOk result (string_bytes line.new ≡ string_bytes line.old ++ question_members (question_of asked.now)) }
+{
+    text.clear();
+    put_part(text, asked.part, asked.negated)?;
+    line.push_str(",\"decided\":")?;
+    put_string(line, text.as_str())?;
+    put_cause(line, asked.cause)
+}
+
+/// Appends what an expression answers to a packet, and the primitive or relation that decides, as members.
+fn put_decision_members(
+    buffer: &mut LineBuffer,
+    expr: &Expr,
+    packet: &[u8],
+    wire: u32,
+) -> Result<(), AllocError>
+    ensures { OnOk result (string_bytes buffer.new.line ≡ string_bytes buffer.old.line ++ decision_members (tree_of expr.now) (packet_of packet.now wire)) }
+{
+    let asked = decide(expr, packet, wire);
+    put_verdict(&mut buffer.line, asked.answer())?;
+    put_asked(&mut buffer.line, &mut buffer.text, &asked)
+}
+
+/// Appends to the answer to a packet why an expression rejected it, if one did, as members.
+fn put_rejection_members(
+    buffer: &mut LineBuffer,
     placed: &PlacedPacket,
     expr: &Option<Expr>,
     answer: Answer,
 ) -> Result<(), AllocError>
-    ensures { OnOk result (string_bytes line.new ≡ string_bytes line.old ++ rejection_in form placed.now expr.now answer) }
+    ensures { OnOk result (string_bytes buffer.new.line ≡ string_bytes buffer.old.line ++ rejection_members placed.now expr.now answer) }
+{
+    if !rejects(answer) {
+        return Ok(());
+    }
+    match expr {
+        Some(expr) => put_decision_members(
+            buffer,
+            expr,
+            placed.packet.bytes.as_slice(),
+            placed.packet.len,
+        ),
+        None => Ok(()),
+    }
+}
+
+/// Appends the packet of an answer, and why an expression rejected it, if one did, as members.
+fn put_arrival_members(
+    buffer: &mut LineBuffer,
+    placed: &PlacedPacket,
+    expr: &Option<Expr>,
+    answer: Answer,
+) -> Result<(), AllocError>
+    ensures { OnOk result (string_bytes buffer.new.line ≡ string_bytes buffer.old.line ++ (place_members placed.now ++ rejection_members placed.now expr.now answer)) }
+{
+    put_place(&mut buffer.line, placed)?;
+    put_rejection_members(buffer, placed, expr, answer)
+}
+
+/// Appends to the answer to a packet why an expression rejected it, if one did, and before that in JSON the packet's capture and place.
+pub fn put_rejection(
+    form: LineForm,
+    buffer: &mut LineBuffer,
+    placed: &PlacedPacket,
+    expr: &Option<Expr>,
+    answer: Answer,
+) -> Result<(), AllocError>
+    ensures { OnOk result (string_bytes buffer.new.line ≡ string_bytes buffer.old.line ++ rejection_in form placed.now expr.now answer) }
 {
     match form {
-        LineForm::Text => put_rejection_text(line, placed, expr, answer),
-        LineForm::Json => put_place(line, placed),
+        LineForm::Text => put_rejection_text(&mut buffer.line, placed, expr, answer),
+        LineForm::Json => put_arrival_members(buffer, placed, expr, answer),
     }
 }

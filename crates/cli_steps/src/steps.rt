@@ -10,6 +10,7 @@ ghost use Rattle.cli_steps.specs.Playing.{trace_text, is_explained, is_traced, P
 ghost use Rattle.cli_steps.specs.Stepping.{Steps, StepsTo};
 
 use crate::answers::{AnswerCursor, answer_cursors, line_for, write_answers};
+use crate::buffer::LineBuffer;
 use crate::plan::{StepsPlan, read_plan};
 use crate::report::{print_reports_in, report_end, report_refusal};
 use cli_json::LineForm;
@@ -53,13 +54,13 @@ fn print_both<O: Write>(
     steps: &[Step],
     trace: &Trace,
     cursors: &mut Vec<AnswerCursor<'_>>,
-    line: &mut String,
+    buffer: &mut LineBuffer,
     out: &mut O,
 ) -> io::Result<()>
     ensures { Takes (O.contents out.old) (O.contents out.new) result
         (answers_from form 1 steps.now trace.now.playlist.items cursors.old.items ++ reports_in form trace.now.reports.items) }
 {
-    write_answers(form, steps, trace.playlist.as_slice(), cursors, line, out)?;
+    write_answers(form, steps, trace.playlist.as_slice(), cursors, buffer, out)?;
     print_reports_in(form, trace.reports.as_slice(), out)
 }
 
@@ -81,9 +82,9 @@ fn print_explained<O: Write>(
         trace.expressions.as_slice(),
         trace.answers.as_slice(),
     )?;
-    let mut line = line_for(alloc, cursors.as_slice())?;
+    let mut buffer = line_for(alloc, cursors.as_slice())?;
     let steps = plan.steps.as_slice();
-    Ok(print_both(form, steps, trace, &mut cursors, &mut line, out))
+    Ok(print_both(form, steps, trace, &mut cursors, &mut buffer, out))
 }
 
 /// Prints a trace: its answers, if they are wanted, and then its reports. If memory is refused, nothing is printed.

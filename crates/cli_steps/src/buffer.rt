@@ -1,0 +1,8 @@
+//! The room for the line of an answer.
+
+/// A line that is put together, and what is in one of its strings.
+#[derive(Drop)]
+pub struct LineBuffer {
+    pub line: String,
+    pub text: String,
+}
