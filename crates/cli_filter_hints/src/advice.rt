@@ -1,104 +1,19 @@
 //! What helps to fix an expression.
 
+use crate::addresses::{AsGroup, WithColons, of_comma, of_ethernet, of_ipv6, of_net, of_range};
+use crate::display_filters::{of_dots, of_service, of_text};
 use crate::nearest::in_small_letters;
-use crate::spots::{Spot, first_word, without_blanks, without_last_word};
-use crate::suggestions::Gap;
+use crate::other_words::{of_ip_broadcast, of_left_out, of_other_word, of_value};
+use crate::spots::{PROTO, Spot, first_word, without_blanks, without_last_word};
+use crate::suggestions::place_of;
 use cli_report::shown::Shown;
 use filterlang::Fault;
 use std::alloc::{AllocError, Global};
 use std::fmt;
 use std::fmt::{Display, Formatter};
 
-/// Words of libpcap's language for Ethernet that this profile lacks.
-static OTHER_LINKS: [&[u8]; 11] = [
-    b"ip6", b"icmp6", b"vlan", b"mpls", b"pppoed", b"pppoes", b"geneve", b"atalk", b"decnet",
-    b"ipx", b"llc",
-];
-
-/// The word of libpcap's language for wireless links.
-const WIRELESS: &[u8] = b"wlan";
-
-/// A protocol that is written by its number.
-struct ByNumber {
-    name: &'static [u8],
-    number: &'static str,
-    primitive: &'static str,
-}
-
-/// Protocols over IPv4 that have no name after `proto`: all but the last are no words of the language.
-static BY_NUMBER: [ByNumber; 7] = [
-    ByNumber {
-        name: b"igmp",
-        number: "2",
-        primitive: "proto 2",
-    },
-    ByNumber {
-        name: b"igrp",
-        number: "9",
-        primitive: "proto 9",
-    },
-    ByNumber {
-        name: b"esp",
-        number: "50",
-        primitive: "proto 50",
-    },
-    ByNumber {
-        name: b"ah",
-        number: "51",
-        primitive: "proto 51",
-    },
-    ByNumber {
-        name: b"pim",
-        number: "103",
-        primitive: "proto 103",
-    },
-    ByNumber {
-        name: b"vrrp",
-        number: "112",
-        primitive: "proto 112",
-    },
-    ByNumber {
-        name: b"sctp",
-        number: "132",
-        primitive: "proto 132",
-    },
-];
-
-/// The word of libpcap's language for `len`.
-const LENGTH: &[u8] = b"length";
-
-/// What the names of flags begin with.
-const FLAG: &[u8] = b"tcp-";
-
-/// A flag that the language lacks: its name after `tcp-`, its number, and what helps.
-struct OtherFlag {
-    name: &'static [u8],
-    number: &'static str,
-    said: &'static str,
-}
-
-/// Flags that the language lacks.
-static OTHER_FLAGS: [OtherFlag; 2] = [
-    OtherFlag {
-        name: b"ece",
-        number: "64",
-        said: "write `64` for `tcp-ece`",
-    },
-    OtherFlag {
-        name: b"cwr",
-        number: "128",
-        said: "write `128` for `tcp-cwr`",
-    },
-];
-
-/// Words that the number of a port follows.
-static BEFORE_PORTS: [&[u8]; 2] = [b"port", b"portrange"];
-
-/// Words that an address follows.
-static BEFORE_ADDRESSES: [&[u8]; 4] = [b"host", b"net", b"src", b"dst"];
-
-/// The word that the number or the name of a protocol follows.
-const PROTO: &[u8] = b"proto";
+/// The word that the number of a port follows.
+const PORT: &[u8] = b"port";
 
 /// The word before `proto` if it takes an Ethernet type.
 const ETHER: &[u8] = b"ether";
@@ -117,10 +32,20 @@ pub(crate) enum Advice<'a> {
     Said(&'static str),
     /// A sentence around a word in backquotes.
     Round(&'static str, &'a [u8], &'static str),
-    /// A sentence around a word that only libpcap reads.
+    /// A sentence around a word that libpcap may read.
     Elsewhere(&'static str, &'a [u8], &'static str),
-    /// What is written here for a word, which has a backslash before it or not.
+    /// What is written here for a word, and what stands right before that, as a backslash.
     Written(&'static str, &'static str, &'a [u8]),
+    /// An Ethernet address without colons.
+    Colons(&'a [u8]),
+    /// A word that takes an Ethernet address only after `ether`, and the address.
+    Ether(&'a [u8], &'a [u8]),
+    /// A list with commas.
+    Group(&'a [u8]),
+    /// What accepts the usual port of a protocol, and its name.
+    Service(&'static str, &'a [u8]),
+    /// What is written for a field of a display filter, and that field.
+    Field(&'static str, &'a [u8]),
 }
 
 impl<'a> Advice<'a> {
@@ -134,8 +59,17 @@ impl<'a> Advice<'a> {
         Advice::Round(before, word.as_bytes(), "`")
     }
 
-    /// Whether libpcap's compiler reads what is not read here.
-    pub(crate) fn is_read_elsewhere(&self) -> bool {
+    /// The name of a host or a net.
+    pub(crate) fn host(name: &'a [u8]) -> Advice<'a> {
+        Advice::Elsewhere(
+            "names of hosts and nets are not supported: write the address of `",
+            name,
+            "`",
+        )
+    }
+
+    /// Whether libpcap's compiler may read what is not read here.
+    pub(crate) fn may_be_read_elsewhere(&self) -> bool {
         matches!(self, Advice::Elsewhere(..))
     }
 
@@ -157,75 +91,41 @@ impl Display for Advice<'_> {
             Advice::Round(before, word, after) | Advice::Elsewhere(before, word, after) => {
                 write!(f, "{before}{}{after}", Shown(*word))
             }
-            Advice::Written(written, backslash, word) => {
-                write!(f, "write `{written}` for `{backslash}{}`", Shown(*word))
+            Advice::Written(written, before, word) => {
+                write!(f, "write `{written}` for `{before}{}`", Shown(*word))
             }
+            Advice::Colons(address) => write!(
+                f,
+                "an Ethernet address has colons: write `{}` for `{}`",
+                WithColons(*address),
+                Shown(*address)
+            ),
+            Advice::Ether(word, address) => write!(
+                f,
+                "an Ethernet address needs `ether`: write `ether {} {}`",
+                Shown(*word),
+                WithColons(*address)
+            ),
+            Advice::Group(list) => {
+                write!(f, "write `{}` for `{}`", AsGroup(*list), Shown(*list))
+            }
+            Advice::Service(written, word) => write!(
+                f,
+                "`{}` is no word of the language: its usual port is `{written}`",
+                Shown(*word)
+            ),
+            Advice::Field(written, field) => write!(
+                f,
+                "this looks like a display filter of Wireshark: write `{}` for `{}`",
+                written.strip_suffix(" ").unwrap_or(*written),
+                Shown(*field)
+            ),
         }
     }
 }
 
 /// What helps, if something does; or that memory was refused.
-type Found<'a> = Result<Option<Advice<'a>>, AllocError>;
-
-/// Whether a text reads on with something put into a gap of it.
-fn takes(alloc: Global, gap: Option<Gap<'_>>, put: &str) -> Result<bool, AllocError> {
-    match gap {
-        Some(gap) => gap.takes(alloc, put),
-        None => Ok(false),
-    }
-}
-
-/// What helps at the second word of a flag that the language lacks.
-fn of_flag<'a>(alloc: Global, spot: Spot<'a>) -> Found<'a> {
-    let Some(gap) = spot.without_word_and(FLAG.len()) else {
-        return Ok(None);
-    };
-    if !spot.before().ends_with(FLAG) {
-        return Ok(None);
-    }
-    for flag in OTHER_FLAGS.iter() {
-        if flag.name == spot.word() && gap.takes(alloc, flag.number)? {
-            return Ok(Some(Advice::Said(flag.said)));
-        }
-    }
-    Ok(None)
-}
-
-/// What helps at a protocol that is written by its number.
-fn of_protocol<'a>(alloc: Global, spot: Spot<'a>, protocol: &ByNumber) -> Found<'a> {
-    let Some(gap) = spot.without_name() else {
-        return Ok(None);
-    };
-    let backslash = if spot.has_backslash() { "\\" } else { "" };
-    let written = if spot.has_backslash() || spot.last() == PROTO {
-        protocol.number
-    } else {
-        protocol.primitive
-    };
-    if gap.takes(alloc, written)? {
-        return Ok(Some(Advice::Written(written, backslash, spot.word())));
-    }
-    if spot.after_word().starts_with(b"[") {
-        return Ok(Some(Advice::Said(
-            "write `[..]` only after `ether`, `ip`, `arp`, `rarp`, `tcp`, `udp` or `icmp`",
-        )));
-    }
-    Ok(None)
-}
-
-/// What helps at a word of libpcap's language, or at a protocol, for which something else is written here.
-fn of_other_word<'a>(alloc: Global, spot: Spot<'a>) -> Found<'a> {
-    let word = spot.word();
-    if word == LENGTH && takes(alloc, spot.without_name(), "len")? {
-        return Ok(Some(Advice::Written("len", "", word)));
-    }
-    for protocol in BY_NUMBER.iter() {
-        if protocol.name == word {
-            return of_protocol(alloc, spot, protocol);
-        }
-    }
-    Ok(None)
-}
+pub(crate) type Found<'a> = Result<Option<Advice<'a>>, AllocError>;
 
 /// What helps at a word that differs from one of the language by its capital letters, or by one edit.
 fn of_spelling<'a>(alloc: Global, spot: Spot<'a>) -> Found<'a> {
@@ -255,7 +155,7 @@ fn of_name<'a>(spot: Spot<'a>) -> Advice<'a> {
             name,
             "`",
         )
-    } else if BEFORE_PORTS.contains(&before) {
+    } else if before == PORT {
         Advice::Elsewhere(
             "service names are not supported: write a number, as in `port 80`, for `",
             name,
@@ -269,12 +169,8 @@ fn of_name<'a>(spot: Spot<'a>) -> Advice<'a> {
             name,
             "`",
         )
-    } else if BEFORE_ADDRESSES.contains(&before) || name.contains(&b'.') {
-        Advice::Elsewhere(
-            "names of hosts and nets are not supported: write the address of `",
-            name,
-            "`",
-        )
+    } else if spot.takes_address() {
+        Advice::host(name)
     } else {
         Advice::Round(
             "`",
@@ -284,31 +180,35 @@ fn of_name<'a>(spot: Spot<'a>) -> Advice<'a> {
     }
 }
 
-/// What helps at a word for what this profile leaves out.
-fn of_other_link<'a>(spot: Spot<'a>) -> Option<Advice<'a>> {
-    let (before, after) = ("only Ethernet with IPv4 is supported, not `", "`");
-    let word = spot.word();
-    if OTHER_LINKS.contains(&word) {
-        Some(Advice::Elsewhere(before, word, after))
-    } else if word == WIRELESS {
-        Some(Advice::Round(before, word, after))
-    } else {
-        None
+/// What helps at a word for which something else is written here, or nothing.
+fn of_known_word<'a>(alloc: Global, spot: Spot<'a>) -> Found<'a> {
+    if let Some(advice) = of_value(alloc, spot)? {
+        return Ok(Some(advice));
     }
+    if let Some(advice) = of_other_word(alloc, spot)? {
+        return Ok(Some(advice));
+    }
+    if spot.takes_only_name() && !spot.has_backslash() {
+        return Ok(None);
+    }
+    if let Some(advice) = of_left_out(spot) {
+        return Ok(Some(advice));
+    }
+    if let Some(advice) = of_text(spot) {
+        return Ok(Some(advice));
+    }
+    of_service(alloc, spot)
 }
 
 /// What helps at a word that the language lacks.
 fn of_word<'a>(alloc: Global, spot: Spot<'a>) -> Result<Advice<'a>, AllocError> {
-    if let Some(advice) = of_flag(alloc, spot)? {
+    if let Some(advice) = of_known_word(alloc, spot)? {
         return Ok(advice);
     }
-    if let Some(advice) = of_other_link(spot) {
+    if let Some(advice) = of_spelling(alloc, spot)? {
         return Ok(advice);
     }
-    if let Some(advice) = of_other_word(alloc, spot)? {
-        return Ok(advice);
-    }
-    Ok(of_spelling(alloc, spot)?.unwrap_or(of_name(spot)))
+    Ok(of_name(spot))
 }
 
 /// Whether a text begins with a quote: a shell's, or a printed one, U+2018 to U+201F.
@@ -320,13 +220,22 @@ fn begins_with_quote(text: &[u8]) -> bool {
 }
 
 /// What helps at a byte that begins no token.
-fn of_byte<'a>(spot: Spot<'a>) -> Advice<'a> {
+fn of_byte<'a>(alloc: Global, spot: Spot<'a>) -> Result<Advice<'a>, AllocError> {
     if begins_with_quote(spot.rest()) {
-        Advice::Said("quotes are for the shell, not part of an expression")
+        Ok(Advice::Said("quotes are for the shell, not part of an expression"))
     } else if spot.rest().is_empty() {
-        Advice::Said("no word, number or sign begins here")
+        Ok(Advice::Said("no word, number or sign begins here"))
     } else {
-        Advice::Round("no word, number or sign begins with `", spot.token(), "`")
+        let list = if spot.rest().starts_with(b",") {
+            of_comma(alloc, spot)?
+        } else {
+            None
+        };
+        Ok(list.unwrap_or(Advice::Round(
+            "no word, number or sign begins with `",
+            spot.token(),
+            "`",
+        )))
     }
 }
 
@@ -339,9 +248,7 @@ fn of_number<'a>(word: &[u8]) -> Advice<'a> {
             "a number that begins with 0 is octal, of the digits 0 to 7; with 0x it is hexadecimal",
         )
     } else {
-        Advice::Said(
-            "a number is at most 4294967295; no name begins with a digit, and IPv6 is not supported",
-        )
+        Advice::Said("a number is at most 4294967295, and no name begins with a digit")
     }
 }
 
@@ -350,7 +257,7 @@ fn operand_at(spot: Spot<'_>) -> Option<&'static str> {
     let last = spot.last();
     if last == PORTRANGE {
         Some("write two numbers after `portrange`, as in `portrange 20-30`")
-    } else if BEFORE_PORTS.contains(&last) {
+    } else if last == PORT {
         Some("write a number after `port`, as in `port 80`")
     } else if last == b"host".as_slice() {
         Some("write an address after `host`, as in `host 192.0.2.1`")
@@ -362,7 +269,7 @@ fn operand_at(spot: Spot<'_>) -> Option<&'static str> {
         Some(
             "write a number after `proto`, as in `proto 17`, or a name with a backslash, as in `proto \\udp`",
         )
-    } else if BEFORE_ADDRESSES.contains(&last) {
+    } else if spot.takes_address() {
         Some("write an address after `src` and `dst`, or `host`, `net` or `port` before it")
     } else {
         None
@@ -371,23 +278,40 @@ fn operand_at(spot: Spot<'_>) -> Option<&'static str> {
 
 /// What helps at a word after `proto`.
 fn of_proto<'a>(alloc: Global, spot: Spot<'a>) -> Found<'a> {
-    if takes(alloc, spot.before_word(), "\\")? {
-        return Ok(Some(Advice::Round(
+    match spot.before_word() {
+        Some(gap) if gap.takes(alloc, "\\")? => Ok(Some(Advice::Round(
             "after `proto` a name has a backslash: write `\\",
             spot.word(),
             "`",
-        )));
+        ))),
+        _ => of_other_word(alloc, spot),
     }
-    of_other_word(alloc, spot)
 }
 
 /// What helps at a term that nothing joins to the one before it.
 fn of_joint<'a>(alloc: Global, spot: Spot<'a>) -> Found<'a> {
-    if takes(alloc, spot.before_word(), "and ")? {
-        Ok(Some(Advice::Round("write `and` or `or` before `", spot.token(), "`")))
-    } else {
-        Ok(None)
+    match spot.before_word() {
+        Some(gap) if gap.takes(alloc, "and ")? => Ok(Some(Advice::Round(
+            "write `and` or `or` before `",
+            spot.token(),
+            "`",
+        ))),
+        _ => Ok(None),
     }
+}
+
+/// What helps at a token after which, or before which, something is written otherwise here.
+fn of_other_form<'a>(alloc: Global, spot: Spot<'a>) -> Found<'a> {
+    if let Some(advice) = of_ip_broadcast(spot) {
+        return Ok(Some(advice));
+    }
+    if let Some(advice) = of_range(alloc, spot)? {
+        return Ok(Some(advice));
+    }
+    if let Some(advice) = of_net(alloc, spot)? {
+        return Ok(Some(advice));
+    }
+    of_joint(alloc, spot)
 }
 
 /// What helps at a token with which no expression can go on.
@@ -395,7 +319,7 @@ fn of_token<'a>(alloc: Global, spot: Spot<'a>) -> Result<Advice<'a>, AllocError>
     let advice = if spot.last() == PROTO {
         of_proto(alloc, spot)?
     } else {
-        of_joint(alloc, spot)?
+        of_other_form(alloc, spot)?
     };
     Ok(match (advice, operand_at(spot)) {
         (Some(advice), _) => advice,
@@ -423,14 +347,37 @@ fn of_no_qualifier<'a>(before: &[u8]) -> Advice<'a> {
     }
 }
 
+/// What helps at an address or a name with dots around the place of a fault, whatever the fault is.
+fn of_place<'a>(alloc: Global, spot: Spot<'a>) -> Found<'a> {
+    if let Some(advice) = of_ipv6(spot) {
+        return Ok(Some(advice));
+    }
+    if let Some(advice) = of_ethernet(alloc, spot)? {
+        return Ok(Some(advice));
+    }
+    of_dots(alloc, spot)
+}
+
 /// What helps to fix a text that is refused. The error is that memory was refused, without which a suggestion cannot be tried.
 pub(crate) fn advice_on<'a>(alloc: Global, text: &'a str, fault: Fault) -> Found<'a> {
+    let Some(place) = place_of(fault) else {
+        return Ok(sentence(fault));
+    };
+    let spot = Spot::new(text, place);
+    match of_place(alloc, spot)? {
+        Some(advice) => Ok(Some(advice)),
+        None => of_fault(alloc, spot, fault),
+    }
+}
+
+/// What helps at the place of a fault.
+fn of_fault<'a>(alloc: Global, spot: Spot<'a>, fault: Fault) -> Found<'a> {
     match fault {
-        Fault::BadByte(place) => Ok(Some(of_byte(Spot::new(text, place)))),
-        Fault::BadWord(place) => Ok(Some(of_word(alloc, Spot::new(text, place))?)),
-        Fault::BadNumber(place) => Ok(Some(of_number(first_word(Spot::new(text, place).rest())))),
-        Fault::Syntax(place) => Ok(Some(of_syntax(alloc, Spot::new(text, place))?)),
-        Fault::NoQualifier(place) => Ok(Some(of_no_qualifier(Spot::new(text, place).before()))),
+        Fault::BadByte(_) => Ok(Some(of_byte(alloc, spot)?)),
+        Fault::BadWord(_) => Ok(Some(of_word(alloc, spot)?)),
+        Fault::BadNumber(_) => Ok(Some(of_number(first_word(spot.rest())))),
+        Fault::Syntax(_) => Ok(Some(of_syntax(alloc, spot)?)),
+        Fault::NoQualifier(_) => Ok(Some(of_no_qualifier(spot.before()))),
         _ => Ok(sentence(fault)),
     }
 }

@@ -15,7 +15,7 @@ const BY_LIBPCAP: &str =
     "tcpdump -y EN10MB -ddd EXPR > f.bpf, then -f f.bpf with cut, check or explain";
 
 /// Hints on an expression that is refused: the part of it round the fault's place, with a caret under the place, and a sentence
-/// that helps. If the fault has no place the sentence stands alone, and of refused memory nothing is said. For what libpcap reads, the
+/// that helps. If the fault has no place the sentence stands alone, and of refused memory nothing is said. For what libpcap may read, the
 /// way over its compiler follows.
 ///
 /// A word is suggested only if the whole text with it put in is an expression, or reads on past it.
@@ -30,8 +30,8 @@ pub fn hint_text_fault<E: HintSink>(alloc: Global, text: &str, fault: Fault, err
     if err.takes_hints() {
         if let Ok(Some(advice)) = advice_on(alloc, text, fault) {
             give_hint(advice, err);
-            if advice.is_read_elsewhere() {
-                give_hint(format_args!("libpcap reads that: {BY_LIBPCAP}"), err);
+            if advice.may_be_read_elsewhere() {
+                give_hint(format_args!("libpcap may read that: {BY_LIBPCAP}"), err);
             }
         }
     }

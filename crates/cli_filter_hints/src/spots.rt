@@ -2,6 +2,22 @@
 
 use crate::suggestions::{Gap, is_no_blank};
 
+/// Words that an address or a name of one follows.
+pub(crate) static BEFORE_ADDRESSES: [&[u8]; 4] = [b"host", b"net", b"src", b"dst"];
+
+/// Words that only a name or a number follows.
+static BEFORE_NAMES: [&[u8]; 4] = [b"host", b"net", b"port", b"portrange"];
+
+/// The word that the number or the name of a protocol follows.
+pub(crate) const PROTO: &[u8] = b"proto";
+
+/// The letters, digits and signs of names and addresses around a place: where they begin, and the bytes.
+#[derive(Clone, Copy)]
+pub(crate) struct Run<'a> {
+    pub start: usize,
+    pub bytes: &'a [u8],
+}
+
 /// A place in an expression, or its end.
 #[derive(Clone, Copy)]
 pub(crate) struct Spot<'a> {
@@ -16,6 +32,30 @@ impl<'a> Spot<'a> {
             text,
             place: place.min(text.len()),
         }
+    }
+
+    /// Another place of the same text.
+    pub(crate) fn at(&self, place: usize) -> Spot<'a> {
+        Spot::new(self.text, place)
+    }
+
+    /// The letters, digits and signs of names and addresses around the place; none if none is there.
+    pub(crate) fn run(&self) -> Run<'a> {
+        let rest = self.rest();
+        let len = rest.iter().position(is_outside_runs).unwrap_or(rest.len());
+        let start = match self.before().iter().rposition(is_outside_runs) {
+            _ if len == 0 => self.place,
+            Some(outside) => outside + 1,
+            None => 0,
+        };
+        let end = self.place.saturating_add(len);
+        let bytes = self.text.as_bytes().get(start..end).unwrap_or(&[]);
+        Run { start, bytes }
+    }
+
+    /// The bytes from one place to another.
+    pub(crate) fn between(&self, start: usize, end: usize) -> &'a [u8] {
+        self.text.as_bytes().get(start..end).unwrap_or(&[])
     }
 
     /// The text before the place.
@@ -77,6 +117,27 @@ impl<'a> Spot<'a> {
         self.word().len().saturating_add(self.backslash_len())
     }
 
+    /// Whether an address, or the name of a host or a net, goes here.
+    pub(crate) fn takes_address(&self) -> bool {
+        BEFORE_ADDRESSES.contains(&self.last())
+    }
+
+    /// Whether nothing but a name or a number goes here.
+    pub(crate) fn takes_only_name(&self) -> bool {
+        BEFORE_NAMES.contains(&self.last()) || self.last() == PROTO
+    }
+
+    /// Where the word before the place begins.
+    pub(crate) fn start_of_last(&self) -> usize {
+        let before = without_blanks(self.before());
+        before.len().saturating_sub(self.last().len())
+    }
+
+    /// The text with a gap for these bytes.
+    pub(crate) fn without(&self, start: usize, len: usize) -> Option<Gap<'a>> {
+        Gap::new(self.text, start, len)
+    }
+
     /// The text with a gap for the word at the place, and for a backslash before it.
     pub(crate) fn without_name(&self) -> Option<Gap<'a>> {
         Gap::new(self.text, self.place, self.len_of_name())
@@ -103,6 +164,11 @@ impl<'a> Spot<'a> {
 /// Whether a byte belongs to no word and no name, as a reader takes it.
 fn is_outside_words(byte: &u8) -> bool {
     !byte.is_ascii_alphanumeric() && *byte != b'.' && *byte != b'-' && *byte != b'_'
+}
+
+/// Whether a byte belongs to no word, name or address.
+fn is_outside_runs(byte: &u8) -> bool {
+    is_outside_words(byte) && *byte != b':'
 }
 
 /// The word or the name at the front of a text.
@@ -133,6 +199,12 @@ pub(crate) fn without_blanks(text: &[u8]) -> &[u8] {
         Some(last) => &text[..last + 1],
         None => &[],
     }
+}
+
+/// A text without the blanks at its front.
+pub(crate) fn after_blanks(text: &[u8]) -> &[u8] {
+    let start = text.iter().position(is_no_blank).unwrap_or(text.len());
+    &text[start..]
 }
 
 /// How many bytes of UTF-8 the character has that begins with this one; 1 if none does.

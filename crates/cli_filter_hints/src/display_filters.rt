@@ -1,0 +1,281 @@
+//! What helps at words and fields of display filters, as Wireshark has them.
+
+use crate::advice::{Advice, Found};
+use crate::spots::{Run, Spot, after_blanks, without_blanks};
+use std::alloc::Global;
+
+/// What is said of a display filter for whose words nothing else is written here.
+const DISPLAY_FILTER: &str =
+    "this looks like a display filter of Wireshark: here write `tcp port 80` or `host 192.0.2.1`";
+
+/// Protocols that fields of display filters begin with.
+static PROTOCOLS: [&[u8]; 18] = [
+    b"eth", b"ip", b"ipv6", b"arp", b"tcp", b"udp", b"icmp", b"icmpv6", b"dns", b"http", b"tls",
+    b"ssl", b"frame", b"vlan", b"dhcp", b"bootp", b"sctp", b"igmp",
+];
+
+/// What compares a field of a display filter with a value.
+static COMPARISONS: [&[u8]; 13] = [
+    b"=",
+    b"!=",
+    b"<",
+    b">",
+    b"eq ",
+    b"ne ",
+    b"gt ",
+    b"lt ",
+    b"ge ",
+    b"le ",
+    b"contains ",
+    b"matches ",
+    b"in ",
+];
+
+/// Comparisons of which only display filters have the words.
+static OF_TEXT: [&[u8]; 2] = [b"contains", b"matches"];
+
+/// What asks whether a field has a value, the longer first.
+static EQUALS: [&[u8]; 3] = [b"==", b"=", b"eq "];
+
+/// A field, and what is written for it and for what follows up to its value, if that ends in a blank; else for the field.
+struct Field {
+    name: &'static [u8],
+    written: &'static str,
+}
+
+static FIELDS: [Field; 16] = [
+    Field {
+        name: b"ip.addr",
+        written: "ip host ",
+    },
+    Field {
+        name: b"ip.src",
+        written: "ip src host ",
+    },
+    Field {
+        name: b"ip.dst",
+        written: "ip dst host ",
+    },
+    Field {
+        name: b"ip.proto",
+        written: "proto ",
+    },
+    Field {
+        name: b"ip.ttl",
+        written: "ip[8]",
+    },
+    Field {
+        name: b"eth.addr",
+        written: "ether host ",
+    },
+    Field {
+        name: b"eth.src",
+        written: "ether src ",
+    },
+    Field {
+        name: b"eth.dst",
+        written: "ether dst ",
+    },
+    Field {
+        name: b"eth.type",
+        written: "ether proto ",
+    },
+    Field {
+        name: b"tcp.port",
+        written: "tcp port ",
+    },
+    Field {
+        name: b"tcp.srcport",
+        written: "tcp src port ",
+    },
+    Field {
+        name: b"tcp.dstport",
+        written: "tcp dst port ",
+    },
+    Field {
+        name: b"udp.port",
+        written: "udp port ",
+    },
+    Field {
+        name: b"udp.srcport",
+        written: "udp src port ",
+    },
+    Field {
+        name: b"udp.dstport",
+        written: "udp dst port ",
+    },
+    Field {
+        name: b"frame.len",
+        written: "len",
+    },
+];
+
+/// A protocol over ports, and its usual port.
+struct Service {
+    name: &'static [u8],
+    written: &'static str,
+}
+
+static SERVICES: [Service; 16] = [
+    Service {
+        name: b"dns",
+        written: "port 53",
+    },
+    Service {
+        name: b"http",
+        written: "tcp port 80",
+    },
+    Service {
+        name: b"https",
+        written: "tcp port 443",
+    },
+    Service {
+        name: b"tls",
+        written: "tcp port 443",
+    },
+    Service {
+        name: b"ssl",
+        written: "tcp port 443",
+    },
+    Service {
+        name: b"quic",
+        written: "udp port 443",
+    },
+    Service {
+        name: b"ssh",
+        written: "tcp port 22",
+    },
+    Service {
+        name: b"ftp",
+        written: "tcp port 21",
+    },
+    Service {
+        name: b"telnet",
+        written: "tcp port 23",
+    },
+    Service {
+        name: b"smtp",
+        written: "tcp port 25",
+    },
+    Service {
+        name: b"ntp",
+        written: "udp port 123",
+    },
+    Service {
+        name: b"dhcp",
+        written: "udp portrange 67-68",
+    },
+    Service {
+        name: b"bootp",
+        written: "udp portrange 67-68",
+    },
+    Service {
+        name: b"snmp",
+        written: "udp port 161",
+    },
+    Service {
+        name: b"mdns",
+        written: "udp port 5353",
+    },
+    Service {
+        name: b"sip",
+        written: "port 5060",
+    },
+];
+
+/// Whether a text is a name with dots in it, which a field is and a host's name may be.
+fn has_dots(name: &[u8]) -> bool {
+    let begins = match name.first() {
+        Some(first) => first.is_ascii_alphabetic(),
+        None => false,
+    };
+    begins && name.contains(&b'.') && !name.ends_with(b".") && !name.contains(&b':')
+}
+
+/// Whether a text is compared by what follows it.
+fn is_compared(after: &[u8]) -> bool {
+    COMPARISONS
+        .iter()
+        .any(|comparison| after.starts_with(*comparison))
+}
+
+/// Whether a name with dots is a field: one of a protocol, or one that is compared.
+fn is_field(name: &[u8], after: &[u8]) -> bool {
+    let protocol = name.split(|byte| *byte == b'.').next().unwrap_or(name);
+    PROTOCOLS.contains(&protocol) || is_compared(after)
+}
+
+/// How many bytes ask whether a field has the value after them, with blanks.
+fn equals_len(after: &[u8]) -> Option<usize> {
+    let sign = after_blanks(after);
+    for equals in EQUALS.iter() {
+        if let Some(value) = sign.strip_prefix(*equals) {
+            return Some(after.len().saturating_sub(after_blanks(value).len()));
+        }
+    }
+    None
+}
+
+/// What is written for a field, and for what follows it up to its value.
+fn written_for<'a>(alloc: Global, spot: Spot<'a>, run: Run<'a>, after: &[u8]) -> Found<'a> {
+    let Some(field) = FIELDS.iter().find(|field| field.name == run.bytes) else {
+        return Ok(None);
+    };
+    let len = if !field.written.ends_with(" ") {
+        run.bytes.len()
+    } else if let Some(equals) = equals_len(after) {
+        run.bytes.len().saturating_add(equals)
+    } else {
+        return Ok(None);
+    };
+    match spot.without(run.start, len) {
+        Some(gap) if gap.takes(alloc, field.written)? => {
+            let replaced = spot.between(run.start, run.start.saturating_add(len));
+            Ok(Some(Advice::Field(field.written, without_blanks(replaced))))
+        }
+        _ => Ok(None),
+    }
+}
+
+/// What helps at a name with dots: a field, or the name of a host.
+pub(crate) fn of_dots<'a>(alloc: Global, spot: Spot<'a>) -> Found<'a> {
+    let run = spot.run();
+    let end = run.start.saturating_add(run.bytes.len());
+    let after = spot.at(end).rest();
+    let first = spot.at(run.start);
+    if !has_dots(run.bytes) || (first.takes_only_name() && !first.takes_address()) {
+        return Ok(None);
+    }
+    if first.takes_address() || !is_field(run.bytes, after_blanks(after)) {
+        return Ok(Some(Advice::host(run.bytes)));
+    }
+    match written_for(alloc, spot, run, after)? {
+        Some(advice) => Ok(Some(advice)),
+        None => Ok(Some(Advice::Said(DISPLAY_FILTER))),
+    }
+}
+
+/// What helps at a word that is compared as only a field is.
+pub(crate) fn of_text<'a>(spot: Spot<'a>) -> Option<Advice<'a>> {
+    let next = after_blanks(spot.after_word());
+    let is_of_text = OF_TEXT.contains(&spot.word())
+        || OF_TEXT.iter().any(|one| next.starts_with(*one));
+    if is_of_text && !spot.takes_address() {
+        Some(Advice::Said(DISPLAY_FILTER))
+    } else {
+        None
+    }
+}
+
+/// What helps at the name of a protocol over ports.
+pub(crate) fn of_service<'a>(alloc: Global, spot: Spot<'a>) -> Found<'a> {
+    let Some(service) = SERVICES.iter().find(|service| service.name == spot.word()) else {
+        return Ok(None);
+    };
+    match spot.without_name() {
+        Some(gap) if !spot.takes_address() && gap.takes(alloc, service.written)? => {
+            Ok(Some(Advice::Service(service.written, spot.word())))
+        }
+        _ => Ok(None),
+    }
+}

@@ -1,0 +1,276 @@
+//! What helps at words of libpcap's language that this one lacks.
+
+use crate::advice::{Advice, Found};
+use crate::spots::{PROTO, Spot, after_blanks, first_word, without_last_word};
+use std::alloc::Global;
+
+/// Words that libpcap reads on Ethernet, for what is not Ethernet with IPv4 or ARP.
+static OTHER_LINKS: [&[u8]; 30] = [
+    b"ip6", b"icmp6", b"vlan", b"mpls", b"pppoed", b"pppoes", b"geneve", b"atalk", b"aarp",
+    b"decnet", b"ipx", b"llc", b"lat", b"sca", b"moprc", b"mopdl", b"stp", b"netbeui", b"iso",
+    b"clnp", b"esis", b"es-is", b"isis", b"is-is", b"l1", b"l2", b"iih", b"lsp", b"csnp", b"psnp",
+];
+
+/// Words of display filters for IPv6.
+static IPV6_WORDS: [&[u8]; 2] = [b"ipv6", b"icmpv6"];
+
+/// Words of libpcap's language that mean `ether` on Ethernet.
+static MEAN_ETHER: [&[u8]; 4] = [b"link", b"wlan", b"fddi", b"tr"];
+
+/// Words that `ether` goes before.
+static AFTER_ETHER: [&[u8]; 6] = [
+    b"host",
+    b"src",
+    b"dst",
+    b"proto",
+    b"broadcast",
+    b"multicast",
+];
+
+/// The word of libpcap's language for wireless links.
+const WIRELESS: &[u8] = b"wlan";
+
+/// A word of libpcap's language that no program for captures stands for, and what is written instead.
+struct Remark {
+    word: &'static [u8],
+    said: &'static str,
+}
+
+static REMARKS: [Remark; 5] = [
+    Remark {
+        word: b"inbound",
+        said: "a capture has no directions: write `not ether src` and the address of the interface",
+    },
+    Remark {
+        word: b"outbound",
+        said: "a capture has no directions: write `ether src` and the address of the interface",
+    },
+    Remark {
+        word: b"gateway",
+        said: "write `ether host` with the Ethernet address of the gateway, and `not host` with its IPv4 address",
+    },
+    Remark {
+        word: b"protochain",
+        said: "`protochain` needs a loop, and filter programs have none: `proto` looks at the IPv4 header only",
+    },
+    Remark {
+        word: b"ifname",
+        said: "a capture of Ethernet does not name interfaces",
+    },
+];
+
+/// A protocol that is written by its number.
+struct ByNumber {
+    name: &'static [u8],
+    number: &'static str,
+    primitive: &'static str,
+}
+
+/// Protocols over IPv4 that have no name after `proto`: all but the last are no words of the language.
+static BY_NUMBER: [ByNumber; 8] = [
+    ByNumber {
+        name: b"igmp",
+        number: "2",
+        primitive: "proto 2",
+    },
+    ByNumber {
+        name: b"igrp",
+        number: "9",
+        primitive: "proto 9",
+    },
+    ByNumber {
+        name: b"esp",
+        number: "50",
+        primitive: "proto 50",
+    },
+    ByNumber {
+        name: b"ah",
+        number: "51",
+        primitive: "proto 51",
+    },
+    ByNumber {
+        name: b"pim",
+        number: "103",
+        primitive: "proto 103",
+    },
+    ByNumber {
+        name: b"vrrp",
+        number: "112",
+        primitive: "proto 112",
+    },
+    ByNumber {
+        name: b"carp",
+        number: "112",
+        primitive: "proto 112",
+    },
+    ByNumber {
+        name: b"sctp",
+        number: "132",
+        primitive: "proto 132",
+    },
+];
+
+/// The word of libpcap's language for `len`.
+const LENGTH: &[u8] = b"length";
+
+/// A named value that the language lacks: what it begins with, what follows, and its number.
+struct OtherValue {
+    prefix: &'static str,
+    name: &'static [u8],
+    number: &'static str,
+}
+
+/// Flags of TCP and types of ICMP that the language has no names for.
+static OTHER_VALUES: [OtherValue; 11] = [
+    OtherValue {
+        prefix: "tcp-",
+        name: b"ece",
+        number: "64",
+    },
+    OtherValue {
+        prefix: "tcp-",
+        name: b"cwr",
+        number: "128",
+    },
+    OtherValue {
+        prefix: "icmp-",
+        name: b"routeradvert",
+        number: "9",
+    },
+    OtherValue {
+        prefix: "icmp-",
+        name: b"routersolicit",
+        number: "10",
+    },
+    OtherValue {
+        prefix: "icmp-",
+        name: b"paramprob",
+        number: "12",
+    },
+    OtherValue {
+        prefix: "icmp-",
+        name: b"tstamp",
+        number: "13",
+    },
+    OtherValue {
+        prefix: "icmp-",
+        name: b"tstampreply",
+        number: "14",
+    },
+    OtherValue {
+        prefix: "icmp-",
+        name: b"ireq",
+        number: "15",
+    },
+    OtherValue {
+        prefix: "icmp-",
+        name: b"ireqreply",
+        number: "16",
+    },
+    OtherValue {
+        prefix: "icmp-",
+        name: b"maskreq",
+        number: "17",
+    },
+    OtherValue {
+        prefix: "icmp-",
+        name: b"maskreply",
+        number: "18",
+    },
+];
+
+/// What helps at the second word of a named value that the language lacks.
+pub(crate) fn of_value<'a>(alloc: Global, spot: Spot<'a>) -> Found<'a> {
+    for value in OTHER_VALUES.iter() {
+        let prefix = value.prefix;
+        if value.name == spot.word() && spot.before().ends_with(prefix.as_bytes()) {
+            return match spot.without_word_and(prefix.len()) {
+                Some(gap) if gap.takes(alloc, value.number)? => {
+                    Ok(Some(Advice::Written(value.number, prefix, spot.word())))
+                }
+                _ => Ok(None),
+            };
+        }
+    }
+    Ok(None)
+}
+
+/// What helps at a protocol that is written by its number.
+fn of_protocol<'a>(alloc: Global, spot: Spot<'a>, protocol: &ByNumber) -> Found<'a> {
+    let Some(gap) = spot.without_name() else {
+        return Ok(None);
+    };
+    let backslash = if spot.has_backslash() { "\\" } else { "" };
+    let written = if spot.has_backslash() || spot.last() == PROTO {
+        protocol.number
+    } else {
+        protocol.primitive
+    };
+    if gap.takes(alloc, written)? {
+        return Ok(Some(Advice::Written(written, backslash, spot.word())));
+    }
+    if spot.after_word().starts_with(b"[") {
+        return Ok(Some(Advice::Said(
+            "write `[..]` only after `ether`, `ip`, `arp`, `rarp`, `tcp`, `udp` or `icmp`",
+        )));
+    }
+    Ok(None)
+}
+
+/// What helps at a word that means `ether`, if something follows that `ether` goes before.
+fn of_ether<'a>(alloc: Global, spot: Spot<'a>) -> Found<'a> {
+    let next = after_blanks(spot.after_word());
+    let is_before = next.starts_with(b"[") || AFTER_ETHER.contains(&first_word(next));
+    match spot.without_name() {
+        Some(gap) if is_before && gap.takes(alloc, "ether")? => {
+            Ok(Some(Advice::Written("ether", "", spot.word())))
+        }
+        _ => Ok(None),
+    }
+}
+
+/// What helps at a word of libpcap's language, or at a protocol, for which something else is written here.
+pub(crate) fn of_other_word<'a>(alloc: Global, spot: Spot<'a>) -> Found<'a> {
+    let word = spot.word();
+    if word == LENGTH {
+        return match spot.without_name() {
+            Some(gap) if gap.takes(alloc, "len")? => Ok(Some(Advice::Written("len", "", word))),
+            _ => Ok(None),
+        };
+    }
+    if MEAN_ETHER.contains(&word) {
+        return of_ether(alloc, spot);
+    }
+    for protocol in BY_NUMBER.iter() {
+        if protocol.name == word {
+            return of_protocol(alloc, spot, protocol);
+        }
+    }
+    Ok(None)
+}
+
+/// What helps at a word for what this profile leaves out, or that no program for captures stands for.
+pub(crate) fn of_left_out<'a>(spot: Spot<'a>) -> Option<Advice<'a>> {
+    let (before, after) = ("only Ethernet with IPv4 is supported, not `", "`");
+    let word = spot.word();
+    if OTHER_LINKS.contains(&word) {
+        Some(Advice::Elsewhere(before, word, after))
+    } else if word == WIRELESS || IPV6_WORDS.contains(&word) {
+        Some(Advice::Round(before, word, after))
+    } else {
+        let remark = REMARKS.iter().find(|remark| remark.word == word)?;
+        Some(Advice::Said(remark.said))
+    }
+}
+
+/// What helps at `broadcast` after `ip`, which here is a word of Ethernet.
+pub(crate) fn of_ip_broadcast<'a>(spot: Spot<'a>) -> Option<Advice<'a>> {
+    let is_name = without_last_word(spot.before()).ends_with(b"\\");
+    if spot.word() == b"broadcast".as_slice() && spot.last() == b"ip".as_slice() && !is_name {
+        Some(Advice::Said(
+            "`ip broadcast` depends on the mask of a net: write the address, as in `dst host 192.0.2.255`",
+        ))
+    } else {
+        None
+    }
+}
