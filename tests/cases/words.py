@@ -64,7 +64,10 @@ def help_has_a_page_of_the_language(scene):
 # Commands that there are not, and a part of the hint on each.
 POINTED = [
     ("count in.pcap", b"bpftap cut -c"), ("filter tcp in.pcap out.pcap", b"bpftap cut"), ("read in.pcap", b"bpftap explain"),
-    ("merge a.pcap b.pcap", b"mergecap"),
+    ("merge a.pcap b.pcap", b"mergecap"), ("print in.pcap", b"tcpdump -nr IN"), ("show", b"tcpdump -nr IN"), ("dump x", b"tcpdump -nr IN"),
+    ("hexdump in.pcap", b"bpftap explain -p PLACE -e '' IN"), ("diff a b", b"bpftap compare EXPR1 EXPR2 IN"), ("version", b"bpftap --version"),
+    ("info in.pcap", b"capinfos IN"), ("head in.pcap", b"editcap -r -F nsecpcap IN OUT 1-10"), ("assemble x", b"bpftap check -f FILE"),
+    ("disassemble x", b"bpftap check -d -f FILE"), ("completions bash", b"./install"),
 ]
 
 
