@@ -164,12 +164,12 @@ def bad_usage_has_the_usage(scene):
 
 
 def help_examples(program):
-    """The commands that the help of all commands shows."""
+    """The lines of commands that the help of all commands shows, each with what a `#` says of it."""
     for command in ["", "check", "explain", "compare", "cut", "split", "steps", "run"]:
         words = [program, *command.split(), "--help"]
         text = subprocess.run(words, stdout=subprocess.PIPE, text=True, timeout=LIMIT).stdout
         for line in text.partition("Examples:\n")[2].partition("\n\n")[0].splitlines():
-            yield line.strip().partition("   ")[0]
+            yield line.strip()
 
 
 def run_all_examples(scene, prefix, name):

@@ -1,5 +1,5 @@
 """The words of the command line: those that are no command, and those that ask for help or the version."""
-from .common import HEADER, TCP_RECORD, case, fault_lines
+from .common import HEADER, TCP_RECORD, WHOLE, case, fault_lines
 
 WRONG = [
     "",
@@ -69,6 +69,47 @@ POINTED = [
     ("info in.pcap", b"capinfos IN"), ("head in.pcap", b"editcap -r -F nsecpcap IN OUT 1-10"), ("assemble x", b"bpftap check -f FILE"),
     ("disassemble x", b"bpftap check -d -f FILE"), ("completions bash", b"./install"),
 ]
+
+# Words that are refused or that a file fails by, the status, and the hints below all else.
+WORDS_OF_OTHERS = [
+    ("cut -s 0 -F x in.pcap out.pcap", 1, ['to read an expression from a file: -e "$(cat FILE)", or for check "$(cat FILE)"']),
+    ("check -F x", 1, ['to read an expression from a file: -e "$(cat FILE)", or for check "$(cat FILE)"']),
+    ("cut -s 0 -A 2026-11-24 in.pcap out.pcap", 1,
+     ["to keep packets between two times: editcap -A START -B STOP -F nsecpcap IN OUT"]),
+    ("explain -r in.pcap", 1, ["captures are words without an option: IN, and for cut OUT as the last word"]),
+    ("cut -s 0 in.pcap -w out.pcap", 1, ["captures are words without an option: IN, and for cut OUT as the last word"]),
+    ("compare -w out.pcap -z tcp udp", 1, []),
+    ("explain -nn -e ip in.pcap", 1, ["addresses are never looked up: leave this option out"]),
+    ("cut in.pcap out.pcap", 1, ["-s 0 keeps packets whole"]),
+    ("cut -c -s 0 -e ip in.pcap", 1, ["to count only, give /dev/null as OUT"]),
+    ("cut -s 0 -e ip in.pcap", 1, []),
+    ("split", 1, []),
+    ("cut -c 10 -s 0 -e ip in.pcap out.pcap", 3,
+     ["-c takes no number: it counts packets", "to keep the first ten packets: editcap -r -F nsecpcap IN OUT 1-10"]),
+    ("cut -s 0 -e ip - out.pcap", 3,
+     ["`-` is the name of a file here: standard input is /dev/stdin, standard output /dev/stdout"]),
+    ("check -f -", 3, ["`-` is the name of a file here: standard input is /dev/stdin, standard output /dev/stdout"]),
+    ("cut -s 0 -e ip in.pcap -", 0, ["the packets are in a file named `-`: standard output is /dev/stdout"]),
+    ("cut --json -s 0 -e ip in.pcap -", 0, []),
+]
+
+
+@case
+def words_of_other_tools_have_hints(scene):
+    """An option of tcpdump, a missing one, a number after `-c` and a `-` have the way below all else; without hints nothing is added."""
+    for words, status, hints in WORDS_OF_OTHERS:
+        scene.start({"in.pcap": WHOLE})
+        plain, hinted = scene.run(words), scene.run(f"--hints {words}")
+        scene.check(f"status of {words}", (plain.status, hinted.status), (status, status))
+        below = [line.strip() for line in hinted.err.decode().splitlines() if line.startswith("  ")]
+        wanted = [line for line in below if line in hints]
+        scene.check(f"hints of {words}", wanted, hints)
+        ways = [line for line in below if line in ALL_HINTS]
+        scene.check(f"no other hints of {words}", ways, hints)
+        scene.check(f"{words} without hints", [line for line in plain.err.decode().splitlines() if line.strip() in ALL_HINTS], [])
+
+
+ALL_HINTS = {line for _, _, hints in WORDS_OF_OTHERS for line in hints}
 
 
 @case

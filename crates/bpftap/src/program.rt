@@ -13,7 +13,9 @@ use cli_faults::file::Inputs;
 use cli_files::late::reserve_std_fd;
 use cli_filter_hints::quotes::hint_unquoted;
 use cli_report::HintSink;
-use cli_report::commands::hint_command;
+use cli_report::commands::{
+    hint_command, hint_dash_output, hint_failed_words, hint_missing, hint_option,
+};
 use cli_run::command::{NamesFiles, run_command};
 use cli_split::command::split_command;
 use cli_steps::command::steps_command;
@@ -37,7 +39,12 @@ pub fn run<
     let _input = reserve_std_fd(rt);
     let _output = reserve_std_fd(rt);
     let _error = reserve_std_fd(rt);
-    dispatch(rt, words, out, err)
+    let status = dispatch(rt, words, out, err);
+    let takes_hints = !words.iter().any(|word| word.as_str() == "--json");
+    if status == Status::Failed && takes_hints {
+        hint_failed_words(words, err);
+    }
+    status
 }
 
 /// [`run`], once all standard streams are open.
@@ -64,6 +71,9 @@ fn dispatch<
             let inputs = Inputs::Captures(asked.inputs.as_slice());
             let mut err = FaultStream::new(rt.alloc(), err, asked.json, inputs);
             let status = cut_command(rt, &asked, &mut err);
+            if status == Status::Clean || status == Status::Damaged {
+                hint_dash_output(asked.output, &mut err);
+            }
             hint_several(rt.alloc(), words, asked.inputs.as_slice(), status, &mut err)
         }
         Ok(Request::Steps(words)) => {
@@ -112,19 +122,28 @@ fn report_usage<S: AsStr, O: Write, E: HintSink>(
     let error = printed_error(alloc, words, error);
     let status = report_words_fault(&error, out, err);
     match error.kind() {
-        ErrorKind::UnknownArgument => hint_unquoted(alloc, words, err),
+        ErrorKind::UnknownArgument => {
+            hint_option(words, err);
+            hint_unquoted(alloc, words, err)
+        }
         ErrorKind::InvalidSubcommand => hint_command(words, err),
-        _ if takes_expression_for_capture(words, &error) => hint_unquoted(alloc, words, err),
+        ErrorKind::MissingRequiredArgument => hint_missing_word(alloc, words, err),
         _ => {}
     }
     status
 }
 
+/// Hints on arguments of which one is missing.
+fn hint_missing_word<S: AsStr, E: HintSink>(alloc: Global, words: &[S], err: &mut E) {
+    hint_missing(words, err);
+    if takes_expression_for_capture(words) {
+        hint_unquoted(alloc, words, err)
+    }
+}
+
 /// Whether these are arguments of `explain` without a filter: it took an expression that is given without `-e` for a capture.
-fn takes_expression_for_capture<S: AsStr>(words: &[S], error: &Error) -> bool {
-    error.kind() == ErrorKind::MissingRequiredArgument
-        && words.iter().take(3).any(|word| word.as_str() == "explain")
-        && !words.iter().any(gives_filter)
+fn takes_expression_for_capture<S: AsStr>(words: &[S]) -> bool {
+    words.iter().take(3).any(|word| word.as_str() == "explain") && !words.iter().any(gives_filter)
 }
 
 /// Whether a word is an option that gives a filter.

@@ -26,12 +26,12 @@ pub struct CheckWords<'a> {
 
 const CHECK_EXAMPLES: &str = "Examples:
   bpftap check 'tcp dst port 80 or 443'
-  bpftap check -d 'tcp dst port 80 or 443'    the same program, for a person to read
-  bpftap check -x 'tcp dst port 80 or 443'    what was read: tcp dst port 80 or tcp dst port 443
+  bpftap check -d 'tcp dst port 80 or 443'    # the same program, for a person to read
+  bpftap check -x 'tcp dst port 80 or 443'    # what was read: tcp dst port 80 or tcp dst port 443
   tcpdump -y EN10MB -ddd 'udp port 53' | bpftap check -d -f /dev/stdin
-  bpftap check -f examples/ssh.asm    the numbers of a program written by hand
-  bpftap check 'tcp and 80'       prints bpftap: NoQualifier 8
-  bpftap check ''                 the empty expression accepts every packet
+  bpftap check -f examples/ssh.asm    # the numbers of a program written by hand
+  bpftap check 'tcp and 80'       # prints bpftap: NoQualifier 8
+  bpftap check ''                 # the empty expression accepts every packet
 
 check prints a line with the number of instructions, then a line code jt jf k for each:
 tcpdump -ddd prints this form, and cut -f reads it. -d prints a line for each instruction with

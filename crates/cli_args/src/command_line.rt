@@ -66,7 +66,7 @@ const EXAMPLES: &str = "Examples:
   bpftap split examples/split/lines.txt examples/veth.pcap
   bpftap steps -v examples/steps/listeners.txt examples/steps/script.txt examples/veth.pcap
   bpftap run examples/run/listeners.txt examples/veth.pcap
-  bpftap help expressions     the filter language on one page
+  bpftap help expressions     # the filter language on one page
 
 Exit status: 0 clean; 1 bad usage, invalid input, or out of memory; 2 a torn or bad record, after
 the packets before it; 3 a file or device failed; 4 an answer, no fault: explain -q accepts no
@@ -76,12 +76,12 @@ not decided it.";
 const CUT_EXAMPLES: &str = "Examples:
   bpftap cut -s 0 -e 'udp port 5353' examples/veth.pcap dns.pcap
   bpftap cut -s 0 -f examples/ip.bpf examples/veth.pcap ip.pcap
-  bpftap cut -s 64 examples/veth.pcap headers.pcap     the first 64 bytes of every packet
+  bpftap cut -s 64 examples/veth.pcap headers.pcap     # the first 64 bytes of every packet
   bpftap cut -s 0 -e arp examples/veth.pcap examples/veth-big-nano.pcap arp.pcap
 
 The last path is OUT. Several IN are read in order, up to the first fault; -c counts the packets of
-all. -e and -f exclude each other. Write an expression that begins with - in parentheses, or after
--e=, as in -e='-1 + len > 60'.
+all. -u micro cuts nanoseconds off, and -u nano keeps them. -e and -f exclude each other. Write an
+expression that begins with - in parentheses, or after -e=, as in -e='-1 + len > 60'.
 
 Exit status: 0 clean; 1 bad usage, invalid input, or out of memory; 2 a torn or bad record, after
 the packets before it; 3 a file or device failed.";
@@ -121,12 +121,12 @@ static CUT: [Argument; 9] = [
     Argument::Json,
     Argument::Path(
         "IN",
-        "Captures to read, in order: classic savefiles of Ethernet frames",
+        "First capture to read: classic savefiles of Ethernet frames",
     ),
     // Of the words after the first IN the last one is OUT, wherever options come between them.
     Argument::Paths(
         "OUT",
-        "Capture to write, the last path; created once the filter and the first header of IN are accepted",
+        "Further captures to read, in order, and last the one to write, which is created once the filter and the first header of IN are accepted",
     ),
 ];
 

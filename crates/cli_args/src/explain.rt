@@ -44,7 +44,7 @@ fault, and the counts are of all; -p explains the packet at PLACE of each. With 
 that is accepted ends the reading, as with grep -q:
   if bpftap explain -q -e 'tcp port 8080' examples/veth.pcap; then echo seen; fi
 With --json each packet is an object on a line of its own, and so are the counts; -p has no JSON:
-  bpftap explain --json -e 'tcp port 8080' examples/veth.pcap | jq -r .answer | sort | uniq -c
+  bpftap explain --json -e 'tcp port 8080' examples/veth.pcap | jq -r '.answer // empty' | sort | uniq -c
 
 Exit status: 0 clean, with -q: a packet is accepted; 1 bad usage, invalid input, no packet at
 PLACE, or out of memory; 2 a torn or bad record, after the packets before it; 3 a file or device

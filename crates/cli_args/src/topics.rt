@@ -35,7 +35,8 @@ identifier without a qualifier takes those of the nearest primitive to its left.
 
 A test of a byte that was not captured rejects the packet, also under 'not'.
 
-Not in the language: IPv6, VLAN, names of hosts and services. tcpdump compiles those:
+tcp, port 53 and the like accept IPv4 only: no IPv6, which tcpdump accepts too, and no frame with a
+VLAN tag. Names of hosts and services are not read either. tcpdump compiles all of those:
   tcpdump -y EN10MB -ddd 'ip6 and port 80' > f.bpf, and then -f f.bpf
 
 'bpftap check -x EXPR' prints how an expression is read, 'bpftap explain -e EXPR IN' what it

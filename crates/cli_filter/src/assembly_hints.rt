@@ -6,8 +6,11 @@ use crate::listing_hints::{hint_invalid, place_of};
 use bpf_asm::{AssemblyFault, Cause};
 use bpfvm::Invalid;
 use cli_report::HintSink;
-use cli_report::files::show_line;
+use cli_report::files::{line_at, show_line};
 use cli_report::stream::give_hint;
+use filterlang::parse;
+use std::alloc::Global;
+use std::str;
 
 /// Whether a byte is no blank of assembly.
 fn is_no_blank(byte: &u8) -> bool {
@@ -121,14 +124,40 @@ fn advice_of(cause: Cause) -> &'static str {
     }
 }
 
+/// Whether a text is a filter expression.
+fn is_expression(alloc: Global, text: &[u8]) -> bool {
+    match str::from_utf8(text) {
+        Ok(text) => parse(alloc, text).is_ok(),
+        Err(_) => false,
+    }
+}
+
+/// How to fix a line of a text that is no assembly, which may be of another kind.
+fn advice_on(alloc: Global, text: &[u8], line: &[u8], cause: Cause) -> &'static str {
+    if is_expression(alloc, text) {
+        "this is a filter expression: give it as \"$(cat FILE)\" where an expression goes, as after -e"
+    } else if without_blanks(line).starts_with(b"{") {
+        "this looks like an array of C, as check -dd prints it: give what check or check -d prints"
+    } else {
+        advice_of(cause)
+    }
+}
+
 /// Hints on a text that is no assembly of a program: the line that is wrong, and what to do.
-pub(crate) fn hint_assembly<E: HintSink>(text: &[u8], fault: AssemblyFault, err: &mut E)
+pub(crate) fn hint_assembly<E: HintSink>(
+    alloc: Global,
+    text: &[u8],
+    fault: AssemblyFault,
+    err: &mut E,
+)
     ensures quiet { E.takes_hints err.old ≡ false → err.new ≡ err.old }
 {
     match fault {
-        AssemblyFault::Line(line, cause) => {
-            show_line(text, line, err);
-            give_hint(advice_of(cause), err);
+        AssemblyFault::Line(number, cause) => {
+            show_line(text, number, err);
+            if err.takes_hints() {
+                give_hint(advice_on(alloc, text, line_at(text, number), cause), err);
+            }
         }
         AssemblyFault::Program(fault) => hint_program(text, fault, err),
         AssemblyFault::TextTooLong => give_hint(

@@ -36,7 +36,7 @@ fn hint_filter<E: HintSink>(
     match fault {
         FilterFault::Expression(fault) => hint_expression(alloc, expr.unwrap_or(""), fault, err),
         FilterFault::Listing(fault) => hint_listing(listing.unwrap_or(&[]), fault, err),
-        FilterFault::Assembly(fault) => hint_assembly(listing.unwrap_or(&[]), fault, err),
+        FilterFault::Assembly(fault) => hint_assembly(alloc, listing.unwrap_or(&[]), fault, err),
         FilterFault::Twice => {}
     }
 }
