@@ -29,18 +29,23 @@ PAIRS = {
         ("ether host 1:2:3:4:5:6", "ether src 1:2:3:4:5:6 or ether dst 1:2:3:4:5:6"), ("ether src 1:2:3:4:5:6", "not not ether src 1:2:3:4:5:6"),
         ("ether multicast and ether broadcast", "ether broadcast"), ("ether multicast or ether broadcast", "ether multicast"),
         ("src port 80 or 443", "src port 443 or 80"), ("dst port 53 and udp", "udp dst port 53"), ("net 10.0.0.0/8 and tcp", "tcp and net 10.0.0.0/8"),
-        ("", "less 100 or not less 100"),
+        ("", "less 100 or not less 100"), ("ip[0] & 15 = 5", "5 = 15 & ip[0]"), ("ip[9] = 6", "ip proto 6"), ("ether[0] & 1 = 0", "not ether multicast"),
+        ("tcp[13] & 3 = 1 + 2", "tcp[tcpflags] & (tcp-fin | tcp-syn) = 3"), ("ether[12:2] = 0x800", "ip"), ("tcp[0:2] = 80", "tcp src port 80"),
+        ("tcp[2:2] > 1023", "tcp dst portrange 1024-65535"), ("ip[12:4] & 0xff000000 = 0x0a000000", "ip src net 10.0.0.0/8"),
+        ("ip[0] >= 64 and ip[0] <= 79", "ip[0] & 0xf0 = 0x40"), ("arp[6:2] = 1", "arp[6] = 0 and arp[7] = 1"),
+        ("len = 100", "less 100 and greater 100"), ("100 < len", "greater 101"), ("len != 100", "less 99 or greater 101"),
     ],
     CAPTURED: [
         ("ip", "ip and greater 14"), ("arp", "arp and greater 14"), ("tcp", "tcp and greater 24"), ("tcp", "tcp and not less 23"),
         ("ether broadcast", "ether broadcast and greater 6"), ("tcp or (ip and less 20)", "tcp"), ("less 5 and ip", "ip and not ip"),
+        ("ip[0] = 69", "ip[0] = 69 and len >= 15"),
     ],
     SHORT: [
         ("port 80 or 443", "port 443 or 80"), ("host 10.0.0.1 or 10.0.0.2", "host 10.0.0.2 or 10.0.0.1"),
         ("host 10.0.0.1", "dst host 10.0.0.1 or src host 10.0.0.1"), ("port 53", "dst port 53 or src port 53"), ("ip or less 100", "less 100 or ip"),
         ("tcp or less 100", "less 100 or tcp"), ("portrange 80-90", "portrange 80-85 or portrange 86-90"),
         ("net 10.0.0.0/8", "net 10.0.0.0/9 or net 10.128.0.0/9"), ("ether broadcast or ether multicast", "ether multicast"),
-        ("not (ip and not ip)", ""), ("ip or not ip", ""),
+        ("not (ip and not ip)", ""), ("ip or not ip", ""), ("ip[0] = 69 or ip[40] = 2", "ip[40] = 2 or ip[0] = 69"),
     ],
     DIFFER: [
         ("tcp", "udp"), ("ip", "arp"), ("rarp", "arp"), ("net 10.0.0.0/8", "net 10.0.0.0/9"), ("src portrange 80-90", "src portrange 80-91"),
@@ -52,7 +57,8 @@ PAIRS = {
         ("ether src 1:2:3:4:5:6", "ether dst 1:2:3:4:5:6"), ("ether host 1:2:3:4:5:6", "ether src 1:2:3:4:5:6"),
         ("src host 10.0.0.1 and dst host 10.0.0.2", "host 10.0.0.1 and host 10.0.0.2"), ("src and dst port 53", "port 53"),
         ("ip proto 6", "ether proto 0x806"), ("not ip", "arp"), ("not arp", "ip or rarp"), ("tcp and not port 22", "not port 22"),
-        ("udp port 53 or arp", "udp port 53 and arp"),
+        ("udp port 53 or arp", "udp port 53 and arp"), ("ip[0] = 69", "ip[0] & 15 = 5"), ("len < 100", "less 100"), ("ip[9] > 5", "5 > ip[9]"),
+        ("tcp[13] = 2", "tcp[13] & 2 != 0"), ("udp[2:2] = 53", "tcp[2:2] = 53"), ("tcp[13] & 2 = 0", "not tcp[13] & 2 != 0"),
     ],
 }
 

@@ -4,3 +4,4 @@ pub mod Numbers
 pub mod Bits
 pub mod Means
 pub mod Ends
+pub mod Loads

@@ -3,3 +3,4 @@ pub mod Joins
 pub mod Packets
 pub mod Same
 pub mod Findings
+pub mod Terms

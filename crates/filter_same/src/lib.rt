@@ -12,8 +12,10 @@ mod find;
 mod graph;
 mod plain;
 mod primitives;
+mod relations;
 mod sameness;
 mod table;
+mod terms;
 mod trees;
 mod witness;
 

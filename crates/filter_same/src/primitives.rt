@@ -31,7 +31,7 @@ struct Ports {
 }
 
 /// The Ethernet type.
-fn is_type(graph: &mut Graph, case: Case, number: u32) -> Result<usize, Stop>
+pub(crate) fn is_type(graph: &mut Graph, case: Case, number: u32) -> Result<usize, Stop>
     requires { number < 2 ^ 16 }
     ensures means { IfOk result (Means graph.new case (is_type number)) }
     ensures grew { Grew graph.old graph.new }
@@ -53,7 +53,11 @@ fn is_protocol(graph: &mut Graph, case: Case, number: u32) -> Result<usize, Stop
 
 /// IPv4 with this protocol number, and no later fragment.
 #[tactic(auto, using(crate::proofs::Tables::grown_more, crate::proofs::Tables::grown_same, crate::proofs::Tables::grown_inside))]
-fn is_first_fragment_of(graph: &mut Graph, case: Case, number: u32) -> Result<usize, Stop>
+pub(crate) fn is_first_fragment_of(
+    graph: &mut Graph,
+    case: Case,
+    number: u32,
+) -> Result<usize, Stop>
     requires { number < 2 ^ 8 }
     ensures means { IfOk result (Means graph.new case (is_first_fragment_of number)) }
     ensures grew { Grew graph.old graph.new }

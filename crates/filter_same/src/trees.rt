@@ -9,6 +9,7 @@ ghost use Rattle.filter_same.specs.Packets.{Means};
 use crate::case::{Case, Refusal, both, either};
 use crate::graph::Graph;
 use crate::primitives::primitive;
+use crate::relations::relation;
 use filter_tree::Expr;
 
 /// A node that says what an expression answers, or the opposite where that is wanted.
@@ -21,7 +22,7 @@ pub(crate) fn tree(graph: &mut Graph, case: Case, expr: &Expr) -> Result<usize, 
     match expr {
         Expr::Everything => Ok(graph.leaf(case.says(0, true))?),
         Expr::Test(asked) => primitive(graph, case, *asked),
-        Expr::Relation(_, _, _) => Err(Refusal::Relation),
+        Expr::Relation(comparison, left, right) => relation(graph, case, *comparison, left, right),
         Expr::Not(operand) => tree(graph, case.opposite(), operand),
         Expr::And(left, right) => {
             let first = tree(graph, case, left)?;

@@ -49,7 +49,7 @@ static SHORT: [(&str, &str); 9] = [
 ];
 
 /// What is known of two texts.
-fn found(rt: &(impl Abort + AllocGlobal), first: &str, second: &str) -> Sameness {
+pub(crate) fn found(rt: &(impl Abort + AllocGlobal), first: &str, second: &str) -> Sameness {
     let first = parse(rt.alloc(), first).expect(rt, "an expression");
     let second = parse(rt.alloc(), second).expect(rt, "an expression");
     decide(rt.alloc(), &first, &second, 500_000).expect(rt, "there is memory")

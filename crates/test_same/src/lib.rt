@@ -6,4 +6,6 @@ mod kinds;
 #[cfg(test)]
 mod pairs;
 #[cfg(test)]
+mod relations;
+#[cfg(test)]
 mod same;

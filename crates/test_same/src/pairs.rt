@@ -104,8 +104,8 @@ fn what_is_not_decided_has_a_cause(rt: HostRuntime) {
     );
     decided(
         &rt,
-        "ip[0] = 69",
-        "ip[0] = 69",
+        "ip[0] + 1 = 70",
+        "ip[0] + 1 = 70",
         1000,
         Sameness::NotDecided(Cause::Relation),
     );
