@@ -38,8 +38,10 @@ COMMANDS = [
     f"cut -s 64 -c -e {EXPRESSION} in.pcap out.pcap",
     "cut -s 64 -c -f ip.bpf in.pcap out.pcap",
     "split lines.txt in.pcap",
+    "split --json lines.txt in.pcap",
     "steps listeners.txt script.txt in.pcap",
     "steps -v listeners.txt script.txt in.pcap",
+    "steps -v --json listeners.txt script.txt in.pcap",
 ]
 
 FAULTS = ["--hints check 'src prot 17'", "--hints cut -s 0 in.pcap none/out.pcap", "--hints check tcp port 80", "--hints explain tcp in.pcap",
@@ -93,9 +95,14 @@ def sweep(scene, commands, which):
             yield words, one.result()
 
 
+# Out of memory, for printing and for a capture. With `--json` it is an object; that of a capture is a line if there is no memory for an object.
+WANTING = rb'bpftap: NoMemory\n|{"fault":"NoMemory","numbers":\[\]}\n'
+WANTING_CAPTURE = rb'bpftap: Capture \d+ NoMemory\n|{"fault":"Capture NoMemory","numbers":\[\d+\],"file":"in.pcap"}\n'
+
+
 def is_wanting(seen):
     """Whether out of memory is reported, with status 1, and nothing else: for printing, for a capture, or for both."""
-    return re.fullmatch(rb"bpftap: NoMemory\n|(bpftap: NoMemory\n)?bpftap: Capture \d+ NoMemory\n", seen.err) is not None and seen.status == 1
+    return re.fullmatch(rb"%b|(%b)?(%b)" % (WANTING, WANTING, WANTING_CAPTURE), seen.err) is not None and seen.status == 1
 
 
 def lines_of(seen):
