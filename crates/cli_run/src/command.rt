@@ -4,7 +4,7 @@ ghost use Rattle.std.specs.Prelude.{◌≡◌, ◌<◌, All, IfOk, length};
 
 use crate::faults::RunFaultText;
 use crate::hints::{hint_refused, hint_run};
-use crate::paths::{LateFiles, check_paths, late_files};
+use crate::paths::{LateFiles, capture_paths, check_paths, late_files};
 use crate::plan::{RunLine, fault_text, read_plan};
 use crate::run::{refuse, replay_plan};
 use crate::tally::report_flushed;
@@ -18,6 +18,9 @@ use cli_report::HintSink;
 use cli_report::failures::hint_printed;
 use cli_report::files::{LISTENERS_OF_RUN, hint_returns};
 use cli_text::Status;
+use cli_text::report::report_fault;
+use cli_watch::{Screen, Watch};
+use savefile::Fault;
 use std::alloc::Global;
 use std::fs::Files;
 use std::io::Write;
@@ -46,28 +49,30 @@ fn plan_of<'p, E: HintSink>(
 
 /// Names the files of a replay. A type parameter will not do for them: that another thread may do what such a file does is shown of
 /// a type that is known, and not of one that its trait names.
-pub trait NamesFiles {
+pub trait NamesFiles: Sized {
     /// The plan of LISTENERS with its files, once it is accepted and the paths are compared; or reports why it is refused.
-    fn named_files<'r, 'i, 'o, E: HintSink>(
+    fn named_files<'w, 'r, 'i, 'o, E: HintSink>(
         &'r self,
         alloc: Global,
         words: &RunWords<'i>,
         listeners: &'o [u8],
+        watch: &'w Watch<'r, Self>,
         err: &mut E,
-    ) -> Result<LateFiles<'r, 'i, 'o>, Status>;
+    ) -> Result<LateFiles<'w, 'r, 'i, 'o>, Status>;
 }
 
 impl NamesFiles for HostRuntime {
-    fn named_files<'r, 'i, 'o, E: HintSink>(
+    fn named_files<'w, 'r, 'i, 'o, E: HintSink>(
         &'r self,
         alloc: Global,
         words: &RunWords<'i>,
         listeners: &'o [u8],
+        watch: &'w Watch<'r, Self>,
         err: &mut E,
-    ) -> Result<LateFiles<'r, 'i, 'o>, Status> {
+    ) -> Result<LateFiles<'w, 'r, 'i, 'o>, Status> {
         let plan = plan_of(alloc, listeners, words.inputs.len(), err)?;
         check_paths(self, alloc, words, plan.lines.as_slice(), err)?;
-        match late_files(self, alloc, words, plan) {
+        match late_files(self, alloc, words, plan, watch) {
             Ok(late) => Ok(late),
             Err(fault) => Err(refuse(RunFaultText(fault), err).status),
         }
@@ -88,7 +93,7 @@ fn replay_files<R: Threads + Wait + Sync + AllocGlobal, O: Write, E: HintSink>(
     rt: &R,
     words: &RunWords<'_>,
     listeners: &[u8],
-    late: LateFiles<'_, '_, '_>,
+    late: LateFiles<'_, '_, '_, '_>,
     out: &mut O,
     err: &mut E,
 ) -> Result<Status, Status> {
@@ -97,8 +102,11 @@ fn replay_files<R: Threads + Wait + Sync + AllocGlobal, O: Write, E: HintSink>(
         plan,
         captures,
         sinks,
+        watch,
     } = late;
-    match replay_plan(rt, alloc, plan, captures, sinks) {
+    let replayed = replay_plan(rt, alloc, plan, captures, sinks);
+    watch.erase();
+    match replayed {
         Ok(mut reports) => {
             let outcome = report_flushed(form_of(words), reports.as_mut_slice(), out, err);
             hint_run(words.inputs.as_slice(), reports.as_slice(), err);
@@ -112,16 +120,29 @@ fn replay_files<R: Threads + Wait + Sync + AllocGlobal, O: Write, E: HintSink>(
     }
 }
 
-/// Reads LISTENERS, compares the paths, and replays.
-fn run_files<R: Files + AllocGlobal + NamesFiles + Threads + Wait + Sync, O: Write, E: HintSink>(
-    rt: &R,
+/// What is seen of the captures; or reports that memory ran out.
+fn watch_of<'r, R: Files + Screen, E: HintSink>(
+    rt: &'r R,
+    alloc: Global,
     words: &RunWords<'_>,
-    out: &mut O,
     err: &mut E,
-) -> Result<Status, Status> {
+) -> Result<Watch<'r, R>, Status> {
+    match capture_paths(alloc, words) {
+        Ok(paths) => Ok(Watch::new(rt, paths.as_slice(), err.takes_hints())),
+        Err(_) => Err(report_fault(Fault::NoMemory, Status::Refused, err)),
+    }
+}
+
+/// Reads LISTENERS, compares the paths, and replays.
+fn run_files<
+    R: Files + AllocGlobal + NamesFiles + Screen + Threads + Wait + Sync,
+    O: Write,
+    E: HintSink,
+>(rt: &R, words: &RunWords<'_>, out: &mut O, err: &mut E) -> Result<Status, Status> {
     let alloc = rt.alloc();
     let listeners = read_file(rt, words.listeners, err)?;
-    let late = rt.named_files(alloc, words, listeners.as_slice(), err)?;
+    let watch = watch_of(rt, alloc, words, err)?;
+    let late = rt.named_files(alloc, words, listeners.as_slice(), &watch, err)?;
     let mut out = output_buffer(alloc, &mut *out, err)?;
     let status = replay_files(rt, words, listeners.as_slice(), late, &mut out, err);
     hint_printed(out.get_ref(), err);
@@ -131,7 +152,7 @@ fn run_files<R: Files + AllocGlobal + NamesFiles + Threads + Wait + Sync, O: Wri
 
 /// `bpftap run`: LISTENERS is accepted and the paths are compared before a capture is opened.
 pub fn run_command<
-    R: Files + AllocGlobal + NamesFiles + Threads + Wait + Sync,
+    R: Files + AllocGlobal + NamesFiles + Screen + Threads + Wait + Sync,
     O: Write,
     E: HintSink,
 >(rt: &R, words: &RunWords<'_>, out: &mut O, err: &mut E) -> Status {
