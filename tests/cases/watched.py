@@ -190,11 +190,12 @@ def long_capture(scene, name, millions):
 @case
 def progress_is_shown(scene):
     """On a terminal a command that reads for more than a second shows how far it is, and erases that in the end."""
-    scene.start({"lines.txt": "0 out.pcap ip\n"})
+    scene.start({"lines.txt": "0 out.pcap ip\n", "listeners.txt": "0 0 0 1048576 2 out.pcap ip\n"})
     long_capture(scene, "long.pcap", 20)
     for words, status in [(["cut", "-s", "0", "-e", "ip", "long.pcap", "out.pcap"], 0), (["split", "lines.txt", "long.pcap"], 0),
                           (["cut", "-s", "0", "-e", "ip", "long.pcap", "long.pcap", "out.pcap"], 0),
-                          (["explain", "-q", "-e", "ip", "long.pcap"], 4), (["compare", "ip", "tcp", "long.pcap"], 0)]:
+                          (["explain", "-q", "-e", "ip", "long.pcap"], 4), (["compare", "ip", "tcp", "long.pcap"], 0),
+                          (["run", "listeners.txt", "long.pcap"], 0)]:
         shown, _, ended = watch(words, scene.folder, pauses=1)
         scene.check(f"status of {words}", ended, status)
         scene.check(f"left on the terminal by {words}", screen(shown), [""])
