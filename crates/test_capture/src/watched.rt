@@ -58,7 +58,7 @@ fn whole_frames_are_counted(rt: HostRuntime) {
     let text = concat(rt.alloc(), &records).expect(&rt, "memory");
     counts_are(&rt, text.as_slice(), 6, 3);
     // The last frame is torn.
-    counts_are(&rt, &text.as_slice()[..text.len() - 1], 5, 2);
+    counts_are(&rt, &text.as_slice()[..text.len().saturating_sub(1)], 5, 2);
 }
 
 #[test]
