@@ -292,6 +292,18 @@ def expression(rng, levels):
     return (rng.choice(["and", "or"]), expression(rng, levels - 1), expression(rng, levels - 1))
 
 
+def changed(rng, tree):
+    """The tree with some operands exchanged, or with another part in place of one."""
+    if rng.random() < 0.1:
+        return expression(rng, 0)
+    if tree[0] == "not":
+        return ("not", changed(rng, tree[1]))
+    if tree[0] in ("and", "or"):
+        left, right = changed(rng, tree[1]), changed(rng, tree[2])
+        return (tree[0], right, left) if rng.random() < 0.4 else (tree[0], left, right)
+    return tree
+
+
 def single(rng):
     if rng.random() < 0.3:
         return ("less", rng.choice([20, 60, 100]))

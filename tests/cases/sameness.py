@@ -138,18 +138,6 @@ def rewrites_of_an_expression_are_the_same(scene):
     scene.check("many are decided", decided > 40, True)
 
 
-def changed(rng, tree):
-    """The tree with its operands in another order, or with another part in place of one."""
-    if rng.random() < 0.1:
-        return meaning.expression(rng, 0)
-    if tree[0] == "not":
-        return ("not", changed(rng, tree[1]))
-    if tree[0] in ("and", "or"):
-        left, right = changed(rng, tree[1]), changed(rng, tree[2])
-        return (tree[0], right, left) if rng.random() < 0.4 else (tree[0], left, right)
-    return tree
-
-
 def is_accepted(tree, frame, wire):
     return meaning.answer_of(tree, frame, wire) is True
 
@@ -161,7 +149,7 @@ def random_pairs_are_decided_as_they_mean(scene):
     seen = set()
     for _ in range(60):
         first = meaning.expression(rng, 1)
-        second = changed(rng, first)
+        second = meaning.changed(rng, first)
         texts = [meaning.text_of(tree) for tree in (first, second)]
         if any(scene.run(["check", "--", text]).status for text in texts):
             continue
