@@ -4,7 +4,6 @@ ghost use Rattle.std.specs.Prelude.{◌≡◌, slice_get};
 ghost use Rattle.cli_text.specs.Sending.{Takes};
 ghost use Rattle.cli_cut.specs.Captures.{first_told, part_told, total_told};
 
-use crate::command::count_form;
 use crate::hints::hint_frames;
 use crate::paths::{LateOutput, check_paths, is_standard_output, late_output};
 use crate::plan::read_filter;
@@ -133,7 +132,7 @@ pub(crate) fn cut_several<'r, R: Files + AllocGlobal + Screen, E: HintSink>(
     watch.erase();
     let status = report_captures(rt, words, &end, err);
     if words.counted {
-        let _ = report_total(&end, count_form(words), err);
+        let _ = report_total(&end, LineForm::asked(words.json), err);
         hint_frames(words, watch.frames(), status, err);
     }
     Ok(status)

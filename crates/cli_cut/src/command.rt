@@ -60,15 +60,6 @@ fn report_end<F: Files, R, W: Write + Drop, E: HintSink>(
     status
 }
 
-/// The form of the counts that the arguments ask for.
-pub(crate) fn count_form(words: &CutWords<'_>) -> LineForm {
-    if words.json {
-        LineForm::Json
-    } else {
-        LineForm::Text
-    }
-}
-
 /// Cuts IN, and reports how that ended. The count comes after the fault and its hints.
 fn cut_and_report<F: Files + AllocGlobal + Screen, R: Read + Drop, W: Write + Drop, E: HintSink>(
     rt: &F,
@@ -96,7 +87,7 @@ fn cut_and_report<F: Files + AllocGlobal + Screen, R: Read + Drop, W: Write + Dr
     watch.erase();
     let status = report_end(rt, &end, words, from, err);
     if words.counted {
-        let _ = report_count(&end, count_form(words), err);
+        let _ = report_count(&end, LineForm::asked(words.json), err);
         hint_frames(words, watch.frames(), status, err);
     }
     status

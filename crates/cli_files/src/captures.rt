@@ -1,34 +1,15 @@
-//! The captures that a command reads and writes, each wrapped to note what a hint needs, and none of them opened before it is needed.
+//! The captures that a command writes, each wrapped to note what a hint needs.
 
-use crate::late::LateInput;
-use cli_report::probe::ProbedInput;
 use cli_report::{FailureProbe, HintSink};
 use cli_text::Status;
 use cli_text::report::report_fault;
 use savefile::{Counted, Fault};
-use std::alloc::{AllocError, Global};
-use std::fs::Files;
+use std::alloc::Global;
 use std::io;
 use std::io::{BufWriter, Write};
 
 /// How many bytes are gathered before they are written, of one capture of many or of standard output.
 pub const OUTPUT_BUFFER: usize = 1 << 16;
-
-/// A capture that is opened at its first read.
-pub type Input<'r, 'p, R> = ProbedInput<LateInput<'r, 'p, R>>;
-
-/// The captures at these paths, none of them opened.
-pub fn inputs<'r, 'p, R: Files>(
-    rt: &'r R,
-    alloc: Global,
-    paths: &[&'p str],
-) -> Result<Vec<Input<'r, 'p, R>>, AllocError> {
-    let mut inputs = Vec::with_capacity(alloc, paths.len())?;
-    for path in paths {
-        inputs.push(Counted::new(FailureProbe::new(LateInput::new(rt, *path))))?;
-    }
-    Ok(inputs)
-}
 
 /// A capture that is written, with a buffer of `room` bytes in front of it.
 pub fn with_buffer<W: Write + Drop>(

@@ -3,7 +3,6 @@
 
 pub mod captures;
 pub mod late;
-pub mod opening;
 pub mod paths;
 pub mod piped;
 pub mod reading;

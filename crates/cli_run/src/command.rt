@@ -79,15 +79,6 @@ impl NamesFiles for HostRuntime {
     }
 }
 
-/// The form of the lines that are printed.
-fn form_of(words: &RunWords<'_>) -> LineForm {
-    if words.json {
-        LineForm::Json
-    } else {
-        LineForm::Text
-    }
-}
-
 /// Replays the captures, and reports how that ended, with hints.
 fn replay_files<R: Threads + Wait + Sync + AllocGlobal, O: Write, E: HintSink>(
     rt: &R,
@@ -108,7 +99,7 @@ fn replay_files<R: Threads + Wait + Sync + AllocGlobal, O: Write, E: HintSink>(
     watch.erase();
     match replayed {
         Ok(mut reports) => {
-            let outcome = report_flushed(form_of(words), reports.as_mut_slice(), out, err);
+            let outcome = report_flushed(LineForm::asked(words.json), reports.as_mut_slice(), out, err);
             hint_run(words.inputs.as_slice(), reports.as_slice(), err);
             Ok(outcome.status)
         }

@@ -85,15 +85,6 @@ fn split_lines<'r, 'p, R: Files + AllocGlobal, I: Source + Drop>(
     split_flushed(alloc, captures, parts, words.order, words.unit)
 }
 
-/// The form of the lines that are printed.
-fn form_of(words: &SplitWords<'_>) -> LineForm {
-    if words.json {
-        LineForm::Json
-    } else {
-        LineForm::Text
-    }
-}
-
 /// Splits the captures as the plan says, and prints how many packets each part has.
 fn split_plan<'r, R: Files + AllocGlobal + Screen, O: Write, E: HintSink>(
     rt: &'r R,
@@ -104,7 +95,7 @@ fn split_plan<'r, R: Files + AllocGlobal + Screen, O: Write, E: HintSink>(
     err: &mut E,
 ) -> Result<Status, Status> {
     let Plan { lines, programs } = plan;
-    let (alloc, form) = (rt.alloc(), form_of(words));
+    let (alloc, form) = (rt.alloc(), LineForm::asked(words.json));
     let mut out = output_buffer(alloc, &mut *out, err)?;
     let paths = words.inputs.as_slice();
     let Ok(mut line) = line_for(alloc, form, lines.as_slice()) else {

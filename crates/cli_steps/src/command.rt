@@ -129,13 +129,8 @@ fn detail_of(words: &StepsWords<'_>) -> Detail {
 
 /// What is printed of the replay, and in which form.
 fn printing_of(words: &StepsWords<'_>) -> Printing {
-    let form = if words.json {
-        LineForm::Json
-    } else {
-        LineForm::Text
-    };
     Printing {
-        form,
+        form: LineForm::asked(words.json),
         detail: detail_of(words),
     }
 }

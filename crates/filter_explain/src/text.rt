@@ -60,7 +60,8 @@ fn put_asked(line: &mut String, asked: &AskedPart<'_>) -> Result<(), AllocError>
 pub fn put_verdict(line: &mut String, verdict: Verdict) -> Result<(), AllocError>
     ensures { OnOk result (string_bytes line.new ≡ string_bytes line.old ++ (verdict_text verdict ++ codes " ")) }
 {
-    write!(line, "{} ", verdict_text(verdict))
+    line.push_str(verdict_text(verdict))?;
+    line.push_str(" ")
 }
 
 /// Appends what an expression answers to a packet of `wire` bytes, of which these were captured, and the primitive or relation that
