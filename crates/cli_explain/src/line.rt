@@ -1,12 +1,10 @@
 //! The line of a packet.
 
-ghost use Rattle.std.specs.Prelude.{◌≡◌, ◌++◌, ℕ, List, length, IfOk, OnOk, string_bytes, codes};
-ghost use Rattle.std.specs.Fmt.{decimal};
-ghost use Rattle.cli_text.specs.Time.{nine_digits};
+ghost use Rattle.std.specs.Prelude.{◌≡◌, ◌++◌, ℕ, List, Some, IfOk, OnOk, string_bytes};
 ghost use Rattle.filterlang.specs.Trees.{tree_of};
 ghost use Rattle.cli_explain.specs.Answers.{answer, answer_line, ended_as, Decides, EndsRun, IsAnswer, IsEndOfRun, PutsAnswer};
 ghost use Rattle.cli_explain.specs.Forms.{line_in, IsAnswerIn};
-ghost use Rattle.cli_explain.specs.Printed.{packet_text, end_text};
+ghost use Rattle.cli_explain.specs.Printed.{packet_text, time_text, lengths_text, end_text};
 
 use crate::filter::AskedFilter;
 use crate::form::{Asking, LineBuffer, PacketForm};
@@ -17,37 +15,54 @@ use filter_explain::{put_decision, put_verdict};
 use filter_meaning::Verdict;
 use filterlang::Expr;
 use savefile::PacketRef;
-use std::alloc::{AllocError, Global};
+use std::alloc::Global;
+use std::fmt;
+use std::fmt::{Display, Formatter};
 
-/// Puts a packet's place and its time in place of what the line has.
-fn put_time(line: &mut String, place: u64, packet: &PacketRef<'_>) -> Result<(), AllocError>
-    ensures { OnOk result (string_bytes line.new ≡ codes "place " ++ decimal place ++ codes " time " ++ decimal packet.now.sec ++ codes "." ++ nine_digits packet.now.nanos) }
-{
-    line.clear();
-    write!(
-        line,
-        "place {place} time {}.{}",
-        packet.sec,
-        NineDigits(packet.nanos)
-    )
+/// A packet's place and its time.
+#[derive(Clone, Copy)]
+struct PacketTime<'a> {
+    place: u64,
+    packet: &'a PacketRef<'a>,
 }
 
-/// Appends how long a packet was on the wire, and how many bytes of it were captured.
-fn put_lengths(line: &mut String, packet: &PacketRef<'_>) -> Result<(), AllocError>
-    ensures { OnOk result (string_bytes line.new ≡ string_bytes line.old
-        ++ (codes " len " ++ decimal packet.now.len ++ codes " captured " ++ decimal (length packet.now.bytes) ++ codes " ")) }
-{
-    let captured = packet.bytes.len();
-    write!(line, " len {} captured {captured} ", packet.len)
+impl Display for PacketTime<'_> {
+    ghost output = { λ time. Some (time_text time.place time.packet.now) };
+
+    #[tactic(auto, unfolding(crate::specs::Printed::time_text))]
+    fn fmt<W: fmt::Write>(&self, f: &mut Formatter<W>) -> fmt::Result {
+        let PacketTime { place, packet } = *self;
+        write!(
+            f,
+            "place {place} time {}.{}",
+            packet.sec,
+            NineDigits(packet.nanos)
+        )
+    }
+}
+
+/// How long a packet was on the wire, and how many bytes of it were captured.
+#[derive(Clone, Copy)]
+struct PacketLengths<'a>(&'a PacketRef<'a>);
+
+impl Display for PacketLengths<'_> {
+    ghost output = { λ lengths. Some (lengths_text lengths.0.now) };
+
+    #[tactic(auto, unfolding(crate::specs::Printed::lengths_text))]
+    fn fmt<W: fmt::Write>(&self, f: &mut Formatter<W>) -> fmt::Result {
+        let packet = self.0;
+        let captured = packet.bytes.len();
+        write!(f, " len {} captured {captured} ", packet.len)
+    }
 }
 
 /// Puts a packet's place, its time and its lengths in place of what the line has.
-#[tactic(auto, unfolding(crate::specs::Printed::packet_text))]
 pub fn put_packet(line: &mut String, place: u64, packet: &PacketRef<'_>) -> Result<(), NoMemory>
     ensures { OnOk result (string_bytes line.new ≡ packet_text place packet.now) }
 {
-    put_time(line, place, packet)?;
-    put_lengths(line, packet)?;
+    let time = PacketTime { place, packet };
+    line.clear();
+    write!(line, "{time}{}", PacketLengths(packet))?;
     Ok(())
 }
 
