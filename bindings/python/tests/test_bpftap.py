@@ -7,6 +7,7 @@ import pathlib
 import pickle
 import struct
 import tempfile
+import threading
 import unittest
 import xml.etree.ElementTree
 
@@ -182,6 +183,26 @@ class Listeners(unittest.TestCase):
             with self.assertRaisesRegex(ValueError, f"^{name} is"):
                 tap.arrive(packet, capture, place)
         self.assertEqual((tap.received, tap.pending), (0, []))
+
+    def test_threads_share_a_listener(self):
+        tap = Listener("", snap=38)
+
+        def arrivals():
+            for _ in range(20_000):
+                tap.arrive(UDP)
+
+        threads = [threading.Thread(target=arrivals) for _ in range(4)]
+        for thread in threads:
+            thread.start()
+        read = []
+        while any(thread.is_alive() for thread in threads):
+            read += tap.read()
+        for thread in threads:
+            thread.join()
+        read += tap.read() + tap.pending
+        self.assertEqual((tap.received, tap.matched, len(read)), (80_000, 80_000, 80_000 - tap.dropped))
+        places = [message.place for message in read]
+        self.assertEqual(places, sorted(set(places)))
 
     def test_a_listener_has_no_copy(self):
         for call in (copy.copy, copy.deepcopy, pickle.dumps):
