@@ -8,8 +8,8 @@ from dataclasses import dataclass
 
 from ._captures import Packet, record_of
 from ._errors import Fault, raise_fault
-from ._filters import Filter
-from ._library import MAX_CAPACITY, MAX_SNAP, OK, Buffer, Tap, in_range, lib
+from ._filters import Filter, filter_of
+from ._library import MAX_CAPACITY, MAX_SNAP, OK, Buffer, Tap, bytes_of, in_range, lib
 
 
 class ListenerError(Fault):
@@ -61,7 +61,7 @@ class Listener:
     """
 
     def __init__(self, keep: Filter | str, snap: int = MAX_SNAP, capacity: int = MAX_CAPACITY, immediate: bool = False):
-        self.filter = Filter(keep) if isinstance(keep, str) else keep
+        self.filter = filter_of(keep)
         # Out of their ranges they are refused as 0 is: BadSnap, BadCapacity.
         snap = snap if 0 < snap <= MAX_SNAP else 0
         capacity = capacity if 0 < capacity <= MAX_CAPACITY else 0
@@ -76,11 +76,13 @@ class Listener:
     def arrive(self, packet: Packet | bytes, capture: int = 0, place: int | None = None) -> Fed:
         """A packet arrives. `capture` and `place` stay with it; without a place, that is the number of packets that arrived before."""
         if not isinstance(packet, Packet):
+            packet = bytes_of("packet", packet)
             packet = Packet(packet, len(packet))
-        answer = self.filter.run(packet.data, packet.wire)
+        data = bytes_of("data", packet.data)
+        answer = self.filter.run(data, packet.wire)
         with self._lock:
             record = record_of(packet, self._tap.received if place is None else place, packet.nanos)
-            fed = lib.bpftap_listener_arrive(self._tap, answer, in_range("capture", capture), record, packet.data, len(packet.data))
+            fed = lib.bpftap_listener_arrive(self._tap, answer, in_range("capture", capture), record, data, len(data))
         return Fed(fed)
 
     def flush(self) -> bool:
