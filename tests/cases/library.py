@@ -407,11 +407,15 @@ def examples_do_what_they_say(scene):
 
 @case
 def crate_of_rust_passes_its_tests(scene):
-    """`cargo test --offline` of bindings/rust."""
+    """`cargo test --offline` of bindings/rust, with the example of its page; without the library the build names BPFTAP_LIB."""
     if is_there(scene) and scene.has("cargo"):
         scene.start({})
         words = ["cargo", "test", "--offline", "--quiet", "--manifest-path", ROOT / "bindings" / "rust" / "Cargo.toml"]
-        said, status = done(scene, words, env={**os.environ, "CARGO_TARGET_DIR": str(scene.folder / "target"), "BPFTAP_LIB": str(ARCHIVE.parent)})
+        environment = {**os.environ, "CARGO_TARGET_DIR": str(scene.folder / "target"), "BPFTAP_LIB": str(ARCHIVE.parent)}
+        said, status = done(scene, words, env=environment)
         scene.check("cargo test", status, 0)
         if status:
             scene.check("what it said", said, "")
+        said, status = done(scene, words, env={**environment, "BPFTAP_LIB": "/nosuch"})
+        line = "/nosuch/libbpftap.a is not there: let BPFTAP_LIB name the folder of libbpftap.a, or run ./build bpftap_c in the repository"
+        scene.check("cargo test without the library", (line in said, status != 0), (True, True))
