@@ -8,6 +8,9 @@ import sys
 
 from .common import LIMIT, ROOT, TORN, VETH, WHOLE, as_bytes, case, records
 
+sys.path.insert(0, str(ROOT / "bench"))
+import meaning
+
 SOURCES = ROOT / "tests" / "library"
 LIBRARY = pathlib.Path(os.environ.get("BPFTAP_LIBRARY") or ROOT / "out" / "lib" / "libbpftap.so.1").resolve()
 ARCHIVE = LIBRARY.with_name("libbpftap.a")
@@ -86,6 +89,35 @@ def refused_memory_is_reported(scene):
         program = compiled(scene, ["gcc", "-std=c11", "-O1"], "memory", "-Wl,--wrap=malloc,--wrap=realloc")
         if program:
             passes(scene, [program])
+
+
+def stated_stacks():
+    """How many KiB of stack the header states: for calls that read no expression, for short expressions, and for any."""
+    header = " ".join((ROOT / "include" / "bpftap.h").read_text().replace("\n *", " ").split())
+    found = re.search(r"(\d+) KiB of stack are enough for a call that reads no expression.* need (\d+) KiB for expressions of up to 1,000 bytes, "
+                      r"and (\d+) MiB for any", header)
+    return int(found[1]), int(found[2]), 1024 * int(found[3])
+
+
+@case
+def stacks_suffice(scene):
+    """No call runs out of the stack that the header states: deep expressions of 1,000 and of 8,192 bytes, and random ones of bench/meaning.py."""
+    if not is_there(scene) or not scene.has("gcc"):
+        return
+    scene.start({})
+    program = compiled(scene, ["gcc", "-std=c11", "-O2"], "stacks", "-pthread")
+    others, short, most = stated_stacks()
+    chance = random.Random(17)
+    texts = [text for text in (meaning.text_of(meaning.expression(chance, 2)) for _ in range(100)) if len(text) <= 1000]
+    given = {
+        "random": (short, "".join(f"{text}\t{other}\n" for text, other in zip(texts, texts[1:]))),
+        "deep, 1,000 bytes": (short, python(scene, "deep.py", ["1000"])), "deep, 8,192 bytes": (most, python(scene, "deep.py", ["8192"])),
+    }
+    for name, (stack, lines) in given.items() if program else []:
+        ended = subprocess.run([program, str(stack)], input=lines.encode(), stdout=subprocess.PIPE, timeout=LIMIT)
+        touched = [[*map(int, line.split())] for line in ended.stdout.decode().splitlines()]
+        scene.check(f"{name}: status and lines", (ended.returncode, len(touched)), (0, lines.count("\n")))
+        scene.check(f"{name}: a call that reads no expression", max(row[-1] for row in touched) <= others << 10, True)
 
 
 @case
