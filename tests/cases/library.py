@@ -146,6 +146,25 @@ def only_its_own_names_are_exported(scene):
     scene.check("needs", tagged("NEEDED"), ["libc.so.6"])
 
 
+@case
+def links_as_its_page_says(scene):
+    """`-lbpftap` takes the archive, `-l:libbpftap.so.1` the shared library; a plug-in hides the archive's names by `--exclude-libs`."""
+    if not is_there(scene) or not scene.has("gcc", "nm", "readelf"):
+        return
+    scene.start({"tool.c": "#include <bpftap.h>\nint main(void) { return bpftap_program_size() == 0; }\n"})
+    folder = ARCHIVE.parent
+    words = ["gcc", "tool.c", f"-I{ROOT / 'include'}", f"-L{folder}", "-o", "tool"]
+    for flags, shared in ((["-lbpftap"], False), (["-l:libbpftap.so.1", f"-Wl,-rpath,{folder}"], True)):
+        passes(scene, [*words, *flags])
+        passes(scene, ["./tool"])
+        needed, _ = done(scene, ["readelf", "-d", "tool"])
+        scene.check(f"{flags[0]}: needs the shared library", "[libbpftap.so.1]" in needed, shared)
+    for flags, exported in (([], True), (["-Wl,--exclude-libs,ALL"], False)):
+        passes(scene, [*words, "-shared", "-fPIC", "-lbpftap", *flags])
+        names, _ = done(scene, ["nm", "-D", "--defined-only", "tool"])
+        scene.check(f"a plug-in {flags} exports", "bpftap_program_size" in names, exported)
+
+
 def frames():
     """A capture of frames of each kind, some of them cut short."""
     whole = records(VETH.read_bytes())
